@@ -1,0 +1,74 @@
+//! Policies, as plain data.
+
+use crate::request::Kind;
+use crate::text::{Sequence, Text};
+use sys_abi::errno::Errno;
+
+/// What a rule answers a call that it fits.
+#[derive(Clone, Copy, PartialEq, Eq, Debug)]
+pub enum Verdict {
+    /// The worker does what is asked.
+    Grant,
+    /// The call fails with this error.
+    Deny(Errno),
+    /// The call runs natively, with the caller's rights.
+    Pass,
+    /// A file of the broker's is put into the caller, at a number or at the lowest free one.
+    Inject { src: u32, at: Option<u32> },
+}
+
+/// The calls that a rule is for.
+#[derive(Debug, Drop)]
+pub enum Calls {
+    /// These, by number.
+    Named(Sequence<i32>),
+    /// Every call whose number no policy names.
+    Other,
+}
+
+/// A condition on a request.
+#[derive(Debug, Drop)]
+pub enum Cond {
+    /// The path, or a mount's target, is this text.
+    Path(Text),
+    /// It lies below this directory, and has no component `..`.
+    Under(Text),
+    Kind(Kind),
+    /// A character or block device with these major and minor numbers.
+    Dev(u32, u32),
+    Fstype(Text),
+    Source(Text),
+    /// The attribute's name.
+    Name(Text),
+    /// A mount that neither remounts, binds nor moves; every other request meets it.
+    PlainFlags,
+}
+
+/// A rule: it decides the calls that fit it, where no earlier rule does.
+#[derive(Debug, Drop)]
+pub struct Rule {
+    pub name: Text,
+    pub calls: Calls,
+    pub conds: Sequence<Cond>,
+    pub verdict: Verdict,
+    /// The program that serves a granted mount; empty for none.
+    pub via: Text,
+    /// Whether a granted mount shifts owners.
+    pub shift: bool,
+    /// How often the rule grants, where that is limited.
+    pub times: Option<u32>,
+}
+
+/// How often effects of one rule may be done.
+#[derive(Clone, Copy, PartialEq, Eq, Debug)]
+pub struct Cap {
+    /// The rule's place in its policy, from 0.
+    pub rule: u32,
+    pub times: u32,
+}
+
+/// The rules, in the order in which they are tried.
+#[derive(Debug, Drop)]
+pub struct Policy {
+    pub rules: Sequence<Rule>,
+}

@@ -1,0 +1,143 @@
+//! What a call asks for, and what the tree and the tables are made of.
+
+use crate::text::{Sequence, Text};
+use sys_abi::errno::Errno;
+
+/// The n-th task made, counted from 0.
+#[derive(Clone, Copy, PartialEq, Eq, Debug)]
+pub struct TaskRef {
+    pub ordinal: u32,
+}
+
+/// The n-th node made, counted from 0: node 0 is `/`, and then come the stated ones in order.
+#[derive(Clone, Copy, PartialEq, Eq, Debug)]
+pub struct NodeRef {
+    pub ordinal: u32,
+}
+
+/// The kind of node that a mode asks for (inode(7)).
+#[derive(Clone, Copy, PartialEq, Eq, Debug)]
+pub enum Kind {
+    Reg,
+    Chr,
+    Blk,
+    Fifo,
+    Sock,
+    Dir,
+    /// The mode has no kind of node.
+    Bad,
+}
+
+/// A node of the tree. The devices have their major and minor numbers.
+#[derive(Debug, Drop)]
+pub enum Node {
+    Dir,
+    Reg,
+    /// A symbolic link and its target.
+    Link(Text),
+    Fifo,
+    Sock,
+    Chr(u32, u32),
+    Blk(u32, u32),
+}
+
+/// What is kept of a mount, beside its target and its root (mount(2)).
+#[derive(Debug, Drop)]
+pub struct MountRow {
+    pub source: Text,
+    pub fstype: Text,
+    pub flags: u64,
+    /// The data that the call passed.
+    pub options: Text,
+    /// The program that serves the file system; empty for none.
+    pub via: Text,
+    /// Whether owners are shifted into the container's range.
+    pub shift: bool,
+}
+
+/// What an open descriptor leads to.
+#[derive(Clone, Copy, PartialEq, Eq, Debug)]
+pub enum Obj {
+    Console,
+    Node(NodeRef),
+    /// A file of the broker's, by its number there.
+    Broker(u32),
+}
+
+/// What a call asks for, with its arguments read.
+#[derive(Debug, Drop)]
+pub enum Request {
+    /// mknod(2), and mknodat(2) where there is a descriptor.
+    Mknod {
+        dirfd: Option<i32>,
+        path: Text,
+        mode: u16,
+        dev: u32,
+    },
+    /// mount(2).
+    Mount {
+        source: Text,
+        target: Text,
+        fstype: Text,
+        options: Text,
+        via: Text,
+        flags: u64,
+        shift: bool,
+    },
+    /// setxattr(2).
+    SetXattr {
+        path: Text,
+        name: Text,
+        value: Text,
+        flags: u32,
+    },
+    /// openat(2).
+    OpenAt {
+        dirfd: i32,
+        path: Text,
+        flags: u32,
+    },
+    /// sysinfo(2).
+    Sysinfo {
+        addr: u64,
+    },
+    /// Every other call.
+    Other {
+        nr: i32,
+    },
+}
+
+/// What a request does to the tree.
+#[derive(Debug, Drop)]
+pub enum TreeOp {
+    /// Nothing: it is refused before any walk.
+    Fail(Errno),
+    Make {
+        path: Text,
+        node: Node,
+    },
+    Mount {
+        target: Text,
+        row: MountRow,
+    },
+    SetAttr {
+        path: Text,
+        name: Text,
+        value: Text,
+        flags: u32,
+    },
+    Open {
+        path: Text,
+        cloexec: bool,
+    },
+}
+
+/// The texts that were read for a call, in the order of its plan.
+#[derive(Debug, Drop)]
+pub struct ArgCopy {
+    pub texts: Sequence<Text>,
+}
+
+/// One of the bytes isn't mapped.
+#[derive(Clone, Copy, PartialEq, Eq, Debug)]
+pub struct Fault;
