@@ -1,2 +1,9 @@
 pub mod Look
 pub mod Histories
+pub mod Tasks
+pub mod Calls
+pub mod Signals
+pub mod Sessions
+pub mod Systems
+pub mod Programs
+pub mod Steps
