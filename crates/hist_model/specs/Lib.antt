@@ -7,3 +7,6 @@ pub mod Sessions
 pub mod Systems
 pub mod Programs
 pub mod Steps
+pub mod Trees
+pub mod Paths
+pub mod Effects

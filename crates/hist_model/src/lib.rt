@@ -7,3 +7,4 @@ pub mod policy;
 pub mod request;
 pub mod script;
 pub mod text;
+pub mod tree;
