@@ -3,7 +3,7 @@
 use Rattle.std.specs.Prelude.{ℕ, ◌+◌, Bool, true, false, ◌&&◌, not, if◌then◌else◌, ◌==◌, List, [], ◌∷◌, ◌++◌, map, Option, Some, None, option_map, slice_get, ℤ, pos, bit_and, bytes_eq, nat_eq, codes, decimal}
 use Rattle.std.specs.Ordering.{int_eq}
 use Rattle.std.specs.List.{list_any, list_all, slice_split, starts_with}
-use Rattle.hist_model.specs.Requests.{call_of_request, kind_of, major_of, minor_of}
+use Rattle.hist_model.specs.Requests.{call_of_request, granted, kind_of, major_of, minor_of}
 use Rattle.hist_model.specs.declared.policy.Calls.{Calls}
 use Rattle.hist_model.specs.declared.policy.Calls.TheVariants.{Named, Other as OtherCalls}
 use Rattle.hist_model.specs.declared.policy.Cap.{Cap}
@@ -146,6 +146,14 @@ times_of None = None
 -- how often effects of the rule at a place may be done, where that is limited
 abbrev pub cap_of : List Rule → ℕ → Option Cap
 cap_of rules i = option_map (λ n. record { rule = i; times = n }) (times_of (slice_get rules i))
+
+abbrev pub granted_where : Option Rule → Request → Request
+granted_where (Some rule) q = granted rule q
+granted_where None q = q
+
+-- the request that the rule at a place grants
+abbrev pub granted_by : List Rule → ℕ → Request → Request
+granted_by rules i q = granted_where (slice_get rules i) q
 
 -- ---- The rules that switches make
 
