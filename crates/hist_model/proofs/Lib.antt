@@ -1,3 +1,4 @@
 pub mod Look
 pub mod Scans
 mod WalkedPaths
+pub mod Decided

@@ -10,3 +10,6 @@ pub mod Steps
 pub mod Trees
 pub mod Paths
 pub mod Effects
+pub mod Requests
+pub mod Decisions
+pub mod Sysinfo
