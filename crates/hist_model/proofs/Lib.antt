@@ -1,2 +1,4 @@
 pub mod Look
 pub mod Scans
+pub mod FilterCases
+pub mod CopyCases

@@ -1,2 +1,4 @@
 pub mod Look
 pub mod Histories
+pub mod Filters
+pub mod Copies
