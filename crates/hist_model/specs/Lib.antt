@@ -13,3 +13,5 @@ pub mod Effects
 pub mod Requests
 pub mod Decisions
 pub mod Sysinfo
+pub mod Filters
+pub mod Copies
