@@ -4,3 +4,4 @@ mod WalkedPaths
 pub mod Decided
 pub mod FilterCases
 pub mod CopyCases
+mod PlayedCases

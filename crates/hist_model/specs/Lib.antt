@@ -15,3 +15,13 @@ pub mod Decisions
 pub mod Sysinfo
 pub mod Filters
 pub mod Copies
+pub mod Memory
+pub mod Natives
+pub mod Files
+pub mod Legal
+pub mod Laws
+pub mod Settlers
+pub mod Causes
+pub mod Orders
+pub mod Mediated
+pub mod FirstPath
