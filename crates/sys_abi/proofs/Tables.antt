@@ -1,4 +1,4 @@
-use Rattle.std.specs.Prelude.{ℕ, Bool, true, false, Option, Some, None, List, [], ◌∷◌, map, find, ◌==◌, bytes_eq, nat_eq, is_none, IfSome, ◌&&◌, ◌⊎◌}
+use Rattle.std.specs.Prelude.{ℕ, Bool, true, false, Option, Some, None, List, [], ◌∷◌, map, find, ◌==◌, bytes_eq, nat_eq, is_none, IfSome, ◌&&◌}
 use Rattle.std.specs.Option.{option_map, option_copied}
 use Rattle.std.specs.List.{list_all}
 use Rattle.std.specs.Bool.{Decides}

@@ -1,4 +1,4 @@
-use Rattle.std.proofs.Common.{◌≡◌, ◌∙◌, ◌&&◌, true, IsSome, IfSome, Option, Some, None, ℕ, ap, sym, refl, nat_le, arith}
+use Rattle.std.proofs.Common.{◌≡◌, ◌∙◌, ◌&&◌, IsSome, IfSome, Option, Some, None, ℕ, ap, sym, refl, nat_le, arith}
 use Rattle.std.proofs.lemmas.Bool.{false≢true}
 use Rattle.std.proofs.lemmas.Bool.Decides.{nat_tests}
 use Rattle.sys_abi.specs.Errnos.{errnos}
