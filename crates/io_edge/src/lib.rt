@@ -13,5 +13,7 @@
 
 pub mod fault;
 pub mod files;
+pub mod memory;
+mod plan;
 pub mod sink;
 pub mod whole;
