@@ -1,11 +1,8 @@
 -- Calls that are to fail.
-use Rattle.std.specs.Prelude.{ℕ, ◌+◌, ◌-◌, ◌^◌, ◌==◌, Bool, min, if◌then◌else◌}
+use Rattle.std.specs.Prelude.{◌==◌, Bool, if◌then◌else◌}
 use Rattle.std.specs.List.{list_any}
+use Rattle.io_edge.specs.Faults.{next}
 use Rattle.io_edge.specs.declared.plan.Plan.{Plan}
-
--- one more, up to the greatest u64
-abbrev pub next : ℕ → ℕ
-next n = min (n + 1) (2 ^ 64 - 1)
 
 -- whether the next call is to fail
 abbrev pub fails_next : Plan → Bool

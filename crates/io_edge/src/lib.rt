@@ -13,6 +13,7 @@
 
 pub mod fault;
 pub mod files;
+pub mod machine;
 pub mod memory;
 mod plan;
 pub mod sink;

@@ -1,7 +1,7 @@
 //! Calls that are to fail.
 
 ghost use Rattle.std.specs.Prelude.{◌≡◌, ◌≤◌};
-ghost use Rattle.io_edge.specs.Faults.{Rose};
+ghost use Rattle.io_edge.specs.Faults.{Rose, next};
 
 use crate::fault::Failed;
 
@@ -15,7 +15,7 @@ pub struct Plan {
 }
 
 impl Plan {
-    ghost use Rattle.io_edge.specs.Planned.{next, fails_next};
+    ghost use Rattle.io_edge.specs.Planned.{fails_next};
 
     /// These calls are to fail. There was none yet.
     pub fn new(listed: Vec<u64>) -> Plan
@@ -43,7 +43,6 @@ impl Plan {
         ensures later { self.old.faults ≤ self.new.faults }
         ensures rose { Rose self.old.faults self.new.faults }
     {
-        self.faults = self.faults.saturating_add(1);
-        Failed
+        Failed::counted(&mut self.faults)
     }
 }
