@@ -1,5 +1,5 @@
 -- Files in memory: pairs of a name and the bytes of a file.
-use Rattle.std.specs.Prelude.{◌≡◌, ℕ, Bool, List, [], drop, Option, None, Some, position, slice_get, String, Vec}
+use Rattle.std.specs.Prelude.{ℕ, Bool, List, [], drop, Option, position, slice_get, String, Vec}
 use Rattle.std.specs.Option.{option_map, option_map_or}
 use Rattle.std.specs.Str.{bytes_eq}
 use Rattle.std.specs.String.{string_bytes}

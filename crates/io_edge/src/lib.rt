@@ -17,4 +17,6 @@ pub mod machine;
 pub mod memory;
 mod plan;
 pub mod sink;
+#[cfg(test)]
+mod tests;
 pub mod whole;

@@ -5,9 +5,8 @@ ghost use Rattle.std.specs.Prelude.{◌≡◌, List, [], None, false, option_map
 use crate::fault::Failed;
 use crate::files::Files;
 use crate::sink::Sink;
-use std::fs;
 use std::io::{Read, Write};
-use std::rt;
+use std::{fs, rt};
 
 /// The machine's files. It tells no bytes, and so isn't sound.
 #[derive(Drop)]
@@ -23,13 +22,13 @@ impl<'a, R: rt::Files> RealFiles<'a, R> {
     /// The files of this runtime. There is no current file yet.
     pub fn new(rt: &'a R) -> RealFiles<'a, R>
         ensures { ⟦<RealFiles<'a, R> as Files>⟧.state result ≡ record {
-            tells = false;
-            bytes = λ _. None;
-            current = None;
-            left = [];
-            given = 0;
-            sound = false;
-            faults = 0
+          tells = false;
+          bytes = λ _. None;
+          current = None;
+          left = [];
+          given = 0;
+          sound = false;
+          faults = 0;
         } }
     {
         RealFiles {
@@ -45,13 +44,13 @@ impl<R: rt::Files> Files for RealFiles<'_, R> {
     ghost use Rattle.io_edge.specs.FileState.{FileState};
 
     ghost state = { λ f. record {
-        tells = false;
-        bytes = λ _. None;
-        current = option_map (λ _. []) f.current;
-        left = [];
-        given = f.given;
-        sound = false;
-        faults = f.faults
+      tells = false;
+      bytes = λ _. None;
+      current = option_map (λ _. []) f.current;
+      left = [];
+      given = f.given;
+      sound = false;
+      faults = f.faults;
     } };
 
     ghost sound_tells = { λ files sound. sound };

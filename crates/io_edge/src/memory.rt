@@ -32,15 +32,14 @@ impl MemFiles {
     /// from 1, and those in `failing` fail. The source is sound exactly where `failing` is empty.
     pub fn new(files: Vec<(String, Vec<u8>)>, failing: Vec<u64>) -> MemFiles
         ensures state { ⟦<MemFiles as Files>⟧.state result ≡ record {
-            tells = true;
-            bytes = bytes_named files.items;
-            current = None;
-            left = [];
-            given = 0;
-            sound = length failing.items == 0;
-            faults = 0
+          tells = true;
+          bytes = bytes_named files.items;
+          current = None;
+          left = [];
+          given = 0;
+          sound = length failing.items == 0;
+          faults = 0;
         } }
-        ensures files { result.files ≡ files }
         ensures plan { result.plan ≡ record { listed = failing; calls = 0; faults = 0 } }
     {
         MemFiles {
@@ -64,13 +63,13 @@ impl Files for MemFiles {
     ghost use Rattle.io_edge.specs.FileState.{FileState};
 
     ghost state = { λ f. record {
-        tells = true;
-        bytes = bytes_named f.files.items;
-        current = option_map (name_at f.files.items) f.current;
-        left = left_at f.files.items f.current f.given;
-        given = f.given;
-        sound = length f.plan.listed.items == 0;
-        faults = f.plan.faults
+      tells = true;
+      bytes = bytes_named f.files.items;
+      current = option_map (name_at f.files.items) f.current;
+      left = left_at f.files.items f.current f.given;
+      given = f.given;
+      sound = length f.plan.listed.items == 0;
+      faults = f.plan.faults;
     } };
 
     ghost sound_tells = { λ files sound. refl };
@@ -78,7 +77,7 @@ impl Files for MemFiles {
     #[tactic(auto, using(crate::proofs::Counts::none_listed))]
     fn open(&mut self, name: &str) -> Result<(), Failed>
         ensures opens { Opens (⟦<MemFiles as Files>⟧.state self.old) name.now result (⟦<MemFiles as Files>⟧.state self.new) }
-        ensures fails { is_err result ≡ (fails_next self.old.plan || is_none (bytes_named self.old.files.items name.now)) }
+        ensures fails { is_err result ≡ (fails_next self.old.plan || is_none ((⟦<MemFiles as Files>⟧.state self.old).bytes name.now)) }
         ensures plan { self.new.plan ≡ after_call self.old.plan (is_err result) }
     {
         self.current = None;
@@ -140,9 +139,9 @@ impl MemSink {
     /// that fit.
     pub fn new(alloc: Global, room: usize, failing: Vec<u64>) -> Result<MemSink, NoMemory>
         ensures state { IfOk result (λ sink. ⟦<MemSink as Sink>⟧.state sink ≡ record {
-            tells = true;
-            taken = [];
-            faults = 0
+          tells = true;
+          taken = [];
+          faults = 0;
         }) }
         ensures room { IfOk result (λ sink. sink.room ≡ room) }
         ensures plan { IfOk result (λ sink. sink.plan ≡ record { listed = failing; calls = 0; faults = 0 }) }

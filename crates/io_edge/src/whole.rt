@@ -1,6 +1,6 @@
 //! Whole files.
 
-ghost use Rattle.std.specs.Prelude.{◌≡◌, ℕ, ◌+◌, ◌-◌, ◌^◌, ◌<◌, ◌≤◌, ◌↔◌, true, [], length, drop, Some, None, IsSome, IsSomeAnd, OnOk, OnErr, IfOk, IsErrOf};
+ghost use Rattle.std.specs.Prelude.{◌≡◌, ℕ, ◌+◌, ◌-◌, ◌^◌, ◌<◌, ◌≤◌, ◌↔◌, true, [], length, drop, Some, None, IsSome, IsSomeAnd, OnOk, OnErr, IfOk, IfSome, IsErrOf};
 ghost use Rattle.io_edge.specs.Faults.{Rose};
 ghost use Rattle.io_edge.specs.FileState.{SameFiles};
 ghost use Rattle.io_edge.specs.declared.whole.ReadAllError.TheVariants.{ReadFault, NoMemory};
@@ -61,6 +61,11 @@ pub fn read_all<F: Files>(
     ensures within { OnOk result (length into.new.items ≤ limit) }
     ensures counted { OnOk result ((F.state files.new).given ≡ length into.new.items) }
     ensures at_end { OnOk result ((F.state files.old).tells ≡ true → (F.state files.new).left ≡ []) }
+    ensures opened { OnOk result ((F.state files.old).tells ≡ true
+        → (F.state files.new).current ≡ Some name.now) }
+    ensures stands { (F.state files.old).tells ≡ true → IsSome (F.state files.new).current
+        → IfSome ((F.state files.old).bytes name.now)
+        (λ bytes. (F.state files.new).left ≡ drop (F.state files.new).given bytes) }
     ensures cause { IsErrOf result ReadAllError.ReadFault
         → Rose (F.state files.old).faults (F.state files.new).faults }
     ensures absent { (F.state files.old).sound ≡ true
@@ -91,6 +96,9 @@ fn read_rest<F: Files>(files: &mut F, limit: u64, into: &mut Vec<u8>) -> Result<
     ensures within { OnOk result (length into.new.items ≤ limit) }
     ensures counted { OnOk result ((F.state files.new).given ≡ length into.new.items) }
     ensures at_end { OnOk result ((F.state files.old).tells ≡ true → (F.state files.new).left ≡ []) }
+    ensures current { (F.state files.new).current ≡ (F.state files.old).current }
+    ensures stands { (F.state files.old).tells ≡ true
+        → (F.state files.new).left ≡ drop (F.state files.new).given (F.state files.old).left }
     ensures cause { IsErrOf result ReadAllError.ReadFault
         → Rose (F.state files.old).faults (F.state files.new).faults }
     ensures exact { (F.state files.old).sound ≡ true → IsErrOf result ReadAllError.ReadFault → ⊥ }
