@@ -2,8 +2,10 @@
 #![tactic(auto)]
 
 pub mod event;
+pub mod filter;
 pub mod history;
 pub mod policy;
 pub mod request;
 pub mod script;
 pub mod text;
+pub mod tree;

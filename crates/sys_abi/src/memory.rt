@@ -1,6 +1,7 @@
 //! Want of memory, as every call that allocates answers it.
 
 use std::alloc::{AllocError, AllocFailed};
+use std::fmt::Display;
 use thiserror::Error;
 
 /// There was no memory for what was asked. What the call works on is as it was before.
@@ -20,11 +21,49 @@ impl<T: Drop> From<AllocFailed<T>> for NoMemory {
     }
 }
 
-/// A refusal of a call that may also find no memory.
-#[derive(PartialEq, Eq, Debug, Drop)]
+/// Why a call that both tests what it is given and allocates did nothing.
+///
+/// `?` makes `NoMemory` of each want of memory. A refusal is passed on by `map_err(OrNoMemory::Refused)?`.
+#[derive(PartialEq, Eq, Debug, Drop, Error)]
+#[error_bound(E: Display)]
 pub enum OrNoMemory<E> {
     /// The call was refused for this cause.
+    #[error("{0}")]
     Refused(E),
     /// There was no memory.
+    #[error("no memory")]
     NoMemory,
+}
+
+impl<E> From<NoMemory> for OrNoMemory<E> {
+    ghost use Rattle.std.specs.Prelude.{◌≡◌};
+    ghost use Rattle.sys_abi.specs.declared.memory.OrNoMemory.TheVariants.{NoMemory};
+
+    ghost from_gives = { λ _ e. e ≡ NoMemory };
+
+    fn from(_error: NoMemory) -> OrNoMemory<E> {
+        OrNoMemory::NoMemory
+    }
+}
+
+impl<E> From<AllocError> for OrNoMemory<E> {
+    ghost use Rattle.std.specs.Prelude.{◌≡◌};
+    ghost use Rattle.sys_abi.specs.declared.memory.OrNoMemory.TheVariants.{NoMemory};
+
+    ghost from_gives = { λ _ e. e ≡ NoMemory };
+
+    fn from(_error: AllocError) -> OrNoMemory<E> {
+        OrNoMemory::NoMemory
+    }
+}
+
+impl<E, T: Drop> From<AllocFailed<T>> for OrNoMemory<E> {
+    ghost use Rattle.std.specs.Prelude.{◌≡◌};
+    ghost use Rattle.sys_abi.specs.declared.memory.OrNoMemory.TheVariants.{NoMemory};
+
+    ghost from_gives = { λ _ e. e ≡ NoMemory };
+
+    fn from(_error: AllocFailed<T>) -> OrNoMemory<E> {
+        OrNoMemory::NoMemory
+    }
 }

@@ -1,0 +1,222 @@
+-- What mediation means: a history in which each notification is answered at most once, each reply or descriptor reaches the waiting call it was meant for or nobody,
+-- each effect is what the policy grants on one copy of its call's arguments found valid afterwards, and each denial names its rule (seccomp_unotify(2)).
+use Rattle.std.specs.Prelude.{◌≡◌, ℕ, ◌+◌, ◌≤◌, Bool, true, false, ◌&&◌, ◌||◌, not, if◌then◌else◌, ◌==◌, List, [], ◌∷◌, length, filter, Option, Some, None, Result, Ok, Err, ◌⊎◌, nat_le, nat_eq, codes, ℤ}
+use Rattle.std.specs.List.{starts_with}
+use Rattle.hist_model.specs.Look.{Name, before, event_at, is_worker, is_task}
+use Rattle.hist_model.specs.Calls.{listed, caller, fetched, fetches, id, is_call, answers, puts_to, settled, waiting, closes}
+use Rattle.hist_model.specs.Sessions.{Rules, session, notif_of, reads_of, first_some, outcome_in, Acts, Plants, number_of, checks}
+use Rattle.hist_model.specs.Steps.{session_call, base, mem, group, task_place, times_spent, opened}
+use Rattle.hist_model.specs.Laws.{AnsweredOnce, count_below, empty_recvs}
+use Rattle.hist_model.specs.Settlers.{InstallsOwn, ResumesOwn}
+use Rattle.hist_model.specs.Orders.{InOrder, is_good_check}
+use Rattle.hist_model.specs.Causes.{Cause}
+use Rattle.hist_model.specs.Trees.{Tree}
+use Rattle.hist_model.specs.Memory.{own_group}
+use Rattle.hist_model.specs.Signals.{call_of}
+use Rattle.hist_model.specs.Natives.{Files, base_of}
+use Rattle.hist_model.specs.Files.{files, request_for}
+use Rattle.hist_model.specs.Legal.{rules_of, tree}
+use Rattle.hist_model.specs.declared.event.Back.{Back}
+use Rattle.hist_model.specs.declared.event.Event.{Event}
+use Rattle.hist_model.specs.declared.event.Actor.{Actor}
+use Rattle.hist_model.specs.declared.event.Actor.TheVariants.{Worker, Task}
+use Rattle.hist_model.specs.declared.event.What.{What}
+use Rattle.hist_model.specs.declared.event.What.TheVariants.{OpenMem, OpenBase, Check, Act, Plant, AddfdPut, AddfdTake, Send, Install, Resume, Close}
+use Rattle.hist_model.specs.declared.policy.Policy.{Policy}
+use Rattle.hist_model.specs.declared.policy.Cap.{Cap}
+use Rattle.hist_model.specs.declared.request.Node.{Node}
+use Rattle.hist_model.specs.declared.request.Node.TheVariants.{Chr, Blk}
+use Rattle.hist_model.specs.declared.request.Obj.{Obj}
+use Rattle.hist_model.specs.declared.request.Obj.TheVariants.{Broker}
+use Rattle.hist_model.specs.declared.request.Request.{Request}
+use Rattle.hist_model.specs.declared.script.Script.{Script}
+use Rattle.hist_model.specs.declared.tree.NodeRow.{NodeRow}
+use Rattle.hist_model.specs.declared.tree.AttrRow.{AttrRow}
+use Rattle.sys_abi.specs.declared.wire.Notif.{Notif}
+
+-- of each event with those before it
+abbrev pub Each : (List Event → Event → Type 0) → List Event → Type 0
+Each P [] = Unit {0}
+Each P (e ∷ K) = P K e × Each P K
+
+-- ---- Answered at most once
+
+-- how many receives fetched a call
+unfoldable pub fetches_of : List Event → ℕ → ℕ
+fetches_of [] c = 0
+fetches_of (e ∷ K) c = fetches_of K c + (if fetches e.what (id K c) && listed K c then 1 else 0)
+
+-- a call has at most one session
+abbrev pub OneSession : List Event → Type 0
+OneSession K = (c : ℕ) → fetches_of K c ≤ 1
+
+-- ---- Each reply or descriptor reaches the call it was meant for, or nobody
+
+-- an accepted answer, and an accepted request for a descriptor, is for the call of its own session
+abbrev pub NamesOwn : List Event → Event → Type 0
+NamesOwn K e = (w c : ℕ) → e.who ≡ Worker w → (puts_to K e.what c || answers K e.what c) ≡ true → session_call K w ≡ Some c
+
+-- EINPROGRESS and EBUSY: the call is in the way of an answer or a request
+abbrev pub is_busy : What → Bool
+is_busy (Send x b (Err e)) = e == 115
+is_busy (AddfdPut q (Err e)) = (e == 115) || (e == 16)
+is_busy _ = false
+
+-- no worker is answered so
+abbrev pub NeverBusy : List Event → Event → Type 0
+NeverBusy K e = (w c : ℕ) → e.who ≡ Worker w → session_call K w ≡ Some c → is_busy e.what ≡ false
+
+-- an installation that gave a number puts the request's file there, and leaves every other slot of every group as it was
+abbrev pub InstallsAlone : Script → List Event → Event → Type 0
+InstallsAlone S K e = (n : Name) (m : ℕ) → e.who ≡ Task n → e.what ≡ Install (Ok m) → (f j : ℕ)
+    → (files S (e ∷ K)).slot f j ≡ (if (f == own_group K e.who) && (j == m) then Some (Broker (request_for K (call_of K n)).srcfd) else (files S K).slot f j)
+
+-- one that failed leaves every slot as it was
+abbrev pub FailsAlone : Script → List Event → Event → Type 0
+FailsAlone S K e = (x : ℕ) → e.what ≡ Install (Err x) → (f j : ℕ) → (files S (e ∷ K)).slot f j ≡ (files S K).slot f j
+
+-- the event is the return of this call, or the close of the listener
+abbrev pub returns : What → Bool
+returns (Resume b) = true
+returns _ = false
+
+abbrev pub is_arrival : List Event → Event → ℕ → Bool
+is_arrival K e c = closes e.what || (returns e.what && is_task e.who (caller K c))
+
+-- a settled call leaves the list by its return, or by the close, alone: what was accepted for it arrives
+abbrev pub Arrives : List Event → Event → Type 0
+Arrives K e = (c : ℕ) → settled K c ≡ true → listed K c ≡ true → listed (e ∷ K) c ≡ false → is_arrival K e c ≡ true
+
+-- ---- Each effect is what the policy grants on one copy, found valid afterwards
+
+-- the prefix ends no later than with the second good check of the worker's session
+abbrev pub ends_with_check : List Event → ℕ → Bool
+ends_with_check [] w = false
+ends_with_check (e ∷ K) w = checks e.what && is_worker e.who w
+
+abbrev pub is_until_checked : List Event → ℕ → Bool
+is_until_checked K w = nat_le (number_of is_good_check (session K w)) 1 || ends_with_check K w
+
+-- the session's call waited in every prefix from its receive to its second good check
+abbrev pub WaitedUntilChecked : List Event → ℕ → ℕ → Type 0
+WaitedUntilChecked K w c = (p : ℕ) → p ≤ length K → session_call (before K p) w ≡ Some c → is_until_checked (before K p) w ≡ true → waiting (before K p) c ≡ true
+
+-- the base was, when it was opened, the open directory in a slot of the caller's group, or the container's root
+pub record OpenedBase (S : Script) (K : List Event) (w g : ℕ) : Type 0 where
+  pub place : ℕ
+  pub below : place ≤ length K
+  pub dirfd : ℤ
+  pub is_base : (files S K).base w ≡ base_of S (files S (before K place)) g dirfd
+
+-- what holds of an effect of a worker's session: of its call, its copy and the order of its steps
+pub record IsMediated (R : Rules) (K : List Event) (w c : ℕ) (n : Notif) : Type 0 where
+  pub of_call : session_call K w ≡ Some c
+  pub notif_is : notif_of (session K w) ≡ Some n
+  pub whole : R.next_piece n (reads_of (session K w)) ≡ None
+  pub no_fault : R.fault n (reads_of (session K w)) ≡ None
+  pub alone : first_some outcome_in (session K w) ≡ None
+  pub checked : number_of is_good_check (session K w) ≡ 2
+  pub waited : WaitedUntilChecked K w c
+  pub memory : mem K w ≡ opened K (task_place K (caller K c))
+
+-- an act is the one that the deciding rule grants, with its cap, from the base of the call's task
+abbrev pub ActIsGranted : Policy → Script → List Event → Event → Type 0
+ActIsGranted P S K e = (w : ℕ) (q : Request) (cap : Option Cap) (a : Result (Unit {0}) ℕ) → e.who ≡ Worker w → e.what ≡ Act q cap a
+    → (c : ℕ) × (n : Notif) × IsMediated (rules_of P S.figures) K w c n × ((rules_of P S.figures).decide n (reads_of (session K w)) ≡ Acts q cap)
+    × ((g : ℕ) → opened K (task_place K (caller K c)) ≡ Some g → (base K w ≡ None) ⊎ ((base K w ≡ Some g) × OpenedBase S K w g))
+
+-- and so is what is written as the answer of sysinfo
+abbrev pub PlantIsGranted : Policy → Script → List Event → Event → Type 0
+PlantIsGranted P S K e = (w addr : ℕ) (bytes : List ℕ) (cap : Option Cap) (a : Result (Unit {0}) ℕ) → e.who ≡ Worker w → e.what ≡ Plant addr bytes cap a
+    → (c : ℕ) × (n : Notif) × IsMediated (rules_of P S.figures) K w c n × ((rules_of P S.figures).decide n (reads_of (session K w)) ≡ Plants addr bytes cap)
+
+abbrev pub cap_in : What → Option Cap
+cap_in (Act q cap a) = cap
+cap_in (Plant x b cap a) = cap
+cap_in _ = None
+
+-- of the effects under the cap of a rule with times n at most n were done, up to each event
+abbrev pub TimesKept : List Event → Event → Type 0
+TimesKept K e = (cap : Cap) → cap_in e.what ≡ Some cap → times_spent (e ∷ K) cap.rule ≤ cap.times
+
+-- ---- Each answer has its cause
+
+-- an answer stands after two good checks, and carries what the session's copy and the policy make of it
+abbrev pub HasCause : Rules → List Event → Event → Type 0
+HasCause R K e = (w x : ℕ) (b : Back) (a : Result (Unit {0}) ℕ) → e.who ≡ Worker w → e.what ≡ Send x b a
+    → (n : Notif) × (notif_of (session K w) ≡ Some n) × (x ≡ n.id) × (number_of is_good_check (session K w) ≡ 2) × Cause R (session K w) n b
+
+-- the step answers that the call, or its task, is not there
+abbrev pub is_lost : What → Bool
+is_lost (OpenMem p (Err e)) = e == 3
+is_lost (OpenBase p d (Err e)) = e == 3
+is_lost (Check x (Err e)) = e == 2
+is_lost (AddfdPut q (Err e)) = e == 2
+is_lost (AddfdTake (Err e)) = e == 2
+is_lost (Send x b (Err e)) = e == 2
+is_lost _ = false
+
+-- so only where the session's call is not listed
+abbrev pub LostIfGone : List Event → Event → Type 0
+LostIfGone K e = (w c : ℕ) → e.who ≡ Worker w → session_call K w ≡ Some c → is_lost e.what ≡ true → listed K c ≡ false
+
+-- the receives that found nothing are at most as many as the calls that left the list unfetched
+abbrev pub left_unfetched : List Event → ℕ
+left_unfetched K = count_below (λ c. is_call K c && (not (listed K c) && not (fetched K c))) (length K)
+
+abbrev pub ReceivesFor : List Event → Event → Type 0
+ReceivesFor K e = empty_recvs (e ∷ K) ≤ left_unfetched (e ∷ K)
+
+-- ---- A passed call runs without the broker's rights
+
+abbrev pub is_device_node : Node → Bool
+is_device_node (Chr major minor) = true
+is_device_node (Blk major minor) = true
+is_device_node _ = false
+
+abbrev pub is_device_row : NodeRow → Bool
+is_device_row row = is_device_node row.node
+
+abbrev pub is_others_row : AttrRow → Bool
+is_others_row row = not (starts_with nat_eq row.name (codes "user."))
+
+abbrev pub is_effect : What → Bool
+is_effect (Act q cap a) = true
+is_effect _ = false
+
+-- no event but an act adds or changes a device, a mount, or an attribute whose name doesn't begin with user.
+pub record KeepsPrivileged (T U : Tree) : Type 0 where
+  pub devices : filter is_device_row U.nodes ≡ filter is_device_row T.nodes
+  pub mounts : U.mounts ≡ T.mounts
+  pub attributes : filter is_others_row U.attrs ≡ filter is_others_row T.attrs
+
+abbrev pub ActsAlone : Script → List Event → Event → Type 0
+ActsAlone S K e = is_effect e.what ≡ false → KeepsPrivileged (tree S K) (tree S (e ∷ K))
+
+-- ---- All of it
+
+pub record Mediated (P : Policy) (S : Script) (K : List Event) : Type 0 where
+  -- each notification is answered at most once
+  pub once : AnsweredOnce K
+  pub one_session : OneSession K
+  -- each reply or descriptor reaches the call it was meant for or nobody
+  pub own : Each NamesOwn K
+  pub resumes : Each ResumesOwn K
+  pub busy : Each NeverBusy K
+  pub installs : Each InstallsOwn K
+  pub installs_alone : Each (InstallsAlone S) K
+  pub fails_alone : Each (FailsAlone S) K
+  pub arrives : Each Arrives K
+  -- each effect is what the policy grants on one copy, found valid afterwards
+  pub acts : Each (ActIsGranted P S) K
+  pub plants : Each (PlantIsGranted P S) K
+  pub times : Each TimesKept K
+  -- each worker's session stands in order: openings, a good check, reads, a good check, uses
+  pub ordered : (w : ℕ) → InOrder (session K w)
+  -- each answer has its cause
+  pub cause : Each (HasCause (rules_of P S.figures)) K
+  -- what is lost was gone
+  pub lost : Each LostIfGone K
+  pub receives : Each ReceivesFor K
+  -- a passed call runs without the broker's rights
+  pub acts_alone : Each (ActsAlone S) K
