@@ -1,9 +1,9 @@
 -- The queue of a call holds the last requests for it.
 use Rattle.std.proofs.Common.{◌≡◌, ◌⊎◌, inl, inr, ℕ, zero, suc, ◌+◌, ◌-◌, ◌<◌, ◌≤◌, Bool, true, false, ◌&&◌, ◌||◌, List, [], ◌∷◌, ◌++◌, length, Option, Some, None, refl, sym, ap, ◌∙◌, arith, add-one, length-append}
 use Rattle.std.specs.Prelude.{if◌then◌else◌, ◌==◌, not}
-use Rattle.std.proofs.lemmas.Bool.{cases_Bool}
+use Rattle.std.proofs.lemmas.Bool.{cases_Bool, ne_eqb, eq-eqb}
 use Rattle.hist_model.specs.Calls.{queue, puts_to, installs_for, rest_of, some_sends, first_sends, is_send, has_send}
-use Rattle.hist_model.specs.Steps.{is_first}
+use Rattle.hist_model.specs.Steps.{is_first, is_empty}
 use Rattle.hist_model.specs.Look.{event_at, is_place}
 use Rattle.hist_model.proofs.Look.{event_at-here, event_at-older}
 use Rattle.hist_model.specs.declared.event.Event.{Event}
@@ -52,7 +52,7 @@ last-none (e ∷ K) c = elim (cases_Bool (puts_to K e.what c)) [
 
 last-put : (e : Event) (K : List Event) (c n : ℕ) → puts_to K e.what c ≡ true → last_puts (e ∷ K) c (suc n) ≡ last_puts K c n ++ length K ∷ []
 unfolding last_puts
-last-put e K c n h = let q : suc n - 1 ≡ n = omega arith in rw (h, q)
+last-put e K c n h = let q : suc n - 1 ≡ n = omega arith in let z : (suc n ≡ 0 → ⊥) = omega arith in rw (h, q, ne_eqb (suc n) 0 z)
 
 last-calm : (e : Event) (K : List Event) (c n : ℕ) → puts_to K e.what c ≡ false → last_puts (e ∷ K) c n ≡ last_puts K c n
 unfolding last_puts
@@ -76,7 +76,7 @@ nth-first e K c p = rw p
 
 nth-put : (e : Event) (K : List Event) (c m : ℕ) → puts_to K e.what c ≡ true → nth_put (e ∷ K) c (suc (suc m)) ≡ nth_put K c (suc m)
 unfolding nth_put
-nth-put e K c m p = let q : suc (suc m) - 1 ≡ suc m = omega arith in rw (p, q)
+nth-put e K c m p = let q : suc (suc m) - 1 ≡ suc m = omega arith in let z : (suc (suc m) ≡ 1 → ⊥) = omega arith in rw (p, q, ne_eqb (suc (suc m)) 1 z)
 
 send-empty : (W : List Event) (c n : ℕ) → some_sends W (last_puts [] c n) ≡ last_puts_send [] c n
 unfolding last_puts last_puts_send
@@ -163,7 +163,7 @@ some-append W (x ∷ xs) y = rw (some-append W xs y) (turn (is_send W x) (is_sen
 
 send-last : (e : Event) (K : List Event) (c n : ℕ) → puts_to K e.what c ≡ true → last_puts_send (e ∷ K) c (suc n) ≡ (has_send e.what || last_puts_send K c n)
 unfolding last_puts_send
-send-last e K c n h = let q : suc n - 1 ≡ n = omega arith in rw (h, q)
+send-last e K c n h = let q : suc n - 1 ≡ n = omega arith in let z : (suc n ≡ 0 → ⊥) = omega arith in rw (h, q, ne_eqb (suc n) 0 z)
 
 send-calm : (e : Event) (K : List Event) (c n : ℕ) → puts_to K e.what c ≡ false → last_puts_send (e ∷ K) c n ≡ last_puts_send K c n
 unfolding last_puts_send
@@ -210,3 +210,7 @@ none_queued_sends K (q ∷ qs) h = cc
 pub first_queued_is : (qs : List ℕ) (r : ℕ) → is_first qs r ≡ is_place (first_of qs) r
 first_queued_is [] r = refl
 first_queued_is (q ∷ qs) r = refl
+
+pub is_empty_length : (qs : List ℕ) → is_empty qs ≡ (length qs == 0)
+is_empty_length [] = refl
+is_empty_length (q ∷ qs) = let z : (suc (length qs) ≡ 0 → ⊥) = omega arith in rw (ne_eqb (suc (length qs)) 0 z)

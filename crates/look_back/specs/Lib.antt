@@ -1,2 +1,3 @@
 pub mod Queues
-pub mod Waits
+pub mod Outcomes
+pub mod Tallies

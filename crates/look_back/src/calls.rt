@@ -2,16 +2,16 @@
 
 ghost use Rattle.std.specs.Prelude.{◌≡◌, ℕ, Bool, List, Option, Result, Some, None, ◌+◌, ◌-◌, ◌<◌, ◌≤◌, ◌==◌, ◌^◌, ◌&&◌, ◌||◌, not, reverse, length, if◌then◌else◌};
 ghost use Rattle.hist_model.specs.Look.{name_eq, is_task, task_name, oldest, newest, event_at, is_place};
-ghost use Rattle.hist_model.specs.Calls.{notifies, notify_id, leaves, closes, unlists, listed, caller, id, is_call, fetches, fetched, named, answers, puts_to, is_install, gave, installs_for, queue, has_send, is_send, first_sends, some_sends, settles, settled, answered, waiting, calls, receives, recvs, count};
+ghost use Rattle.hist_model.specs.Calls.{notifies, notify_id, leaves, closes, unlists, listed, caller, id, is_call, fetches, fetched, named, answers, puts_to, is_install, gave, installs_for, queue, has_send_flag, has_send, is_send, first_sends, some_sends, settles, settled, answered, waiting, calls, receives, recvs, count};
 ghost use Rattle.hist_model.specs.Signals.{call_of};
-ghost use Rattle.hist_model.specs.Steps.{back_of, reply, owes, owes_native, oldest_unfetched, asked_call, call_at, installed, installs_request, install_of, is_first};
+ghost use Rattle.hist_model.specs.Steps.{back_of, reply, owes, owes_native, oldest_unfetched, asked_call, call_at, installed, installs_request, install_of, is_first, is_empty};
 ghost use Rattle.hist_model.specs.Sessions.{skips};
 ghost use Rattle.look_back.specs.Queues.{first_of, nth_put, last_puts_send};
 
 use crate::tasks::{is_task, same_name, task_name};
 use hist_model::event::{Back, Entered, Event, What};
 use sys_abi::errno::Errno;
-use sys_abi::wire::SECCOMP_ADDFD_FLAG_SEND;
+use sys_abi::wire::{Addfd, SECCOMP_ADDFD_FLAG_SEND};
 
 /// The step enters a call that is listed.
 pub fn notifies(what: &What) -> bool
@@ -227,6 +227,14 @@ pub fn queue_length(events: &[Event], call: usize) -> usize
     count
 }
 
+/// No request for the call is without an installation.
+#[tactic(auto, using(crate::proofs::Requests::is_empty_length))]
+pub fn queue_is_empty(events: &[Event], call: usize) -> bool
+    ensures { result ≡ is_empty (queue (reverse events.now) call) }
+{
+    queue_length(events, call) == 0
+}
+
 /// The place of the n-th request for a call, counted from the newest, which is the first.
 #[tactic(auto, using(crate::proofs::Past::past_last), unfolding(crate::specs::Queues::nth_put))]
 fn nth_put(events: &[Event], call: usize, n: usize) -> Option<usize>
@@ -260,11 +268,18 @@ pub fn first_in_queue(events: &[Event], call: usize) -> Option<usize>
 }
 
 /// The request has SECCOMP_ADDFD_FLAG_SEND.
+pub fn has_send_flag(asked: &Addfd) -> bool
+    ensures { result ≡ has_send_flag asked.now }
+{
+    SECCOMP_ADDFD_FLAG_SEND <= asked.flags
+}
+
+/// The step asks for a descriptor to be put, with SECCOMP_ADDFD_FLAG_SEND.
 pub fn has_send(what: &What) -> bool
     ensures { result ≡ has_send what.now }
 {
     match what {
-        What::AddfdPut { asked, .. } => SECCOMP_ADDFD_FLAG_SEND <= asked.flags,
+        What::AddfdPut { asked, .. } => has_send_flag(asked),
         _ => false,
     }
 }

@@ -9,4 +9,6 @@
 #![tactic(auto)]
 
 pub mod calls;
+pub mod signals;
+pub mod steps;
 pub mod tasks;
