@@ -4,6 +4,7 @@
 pub mod event;
 pub mod history;
 pub mod policy;
+pub mod report;
 pub mod request;
 pub mod script;
 pub mod text;
