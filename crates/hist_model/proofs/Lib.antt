@@ -1,3 +1,5 @@
+pub mod CopyCases
+pub mod FilterCases
 pub mod Look
 pub mod Scans
 pub mod WorkedReports

@@ -1,5 +1,7 @@
-pub mod Look
+pub mod Copies
+pub mod Filters
 pub mod Histories
+pub mod Look
 pub mod Report
 pub mod ReportAudit
 pub mod ReportCalls

@@ -2,6 +2,7 @@
 #![tactic(auto)]
 
 pub mod event;
+pub mod filter;
 pub mod history;
 pub mod policy;
 pub mod report;
