@@ -1,4 +1,5 @@
 pub mod CopyCases
+pub mod Decided
 pub mod FilterCases
 pub mod Look
 pub mod Scans

@@ -1,4 +1,5 @@
 pub mod Copies
+pub mod Decisions
 pub mod Filters
 pub mod Histories
 pub mod Look
@@ -7,3 +8,5 @@ pub mod ReportAudit
 pub mod ReportCalls
 pub mod ReportJournal
 pub mod ReportWords
+pub mod Requests
+pub mod Sysinfo

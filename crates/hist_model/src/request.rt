@@ -1,5 +1,7 @@
 //! What a call asks for, and what the tree and the tables are made of.
 
+ghost use Rattle.std.specs.Prelude.{◌≡◌};
+
 use crate::text::{Sequence, Text};
 use sys_abi::errno::Errno;
 
@@ -26,6 +28,25 @@ pub enum Kind {
     Dir,
     /// The mode has no kind of node.
     Bad,
+}
+
+impl Kind {
+    ghost use Rattle.hist_model.specs.Requests.{kind_of};
+
+    /// The kind of node that a mode asks for, by its four bits S_IFMT. A mode without a kind asks for a regular file.
+    pub fn of_mode(mode: u16) -> Kind
+        ensures { result ≡ kind_of mode }
+    {
+        match mode / 0o10000 % 0o20 {
+            0o00 | 0o10 => Kind::Reg,
+            0o01 => Kind::Fifo,
+            0o02 => Kind::Chr,
+            0o04 => Kind::Dir,
+            0o06 => Kind::Blk,
+            0o14 => Kind::Sock,
+            _ => Kind::Bad,
+        }
+    }
 }
 
 /// A node of the tree. The devices have their major and minor numbers.
@@ -105,6 +126,25 @@ pub enum Request {
     Other {
         nr: i32,
     },
+}
+
+impl Request {
+    ghost use Rattle.hist_model.specs.Requests.{call_of_request};
+
+    /// The number of the call that asks for it.
+    pub fn call(&self) -> i32
+        ensures { result ≡ call_of_request self.now }
+    {
+        match self {
+            Request::Mknod { dirfd: None, .. } => 133,
+            Request::Mknod { dirfd: Some(_), .. } => 259,
+            Request::Mount { .. } => 165,
+            Request::SetXattr { .. } => 188,
+            Request::OpenAt { .. } => 257,
+            Request::Sysinfo { .. } => 99,
+            Request::Other { nr } => *nr,
+        }
+    }
 }
 
 /// What a request does to the tree.

@@ -1,0 +1,225 @@
+-- Which rule of a policy decides a request, and the rules that the interception switches make
+-- (seccomp_unotify(2); LXD's "System call interception"). Conditions see the copied arguments alone, and follow no links.
+use Rattle.std.specs.Prelude.{ℕ, ◌+◌, Bool, true, false, ◌&&◌, not, if◌then◌else◌, ◌==◌, List, [], ◌∷◌, ◌++◌, map, Option, Some, None, option_map, slice_get, ℤ, pos, bit_and, bytes_eq, nat_eq, codes, decimal}
+use Rattle.std.specs.Ordering.{int_eq}
+use Rattle.std.specs.List.{list_any, list_all, slice_split, starts_with}
+use Rattle.hist_model.specs.Requests.{call_of_request, granted, kind_of, major_of, minor_of}
+use Rattle.hist_model.specs.declared.policy.Calls.{Calls}
+use Rattle.hist_model.specs.declared.policy.Calls.TheVariants.{Named, Other as OtherCalls}
+use Rattle.hist_model.specs.declared.policy.Cap.{Cap}
+use Rattle.hist_model.specs.declared.policy.Cond.{Cond}
+use Rattle.hist_model.specs.declared.policy.Cond.TheVariants.{Path, Under, Kind as OfKind, Dev, Fstype, Source, Name, PlainFlags}
+use Rattle.hist_model.specs.declared.policy.Rule.{Rule}
+use Rattle.hist_model.specs.declared.policy.Verdict.{Verdict}
+use Rattle.hist_model.specs.declared.policy.Verdict.TheVariants.{Grant, Pass}
+use Rattle.hist_model.specs.declared.request.Kind.{Kind}
+use Rattle.hist_model.specs.declared.request.Kind.TheVariants.{Reg, Chr, Blk, Fifo, Sock, Dir, Bad}
+use Rattle.hist_model.specs.declared.request.Request.{Request}
+use Rattle.hist_model.specs.declared.request.Request.TheVariants.{Mknod, Mount, SetXattr, OpenAt}
+
+-- ---- Conditions
+
+-- a text that may be absent is this one
+abbrev pub is_text : Option (List ℕ) → List ℕ → Bool
+is_text (Some t) text = bytes_eq t text
+is_text None text = false
+
+-- the path of a request, which for a mount is its target
+abbrev pub path_of : Request → Option (List ℕ)
+path_of (Mknod dirfd path mode dev) = Some path
+path_of (Mount source target fstype options via flags shift) = Some target
+path_of (SetXattr path name value flags) = Some path
+path_of (OpenAt dirfd path flags) = Some path
+path_of _ = None
+
+-- the component is `..`
+abbrev pub is_dot_dot : List ℕ → Bool
+is_dot_dot component = bytes_eq component (46 ∷ 46 ∷ [])
+
+-- the path has a component `..` between its slashes
+abbrev pub has_dot_dot : List ℕ → Bool
+has_dot_dot path = list_any is_dot_dot (slice_split (λ b. b == 47) path)
+
+-- the path begins with the directory and a slash, and never goes up
+abbrev pub lies_under : Option (List ℕ) → List ℕ → Bool
+lies_under (Some path) dir = starts_with nat_eq path (dir ++ 47 ∷ []) && not (has_dot_dot path)
+lies_under None dir = false
+
+-- two kinds are one
+abbrev pub kind_eq : Kind → Kind → Bool
+kind_eq Reg Reg = true
+kind_eq Chr Chr = true
+kind_eq Blk Blk = true
+kind_eq Fifo Fifo = true
+kind_eq Sock Sock = true
+kind_eq Dir Dir = true
+kind_eq Bad Bad = true
+kind_eq _ _ = false
+
+-- the node that is asked for is of this kind
+abbrev pub asks_kind : Request → Kind → Bool
+asks_kind (Mknod dirfd path mode dev) kind = kind_eq (kind_of mode) kind
+asks_kind _ kind = false
+
+-- the kind has device numbers
+abbrev pub is_device : Kind → Bool
+is_device Chr = true
+is_device Blk = true
+is_device _ = false
+
+-- the device that is asked for, character or block, has these numbers
+abbrev pub asks_device : Request → ℕ → ℕ → Bool
+asks_device (Mknod dirfd path mode dev) major minor = is_device (kind_of mode) && ((major_of dev == major) && (minor_of dev == minor))
+asks_device _ major minor = false
+
+-- the type of file system of a mount, and its source
+abbrev pub fstype_of : Request → Option (List ℕ)
+fstype_of (Mount source target fstype options via flags shift) = Some fstype
+fstype_of _ = None
+
+abbrev pub source_of : Request → Option (List ℕ)
+source_of (Mount source target fstype options via flags shift) = Some source
+source_of _ = None
+
+-- the name of the attribute that is set
+abbrev pub attribute_of : Request → Option (List ℕ)
+attribute_of (SetXattr path name value flags) = Some name
+attribute_of _ = None
+
+-- the request isn't a mount that remounts (32), binds (4096) or moves (8192)
+abbrev pub has_plain_flags : Request → Bool
+has_plain_flags (Mount source target fstype options via flags shift) = (bit_and flags 32 == 0) && ((bit_and flags 4096 == 0) && (bit_and flags 8192 == 0))
+has_plain_flags _ = true
+
+-- the request meets the condition
+abbrev pub meets : Cond → Request → Bool
+meets (Path text) q = is_text (path_of q) text
+meets (Under dir) q = lies_under (path_of q) dir
+meets (OfKind kind) q = asks_kind q kind
+meets (Dev major minor) q = asks_device q major minor
+meets (Fstype text) q = is_text (fstype_of q) text
+meets (Source text) q = is_text (source_of q) text
+meets (Name text) q = is_text (attribute_of q) text
+meets PlainFlags q = has_plain_flags q
+
+-- ---- Rules
+
+-- the calls that have names: close, getpid, sysinfo, mknod, mount, setxattr, openat and mknodat
+abbrev pub named_calls : List ℤ
+named_calls = pos 3 ∷ pos 39 ∷ pos 99 ∷ pos 133 ∷ pos 165 ∷ pos 188 ∷ pos 257 ∷ pos 259 ∷ []
+
+-- the number is in the list
+abbrev pub is_among : List ℤ → ℤ → Bool
+is_among numbers nr = list_any (λ n. int_eq n nr) numbers
+
+-- the rule's calls include this number
+abbrev pub covers : Calls → ℤ → Bool
+covers (Named numbers) nr = is_among numbers nr
+covers OtherCalls nr = not (is_among named_calls nr)
+
+-- the request is one of the rule's calls, and meets all its conditions
+unfoldable pub fits : Rule → Request → Bool
+fits rule q = covers rule.calls (call_of_request q) && list_all (λ c. meets c q) rule.conds
+
+-- the first rule that fits, where the first of the list has place n, and its verdict; past the end, and pass, where none fits
+unfoldable pub decide_from : ℕ → List Rule → Request → ℕ × Verdict
+decide_from n [] q = (n, Pass)
+decide_from n (rule ∷ rules) q = if fits rule q then (n, rule.verdict) else decide_from (n + 1) rules q
+
+-- the place of the first rule that fits, and its verdict
+unfoldable pub decide : List Rule → Request → ℕ × Verdict
+decide rules q = decide_from 0 rules q
+
+-- the rule's name
+abbrev pub name_or_none : Option Rule → List ℕ
+name_or_none (Some rule) = rule.name
+name_or_none None = []
+
+-- the name of the rule at a place
+abbrev pub rule_name : List Rule → ℕ → List ℕ
+rule_name rules i = name_or_none (slice_get rules i)
+
+abbrev pub times_of : Option Rule → Option ℕ
+times_of (Some rule) = rule.times
+times_of None = None
+
+-- how often effects of the rule at a place may be done, where that is limited
+abbrev pub cap_of : List Rule → ℕ → Option Cap
+cap_of rules i = option_map (λ n. record { rule = i; times = n }) (times_of (slice_get rules i))
+
+abbrev pub granted_where : Option Rule → Request → Request
+granted_where (Some rule) q = granted rule q
+granted_where None q = q
+
+-- the request that the rule at a place grants
+abbrev pub granted_by : List Rule → ℕ → Request → Request
+granted_by rules i q = granted_where (slice_get rules i) q
+
+-- ---- The rules that switches make
+
+-- a rule without a program, a shift or a limit
+abbrev pub plain_rule : List ℕ → Calls → List Cond → Verdict → Rule
+plain_rule name calls conds verdict = record { name = name; calls = calls; conds = conds; verdict = verdict; via = []; shift = false; times = None }
+
+-- the devices that a container may make: each is harmless to the host, and 0:0 is the whiteout of an overlay
+abbrev pub safe_devices : List (ℕ × ℕ)
+safe_devices = (0, 0) ∷ (5, 1) ∷ (1, 7) ∷ (1, 3) ∷ (1, 8) ∷ (5, 0) ∷ (1, 9) ∷ (1, 5) ∷ []
+
+-- the rule that grants one of them, a character device, named lxd.mknod.MAJOR:MINOR
+abbrev pub lxd_mknod_rule : ℕ × ℕ → Rule
+lxd_mknod_rule (major, minor) = plain_rule (codes "lxd.mknod." ++ decimal major ++ codes ":" ++ decimal minor) (Named (pos 133 ∷ pos 259 ∷ [])) (OfKind Chr ∷ Dev major minor ∷ []) Grant
+
+abbrev pub lxd_mknod_rules : List Rule
+lxd_mknod_rules = map lxd_mknod_rule safe_devices
+
+-- the rule that grants a mount of one type of file system by a program, named lxd.mount.fuse.TYPE
+abbrev pub lxd_fuse_rule : Bool → List ℕ × List ℕ → Rule
+lxd_fuse_rule shift (fstype, program) = record { name = codes "lxd.mount.fuse." ++ fstype; calls = Named (pos 165 ∷ []); conds = Fstype fstype ∷ PlainFlags ∷ []; verdict = Grant; via = program; shift = shift; times = None }
+
+-- the rule that grants a mount of one type of file system, named lxd.mount.TYPE
+abbrev pub lxd_mount_rule : Bool → List ℕ → Rule
+lxd_mount_rule shift fstype = record { name = codes "lxd.mount." ++ fstype; calls = Named (pos 165 ∷ []); conds = Fstype fstype ∷ PlainFlags ∷ []; verdict = Grant; via = []; shift = shift; times = None }
+
+-- the rule that grants the mark of an opaque directory of an overlay
+abbrev pub lxd_setxattr_rule : Rule
+lxd_setxattr_rule = plain_rule (codes "lxd.setxattr.opaque") (Named (pos 188 ∷ [])) (Name (codes "trusted.overlay.opaque") ∷ []) Grant
+
+-- the rule that grants sysinfo
+abbrev pub lxd_sysinfo_rule : Rule
+lxd_sysinfo_rule = plain_rule (codes "lxd.sysinfo") (Named (pos 99 ∷ [])) [] Grant
+
+-- the switches, and the two lists of file systems, of which the first has a program with each
+pub record Switches : Type 0 where
+  pub mknod : Bool
+  pub mount : Bool
+  pub shift : Bool
+  pub setxattr : Bool
+  pub sysinfo : Bool
+  pub fuse : List (List ℕ × List ℕ)
+  pub allowed : List (List ℕ)
+
+-- the rules of a switch that is on
+abbrev pub where_on : Bool → List Rule → List Rule
+where_on true rules = rules
+where_on false rules = []
+
+abbrev pub lxd_mount_rules : Switches → List Rule
+lxd_mount_rules s = map (λ p. lxd_fuse_rule s.shift p) s.fuse ++ map (λ t. lxd_mount_rule s.shift t) s.allowed
+
+-- the rules that the switches make, in the order in which they are tried
+abbrev pub lxd_rules : Switches → List Rule
+lxd_rules s = where_on s.mknod lxd_mknod_rules ++ (where_on s.mount (lxd_mount_rules s) ++ (where_on s.setxattr (lxd_setxattr_rule ∷ []) ++ where_on s.sysinfo (lxd_sysinfo_rule ∷ [])))
+
+-- the rule that passes one call, named default.CALL
+abbrev pub default_rule : List ℕ → ℤ → Rule
+default_rule name nr = plain_rule (codes "default." ++ name) (Named (nr ∷ [])) [] Pass
+
+-- the rules that pass what no other rule decides: one for each call that has a name, and one for all others
+abbrev pub default_rules : List Rule
+default_rules = default_rule (codes "close") (pos 3) ∷ default_rule (codes "getpid") (pos 39) ∷ default_rule (codes "sysinfo") (pos 99) ∷ default_rule (codes "mknod") (pos 133)
+    ∷ default_rule (codes "mount") (pos 165) ∷ default_rule (codes "setxattr") (pos 188) ∷ default_rule (codes "openat") (pos 257) ∷ default_rule (codes "mknodat") (pos 259)
+    ∷ plain_rule (codes "default.other") OtherCalls [] Pass ∷ []
+
+-- the whole list of a policy's rules: its own, those of the switches, and the defaults
+abbrev pub all_rules : List Rule → Switches → List Rule
+all_rules own s = own ++ (lxd_rules s ++ default_rules)
