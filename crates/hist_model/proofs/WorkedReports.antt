@@ -64,7 +64,7 @@ first = Spawn (0 ∷ []) (Ok (1, New))
 
 -- each session is decided so, at place 3 of a policy whose rules all have this name
 always : Judged → List ℕ → Judging
-always judged name = record { judge = λ notif answers. judged; rule_name = λ i. name }
+always judged name = record { judge = λ notif answers. judged; name = λ i. name }
 
 -- a device node that the policy grants
 granted : List Event

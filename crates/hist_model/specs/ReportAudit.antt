@@ -3,6 +3,9 @@ use Rattle.std.specs.Prelude.{ℕ, Bool, true, false, ◌&&◌, ◌||◌, not, i
 use Rattle.std.specs.List.{list_any}
 use Rattle.sys_abi.specs.declared.wire.Notif.{Notif}
 use Rattle.hist_model.specs.Look.{Name, is_task, is_worker, task_name, event_at}
+use Rattle.hist_model.specs.Copies.{Progress, Wants, Complete, Faulty as Broken, plan, progress}
+use Rattle.hist_model.specs.Requests.{request}
+use Rattle.hist_model.specs.Decisions.{decide, rule_name}
 use Rattle.hist_model.specs.ReportWords.{call_text, back_text}
 use Rattle.hist_model.specs.ReportJournal.{lines_of, title}
 use Rattle.hist_model.specs.ReportCalls.{outcome}
@@ -14,6 +17,7 @@ use Rattle.hist_model.specs.declared.event.What.TheVariants.{Enter, Install, Rec
 use Rattle.hist_model.specs.declared.event.Entered.TheVariants.{Notify}
 use Rattle.hist_model.specs.declared.event.Back.{Back}
 use Rattle.hist_model.specs.declared.event.Back.TheVariants.{Value}
+use Rattle.hist_model.specs.declared.policy.Rule.{Rule}
 use Rattle.hist_model.specs.declared.policy.Verdict.{Verdict}
 use Rattle.hist_model.specs.declared.policy.Verdict.TheVariants.{Grant, Deny, Pass, Inject}
 use Rattle.hist_model.specs.declared.report.Outcome.{Outcome}
@@ -29,7 +33,24 @@ use Rattle.hist_model.specs.declared.report.Audit.{Audit}
 -- what the policy makes of a notification and of what a session read for it, the oldest answer first; and the names of its rules
 pub record Judging : Type 0 where
   pub judge : Notif → List (Result (List ℕ) ℕ) → Judged
-  pub rule_name : ℕ → List ℕ
+  pub name : ℕ → List ℕ
+
+-- a decision, by the place of its rule
+abbrev pub judged_as : ℕ × Verdict → Judged
+judged_as (i, verdict) = Decided i verdict
+
+-- what the rules make of a copy, as far as it is read
+abbrev pub judged_by : List Rule → Notif → Progress → Judged
+judged_by rules notif (Wants address n) = Unfinished
+judged_by rules notif (Complete texts) = judged_as (decide rules (request notif.call.nr notif.call.args texts))
+judged_by rules notif (Broken e) = Faulty e
+
+-- the judging by the rules of a policy
+abbrev pub judging_by : List Rule → Judging
+judging_by rules = record {
+  judge = λ notif answers. judged_by rules notif (progress (plan notif.call.nr notif.call.args) answers);
+  name = rule_name rules
+}
 
 abbrev pub skips : What → Bool
 skips Skip = true
@@ -195,7 +216,7 @@ rule_of (Injected i) = Some i
 rule_of _ = None
 
 abbrev pub rule_text : Judging → Option ℕ → List ℕ
-rule_text J (Some i) = J.rule_name i
+rule_text J (Some i) = J.name i
 rule_text J None = codes "-"
 
 abbrev pub answer_text : Option Back → List ℕ

@@ -6,6 +6,7 @@ use Rattle.sys_abi.specs.Devices.{major_of, minor_of}
 use Rattle.sys_abi.specs.declared.wire.Notif.{Notif}
 use Rattle.sys_abi.specs.declared.wire.Addfd.{Addfd}
 use Rattle.hist_model.specs.Look.{Name}
+use Rattle.hist_model.specs.Requests.{kind_of}
 use Rattle.hist_model.specs.ReportWords.{hex, hex_or_dash, trimmed, quoted, or_dash, name_text, errno_text, call_text, result_text, number_text, back_text, actor_text}
 use Rattle.hist_model.specs.declared.event.Event.{Event}
 use Rattle.hist_model.specs.declared.event.What.{What}
@@ -71,19 +72,6 @@ abbrev pub read_text : Result (List ℕ) ℕ → List ℕ
 read_text (Ok bytes) = hex_or_dash (trimmed bytes)
 read_text (Err e) = errno_text e
 
--- the kind of node that the bits of S_IFMT ask for (inode(7))
-abbrev pub kind_of_bits : ℕ → Kind
-kind_of_bits n =
-    if n == 0 || n == 8 then Reg else (
-    if n == 2 then Chr else (
-    if n == 6 then Blk else (
-    if n == 1 then Fifo else (
-    if n == 12 then Sock else (
-    if n == 4 then Dir else Bad)))))
-
-abbrev pub kind_of_mode : ℕ → Kind
-kind_of_mode mode = kind_of_bits (mode / 4096 % 16)
-
 -- a kind of node, with the numbers of a device
 abbrev pub node_text : Kind → ℕ → List ℕ
 node_text Reg dev = codes "reg"
@@ -105,7 +93,7 @@ shift_text false = codes "0"
 
 -- what a worker does for a call; of a call that it never does anything for, the name alone
 abbrev pub request_text : Request → List ℕ
-request_text (Mknod dirfd path mode dev) = maker_text dirfd ++ quoted path ++ codes " " ++ node_text (kind_of_mode mode) dev
+request_text (Mknod dirfd path mode dev) = maker_text dirfd ++ quoted path ++ codes " " ++ node_text (kind_of mode) dev
 request_text (Mount source target fstype options via flags shift) =
     codes "mount " ++ quoted source ++ codes " " ++ quoted target ++ codes " " ++ quoted fstype
     ++ codes " flags=" ++ decimal flags ++ codes " data=" ++ quoted options ++ codes " via=" ++ or_dash via ++ codes " shift=" ++ shift_text shift
@@ -150,9 +138,13 @@ what_text LetGo = codes "let-go"
 what_text Skip = codes "skip"
 what_text Close = codes "close"
 
+-- the line of the event at a place
+abbrev pub event_line : ℕ → Event → List ℕ
+event_line place e = decimal place ++ codes " " ++ actor_text e.who ++ codes " " ++ what_text e.what ++ codes "\n"
+
 -- the line of the event that comes after K
 abbrev pub journal_line : List Event → Event → List ℕ
-journal_line K e = decimal (length K) ++ codes " " ++ actor_text e.who ++ codes " " ++ what_text e.what ++ codes "\n"
+journal_line K e = event_line (length K) e
 
 -- what f gives for each event and those before it, one after another, from the oldest on
 unfoldable pub lines_of : (List Event → Event → List ℕ) → List Event → List ℕ
