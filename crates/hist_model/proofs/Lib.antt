@@ -1,7 +1,8 @@
+pub mod CopyCases
+pub mod Decided
+pub mod FilterCases
 pub mod Look
 pub mod Scans
 mod WalkedPaths
-pub mod Decided
-pub mod FilterCases
-pub mod CopyCases
 mod PlayedCases
+pub mod WorkedReports

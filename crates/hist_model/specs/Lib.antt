@@ -26,3 +26,8 @@ pub mod Orders
 pub mod Mediated
 pub mod FirstPath
 pub mod Words
+pub mod Report
+pub mod ReportAudit
+pub mod ReportCalls
+pub mod ReportJournal
+pub mod ReportWords

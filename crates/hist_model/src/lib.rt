@@ -6,6 +6,7 @@ pub mod event;
 pub mod filter;
 pub mod history;
 pub mod policy;
+pub mod report;
 pub mod request;
 pub mod script;
 pub mod text;
