@@ -7,6 +7,7 @@
 #![tactic(auto)]
 
 mod components;
+pub mod effects;
 pub mod places;
 pub mod resolution;
 mod turns;
