@@ -7,10 +7,13 @@
 //! writes the whole report of what it played, or its summary alone.
 #![tactic(auto)]
 
+pub mod calls;
+mod count;
 pub mod error;
 mod event;
 pub mod journal;
 mod line;
+mod outcome;
 mod part;
 mod request;
 mod words;
