@@ -49,7 +49,7 @@ judged_by rules notif (Broken e) = Faulty e
 abbrev pub judging_by : List Rule → Judging
 judging_by rules = record {
   judge = λ notif answers. judged_by rules notif (progress (plan notif.call.nr notif.call.args) answers);
-  name = rule_name rules
+  name = rule_name rules;
 }
 
 abbrev pub skips : What → Bool
