@@ -10,13 +10,13 @@ ghost use Rattle.hist_model.specs.Legal.{system_of};
 ghost use Rattle.hist_model.specs.Steps.{next_child, spawn_answer, signalled, with_id, instr_step, wait_step, is_child, is_ended_child, found};
 ghost use Rattle.hist_model.specs.declared.event.What.TheVariants.{Spawn, Signal, Poke};
 
-use bpf_filter::answers::verdict;
+use bpf_filter::verdict;
 use hist_model::event::{Entered, Event, SpawnKind, What};
 use hist_model::script::{Instr, Script, Whom};
 use hist_model::text::{TaskName, Text};
 use look_back::calls::calls;
-use look_back::steps::{signal_answer, spawn_answer, spawns};
-use look_back::tasks::{name_at, parent, pid_named, waited};
+use look_back::steps::{next_child, signal_answer, signalled, spawn_answer};
+use look_back::tasks::{name_at, waited};
 use std::alloc::Global;
 use sys_abi::memory::NoMemory;
 
@@ -34,15 +34,6 @@ fn copy_text(alloc: Global, bytes: &[u8]) -> Result<Text, NoMemory>
     Ok(Text::new(Vec::from_slice(alloc, bytes)?))
 }
 
-/// The name of the child that a task has by this number.
-fn child_name(alloc: Global, name: &[u32], number: u32) -> Result<TaskName, NoMemory>
-    ensures { IfOk result (λ n. n ≡ name.now ++ number ∷ []) }
-{
-    let mut numbers = Vec::from_slice(alloc, name)?;
-    numbers.push(number)?;
-    Ok(TaskName::new(numbers))
-}
-
 /// A new task, or EAGAIN where no process number is free.
 fn spawn(
     alloc: Global,
@@ -54,35 +45,13 @@ fn spawn(
     requires { script.now.pidbase + script.now.pidmax < 2 ^ 32 }
     ensures { IfOk result (λ w. w ≡ Spawn (next_child (reverse events.now) name.now) (spawn_answer (next_pid script.now.pidbase script.now.pidmax (reverse events.now)) kind)) }
 {
-    let number = spawns(events, name) + 1;
-    if number > u32::MAX as usize {
+    if events.len() >= u32::MAX as usize {
         return Err(NoMemory);
     }
-    let child = child_name(alloc, name, number as u32)?;
     Ok(What::Spawn {
-        child,
+        child: next_child(alloc, events, name)?,
         answer: spawn_answer(script.pidbase, script.pidmax, events, kind),
     })
-}
-
-/// The process number for which a signal is meant; 0, which nobody holds, where there is none.
-fn signalled(
-    alloc: Global,
-    events: &[Event],
-    name: &[u32],
-    whom: Whom,
-) -> Result<u32, NoMemory>
-    ensures { IfOk result (λ p. p ≡ signalled (reverse events.now) name.now whom) }
-{
-    match whom {
-        Whom::Own => Ok(pid_named(events, name)),
-        Whom::Parent => Ok(pid_named(events, parent(name))),
-        Whom::Child(number) => {
-            let child = child_name(alloc, name, number)?;
-            Ok(pid_named(events, child.items()))
-        }
-        Whom::Pid(pid) => Ok(pid),
-    }
 }
 
 /// What the filters say of a call, with the id that a notification gets.
@@ -111,21 +80,15 @@ fn wait(alloc: Global, events: &[Event], name: &[u32]) -> Result<What, NoMemory>
 }
 
 /// A signal to a process number, or ESRCH where no task holds it.
-fn signal(
-    alloc: Global,
-    events: &[Event],
-    name: &[u32],
-    whom: Whom,
-    sig: u8,
-) -> Result<What, NoMemory>
-    ensures { IfOk result (λ w. w ≡ Signal (signalled (reverse events.now) name.now whom) sig (found (holder (reverse events.now) (signalled (reverse events.now) name.now whom)))) }
+fn signal(events: &[Event], name: &[u32], whom: Whom, sig: u8) -> What
+    ensures { result ≡ (Signal (signalled (reverse events.now) name.now whom) sig (found (holder (reverse events.now) (signalled (reverse events.now) name.now whom)))) }
 {
-    let pid = signalled(alloc, events, name, whom)?;
-    Ok(What::Signal {
+    let pid = signalled(events, name, whom);
+    What::Signal {
         pid,
         sig,
         answer: signal_answer(events, pid),
-    })
+    }
 }
 
 /// Bytes that are all the same, stored at an address.
@@ -148,7 +111,7 @@ pub(crate) fn instr_step(
     instr: Option<&Instr>,
 ) -> Result<What, NoMemory>
     requires { script.now.pidbase + script.now.pidmax < 2 ^ 32 }
-    ensures { IfOk result (λ w. w ≡ instr_step (system_of script.now) (reverse events.now) name.now (option_copied instr)) }
+    ensures { IfOk result (λ w. w ≡ instr_step (system_of script.now) (reverse events.now) name.now (option_copied instr.entry)) }
 {
     match instr {
         None | Some(Instr::Exit) => Ok(What::Exit),
@@ -164,7 +127,7 @@ pub(crate) fn instr_step(
         }),
         Some(Instr::Spawn { .. }) => spawn(alloc, script, events, name, SpawnKind::Copied),
         Some(Instr::Thread { .. }) => spawn(alloc, script, events, name, SpawnKind::Shared),
-        Some(Instr::Kill { whom, sig }) => signal(alloc, events, name, *whom, *sig),
+        Some(Instr::Kill { whom, sig }) => Ok(signal(events, name, *whom, *sig)),
         Some(Instr::Handler { sig, mode }) => Ok(What::Handler {
             sig: *sig,
             mode: *mode,
