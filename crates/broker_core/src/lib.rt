@@ -1,0 +1,4 @@
+//! The machine of a worker.
+#![tactic(auto)]
+
+pub mod judgement;
