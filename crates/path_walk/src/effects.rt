@@ -1,10 +1,10 @@
 //! What requests do to the tree.
 
-ghost use Rattle.std.specs.Prelude.{◌≡◌, ◌+◌, true, length};
-ghost use Rattle.hist_model.specs.Trees.{ordinal_of, are_attr_flags};
-ghost use Rattle.hist_model.specs.Paths.{Follow, Create, reaches};
-ghost use Rattle.hist_model.specs.Effects.{made, mounted, attributed, opened, perform};
-ghost use Rattle.path_walk.specs.Performed.{IsPerformed, room_wanted};
+ghost use Rattle.std.specs.Prelude.{◌≡◌, ◌+◌, length, MatchResult};
+ghost use Rattle.hist_model.specs.Trees.{ordinal_of};
+ghost use Rattle.hist_model.specs.Paths.{Follow, At, reaches};
+ghost use Rattle.hist_model.specs.Effects.{perform};
+ghost use Rattle.path_walk.specs.Performed.{IsPerformed, IsNotFollowed, room_wanted};
 
 use crate::places::{Last, Place, known};
 use crate::resolution::{Walk, resolve};
@@ -14,8 +14,35 @@ use mount_tree::tree::Tree;
 use sys_abi::errno::Errno;
 use sys_abi::memory::{NoMemory, OrNoMemory};
 
-/// Makes a node at a path (mknod(2)).
-fn make(
+/// An attribute that is to be set, with the flags of setxattr(2).
+#[derive(Clone, Copy, Debug)]
+pub struct AttrChange<'a> {
+    pub name: &'a [u8],
+    pub value: &'a [u8],
+    pub flags: u32,
+}
+
+/// The node at a path, or the errno of the walk.
+pub fn follow(
+    tree: &Tree,
+    root: NodeRef,
+    base: Option<NodeRef>,
+    path: &[u8],
+    walk: &mut Walk,
+) -> Result<NodeRef, Errno>
+    ensures { MatchResult result
+        (λ n. reaches tree.now.tree root.ordinal (ordinal_of base) path.now Follow ≡ At n.ordinal)
+        (λ e. IsNotFollowed (reaches tree.now.tree root.ordinal (ordinal_of base) path.now Follow) e) }
+{
+    match resolve(tree, root, base, path, Last::Follow, walk) {
+        Ok(Place::At(node)) => Ok(node),
+        Ok(Place::New { .. }) => Err(known(2)),
+        Err(error) => Err(error.errno()),
+    }
+}
+
+/// Makes a node at a path (mknod(2)), as `perform` does. It takes no memory where the tree is ready for 255 bytes.
+pub fn make(
     tree: &mut Tree,
     root: NodeRef,
     base: Option<NodeRef>,
@@ -23,7 +50,7 @@ fn make(
     node: Node,
     walk: &mut Walk,
 ) -> Result<(), OrNoMemory<Errno>>
-    ensures { IsPerformed 256 tree.old tree.new (made tree.old.tree node (reaches tree.old.tree root.ordinal (ordinal_of base) path.now Create)) result }
+    ensures { IsPerformed 256 tree.old tree.new (perform tree.old.tree root.ordinal (ordinal_of base) (TreeOp.Make path.now node)) result }
 {
     let dir = match resolve(tree, root, base, path, Last::Create, walk) {
         Ok(Place::New { dir }) => dir,
@@ -37,8 +64,8 @@ fn make(
     }
 }
 
-/// Mounts something on the directory at a path (mount(2)).
-fn mount(
+/// Mounts something on the directory at a path (mount(2)), as `perform` does. It takes no memory where the tree is ready.
+pub fn mount(
     tree: &mut Tree,
     root: NodeRef,
     base: Option<NodeRef>,
@@ -46,12 +73,11 @@ fn mount(
     row: MountRow,
     walk: &mut Walk,
 ) -> Result<(), OrNoMemory<Errno>>
-    ensures { IsPerformed 1 tree.old tree.new (mounted tree.old.tree row (reaches tree.old.tree root.ordinal (ordinal_of base) target.now Follow)) result }
+    ensures { IsPerformed 1 tree.old tree.new (perform tree.old.tree root.ordinal (ordinal_of base) (TreeOp.Mount target.now row)) result }
 {
-    let dir = match resolve(tree, root, base, target, Last::Follow, walk) {
-        Ok(Place::At(dir)) => dir,
-        Ok(Place::New { .. }) => return Err(OrNoMemory::Refused(known(2))),
-        Err(error) => return Err(OrNoMemory::Refused(error.errno())),
+    let dir = match follow(tree, root, base, target, walk) {
+        Ok(dir) => dir,
+        Err(errno) => return Err(OrNoMemory::Refused(errno)),
     };
     if !tree.is_dir(dir) {
         return Err(OrNoMemory::Refused(known(20)));
@@ -62,27 +88,28 @@ fn mount(
     }
 }
 
-/// Sets an attribute of the node at a path (setxattr(2)).
-fn set_attr(
+/// Sets an attribute of the node at a path (setxattr(2)), as `perform` does. It takes no memory where the tree is ready for the
+/// name and the value.
+pub fn set_attr(
     tree: &mut Tree,
     root: NodeRef,
     base: Option<NodeRef>,
     path: &[u8],
-    name: &[u8],
-    value: &[u8],
-    flags: u32,
+    change: AttrChange<'_>,
     walk: &mut Walk,
 ) -> Result<(), OrNoMemory<Errno>>
-    requires { are_attr_flags flags ≡ true }
-    ensures { IsPerformed (length name.now + length value.now + 1) tree.old tree.new
-        (attributed tree.old.tree name.now value.now flags (reaches tree.old.tree root.ordinal (ordinal_of base) path.now Follow)) result }
+    ensures { IsPerformed (length change.entry.name.now + length change.entry.value.now + 1) tree.old tree.new
+        (perform tree.old.tree root.ordinal (ordinal_of base)
+        (TreeOp.SetAttr path.now change.entry.name.now change.entry.value.now change.entry.flags)) result }
 {
-    let node = match resolve(tree, root, base, path, Last::Follow, walk) {
-        Ok(Place::At(node)) => node,
-        Ok(Place::New { .. }) => return Err(OrNoMemory::Refused(known(2))),
-        Err(error) => return Err(OrNoMemory::Refused(error.errno())),
+    if change.flags >= 4 {
+        return Err(OrNoMemory::Refused(known(22)));
+    }
+    let node = match follow(tree, root, base, path, walk) {
+        Ok(node) => node,
+        Err(errno) => return Err(OrNoMemory::Refused(errno)),
     };
-    match tree.set_attr(node, name, value, flags) {
+    match tree.set_attr(node, change.name, change.value, change.flags) {
         Ok(()) => Ok(()),
         Err(AttrError::BadFlags) => Err(OrNoMemory::Refused(known(22))),
         Err(AttrError::Exists) => Err(OrNoMemory::Refused(known(17))),
@@ -91,27 +118,10 @@ fn set_attr(
     }
 }
 
-/// Seeks the node at a path (openat(2)).
-fn open(
-    tree: &mut Tree,
-    root: NodeRef,
-    base: Option<NodeRef>,
-    path: &[u8],
-    walk: &mut Walk,
-) -> Result<(), OrNoMemory<Errno>>
-    ensures { IsPerformed 0 tree.old tree.new (opened tree.old.tree (reaches tree.old.tree root.ordinal (ordinal_of base) path.now Follow)) result }
-{
-    match resolve(tree, root, base, path, Last::Follow, walk) {
-        Ok(Place::At(_)) => Ok(()),
-        Ok(Place::New { .. }) => Err(OrNoMemory::Refused(known(2))),
-        Err(error) => Err(OrNoMemory::Refused(error.errno())),
-    }
-}
-
 /// Does what a request does to the tree, with paths from a container's root and from a base.
 ///
-/// Each errno comes exactly as the definitions have it, and leaves the tree as it is. It takes no memory where the tree is ready
-/// for `room_wanted`: 255 bytes for a node's name, an attribute's name and value, and none for a mount.
+/// Each errno comes exactly as the definitions have it, and leaves the tree as it is; `Open` changes nothing.
+/// It takes no memory where the tree is ready for a name of 255 bytes, for an attribute's name and value, or for a mount.
 pub fn perform(
     tree: &mut Tree,
     root: NodeRef,
@@ -131,12 +141,16 @@ pub fn perform(
             value,
             flags,
         } => {
-            if flags >= 4 {
-                return Err(OrNoMemory::Refused(known(22)));
-            }
-            let (path, name, value) = (path.items(), name.items(), value.items());
-            set_attr(tree, root, base, path, name, value, flags, walk)
+            let change = AttrChange {
+                name: name.items(),
+                value: value.items(),
+                flags,
+            };
+            set_attr(tree, root, base, path.items(), change, walk)
         }
-        TreeOp::Open { path, .. } => open(tree, root, base, path.items(), walk),
+        TreeOp::Open { path, .. } => match follow(tree, root, base, path.items(), walk) {
+            Ok(_) => Ok(()),
+            Err(errno) => Err(OrNoMemory::Refused(errno)),
+        },
     }
 }
