@@ -9,7 +9,7 @@ use hist_model::report::Outcome;
 use sys_abi::errno::Errno;
 
 /// Whether the two are one task. An actor that is no task is a task without a name.
-fn same_task(who: &Actor, task: &[u32]) -> bool
+pub(crate) fn same_task(who: &Actor, task: &[u32]) -> bool
     ensures { result ≡ is_task who.now task.now }
 {
     match who {
@@ -100,7 +100,7 @@ fn outcome_next(before: Outcome, what: &What) -> Outcome
 }
 
 /// What came of a call with one more step, of whichever actor.
-fn outcome_step(entry: bool, own: bool, before: Outcome, what: &What) -> Outcome
+pub(crate) fn outcome_step(entry: bool, own: bool, before: Outcome, what: &What) -> Outcome
     ensures { result ≡ outcome_step entry own before what.now }
 {
     if entry {
