@@ -1,4 +1,8 @@
+pub mod CopyCases
+pub mod Decided
+pub mod FilterCases
 pub mod Look
 pub mod Scans
 mod WalkedPaths
-pub mod Decided
+mod PlayedCases
+pub mod WorkedReports

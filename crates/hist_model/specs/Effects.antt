@@ -9,6 +9,7 @@ use Rattle.hist_model.specs.declared.request.Request.TheVariants as request
 use Rattle.hist_model.specs.declared.request.MountRow.{MountRow}
 use Rattle.hist_model.specs.declared.request.TreeOp.{TreeOp}
 use Rattle.hist_model.specs.declared.request.TreeOp.TheVariants.{Fail, Make, Mount, SetAttr, Open}
+use Rattle.hist_model.specs.Requests.{kind_of, major_of, minor_of}
 use Rattle.hist_model.specs.Trees.{Tree, is_dir_at, entry, attr, with_node, with_mount, with_attr, are_attr_flags, creates_attr, replaces_attr}
 use Rattle.hist_model.specs.Paths.{Follow, Create, Place, At, New, Refused, reaches, no_entry, exists_already, not_directory}
 
@@ -24,20 +25,6 @@ no_data = 61
 
 abbrev pub no_call : ℕ
 no_call = 38
-
--- the kind of node that a mode asks for: its bits 0o170000 (inode(7))
-abbrev pub kind_of : ℕ → Kind
-kind_of mode =
-    let k = (mode / 4096) % 16 in
-    if (k == 0) then kind.Reg else (if k == 8 then kind.Reg else (if k == 2 then kind.Chr else (if k == 6 then kind.Blk
-    else (if k == 1 then kind.Fifo else (if k == 12 then kind.Sock else (if k == 4 then kind.Dir else kind.Bad))))))
-
--- the numbers of a device (makedev(3))
-abbrev pub major_of : ℕ → ℕ
-major_of dev = (dev / 256) % 4096
-
-abbrev pub minor_of : ℕ → ℕ
-minor_of dev = dev % 256 + 256 * (dev / 1048576)
 
 -- a node of this kind and device is made at a path
 abbrev pub making : List ℕ → ℕ → Kind → TreeOp

@@ -66,7 +66,7 @@ system_of S = record {
   directory = λ K g d. is_there (base_of S (files S K) g d);
   bytes = λ K g a n. bytes_read S K g a n;
   writable = λ a. all_mapped S.map a sysinfo_size;
-  outcome = λ K w q. outcome S (files S K) w q
+  outcome = λ K w q. outcome S (files S K) w q;
 }
 
 -- the answers of a session's reads
@@ -122,7 +122,7 @@ rules_of P F = record {
   dirfd = λ n. base_dirfd n.call.nr n.call.args;
   next_piece = λ n reads. wanted_piece (copied n reads);
   fault = λ n reads. copy_fault (copied n reads);
-  decide = λ n reads. judged P F n (copied n reads)
+  decide = λ n reads. judged P F n (copied n reads);
 }
 
 -- each event is the step of its actor after those before it, and nothing follows the close of the listener

@@ -10,7 +10,7 @@ use Rattle.hist_model.specs.Laws.{AnsweredOnce, count_below, empty_recvs}
 use Rattle.hist_model.specs.Settlers.{InstallsOwn, ResumesOwn}
 use Rattle.hist_model.specs.Orders.{InOrder, is_good_check}
 use Rattle.hist_model.specs.Causes.{Cause}
-use Rattle.hist_model.specs.Trees.{Tree, NodeRow, AttrRow, Mounted}
+use Rattle.hist_model.specs.Trees.{Tree}
 use Rattle.hist_model.specs.Memory.{own_group}
 use Rattle.hist_model.specs.Signals.{call_of}
 use Rattle.hist_model.specs.Natives.{Files, base_of}
@@ -30,6 +30,8 @@ use Rattle.hist_model.specs.declared.request.Obj.{Obj}
 use Rattle.hist_model.specs.declared.request.Obj.TheVariants.{Broker}
 use Rattle.hist_model.specs.declared.request.Request.{Request}
 use Rattle.hist_model.specs.declared.script.Script.{Script}
+use Rattle.hist_model.specs.declared.tree.NodeRow.{NodeRow}
+use Rattle.hist_model.specs.declared.tree.AttrRow.{AttrRow}
 use Rattle.sys_abi.specs.declared.wire.Notif.{Notif}
 
 -- of each event with those before it
@@ -167,13 +169,13 @@ ReceivesFor K e = empty_recvs (e ∷ K) ≤ left_unfetched (e ∷ K)
 
 -- ---- A passed call runs without the broker's rights
 
+abbrev pub is_device_node : Node → Bool
+is_device_node (Chr major minor) = true
+is_device_node (Blk major minor) = true
+is_device_node _ = false
+
 abbrev pub is_device_row : NodeRow → Bool
 is_device_row row = is_device_node row.node
-  where
-    is_device_node : Node → Bool
-    is_device_node (Chr major minor) = true
-    is_device_node (Blk major minor) = true
-    is_device_node _ = false
 
 abbrev pub is_others_row : AttrRow → Bool
 is_others_row row = not (starts_with nat_eq row.name (codes "user."))

@@ -2,6 +2,7 @@
 -- (mknod(2), mount(2), setxattr(2), openat(2), sysinfo(2)). The texts stand in the order of the call's plan.
 use Rattle.std.specs.Prelude.{ℕ, ◌+◌, ◌*◌, ◌/◌, ◌%◌, false, if◌then◌else◌, ◌==◌, ◌||◌, List, [], get_or, Option, Some, None, ℤ, pos, negsuc}
 use Rattle.std.specs.Int.{w32, cast_signed}
+pub use Rattle.sys_abi.specs.Devices.{major_of, minor_of}
 use Rattle.hist_model.specs.declared.policy.Rule.{Rule}
 use Rattle.hist_model.specs.declared.request.Kind.{Kind}
 use Rattle.hist_model.specs.declared.request.Kind.TheVariants.{Reg, Chr, Blk, Fifo, Sock, Dir, Bad}
@@ -72,14 +73,6 @@ kind_of_type t =
 -- the kind of node that a mode asks for
 abbrev pub kind_of : ℕ → Kind
 kind_of mode = kind_of_type (mode / 4096 % 16)
-
--- the major number of a device: bits 8 to 19 (makedev(3), in 32 bits)
-abbrev pub major_of : ℕ → ℕ
-major_of dev = dev / 256 % 4096
-
--- the minor number of a device: bits 0 to 7, and above them bits 20 to 31
-abbrev pub minor_of : ℕ → ℕ
-minor_of dev = dev % 256 + dev / 1048576 * 256
 
 -- the request that a rule grants: a mount has the rule's program and shift, and any other is as it was asked
 abbrev pub granted : Rule → Request → Request

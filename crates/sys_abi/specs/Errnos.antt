@@ -1,32 +1,102 @@
 use Rattle.std.specs.Prelude.{ℕ, Option, List, [], ◌∷◌, codes}
 use Rattle.sys_abi.specs.Names.{name_in, number_in}
 
--- each error that the kernel or a worker gives, by its number and its name (errno(3), the numbers of x86-64)
+-- the numbers of the errors that the kernel and its workers give (errno(3), x86-64)
+abbrev pub eperm : ℕ
+eperm = 1
+
+abbrev pub enoent : ℕ
+enoent = 2
+
+abbrev pub esrch : ℕ
+esrch = 3
+
+abbrev pub eintr : ℕ
+eintr = 4
+
+abbrev pub e2big : ℕ
+e2big = 7
+
+abbrev pub ebadf : ℕ
+ebadf = 9
+
+abbrev pub echild : ℕ
+echild = 10
+
+abbrev pub eagain : ℕ
+eagain = 11
+
+abbrev pub eacces : ℕ
+eacces = 13
+
+abbrev pub efault : ℕ
+efault = 14
+
+abbrev pub ebusy : ℕ
+ebusy = 16
+
+abbrev pub eexist : ℕ
+eexist = 17
+
+abbrev pub enodev : ℕ
+enodev = 19
+
+abbrev pub enotdir : ℕ
+enotdir = 20
+
+abbrev pub einval : ℕ
+einval = 22
+
+abbrev pub emfile : ℕ
+emfile = 24
+
+abbrev pub erange : ℕ
+erange = 34
+
+abbrev pub enametoolong : ℕ
+enametoolong = 36
+
+abbrev pub enosys : ℕ
+enosys = 38
+
+abbrev pub eloop : ℕ
+eloop = 40
+
+abbrev pub enodata : ℕ
+enodata = 61
+
+abbrev pub einprogress : ℕ
+einprogress = 115
+
+abbrev pub edquot : ℕ
+edquot = 122
+
+-- each of these errors beside its name
 abbrev pub errnos : List (ℕ × List ℕ)
 errnos =
-    (1, codes "EPERM") ∷
-    (2, codes "ENOENT") ∷
-    (3, codes "ESRCH") ∷
-    (4, codes "EINTR") ∷
-    (7, codes "E2BIG") ∷
-    (9, codes "EBADF") ∷
-    (10, codes "ECHILD") ∷
-    (11, codes "EAGAIN") ∷
-    (13, codes "EACCES") ∷
-    (14, codes "EFAULT") ∷
-    (16, codes "EBUSY") ∷
-    (17, codes "EEXIST") ∷
-    (19, codes "ENODEV") ∷
-    (20, codes "ENOTDIR") ∷
-    (22, codes "EINVAL") ∷
-    (24, codes "EMFILE") ∷
-    (34, codes "ERANGE") ∷
-    (36, codes "ENAMETOOLONG") ∷
-    (38, codes "ENOSYS") ∷
-    (40, codes "ELOOP") ∷
-    (61, codes "ENODATA") ∷
-    (115, codes "EINPROGRESS") ∷
-    (122, codes "EDQUOT") ∷
+    (eperm, codes "EPERM") ∷
+    (enoent, codes "ENOENT") ∷
+    (esrch, codes "ESRCH") ∷
+    (eintr, codes "EINTR") ∷
+    (e2big, codes "E2BIG") ∷
+    (ebadf, codes "EBADF") ∷
+    (echild, codes "ECHILD") ∷
+    (eagain, codes "EAGAIN") ∷
+    (eacces, codes "EACCES") ∷
+    (efault, codes "EFAULT") ∷
+    (ebusy, codes "EBUSY") ∷
+    (eexist, codes "EEXIST") ∷
+    (enodev, codes "ENODEV") ∷
+    (enotdir, codes "ENOTDIR") ∷
+    (einval, codes "EINVAL") ∷
+    (emfile, codes "EMFILE") ∷
+    (erange, codes "ERANGE") ∷
+    (enametoolong, codes "ENAMETOOLONG") ∷
+    (enosys, codes "ENOSYS") ∷
+    (eloop, codes "ELOOP") ∷
+    (enodata, codes "ENODATA") ∷
+    (einprogress, codes "EINPROGRESS") ∷
+    (edquot, codes "EDQUOT") ∷
     []
 
 -- the name of the error with this number

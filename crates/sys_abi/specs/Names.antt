@@ -1,6 +1,6 @@
 use Rattle.std.specs.Prelude.{ℕ, Option, List, ◌==◌, bytes_eq, find, map}
 use Rattle.std.specs.Option.{option_map}
-use Rattle.std.proofs.Common.{Bor}
+use Rattle.std.specs.Borrow.{Bor}
 
 -- the name beside a number in a table
 abbrev pub name_in : List (ℕ × List ℕ) → ℕ → Option (List ℕ)

@@ -1,6 +1,6 @@
 //! Numbers of system calls, as they are on x86-64.
 
-ghost use Rattle.std.specs.Prelude.{◌≡◌};
+ghost use Rattle.std.specs.Prelude.{◌≡◌, IfSome};
 ghost use Rattle.std.specs.Option.{option_copied};
 ghost use Rattle.sys_abi.specs.Calls.{call_name_of, call_number_of};
 
@@ -44,7 +44,8 @@ const NAMES: [Row; 8] = [
 
 /// The number of the call with this name, if it is one of those above.
 pub fn call_number(name: &[u8]) -> Option<i32>
-    ensures { result ≡ call_number_of name.now }
+    ensures numbered { result ≡ call_number_of name.now }
+    ensures back { IfSome result (λ nr. call_name_of nr ≡ Some name.now) }
 {
     let number = number_of(&NAMES, name)?;
     Some(i32::from(number))
@@ -53,7 +54,8 @@ pub fn call_number(name: &[u8]) -> Option<i32>
 /// The name of the call with this number, if it is one of those above. Any number may be asked for, also one that
 /// is no call at all.
 pub fn call_name(nr: i32) -> Option<&'static str>
-    ensures { option_copied result ≡ call_name_of nr }
+    ensures named { option_copied result ≡ call_name_of nr }
+    ensures back { IfSome result (λ text. call_number_of text.now ≡ Some nr) }
 {
     match u16::try_from(nr) {
         Ok(number) => name_of(&NAMES, number),

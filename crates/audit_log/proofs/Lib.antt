@@ -1,0 +1,4 @@
+pub mod Counted
+pub mod Past
+pub mod Trimmed
+pub mod Writing

@@ -1,0 +1,256 @@
+-- The audit of a report: one line for each session, with the rule that decided, what was answered, and whether that reached the call.
+use Rattle.std.specs.Prelude.{ℕ, Bool, true, false, ◌&&◌, ◌||◌, not, if◌then◌else◌, ◌==◌, nat_le, List, [], ◌∷◌, ◌++◌, length, Option, Some, None, Result, Ok, Err, pos, codes, decimal, count_by, is_some}
+use Rattle.std.specs.List.{list_any}
+use Rattle.sys_abi.specs.declared.wire.Notif.{Notif}
+use Rattle.hist_model.specs.Look.{Name, is_task, is_worker, task_name, event_at}
+use Rattle.hist_model.specs.Copies.{Progress, Wants, Complete, Faulty as Broken, plan, progress}
+use Rattle.hist_model.specs.Requests.{request}
+use Rattle.hist_model.specs.Decisions.{decide, rule_name}
+use Rattle.hist_model.specs.ReportWords.{call_text, back_text}
+use Rattle.hist_model.specs.ReportJournal.{lines_of, title}
+use Rattle.hist_model.specs.ReportCalls.{outcome}
+use Rattle.hist_model.specs.declared.event.Actor.{Actor}
+use Rattle.hist_model.specs.declared.event.Actor.TheVariants.{Worker}
+use Rattle.hist_model.specs.declared.event.Event.{Event}
+use Rattle.hist_model.specs.declared.event.What.{What}
+use Rattle.hist_model.specs.declared.event.What.TheVariants.{Enter, Install, Recv, OpenMem, OpenBase, Check, Read, Act, Plant, AddfdPut, AddfdTake, Send, LetGo, Skip}
+use Rattle.hist_model.specs.declared.event.Entered.TheVariants.{Notify}
+use Rattle.hist_model.specs.declared.event.Back.{Back}
+use Rattle.hist_model.specs.declared.event.Back.TheVariants.{Value}
+use Rattle.hist_model.specs.declared.policy.Rule.{Rule}
+use Rattle.hist_model.specs.declared.policy.Verdict.{Verdict}
+use Rattle.hist_model.specs.declared.policy.Verdict.TheVariants.{Grant, Deny, Pass, Inject}
+use Rattle.hist_model.specs.declared.report.Outcome.{Outcome}
+use Rattle.hist_model.specs.declared.report.Outcome.TheVariants.{Open as Pending}
+use Rattle.hist_model.specs.declared.report.Judged.{Judged}
+use Rattle.hist_model.specs.declared.report.Judged.TheVariants.{Unfinished, Faulty, Decided}
+use Rattle.hist_model.specs.declared.report.Finding.{Finding}
+use Rattle.hist_model.specs.declared.report.Finding.TheVariants.{Gone, Open, Fault, Spent, Granted, Denied, Passed, Injected}
+use Rattle.hist_model.specs.declared.report.Arrival.{Arrival}
+use Rattle.hist_model.specs.declared.report.Arrival.TheVariants.{Sent, Lost, Unsent}
+use Rattle.hist_model.specs.declared.report.Audit.{Audit}
+
+-- what the policy makes of a notification and of what a session read for it, the oldest answer first; and the names of its rules
+pub record Judging : Type 0 where
+  pub judge : Notif → List (Result (List ℕ) ℕ) → Judged
+  pub name : ℕ → List ℕ
+
+-- a decision, by the place of its rule
+abbrev pub judged_as : ℕ × Verdict → Judged
+judged_as (i, verdict) = Decided i verdict
+
+-- what the rules make of a copy, as far as it is read
+abbrev pub judged_by : List Rule → Notif → Progress → Judged
+judged_by rules notif (Wants address n) = Unfinished
+judged_by rules notif (Complete texts) = judged_as (decide rules (request notif.call.nr notif.call.args texts))
+judged_by rules notif (Broken e) = Faulty e
+
+-- the judging by the rules of a policy
+abbrev pub judging_by : List Rule → Judging
+judging_by rules = record {
+  judge = λ notif answers. judged_by rules notif (progress (plan notif.call.nr notif.call.args) answers);
+  name = rule_name rules;
+}
+
+abbrev pub skips : What → Bool
+skips Skip = true
+skips _ = false
+
+-- one more step of a session; none before its first, and none after it let go
+abbrev pub joined : List What → What → List What
+joined [] a = []
+joined (LetGo ∷ own) a = LetGo ∷ own
+joined (b ∷ own) a = a ∷ b ∷ own
+
+-- one more step: whether it is the session's first, whether it is its worker's, and the session's steps before
+abbrev pub session_step : Bool → Bool → List What → What → List What
+session_step true own before a = a ∷ []
+session_step false true before a = joined before a
+session_step false false before a = before
+
+-- the steps of the session that worker w began at place r, the newest first: all its later ones but Skip, until it let go
+unfoldable pub session_at : ℕ → ℕ → List Event → List What
+session_at w r [] = []
+session_at w r (e ∷ K) = session_step (length K == r) (is_worker e.who w && not (skips e.what)) (session_at w r K) e.what
+
+-- the step shows that the caller, or its call, is gone
+abbrev pub is_gone : What → Bool
+is_gone (OpenMem pid (Err e)) = e == 3
+is_gone (OpenBase pid dirfd (Err e)) = e == 3
+is_gone (Check id (Err e)) = e == 2
+is_gone _ = false
+
+-- the step found the notification valid
+abbrev pub is_good_check : What → Bool
+is_good_check (Check id (Ok u)) = true
+is_good_check _ = false
+
+-- the step was refused since its rule's times were spent
+abbrev pub is_spent : What → Bool
+is_spent (Act request cap (Err e)) = e == 122
+is_spent (Plant addr bytes cap (Err e)) = e == 122
+is_spent _ = false
+
+-- the step reached no listed call
+abbrev pub is_lost : What → Bool
+is_lost (AddfdPut asked (Err e)) = e == 2
+is_lost (AddfdTake (Err e)) = e == 2
+is_lost (Send id back (Err e)) = e == 2
+is_lost _ = false
+
+-- the step sent an answer that was taken
+abbrev pub is_sent : What → Bool
+is_sent (Send id back (Ok u)) = true
+is_sent _ = false
+
+-- what the newest send sent
+abbrev pub sent_back : List What → Option Back
+sent_back [] = None
+sent_back (Send id back answer ∷ own) = Some back
+sent_back (a ∷ own) = sent_back own
+
+-- what the session's reads answered, the oldest first
+abbrev pub reads : List What → List (Result (List ℕ) ℕ)
+reads [] = []
+reads (Read addr len answer ∷ own) = reads own ++ answer ∷ []
+reads (a ∷ own) = reads own
+
+-- the step enters a call that is listed with this id
+abbrev pub is_notified : What → ℕ → Bool
+is_notified (Enter nr args (Notify id)) x = id == x
+is_notified _ x = false
+
+-- the newest call with this id
+unfoldable pub call_with_id : ℕ → List Event → Option ℕ
+call_with_id x [] = None
+call_with_id x (e ∷ K) = if is_notified e.what x then Some (length K) else call_with_id x K
+
+abbrev pub is_pending : Outcome → Bool
+is_pending Pending = true
+is_pending _ = false
+
+-- the number that a step of the task gave while nothing had come of its call, else the one before
+abbrev pub number_step : Bool → What → Option ℕ → Option ℕ
+number_step true (Install (Ok n)) before = Some n
+number_step _ _ before = before
+
+-- the number of the descriptor that was installed for the call that task n entered at place c
+unfoldable pub installed : Name → ℕ → List Event → Option ℕ
+installed n c [] = None
+installed n c (e ∷ K) = number_step (is_task e.who n && is_pending (outcome n c K)) e.what (installed n c K)
+
+abbrev pub actor_name : Option Event → Name
+actor_name (Some e) = task_name e.who
+actor_name None = []
+
+-- in the history H, the number that was installed for the call that was fetched after K
+abbrev pub installed_at : List Event → List Event → Option ℕ → Option ℕ
+installed_at H K None = None
+installed_at H K (Some c) = installed (actor_name (event_at K c)) c H
+
+abbrev pub finding_of_verdict : ℕ → Verdict → Finding
+finding_of_verdict i Grant = Granted i
+finding_of_verdict i (Deny e) = Denied i
+finding_of_verdict i Pass = Passed i
+finding_of_verdict i (Inject src at) = Injected i
+
+-- what was decided, and whether the effect was refused since the rule's times were spent
+abbrev pub finding_of : Judged → Bool → Finding
+finding_of Unfinished spent = Open
+finding_of (Faulty e) spent = Fault
+finding_of (Decided i verdict) true = Spent i
+finding_of (Decided i verdict) false = finding_of_verdict i verdict
+
+-- the session was gone, or its second check was good and it was judged, or neither
+abbrev pub finding_by : Bool → Bool → Judged → Bool → Finding
+finding_by true checked judged spent = Gone
+finding_by false true judged spent = finding_of judged spent
+finding_by false false judged spent = Open
+
+abbrev pub checked_twice : List What → Bool
+checked_twice own = nat_le 2 (count_by is_good_check own)
+
+-- what a session came to
+abbrev pub finding : Judging → Notif → List What → Finding
+finding J notif own = finding_by (list_any is_gone own) (checked_twice own) (J.judge notif (reads own)) (list_any is_spent own)
+
+-- what was sent, else the number that was installed
+abbrev pub answer_of : Option Back → Option ℕ → Option Back
+answer_of (Some back) number = Some back
+answer_of None (Some n) = Some (Value (pos n))
+answer_of None None = None
+
+abbrev pub arrival_of : Bool → Bool → Arrival
+arrival_of true lost = Sent
+arrival_of false true = Lost
+arrival_of false false = Unsent
+
+abbrev pub arrival : List What → Option ℕ → Arrival
+arrival own number = arrival_of (list_any is_sent own || is_some number) (list_any is_lost own)
+
+-- what a session with these steps came to, for whose call this number was installed
+abbrev pub audit_by : Judging → Notif → List What → Option ℕ → Audit
+audit_by J notif own number = record { finding = finding J notif own; answer = answer_of (sent_back own) number; arrival = arrival own number }
+
+-- in the history H, what came of the session that worker w began with this notification after K
+abbrev pub audit_of : Judging → List Event → List Event → ℕ → Notif → Audit
+audit_of J H K w notif = audit_by J notif (session_at w (length K) H) (installed_at H K (call_with_id notif.id K))
+
+abbrev pub finding_text : Finding → List ℕ
+finding_text Gone = codes "gone"
+finding_text Open = codes "open"
+finding_text Fault = codes "fault"
+finding_text (Spent i) = codes "spent"
+finding_text (Granted i) = codes "grant"
+finding_text (Denied i) = codes "deny"
+finding_text (Passed i) = codes "pass"
+finding_text (Injected i) = codes "inject"
+
+-- the place of the rule that decided
+abbrev pub rule_of : Finding → Option ℕ
+rule_of (Spent i) = Some i
+rule_of (Granted i) = Some i
+rule_of (Denied i) = Some i
+rule_of (Passed i) = Some i
+rule_of (Injected i) = Some i
+rule_of _ = None
+
+abbrev pub rule_text : Judging → Option ℕ → List ℕ
+rule_text J (Some i) = J.name i
+rule_text J None = codes "-"
+
+abbrev pub answer_text : Option Back → List ℕ
+answer_text (Some back) = back_text back
+answer_text None = codes "-"
+
+abbrev pub arrival_text : Arrival → List ℕ
+arrival_text Sent = codes "sent"
+arrival_text Lost = codes "lost"
+arrival_text Unsent = codes "none"
+
+-- the line of a session: its place, its worker, and its notification's id and call
+abbrev pub audit_line_of : Judging → ℕ → ℕ → Notif → Audit → List ℕ
+audit_line_of J r w notif a =
+    decimal r ++ codes " w" ++ decimal w ++ codes " id=" ++ decimal notif.id ++ codes " " ++ call_text notif.call.nr
+    ++ codes " rule=" ++ rule_text J (rule_of a.finding) ++ codes " verdict=" ++ finding_text a.finding
+    ++ codes " answer=" ++ answer_text a.answer ++ codes " reply=" ++ arrival_text a.arrival ++ codes "\n"
+
+-- a worker received a notification
+abbrev pub begins_by : Actor → What → Bool
+begins_by (Worker w) (Recv (Ok notif)) = true
+begins_by _ _ = false
+
+abbrev pub begins : Event → Bool
+begins e = begins_by e.who e.what
+
+-- in the history H, the line of the step that comes after K, where it begins a session
+abbrev pub audit_line_by : Judging → List Event → List Event → Actor → What → List ℕ
+audit_line_by J H K (Worker w) (Recv (Ok notif)) = audit_line_of J (length K) w notif (audit_of J H K w notif)
+audit_line_by J H K _ _ = []
+
+abbrev pub audit_line : Judging → List Event → List Event → Event → List ℕ
+audit_line J H K e = audit_line_by J H K e.who e.what
+
+-- the audit: a line for each session, from the oldest on
+abbrev pub audit : Judging → List Event → List ℕ
+audit J H = title (codes "audit") (count_by begins H) ++ lines_of (audit_line J H) H

@@ -1,0 +1,160 @@
+-- The journal of a report: one line for each event.
+use Rattle.std.specs.Prelude.{ℕ, ◌/◌, ◌%◌, Bool, true, false, ◌||◌, if◌then◌else◌, ◌==◌, List, [], ◌∷◌, ◌++◌, length, Option, Some, None, Result, Ok, Err, ℤ, codes, decimal}
+use Rattle.std.specs.Fmt.{signed_decimal}
+use Rattle.std.specs.List.{flat_map}
+use Rattle.sys_abi.specs.Devices.{major_of, minor_of}
+use Rattle.sys_abi.specs.declared.wire.Notif.{Notif}
+use Rattle.sys_abi.specs.declared.wire.Addfd.{Addfd}
+use Rattle.hist_model.specs.Look.{Name}
+use Rattle.hist_model.specs.Requests.{kind_of}
+use Rattle.hist_model.specs.ReportWords.{hex, hex_or_dash, trimmed, quoted, or_dash, name_text, errno_text, call_text, result_text, number_text, back_text, actor_text}
+use Rattle.hist_model.specs.declared.event.Event.{Event}
+use Rattle.hist_model.specs.declared.event.What.{What}
+use Rattle.hist_model.specs.declared.event.What.TheVariants.{Spawn, Poke, Handler, Enter, Native, Install, Resume, Signal, Deliver, Reap, Exit, Recv, OpenMem, OpenBase, Check, Read, Act, Plant, AddfdPut, AddfdTake, Send, LetGo, Skip, Close}
+use Rattle.hist_model.specs.declared.event.SpawnKind.{SpawnKind}
+use Rattle.hist_model.specs.declared.event.SpawnKind.TheVariants.{New, Copied, Shared}
+use Rattle.hist_model.specs.declared.event.Mode.{Mode}
+use Rattle.hist_model.specs.declared.event.Mode.TheVariants.{Default, Restart as RestartMode, Plain}
+use Rattle.hist_model.specs.declared.event.Entered.{Entered}
+use Rattle.hist_model.specs.declared.event.Entered.TheVariants.{Notify, Allow, Log, Fails, NoSys, Kill}
+use Rattle.hist_model.specs.declared.event.Delivered.{Delivered}
+use Rattle.hist_model.specs.declared.event.Delivered.TheVariants.{End, Run, Restart, Eintr}
+use Rattle.hist_model.specs.declared.request.Request.{Request}
+use Rattle.hist_model.specs.declared.request.Request.TheVariants.{Mknod, Mount, SetXattr, OpenAt, Sysinfo, Other}
+use Rattle.hist_model.specs.declared.request.Kind.{Kind}
+use Rattle.hist_model.specs.declared.request.Kind.TheVariants.{Reg, Chr, Blk, Fifo, Sock, Dir, Bad}
+
+abbrev pub spawn_kind_text : SpawnKind → List ℕ
+spawn_kind_text New = codes "new"
+spawn_kind_text Copied = codes "copy"
+spawn_kind_text Shared = codes "share"
+
+-- what a new task got
+abbrev pub spawned_text : Result (ℕ × SpawnKind) ℕ → List ℕ
+spawned_text (Ok a) = codes "pid=" ++ decimal a.0 ++ codes " " ++ spawn_kind_text a.1
+spawned_text (Err e) = errno_text e
+
+abbrev pub mode_text : Mode → List ℕ
+mode_text Default = codes "default"
+mode_text RestartMode = codes "restart"
+mode_text Plain = codes "plain"
+
+-- what the filters say
+abbrev pub entered_text : Entered → List ℕ
+entered_text (Notify id) = codes "notify id=" ++ decimal id
+entered_text Allow = codes "allow"
+entered_text Log = codes "log"
+entered_text (Fails n) = codes "errno=" ++ decimal n
+entered_text NoSys = codes "nosys"
+entered_text Kill = codes "kill"
+
+-- the arguments of a call, each after a space
+abbrev pub args_text : List ℕ → List ℕ
+args_text args = flat_map (λ a. codes " " ++ decimal a) args
+
+-- what a delivery does
+abbrev pub delivered_text : Delivered → List ℕ
+delivered_text End = codes "end"
+delivered_text Run = codes "run"
+delivered_text Restart = codes "restart"
+delivered_text Eintr = codes "eintr"
+
+abbrev pub reaped_text : Result Name ℕ → List ℕ
+reaped_text (Ok n) = name_text n
+reaped_text (Err e) = errno_text e
+
+abbrev pub received_text : Result Notif ℕ → List ℕ
+received_text (Ok notif) = codes "id=" ++ decimal notif.id ++ codes " pid=" ++ decimal notif.pid
+received_text (Err e) = errno_text e
+
+-- the bytes that were read, without the zero bytes at their end
+abbrev pub read_text : Result (List ℕ) ℕ → List ℕ
+read_text (Ok bytes) = hex_or_dash (trimmed bytes)
+read_text (Err e) = errno_text e
+
+-- a kind of node, with the numbers of a device
+abbrev pub node_text : Kind → ℕ → List ℕ
+node_text Reg dev = codes "reg"
+node_text Chr dev = codes "chr " ++ decimal (major_of dev) ++ codes ":" ++ decimal (minor_of dev)
+node_text Blk dev = codes "blk " ++ decimal (major_of dev) ++ codes ":" ++ decimal (minor_of dev)
+node_text Fifo dev = codes "fifo"
+node_text Sock dev = codes "sock"
+node_text Dir dev = codes "dir"
+node_text Bad dev = codes "bad"
+
+-- the call that makes a node, with the number from which its path goes
+abbrev pub maker_text : Option ℤ → List ℕ
+maker_text None = codes "mknod "
+maker_text (Some dirfd) = codes "mknodat " ++ signed_decimal dirfd ++ codes " "
+
+abbrev pub shift_text : Bool → List ℕ
+shift_text true = codes "1"
+shift_text false = codes "0"
+
+-- what a worker does for a call; of a call that it never does anything for, the name alone
+abbrev pub request_text : Request → List ℕ
+request_text (Mknod dirfd path mode dev) = maker_text dirfd ++ quoted path ++ codes " " ++ node_text (kind_of mode) dev
+request_text (Mount source target fstype options via flags shift) =
+    codes "mount " ++ quoted source ++ codes " " ++ quoted target ++ codes " " ++ quoted fstype
+    ++ codes " flags=" ++ decimal flags ++ codes " data=" ++ quoted options ++ codes " via=" ++ or_dash via ++ codes " shift=" ++ shift_text shift
+request_text (SetXattr path name value flags) =
+    codes "setxattr " ++ quoted path ++ codes " " ++ quoted name ++ codes " " ++ hex_or_dash value ++ codes " flags=" ++ decimal flags
+request_text (OpenAt dirfd path flags) = codes "openat"
+request_text (Sysinfo addr) = codes "sysinfo"
+request_text (Other nr) = call_text nr
+
+-- the number at which a descriptor is asked for: `-` where the flags lack SECCOMP_ADDFD_FLAG_SETFD
+abbrev pub target_text : Bool → ℕ → List ℕ
+target_text true newfd = decimal newfd
+target_text false newfd = codes "-"
+
+abbrev pub asked_text : Addfd → List ℕ
+asked_text asked = decimal asked.id ++ codes " src=" ++ decimal asked.srcfd ++ codes " at=" ++ target_text (asked.flags % 2 == 1) asked.newfd
+
+-- what happened, in words
+abbrev pub what_text : What → List ℕ
+what_text (Spawn child answer) = codes "spawn " ++ name_text child ++ codes " " ++ spawned_text answer
+what_text (Poke addr bytes) = codes "poke " ++ decimal addr ++ codes " " ++ hex bytes
+what_text (Handler sig mode) = codes "handler " ++ decimal sig ++ codes " " ++ mode_text mode
+what_text (Enter nr args verdict) = codes "call " ++ call_text nr ++ args_text args ++ codes " " ++ entered_text verdict
+what_text (Native answer) = codes "native " ++ number_text answer
+what_text (Install answer) = codes "install " ++ number_text answer
+what_text (Resume back) = codes "resume " ++ back_text back
+what_text (Signal pid sig answer) = codes "kill " ++ decimal pid ++ codes " " ++ decimal sig ++ codes " " ++ result_text answer
+what_text (Deliver sig effect) = codes "deliver " ++ decimal sig ++ codes " " ++ delivered_text effect
+what_text (Reap answer) = codes "wait " ++ reaped_text answer
+what_text Exit = codes "exit"
+what_text (Recv answer) = codes "recv " ++ received_text answer
+what_text (OpenMem pid answer) = codes "open-mem " ++ decimal pid ++ codes " " ++ result_text answer
+what_text (OpenBase pid dirfd answer) = codes "open-base " ++ decimal pid ++ codes " " ++ signed_decimal dirfd ++ codes " " ++ result_text answer
+what_text (Check id answer) = codes "check " ++ decimal id ++ codes " " ++ result_text answer
+what_text (Read addr len answer) = codes "read " ++ decimal addr ++ codes " " ++ decimal len ++ codes " " ++ read_text answer
+what_text (Act request cap answer) = codes "act " ++ request_text request ++ codes " " ++ result_text answer
+what_text (Plant addr bytes cap answer) = codes "plant " ++ decimal addr ++ codes " " ++ result_text answer
+what_text (AddfdPut asked answer) = codes "addfd-put " ++ asked_text asked ++ codes " " ++ result_text answer
+what_text (AddfdTake answer) = codes "addfd-take " ++ number_text answer
+what_text (Send id back answer) = codes "send " ++ decimal id ++ codes " " ++ back_text back ++ codes " " ++ result_text answer
+what_text LetGo = codes "let-go"
+what_text Skip = codes "skip"
+what_text Close = codes "close"
+
+-- the line of the event at a place
+abbrev pub event_line : ℕ → Event → List ℕ
+event_line place e = decimal place ++ codes " " ++ actor_text e.who ++ codes " " ++ what_text e.what ++ codes "\n"
+
+-- the line of the event that comes after K
+abbrev pub journal_line : List Event → Event → List ℕ
+journal_line K e = event_line (length K) e
+
+-- what f gives for each event and those before it, one after another, from the oldest on
+unfoldable pub lines_of : (List Event → Event → List ℕ) → List Event → List ℕ
+lines_of f [] = []
+lines_of f (e ∷ K) = lines_of f K ++ f K e
+
+-- the title of a part with so many lines
+abbrev pub title : List ℕ → ℕ → List ℕ
+title word n = word ++ codes " " ++ decimal n ++ codes "\n"
+
+-- the journal: a line for each event, from the oldest on
+abbrev pub journal : List Event → List ℕ
+journal K = title (codes "journal") (length K) ++ lines_of journal_line K

@@ -1,0 +1,5 @@
+pub mod Faults
+pub mod FileState
+pub mod Named
+pub mod Planned
+pub mod SinkState

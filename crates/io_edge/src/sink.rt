@@ -1,0 +1,18 @@
+//! Sinks.
+
+ghost use Rattle.io_edge.specs.SinkState.{SinkState, Writes};
+
+use crate::fault::Failed;
+
+/// A place for output.
+///
+/// Contracts see the bytes taken, where the sink tells them, and a count of faults, which never falls.
+pub trait Sink {
+    /// What is known of the sink.
+    ghost state: { Self → SinkState };
+
+    /// Takes the whole piece, or answers `Failed` after a prefix of it. `Failed` comes only where the
+    /// count of faults rose in this call; a count at 2^64 - 1 counts as risen.
+    fn write(&mut self, piece: &[u8]) -> Result<(), Failed>
+        ensures { Writes (state self.old) piece.now result (state self.new) };
+}

@@ -1,0 +1,22 @@
+-- What is answered of an operation on the tree.
+use Rattle.std.specs.Prelude.{◌≡◌, ℕ, ◌+◌, ◌<◌, length, Result, Ok, Err}
+use Rattle.hist_model.specs.Trees.{Tree}
+use Rattle.hist_model.specs.declared.request.TreeOp.{TreeOp}
+use Rattle.hist_model.specs.declared.request.TreeOp.TheVariants.{Fail, Make, Mount, SetAttr, Open}
+use Rattle.mount_tree.specs.Changes.{Seen}
+use Rattle.sys_abi.specs.declared.memory.OrNoMemory.{OrNoMemory}
+use Rattle.sys_abi.specs.declared.memory.OrNoMemory.TheVariants.{Refused, NoMemory}
+
+-- the room with which an operation takes no memory
+abbrev pub room_wanted : TreeOp → ℕ
+room_wanted (Fail e) = 0
+room_wanted (Make path node) = 256
+room_wanted (Mount target row) = 1
+room_wanted (SetAttr path name value flags) = length name + length value + 1
+room_wanted (Open path cloexec) = 0
+
+-- the tree is the one that is expected, or the expected error is answered, or less room was there than is wanted
+abbrev pub IsPerformed : ℕ → Seen → Seen → Result Tree ℕ → Result (Unit {0}) (OrNoMemory ℕ) → Type 0
+IsPerformed room old new expected (Ok done) = expected ≡ Ok new.tree
+IsPerformed room old new expected (Err (Refused e)) = (expected ≡ Err e) × (new ≡ old)
+IsPerformed room old new expected (Err NoMemory) = (old.spare < room) × (new ≡ old)

@@ -1,0 +1,4 @@
+//! The written kernel, as its plain program.
+#![tactic(auto)]
+
+pub mod tasks;
