@@ -1,4 +1,6 @@
 //! The machine of a worker.
 #![tactic(auto)]
 
+pub mod deed;
 pub mod judgement;
+pub mod session;

@@ -9,12 +9,13 @@
 
 ghost use Rattle.std.specs.Prelude.{◌≡◌, get_or, drop, []};
 ghost use Rattle.std.specs.Vec.Iter.{into_iter_items};
-ghost use Rattle.hist_model.specs.Requests.{request, low_16, low_32, signed_32};
+ghost use Rattle.hist_model.specs.Requests.{request, base_dirfd, low_16, low_32, signed_32};
 
 use hist_model::request::{ArgCopy, Request};
 use hist_model::text::Text;
 use std::alloc::Global;
 use std::vec::IntoIter;
+use sys_abi::wire::AT_FDCWD;
 
 /// The request of the call `nr` with these arguments. The copy has the texts of the call's plan, in its order, and is
 /// moved; a text that it lacks is empty. A call that has no request of its own gives `Request::Other`.
@@ -60,6 +61,19 @@ pub fn request(nr: i32, args: &[u64; 6], copy: ArgCopy) -> Request
             dev: low_32(args[3]),
         },
         _ => Request::Other { nr },
+    }
+}
+
+/// The descriptor from which the relative paths of the call `nr` go: AT_FDCWD, which is the container's root, for a call
+/// that has none; nothing for a call without paths.
+#[tactic(auto, unfolding(hist_model::specs::Requests::base_dirfd))]
+pub fn base_dirfd(nr: i32, args: &[u64; 6]) -> Option<i32>
+    ensures { result ≡ base_dirfd nr args.now }
+{
+    match nr {
+        133 | 165 | 188 => Some(AT_FDCWD),
+        257 | 259 => Some(signed_32(args[0])),
+        _ => None,
     }
 }
 
