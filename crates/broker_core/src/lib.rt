@@ -4,3 +4,5 @@
 pub mod deed;
 pub mod judgement;
 pub mod session;
+mod steps;
+pub mod worker;
