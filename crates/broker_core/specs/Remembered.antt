@@ -1,6 +1,6 @@
 -- What a worker remembers of its session, against the session's own steps.
-use Rattle.std.specs.Prelude.{◌≡◌, ℕ, ◌+◌, ◌<◌, ◌≤◌, Bool, true, false, List, [], length, reverse, Option, Some, None, Result, Ok, Err, ◌⊎◌, ℤ}
-use Rattle.hist_model.specs.Sessions.{Rules, Deed, Fetch, Open, OpenB, Ask, ReadD, ActD, PlantD, Put, Take, Answer, Let, any_of, number_of, first_some, notif_of, reads_of, is_letgo, gives_up, opens, opens_base, checks, outcome_in, put_in, take_in}
+use Rattle.std.specs.Prelude.{◌≡◌, ℕ, ◌+◌, ◌<◌, ◌≤◌, Bool, true, false, List, [], length, reverse, Option, Some, None, Result, Ok, Err, ◌⊎◌, ◌||◌, suc, if◌then◌else◌}
+use Rattle.hist_model.specs.Sessions.{Rules, Deed, Fetch, Open, OpenB, Ask, ReadD, ActD, PlantD, Put, Take, Answer, Let, any_of, number_of, first_some, notif_of, reads_of, is_letgo, gives_up, opens, opens_base, checks, outcome_in, put_in, take_in, or_some}
 use Rattle.hist_model.specs.Copies.{plan}
 use Rattle.hist_model.specs.Legal.{rules_of, read_answers}
 use Rattle.hist_model.specs.declared.event.What.{What}
@@ -103,3 +103,17 @@ pub record Begins (n : Notif) (s : Session) : Type 0 where
   pub put : s.put ≡ None
   pub take : s.take ≡ None
   pub arguments : StartsReading n s.arguments
+
+-- ---- One more step
+
+-- what is noted of a step: all but the arguments
+pub record Noted (what : What) (old new : Session) : Type 0 where
+  pub notif : new.notif ≡ old.notif
+  pub arguments : new.arguments ≡ old.arguments
+  pub gave_up : new.gave_up ≡ (gives_up what || old.gave_up)
+  pub opened : new.opened ≡ (opens what || old.opened)
+  pub based : new.based ≡ (opens_base what || old.based)
+  pub checks : new.checks ≡ (if checks what then suc old.checks else old.checks)
+  pub outcome : new.outcome ≡ or_some (outcome_in what) old.outcome
+  pub put : new.put ≡ or_some (put_in what) old.put
+  pub take : new.take ≡ or_some (take_in what) old.take

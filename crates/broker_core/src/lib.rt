@@ -5,4 +5,5 @@ pub mod deed;
 pub mod judgement;
 pub mod session;
 mod steps;
+mod taking;
 pub mod worker;
