@@ -1,8 +1,8 @@
 -- What a worker remembers of its session, against the session's own steps.
 use Rattle.std.specs.Prelude.{◌≡◌, ℕ, ◌+◌, ◌<◌, ◌≤◌, Bool, true, false, List, [], length, reverse, Option, Some, None, Result, Ok, Err, ◌⊎◌, ◌||◌, suc, if◌then◌else◌}
 use Rattle.hist_model.specs.Sessions.{Rules, Deed, Fetch, Open, OpenB, Ask, ReadD, ActD, PlantD, Put, Take, Answer, Let, any_of, number_of, first_some, notif_of, reads_of, is_letgo, gives_up, opens, opens_base, checks, outcome_in, put_in, take_in, or_some}
-use Rattle.hist_model.specs.Copies.{plan}
-use Rattle.hist_model.specs.Legal.{rules_of, read_answers}
+use Rattle.hist_model.specs.Copies.{Progress, Wants, Complete, Faulty, plan}
+use Rattle.hist_model.specs.Legal.{rules_of, read_answers, judged as judgement}
 use Rattle.hist_model.specs.declared.event.What.{What}
 use Rattle.hist_model.specs.declared.event.What.TheVariants.{Recv, OpenMem, OpenBase, Check, Read, Act, Plant, AddfdPut, AddfdTake, Send, LetGo, Skip}
 use Rattle.hist_model.specs.declared.policy.Policy.{Policy}
@@ -30,6 +30,12 @@ pub record JudgedAs (P : Policy) (F : Figures) (n : Notif) (own : List What) (j 
 abbrev pub ArgumentsOf : Policy → Figures → Notif → List What → Arguments → Type 0
 ArgumentsOf P F n own (Reading c) = Follows (plan n.call.nr n.call.args) (answers_of own) c × (number_of checks own ≤ 1)
 ArgumentsOf P F n own (Judged j) = JudgedAs P F n own j × (number_of checks own ≡ 2)
+
+-- the judgement is that of a copy of a notification's arguments which is complete or has a fault
+abbrev pub IsJudged : Policy → Figures → Notif → Progress → Judgement → Type 0
+IsJudged P F n (Wants addr len) j = ⊥
+IsJudged P F n (Complete texts) j = (fault_of j ≡ None) × (decision_of F j ≡ judgement P F n (Complete texts))
+IsJudged P F n (Faulty e) j = fault_of j ≡ Some e
 
 -- what is remembered of an open session
 pub record Knows (P : Policy) (F : Figures) (own : List What) (s : Session) : Type 0 where
