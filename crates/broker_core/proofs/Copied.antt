@@ -25,9 +25,12 @@ reverse-cons x xs = reverse-append (x ∷ []) xs
 pub read_more : (P : Policy) (F : Figures) (n : Notif) (own : List What) (c d : Captured) (addr len : ℕ) (answer : Result (List ℕ) ℕ)
     → ((later : List (Result (List ℕ) ℕ)) → continued d later ≡ continued c (answer ∷ later))
     → ArgumentsOf P F n own (Reading c) → ArgumentsOf P F n (Read addr len answer ∷ own) (Reading d)
-read_more P F n own c d addr len answer h a = ((λ later.
-    let q : answers_of (Read addr len answer ∷ own) ≡ answers_of own ++ answer ∷ [] = reverse-cons answer (read_answers (reads_of own)) in
-    h later ∙ a.0 (answer ∷ later) ∙ ap (progress (plan n.call.nr n.call.args)) (sym (ap (λ xs. xs ++ later) q ∙ append_assoc (answers_of own) (answer ∷ []) later))), a.1)
+read_more P F n own c d addr len answer h a = (
+  (λ later.
+      let q : answers_of (Read addr len answer ∷ own) ≡ answers_of own ++ answer ∷ [] = reverse-cons answer (read_answers (reads_of own)) in
+      h later ∙ a.0 (answer ∷ later) ∙ ap (progress (plan n.call.nr n.call.args)) (sym (ap (λ xs. xs ++ later) q ∙ append_assoc (answers_of own) (answer ∷ []) later))),
+  a.1,
+)
 
 -- what a complete or faulty copy is judged as
 judged-as : (P : Policy) (F : Figures) (n : Notif) (p q : Progress) (j : Judgement) → p ≡ q → wanted q ≡ None → IsJudged P F n q j

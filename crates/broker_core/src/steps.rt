@@ -20,10 +20,12 @@ pub(crate) fn gives_up(what: &What) -> bool
     match what {
         What::OpenMem { answer: Err(_), .. } | What::Check { answer: Err(_), .. } => true,
         What::OpenBase {
-            answer: Err(error), ..
+            answer: Err(error),
+            ..
         } => error.number() == 3,
         What::AddfdPut {
-            answer: Err(error), ..
+            answer: Err(error),
+            ..
         }
         | What::AddfdTake { answer: Err(error) } => error.number() == 2,
         What::AddfdTake { answer: Ok(_) } | What::Send { .. } => true,

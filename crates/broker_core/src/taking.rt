@@ -25,7 +25,12 @@ use sys_abi::wire::Notif;
 
 /// Takes the answer of a read.
 #[tactic(auto, using(crate::proofs::Copied::read_more))]
-fn read(arguments: &mut Arguments, addr: u64, len: u16, answer: &Result<Text, Errno>) -> Result<(), NoMemory>
+fn read(
+    arguments: &mut Arguments,
+    addr: u64,
+    len: u16,
+    answer: &Result<Text, Errno>,
+) -> Result<(), NoMemory>
     requires { FitsPiece arguments.old answer.now }
     ensures { (P : Policy) (F : Figures) (n : Notif) (own : List What) → ArgumentsOf P F n own arguments.old → OnOk result (ArgumentsOf P F n (Read addr len answer.now ∷ own) arguments.new) }
 {
@@ -94,7 +99,12 @@ impl Session {
     }
 
     /// Takes what a step tells of the arguments.
-    fn take_arguments(&mut self, alloc: Global, policy: &Policy, what: &What) -> Result<(), NoMemory>
+    fn take_arguments(
+        &mut self,
+        alloc: Global,
+        policy: &Policy,
+        what: &What,
+    ) -> Result<(), NoMemory>
         requires { FitsSession self.old what.now }
         ensures kept { self.new ≡ record self.old { arguments = self.new.arguments } }
         ensures arguments { (F : Figures) (own : List What) → number_of checks own ≡ self.old.checks → ArgumentsOf policy.now F self.old.notif own self.old.arguments → OnOk result (ArgumentsOf policy.now F self.old.notif (what.now ∷ own) self.new.arguments) }
@@ -111,7 +121,12 @@ impl Session {
 
     /// Takes a step of the worker, which neither begins a session nor ends it.
     #[tactic(auto, using(crate::proofs::Copied::known_after))]
-    pub(crate) fn took(&mut self, alloc: Global, policy: &Policy, what: &What) -> Result<(), NoMemory>
+    pub(crate) fn took(
+        &mut self,
+        alloc: Global,
+        policy: &Policy,
+        what: &What,
+    ) -> Result<(), NoMemory>
         requires fits { FitsSession self.old what.now }
         requires goes_on { (starts what.now ≡ false) × (is_letgo what.now ≡ false) }
         ensures { (F : Figures) (own : List What) → Knows policy.now F own self.old → OnOk result (Knows policy.now F (what.now ∷ own) self.new) }

@@ -1,20 +1,19 @@
 //! A worker of the broker.
 
-ghost use Rattle.std.specs.Prelude.{◌≡◌, List, [], ◌∷◌, OnOk, IfOk, false};
-ghost use Rattle.hist_model.specs.Sessions.{starts, joined};
+ghost use Rattle.std.specs.Prelude.{◌≡◌, List, [], OnOk, IfOk, false};
+ghost use Rattle.hist_model.specs.Sessions.{starts, joined, skips, deed};
+ghost use Rattle.hist_model.specs.Legal.{rules_of};
 ghost use Rattle.hist_model.specs.declared.event.What.{What};
 ghost use Rattle.hist_model.specs.declared.policy.Policy.{Policy};
 ghost use Rattle.broker_core.specs.Deeds.{deed_of, worker_deed};
-ghost use Rattle.broker_core.specs.Remembered.{Remembers, Fits, Knows, KnowsIf, FitsSession, Begins};
+ghost use Rattle.broker_core.specs.Remembered.{Remembers, Fits, Begins};
 
 use crate::deed::Deed;
-use crate::judgement::{Judgement, judge};
 use crate::session::{Arguments, Session};
-use crate::steps::{checks, gives_up, is_letgo, opens, opens_base, outcome_in, put_in, take_in};
+use crate::steps::is_letgo;
 use arg_capture::{Capture, Plan};
 use hist_model::event::What;
 use hist_model::policy::Policy;
-use hist_model::request::Fault;
 use hist_model::script::Figures;
 use std::alloc::Global;
 use sys_abi::memory::NoMemory;
@@ -43,4 +42,52 @@ fn begin(alloc: Global, notif: &Notif) -> Result<Session, NoMemory>
         take: None,
         arguments: Arguments::Reading(capture),
     })
+}
+
+impl Worker {
+    /// A worker of a container with these figures, without a session.
+    #[tactic(auto, using(crate::proofs::Workers::idle_start))]
+    pub fn new(figures: Figures) -> Worker
+        ensures figures { result.figures ≡ figures }
+        ensures idle { (P : Policy) → Remembers P [] result }
+    {
+        Worker {
+            figures,
+            session: None,
+        }
+    }
+
+    /// What the worker does next.
+    #[tactic(auto, using(crate::proofs::Workers::known_if))]
+    pub fn next(&self) -> Deed<'_>
+        ensures deed { (P : Policy) (own : List What) → Remembers P own self.now → deed_of result ≡ deed (rules_of P self.now.figures) own }
+        ensures same { deed_of result ≡ worker_deed self.now.figures self.now.session }
+    {
+        match &self.session {
+            None => Deed::Recv,
+            Some(session) => session.next(&self.figures),
+        }
+    }
+
+    /// Takes the worker's step, as the history has it. After want of memory the worker can only be dropped.
+    #[tactic(auto, using(crate::proofs::Workers::idle_after, crate::proofs::Workers::stays_idle, crate::proofs::Workers::begins_anew, crate::proofs::Workers::goes_on))]
+    pub fn took(&mut self, alloc: Global, policy: &Policy, what: &What) -> Result<(), NoMemory>
+        requires fits { Fits self.old what.now }
+        requires own { skips what.now ≡ false }
+        ensures figures { self.new.figures ≡ self.old.figures }
+        ensures known { (own : List What) → Remembers policy.now own self.old → OnOk result (Remembers policy.now (joined what.now own) self.new) }
+    {
+        if let What::Recv { answer: Ok(notif) } = what {
+            self.session = Some(begin(alloc, notif)?);
+            return Ok(());
+        }
+        if is_letgo(what) {
+            self.session = None;
+            return Ok(());
+        }
+        match &mut self.session {
+            None => Ok(()),
+            Some(session) => session.took(alloc, policy, what),
+        }
+    }
 }
