@@ -10,4 +10,6 @@ mod components;
 pub mod effects;
 pub mod places;
 pub mod resolution;
+#[cfg(test)]
+mod tests;
 mod turns;
