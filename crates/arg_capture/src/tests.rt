@@ -3,6 +3,7 @@ use std::alloc::Global;
 use std::process::Abort;
 
 /// Memory of 16 pages from 0x10000 on: these bytes from an address on, and zeros elsewhere.
+#[derive(Drop)]
 struct Memory {
     at: u64,
     bytes: &'static [u8],
@@ -90,6 +91,7 @@ fn texts_are_read_in_pieces(rt: HostRuntime) {
             pieces,
             "at {nr}"
         );
+        assert!(rt; capture.next().is_none());
         let copy = capture.finish().ok().expect(&rt, "a copy");
         let read = copy.texts.items();
         assert_eq!(rt; read.len(), texts.len(), "at {nr}");
@@ -144,6 +146,7 @@ fn the_first_fault_ends_a_copy(rt: HostRuntime) {
             pieces,
             "at {fault}"
         );
+        assert!(rt; capture.next().is_none());
         let Err(found) = capture.finish() else {
             assert!(rt; false, "at {fault}");
             return;
