@@ -223,25 +223,25 @@ takes_as old new f g (Err e) q t = t
 
 -- ---- what an answer may be
 
-text-fits : (r : Reached) (a l f : ℕ) (bytes : List ℕ) → first_part r.parts ≡ Some (Text a l f) → Answers (reached_progress r []) (Ok bytes) → length bytes ≤ piece a l
+text-fits : (r : Reached) (a l f : ℕ) (bytes : List ℕ) → first_part r.parts ≡ Some (Text a l f) → Answers (wanted (reached_progress r [])) (Ok bytes) → length bytes ≤ piece a l
 text-fits r a l f bytes e h = let q = text_wants r a l f e in (rw q at h).1
 
-value-fits : (r : Reached) (a s : ℕ) (bytes : List ℕ) → first_part r.parts ≡ Some (Value a s) → 0 < s → s ≤ 4096 → Answers (reached_progress r []) (Ok bytes) → length bytes ≤ piece a s
+value-fits : (r : Reached) (a s : ℕ) (bytes : List ℕ) → first_part r.parts ≡ Some (Value a s) → 0 < s → s ≤ 4096 → Answers (wanted (reached_progress r [])) (Ok bytes) → length bytes ≤ piece a s
 value-fits r a s bytes e p l h = let q = value_wants r a s e p l in (rw q at h).1
 
-pub fits_text : (r : Reached) (a l f : ℕ) (bytes : List ℕ) → Answers (reached_progress r []) (Ok bytes) → first_part r.parts ≡ Some (Text a l f) → length bytes ≤ l
+pub fits_text : (r : Reached) (a l f : ℕ) (bytes : List ℕ) → Answers (wanted (reached_progress r [])) (Ok bytes) → first_part r.parts ≡ Some (Text a l f) → length bytes ≤ l
 fits_text r a l f bytes h e = let q = text-fits r a l f bytes e h in omega arith
 
 settled-value : (taken : ℕ) (parts : List Part) (a s : ℕ) → first_part parts ≡ Some (Value a s) → IsSettled taken parts → (0 < s) × (taken + s ≤ 4096)
 settled-value taken parts a s e h = let q = in_hand parts (Value a s) e in rw q at h
 
-pub fits_value : (r : Reached) (a s : ℕ) (bytes : List ℕ) → Answers (reached_progress r []) (Ok bytes) → IsSettled (length r.taken) r.parts → first_part r.parts ≡ Some (Value a s) → length bytes ≤ s
+pub fits_value : (r : Reached) (a s : ℕ) (bytes : List ℕ) → Answers (wanted (reached_progress r [])) (Ok bytes) → IsSettled (length r.taken) r.parts → first_part r.parts ≡ Some (Value a s) → length bytes ≤ s
 fits_value r a s bytes h t e =
     let u = settled-value (length r.taken) r.parts a s e t in
     let q = value-fits r a s bytes e u.0 (omega arith) h in
     omega arith
 
-pub nothing_answers : (r : Reached) (bytes : List ℕ) → Answers (reached_progress r []) (Ok bytes) → first_part r.parts ≡ None → ⊥
+pub nothing_answers : (r : Reached) (bytes : List ℕ) → Answers (wanted (reached_progress r [])) (Ok bytes) → first_part r.parts ≡ None → ⊥
 nothing_answers r bytes h e = let q = is_complete r [] e in rw q at h
 
 text-faults : (f a l e : ℕ) (later : List (Result (List ℕ) ℕ)) → read_text f (Err e ∷ later) a l ≡ Fails e
@@ -254,7 +254,7 @@ value-faults a s e later = refl
 
 -- EFAULT ends the reading of the part in hand
 faults-in : (texts : List (List ℕ)) (taken : List ℕ) (parts : List Part) (later : List (Result (List ℕ) ℕ)) → IsSettled (length taken) parts
-    → Answers (with_texts texts (with_taken taken (progress parts []))) (Err 14)
+    → Answers (wanted (with_texts texts (with_taken taken (progress parts [])))) (Err 14)
     → Faulty 14 ≡ with_texts texts (with_taken taken (progress parts (Err 14 ∷ later)))
 faults-in texts taken [] later t h = absurd (rw (none-left []) at h)
 faults-in texts taken (Text a l f ∷ parts) later t h =
@@ -265,14 +265,14 @@ faults-in texts taken (Value a s ∷ parts) later t h =
     ∙ ap (λ q. progress_after q (progress parts)) (value-read a s (Err 14 ∷ later) u.0 (omega arith) ∙ value-faults a s 14 later)))
 
 faults-if : (fault : Option ℕ) (r : Reached) (later : List (Result (List ℕ) ℕ)) → (fault ≡ None → IsSettled (length r.taken) r.parts)
-    → Answers (unless_faulty fault (reached_progress r [])) (Err 14) → Faulty 14 ≡ unless_faulty fault (reached_progress r (Err 14 ∷ later))
+    → Answers (wanted (unless_faulty fault (reached_progress r []))) (Err 14) → Faulty 14 ≡ unless_faulty fault (reached_progress r (Err 14 ∷ later))
 faults-if (Some e) r later t h = absurd h
 faults-if None r later t h = faults-in r.texts r.taken r.parts later (t refl) h
 
 pub faults : (c v : Captured) (later : List (Result (List ℕ) ℕ)) → v ≡ c → (v.fault ≡ None → IsSettled (length v.reached.taken) v.reached.parts)
-    → Answers (continued c []) (Err 14) → Faulty 14 ≡ continued c (Err 14 ∷ later)
+    → Answers (wanted (continued c [])) (Err 14) → Faulty 14 ≡ continued c (Err 14 ∷ later)
 faults c v later e t h =
-    let h' : Answers (continued v []) (Err 14) = rw (← e) at h in
+    let h' : Answers (wanted (continued v [])) (Err 14) = rw (← e) at h in
     faults-if v.fault v.reached later t h' ∙ ap (λ (d : Captured). continued d (Err 14 ∷ later)) e
 
 none-some : {A : Type 0} {a : A} → ◌≡◌ {A = Option A} (Some a) None → ⊥

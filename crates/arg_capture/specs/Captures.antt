@@ -55,10 +55,10 @@ wanted (Wants address n) = Some (address, n)
 wanted _ = None
 
 -- an answer to a piece: EFAULT, or some bytes, at most as many as were asked for
-abbrev pub Answers : Progress → Result (List ℕ) ℕ → Type 0
-Answers (Wants address n) (Ok bytes) = (1 ≤ length bytes) × (length bytes ≤ n)
-Answers (Wants address n) (Err e) = ⊤
-Answers _ got = ⊥
+abbrev pub Answers : Option (ℕ × ℕ) → Result (List ℕ) ℕ → Type 0
+Answers (Some asked) (Ok bytes) = (1 ≤ length bytes) × (length bytes ≤ asked.1)
+Answers (Some asked) (Err e) = ⊤
+Answers None got = ⊥
 
 -- the texts of a complete copy, or its fault
 abbrev pub Finishes : Progress → Result ArgCopy ℕ → Type 0

@@ -65,7 +65,7 @@ impl Capture {
 
     /// Takes the answer of the read of the piece. After `ready` it takes no memory.
     pub fn feed(&mut self, got: Result<&[u8], Fault>) -> Result<(), NoMemory>
-        requires { Answers (continued self.old []) (answer_of got) }
+        requires { Answers (wanted (continued self.old [])) (answer_of got) }
         ensures goes_on { OnOk result ((later : List (Result (List ℕ) ℕ)) → continued self.new later ≡ continued self.old (answer_of got.entry ∷ later)) }
         ensures follows { (parts : List Part) (answers : List (Result (List ℕ) ℕ)) → Follows parts answers self.old → OnOk result (Follows parts (answers ++ answer_of got.entry ∷ []) self.new) }
         ensures reached { OnErr result (IsKept self.old.reached self.new.reached) }

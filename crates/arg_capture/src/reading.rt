@@ -201,7 +201,7 @@ impl Reading {
     fn take_part(&mut self, given: Part, bytes: &[u8]) -> Result<Option<Errno>, NoMemory>
         requires in_hand { first_part self.old.parts ≡ Some given }
         requires settled { IsSettled (length self.old.taken) self.old.parts }
-        requires answers { Answers (reached_progress self.old []) (Ok bytes.now) }
+        requires answers { Answers (wanted (reached_progress self.old [])) (Ok bytes.now) }
         ensures { Takes self.old (with_answer self.old (Ok bytes.now)) result self.new }
     {
         match given {
@@ -214,7 +214,7 @@ impl Reading {
     #[tactic(auto, using(crate::proofs::Steps::nothing_answers))]
     pub fn take(&mut self, bytes: &[u8]) -> Result<Option<Errno>, NoMemory>
         requires settled { IsSettled (length self.old.taken) self.old.parts }
-        requires answers { Answers (reached_progress self.old []) (Ok bytes.now) }
+        requires answers { Answers (wanted (reached_progress self.old [])) (Ok bytes.now) }
         ensures { Takes self.old (with_answer self.old (Ok bytes.now)) result self.new }
     {
         match self.plan.first() {
