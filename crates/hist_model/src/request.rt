@@ -3,6 +3,7 @@
 ghost use Rattle.std.specs.Prelude.{◌≡◌};
 
 use crate::text::{Sequence, Text};
+use sys_abi::calls;
 use sys_abi::errno::Errno;
 
 /// The n-th task made, counted from 0.
@@ -136,12 +137,12 @@ impl Request {
         ensures { result ≡ call_of_request self.now }
     {
         match self {
-            Request::Mknod { dirfd: None, .. } => 133,
-            Request::Mknod { dirfd: Some(_), .. } => 259,
-            Request::Mount { .. } => 165,
-            Request::SetXattr { .. } => 188,
-            Request::OpenAt { .. } => 257,
-            Request::Sysinfo { .. } => 99,
+            Request::Mknod { dirfd: None, .. } => calls::MKNOD,
+            Request::Mknod { dirfd: Some(_), .. } => calls::MKNODAT,
+            Request::Mount { .. } => calls::MOUNT,
+            Request::SetXattr { .. } => calls::SETXATTR,
+            Request::OpenAt { .. } => calls::OPENAT,
+            Request::Sysinfo { .. } => calls::SYSINFO,
             Request::Other { nr } => *nr,
         }
     }
