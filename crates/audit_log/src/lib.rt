@@ -21,3 +21,6 @@ mod request;
 mod session;
 pub mod summary;
 mod words;
+
+#[cfg(test)]
+mod tests;
