@@ -7,6 +7,7 @@
 //! writes the whole report of what it played, or its summary alone.
 #![tactic(auto)]
 
+pub mod audit;
 pub mod calls;
 mod count;
 pub mod error;
@@ -18,4 +19,8 @@ mod outcome;
 mod part;
 mod request;
 mod session;
+pub mod summary;
 mod words;
+
+#[cfg(test)]
+mod tests;
