@@ -1,7 +1,7 @@
 -- Worked examples of filters, computed by the definitions.
 use Rattle.std.proofs.Common.{◌≡◌, [], ◌∷◌, None, Some, refl}
 use Rattle.std.specs.Prelude.{pos, negsuc, false, true}
-use Rattle.hist_model.specs.Filters.{combine, verdict, first_fault, fault_among, ends_with_return, run_from, run, insn, notify_filter, seccomp_data}
+use Rattle.hist_model.specs.Filters.{combine, verdict, first_fault, fault_among, run_from, run, insn, notify_filter, seccomp_data}
 use Rattle.hist_model.specs.declared.filter.FilterReason.TheVariants.{BadJump, NoReturn, BadShift}
 use Rattle.hist_model.specs.declared.event.Entered.TheVariants.{Notify, Allow, Fails, NoSys, Kill}
 
@@ -27,19 +27,19 @@ nothing_allows = refl
 
 -- ld 4; jeq 0xc000003e 0 5; ret ALLOW
 jump_out : first_fault (insn 0x20 4 0 0 ∷ insn 0x15 0xc000003e 0 5 ∷ insn 0x06 0x7fff0000 0 0 ∷ []) ≡ Some (record { at = 1; reason = BadJump })
-unfolding fault_among ends_with_return
+unfolding fault_among
 jump_out = refl
 
 no_return : first_fault (insn 0x20 4 0 0 ∷ insn 0x00 7 0 0 ∷ []) ≡ Some (record { at = 1; reason = NoReturn })
-unfolding fault_among ends_with_return
+unfolding fault_among
 no_return = refl
 
 wide_shift : first_fault (insn 0x64 32 0 0 ∷ insn 0x00 7 0 0 ∷ []) ≡ Some (record { at = 0; reason = BadShift })
-unfolding fault_among ends_with_return
+unfolding fault_among
 wide_shift = refl
 
 notify_is_accepted : first_fault (notify_filter (pos 133 ∷ pos 99 ∷ [])) ≡ None
-unfolding fault_among ends_with_return
+unfolding fault_among
 notify_is_accepted = refl
 
 mknod_notifies : verdict (record { insns = notify_filter (pos 133 ∷ []); listener = true } ∷ []) (pos 133) (1 ∷ 2 ∷ 3 ∷ 0 ∷ 0 ∷ 0 ∷ []) ≡ Notify 0

@@ -1,30 +1,25 @@
 -- The copy of a call's arguments: which texts a call has in its caller's memory (mknod(2), openat(2), mount(2), setxattr(2)),
 -- what they are at one moment, and how they are read in pieces.
 use Rattle.std.specs.Prelude.{ℕ, zero, suc, ◌+◌, ◌-◌, ◌%◌, ◌^◌, min, Bool, true, false, if◌then◌else◌, ◌==◌, nat_lt, nat_le, List, [], ◌∷◌, ◌++◌, length, slice_index_or, Option, Some, None, Result, Ok, Err, ℤ, pos}
+use Rattle.hist_model.specs.declared.copy.Part.{Part}
+use Rattle.hist_model.specs.declared.copy.Part.TheVariants.{Text, Value}
 
 -- ---- the plan
-
--- what is read: a text from an address on, which ends before its first zero byte, with at most so many bytes up to and with
--- that zero, and the error where there is none among them; a value at an address, of a size; or an empty text, which isn't read
-pub data Part : Type 0 where
-  Str : ℕ → ℕ → ℕ → Part
-  Value : ℕ → ℕ → Part
-  Blank : Part
 
 abbrev pub arg : List ℕ → ℕ → ℕ
 arg args i = slice_index_or args i 0
 
 -- a path: ENAMETOOLONG where it doesn't end
 abbrev pub path_at : ℕ → Part
-path_at address = Str address 4096 36
+path_at address = Text address 4096 36
 
--- an argument of mount that may be missing: EINVAL where it doesn't end
+-- an argument of mount that may be missing, which is then empty: EINVAL where it doesn't end
 abbrev pub option_at : ℕ → Part
-option_at address = if address == 0 then Blank else Str address 4096 22
+option_at address = if address == 0 then Value 0 0 else Text address 4096 22
 
 -- the name of an attribute: ERANGE where it doesn't end
 abbrev pub name_at : ℕ → Part
-name_at address = Str address 256 34
+name_at address = Text address 256 34
 
 -- what is read for a call, in order
 abbrev pub plan : ℤ → List ℕ → List Part
@@ -73,9 +68,8 @@ sized_value true byte address size = Err 7
 sized_value false byte address size = value_from byte size address
 
 abbrev pub copy_part : (ℕ → Option ℕ) → Part → Result (List ℕ) ℕ
-copy_part byte (Str address limit fault) = text_from byte fault limit address
+copy_part byte (Text address limit fault) = text_from byte fault limit address
 copy_part byte (Value address size) = sized_value (nat_lt 4096 size) byte address size
-copy_part byte Blank = Ok []
 
 abbrev pub with_text : Result (List ℕ) ℕ → Result (List (List ℕ)) ℕ → Result (List (List ℕ)) ℕ
 with_text (Ok text) (Ok texts) = Ok (text ∷ texts)
@@ -147,9 +141,8 @@ read_sized false true answers address size = Whole [] answers
 read_sized false false answers address size = read_value answers address size
 
 abbrev pub read_part : Part → List (Result (List ℕ) ℕ) → Reading
-read_part (Str address limit fault) answers = read_text fault answers address limit
+read_part (Text address limit fault) answers = read_text fault answers address limit
 read_part (Value address size) answers = read_sized (nat_lt 4096 size) (size == 0) answers address size
-read_part Blank answers = Whole [] answers
 
 -- how far a copy is: it wants a piece, at an address and of a length; it is complete, with its texts; or it has a fault
 pub data Progress : Type 0 where

@@ -4,6 +4,10 @@ use Rattle.std.specs.Int.{w32, cast_unsigned}
 use Rattle.sys_abi.specs.declared.wire.SeccompData.{SeccompData}
 use Rattle.hist_model.specs.declared.script.Insn.{Insn}
 use Rattle.hist_model.specs.declared.script.FilterLine.{FilterLine}
+use Rattle.hist_model.specs.declared.filter.Operation.{Operation}
+use Rattle.hist_model.specs.declared.filter.Operation.TheVariants.{Load, Immediate, Add, Subtract, Or, And, Xor, ShiftLeft, ShiftRight, Negate, Jump, JumpEqual, JumpGreater, JumpAtLeast, JumpSet, Return, Unknown}
+use Rattle.hist_model.specs.declared.filter.Effect.{Effect}
+use Rattle.hist_model.specs.declared.filter.Effect.TheVariants.{Answers, Goes}
 use Rattle.hist_model.specs.declared.filter.BadFilter.{BadFilter}
 use Rattle.hist_model.specs.declared.filter.FilterReason.{FilterReason}
 use Rattle.hist_model.specs.declared.filter.FilterReason.TheVariants.{Empty, TooMany, BadCode, BadLoad, BadShift, BadJump, BadAction, NoReturn}
@@ -11,26 +15,6 @@ use Rattle.hist_model.specs.declared.event.Entered.{Entered}
 use Rattle.hist_model.specs.declared.event.Entered.TheVariants.{Notify, Allow, Log, Fails, NoSys, Kill}
 
 -- ---- instructions
-
--- what an instruction does
-pub data Operation : Type 0 where
-  Load : Operation
-  Immediate : Operation
-  Add : Operation
-  Subtract : Operation
-  Or : Operation
-  And : Operation
-  Xor : Operation
-  ShiftLeft : Operation
-  ShiftRight : Operation
-  Negate : Operation
-  Jump : Operation
-  JumpEqual : Operation
-  JumpGreater : Operation
-  JumpAtLeast : Operation
-  JumpSet : Operation
-  Return : Operation
-  Unknown : Operation
 
 -- the operation of a code
 abbrev pub operation : ℕ → Operation
@@ -62,13 +46,8 @@ halves (n ∷ more) = n % 2 ^ 32 ∷ n / 2 ^ 32 ∷ halves more
 abbrev pub words : SeccompData → List ℕ
 words call = cast_unsigned w32 call.nr ∷ call.arch ∷ halves (call.ip ∷ call.args)
 
--- an instruction answers, or it skips some instructions and leaves a number in the accumulator
-pub data Outcome : Type 0 where
-  Answers : ℕ → Outcome
-  Goes : ℕ → ℕ → Outcome
-
 -- what an instruction does with the accumulator `a`; a code that isn't known answers 0
-abbrev pub does : Operation → List ℕ → Insn → ℕ → Outcome
+abbrev pub does : Operation → List ℕ → Insn → ℕ → Effect
 does Load input i a = Goes 0 (slice_index_or input (i.k / 4) 0)
 does Immediate input i a = Goes 0 i.k
 does Add input i a = Goes 0 ((a + i.k) % 2 ^ 32)
@@ -87,10 +66,10 @@ does JumpSet input i a = Goes (if bit_and a i.k == 0 then i.jf else i.jt) a
 does Return input i a = Answers i.k
 does Unknown input i a = Answers 0
 
-abbrev pub step : List ℕ → Insn → ℕ → Outcome
+abbrev pub step : List ℕ → Insn → ℕ → Effect
 step input i a = does (operation i.code) input i a
 
-abbrev pub after : Outcome → (ℕ → ℕ → ℕ) → ℕ
+abbrev pub after : Effect → (ℕ → ℕ → ℕ) → ℕ
 after (Answers value) rest = value
 after (Goes skipped a) rest = rest skipped a
 
@@ -109,10 +88,10 @@ run insns call = run_from (words call) insns 0 0
 
 -- the action of an answer, and its data
 abbrev pub action : ℕ → ℕ
-action value = value / 2 ^ 16 * 2 ^ 16
+action value = bit_and value 0xffff0000
 
 abbrev pub action_data : ℕ → ℕ
-action_data value = value % 2 ^ 16
+action_data value = bit_and value 0xffff
 
 abbrev pub fault_if : Bool → FilterReason → Option FilterReason
 fault_if true reason = Some reason
@@ -149,11 +128,12 @@ unfoldable pub fault_among : ℕ → List Insn → Option BadFilter
 fault_among place [] = None
 fault_among place (i ∷ more) = earlier_fault place (insn_fault i (length more)) (fault_among (place + 1) more)
 
+abbrev pub insn : ℕ → ℕ → ℕ → ℕ → Insn
+insn code k jt jf = record { code = code; jt = jt; jf = jf; k = k }
+
 -- the last instruction is a return
-unfoldable pub ends_with_return : List Insn → Bool
-ends_with_return [] = false
-ends_with_return (i ∷ []) = returns (operation i.code)
-ends_with_return (i ∷ j ∷ more) = ends_with_return (j ∷ more)
+abbrev pub ends_with_return : List Insn → Bool
+ends_with_return insns = returns (operation (slice_index_or insns (length insns - 1) (insn 0 0 0 0)).code)
 
 abbrev pub end_fault : List Insn → Option BadFilter
 end_fault insns = if ends_with_return insns then None else Some (record { at = length insns - 1; reason = NoReturn })
@@ -219,9 +199,6 @@ abbrev pub verdict : List FilterLine → ℤ → List ℕ → Entered
 verdict filters nr args = newest_verdict (reverse filters) (seccomp_data nr args)
 
 -- ---- the filter that notifies on some calls
-
-abbrev pub insn : ℕ → ℕ → ℕ → ℕ → Insn
-insn code k jt jf = record { code = code; jt = jt; jf = jf; k = k }
 
 -- the tests of the call's number: a listed one goes to the last instruction, and any other to the one before
 abbrev pub call_tests : List ℤ → List Insn

@@ -1,4 +1,45 @@
-//! Why a filter is refused.
+//! What a filter's instructions do, and why a filter is refused.
+
+/// What an instruction of a filter does (bpf(4)). The accumulator is a number of 32 bits.
+#[derive(Clone, Copy, PartialEq, Eq, Debug)]
+pub enum Operation {
+    /// Loads the little-endian word of the call's data at an offset.
+    Load,
+    /// Loads the instruction's number.
+    Immediate,
+    Add,
+    Subtract,
+    Or,
+    And,
+    Xor,
+    ShiftLeft,
+    ShiftRight,
+    /// Subtracts the accumulator from 0.
+    Negate,
+    /// Skips instructions.
+    Jump,
+    /// Skips instructions by whether the accumulator is the number.
+    JumpEqual,
+    /// By whether it is greater.
+    JumpGreater,
+    /// By whether it is greater or equal.
+    JumpAtLeast,
+    /// By whether it has one of the number's bits.
+    JumpSet,
+    /// Answers the instruction's number.
+    Return,
+    /// No instruction has this code.
+    Unknown,
+}
+
+/// How an instruction goes on.
+#[derive(Clone, Copy, PartialEq, Eq, Debug)]
+pub enum Effect {
+    /// The filter answers this.
+    Answers(u32),
+    /// So many of the instructions that follow are skipped.
+    Goes { skipped: u32, accumulator: u32 },
+}
 
 /// What is wrong with a filter (bpf(4), seccomp(2)).
 #[derive(Clone, Copy, PartialEq, Eq, Debug)]

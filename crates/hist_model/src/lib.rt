@@ -1,6 +1,7 @@
 //! Histories of a kernel and its broker: the plain types, and the definitions of everything that the program promises.
 #![tactic(auto)]
 
+pub mod copy;
 pub mod event;
 pub mod filter;
 pub mod history;
