@@ -1,0 +1,190 @@
+//! Whether a rule fits a request.
+
+ghost use Rattle.std.specs.Prelude.{◌≡◌, ◌==◌, ◌&&◌, ◌++◌, ◌∷◌, [], nat_eq};
+ghost use Rattle.std.specs.Option.{option_copied};
+ghost use Rattle.std.specs.List.{starts_with, list_all};
+ghost use Rattle.hist_model.specs.Requests.{major_of, minor_of};
+ghost use Rattle.hist_model.specs.Decisions.{fits, covers, meets, is_text, path_of, fstype_of, source_of, attribute_of, lies_under, has_dot_dot, asks_kind, asks_device, is_device, has_plain_flags};
+
+use hist_model::policy::{Calls, Cond, Rule};
+use hist_model::request::{Kind, Request};
+
+/// The flags of mount(2) that make it another operation than a plain mount.
+const MS_REMOUNT: u64 = 32;
+
+const MS_BIND: u64 = 4096;
+
+const MS_MOVE: u64 = 8192;
+
+/// The calls that a policy can name: close, getpid, sysinfo, mknod, mount, setxattr, openat and mknodat.
+const NAMED: [i32; 8] = [3, 39, 99, 133, 165, 188, 257, 259];
+
+/// Whether the request is one of the rule's calls, and meets all its conditions.
+#[tactic(auto, unfolding(hist_model::specs::Decisions::fits))]
+pub fn fits(rule: &Rule, request: &Request) -> bool
+    ensures { result ≡ fits rule.now request.now }
+{
+    covers(&rule.calls, request.call()) && meets_all(rule.conds.items(), request)
+}
+
+/// Whether the calls include this number.
+fn covers(calls: &Calls, nr: i32) -> bool
+    ensures { result ≡ covers calls.now nr }
+{
+    match calls {
+        Calls::Named(numbers) => numbers.items().contains(&nr),
+        Calls::Other => !NAMED.contains(&nr),
+    }
+}
+
+/// Whether the request meets all these conditions.
+fn meets_all(conds: &[Cond], request: &Request) -> bool
+    ensures { result ≡ list_all (λ c. meets c request.now) conds.now }
+{
+    conds.iter().all(|c| meets(c, request))
+}
+
+/// Whether the request meets the condition.
+fn meets(cond: &Cond, request: &Request) -> bool
+    ensures { result ≡ meets cond.now request.now }
+{
+    match cond {
+        Cond::Path(text) => is_text(path_of(request), text.items()),
+        Cond::Under(dir) => lies_under(path_of(request), dir.items()),
+        Cond::Kind(kind) => asks_kind(request, *kind),
+        Cond::Dev(major, minor) => asks_device(request, *major, *minor),
+        Cond::Fstype(text) => is_text(fstype_of(request), text.items()),
+        Cond::Source(text) => is_text(source_of(request), text.items()),
+        Cond::Name(text) => is_text(attribute_of(request), text.items()),
+        Cond::PlainFlags => has_plain_flags(request),
+    }
+}
+
+/// Whether there is a text, and it is this one.
+fn is_text(found: Option<&[u8]>, text: &[u8]) -> bool
+    ensures { result ≡ is_text (option_copied found.entry) text.now }
+{
+    match found {
+        Some(t) => t == text,
+        None => false,
+    }
+}
+
+/// The path of the request, which for a mount is its target.
+fn path_of(request: &Request) -> Option<&[u8]>
+    ensures { option_copied result ≡ path_of request.now }
+{
+    match request {
+        Request::Mknod { path, .. }
+        | Request::SetXattr { path, .. }
+        | Request::OpenAt { path, .. } => Some(path.items()),
+        Request::Mount { target, .. } => Some(target.items()),
+        _ => None,
+    }
+}
+
+/// The type of file system that is to be mounted.
+fn fstype_of(request: &Request) -> Option<&[u8]>
+    ensures { option_copied result ≡ fstype_of request.now }
+{
+    match request {
+        Request::Mount { fstype, .. } => Some(fstype.items()),
+        _ => None,
+    }
+}
+
+/// The source that is to be mounted.
+fn source_of(request: &Request) -> Option<&[u8]>
+    ensures { option_copied result ≡ source_of request.now }
+{
+    match request {
+        Request::Mount { source, .. } => Some(source.items()),
+        _ => None,
+    }
+}
+
+/// The name of the attribute that is to be set.
+fn attribute_of(request: &Request) -> Option<&[u8]>
+    ensures { option_copied result ≡ attribute_of request.now }
+{
+    match request {
+        Request::SetXattr { name, .. } => Some(name.items()),
+        _ => None,
+    }
+}
+
+/// Whether there is a path, and it begins with the directory and a slash and has no component `..`.
+fn lies_under(found: Option<&[u8]>, dir: &[u8]) -> bool
+    ensures { result ≡ lies_under (option_copied found.entry) dir.now }
+{
+    match found {
+        Some(path) => begins_with_dir(path, dir) && !has_dot_dot(path),
+        None => false,
+    }
+}
+
+/// Whether the path begins with the directory and a slash.
+#[tactic(auto, using(crate::proofs::Prefixes::begins_by_slash, crate::proofs::Prefixes::too_short, crate::proofs::Prefixes::other_byte))]
+fn begins_with_dir(path: &[u8], dir: &[u8]) -> bool
+    ensures { result ≡ starts_with nat_eq path.now (dir.now ++ 47 ∷ []) }
+{
+    dir.len() < path.len() && path[dir.len()] == b'/' && path.starts_with(dir)
+}
+
+/// Whether the path has a component `..`.
+fn has_dot_dot(path: &[u8]) -> bool
+    ensures { result ≡ has_dot_dot path.now }
+{
+    path.split(|b| *b == b'/')
+        .any(|component| component == b"..".as_slice())
+}
+
+/// Whether a node of this kind is asked for.
+fn asks_kind(request: &Request, kind: Kind) -> bool
+    ensures { result ≡ asks_kind request.now kind }
+{
+    match request {
+        Request::Mknod { mode, .. } => Kind::of_mode(*mode) == kind,
+        _ => false,
+    }
+}
+
+/// Whether a device with these numbers is asked for, a character or a block device.
+fn asks_device(request: &Request, major: u32, minor: u32) -> bool
+    ensures { result ≡ asks_device request.now major minor }
+{
+    match request {
+        Request::Mknod { mode, dev, .. } => is_device(Kind::of_mode(*mode))
+            && is_numbered(*dev, major, minor),
+        _ => false,
+    }
+}
+
+/// Whether the kind has device numbers.
+fn is_device(kind: Kind) -> bool
+    ensures { result ≡ is_device kind }
+{
+    match kind {
+        Kind::Chr | Kind::Blk => true,
+        _ => false,
+    }
+}
+
+/// Whether the device argument stands for these numbers (makedev(3)).
+fn is_numbered(dev: u32, major: u32, minor: u32) -> bool
+    ensures { result ≡ ((major_of dev == major) && (minor_of dev == minor)) }
+{
+    dev / 256 % 4096 == major && dev % 256 + dev / 1048576 * 256 == minor
+}
+
+/// Whether the request isn't a mount that remounts, binds or moves.
+fn has_plain_flags(request: &Request) -> bool
+    ensures { result ≡ has_plain_flags request.now }
+{
+    match request {
+        Request::Mount { flags, .. } => flags & MS_REMOUNT == 0
+            && flags & MS_BIND == 0
+            && flags & MS_MOVE == 0,
+        _ => true,
+    }
+}

@@ -1,0 +1,111 @@
+//! The rules that LXD's switches make, and the defaults behind them.
+
+ghost use Rattle.std.specs.Prelude.{◌≡◌, ◌++◌, [], codes, string_bytes, IfOk, OnOk};
+ghost use Rattle.hist_model.specs.Decisions.{lxd_mknod_rules, lxd_mknod_rule, default_rules, plain_rule};
+
+use hist_model::policy::{Calls, Cond, Policy, Rule, Verdict};
+use hist_model::request::Kind;
+use hist_model::text::{Sequence, Text};
+use std::alloc::Global;
+use sys_abi::memory::NoMemory;
+
+/// The devices that a container may make, by major and minor number. 0:0 is the whiteout of an overlay.
+const SAFE_DEVICES: [(u32, u32); 8] = [
+    (0, 0),
+    (5, 1),
+    (1, 7),
+    (1, 3),
+    (1, 8),
+    (5, 0),
+    (1, 9),
+    (1, 5),
+];
+
+/// The calls that have a default of their own, by name and number.
+const CALLS: [(&str, i32); 8] = [
+    ("close", 3),
+    ("getpid", 39),
+    ("sysinfo", 99),
+    ("mknod", 133),
+    ("mount", 165),
+    ("setxattr", 188),
+    ("openat", 257),
+    ("mknodat", 259),
+];
+
+/// The policy whose one switch is mknod: the rules of the eight safe devices, and the defaults.
+pub fn lxd_mknod_policy(alloc: Global) -> Result<Policy, NoMemory>
+    ensures { IfOk result (λ p. p.rules ≡ lxd_mknod_rules ++ default_rules) }
+{
+    let mut rules = Vec::with_capacity(alloc, SAFE_DEVICES.len() + CALLS.len() + 1)?;
+    push_mknod_rules(&mut rules)?;
+    push_default_rules(&mut rules)?;
+    Ok(Policy {
+        rules: Sequence::new(rules),
+    })
+}
+
+/// Adds the rules of the safe devices.
+#[tactic(auto, using(crate::proofs::Lists::map_take_more))]
+fn push_mknod_rules(rules: &mut Vec<Rule>) -> Result<(), NoMemory>
+    ensures { OnOk result (rules.new.items ≡ rules.old.items ++ lxd_mknod_rules) }
+{
+    let alloc = *rules.allocator();
+    for (major, minor) in SAFE_DEVICES {
+        rules.push(mknod_rule(alloc, major, minor)?)?;
+    }
+    Ok(())
+}
+
+/// The rule that grants a character device, by mknod and mknodat.
+fn mknod_rule(alloc: Global, major: u32, minor: u32) -> Result<Rule, NoMemory>
+    ensures { IfOk result (λ r. r ≡ lxd_mknod_rule (major, minor)) }
+{
+    let name = format!(in alloc; "lxd.mknod.{major}:{minor}")?;
+    let calls = vec![in alloc; 133, 259]?;
+    let conds = vec![in alloc; Cond::Kind(Kind::Chr), Cond::Dev(major, minor)]?;
+    Ok(plain_rule(
+        name,
+        Calls::Named(Sequence::new(calls)),
+        conds,
+        Verdict::Grant,
+    ))
+}
+
+/// Adds the rules that pass what no other rule decides.
+#[tactic(auto, using(crate::proofs::Lists::map_take_more))]
+fn push_default_rules(rules: &mut Vec<Rule>) -> Result<(), NoMemory>
+    ensures { OnOk result (rules.new.items ≡ rules.old.items ++ default_rules) }
+{
+    let alloc = *rules.allocator();
+    for (name, nr) in CALLS {
+        let calls = vec![in alloc; nr]?;
+        rules.push(default_rule(alloc, name, Calls::Named(Sequence::new(calls)))?)?;
+    }
+    rules.push(default_rule(alloc, "other", Calls::Other)?)?;
+    Ok(())
+}
+
+/// The rule that passes these calls.
+fn default_rule(alloc: Global, name: &str, calls: Calls) -> Result<Rule, NoMemory>
+    ensures { IfOk result (λ r. r ≡ plain_rule (codes "default." ++ name.now) calls [] Verdict.Pass) }
+{
+    let name = format!(in alloc; "default.{name}")?;
+    Ok(plain_rule(name, calls, Vec::new(alloc), Verdict::Pass))
+}
+
+/// A rule without a program, a shift or a limit.
+fn plain_rule(name: String, calls: Calls, conds: Vec<Cond>, verdict: Verdict) -> Rule
+    ensures { result ≡ plain_rule (string_bytes name) calls conds.items verdict }
+{
+    let via = Vec::new(*conds.allocator());
+    Rule {
+        name: Text::new(name.into_bytes()),
+        calls,
+        conds: Sequence::new(conds),
+        verdict,
+        via: Text::new(via),
+        shift: false,
+        times: None,
+    }
+}
