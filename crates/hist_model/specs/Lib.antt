@@ -25,3 +25,4 @@ pub mod Causes
 pub mod Orders
 pub mod Mediated
 pub mod FirstPath
+pub mod Words

@@ -1,0 +1,17 @@
+-- The forms of words, as the program's code has them.
+use Rattle.std.specs.Prelude.{ℕ, List, map, String}
+use Rattle.std.specs.String.{string_bytes}
+use Rattle.std.specs.declared.alloc.Global.{Global}
+use Rattle.hist_model.specs.Words.{Form as Meaning, Play as Plays, Run as Runs, Stress as Stresses}
+use Rattle.broker_app.specs.declared.words.Form.{Form}
+use Rattle.broker_app.specs.declared.words.Form.TheVariants.{Play, Run, Stress}
+
+-- the bytes of the words
+abbrev pub texts : List (String Global) → List (List ℕ)
+texts words = map (λ (w : String Global). string_bytes w) words
+
+-- the form that the words have
+abbrev pub form_of : Form → Meaning
+form_of (Play policy script) = Plays policy.now script.now
+form_of (Run policy script workers cpus) = Runs policy.now script.now workers cpus
+form_of (Stress from count) = Stresses from count

@@ -1,0 +1,131 @@
+//! The words with which the program is called.
+
+ghost use Rattle.std.specs.Prelude.{◌≡◌, ◌<◌, ◌≤◌, ◌*◌, ◌^◌, map, length, ◌-◌, ◌+◌, if◌then◌else◌, Some, None};
+ghost use Rattle.std.specs.Option.{option_map};
+ghost use Rattle.std.specs.List.{list_all};
+ghost use Rattle.hist_model.specs.Words.{number_after, is_digit, number_between, run_form, stress_form, three_words, five_words, form};
+ghost use Rattle.broker_app.specs.Forms.{form_of, texts};
+
+/// A form of the words.
+#[derive(Clone, Copy, Debug)]
+pub enum Form<'a> {
+    /// Play the schedule of a script: the names of the policy's and the script's files.
+    Play {
+        policy: &'a str,
+        script: &'a str,
+    },
+    /// Run a script with threads.
+    Run {
+        policy: &'a str,
+        script: &'a str,
+        workers: u8,
+        cpus: u8,
+    },
+    /// Play generated input.
+    Stress {
+        from: u64,
+        count: u64,
+    },
+}
+
+/// The number that a word of 1 to 20 decimal digits is, where it lies between the bounds.
+fn number_between(word: &[u8], low: u64, high: u64) -> Option<u64>
+    ensures { result ≡ number_between low high word.now }
+{
+    if word.is_empty() || word.len() > 20 {
+        return None;
+    }
+    let value = digits(word)?;
+    if u128::from(low) <= value && value <= u128::from(high) {
+        Some(value as u64)
+    } else {
+        None
+    }
+}
+
+fn is_digit(b: u8) -> bool
+    ensures { result ≡ is_digit b }
+{
+    48 <= b && b <= 57
+}
+
+/// The number of at most 20 decimal digits; none where a byte is no digit.
+#[tactic(auto, using(crate::proofs::Digits::digits_step, crate::proofs::Digits::number_step, crate::proofs::Digits::power_step, crate::proofs::Digits::power_below))]
+fn digits(word: &[u8]) -> Option<u128>
+    requires { length word.now ≤ 20 }
+    ensures { result ≡ (if list_all is_digit word.now then Some (number_after 0 word.now) else None) }
+{
+    let mut value = 0u128;
+    for b in word {
+        if !is_digit(*b) {
+            return None;
+        }
+        value = 10 * value + u128::from(*b - 48);
+    }
+    Some(value)
+}
+
+fn run_form<'a>(policy: &'a str, script: &'a str, workers: &str, cpus: &str) -> Option<Form<'a>>
+    ensures { option_map form_of result ≡ run_form policy.now script.now (number_between 0 16 workers.now) (number_between 0 16 cpus.now) }
+{
+    let workers = number_between(workers.as_bytes(), 0, 16)?;
+    let cpus = number_between(cpus.as_bytes(), 0, 16)?;
+    Some(Form::Run {
+        policy,
+        script,
+        workers: workers as u8,
+        cpus: cpus as u8,
+    })
+}
+
+fn stress_form<'a>(from: &str, count: &str) -> Option<Form<'a>>
+    ensures { option_map form_of result ≡ stress_form (number_between 0 (2 ^ 64 - 1) from.now) (number_between 1 4000 count.now) }
+{
+    let from = number_between(from.as_bytes(), 0, u64::MAX)?;
+    let count = number_between(count.as_bytes(), 1, 4000)?;
+    Some(Form::Stress { from, count })
+}
+
+fn three_words<'a>(command: &str, a: &'a str, b: &'a str) -> Option<Form<'a>>
+    ensures { option_map form_of result ≡ three_words command.now a.now b.now }
+{
+    if command.as_bytes() == b"play".as_slice() {
+        Some(Form::Play {
+            policy: a,
+            script: b,
+        })
+    } else if command.as_bytes() == b"stress".as_slice() {
+        stress_form(a, b)
+    } else {
+        None
+    }
+}
+
+fn five_words<'a>(command: &str, a: &'a str, b: &'a str, c: &str, d: &str) -> Option<Form<'a>>
+    ensures { option_map form_of result ≡ five_words command.now a.now b.now c.now d.now }
+{
+    if command.as_bytes() == b"run".as_slice() {
+        run_form(a, b, c, d)
+    } else {
+        None
+    }
+}
+
+/// The form of the words, if they have one.
+pub fn read_form(words: &[String]) -> Option<Form<'_>>
+    ensures { option_map form_of result ≡ form (texts words.now) }
+{
+    if let [command, a, b] = words {
+        return three_words(command.as_str(), a.as_str(), b.as_str());
+    }
+    if let [command, a, b, c, d] = words {
+        return five_words(
+            command.as_str(),
+            a.as_str(),
+            b.as_str(),
+            c.as_str(),
+            d.as_str(),
+        );
+    }
+    None
+}
