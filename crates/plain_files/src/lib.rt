@@ -10,3 +10,4 @@
 #![tactic(auto)]
 
 pub mod memory;
+pub mod programs;
