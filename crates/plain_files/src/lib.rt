@@ -9,5 +9,6 @@
 //! `path_walk`; the kernel stands above.
 #![tactic(auto)]
 
+pub mod logs;
 pub mod memory;
 pub mod programs;
