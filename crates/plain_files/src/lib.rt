@@ -12,4 +12,5 @@
 pub mod files;
 pub mod logs;
 pub mod memory;
+pub mod outcomes;
 pub mod programs;
