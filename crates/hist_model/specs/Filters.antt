@@ -188,15 +188,17 @@ has_listener [] place = false
 has_listener (f ∷ older) zero = f.listener
 has_listener (f ∷ older) (suc place) = has_listener older place
 
--- what the filters say of a call, the newest filter first
-abbrev pub newest_verdict : List FilterLine → SeccompData → Entered
-newest_verdict filters call =
+-- the answer that counts, the newest filter first, and whether its filter has the listener
+abbrev pub chosen : List FilterLine → SeccompData → ℕ × Bool
+chosen filters call =
     let c = combine (answers filters call) in
-    entered c.0 (has_listener filters c.1)
+    (c.0, has_listener filters c.1)
 
 -- what the filters say of a call, the oldest filter first, as a script states them; the id of a notification is 0 here
 abbrev pub verdict : List FilterLine → ℤ → List ℕ → Entered
-verdict filters nr args = newest_verdict (reverse filters) (seccomp_data nr args)
+verdict filters nr args =
+    let c = chosen (reverse filters) (seccomp_data nr args) in
+    entered c.0 c.1
 
 -- ---- the filter that notifies on some calls
 
@@ -212,7 +214,7 @@ notify_filter calls =
 
 abbrev pub is_listed : List ℤ → ℤ → Bool
 is_listed [] nr = false
-is_listed (call ∷ more) nr = cast_unsigned w32 call == cast_unsigned w32 nr || is_listed more nr
+is_listed (call ∷ more) nr = cast_unsigned w32 nr == cast_unsigned w32 call || is_listed more nr
 
 -- the answer of that filter
 abbrev pub notify_answer : List ℤ → SeccompData → ℕ

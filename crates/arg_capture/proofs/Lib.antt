@@ -1,0 +1,4 @@
+pub mod Stacks
+pub mod Zeros
+pub mod Steps
+pub mod Following

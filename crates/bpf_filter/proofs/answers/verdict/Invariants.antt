@@ -1,0 +1,7 @@
+-- The answer that counts among the filters so far.
+use Rattle.std.proofs.Common.{◌≡◌, ℕ, reverse, take}
+use Rattle.hist_model.specs.Filters as definitions
+use Rattle.bpf_filter.proofs.answers.verdict.Given as goal
+
+abbrev pub invariant-loop-filter : goal.invariant-loop-filter
+invariant-loop-filter l = l.chosen ≡ definitions.chosen (reverse (take l.filter-index l.filters)) l.call

@@ -1,0 +1,105 @@
+//! What the answers of filters mean (seccomp(2), return values).
+
+ghost use Rattle.std.specs.Prelude.{◌≡◌, ◌<◌, ◌≤◌, ◌+◌, ◌^◌, length};
+ghost use Rattle.hist_model.specs.Filters as definitions;
+ghost use Rattle.bpf_filter.specs.Choices.{newer_filter};
+
+use crate::machine::run_insns;
+use hist_model::event::Entered;
+use hist_model::script::FilterLine;
+use sys_abi::wire::SeccompData;
+
+const ALLOW: u32 = 0x7fff0000;
+
+/// AUDIT_ARCH_X86_64.
+const ARCH: u32 = 0xc000003e;
+
+/// How far the action of an answer stands above the least one, where actions are signed numbers of 32 bits.
+fn rank(value: u32) -> u32
+    ensures { result ≡ definitions.rank value }
+{
+    (value & 0xffff0000).wrapping_add(1 << 31)
+}
+
+/// The answer of a newer filter beside the one that counts among the older ones.
+fn with_newer(value: u32, older: (u32, usize)) -> (u32, usize)
+    requires { older.1 < 2 ^ 63 }
+    ensures value { result ≡ definitions.with_newer value older }
+    ensures small { result.1 ≤ older.1 + 1 }
+{
+    if rank(older.0) < rank(value) {
+        (older.0, older.1 + 1)
+    } else {
+        (value, 0)
+    }
+}
+
+/// Of the filters' answers, the newest first, the one of highest precedence, the newest among equals, and its place; ALLOW and
+/// 0 where there is none.
+#[tactic(auto, using(crate::proofs::Precedence::combine_more, crate::proofs::Precedence::combine_past))]
+pub fn combine(values: &[u32]) -> (u32, usize)
+    ensures { result ≡ definitions.combine values.now }
+{
+    let mut best = (ALLOW, 0);
+    let mut place = values.len();
+    while place > 0 {
+        place -= 1;
+        best = with_newer(values[place], best);
+    }
+    best
+}
+
+/// What an answer does; `listener` is whether its filter has the listener.
+fn entered(value: u32, listener: bool) -> Entered
+    ensures { result ≡ definitions.entered value listener }
+{
+    match value & 0xffff0000 {
+        0x00050000 => Entered::Fails((value & 0xffff).min(4095) as u16),
+        0x7fc00000 if listener => Entered::Notify { id: 0 },
+        0x7fc00000 => Entered::NoSys,
+        0x7ff00000 => Entered::NoSys,
+        0x7ffc0000 => Entered::Log,
+        0x7fff0000 => Entered::Allow,
+        _ => Entered::Kill,
+    }
+}
+
+/// The answer that counts, and whether its filter has the listener.
+type Choice = (u32, bool);
+
+/// The answer of a newer filter beside the one that counts among the older ones.
+fn newer_filter(filter: &FilterLine, call: &SeccompData, older: Choice) -> Choice
+    ensures { result ≡ newer_filter filter.now call.now older }
+{
+    let value = run_insns(filter.insns.items(), call);
+    if rank(older.0) < rank(value) {
+        older
+    } else {
+        (value, filter.listener)
+    }
+}
+
+/// What the filters see of a call.
+fn seccomp_data(nr: i32, args: &[u64; 6]) -> SeccompData
+    ensures { result ≡ definitions.seccomp_data nr args.now }
+{
+    SeccompData {
+        nr,
+        arch: ARCH,
+        ip: 0,
+        args: *args,
+    }
+}
+
+/// What a script's filters, the oldest first, say of a call: the answer of highest precedence decides, the newest among equals.
+/// A notification has the id 0 here. No memory is taken.
+pub fn verdict(filters: &[FilterLine], nr: i32, args: &[u64; 6]) -> Entered
+    ensures { result ≡ definitions.verdict filters.now nr args.now }
+{
+    let call = seccomp_data(nr, args);
+    let mut chosen = (ALLOW, false);
+    for filter in filters {
+        chosen = newer_filter(filter, &call, chosen);
+    }
+    entered(chosen.0, chosen.1)
+}

@@ -1,0 +1,90 @@
+//! Filters that were accepted.
+
+ghost use Rattle.std.specs.Prelude.{◌≡◌, ◌≤◌, length, MatchResult, IfOk, None, Some};
+ghost use Rattle.hist_model.specs.Filters as definitions;
+
+use crate::checks::first_fault;
+use crate::machine::run_insns;
+use hist_model::filter::BadFilter;
+use hist_model::script::Insn;
+use std::alloc::Global;
+use std::marker::Model;
+use sys_abi::memory::NoMemory;
+use sys_abi::wire::SeccompData;
+
+/// A filter that was accepted. Contracts see it as its instructions.
+#[derive(Debug, Drop)]
+pub struct Filter {
+    insns: Vec<Insn>,
+}
+
+impl Model for Filter {
+    ghost use Rattle.std.specs.Prelude.{List, ◌≡◌, None};
+    ghost use Rattle.hist_model.specs.declared.script.Insn.{Insn};
+    ghost use Rattle.hist_model.specs.Filters.{first_fault};
+
+    ghost Value = { List Insn };
+
+    ghost view = { λ f. f.insns.items };
+
+    ghost invariant = { λ f. first_fault f.insns.items ≡ None };
+}
+
+impl Filter {
+    /// The filter of these instructions, or their first fault.
+    pub fn check(insns: Vec<Insn>) -> Result<Filter, BadFilter>
+        ensures cases { MatchResult result (λ f. definitions.first_fault insns.items ≡ None) (λ e. definitions.first_fault insns.items ≡ Some e) }
+        ensures same { IfOk result (λ f. f ≡ insns.items) }
+    {
+        match first_fault(&insns) {
+            Some(fault) => Err(fault),
+            None => Ok(Filter { insns }),
+        }
+    }
+
+    /// Its instructions, given back without taking memory.
+    pub fn into_insns(self) -> Vec<Insn>
+        ensures same { result.items ≡ self }
+        ensures accepted { definitions.first_fault result.items ≡ None }
+    {
+        let Filter { insns } = self;
+        insns
+    }
+}
+
+/// The answer of a filter to a call.
+pub fn run(filter: &Filter, call: &SeccompData) -> u32
+    ensures { result ≡ definitions.run filter.now call.now }
+{
+    run_insns(&filter.insns, call)
+}
+
+fn insn(code: u16, k: u32, jt: u8) -> Insn
+    ensures { result ≡ definitions.insn code k jt 0 }
+{
+    Insn { code, jt, jf: 0, k }
+}
+
+/// The filter that kills on another architecture, notifies on these calls, at most 64, and allows all others.
+#[tactic(auto, using(crate::proofs::Notifies::tests_more, crate::proofs::Notifies::tests_end, crate::proofs::Notifies::notify_is_accepted, crate::proofs::Notifies::notify_answers))]
+pub fn notify_on(alloc: Global, calls: &[i32]) -> Result<Filter, NoMemory>
+    requires { length calls.now ≤ 64 }
+    ensures insns { IfOk result (λ f. f ≡ definitions.notify_filter calls.now) }
+    ensures answers { IfOk result (λ f. (call : SeccompData) → definitions.run f call ≡ definitions.notify_answer calls.now call) }
+{
+    let mut insns = Vec::with_capacity(alloc, 6 + calls.len())?;
+    insns.push_reserved(insn(0x20, 4, 0));
+    insns.push_reserved(insn(0x15, 0xc000003e, 1));
+    insns.push_reserved(insn(0x06, 0x80000000, 0));
+    insns.push_reserved(insn(0x20, 0, 0));
+    for place in 0..calls.len() {
+        insns.push_reserved(insn(
+            0x15,
+            calls[place].cast_unsigned(),
+            (calls.len() - place) as u8,
+        ));
+    }
+    insns.push_reserved(insn(0x06, 0x7fff0000, 0));
+    insns.push_reserved(insn(0x06, 0x7fc00000, 0));
+    Ok(Filter { insns })
+}

@@ -1,0 +1,215 @@
+use crate::{BadFilter, Filter, FilterReason, Insn, combine, notify_on, run, verdict};
+use hist_model::event::Entered;
+use hist_model::script::FilterLine;
+use hist_model::text::Sequence;
+use std::alloc::Global;
+use sys_abi::wire::SeccompData;
+
+fn insn(code: u16, k: u32, jt: u8, jf: u8) -> Insn {
+    Insn { code, jt, jf, k }
+}
+
+fn call(nr: i32, arch: u32) -> SeccompData {
+    SeccompData {
+        nr,
+        arch,
+        ip: 0x1122334455667788,
+        args: [0x0102030405060708, 2, 3, 4, 5, 0x8877665544332211],
+    }
+}
+
+/// A filter that answers one value, whatever the call.
+fn line(alloc: Global, value: u32, listener: bool) -> FilterLine {
+    let insns = Vec::from_array(alloc, [insn(0x06, value, 0, 0)]).unwrap_or(Vec::new(alloc));
+    FilterLine {
+        insns: Sequence::new(insns),
+        listener,
+    }
+}
+
+#[test]
+fn the_first_fault_is_found(rt: HostRuntime) {
+    let alloc = rt.alloc();
+    let cases = [
+        (
+            [
+                insn(0x20, 4, 0, 0),
+                insn(0x15, 0xc000003e, 0, 5),
+                insn(0x06, 0x7fff0000, 0, 0),
+            ],
+            1,
+            FilterReason::BadJump,
+        ),
+        (
+            [
+                insn(0x07, 4, 0, 0),
+                insn(0x64, 32, 0, 0),
+                insn(0x06, 0x7fff0000, 0, 0),
+            ],
+            0,
+            FilterReason::BadCode,
+        ),
+        (
+            [
+                insn(0x20, 61, 0, 0),
+                insn(0x64, 32, 0, 0),
+                insn(0x06, 0x7fff0000, 0, 0),
+            ],
+            0,
+            FilterReason::BadLoad,
+        ),
+        (
+            [
+                insn(0x20, 64, 0, 0),
+                insn(0x64, 32, 0, 0),
+                insn(0x06, 0x7fff0000, 0, 0),
+            ],
+            0,
+            FilterReason::BadLoad,
+        ),
+        (
+            [
+                insn(0x20, 60, 0, 0),
+                insn(0x74, 32, 0, 0),
+                insn(0x06, 0x7fff0000, 0, 0),
+            ],
+            1,
+            FilterReason::BadShift,
+        ),
+        (
+            [
+                insn(0x20, 60, 0, 0),
+                insn(0x05, 1, 0, 0),
+                insn(0x06, 0x7fff0000, 0, 0),
+            ],
+            1,
+            FilterReason::BadJump,
+        ),
+        (
+            [
+                insn(0x20, 60, 0, 0),
+                insn(0x74, 31, 0, 0),
+                insn(0x06, 0x00030001, 0, 0),
+            ],
+            2,
+            FilterReason::BadAction,
+        ),
+        (
+            [
+                insn(0x20, 60, 0, 0),
+                insn(0x74, 31, 0, 0),
+                insn(0x04, 1, 0, 0),
+            ],
+            2,
+            FilterReason::NoReturn,
+        ),
+    ];
+    for (insns, at, reason) in cases {
+        let insns = Vec::from_array(alloc, insns).expect(&rt, "memory");
+        let fault = Filter::check(insns).err();
+        assert!(rt; fault == Some(BadFilter { at, reason }), "at {at}");
+    }
+    let none = Filter::check(Vec::new(alloc)).err();
+    assert!(rt;
+        none == Some(BadFilter {
+            at: 0,
+            reason: FilterReason::Empty
+        })
+    );
+    let many = vec![in alloc; insn(0x06, 0, 0, 0); 4097].expect(&rt, "memory");
+    assert!(rt;
+        Filter::check(many).err()
+            == Some(BadFilter {
+                at: 4096,
+                reason: FilterReason::TooMany
+            })
+    );
+}
+
+#[test]
+fn a_filter_runs(rt: HostRuntime) {
+    let alloc = rt.alloc();
+    // Each offset of the call's data, with the word that stands there.
+    for (offset, word) in [
+        (0, 0xffffffff),
+        (4, 0xc000003e),
+        (8, 0x55667788),
+        (12, 0x11223344),
+        (16, 0x05060708),
+        (20, 0x01020304),
+        (24, 2),
+        (28, 0),
+        (56, 0x44332211),
+        (60, 0x88776655),
+    ] {
+        let insns = [
+            insn(0x20, offset, 0, 0),
+            insn(0x15, word, 0, 1),
+            insn(0x06, 1, 0, 0),
+            insn(0x06, 2, 0, 0),
+        ];
+        let filter = Filter::check(Vec::from_array(alloc, insns).expect(&rt, "memory"))
+            .ok()
+            .expect(&rt, "accepted");
+        assert_eq!(rt; run(&filter, &call(-1, 0xc000003e)), 1, "at {offset}");
+        assert_eq!(rt; filter.into_insns().len(), 4);
+    }
+}
+
+#[test]
+fn the_notifying_filter_answers(rt: HostRuntime) {
+    let filter = notify_on(rt.alloc(), &[133, 99]).expect(&rt, "memory");
+    for (nr, arch, answer) in [
+        (133, 0xc000003e, 0x7fc00000),
+        (99, 0xc000003e, 0x7fc00000),
+        (39, 0xc000003e, 0x7fff0000),
+        (-1, 0xc000003e, 0x7fff0000),
+        (133, 0x40000003, 0x80000000),
+    ] {
+        assert_eq!(rt; run(&filter, &call(nr, arch)), answer, "at {nr}");
+    }
+}
+
+#[test]
+fn the_answer_of_highest_precedence_counts(rt: HostRuntime) {
+    assert!(rt; combine(&[0x00050002, 0x00050001, 0x7fff0000]) == (0x00050002, 0));
+    assert!(rt; combine(&[0x7ff00000, 0x7fc00000]) == (0x7fc00000, 1));
+    assert!(rt; combine(&[0x7ffd0000, 0x00050001]) == (0x00050001, 1));
+    assert!(rt; combine(&[]) == (0x7fff0000, 0));
+}
+
+#[test]
+fn filters_decide_a_call(rt: HostRuntime) {
+    let alloc = rt.alloc();
+    let args = [0; 6];
+    for (older, newer, entered) in [
+        ((0x7fff0000, false), (0x7fff0000, false), Entered::Allow),
+        ((0x7fff0000, false), (0x7ffc0000, false), Entered::Log),
+        ((0x7fff0000, false), (0x7ff00000, false), Entered::NoSys),
+        ((0x7fff0000, false), (0x7fc00000, false), Entered::NoSys),
+        (
+            (0x7fff0000, false),
+            (0x7fc00000, true),
+            Entered::Notify { id: 0 },
+        ),
+        ((0x7fc00000, true), (0x7fc00000, false), Entered::NoSys),
+        (
+            (0x7fc00000, false),
+            (0x7fc00000, true),
+            Entered::Notify { id: 0 },
+        ),
+        ((0x00050001, false), (0x7fc00000, true), Entered::Fails(1)),
+        ((0x00050001, false), (0x00050000, false), Entered::Fails(0)),
+        (
+            (0x7fff0000, false),
+            (0x0005ffff, false),
+            Entered::Fails(4095),
+        ),
+        ((0x12340000, false), (0x7fff0000, false), Entered::Kill),
+        ((0x00000000, false), (0x80000000, false), Entered::Kill),
+    ] {
+        let filters = [line(alloc, older.0, older.1), line(alloc, newer.0, newer.1)];
+        assert!(rt; verdict(&filters, 39, &args) == entered, "at {}", older.0);
+    }
+    assert!(rt; verdict(&[], 39, &args) == Entered::Allow);
+}
