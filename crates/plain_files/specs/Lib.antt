@@ -1,3 +1,4 @@
 pub mod Sources
 pub mod Logs
 pub mod Kept
+pub mod Copied

@@ -9,6 +9,7 @@
 //! `path_walk`; the kernel stands above.
 #![tactic(auto)]
 
+pub mod copies;
 pub mod files;
 pub mod logs;
 pub mod memory;
