@@ -13,5 +13,6 @@ pub mod copies;
 pub mod files;
 pub mod logs;
 pub mod memory;
+pub mod natives;
 pub mod outcomes;
 pub mod programs;
