@@ -141,7 +141,7 @@ impl Plan {
 
     /// Goes on to the part after the one in hand.
     #[tactic(auto, using(crate::proofs::Stacks::stack_rest, crate::proofs::Stacks::stack_length))]
-    pub(crate) fn drop_first(&mut self)
+    pub fn drop_first(&mut self)
         requires { 0 < length self.old }
         ensures { self.new ≡ rest_parts self.old }
     {
