@@ -260,8 +260,8 @@ module _ (S : System) (R : Rules) (K : List Event) (a : Actor) (w c : ℕ) (lega
       due (denied x g k) = denies (R.decide n (reads_of (session K w))) x f.decided k
       due (passed g k) = passes' (R.decide n (reads_of (session K w))) f.decided k
       due (done x g k e) = acting (R.decide n (reads_of (session K w))) f.decided k
-      due (not_put x g k) = no-err x (sym q ∙ k)
-      due (not_taken y g k) = no-take y (sym v ∙ k)
+      due (not_put x src place flags g d k) = no-err x (sym q ∙ k)
+      due (not_taken y src place flags g d k) = no-take y (sym v ∙ k)
 
   mine-send : (x : ℕ) (b : Back) (y : Result (Unit {0}) ℕ) → WorkerRow S R K w (Send x b y) → AtCall (by a (Send x b y) ∷ K) c w
   mine-send x b y r =

@@ -54,9 +54,9 @@ module _ (R : Rules) (own : List What) (n : Notif) (work : AtWork own n) (open' 
 
   inject_tells : HasCopied R own n → R.fault n (reads_of own) ≡ None → (a : Addfd) → IsInjected R own n a → (p : Option (Result (Unit {0}) ℕ)) (t : Option (Result ℕ ℕ)) → first_some put_in own ≡ p → first_some take_in own ≡ t → Tells R own (inject_deed n.id a p t)
   inject_tells c f a g None t h k = (n, work, open', c, g, h)
-  inject_tells c f a g (Some (Err e)) t h k = (n, work, open', c, refl, not_put e f h)
+  inject_tells c f a g (Some (Err e)) t h k = (n, work, open', c, refl, not_put e g.src g.place g.flags f g.decided h)
   inject_tells c f a g (Some (Ok u)) None h k = (n, work, open', c, (u, h), k)
-  inject_tells c f a g (Some (Ok u)) (Some t) h k = (n, work, open', c, refl, not_taken t f k)
+  inject_tells c f a g (Some (Ok u)) (Some t) h k = (n, work, open', c, refl, not_taken t g.src g.place g.flags f g.decided k)
 
   decided_tells : HasCopied R own n → R.fault n (reads_of own) ≡ None → (d : Decision) → R.decide n (reads_of own) ≡ d → Tells R own (decided_deed n.id own d)
   decided_tells c f (Denies e) h = (n, work, open', c, refl, denied e f h)

@@ -78,11 +78,11 @@ unfolding request_of
 request-more e K w h = rw h
 
 -- an install that is not for this call leaves its request alone
-install-same : (e : Event) (K : List Event) (c r : ℕ) → call_at K r ≡ Some c → installs_for K e c ≡ false → install_of (e ∷ K) r ≡ install_of K r
+pub install-same : (e : Event) (K : List Event) (c r : ℕ) → call_at K r ≡ Some c → installs_for K e c ≡ false → install_of (e ∷ K) r ≡ install_of K r
 unfolding install_of
 install-same e K c r a n = rw (a, n)
 
-install-now : (e : Event) (K : List Event) (c r : ℕ) (rs : List ℕ) → call_at K r ≡ Some c → installs_for K e c ≡ true → queue K c ≡ r ∷ rs → install_of (e ∷ K) r ≡ installed e.what
+pub install-now : (e : Event) (K : List Event) (c r : ℕ) (rs : List ℕ) → call_at K r ≡ Some c → installs_for K e c ≡ true → queue K c ≡ r ∷ rs → install_of (e ∷ K) r ≡ installed e.what
 unfolding install_of
 install-now e K c r rs a n q = rw (a, n, q, eq-eqb r r refl)
 

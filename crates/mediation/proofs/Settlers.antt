@@ -1,28 +1,35 @@
 -- Installs and resumes are of the call's own session.
-use Rattle.std.proofs.Common.{◌≡◌, inl, inr, ℕ, ◌<◌, ◌^◌, Bool, true, false, ◌&&◌, ◌||◌, List, [], ◌∷◌, ◌++◌, length, Some, refl, sym, ap, ◌∙◌, subst, arith}
-use Rattle.std.specs.Prelude.{Result, Ok, pos}
-use Rattle.std.proofs.lemmas.Bool.{cases_Bool, and_parts, or_cases, or_left, or_right}
+use Rattle.std.proofs.Common.{◌≡◌, inl, inr, ℕ, ◌<◌, ◌^◌, Bool, true, false, ◌&&◌, ◌||◌, List, [], ◌∷◌, ◌++◌, length, Option, Some, None, refl, sym, ap, ◌∙◌, subst, arith}
+use Rattle.std.specs.Prelude.{if◌then◌else◌, ◌==◌, Result, Ok, pos}
+use Rattle.std.proofs.lemmas.Bool.{cases_Bool, and_parts, or_cases, or_left, or_right, eq-eqb, eqb-true, cases_order, false_from_ne_true}
 use Rattle.hist_model.specs.Look.{Name, name_eq, is_task}
-use Rattle.hist_model.specs.Calls.{listed, caller, answers, puts_to, installs_for, is_install, gave, first_sends, queue, rest_of, settled, settles}
+use Rattle.hist_model.specs.Calls.{listed, caller, answers, puts_to, installs_for, is_install, gave, first_sends, queue, rest_of, settled, settles, has_send, has_send_flag, is_send}
 use Rattle.hist_model.specs.Signals.{call_of}
-use Rattle.hist_model.specs.Sessions.{Rules}
+use Rattle.hist_model.specs.Sessions.{Rules, session, addfd_of}
 use Rattle.hist_model.specs.Systems.{System}
-use Rattle.hist_model.specs.Steps.{IsStep, IsLegal, reply, back_of}
+use Rattle.hist_model.specs.Steps.{IsStep, IsLegal, reply, back_of, call_at, install_of, installed, is_first, asked_call}
 use Rattle.hist_model.specs.Laws.{fetcher, worker_of}
-use Rattle.hist_model.specs.Settlers.{IsRequestOf, Source, sent, put_in}
+use Rattle.hist_model.specs.Settlers.{IsRequestOf, IsInstallOf, Source, sent, installed_for}
 use Rattle.hist_model.specs.declared.event.Event.{Event}
-use Rattle.hist_model.specs.declared.event.Actor.TheVariants.{Task}
+use Rattle.hist_model.specs.declared.event.Actor.{Actor}
+use Rattle.hist_model.specs.declared.event.Actor.TheVariants.{Start, Task, Worker, Listener}
 use Rattle.hist_model.specs.declared.event.What.{What}
-use Rattle.hist_model.specs.declared.event.What.TheVariants.{Install, Resume, Send}
+use Rattle.hist_model.specs.declared.event.What.TheVariants.{Install, Resume, Send, AddfdPut}
+use Rattle.sys_abi.specs.declared.wire.Addfd.{Addfd}
 use Rattle.hist_model.specs.declared.event.Back.{Back}
 use Rattle.hist_model.specs.declared.event.Back.TheVariants.{Value}
 use Rattle.hist_model.proofs.Look.{event_at-here, event_at-older, event_at-below, newest-some, name_eq-true}
 use Rattle.mediation.proofs.Before.{before-older, before-newest}
-use Rattle.mediation.proofs.Rows.{Row, TaskRow}
+use Rattle.mediation.proofs.Rows.{Row, TaskRow, WorkerRow}
+use Rattle.mediation.proofs.Deeds.{deed-is}
+use Rattle.mediation.proofs.Once.{installs-open, settles-once}
 use Rattle.mediation.proofs.Own.{row-of}
-use Rattle.mediation.proofs.Queues.{installing, install-first, put-call, call-at-older, call-at-here}
-use Rattle.mediation.proofs.Phases.{hand-fetcher, fetcher-fetched, fetcher-stays}
+use Rattle.mediation.proofs.Queues.{installing, install-first, put-call, call-at-older, call-at-here, call-at-above}
+use Rattle.mediation.proofs.Phases.{hand-fetcher, fetcher-fetched, fetcher-stays, install-same, install-now, install-new}
 use Rattle.mediation.proofs.Waiting.{actor-acts}
+
+clash : (b : Bool) → b ≡ false → b ≡ true → ⊥
+clash b g h = cc
 
 request-later : (S : System) (R : Rules) (K : List Event) (e : Event) (c r w : ℕ) → IsLegal S R K → length K < 2 ^ 64 → Row S R K e.who e.what → IsRequestOf K c r w → IsRequestOf (e ∷ K) c r w
 request-later S R K e c r w legal room row i =
@@ -30,6 +37,7 @@ request-later S R K e c r w legal room row i =
     record {
       below = omega arith;
       for_call = call-at-older e K r l ∙ i.for_call;
+      sends = rw event_at-older i.sends;
       put_by = rw event_at-older i.put_by;
       session_of = fetcher-stays S R K e w c legal room row (fetcher-fetched K c w i.session_of) i.session_of;
     }
@@ -54,6 +62,32 @@ unfolding AllOf
 all-push K c r w [] h i = ((w, i), tt)
 all-push K c r w (x ∷ rs) h i = (h.0, all-push K c r w rs h.1 i)
 
+-- each request of a worker has SEND
+put-sends : (S : System) (R : Rules) (K : List Event) (w : ℕ) (q : Addfd) (a : Result (Unit {0}) ℕ) → WorkerRow S R K w (AddfdPut q a) → has_send_flag q ≡ true
+put-sends S R K w q a r =
+    let t = deed-is R (session K w) _ r.0 in
+    ap has_send_flag t.4.is ∙ sends-of t.4.src t.4.place t.4.flags t.0.id
+  where
+    sends-of : (src : ℕ) (p : Option ℕ) (fl x : ℕ) → has_send_flag (addfd_of x src p fl) ≡ true
+    sends-of src None fl x = refl
+    sends-of src (Some at) fl x = refl
+
+-- the step is a request
+abbrev is_put : What → Bool
+is_put (AddfdPut q a) = true
+is_put _ = false
+
+put-is-put : (K : List Event) (what : What) (c : ℕ) → puts_to K what c ≡ true → is_put what ≡ true
+put-is-put K (AddfdPut q a) c h = refl
+put-is-put K what c h = cc
+
+puts-send : (S : System) (R : Rules) (K : List Event) (a : Actor) (what : What) → Row S R K a what → is_put what ≡ true → has_send what ≡ true
+puts-send S R K (Worker w) (AddfdPut q x) r h = put-sends S R K w q x r
+puts-send S R K (Task n) (AddfdPut q x) r h = absurd r
+puts-send S R K Start (AddfdPut q x) r h = cc
+puts-send S R K Listener (AddfdPut q x) r h = cc
+puts-send S R K a what r h = cc
+
 -- a new request is its session's
 put-own : (S : System) (R : Rules) (K : List Event) (e : Event) (c : ℕ) → IsLegal S R K → length K < 2 ^ 64 → Row S R K e.who e.what → puts_to K e.what c ≡ true → (w : ℕ) × IsRequestOf (e ∷ K) c (length K) w
 put-own S R K e c legal room row h =
@@ -63,6 +97,7 @@ put-own S R K e c legal room row h =
       record {
         below = omega arith;
         for_call = call-at-here e K ∙ put-call K e.what c h;
+        sends = rw event_at-here (puts-send S R K e.who e.what row (put-is-put K e.what c h));
         put_by = rw event_at-here (ap worker_of v.1);
         session_of = fetcher-stays S R K e v.0 c legal room row (fetcher-fetched K c v.0 f) f;
       },
@@ -140,6 +175,14 @@ pub first-own : (S : System) (R : Rules) (K : List Event) (c r : ℕ) (rs : List
 unfolding AllOf
 first-own S R K c r rs legal room q = (rw q at (all-of S R K legal room c)).0
 
+installed-now : (e : Event) (K : List Event) (c r : ℕ) → call_at K r ≡ Some c → (installs_for K e c && is_first (queue K c) r) ≡ true → install_of (e ∷ K) r ≡ installed e.what
+unfolding install_of
+installed-now e K c r q p = rw (q, p)
+
+installed-same : (e : Event) (K : List Event) (c r : ℕ) → call_at K r ≡ Some c → (installs_for K e c && is_first (queue K c) r) ≡ false → install_of (e ∷ K) r ≡ install_of K r
+unfolding install_of
+installed-same e K c r q p = rw (q, p)
+
 waits-in-call : (K : List Event) (n : Name) (c : ℕ) → call_of K n ≡ Some c → (listed K c ≡ true) × (caller K c ≡ n)
 unfolding call_of
 waits-in-call K n c q =
@@ -147,17 +190,28 @@ waits-in-call K n c q =
     let p = and_parts (listed K c) (name_eq (caller K c) n) s.0 in
     (p.0, name_eq-true (caller K c) n p.1)
 
-pub installs-own : (S : System) (R : Rules) (K : List Event) (n : Name) (x : Result ℕ ℕ) → IsLegal S R K → length K < 2 ^ 64 → TaskRow S K n (Install x) → (c r w : ℕ) × (listed K c ≡ true) × (caller K c ≡ n) × IsRequestOf K c r w
+first-is : (rs : List ℕ) (r : ℕ) (more : List ℕ) → rs ≡ r ∷ more → is_first rs r ≡ true
+first-is rs r more q = rw q (eq-eqb r r refl)
+
+pub installs-own : (S : System) (R : Rules) (K : List Event) (n : Name) (x : Result ℕ ℕ) → IsLegal S R K → length K < 2 ^ 64 → TaskRow S K n (Install x) → (c r w : ℕ) × IsInstallOf K n c r w
 installs-own S R K n x legal room r =
     let c = r.1.0 in
     let l = waits-in-call K n c r.1.1 in
     let i = install-first S K (Task n) x c (queue K c) refl r.1.1 r.1.3 in
     let o = first-own S R K c i.first i.rest legal room i.queue_is in
-    (c, i.first, o.0, l.0, l.1, o.1)
+    (c, i.first, o.0, record { in_call = r.1.1; on_list = l.0; by_caller = l.1; is_next = first-is (queue K c) i.first i.rest i.queue_is; request = o.1 })
 
-source-later : (S : System) (R : Rules) (K : List Event) (e : Event) (c w : ℕ) (b : Back) → IsLegal S R K → length K < 2 ^ 64 → Row S R K e.who e.what → Source K c w b → Source (e ∷ K) c w b
-source-later S R K e c w b legal room row (sent p x b' u d q h g a) = let l = event_at-below K p d q in sent p x b' u d (rw event_at-older q) h g (rw (before-older e K p (omega arith)) a)
-source-later S R K e c w b legal room row (put_in p r n d q h g) = let l = event_at-below K p d q in put_in p r n d (rw event_at-older q) h (request-later S R K e c r w legal room row g)
+-- a settled call gets no more installs
+no-install : (S : System) (R : Rules) (K : List Event) (e : Event) (c : ℕ) → IsLegal S R K → Row S R K e.who e.what → settled K c ≡ true → installs_for K e c ≡ false
+no-install S R K e c legal row h = false_from_ne_true (installs_for K e c) (λ f.
+    let p = and_parts (is_install e.what) (is_task e.who (caller K c) && listed K c) f in
+    let q = and_parts (is_task e.who (caller K c)) (listed K c) p.1 in
+    clash (settled K c) (installs-open S R K e.who e.what c legal row p.0 q.0 q.1) h)
+
+source-later : (S : System) (R : Rules) (K : List Event) (e : Event) (c w : ℕ) (b : Back) → IsLegal S R K → length K < 2 ^ 64 → Row S R K e.who e.what → settled K c ≡ true → Source K c w b → Source (e ∷ K) c w b
+source-later S R K e c w b legal room row s (sent p x b' u d q h g a) = let l = event_at-below K p d q in sent p x b' u d (rw event_at-older q) h g (rw (before-older e K p (omega arith)) a)
+source-later S R K e c w b legal room row s (installed_for r n h g) =
+    installed_for r n (request-later S R K e c r w legal room row h) (install-same e K c r h.for_call (no-install S R K e c legal row s) ∙ g)
 
 pub Settled : List Event → ℕ → Type 0
 Settled K c = (w : ℕ) × (fetcher K c ≡ Some w) × Source K c w (reply K c)
@@ -180,7 +234,8 @@ settled-install S R K e c legal room row f g =
     let i = installing S R K e.who e.what c legal row p.0 q.0 q.1 in
     let o = first-own S R K c i.first i.rest legal room i.queue_is in
     let k = number e.what g in
-    (o.0, o.1.session_of, subst (Source (e ∷ K) c o.0) (sym k.2) (put_in (length K) i.first k.0 e (event_at-here e K) k.1 (request-later S R K e c i.first o.0 legal room row o.1)))
+    let h : install_of (e ∷ K) i.first ≡ Some (Ok k.0) = install-now e K c i.first i.rest o.1.for_call f i.queue_is ∙ ap installed k.1 in
+    (o.0, o.1.session_of, subst (Source (e ∷ K) c o.0) (sym k.2) (installed_for i.first k.0 (request-later S R K e c i.first o.0 legal room row o.1) h))
   where
     number : (what : What) → gave what ≡ true → (n : ℕ) × (what ≡ Install (Ok n)) × (back_of what ≡ Value (pos n))
     number (Install (Ok n)) h = (n, refl, refl)
@@ -198,7 +253,7 @@ settled-kind S R K e c legal room row ih h =
       ]))
       | inr q ↦
           let z = ih (settled-was e K c q h) in
-          rw (reply-same e K c q) (z.0, fetcher-stays S R K e z.0 c legal room row (fetcher-fetched K c z.0 z.1) z.1, source-later S R K e c z.0 (reply K c) legal room row z.2)
+          rw (reply-same e K c q) (z.0, fetcher-stays S R K e z.0 c legal room row (fetcher-fetched K c z.0 z.1) z.1, source-later S R K e c z.0 (reply K c) legal room row (settled-was e K c q h) z.2)
     ]
   where
     kept : {b : Back} → (w : ℕ) × (fetcher K c ≡ Some w) × Source (e ∷ K) c w b → (w : ℕ) × (fetcher (e ∷ K) c ≡ Some w) × Source (e ∷ K) c w b
@@ -216,3 +271,92 @@ resumes-own S R K n b legal room r =
     let l = waits-in-call K n c r.1.1 in
     let z = settled-by S R K legal room c r.1.2 in
     (c, z.0, l.0, l.1, z.1, rw r.1.3 z.2)
+
+-- a number that was installed for a call's request settles the call, and is its reply
+pub Gave : List Event → ℕ → ℕ → Type 0
+Gave K c m = (settled K c ≡ true) × (reply K c ≡ Value (pos m))
+
+gave-kind : (S : System) (R : Rules) (K : List Event) (e : Event) (c r m : ℕ) → IsLegal S R K → length K < 2 ^ 64 → Row S R K e.who e.what → call_at K r ≡ Some c → (install_of K r ≡ Some (Ok m) → Gave K c m) → install_of (e ∷ K) r ≡ Some (Ok m) → Gave (e ∷ K) c m
+unfolding Gave settled
+gave-kind S R K e c r m legal room row q ih h =
+    elim (cases_Bool (installs_for K e c && is_first (queue K c) r)) [
+      | inl p ↦
+          let f = and_parts (installs_for K e c) (is_first (queue K c) r) p in
+          let w : e.what ≡ Install (Ok m) = number e.what (sym (installed-now e K c r q p) ∙ h) in
+          let s : settles K e c ≡ true = settling f.0 f.1 w in
+          (or_left (settles K e c) (settled K c) s, reply-now e K c s ∙ ap back_of w)
+      | inr p ↦
+          let z = ih (sym (installed-same e K c r q p) ∙ h) in
+          let n : settles K e c ≡ false = false_from_ne_true (settles K e c) (λ s. clash (settled K c) (settles-once S R K e c legal row s) z.0) in
+          (or_right (settles K e c) (settled K c) z.0, reply-same e K c n ∙ z.1)
+    ]
+  where
+    number : (what : What) → installed what ≡ Some (Ok m) → what ≡ Install (Ok m)
+    number (Install x) k = ap Install (some-same x (Ok m) k)
+      where
+        some-same : (x y : Result ℕ ℕ) → Some x ≡ Some y → x ≡ y
+        some-same x y k = cc
+    number what k = cc
+
+    first-of' : (rs : List ℕ) → is_first rs r ≡ true → first_sends K rs ≡ is_send K r
+    first-of' [] k = cc
+    first-of' (x ∷ rs) k = rw (eqb-true x r k)
+
+    settling : installs_for K e c ≡ true → is_first (queue K c) r ≡ true → e.what ≡ Install (Ok m) → settles K e c ≡ true
+    settling f g w =
+        let i = queue-of (queue K c) refl g in
+        let o = first-own S R K c r i.0 legal room i.1 in
+        let s : first_sends K (queue K c) ≡ true = first-of' (queue K c) g ∙ o.1.sends in
+        let y : gave e.what ≡ true = ap gave w in
+        grind arith
+      where
+        queue-of : (rs : List ℕ) → queue K c ≡ rs → is_first rs r ≡ true → (more : List ℕ) × (queue K c ≡ r ∷ more)
+        queue-of [] k z = cc
+        queue-of (x ∷ rs) k z = (rs, rw (eqb-true x r z) at k)
+
+-- a request that is put now has no install yet
+gave-step : (S : System) (R : Rules) (K : List Event) (e : Event) (c r m : ℕ) → IsLegal S R K → length K < 2 ^ 64 → Row S R K e.who e.what → (call_at K r ≡ Some c → install_of K r ≡ Some (Ok m) → Gave K c m) → call_at (e ∷ K) r ≡ Some c → install_of (e ∷ K) r ≡ Some (Ok m) → Gave (e ∷ K) c m
+gave-step S R K e c r m legal room row ih q h =
+    elim (cases_order r (length K)) [
+      | inl z ↦ absurd (none-some m (sym (install-new e K) ∙ rw z at h))
+      | inr z ↦ elim z [
+        | inl l ↦ let p : call_at K r ≡ Some c = sym (call-at-older e K r l) ∙ q in gave-kind S R K e c r m legal room row p (ih p) h
+        | inr l ↦ absurd (no-place c (sym (call-at-above (e ∷ K) r (omega arith)) ∙ q))
+      ]
+    ]
+  where
+    none-some : (m : ℕ) → ◌≡◌ {A = Option (Result ℕ ℕ)} None (Some (Ok m)) → ⊥
+    none-some m h = cc
+
+    no-place : (c : ℕ) → None ≡ Some c → ⊥
+    no-place c h = cc
+
+first-asks-nothing : (S : System) (R : Rules) (e : Event) (r : ℕ) → IsStep S R [] e → call_at (e ∷ []) r ≡ None
+unfolding call_at
+first-asks-nothing S R e r h = rw (ap (λ (d : Event). asked_call [] d.what) h) (both (r == 0))
+  where
+    both : (b : Bool) → ◌≡◌ {A = Option ℕ} (if b then None else None) None
+    both true = refl
+    both false = refl
+
+pub gave-number : (S : System) (R : Rules) (K : List Event) → IsLegal S R K → length K < 2 ^ 64 → (c r m : ℕ) → call_at K r ≡ Some c → install_of K r ≡ Some (Ok m) → Gave K c m
+gave-number S R [] legal room = λ c r m q h. absurd (none-some c (sym (call-at-above [] r (omega arith)) ∙ q))
+  where
+    none-some : (c : ℕ) → None ≡ Some c → ⊥
+    none-some c h = cc
+gave-number S R (e ∷ []) legal room = λ c r m q h. absurd (none-some c (sym (first-asks-nothing S R e r legal.0) ∙ q))
+  where
+    none-some : (c : ℕ) → None ≡ Some c → ⊥
+    none-some c h = cc
+gave-number S R (e ∷ f ∷ K) legal room = λ c r m. gave-step S R (f ∷ K) e c r m legal.1 (omega arith) (row-of S R (f ∷ K) e legal.0 (omega arith)) (gave-number S R (f ∷ K) legal.1 (omega arith) c r m)
+
+-- a resume of such a call returns the number
+pub returns-installed : (S : System) (R : Rules) (K : List Event) (n : Name) (b : Back) → IsLegal S R K → length K < 2 ^ 64 → TaskRow S K n (Resume b) → (c r m : ℕ) → call_of K n ≡ Some c → call_at K r ≡ Some c → install_of K r ≡ Some (Ok m) → b ≡ Value (pos m)
+unfolding Gave
+returns-installed S R K n b legal room row c r m k q h =
+    let g = gave-number S R K legal room c r m q h in
+    let s : row.1.0 ≡ c = some-same row.1.0 c (sym row.1.1 ∙ k) in
+    row.1.3 ∙ (ap (reply K) s ∙ g.1)
+  where
+    some-same : (x y : ℕ) → Some x ≡ Some y → x ≡ y
+    some-same x y h = cc

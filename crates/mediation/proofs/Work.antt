@@ -7,7 +7,7 @@ use Rattle.hist_model.specs.Tasks.{is_made, pid_of, ended}
 use Rattle.hist_model.specs.Calls.{fetched, caller, id, is_call}
 use Rattle.hist_model.specs.Sessions.{Rules, Fetch, session, skips, starts, joined, notif_of, fetched_by, any_of, is_letgo}
 use Rattle.hist_model.specs.Systems.{System}
-use Rattle.hist_model.specs.Steps.{IsStep, IsLegal, session_call, call_after, mem, mem_after, base, base_after, oldest_unfetched, task_place, pid_at, pid_or}
+use Rattle.hist_model.specs.Steps.{IsStep, IsLegal, session_call, call_after, mem, mem_after, base, base_after, oldest_unfetched, task_place, pid_at, pid_or, notif}
 use Rattle.hist_model.specs.declared.event.Event.{Event}
 use Rattle.hist_model.specs.declared.event.Actor.{Actor}
 use Rattle.hist_model.specs.declared.event.Actor.TheVariants.{Start, Task, Worker, Listener}
@@ -64,6 +64,7 @@ pub record InSession (K : List Event) (w c : ℕ) : Type 0 where
   pub got : fetched K c ≡ true
   pub notif_is : notif_of (session K w) ≡ Some n
   pub no_letgo : any_of is_letgo (session K w) ≡ false
+  pub whole_is : n ≡ notif K c
   pub id_is : n.id ≡ id K c
   pub task_is : task_place K (caller K c) ≡ Some t
   pub pid_is : pid_of K t ≡ Some n.pid
@@ -103,6 +104,12 @@ at-work S R K w (AddfdTake a) r h = let t = deed-is R (session K w) _ r.0 in (t.
 at-work S R K w (Send x b a) r h = let t = deed-is R (session K w) _ r.0 in (t.0, t.1)
 at-work S R K w what r h = cc
 
+-- a call's notification stays
+notif-later : (e : Event) (K : List Event) (c t : ℕ) → c < length K → task_place K (caller K c) ≡ Some t → t < length K → notif (e ∷ K) c ≡ notif K c
+notif-later e K c t l p u =
+    let q : task_place (e ∷ K) (caller K c) ≡ Some t = place-stays e K (caller K c) t p in
+    rw (event_at-older e K c l, q, p, event_at-older e K t u)
+
 -- what stays of a call in hand while its session's steps stay
 in-session-kept : (e : Event) (K : List Event) (w c : ℕ) (i : InSession K w c) → notif_of (session (e ∷ K) w) ≡ Some i.n → any_of is_letgo (session (e ∷ K) w) ≡ false → InSession (e ∷ K) w c
 in-session-kept e K w c i h g =
@@ -116,6 +123,7 @@ in-session-kept e K w c i h g =
       got = fetched-more e K c i.got;
       notif_is = h;
       no_letgo = g;
+      whole_is = i.whole_is ∙ sym (notif-later e K c i.t l i.task_is u);
       id_is = rw event_at-older i.id_is;
       task_is = rw event_at-older (place-stays e K (caller K c) i.t i.task_is);
       pid_is = rw event_at-older i.pid_is;
@@ -172,6 +180,10 @@ works-keep K (AddfdPut q a) h = record { call = λ c. refl; no_start = refl; no_
 works-keep K (AddfdTake a) h = record { call = λ c. refl; no_start = refl; no_skip = refl; no_letgo = refl; no_notif = refl }
 works-keep K (Send x b a) h = record { call = λ c. refl; no_start = refl; no_skip = refl; no_letgo = refl; no_notif = refl }
 works-keep K what h = cc
+
+-- the notification of a session is its call's
+pub hand-notif : (K : List Event) (w c : ℕ) (i : InSession K w c) (n : Notif) → i.n ≡ n → n ≡ notif K c
+hand-notif K w c i n q = sym q ∙ i.whole_is
 
 -- a worker with a session at work has a call in hand
 pub in-hand : (K : List Event) (w : ℕ) (o : Option ℕ) (n : Notif) → AtWork (session K w) n → Hand K w o → (c : ℕ) × (o ≡ Some c) × (i : InSession K w c) × (i.n ≡ n)
@@ -233,6 +245,7 @@ module _ (S : System) (R : Rules) (K : List Event) (a : Actor) (w : ℕ) (legal 
         got = fetched-now e K d (eq-eqb n.id (id K d) (ap (λ (x : Notif). x.id) f.1)) f.2;
         notif_is = rw s;
         no_letgo = rw s;
+        whole_is = f.1 ∙ sym (notif-later e K d m.0 v m.1 u);
         id_is = rw event_at-older (ap (λ (x : Notif). x.id) f.1);
         task_is = rw event_at-older (place-stays e K (caller K d) m.0 m.1);
         pid_is = rw event_at-older (makes-pid (event_at K m.0) q.0 ∙ ap Some (sym pid));

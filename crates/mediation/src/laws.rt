@@ -6,9 +6,9 @@ ghost use Rattle.hist_model.specs.Systems.{System};
 ghost use Rattle.hist_model.specs.Sessions.{Rules, session};
 ghost use Rattle.hist_model.specs.Steps.{IsLegal};
 ghost use Rattle.hist_model.specs.Laws.{CallsAreLast, PidsDiffer, AnsweredOnce, CountIs};
-ghost use Rattle.hist_model.specs.Settlers.{InstallsOwn, ResumesOwn};
+ghost use Rattle.hist_model.specs.Settlers.{InstallsOwn, ResumesOwn, ReturnsInstalled};
 ghost use Rattle.hist_model.specs.Orders.{InOrder};
-ghost use Rattle.hist_model.specs.Mediated.{Each, NamesOwn, NeverBusy, LostIfGone, HasCause};
+ghost use Rattle.hist_model.specs.Mediated.{Each, TakenByItsActor, NamesOwn, NeverBusy, ErrorsKnown, LostIfGone, HasCause};
 ghost use Rattle.mediation.specs.Journals.{actors, IsLegalByPlace};
 ghost use Rattle.mediation.specs.Facts.{CallIdsDiffer};
 
@@ -83,3 +83,22 @@ pub fn installs_own()
 pub fn resumes_own()
     ensures { (S : System) (R : Rules) (K : List Event) → IsLegal S R K → length K < 2 ^ 64 → Each ResumesOwn K }
 {}
+
+/// Each step is one that its actor takes.
+pub fn taken_by_its_actor()
+    ensures { (S : System) (R : Rules) (K : List Event) → IsLegal S R K → length K < 2 ^ 64 → Each TakenByItsActor K }
+{
+}
+
+/// A worker's check and answer have no error but ENOENT, its request for a descriptor none but EBADF and ENOENT, and its
+/// take none but EBADF, EMFILE and ENOENT.
+pub fn errors_known()
+    ensures { (S : System) (R : Rules) (K : List Event) → IsLegal S R K → length K < 2 ^ 64 → Each ErrorsKnown K }
+{
+}
+
+/// Each return of a call for one of whose requests a number was installed gives this number.
+pub fn returns_installed()
+    ensures { (S : System) (R : Rules) (K : List Event) → IsLegal S R K → length K < 2 ^ 64 → Each ReturnsInstalled K }
+{
+}
