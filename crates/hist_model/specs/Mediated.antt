@@ -2,12 +2,12 @@
 -- each effect is what the policy grants on one copy of its call's arguments found valid afterwards, and each denial names its rule (seccomp_unotify(2)).
 use Rattle.std.specs.Prelude.{◌≡◌, ℕ, ◌+◌, ◌≤◌, Bool, true, false, ◌&&◌, ◌||◌, not, if◌then◌else◌, ◌==◌, List, [], ◌∷◌, length, filter, Option, Some, None, Result, Ok, Err, ◌⊎◌, nat_le, nat_eq, codes, ℤ}
 use Rattle.std.specs.List.{starts_with}
-use Rattle.hist_model.specs.Look.{Name, before, event_at, is_worker, is_task}
+use Rattle.hist_model.specs.Look.{Name, ev, before, event_at, is_worker, is_task}
 use Rattle.hist_model.specs.Calls.{listed, caller, fetched, fetches, id, is_call, answers, puts_to, settled, waiting, closes}
-use Rattle.hist_model.specs.Sessions.{Rules, session, notif_of, reads_of, first_some, outcome_in, Acts, Plants, number_of, checks}
-use Rattle.hist_model.specs.Steps.{session_call, base, mem, group, task_place, times_spent, opened}
+use Rattle.hist_model.specs.Sessions.{Rules, session, notif_of, reads_of, first_some, outcome_in, put_in, Acts, Plants, Injects, addfd_of, number_of, checks}
+use Rattle.hist_model.specs.Steps.{session_call, mem, task_place, times_spent, opened, notif}
 use Rattle.hist_model.specs.Laws.{AnsweredOnce, count_below, empty_recvs}
-use Rattle.hist_model.specs.Settlers.{InstallsOwn, ResumesOwn}
+use Rattle.hist_model.specs.Settlers.{InstallsOwn, ResumesOwn, ReturnsInstalled}
 use Rattle.hist_model.specs.Orders.{InOrder, is_good_check}
 use Rattle.hist_model.specs.Causes.{Cause}
 use Rattle.hist_model.specs.Trees.{Tree}
@@ -19,9 +19,9 @@ use Rattle.hist_model.specs.Legal.{rules_of, tree}
 use Rattle.hist_model.specs.declared.event.Back.{Back}
 use Rattle.hist_model.specs.declared.event.Event.{Event}
 use Rattle.hist_model.specs.declared.event.Actor.{Actor}
-use Rattle.hist_model.specs.declared.event.Actor.TheVariants.{Worker, Task}
+use Rattle.hist_model.specs.declared.event.Actor.TheVariants.{Start, Worker, Task, Listener}
 use Rattle.hist_model.specs.declared.event.What.{What}
-use Rattle.hist_model.specs.declared.event.What.TheVariants.{OpenMem, OpenBase, Check, Act, Plant, AddfdPut, AddfdTake, Send, Install, Resume, Close}
+use Rattle.hist_model.specs.declared.event.What.TheVariants.{Spawn, Poke, Handler, Enter, Native, Install, Resume, Signal, Deliver, Reap, Exit, Recv, OpenMem, OpenBase, Check, Read, Act, Plant, AddfdPut, AddfdTake, Send, LetGo, Skip, Close}
 use Rattle.hist_model.specs.declared.policy.Policy.{Policy}
 use Rattle.hist_model.specs.declared.policy.Cap.{Cap}
 use Rattle.hist_model.specs.declared.request.Node.{Node}
@@ -32,12 +32,48 @@ use Rattle.hist_model.specs.declared.request.Request.{Request}
 use Rattle.hist_model.specs.declared.script.Script.{Script}
 use Rattle.hist_model.specs.declared.tree.NodeRow.{NodeRow}
 use Rattle.hist_model.specs.declared.tree.AttrRow.{AttrRow}
+use Rattle.hist_model.specs.Decisions.{cap_of}
+use Rattle.sys_abi.specs.declared.wire.Addfd.{Addfd}
 use Rattle.sys_abi.specs.declared.wire.Notif.{Notif}
 
 -- of each event with those before it
 abbrev pub Each : (List Event → Event → Type 0) → List Event → Type 0
 Each P [] = Unit {0}
 Each P (e ∷ K) = P K e × Each P K
+
+-- the step is one that such an actor takes
+abbrev pub takes : Actor → What → Bool
+takes Start (Spawn n a) = true
+takes (Task m) (Spawn n a) = true
+takes (Task m) (Poke x b) = true
+takes (Task m) (Handler s mode) = true
+takes (Task m) (Enter nr args v) = true
+takes (Task m) (Native a) = true
+takes (Task m) (Install a) = true
+takes (Task m) (Resume b) = true
+takes (Task m) (Signal p s a) = true
+takes (Task m) (Deliver s effect) = true
+takes (Task m) (Reap a) = true
+takes (Task m) Exit = true
+takes (Task m) Skip = true
+takes (Worker w) (Recv a) = true
+takes (Worker w) (OpenMem p a) = true
+takes (Worker w) (OpenBase p d a) = true
+takes (Worker w) (Check x a) = true
+takes (Worker w) (Read x l a) = true
+takes (Worker w) (Act q cap a) = true
+takes (Worker w) (Plant x b cap a) = true
+takes (Worker w) (AddfdPut q a) = true
+takes (Worker w) (AddfdTake a) = true
+takes (Worker w) (Send x b a) = true
+takes (Worker w) LetGo = true
+takes (Worker w) Skip = true
+takes Listener Close = true
+takes _ _ = false
+
+-- what stands below of a kind of step and its actor is said of each step of that kind
+abbrev pub TakenByItsActor : List Event → Event → Type 0
+TakenByItsActor K e = takes e.who e.what ≡ true
 
 -- ---- Answered at most once
 
@@ -52,9 +88,15 @@ OneSession K = (c : ℕ) → fetches_of K c ≤ 1
 
 -- ---- Each reply or descriptor reaches the call it was meant for, or nobody
 
--- an accepted answer, and an accepted request for a descriptor, is for the call of its own session
+-- the step is an answer or a request for a descriptor that was accepted
+abbrev pub is_accepted : What → Bool
+is_accepted (Send x b (Ok u)) = true
+is_accepted (AddfdPut q (Ok u)) = true
+is_accepted _ = false
+
+-- it is a worker's, for the call of its own session
 abbrev pub NamesOwn : List Event → Event → Type 0
-NamesOwn K e = (w c : ℕ) → e.who ≡ Worker w → (puts_to K e.what c || answers K e.what c) ≡ true → session_call K w ≡ Some c
+NamesOwn K e = is_accepted e.what ≡ true → (w c : ℕ) × (e.who ≡ Worker w) × (session_call K w ≡ Some c) × ((puts_to K e.what c || answers K e.what c) ≡ true)
 
 -- EINPROGRESS and EBUSY: the call is in the way of an answer or a request
 abbrev pub is_busy : What → Bool
@@ -62,9 +104,20 @@ is_busy (Send x b (Err e)) = e == 115
 is_busy (AddfdPut q (Err e)) = (e == 115) || (e == 16)
 is_busy _ = false
 
--- no worker is answered so
+-- nobody is answered so
 abbrev pub NeverBusy : List Event → Event → Type 0
-NeverBusy K e = (w c : ℕ) → e.who ≡ Worker w → session_call K w ≡ Some c → is_busy e.what ≡ false
+NeverBusy K e = is_busy e.what ≡ false
+
+-- of the errors of a worker's steps: ENOENT of a check and of an answer, EBADF too of a request for a descriptor, and EMFILE too of its take
+abbrev pub is_known_error : What → Bool
+is_known_error (Check x (Err e)) = e == 2
+is_known_error (Send x b (Err e)) = e == 2
+is_known_error (AddfdPut q (Err e)) = (e == 9) || (e == 2)
+is_known_error (AddfdTake (Err e)) = (e == 9) || ((e == 24) || (e == 2))
+is_known_error _ = true
+
+abbrev pub ErrorsKnown : List Event → Event → Type 0
+ErrorsKnown K e = is_known_error e.what ≡ true
 
 -- an installation that gave a number puts the request's file there, and leaves every other slot of every group as it was
 abbrev pub InstallsAlone : Script → List Event → Event → Type 0
@@ -101,50 +154,64 @@ is_until_checked K w = nat_le (number_of is_good_check (session K w)) 1 || ends_
 abbrev pub WaitedUntilChecked : List Event → ℕ → ℕ → Type 0
 WaitedUntilChecked K w c = (p : ℕ) → p ≤ length K → session_call (before K p) w ≡ Some c → is_until_checked (before K p) w ≡ true → waiting (before K p) c ≡ true
 
--- the base was, when it was opened, the open directory in a slot of the caller's group, or the container's root
-pub record OpenedBase (S : Script) (K : List Event) (w g : ℕ) : Type 0 where
+-- the session opened the base at this place: the open directory that was then in the slot that the call names of the caller's group, or the container's root
+pub record OpenedBase (S : Script) (K : List Event) (w c g : ℕ) (n : Notif) (dirfd : ℤ) : Type 0 where
   pub place : ℕ
-  pub below : place ≤ length K
-  pub dirfd : ℤ
+  pub opening : event_at K place ≡ Some (ev (Worker w) (OpenBase n.pid dirfd (Ok tt)))
+  pub in_session : session_call (before K place) w ≡ Some c
+  pub of_caller : opened K (task_place K (caller K c)) ≡ Some g
   pub is_base : (files S K).base w ≡ base_of S (files S (before K place)) g dirfd
 
--- what holds of an effect of a worker's session: of its call, its copy and the order of its steps
+-- the base from which a session's effect goes: none where its call names none
+abbrev pub BaseIs : Rules → Script → List Event → ℕ → ℕ → Notif → Option ℤ → Type 0
+BaseIs R S K w c n None = (files S K).base w ≡ None
+BaseIs R S K w c n (Some dirfd) = (g : ℕ) × OpenedBase S K w c g n dirfd
+
+-- what holds of an effect of a worker's session: of its call, its copy, its memory and the order of its steps
 pub record IsMediated (R : Rules) (K : List Event) (w c : ℕ) (n : Notif) : Type 0 where
   pub of_call : session_call K w ≡ Some c
   pub notif_is : notif_of (session K w) ≡ Some n
+  pub of_notif : n ≡ notif K c
   pub whole : R.next_piece n (reads_of (session K w)) ≡ None
   pub no_fault : R.fault n (reads_of (session K w)) ≡ None
-  pub alone : first_some outcome_in (session K w) ≡ None
   pub checked : number_of is_good_check (session K w) ≡ 2
   pub waited : WaitedUntilChecked K w c
   pub memory : mem K w ≡ opened K (task_place K (caller K c))
 
--- an act is the one that the deciding rule grants, with its cap, from the base of the call's task
+-- an act is the one of its session, and what the deciding rule grants, with its cap, from the base of the call's task
 abbrev pub ActIsGranted : Policy → Script → List Event → Event → Type 0
 ActIsGranted P S K e = (w : ℕ) (q : Request) (cap : Option Cap) (a : Result (Unit {0}) ℕ) → e.who ≡ Worker w → e.what ≡ Act q cap a
     → (c : ℕ) × (n : Notif) × IsMediated (rules_of P S.figures) K w c n × ((rules_of P S.figures).decide n (reads_of (session K w)) ≡ Acts q cap)
-    × ((g : ℕ) → opened K (task_place K (caller K c)) ≡ Some g → (base K w ≡ None) ⊎ ((base K w ≡ Some g) × OpenedBase S K w g))
+    × (first_some outcome_in (session K w) ≡ None) × BaseIs (rules_of P S.figures) S K w c n ((rules_of P S.figures).dirfd n)
 
 -- and so is what is written as the answer of sysinfo
 abbrev pub PlantIsGranted : Policy → Script → List Event → Event → Type 0
 PlantIsGranted P S K e = (w addr : ℕ) (bytes : List ℕ) (cap : Option Cap) (a : Result (Unit {0}) ℕ) → e.who ≡ Worker w → e.what ≡ Plant addr bytes cap a
     → (c : ℕ) × (n : Notif) × IsMediated (rules_of P S.figures) K w c n × ((rules_of P S.figures).decide n (reads_of (session K w)) ≡ Plants addr bytes cap)
+    × (first_some outcome_in (session K w) ≡ None)
 
-abbrev pub cap_in : What → Option Cap
-cap_in (Act q cap a) = cap
-cap_in (Plant x b cap a) = cap
-cap_in _ = None
+-- a request for a descriptor is the one of its session, and what the deciding rule injects
+abbrev pub PutIsInjected : Policy → Script → List Event → Event → Type 0
+PutIsInjected P S K e = (w : ℕ) (q : Addfd) (a : Result (Unit {0}) ℕ) → e.who ≡ Worker w → e.what ≡ AddfdPut q a
+    → (c : ℕ) × (n : Notif) × IsMediated (rules_of P S.figures) K w c n
+    × ((src : ℕ) × (at : Option ℕ) × (flags : ℕ) × ((rules_of P S.figures).decide n (reads_of (session K w)) ≡ Injects src at flags) × (q ≡ addfd_of n.id src at flags))
+    × (first_some put_in (session K w) ≡ None)
 
--- of the effects under the cap of a rule with times n at most n were done, up to each event
-abbrev pub TimesKept : List Event → Event → Type 0
-TimesKept K e = (cap : Cap) → cap_in e.what ≡ Some cap → times_spent (e ∷ K) cap.rule ≤ cap.times
+-- each read is of the memory of the call's task
+abbrev pub ReadsOwn : List Event → Event → Type 0
+ReadsOwn K e = (w addr len : ℕ) (a : Result (List ℕ) ℕ) → e.who ≡ Worker w → e.what ≡ Read addr len a
+    → (c : ℕ) × (session_call K w ≡ Some c) × (mem K w ≡ opened K (task_place K (caller K c)))
+
+-- of the effects under the cap of a rule with times n at most n were done
+abbrev pub TimesKept : Policy → List Event → Type 0
+TimesKept P K = (i : ℕ) (cap : Cap) → cap_of P.rules i ≡ Some cap → times_spent K i ≤ cap.times
 
 -- ---- Each answer has its cause
 
 -- an answer stands after two good checks, and carries what the session's copy and the policy make of it
 abbrev pub HasCause : Rules → List Event → Event → Type 0
 HasCause R K e = (w x : ℕ) (b : Back) (a : Result (Unit {0}) ℕ) → e.who ≡ Worker w → e.what ≡ Send x b a
-    → (n : Notif) × (notif_of (session K w) ≡ Some n) × (x ≡ n.id) × (number_of is_good_check (session K w) ≡ 2) × Cause R (session K w) n b
+    → (c : ℕ) × (n : Notif) × (session_call K w ≡ Some c) × (notif_of (session K w) ≡ Some n) × (n ≡ notif K c) × (x ≡ n.id) × (number_of is_good_check (session K w) ≡ 2) × Cause R (session K w) n b
 
 -- the step answers that the call, or its task, is not there
 abbrev pub is_lost : What → Bool
@@ -158,7 +225,7 @@ is_lost _ = false
 
 -- so only where the session's call is not listed
 abbrev pub LostIfGone : List Event → Event → Type 0
-LostIfGone K e = (w c : ℕ) → e.who ≡ Worker w → session_call K w ≡ Some c → is_lost e.what ≡ true → listed K c ≡ false
+LostIfGone K e = (w : ℕ) → e.who ≡ Worker w → is_lost e.what ≡ true → (c : ℕ) × (session_call K w ≡ Some c) × (listed K c ≡ false)
 
 -- the receives that found nothing are at most as many as the calls that left the list unfetched
 abbrev pub left_unfetched : List Event → ℕ
@@ -196,13 +263,16 @@ ActsAlone S K e = is_effect e.what ≡ false → KeepsPrivileged (tree S K) (tre
 -- ---- All of it
 
 pub record Mediated (P : Policy) (S : Script) (K : List Event) : Type 0 where
+  pub actors : Each TakenByItsActor K
   -- each notification is answered at most once
   pub once : AnsweredOnce K
   pub one_session : OneSession K
   -- each reply or descriptor reaches the call it was meant for or nobody
   pub own : Each NamesOwn K
   pub resumes : Each ResumesOwn K
+  pub returns_installed : Each ReturnsInstalled K
   pub busy : Each NeverBusy K
+  pub errors : Each ErrorsKnown K
   pub installs : Each InstallsOwn K
   pub installs_alone : Each (InstallsAlone S) K
   pub fails_alone : Each (FailsAlone S) K
@@ -210,7 +280,9 @@ pub record Mediated (P : Policy) (S : Script) (K : List Event) : Type 0 where
   -- each effect is what the policy grants on one copy, found valid afterwards
   pub acts : Each (ActIsGranted P S) K
   pub plants : Each (PlantIsGranted P S) K
-  pub times : Each TimesKept K
+  pub puts : Each (PutIsInjected P S) K
+  pub reads : Each ReadsOwn K
+  pub times : TimesKept P K
   -- each worker's session stands in order: openings, a good check, reads, a good check, uses
   pub ordered : (w : ℕ) → InOrder (session K w)
   -- each answer has its cause

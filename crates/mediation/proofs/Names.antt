@@ -1,0 +1,31 @@
+-- What a session names is its own call or nothing.
+use Rattle.std.proofs.Common.{◌≡◌, ℕ, ◌<◌, ◌^◌, true, ◌&&◌, List, length, Some, ◌∙◌}
+use Rattle.std.specs.Prelude.{◌==◌}
+use Rattle.std.proofs.lemmas.Bool.{and_parts, and_from, eqb-true, eq-eqb}
+use Rattle.hist_model.specs.Calls.{listed, id, named}
+use Rattle.hist_model.specs.Sessions.{Rules}
+use Rattle.hist_model.specs.Systems.{System}
+use Rattle.hist_model.specs.Steps.{IsLegal}
+use Rattle.hist_model.specs.declared.event.Event.{Event}
+use Rattle.hist_model.proofs.Look.{oldest-some, oldest-found}
+use Rattle.mediation.proofs.Own.{listed-below}
+use Rattle.mediation.proofs.Ids.{call-ids, listed-is_call}
+use Rattle.mediation.proofs.Work.{InSession}
+
+pub named-is : (K : List Event) (x d : ℕ) → named K x ≡ Some d → (listed K d ≡ true) × (id K d ≡ x)
+unfolding named
+named-is K x d q =
+    let s = oldest-some (λ c. listed K c && (id K c == x)) (length K) d q in
+    let p = and_parts (listed K d) (id K d == x) s.0 in
+    (p.0, eqb-true (id K d) x p.1)
+
+-- of a call in hand
+pub names-own : (S : System) (R : Rules) (K : List Event) (w c d : ℕ) → IsLegal S R K → length K < 2 ^ 64 → (i : InSession K w c) → named K i.n.id ≡ Some d → d ≡ c
+names-own S R K w c d legal b i q =
+    let s = named-is K i.n.id d q in
+    call-ids S R K legal b d c (listed-is_call K d s.0) i.call (s.1 ∙ i.id_is)
+
+-- a listed call's id names a call
+pub named-some : (K : List Event) (c x : ℕ) → listed K c ≡ true → id K c ≡ x → (d : ℕ) × (named K x ≡ Some d)
+unfolding named
+named-some K c x l q = oldest-found (λ d. listed K d && (id K d == x)) (length K) c (listed-below K c l) (and_from (listed K c) (id K c == x) l (eq-eqb (id K c) x q))

@@ -1,0 +1,82 @@
+-- A call is answered at most once.
+use Rattle.std.proofs.Common.{◌≡◌, inl, inr, ℕ, ◌≤◌, true, false, ◌&&◌, List, [], ◌∷◌, Option, Some, None, refl, sym, arith}
+use Rattle.std.specs.Prelude.{Result, Ok, Err}
+use Rattle.std.proofs.lemmas.Bool.{cases_Bool, and_parts, or_cases, eqb-true}
+use Rattle.hist_model.specs.Look.{is_place, is_task}
+use Rattle.hist_model.specs.Calls.{listed, named, answers, settled, settles, waiting, installs_for, is_install, gave, first_sends, queue, caller}
+use Rattle.hist_model.specs.Sessions.{Rules}
+use Rattle.hist_model.specs.Systems.{System}
+use Rattle.hist_model.specs.Steps.{IsStep, IsLegal, send_answer}
+use Rattle.hist_model.specs.Laws.{answers_to, AnsweredOnce}
+use Rattle.hist_model.specs.declared.event.Event.{Event}
+use Rattle.hist_model.specs.declared.event.Actor.{Actor}
+use Rattle.hist_model.specs.declared.event.Actor.TheVariants.{Start, Task, Worker, Listener}
+use Rattle.hist_model.specs.declared.event.What.{What}
+use Rattle.hist_model.specs.declared.event.What.TheVariants.{Send, Install}
+use Rattle.mediation.proofs.Rows.{Row}
+use Rattle.mediation.proofs.Own.{row-of, waits-in}
+use Rattle.hist_model.proofs.Look.{name_eq-true}
+
+no-both : (u : Unit {0}) → ◌≡◌ {A = Result (Unit {0}) ℕ} (Ok u) (Err 115) → ⊥
+no-both u q = cc
+
+-- an answer goes to a waiting call
+sent-waiting : (K : List Event) (c : ℕ) (d : Option ℕ) (u : Unit {0}) → Ok u ≡ send_answer K d → is_place d c ≡ true → waiting K c ≡ true
+sent-waiting K c None u q h = cc
+sent-waiting K c (Some d) u q h =
+    elim (cases_Bool (waiting K d)) [
+      | inl w ↦ rw (eqb-true d c h) at w
+      | inr w ↦ absurd (no-both u (rw w at q))
+    ]
+
+pub answers-waiting : (S : System) (R : Rules) (K : List Event) (a : Actor) (w : What) (c : ℕ) → Row S R K a w → answers K w c ≡ true → waiting K c ≡ true
+answers-waiting S R K (Worker v) (Send x b (Ok u)) c r h = sent-waiting K c (named K x) u r.1 h
+answers-waiting S R K (Task n) (Send x b (Ok u)) c r h = absurd r
+answers-waiting S R K Start (Send x b (Ok u)) c r h = cc
+answers-waiting S R K Listener (Send x b (Ok u)) c r h = cc
+answers-waiting S R K a w c r h = cc
+
+-- an install belongs to the call in which its task waits, which is not settled
+pub installs-open : (S : System) (R : Rules) (K : List Event) (a : Actor) (w : What) (c : ℕ) → IsLegal S R K → Row S R K a w → is_install w ≡ true → is_task a (caller K c) ≡ true → listed K c ≡ true → settled K c ≡ false
+installs-open S R K (Task n) (Install ans) c legal r h g l =
+    let m = name_eq-true n (caller K c) g in
+    let s = waits-in S R K n c r.1.0 legal r.1.1 l (sym m) in
+    rw s at r.1.2
+installs-open S R K (Task n) w c legal r h g l = cc
+installs-open S R K a w c legal r h g l = cc
+
+pub settles-once : (S : System) (R : Rules) (K : List Event) (e : Event) (c : ℕ) → IsLegal S R K → Row S R K e.who e.what → settles K e c ≡ true → settled K c ≡ false
+settles-once S R K e c legal r h =
+    elim (or_cases (answers K e.what c) (installs_for K e c && (gave e.what && first_sends K (queue K c))) h) [
+      | inl q ↦ let w = answers-waiting S R K e.who e.what c r q in grind arith
+      | inr q ↦
+          let p = and_parts (installs_for K e c) (gave e.what && first_sends K (queue K c)) q in
+          let i = and_parts (is_install e.what) (is_task e.who (caller K c) && listed K c) p.0 in
+          let j = and_parts (is_task e.who (caller K c)) (listed K c) i.1 in
+          installs-open S R K e.who e.what c legal r i.0 j.0 j.1
+    ]
+
+once-kind : (S : System) (R : Rules) (K : List Event) (e : Event) → IsLegal S R K → Row S R K e.who e.what → (c : ℕ)
+    → (answers_to K c ≤ 1) × (settled K c ≡ false → answers_to K c ≡ 0)
+    → (answers_to (e ∷ K) c ≤ 1) × (settled (e ∷ K) c ≡ false → answers_to (e ∷ K) c ≡ 0)
+once-kind S R K e legal r c ih =
+    elim (cases_Bool (settles K e c)) [
+      | inl q ↦
+          let z = ih.1 (settles-once S R K e c legal r q) in
+          unfold answers_to settled in rw q (omega arith, λ x. cc)
+      | inr q ↦ unfold answers_to settled in rw q (omega (arith, ih.0), λ x. omega (arith, ih.1 x))
+    ]
+
+pub once-step : (S : System) (R : Rules) (K : List Event) (e : Event) → IsLegal S R K → IsStep S R K e → (c : ℕ)
+    → (answers_to K c ≤ 1) × (settled K c ≡ false → answers_to K c ≡ 0)
+    → (answers_to (e ∷ K) c ≤ 1) × (settled (e ∷ K) c ≡ false → answers_to (e ∷ K) c ≡ 0)
+once-step S R [] e legal r c ih = rw r (unfold answers_to settled listed in (omega arith, λ _. refl))
+once-step S R (f ∷ K) e legal r c ih = once-kind S R (f ∷ K) e legal (row-of S R (f ∷ K) e r (omega arith)) c ih
+
+both : (S : System) (R : Rules) (K : List Event) → IsLegal S R K → (c : ℕ) → (answers_to K c ≤ 1) × (settled K c ≡ false → answers_to K c ≡ 0)
+unfolding answers_to
+both S R [] legal = λ c. (omega arith, λ _. refl)
+both S R (e ∷ K) legal = λ c. once-step S R K e legal.1 legal.0 c (both S R K legal.1 c)
+
+pub answered_once : (S : System) (R : Rules) (K : List Event) → IsLegal S R K → AnsweredOnce K
+answered_once S R K legal = λ c. (both S R K legal c).0

@@ -1,0 +1,259 @@
+-- How far a listed call is: not fetched, in hand, or answered.
+use Rattle.std.proofs.Common.{◌≡◌, ◌⊎◌, inl, inr, ℕ, ◌<◌, ◌≤◌, ◌^◌, Bool, true, false, ◌&&◌, ◌||◌, List, [], ◌∷◌, length, Option, Some, None, refl, sym, ap, ◌∙◌, arith}
+use Rattle.std.specs.Prelude.{◌==◌, Result, Ok, Err}
+use Rattle.std.proofs.lemmas.Bool.{cases_Bool, and_parts, or_right, or_left, eqb-true, eq-eqb, false_from_ne_true}
+use Rattle.hist_model.specs.Look.{is_place, is_worker}
+use Rattle.hist_model.specs.Calls.{listed, fetched, fetches, id, named, answers, settled, puts_to, installs_for, queue, is_send}
+use Rattle.hist_model.specs.Sessions.{Rules, session, any_of, gives_up, addfd_of, first_some, put_in, take_in}
+use Rattle.hist_model.specs.Systems.{System, Slot, Number, Full, Over}
+use Rattle.hist_model.specs.Steps.{IsLegal, session_call, call_after, call_at, install_of, installed, request_of, request_after, slot_answer, oldest_unfetched}
+use Rattle.hist_model.specs.Laws.{fetcher, worker_of}
+use Rattle.hist_model.specs.declared.event.Event.{Event}
+use Rattle.hist_model.specs.declared.event.Actor.{Actor}
+use Rattle.hist_model.specs.declared.event.Actor.TheVariants.{Worker}
+use Rattle.hist_model.specs.declared.event.What.{What}
+use Rattle.hist_model.specs.declared.event.What.TheVariants.{Recv, AddfdPut, Send, LetGo, Install}
+use Rattle.sys_abi.specs.declared.wire.Notif.{Notif}
+use Rattle.sys_abi.specs.declared.wire.Addfd.{Addfd}
+use Rattle.hist_model.proofs.Look.{event_at-older}
+use Rattle.mediation.proofs.Rows.{Row, WorkerRow}
+use Rattle.mediation.proofs.Own.{row-of}
+use Rattle.mediation.proofs.Ids.{ids_differ}
+use Rattle.mediation.proofs.Count.{receiving, fetching}
+use Rattle.mediation.proofs.Deeds.{AtWork, deed-is}
+use Rattle.mediation.proofs.Names.{names-own}
+use Rattle.mediation.proofs.Work.{hand, in-hand, call-same, call-more}
+use Rattle.mediation.proofs.Queues.{Clean, Calm, calm-queue, calm-settled, calm-clean, settled-more, Installing, call-at-older, call-at-above}
+
+-- the request r of the worker, for the call: still queued, or installed with this answer
+pub data Done (K : List Event) (c r : ℕ) : Type 0 where
+  queued : queue K c ≡ r ∷ [] → settled K c ≡ false → install_of K r ≡ None → Done K c r
+  gave_number : (n : ℕ) → settled K c ≡ true → install_of K r ≡ Some (Ok n) → Done K c r
+  failed : (x : ℕ) → Clean K c → install_of K r ≡ Some (Err x) → (x == 2) ≡ false → Done K c r
+
+pub record Asked (K : List Event) (c w : ℕ) : Type 0 where
+  pub r : ℕ
+  pub mine : request_of K w ≡ Some r
+  pub below : r < length K
+  pub sends : is_send K r ≡ true
+  pub for_call : call_at K r ≡ Some c
+  pub state : Done K c r
+
+abbrev pub StageOf : List Event → ℕ → ℕ → Option (Result (Unit {0}) ℕ) → Option (Result ℕ ℕ) → Type 0
+StageOf K c w None t = Clean K c
+StageOf K c w (Some (Err e)) t = Clean K c
+StageOf K c w (Some (Ok u)) None = Asked K c w
+StageOf K c w (Some (Ok u)) (Some t) = Clean K c
+
+-- a listed call that a worker has in hand
+pub record AtCall (K : List Event) (c w : ℕ) : Type 0 where
+  pub in_hand : session_call K w ≡ Some c
+  pub over : any_of gives_up (session K w) ≡ true → settled K c ≡ true
+  pub stage : any_of gives_up (session K w) ≡ false → StageOf K c w (first_some put_in (session K w)) (first_some take_in (session K w))
+
+abbrev pub Phase : List Event → ℕ → Option ℕ → Type 0
+Phase K c None = (fetched K c ≡ false) × Clean K c
+Phase K c (Some w) = AtCall K c w ⊎ ((settled K c ≡ true) × (session_call K w ≡ Some c → ⊥))
+
+clash : (b : Bool) → b ≡ false → b ≡ true → ⊥
+clash b g h = cc
+
+none-some : {A : Type 0} → (a : A) → None ≡ Some a → ⊥
+none-some a h = cc
+
+pub fetcher-same : (e : Event) (K : List Event) (c : ℕ) → (fetches e.what (id K c) && listed K c) ≡ false → fetcher (e ∷ K) c ≡ fetcher K c
+unfolding fetcher
+fetcher-same e K c h = rw h
+
+pub fetcher-now : (e : Event) (K : List Event) (c : ℕ) → (fetches e.what (id K c) && listed K c) ≡ true → fetcher (e ∷ K) c ≡ worker_of e.who
+unfolding fetcher
+fetcher-now e K c h = rw h
+
+pub request-same : (e : Event) (K : List Event) (w : ℕ) → is_worker e.who w ≡ false → request_of (e ∷ K) w ≡ request_of K w
+unfolding request_of
+request-same e K w h = rw h
+
+pub request-more : (e : Event) (K : List Event) (w : ℕ) → is_worker e.who w ≡ true → request_of (e ∷ K) w ≡ request_after (length K) e.what (request_of K w)
+unfolding request_of
+request-more e K w h = rw h
+
+-- an install that is not for this call leaves its request alone
+pub install-same : (e : Event) (K : List Event) (c r : ℕ) → call_at K r ≡ Some c → installs_for K e c ≡ false → install_of (e ∷ K) r ≡ install_of K r
+unfolding install_of
+install-same e K c r a n = rw (a, n)
+
+pub install-now : (e : Event) (K : List Event) (c r : ℕ) (rs : List ℕ) → call_at K r ≡ Some c → installs_for K e c ≡ true → queue K c ≡ r ∷ rs → install_of (e ∷ K) r ≡ installed e.what
+unfolding install_of
+install-now e K c r rs a n q = rw (a, n, q, eq-eqb r r refl)
+
+-- a request that is still to come
+install-above : (K : List Event) (r : ℕ) → length K ≤ r → install_of K r ≡ None
+unfolding install_of
+install-above [] r h = refl
+install-above (e ∷ K) r h = rw (call-at-above K r (omega arith)) (install-above K r (omega arith))
+
+pub install-new : (e : Event) (K : List Event) → install_of (e ∷ K) (length K) ≡ None
+unfolding install_of
+install-new e K = rw (call-at-above K (length K) (omega arith)) (install-above K (length K) (omega arith))
+
+-- what the event may do to the request of a calm call
+pub asked-calm : (e : Event) (K : List Event) (c w : ℕ) → Calm K e c → request_of (e ∷ K) w ≡ request_of K w → Asked K c w → Asked (e ∷ K) c w
+asked-calm e K c w m q a =
+    let l : a.r < length K = a.below in
+    let i = install-same e K c a.r a.for_call m.no_install in
+    record {
+      r = a.r;
+      mine = q ∙ a.mine;
+      below = omega arith;
+      sends = rw event_at-older a.sends;
+      for_call = call-at-older e K a.r l ∙ a.for_call;
+      state = go i a.state;
+    }
+  where
+    go : install_of (e ∷ K) a.r ≡ install_of K a.r → Done K c a.r → Done (e ∷ K) c a.r
+    go i (queued x y z) = queued (calm-queue e K c m ∙ x) (calm-settled e K c m ∙ y) (i ∙ z)
+    go i (gave_number n x y) = gave_number n (settled-more e K c x) (i ∙ y)
+    go i (failed x y z v) = failed x (calm-clean e K c m y) (i ∙ z) v
+
+pub stage-calm : (e : Event) (K : List Event) (c w : ℕ) (p : Option (Result (Unit {0}) ℕ)) (t : Option (Result ℕ ℕ)) → Calm K e c → request_of (e ∷ K) w ≡ request_of K w → StageOf K c w p t → StageOf (e ∷ K) c w p t
+stage-calm e K c w None t m q h = calm-clean e K c m h
+stage-calm e K c w (Some (Err x)) t m q h = calm-clean e K c m h
+stage-calm e K c w (Some (Ok u)) None m q h = asked-calm e K c w m q h
+stage-calm e K c w (Some (Ok u)) (Some t) m q h = calm-clean e K c m h
+
+-- the install of the call's request
+asked-install : (S : System) (e : Event) (K : List Event) (c w : ℕ) → request_of (e ∷ K) w ≡ request_of K w → installs_for K e c ≡ true → puts_to K e.what c ≡ false → Installing S K e.who e.what c → settled K c ≡ false → Asked K c w → Asked (e ∷ K) c w
+asked-install S e K c w q f np i op a =
+    let l : a.r < length K = a.below in
+    record {
+      r = a.r;
+      mine = q ∙ a.mine;
+      below = omega arith;
+      sends = rw event_at-older a.sends;
+      for_call = call-at-older e K a.r l ∙ a.for_call;
+      state = go a.state;
+    }
+  where
+    emptied : queue K c ≡ a.r ∷ [] → queue (e ∷ K) c ≡ []
+    emptied x = unfold queue in rw (np, f, x)
+
+    slot : (s : Slot) → e.what ≡ Install (slot_answer s) → queue K c ≡ a.r ∷ [] → settled K c ≡ false → install_of (e ∷ K) a.r ≡ installed e.what → Done (e ∷ K) c a.r
+    slot (Number n) h x y z = gave_number n (unfold settled in rw (f, h, x, a.sends) (or-true (answers K (Install (Ok n)) c) (settled K c))) (z ∙ ap installed h)
+      where
+        or-true : (u v : Bool) → ((u || true) || v) ≡ true
+        or-true u v = grind arith
+    slot Full h x y z = failed 9 (record { empty = emptied x; open' = unfold settled in rw (f, h, y) }) (z ∙ ap installed h) refl
+    slot Over h x y z = failed 24 (record { empty = emptied x; open' = unfold settled in rw (f, h, y) }) (z ∙ ap installed h) refl
+
+    go : Done K c a.r → Done (e ∷ K) c a.r
+    go (queued x y z) = slot (S.slot K c i.first) i.what_is x y (install-now e K c a.r [] a.for_call f x)
+    go (gave_number n x y) = absurd (clash (settled K c) op x)
+    go (failed x y z v) = absurd (no i.first i.rest (sym y.empty ∙ i.queue_is))
+      where
+        no : (r : ℕ) (rs : List ℕ) → [] ≡ r ∷ rs → ⊥
+        no r rs h = cc
+
+no-more : (r : ℕ) (rs : List ℕ) → [] ≡ r ∷ rs → ⊥
+no-more r rs h = cc
+
+pub stage-install : (S : System) (e : Event) (K : List Event) (c w : ℕ) (p : Option (Result (Unit {0}) ℕ)) (t : Option (Result ℕ ℕ)) → request_of (e ∷ K) w ≡ request_of K w → installs_for K e c ≡ true → puts_to K e.what c ≡ false → Installing S K e.who e.what c → settled K c ≡ false → StageOf K c w p t → StageOf (e ∷ K) c w p t
+stage-install S e K c w None t q f np i op h = absurd (no-more i.first i.rest (sym h.empty ∙ i.queue_is))
+stage-install S e K c w (Some (Err x)) t q f np i op h = absurd (no-more i.first i.rest (sym h.empty ∙ i.queue_is))
+stage-install S e K c w (Some (Ok u)) None q f np i op h = asked-install S e K c w q f np i op h
+stage-install S e K c w (Some (Ok u)) (Some t) q f np i op h = absurd (no-more i.first i.rest (sym h.empty ∙ i.queue_is))
+
+pub fetcher-fetched : (K : List Event) (c w : ℕ) → fetcher K c ≡ Some w → fetched K c ≡ true
+unfolding fetcher fetched
+fetcher-fetched [] c w h = cc
+fetcher-fetched (e ∷ K) c w h =
+    elim (cases_Bool (fetches e.what (id K c) && listed K c)) [
+      | inl q ↦ or_left (fetches e.what (id K c) && listed K c) (fetched K c) q
+      | inr q ↦ or_right (fetches e.what (id K c) && listed K c) (fetched K c) (fetcher-fetched K c w (rw q at h))
+    ]
+
+-- a fetched call is not fetched again
+pub refetch : (S : System) (R : Rules) (K : List Event) (a : Actor) (what : What) (c : ℕ) → IsLegal S R K → length K < 2 ^ 64 → Row S R K a what → fetched K c ≡ true → (fetches what (id K c) && listed K c) ≡ false
+refetch S R K a (Recv (Ok n)) c legal room r f =
+    let g = receiving S R K a (Ok n) r in
+    let d = fetching K n (oldest_unfetched K) refl g.1 in
+    false_from_ne_true _ (λ h.
+    let p = and_parts (n.id == id K c) (listed K c) h in
+    let m : d.0 ≡ c = ids_differ S R K legal room d.0 c d.2 p.1 (sym (ap (λ (x : Notif). x.id) d.1) ∙ eqb-true n.id (id K c) p.0) in
+    clash (fetched K d.0) d.3 (rw (← m) at f))
+refetch S R K a what c legal room r f = refl
+
+-- what is in hand was fetched by that worker
+hand-fetcher-kind : (S : System) (R : Rules) (K : List Event) (a : Actor) (what : What) (w c : ℕ) → IsLegal S R K → length K < 2 ^ 64 → Row S R K a what → is_worker a w ≡ true → session_call K w ≡ session_call K w → call_after K what (session_call K w) ≡ Some c → (session_call K w ≡ Some c) ⊎ (((fetches what (id K c) && listed K c) ≡ true) × (worker_of a ≡ Some w))
+hand-fetcher-kind S R K a (Recv (Ok n)) w c legal room r h z q =
+    let g = receiving S R K a (Ok n) r in
+    let d = fetching K n (oldest_unfetched K) refl g.1 in
+    let m : d.0 ≡ c = some-nat d.0 c (sym d.4 ∙ q) in
+    inr (rw (ap (λ (x : Notif). x.id) d.1, m, eq-eqb (id K c) (id K c) refl) (rw m at d.2), worker-is a w h)
+  where
+    some-nat : (x y : ℕ) → Some x ≡ Some y → x ≡ y
+    some-nat x y h = cc
+
+    worker-is : (a : Actor) (w : ℕ) → is_worker a w ≡ true → worker_of a ≡ Some w
+    worker-is (Worker v) w h = ap Some (eqb-true v w h)
+    worker-is a w h = cc
+hand-fetcher-kind S R K a LetGo w c legal room r h z q = cc
+hand-fetcher-kind S R K a what w c legal room r h z q = inl q
+
+pub fetcher-stays : (S : System) (R : Rules) (K : List Event) (e : Event) (w c : ℕ) → IsLegal S R K → length K < 2 ^ 64 → Row S R K e.who e.what → fetched K c ≡ true → fetcher K c ≡ Some w → fetcher (e ∷ K) c ≡ Some w
+fetcher-stays S R K e w c legal room r f h = fetcher-same e K c (refetch S R K e.who e.what c legal room r f) ∙ h
+
+no-call : (w c : ℕ) → session_call [] w ≡ Some c → ⊥
+unfolding session_call
+no-call w c h = cc
+
+pub hand-fetcher : (S : System) (R : Rules) (K : List Event) → IsLegal S R K → length K < 2 ^ 64 → (w c : ℕ) → session_call K w ≡ Some c → fetcher K c ≡ Some w
+hand-fetcher S R [] legal room = λ w c h. absurd (no-call w c h)
+hand-fetcher S R (e ∷ []) legal room = λ w c h. absurd (start-none w c h)
+  where
+    start-none : (w c : ℕ) → session_call (e ∷ []) w ≡ Some c → ⊥
+    start-none w c h = let q : is_worker e.who w ≡ false = ap (λ (d : Event). is_worker d.who w) legal.0 in no-call w c (sym (call-same e [] w q) ∙ h)
+hand-fetcher S R (e ∷ f ∷ K) legal room = λ w c h.
+    let row = row-of S R (f ∷ K) e legal.0 (omega arith) in
+    elim (cases_Bool (is_worker e.who w)) [
+      | inl q ↦ elim (hand-fetcher-kind S R (f ∷ K) e.who e.what w c legal.1 (omega arith) row q refl (sym (call-more e (f ∷ K) w q) ∙ h)) [
+        | inl p ↦ let x = hand-fetcher S R (f ∷ K) legal.1 (omega arith) w c p in fetcher-stays S R (f ∷ K) e w c legal.1 (omega arith) row (fetcher-fetched (f ∷ K) c w x) x
+        | inr p ↦ fetcher-now e (f ∷ K) c p.0 ∙ p.1
+      ]
+      | inr q ↦ let x = hand-fetcher S R (f ∷ K) legal.1 (omega arith) w c (sym (call-same e (f ∷ K) w q) ∙ h) in fetcher-stays S R (f ∷ K) e w c legal.1 (omega arith) row (fetcher-fetched (f ∷ K) c w x) x
+    ]
+
+-- a worker answers and asks only for the call that it has in hand
+named-hand : (S : System) (R : Rules) (K : List Event) (v c x : ℕ) (n : Notif) → IsLegal S R K → length K < 2 ^ 64 → AtWork (session K v) n → x ≡ n.id → is_place (named K x) c ≡ true → session_call K v ≡ Some c
+named-hand S R K v c x n legal room work q h =
+    let j = in-hand K v (session_call K v) n work (hand S R K legal v) in
+    let y : x ≡ j.2.n.id = q ∙ ap (λ (z : Notif). z.id) (sym j.3) in
+    let m : named K j.2.n.id ≡ Some c = rw (← y) (place (named K x) h) in
+    j.1 ∙ ap Some (sym (names-own S R K v j.0 c legal room j.2 m))
+  where
+    place : (o : Option ℕ) → is_place o c ≡ true → o ≡ Some c
+    place None h = cc
+    place (Some d) h = ap Some (eqb-true d c h)
+
+pub acts-own : (S : System) (R : Rules) (K : List Event) (v c : ℕ) (what : What) → IsLegal S R K → length K < 2 ^ 64 → WorkerRow S R K v what → (puts_to K what c || answers K what c) ≡ true → session_call K v ≡ Some c
+acts-own S R K v c (AddfdPut q (Ok u)) legal room r h =
+    let t = deed-is R (session K v) _ r.0 in
+    named-hand S R K v c q.id t.0 legal room t.1 (ap (λ (z : Addfd). z.id) t.4.is ∙ id-of t.4.src t.4.place t.4.flags t.0.id) (grind arith)
+  where
+    id-of : (src : ℕ) (p : Option ℕ) (fl x : ℕ) → (addfd_of x src p fl).id ≡ x
+    id-of src None fl x = refl
+    id-of src (Some at) fl x = refl
+acts-own S R K v c (Send x b (Ok u)) legal room r h =
+    let t = deed-is R (session K v) _ r.0 in
+    named-hand S R K v c x t.0 legal room t.1 t.4 (grind arith)
+acts-own S R K v c what legal room r h = cc
+
+-- a call that its worker let go of is not in hand again
+pub stays-gone : (S : System) (R : Rules) (K : List Event) (e : Event) (w c : ℕ) → IsLegal S R K → length K < 2 ^ 64 → Row S R K e.who e.what → fetched K c ≡ true → (session_call K w ≡ Some c → ⊥) → session_call (e ∷ K) w ≡ Some c → ⊥
+stays-gone S R K e w c legal room r f n h =
+    elim (cases_Bool (is_worker e.who w)) [
+      | inl q ↦ elim (hand-fetcher-kind S R K e.who e.what w c legal room r q refl (sym (call-more e K w q) ∙ h)) [
+        | inl p ↦ n p
+        | inr p ↦ clash (fetches e.what (id K c) && listed K c) (refetch S R K e.who e.what c legal room r f) p.0
+      ]
+      | inr q ↦ n (sym (call-same e K w q) ∙ h)
+    ]

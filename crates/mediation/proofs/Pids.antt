@@ -1,0 +1,107 @@
+-- Unreaped tasks have different process numbers.
+use Rattle.std.proofs.Common.{◌≡◌, inl, inr, ℕ, zero, suc, ◌+◌, ◌-◌, ◌<◌, ◌≤◌, Bool, true, false, ◌&&◌, not, List, [], ◌∷◌, length, Option, Some, None, refl, sym, ap, ◌∙◌, arith}
+use Rattle.std.specs.Prelude.{if◌then◌else◌}
+use Rattle.std.proofs.lemmas.Bool.{cases_order, eqb-true, or_right}
+use Rattle.hist_model.specs.Look.{Name, newest, is_task, or_else}
+use Rattle.hist_model.specs.Tasks.{ended, was_waited_for, reaped, ends, holds, holder, pid_of, name_of, given, is_some_of, free_from, next_pid, last_pid, is_none}
+use Rattle.hist_model.specs.Sessions.{Rules}
+use Rattle.hist_model.specs.Systems.{System}
+use Rattle.hist_model.specs.Steps.{IsStep, IsLegal, spawn_answer}
+use Rattle.hist_model.specs.Laws.{PidsDiffer}
+use Rattle.hist_model.specs.declared.event.Event.{Event}
+use Rattle.hist_model.specs.declared.event.Actor.{Actor}
+use Rattle.hist_model.specs.declared.event.Actor.TheVariants.{Start, Task, Worker, Listener}
+use Rattle.hist_model.specs.declared.event.What.{What}
+use Rattle.hist_model.specs.declared.event.What.TheVariants.{Spawn}
+use Rattle.hist_model.specs.declared.event.SpawnKind.{SpawnKind}
+use Rattle.hist_model.proofs.Look.{event_at-here, event_at-older, event_at-above, below_or_last, newest-found}
+use Rattle.mediation.proofs.Rows.{Row, step-row}
+
+pub ended-more : (e : Event) (K : List Event) (n : Name) → ended K n ≡ true → ended (e ∷ K) n ≡ true
+unfolding ended
+ended-more e K n h = or_right (ends e.what && is_task e.who n) (ended K n) h
+
+pub reaped-more : (e : Event) (K : List Event) (n : Name) → reaped K n ≡ true → reaped (e ∷ K) n ≡ true
+unfolding reaped ended was_waited_for
+reaped-more e K n h = grind arith
+
+-- a task that is not reaped was not reaped before
+holds-less : (e : Event) (K : List Event) (p t : ℕ) → t < length K → holds (e ∷ K) p t ≡ true → holds K p t ≡ true
+holds-less e K p t l h =
+    let h' : (is_some_of (pid_of K t) p && not (reaped (e ∷ K) (name_of K t))) ≡ true = rw event_at-older at h in
+    let m = reaped-more e K (name_of K t) in
+    grind arith
+
+holds-below : (K : List Event) (p t : ℕ) → holds K p t ≡ true → t < length K
+holds-below K p t h = elim (cases_order t (length K)) [
+  | inl q ↦ let a : length K ≤ t = omega arith in let h' : (false && not (reaped K [])) ≡ true = rw event_at-above at h in cc
+  | inr q ↦ elim q [ inl q ↦ q | inr q ↦ let a : length K ≤ t = omega arith in let h' : (false && not (reaped K [])) ≡ true = rw event_at-above at h in cc ]
+]
+
+-- the new task's number
+holds-here : (e : Event) (K : List Event) (p : ℕ) → holds (e ∷ K) p (length K) ≡ true → given e.what ≡ Some p
+holds-here e K p h = is-given (given e.what) _ (rw event_at-here at h)
+  where
+    is-given : (g : Option ℕ) (b : Bool) → (is_some_of g p && b) ≡ true → g ≡ Some p
+    is-given None b h = cc
+    is-given (Some q) b h = ap Some (eqb-true q p (grind arith))
+
+free-none : (K : List Event) (n q p : ℕ) → free_from K n q ≡ Some p → holder K p ≡ None
+unfolding free_from
+free-none K zero q p e = cc
+free-none K (suc n) q p e = go (holder K q) refl e (free-none K n (q + 1) p)
+  where
+    go : (r : Option ℕ) → holder K q ≡ r → (if is_none r then Some q else free_from K n (q + 1)) ≡ Some p → (free_from K n (q + 1) ≡ Some p → holder K p ≡ None) → holder K p ≡ None
+    go None h e ih = let s : q ≡ p = cc in rw (← s) h
+    go (Some t) h e ih = ih e
+
+next-none : (b m : ℕ) (K : List Event) (p : ℕ) → next_pid b m K ≡ Some p → holder K p ≡ None
+unfolding next_pid
+next-none b m K p e = go (free_from K (b + m - last_pid b K) (last_pid b K + 1)) refl e
+  where
+    go : (r : Option ℕ) → free_from K (b + m - last_pid b K) (last_pid b K + 1) ≡ r → or_else r (free_from K (last_pid b K - b) (b + 1)) ≡ Some p → holder K p ≡ None
+    go (Some q) h e = free-none K (b + m - last_pid b K) (last_pid b K + 1) p (h ∙ e)
+    go None h e = free-none K (last_pid b K - b) (b + 1) p e
+
+-- a number that is free is held by no unreaped task
+free-held : (K : List Event) (p t : ℕ) → holder K p ≡ None → holds K p t ≡ true → ⊥
+unfolding holder
+free-held K p t e h = newest-found (holds K p) (length K) t (holds-below K p t h) h e
+
+-- a step that gives a number gives a free one
+given-is-next : (S : System) (R : Rules) (K : List Event) (a : Actor) (w : What) (p : ℕ) → Row S R K a w → given w ≡ Some p → next_pid S.pidbase S.pidmax K ≡ Some p
+given-is-next S R K (Task n) (Spawn m a) p r g = from-answer (next_pid S.pidbase S.pidmax K) r.2.0 (rw r.2.1 at g)
+  where
+    from-answer : (o : Option ℕ) (kind : SpawnKind) → given (Spawn m (spawn_answer o kind)) ≡ Some p → o ≡ Some p
+    from-answer None kind g = cc
+    from-answer (Some q) kind g = g
+given-is-next S R K (Worker v) (Spawn m a) p r g = absurd r
+given-is-next S R K Start (Spawn m a) p r g = cc
+given-is-next S R K Listener (Spawn m a) p r g = cc
+given-is-next S R K a w p r g = cc
+
+new-free : (S : System) (R : Rules) (K : List Event) (e : Event) (p : ℕ) → IsStep S R K e → given e.what ≡ Some p → holder K p ≡ None
+unfolding holder newest
+new-free S R [] e p r g = refl
+new-free S R (f ∷ K) e p r g = next-none S.pidbase S.pidmax (f ∷ K) p (given-is-next S R (f ∷ K) e.who e.what p (rw (← r.2) at (step-row S R (f ∷ K) e.who)) g)
+
+-- the new task's number is nobody else's
+new-differs : (S : System) (R : Rules) (K : List Event) (e : Event) (p t : ℕ) → IsStep S R K e → holds (e ∷ K) p t ≡ true → holds (e ∷ K) p (length K) ≡ true → t < length K → ⊥
+new-differs S R K e p t r h g l = free-held K p t (new-free S R K e p r (holds-here e K p g)) (holds-less e K p t l h)
+
+pids-step : (S : System) (R : Rules) (K : List Event) (e : Event) → IsStep S R K e → PidsDiffer K → PidsDiffer (e ∷ K)
+pids-step S R K e r ih p t u h g =
+    elim (below_or_last t (length K) (holds-below (e ∷ K) p t h)) [
+      | inl l ↦ elim (below_or_last u (length K) (holds-below (e ∷ K) p u g)) [
+        | inl m ↦ ih p t u (holds-less e K p t l h) (holds-less e K p u m g)
+        | inr m ↦ absurd (new-differs S R K e p t r h (rw m at g) l)
+      ]
+      | inr l ↦ elim (below_or_last u (length K) (holds-below (e ∷ K) p u g)) [
+        | inl m ↦ absurd (new-differs S R K e p u r g (rw l at h) m)
+        | inr m ↦ l ∙ sym m
+      ]
+    ]
+
+pub pids_differ : (S : System) (R : Rules) (K : List Event) → IsLegal S R K → PidsDiffer K
+pids_differ S R [] legal = λ p t u h g. absurd (omega (arith, holds-below [] p t h))
+pids_differ S R (e ∷ K) legal = pids-step S R K e legal.0 (pids_differ S R K legal.1)

@@ -1,0 +1,49 @@
+-- The places of tasks, and their groups, stay.
+use Rattle.std.proofs.Common.{◌≡◌, inl, inr, ℕ, ◌<◌, true, ◌&&◌, List, [], ◌∷◌, length, Option, Some, None, refl, ◌∙◌, arith}
+use Rattle.std.specs.Prelude.{Ok}
+use Rattle.std.proofs.lemmas.Bool.{and_parts, or_cases, ne_eqb}
+use Rattle.hist_model.specs.Look.{Name, name_eq, event_at}
+use Rattle.hist_model.specs.Tasks.{is_made, makes, child_of, name_of, given, given_in}
+use Rattle.hist_model.specs.Steps.{task_place, makes_in, group, pid_or}
+use Rattle.hist_model.specs.declared.event.Event.{Event}
+use Rattle.hist_model.specs.declared.event.What.{What}
+use Rattle.hist_model.specs.declared.event.What.TheVariants.{Spawn}
+use Rattle.hist_model.proofs.Look.{event_at-here, event_at-older, oldest-same, oldest-found, oldest-stays, oldest-some}
+
+pub place-stays : (e : Event) (K : List Event) (n : Name) (t : ℕ) → task_place K n ≡ Some t → task_place (e ∷ K) n ≡ Some t
+unfolding task_place
+place-stays e K n t q =
+    let same = oldest-same (λ u. makes_in (event_at (e ∷ K) u) && name_eq (name_of (e ∷ K) u) n) (λ u. makes_in (event_at K u) && name_eq (name_of K u) n) (length K) (λ u l. rw event_at-older) in
+    oldest-stays (λ u. makes_in (event_at (e ∷ K) u) && name_eq (name_of (e ∷ K) u) n) (length K) t (same ∙ q)
+
+pub place-is : (K : List Event) (n : Name) (t : ℕ) → task_place K n ≡ Some t → (makes_in (event_at K t) ≡ true) × (name_eq (name_of K t) n ≡ true) × (t < length K)
+unfolding task_place
+place-is K n t q =
+    let s = oldest-some (λ u. makes_in (event_at K u) && name_eq (name_of K u) n) (length K) t q in
+    let p = and_parts (makes_in (event_at K t)) (name_eq (name_of K t) n) s.0 in
+    (p.0, p.1, s.1)
+
+made-somewhere : (K : List Event) (n : Name) → is_made K n ≡ true → (t : ℕ) × (t < length K) × ((makes_in (event_at K t) && name_eq (name_of K t) n) ≡ true)
+unfolding is_made
+made-somewhere [] n h = cc
+made-somewhere (e ∷ K) n h =
+    elim (or_cases (makes e.what && name_eq (child_of e.what) n) (is_made K n) h) [
+      | inl q ↦ (length K, omega arith, rw event_at-here q)
+      | inr q ↦ let m = made-somewhere K n q in (m.0, omega (arith, m.1), let l : m.0 < length K = m.1 in rw event_at-older m.2)
+    ]
+
+pub made-place : (K : List Event) (n : Name) → is_made K n ≡ true → (t : ℕ) × (task_place K n ≡ Some t)
+unfolding task_place
+made-place K n h = let m = made-somewhere K n h in oldest-found (λ u. makes_in (event_at K u) && name_eq (name_of K u) n) (length K) m.0 m.1 m.2
+
+makes-given : (w : What) → makes w ≡ true → given w ≡ Some (pid_or (given w))
+makes-given (Spawn n (Ok a)) h = refl
+makes-given w h = cc
+
+pub makes-pid : (o : Option Event) → makes_in o ≡ true → given_in o ≡ Some (pid_or (given_in o))
+makes-pid None h = cc
+makes-pid (Some e) h = makes-given e.what h
+
+pub group-older : (e : Event) (K : List Event) (t : ℕ) → t < length K → group (e ∷ K) t ≡ group K t
+unfolding group
+group-older e K t l = let n : (t ≡ length K → ⊥) = omega arith in rw (ne_eqb t (length K) n)

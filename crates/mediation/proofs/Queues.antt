@@ -1,0 +1,183 @@
+-- What changes a call's requests and its answer.
+use Rattle.std.proofs.Common.{◌≡◌, inl, inr, ℕ, ◌<◌, ◌≤◌, Bool, true, false, ◌&&◌, not, List, [], ◌∷◌, ◌++◌, length, Option, Some, None, refl, sym, ap, ◌∙◌, arith}
+use Rattle.std.specs.Prelude.{if◌then◌else◌, ◌==◌, Result, Ok, Err}
+use Rattle.std.proofs.lemmas.Bool.{cases_Bool, and_parts, or_right, eqb-true, ne_eqb, eq-eqb, false_from_ne_true}
+use Rattle.hist_model.specs.Look.{is_place, is_task, oldest, task_name}
+use Rattle.hist_model.specs.Calls.{listed, fetched, caller, id, named, answers, settled, settles, waiting, puts_to, installs_for, is_install, queue, rest_of, has_send_flag}
+use Rattle.hist_model.specs.Signals.{call_of}
+use Rattle.hist_model.specs.Sessions.{Rules}
+use Rattle.hist_model.specs.Systems.{System}
+use Rattle.hist_model.specs.Steps.{IsLegal, call_at, asked_call, is_first, install_step, slot_answer, put_answer, is_empty}
+use Rattle.hist_model.specs.declared.event.Event.{Event}
+use Rattle.hist_model.specs.declared.event.Actor.{Actor}
+use Rattle.hist_model.specs.declared.event.Actor.TheVariants.{Start, Task, Worker, Listener}
+use Rattle.hist_model.specs.declared.event.What.{What}
+use Rattle.hist_model.specs.declared.event.What.TheVariants.{AddfdPut, Install, Send}
+use Rattle.sys_abi.specs.declared.wire.Addfd.{Addfd}
+use Rattle.hist_model.proofs.Look.{oldest-some, name_eq-true}
+use Rattle.mediation.proofs.Rows.{Row}
+use Rattle.mediation.proofs.Own.{waits-in, listed-below}
+
+-- nothing is asked of the call, and it is not answered
+pub record Clean (K : List Event) (c : ℕ) : Type 0 where
+  pub empty : queue K c ≡ []
+  pub open' : settled K c ≡ false
+
+-- the event does nothing to the call
+pub record Calm (K : List Event) (e : Event) (c : ℕ) : Type 0 where
+  pub no_put : puts_to K e.what c ≡ false
+  pub no_install : installs_for K e c ≡ false
+  pub no_answer : answers K e.what c ≡ false
+
+pub calm-queue : (e : Event) (K : List Event) (c : ℕ) → Calm K e c → queue (e ∷ K) c ≡ queue K c
+unfolding queue
+calm-queue e K c m = rw (m.no_put, m.no_install)
+
+pub calm-settled : (e : Event) (K : List Event) (c : ℕ) → Calm K e c → settled (e ∷ K) c ≡ settled K c
+unfolding settled
+calm-settled e K c m = rw (m.no_answer, m.no_install)
+
+pub calm-clean : (e : Event) (K : List Event) (c : ℕ) → Calm K e c → Clean K c → Clean (e ∷ K) c
+calm-clean e K c m k = record { empty = calm-queue e K c m ∙ k.empty; open' = calm-settled e K c m ∙ k.open' }
+
+pub settled-more : (e : Event) (K : List Event) (c : ℕ) → settled K c ≡ true → settled (e ∷ K) c ≡ true
+unfolding settled
+settled-more e K c h = or_right (settles K e c) (settled K c) h
+
+pub clean-waiting : (K : List Event) (c : ℕ) → listed K c ≡ true → fetched K c ≡ true → Clean K c → waiting K c ≡ true
+clean-waiting K c l f k = rw (l, f, k.open', k.empty)
+
+-- a place that is named is a place below
+named-below : (K : List Event) (x c : ℕ) → is_place (named K x) c ≡ true → c < length K
+unfolding named
+named-below K x c h = go (oldest (λ d. listed K d && (id K d == x)) (length K)) refl h
+  where
+    go : (o : Option ℕ) → oldest (λ d. listed K d && (id K d == x)) (length K) ≡ o → is_place o c ≡ true → c < length K
+    go None q h = cc
+    go (Some d) q h = let s = oldest-some (λ d. listed K d && (id K d == x)) (length K) d q in omega (arith, eqb-true d c h)
+
+pub put-below : (K : List Event) (w : What) (c : ℕ) → puts_to K w c ≡ true → c < length K
+put-below K (AddfdPut q (Ok u)) c h = named-below K q.id c h
+put-below K w c h = cc
+
+pub answer-below : (K : List Event) (w : What) (c : ℕ) → answers K w c ≡ true → c < length K
+answer-below K (Send x b (Ok u)) c h = named-below K x c h
+answer-below K w c h = cc
+
+-- nothing happens to a place that is still to come
+pub calm-above : (K : List Event) (e : Event) (c : ℕ) → length K ≤ c → Calm K e c
+calm-above K e c h = record {
+  no_put = false_from_ne_true (puts_to K e.what c) (λ q. omega (arith, put-below K e.what c q));
+  no_install = false_from_ne_true (installs_for K e c) (λ q.
+      let p = (and_parts (is_install e.what) (is_task e.who (caller K c) && listed K c) q).1 in
+      omega (arith, listed-below K c (and_parts (is_task e.who (caller K c)) (listed K c) p).1));
+  no_answer = false_from_ne_true (answers K e.what c) (λ q. omega (arith, answer-below K e.what c q));
+}
+
+pub clean-above : (K : List Event) (c : ℕ) → length K ≤ c → Clean K c
+clean-above [] c h = record { empty = unfold queue in refl; open' = unfold settled in refl }
+clean-above (e ∷ K) c h = let l : length K ≤ c = omega arith in calm-clean e K c (calm-above K e c l) (clean-above K c l)
+
+-- a request goes to a waiting call
+put-ok : (S : System) (K : List Event) (q : Addfd) (c : ℕ) (u : Unit {0}) (b : Bool) (o : Option ℕ) → is_place o c ≡ true → ◌≡◌ {A = Result (Unit {0}) ℕ} (Ok u) (if b then Err 9 else put_answer S K q o) → waiting K c ≡ true
+put-ok S K q c u true o h g = absurd (no u g)
+  where
+    no : (u : Unit {0}) → ◌≡◌ {A = Result (Unit {0}) ℕ} (Ok u) (Err 9) → ⊥
+    no u h = cc
+put-ok S K q c u false None h g = cc
+put-ok S K q c u false (Some d) h g = rw (eqb-true d c h) at (go d (waiting K d) (if has_send_flag q && not (is_empty (queue K d)) then Err 16 else Ok tt) refl g)
+  where
+    go : (d : ℕ) (x : Bool) (r : Result (Unit {0}) ℕ) → waiting K d ≡ x → ◌≡◌ {A = Result (Unit {0}) ℕ} (Ok u) (if not x then Err 115 else r) → waiting K d ≡ true
+    go d true r p g = p
+    go d false r p g = absurd (no u g)
+      where
+        no : (u : Unit {0}) → ◌≡◌ {A = Result (Unit {0}) ℕ} (Ok u) (Err 115) → ⊥
+        no u h = cc
+
+pub puts-waiting : (S : System) (R : Rules) (K : List Event) (a : Actor) (w : What) (c : ℕ) → Row S R K a w → puts_to K w c ≡ true → waiting K c ≡ true
+puts-waiting S R K (Worker v) (AddfdPut q (Ok u)) c r h = put-ok S K q c u (not (S.source q.srcfd)) (named K q.id) h r.1
+puts-waiting S R K (Task n) (AddfdPut q (Ok u)) c r h = absurd r
+puts-waiting S R K Start (AddfdPut q (Ok u)) c r h = cc
+puts-waiting S R K Listener (AddfdPut q (Ok u)) c r h = cc
+puts-waiting S R K a w c r h = cc
+
+-- an install belongs to the first request of its task's call
+pub record Installing (S : System) (K : List Event) (a : Actor) (w : What) (c : ℕ) : Type 0 where
+  pub first : ℕ
+  pub rest : List ℕ
+  pub queue_is : queue K c ≡ first ∷ rest
+  pub what_is : w ≡ Install (slot_answer (S.slot K c first))
+  pub call_is : call_of K (task_name a) ≡ Some c
+
+pub install-first : (S : System) (K : List Event) (a : Actor) (x : Result ℕ ℕ) (c : ℕ) (rs : List ℕ) → queue K c ≡ rs → call_of K (task_name a) ≡ Some c → Install x ≡ install_step S K c rs → Installing S K a (Install x) c
+install-first S K a x c [] q k h = cc
+install-first S K a x c (r ∷ rs) q k h = record { first = r; rest = rs; queue_is = q; what_is = h; call_is = k }
+
+pub installing : (S : System) (R : Rules) (K : List Event) (a : Actor) (w : What) (c : ℕ) → IsLegal S R K → Row S R K a w → is_install w ≡ true → is_task a (caller K c) ≡ true → listed K c ≡ true → Installing S K a w c
+installing S R K (Task n) (Install x) c legal r h g l =
+    let m = name_eq-true n (caller K c) g in
+    let s = waits-in S R K n c r.1.0 legal r.1.1 l (sym m) in
+    install-first S K (Task n) x c (queue K c) refl (rw s at r.1.1) (rw s at r.1.3)
+installing S R K (Task n) w c legal r h g l = cc
+installing S R K a w c legal r h g l = cc
+
+-- each request in a queue was put for that call
+pub Asks : List Event → ℕ → List ℕ → Type 0
+Asks K c [] = Unit {0}
+Asks K c (r ∷ rs) = (r < length K) × (call_at K r ≡ Some c) × Asks K c rs
+
+call-older : (e : Event) (K : List Event) (r : ℕ) → r < length K → call_at (e ∷ K) r ≡ call_at K r
+unfolding call_at
+call-older e K r l = let n : (r ≡ length K → ⊥) = omega arith in rw (ne_eqb r (length K) n)
+
+pub call-at-older : (e : Event) (K : List Event) (r : ℕ) → r < length K → call_at (e ∷ K) r ≡ call_at K r
+call-at-older e K r l = call-older e K r l
+
+pub call-at-above : (K : List Event) (r : ℕ) → length K ≤ r → call_at K r ≡ None
+unfolding call_at
+call-at-above [] r h = refl
+call-at-above (e ∷ K) r h = let n : (r ≡ length K → ⊥) = omega arith in rw (ne_eqb r (length K) n) (call-at-above K r (omega arith))
+
+pub call-at-here : (e : Event) (K : List Event) → call_at (e ∷ K) (length K) ≡ asked_call K e.what
+unfolding call_at
+call-at-here e K = rw (eq-eqb (length K) (length K) refl)
+
+asks-later : (e : Event) (K : List Event) (c : ℕ) (rs : List ℕ) → Asks K c rs → Asks (e ∷ K) c rs
+unfolding Asks
+asks-later e K c [] h = tt
+asks-later e K c (r ∷ rs) h = let l : r < length K = h.0 in (omega arith, call-older e K r l ∙ h.1, asks-later e K c rs h.2)
+
+asks-rest : (K : List Event) (c : ℕ) (rs : List ℕ) → Asks K c rs → Asks K c (rest_of rs)
+unfolding Asks
+asks-rest K c [] h = tt
+asks-rest K c (r ∷ rs) h = h.2
+
+asks-push : (K : List Event) (c r : ℕ) (rs : List ℕ) → Asks K c rs → r < length K → call_at K r ≡ Some c → Asks K c (rs ++ r ∷ [])
+unfolding Asks
+asks-push K c r [] h l q = (l, q, tt)
+asks-push K c r (x ∷ rs) h l q = (h.0, h.1, asks-push K c r rs h.2 l q)
+
+pub put-call : (K : List Event) (w : What) (c : ℕ) → puts_to K w c ≡ true → asked_call K w ≡ Some c
+put-call K (AddfdPut q (Ok u)) c h = go (named K q.id) h
+  where
+    go : (o : Option ℕ) → is_place o c ≡ true → o ≡ Some c
+    go None h = cc
+    go (Some d) h = ap Some (eqb-true d c h)
+put-call K w c h = cc
+
+pub queue-asks : (K : List Event) (c : ℕ) → Asks K c (queue K c)
+unfolding queue
+queue-asks [] c = unfold Asks in tt
+queue-asks (e ∷ K) c =
+    elim (cases_Bool (puts_to K e.what c)) [
+      | inl q ↦ rw q (asks-push (e ∷ K) c (length K) (queue K c) (asks-later e K c (queue K c) (queue-asks K c)) (omega arith) (call-at-here e K ∙ put-call K e.what c q))
+      | inr q ↦ rw q (elim (cases_Bool (installs_for K e c)) [
+        | inl p ↦ rw p (asks-later e K c (rest_of (queue K c)) (asks-rest K c (queue K c) (queue-asks K c)))
+        | inr p ↦ rw p (asks-later e K c (queue K c) (queue-asks K c))
+      ])
+    ]
+
+-- the first request of a queue was put for its call
+pub first-asks : (K : List Event) (c r : ℕ) (rs : List ℕ) → queue K c ≡ rs → is_first rs r ≡ true → call_at K r ≡ Some c
+first-asks K c r [] q h = cc
+first-asks K c r (x ∷ rs) q h = unfold Asks in rw (eqb-true x r h) at ((rw q at (queue-asks K c)).1)

@@ -1,0 +1,348 @@
+-- Answers: whose they are, what causes them, and when they tell that a call is gone.
+use Rattle.std.proofs.Common.{◌≡◌, Bool, ◌⊎◌, inl, inr, ℕ, ◌<◌, ◌^◌, true, false, List, [], ◌∷◌, length, refl, ap, arith, ◌||◌, not, ◌∙◌, sym, None, Some, Option}
+use Rattle.std.specs.Prelude.{Result, Ok, Err, ◌==◌, if◌then◌else◌}
+use Rattle.std.proofs.lemmas.Bool.{or_cases, eqb-true, eq-eqb, false_from_ne_true, cases_Bool}
+use Rattle.hist_model.specs.Look.{is_worker, Name, is_place}
+use Rattle.hist_model.specs.Calls.{listed, named, waiting, queue, puts_to, answers}
+use Rattle.hist_model.specs.Sessions.{Rules, session, Answer, Put, addfd_of}
+use Rattle.hist_model.specs.Systems.{System, Slot, Number, Full, Over}
+use Rattle.hist_model.specs.Steps.{IsStep, IsLegal, session_call, start, is_start, send_answer, put_answer, check_answer, take_step, install_of, install_at, install_step, installed, installs_request, request_of, request_listed, call_at, slot_answer}
+use Rattle.hist_model.specs.Settlers.{InstallsOwn, ResumesOwn, ReturnsInstalled}
+use Rattle.hist_model.specs.Mediated.{HasCause, NeverBusy, is_busy, ErrorsKnown, is_known_error, TakenByItsActor, takes, Each, NamesOwn, is_accepted, LostIfGone, is_lost}
+use Rattle.mediation.proofs.Own.{row-of}
+use Rattle.mediation.proofs.Settlers.{installs-own, resumes-own, returns-installed}
+use Rattle.mediation.proofs.Names.{named-is, names-own}
+use Rattle.sys_abi.specs.declared.wire.Addfd.{Addfd}
+use Rattle.sys_abi.specs.declared.wire.Notif.{Notif}
+use Rattle.hist_model.specs.declared.event.Event.{Event}
+use Rattle.hist_model.specs.declared.event.Actor.{Actor}
+use Rattle.hist_model.specs.declared.event.Actor.TheVariants.{Worker, Start, Task, Listener}
+use Rattle.hist_model.specs.declared.event.What.{What}
+use Rattle.hist_model.specs.declared.event.Back.{Back}
+use Rattle.hist_model.specs.declared.event.What.TheVariants.{Spawn, Poke, Handler, Enter, Native, Install, Resume, Signal, Deliver, Reap, Exit, Recv, OpenMem, OpenBase, Check, Read, Act, Plant, AddfdPut, AddfdTake, Send, LetGo, Skip}
+use Rattle.mediation.proofs.Rows.{Row, WorkerRow, TaskRow}
+use Rattle.mediation.proofs.Deeds.{deed-is, AtWork}
+use Rattle.mediation.proofs.Work.{InSession, hand, hand-notif, worker-row, in-hand, works, at-work}
+use Rattle.mediation.proofs.Sequence.{is-own}
+use Rattle.mediation.proofs.Phases.{AtCall, acts-own}
+use Rattle.mediation.proofs.Answered.{check-is, send-is, put-is, take-is, open-is, base-is}
+use Rattle.mediation.proofs.Waiting.{at-call}
+use Rattle.mediation.proofs.Ordered.{ordered, used-two}
+
+pub each : (S : System) (R : Rules) (P : List Event → Event → Type 0) → ((K : List Event) (e : Event) → IsLegal S R K → length K < 2 ^ 64 → IsStep S R K e → P K e)
+    → (K : List Event) → IsLegal S R K → length K < 2 ^ 64 → Each P K
+each S R P f [] legal room = tt
+each S R P f (e ∷ K) legal room = (f K e legal.1 (omega arith) legal.0, each S R P f K legal.1 (omega arith))
+
+clash : (b : Bool) → b ≡ false → b ≡ true → ⊥
+clash b g h = cc
+
+-- the first event, or a step of its actor
+pub row-or-start : (S : System) (R : Rules) (K : List Event) (e : Event) → IsStep S R K e → (e ≡ start S) ⊎ ((is_start e.who ≡ false) × Row S R K e.who e.what)
+row-or-start S R [] e r = inl r
+row-or-start S R (f ∷ K) e r = inr (r.1, row-of S R (f ∷ K) e r (omega arith))
+
+-- the kinds of an actor's steps
+takes-row : (S : System) (R : Rules) (K : List Event) (a : Actor) (what : What) → is_start a ≡ false → Row S R K a what → takes a what ≡ true
+takes-row S R K Start what n r = cc
+takes-row S R K Listener what n r = rw r
+takes-row S R K (Task m) (Spawn n a) q r = refl
+takes-row S R K (Task m) (Poke x b) q r = refl
+takes-row S R K (Task m) (Handler s mode) q r = refl
+takes-row S R K (Task m) (Enter nr args v) q r = refl
+takes-row S R K (Task m) (Native a) q r = refl
+takes-row S R K (Task m) (Install a) q r = refl
+takes-row S R K (Task m) (Resume b) q r = refl
+takes-row S R K (Task m) (Signal p s a) q r = refl
+takes-row S R K (Task m) (Deliver s effect) q r = refl
+takes-row S R K (Task m) (Reap a) q r = refl
+takes-row S R K (Task m) Exit q r = refl
+takes-row S R K (Task m) Skip q r = refl
+takes-row S R K (Task m) _ q r = absurd r
+takes-row S R K (Worker w) (Recv a) q r = refl
+takes-row S R K (Worker w) (OpenMem p a) q r = refl
+takes-row S R K (Worker w) (OpenBase p d a) q r = refl
+takes-row S R K (Worker w) (Check x a) q r = refl
+takes-row S R K (Worker w) (Read x l a) q r = refl
+takes-row S R K (Worker w) (Act x cap a) q r = refl
+takes-row S R K (Worker w) (Plant x b cap a) q r = refl
+takes-row S R K (Worker w) (AddfdPut x a) q r = refl
+takes-row S R K (Worker w) (AddfdTake a) q r = refl
+takes-row S R K (Worker w) (Send x b a) q r = refl
+takes-row S R K (Worker w) LetGo q r = refl
+takes-row S R K (Worker w) Skip q r = refl
+takes-row S R K (Worker w) _ q r = absurd r
+
+pub taken-by-its-actor : (S : System) (R : Rules) (K : List Event) (e : Event) → IsLegal S R K → length K < 2 ^ 64 → IsStep S R K e → TakenByItsActor K e
+taken-by-its-actor S R K e legal room r = elim (row-or-start S R K e r) [
+  | inl q ↦ rw q
+  | inr q ↦ takes-row S R K e.who e.what q.0 q.1
+]
+
+pub by-worker : (S : System) (R : Rules) (K : List Event) (e : Event) (w : ℕ) → IsStep S R K e → e.who ≡ Worker w → WorkerRow S R K w e.what
+by-worker S R K e w r q = worker-row S R K e w r (rw q (eq-eqb w w refl))
+
+-- what an accepted step names
+sent-some : (K : List Event) (o : Option ℕ) (u : Unit {0}) → ◌≡◌ {A = Result (Unit {0}) ℕ} (Ok u) (send_answer K o) → (c : ℕ) × (o ≡ Some c)
+sent-some K None u h = cc
+sent-some K (Some c) u h = (c, refl)
+
+put-some : (S : System) (K : List Event) (q : Addfd) (o : Option ℕ) (b : Bool) (u : Unit {0}) → ◌≡◌ {A = Result (Unit {0}) ℕ} (Ok u) (if b then Err 9 else put_answer S K q o) → (c : ℕ) × (o ≡ Some c)
+put-some S K q o true u h = absurd (no u h)
+  where
+    no : (u : Unit {0}) → ◌≡◌ {A = Result (Unit {0}) ℕ} (Ok u) (Err 9) → ⊥
+    no u h = cc
+put-some S K q None false u h = cc
+put-some S K q (Some c) false u h = (c, refl)
+
+named-place : (o : Option ℕ) (c : ℕ) → o ≡ Some c → is_place o c ≡ true
+named-place o c h = rw h (eq-eqb c c refl)
+
+names-row : (S : System) (R : Rules) (K : List Event) (a : Actor) (what : What) → IsLegal S R K → length K < 2 ^ 64 → Row S R K a what → is_accepted what ≡ true
+    → (w c : ℕ) × (a ≡ Worker w) × (session_call K w ≡ Some c) × ((puts_to K what c || answers K what c) ≡ true)
+names-row S R K (Worker w) (Send x b (Ok u)) legal room r h =
+    let f = sent-some K (named K x) u r.1 in
+    let p : (puts_to K (Send x b (Ok u)) f.0 || answers K (Send x b (Ok u)) f.0) ≡ true = named-place (named K x) f.0 f.1 in
+    (w, f.0, refl, acts-own S R K w f.0 (Send x b (Ok u)) legal room r p, p)
+names-row S R K (Worker w) (AddfdPut q (Ok u)) legal room r h =
+    let f = put-some S K q (named K q.id) (not (S.source q.srcfd)) u r.1 in
+    let p : (puts_to K (AddfdPut q (Ok u)) f.0 || answers K (AddfdPut q (Ok u)) f.0) ≡ true = or-here (is_place (named K q.id) f.0) (named-place (named K q.id) f.0 f.1) in
+    (w, f.0, refl, acts-own S R K w f.0 (AddfdPut q (Ok u)) legal room r p, p)
+  where
+    or-here : (b : Bool) → b ≡ true → (b || false) ≡ true
+    or-here b h = grind arith
+names-row S R K (Task n) (Send x b (Ok u)) legal room r h = absurd r
+names-row S R K (Task n) (AddfdPut q (Ok u)) legal room r h = absurd r
+names-row S R K Start (Send x b (Ok u)) legal room r h = cc
+names-row S R K Start (AddfdPut q (Ok u)) legal room r h = cc
+names-row S R K Listener (Send x b (Ok u)) legal room r h = cc
+names-row S R K Listener (AddfdPut q (Ok u)) legal room r h = cc
+names-row S R K a what legal room r h = cc
+
+pub names-own-call : (S : System) (R : Rules) (K : List Event) (e : Event) → IsLegal S R K → length K < 2 ^ 64 → IsStep S R K e → NamesOwn K e
+names-own-call S R K e legal room r h = elim (row-or-start S R K e r) [
+  | inl q ↦ absurd (clash (is_accepted e.what) (ap (λ (d : Event). is_accepted d.what) q) h)
+  | inr q ↦ names-row S R K e.who e.what legal room q.1 h
+]
+
+module _ (S : System) (R : Rules) (K : List Event) (a : Actor) (w c : ℕ) (legal : IsLegal S R K) (room : length K < 2 ^ 64) (mine' : is_worker a w ≡ true) (l : listed K c ≡ true) (h : AtCall K c w) (i : InSession K w c) where
+  not-lost : (what : What) → WorkerRow S R K w what → is_lost what ≡ true → ⊥
+  not-lost (OpenMem p (Err x)) r q = let z = open-is S R K a w c legal room mine' l h i p (Err x) r in cc
+  not-lost (OpenBase p d (Err x)) r q = absurd (base-is S R K a w c legal room mine' l h i p d (Err x) r (ap Err (eqb-true x 3 q)))
+  not-lost (Check x (Err y)) r q = let z = check-is S R K a w c legal room mine' l h i x (Err y) r in cc
+  not-lost (AddfdPut q' (Err x)) r q = go (put-is S R K a w c legal room mine' l h i q' (Err x) r)
+    where
+      go : ◌⊎◌ (◌≡◌ {A = Result (Unit {0}) ℕ} (Err x) (Ok tt)) (◌≡◌ {A = Result (Unit {0}) ℕ} (Err x) (Err 9)) → ⊥
+      go (inl z) = cc
+      go (inr z) = let m : x ≡ 9 = cc in let e : x ≡ 2 = eqb-true x 2 q in omega arith
+  not-lost (AddfdTake (Err x)) r q = take-is S R K a w c legal room mine' l h i (Err x) r (ap Err (eqb-true x 2 q))
+  not-lost (Send x b (Err y)) r q = let z = send-is S R K a w c legal room mine' l h i x b (Err y) r in cc
+  not-lost what r q = cc
+
+lost-works : (what : What) → is_lost what ≡ true → works what ≡ true
+lost-works (OpenMem p (Err x)) h = refl
+lost-works (OpenBase p d (Err x)) h = refl
+lost-works (Check x (Err y)) h = refl
+lost-works (AddfdPut q (Err x)) h = refl
+lost-works (AddfdTake (Err x)) h = refl
+lost-works (Send x b (Err y)) h = refl
+lost-works what h = cc
+
+pub lost-if-gone : (S : System) (R : Rules) (K : List Event) (e : Event) → IsLegal S R K → length K < 2 ^ 64 → IsStep S R K e → LostIfGone K e
+lost-if-gone S R K e legal room r w q z =
+    let row = by-worker S R K e w r q in
+    let g = at-work S R K w e.what row (lost-works e.what z) in
+    let j = in-hand K w (session_call K w) g.0 g.1 (hand S R K legal w) in
+    (j.0, j.1, false_from_ne_true (listed K j.0) (λ l. not-lost S R K e.who w j.0 legal room (rw q (eq-eqb w w refl)) l (at-call S R K w j.0 legal room j.1 l) j.2 e.what row z))
+
+pub has-cause : (S : System) (R : Rules) (K : List Event) (e : Event) → IsLegal S R K → length K < 2 ^ 64 → IsStep S R K e → HasCause R K e
+has-cause S R K e legal room r w x b y who what =
+    let row : WorkerRow S R K w (Send x b y) = rw what at (by-worker S R K e w r who) in
+    let t = deed-is R (session K w) (Answer x b) row.0 in
+    let j = in-hand K w (session_call K w) t.0 t.1 (hand S R K legal w) in
+    (j.0, t.0, j.1, t.1.notif_is, hand-notif K w j.0 j.2 t.0 j.3, t.4, used-two R (session K w) t.0 t.1 t.3 (ordered R (session K w) (is-own S R K legal w)), t.5)
+
+-- where the call is gone, its id names nothing
+pub names-nothing : (S : System) (R : Rules) (K : List Event) (w c : ℕ) → IsLegal S R K → length K < 2 ^ 64 → (i : InSession K w c) → listed K c ≡ false → named K i.n.id ≡ None
+names-nothing S R K w c legal room i g = go (named K i.n.id) refl
+  where
+    go : (o : Option ℕ) → named K i.n.id ≡ o → named K i.n.id ≡ None
+    go None q = q
+    go (Some d) q =
+        let m = names-own S R K w c d legal room i q in
+        let l = (named-is K i.n.id d q).0 in
+        absurd (clash (listed K c) g (rw m at l))
+
+-- the error of an install
+install-error : (S : System) (R : Rules) (K : List Event) (a : Actor) (what : What) (x : ℕ) → Row S R K a what → installed what ≡ Some (Err x) → ((x == 9) || ((x == 24) || (x == 2))) ≡ true
+install-error S R K (Task n) (Install y) x r h = go (queue K r.1.0) r.1.3 h
+  where
+    slot : (s : Slot) → y ≡ slot_answer s → ◌≡◌ {A = Option (Result ℕ ℕ)} (Some y) (Some (Err x)) → ((x == 9) || ((x == 24) || (x == 2))) ≡ true
+    slot (Number k) q h = let z : Some (Ok k) ≡ Some (Err x) = ap Some (sym q) ∙ h in cc
+    slot Full q h = let z : 9 ≡ x = errs 9 (ap Some (sym q) ∙ h) in rw (← z)
+      where
+        errs : (k : ℕ) → ◌≡◌ {A = Option (Result ℕ ℕ)} (Some (Err k)) (Some (Err x)) → k ≡ x
+        errs k h = cc
+    slot Over q h = let z : 24 ≡ x = errs 24 (ap Some (sym q) ∙ h) in rw (← z)
+      where
+        errs : (k : ℕ) → ◌≡◌ {A = Option (Result ℕ ℕ)} (Some (Err k)) (Some (Err x)) → k ≡ x
+        errs k h = cc
+
+    answer : (y z : Result ℕ ℕ) → Install y ≡ Install z → y ≡ z
+    answer y z h = cc
+
+    go : (rs : List ℕ) → Install y ≡ install_step S K r.1.0 rs → ◌≡◌ {A = Option (Result ℕ ℕ)} (Some y) (Some (Err x)) → ((x == 9) || ((x == 24) || (x == 2))) ≡ true
+    go [] q h = cc
+    go (p ∷ rs) q h = slot (S.slot K r.1.0 p) (answer y _ q) h
+install-error S R K (Worker v) (Install y) x r h = absurd r
+install-error S R K Start (Install y) x r h = cc
+install-error S R K Listener (Install y) x r h = cc
+install-error S R K a what x r h = cc
+
+install-known-step : (S : System) (R : Rules) (K : List Event) (e : Event) (p x : ℕ) → Row S R K e.who e.what → (install_of K p ≡ Some (Err x) → ((x == 9) || ((x == 24) || (x == 2))) ≡ true) → install_of (e ∷ K) p ≡ Some (Err x) → ((x == 9) || ((x == 24) || (x == 2))) ≡ true
+unfolding install_of
+install-known-step S R K e p x row ih h = elim (cases_Bool (installs_request K e (call_at K p) p)) [
+  | inl q ↦ install-error S R K e.who e.what x row (rw q at h)
+  | inr q ↦ ih (rw q at h)
+]
+
+no-install-of : (p x : ℕ) → install_of [] p ≡ Some (Err x) → ⊥
+unfolding install_of
+no-install-of p x h = cc
+
+first-install-of : (e : Event) (p x : ℕ) → install_of (e ∷ []) p ≡ Some (Err x) → ⊥
+unfolding install_of call_at
+first-install-of e p x h = cc
+
+install-known : (S : System) (R : Rules) (K : List Event) → IsLegal S R K → (p x : ℕ) → install_of K p ≡ Some (Err x) → ((x == 9) || ((x == 24) || (x == 2))) ≡ true
+install-known S R [] legal = λ p x h. absurd (no-install-of p x h)
+install-known S R (e ∷ []) legal = λ p x h. absurd (first-install-of e p x h)
+install-known S R (e ∷ f ∷ K) legal = λ p x. install-known-step S R (f ∷ K) e p x (row-of S R (f ∷ K) e legal.0 (omega arith)) (install-known S R (f ∷ K) legal.1 p x)
+
+err-same : (x y : ℕ) → ◌≡◌ {A = Result (Unit {0}) ℕ} (Err x) (Err y) → x ≡ y
+err-same x y h = cc
+
+-- the errors of a worker's steps
+module _ (S : System) (R : Rules) (K : List Event) (w : ℕ) (legal : IsLegal S R K) (room : length K < 2 ^ 64) where
+  mine : is_worker (Worker w) w ≡ true
+  mine = eq-eqb w w refl
+
+  id-same : (c : ℕ) (i : InSession K w c) (n : Notif) → AtWork (session K w) n → n ≡ i.n
+  id-same c i n k = same n i.n (sym k.notif_is ∙ i.notif_is)
+    where
+      same : (x y : Notif) → Some x ≡ Some y → x ≡ y
+      same x y h = cc
+
+  send-known : (x : ℕ) (b : Back) (e : ℕ) → WorkerRow S R K w (Send x b (Err e)) → (e == 2) ≡ true
+  send-known x b e r =
+      let t = deed-is R (session K w) (Answer x b) r.0 in
+      let j = in-hand K w (session_call K w) t.0 t.1 (hand S R K legal w) in
+      elim (cases_Bool (listed K j.0)) [
+        | inl l ↦ none (send-is S R K (Worker w) w j.0 legal room mine l (at-call S R K w j.0 legal room j.1 l) j.2 x b (Err e) r)
+        | inr g ↦
+            let q : x ≡ j.2.n.id = t.4 ∙ ap (λ (z : Notif). z.id) (id-same j.0 j.2 t.0 t.1) in
+            let m = err-same e 2 (rw (q, names-nothing S R K w j.0 legal room j.2 g) at r.1) in
+            rw m
+      ]
+    where
+      none : ◌≡◌ {A = Result (Unit {0}) ℕ} (Err e) (Ok tt) → (e == 2) ≡ true
+      none h = cc
+
+  put-known : (q : Addfd) (e : ℕ) → WorkerRow S R K w (AddfdPut q (Err e)) → ((e == 9) || (e == 2)) ≡ true
+  put-known q e r =
+      let t = deed-is R (session K w) (Put q) r.0 in
+      let j = in-hand K w (session_call K w) t.0 t.1 (hand S R K legal w) in
+      elim (cases_Bool (listed K j.0)) [
+        | inl l ↦ kept (put-is S R K (Worker w) w j.0 legal room mine l (at-call S R K w j.0 legal room j.1 l) j.2 q (Err e) r)
+        | inr g ↦
+            let z : q.id ≡ j.2.n.id = ap (λ (v : Addfd). v.id) t.4.is ∙ (id-of t.4.src t.4.place t.4.flags t.0.id ∙ ap (λ (v : Notif). v.id) (id-same j.0 j.2 t.0 t.1)) in
+            gone (S.source q.srcfd) (rw (z, names-nothing S R K w j.0 legal room j.2 g) at r.1)
+      ]
+    where
+      id-of : (src : ℕ) (p : Option ℕ) (fl x : ℕ) → (addfd_of x src p fl).id ≡ x
+      id-of src None fl x = refl
+      id-of src (Some at) fl x = refl
+
+      kept : ◌⊎◌ (◌≡◌ {A = Result (Unit {0}) ℕ} (Err e) (Ok tt)) (◌≡◌ {A = Result (Unit {0}) ℕ} (Err e) (Err 9)) → ((e == 9) || (e == 2)) ≡ true
+      kept (inl h) = cc
+      kept (inr h) = rw (err-same e 9 h)
+
+      gone : (v : Bool) → ◌≡◌ {A = Result (Unit {0}) ℕ} (Err e) (if not v then Err 9 else Err 2) → ((e == 9) || (e == 2)) ≡ true
+      gone true h = rw (err-same e 2 h)
+      gone false h = rw (err-same e 9 h)
+
+  take-known : (e : ℕ) → WorkerRow S R K w (AddfdTake (Err e)) → ((e == 9) || ((e == 24) || (e == 2))) ≡ true
+  take-known e r = go (request_of K w) (request_listed K (request_of K w)) r.1
+    where
+      taken : (y z : Result ℕ ℕ) → AddfdTake y ≡ AddfdTake z → y ≡ z
+      taken y z q = cc
+
+      err : (k : ℕ) → ◌≡◌ {A = Result ℕ ℕ} (Err e) (Err k) → e ≡ k
+      err k h = cc
+
+      step : (o : Option (Result ℕ ℕ)) (b : Bool) → ((x : ℕ) → o ≡ Some (Err x) → ((x == 9) || ((x == 24) || (x == 2))) ≡ true) → AddfdTake (Err e) ≡ take_step o b → ((e == 9) || ((e == 24) || (e == 2))) ≡ true
+      step (Some (Ok k)) b f h = cc
+      step (Some (Err k)) b f h = f e (ap Some (sym (taken (Err e) (Err k) h)))
+      step None true f h = cc
+      step None false f h = rw (err 2 (taken (Err e) (Err 2) h))
+
+      go : (o : Option ℕ) (b : Bool) → AddfdTake (Err e) ≡ take_step (install_at K o) b → ((e == 9) || ((e == 24) || (e == 2))) ≡ true
+      go (Some p) b h = step (install_of K p) b (λ x. install-known S R K legal p x) h
+      go None b h = step None b (λ x z. cc) h
+
+  check-known : (o : Option ℕ) (e : ℕ) → ◌≡◌ {A = Result (Unit {0}) ℕ} (Err e) (check_answer K o) → (e == 2) ≡ true
+  check-known None e h = rw (err-same e 2 h)
+  check-known (Some c) e h = go (waiting K c) h
+    where
+      go : (b : Bool) → ◌≡◌ {A = Result (Unit {0}) ℕ} (Err e) (if b then Ok tt else Err 2) → (e == 2) ≡ true
+      go true h = cc
+      go false h = rw (err-same e 2 h)
+
+  worker-known : (what : What) → WorkerRow S R K w what → is_known_error what ≡ true
+  worker-known (Check x (Err e)) r = check-known (named K x) e r.1
+  worker-known (Send x b (Err e)) r = send-known x b e r
+  worker-known (AddfdPut q (Err e)) r = put-known q e r
+  worker-known (AddfdTake (Err e)) r = take-known e r
+  worker-known what r = refl
+
+-- a step of another actor has none of these errors
+others-known : (a : Actor) (what : What) → takes a what ≡ true → ((w : ℕ) → a ≡ Worker w → ⊥) → is_known_error what ≡ true
+others-known (Worker w) what h n = absurd (n w refl)
+others-known a (Check x (Err e)) h n = cc
+others-known a (Send x b (Err e)) h n = cc
+others-known a (AddfdPut q (Err e)) h n = cc
+others-known a (AddfdTake (Err e)) h n = cc
+others-known a what h n = refl
+
+pub errors-known : (S : System) (R : Rules) (K : List Event) (e : Event) → IsLegal S R K → length K < 2 ^ 64 → IsStep S R K e → ErrorsKnown K e
+errors-known S R K e legal room r = go e.who refl
+  where
+    go : (a : Actor) → e.who ≡ a → is_known_error e.what ≡ true
+    go (Worker w) q = worker-known S R K w legal room e.what (by-worker S R K e w r q)
+    go (Task n) q = others-known (Task n) e.what (rw q at (taken-by-its-actor S R K e legal room r)) (λ w h. cc)
+    go Start q = others-known Start e.what (rw q at (taken-by-its-actor S R K e legal room r)) (λ w h. cc)
+    go Listener q = others-known Listener e.what (rw q at (taken-by-its-actor S R K e legal room r)) (λ w h. cc)
+
+known-not-busy : (what : What) → is_known_error what ≡ true → is_busy what ≡ false
+known-not-busy (Send x b (Err e)) h = rw (eqb-true e 2 h)
+known-not-busy (AddfdPut q (Err e)) h = elim (or_cases (e == 9) (e == 2) h) [ inl z ↦ rw (eqb-true e 9 z) | inr z ↦ rw (eqb-true e 2 z) ]
+known-not-busy what h = refl
+
+pub never-busy : (S : System) (R : Rules) (K : List Event) (e : Event) → IsLegal S R K → length K < 2 ^ 64 → IsStep S R K e → NeverBusy K e
+never-busy S R K e legal room r = known-not-busy e.what (errors-known S R K e legal room r)
+
+pub by-task : (S : System) (R : Rules) (K : List Event) (e : Event) (n : Name) → IsStep S R K e → e.who ≡ Task n → TaskRow S K n e.what
+by-task S R [] e n r q = let h = ap (λ (d : Event). d.who) r in absurd (no (sym h ∙ q))
+  where
+    no : Start ≡ Task n → ⊥
+    no h = cc
+by-task S R (f ∷ K) e n r q = rw q at (row-of S R (f ∷ K) e r (omega arith))
+
+pub installs-are-own : (S : System) (R : Rules) (K : List Event) (e : Event) → IsLegal S R K → length K < 2 ^ 64 → IsStep S R K e → InstallsOwn K e
+installs-are-own S R K e legal room r n x who what = installs-own S R K n x legal room (rw what at (by-task S R K e n r who))
+
+pub resumes-are-own : (S : System) (R : Rules) (K : List Event) (e : Event) → IsLegal S R K → length K < 2 ^ 64 → IsStep S R K e → ResumesOwn K e
+resumes-are-own S R K e legal room r n b who what = resumes-own S R K n b legal room (rw what at (by-task S R K e n r who))
+
+pub resumes-installed : (S : System) (R : Rules) (K : List Event) (e : Event) → IsLegal S R K → length K < 2 ^ 64 → IsStep S R K e → ReturnsInstalled K e
+resumes-installed S R K e legal room r n b who what = returns-installed S R K n b legal room (rw what at (by-task S R K e n r who))

@@ -1,0 +1,139 @@
+-- A session by itself: each of its steps is the deed after those before it.
+use Rattle.std.proofs.Common.{◌≡◌, inl, inr, ℕ, Bool, true, false, ◌&&◌, not, List, [], ◌∷◌, Option, Some, None, refl, sym, ◌∙◌, arith}
+use Rattle.std.specs.Prelude.{◌==◌, Result, Ok}
+use Rattle.std.proofs.lemmas.Bool.{cases_Bool, and_parts}
+use Rattle.hist_model.specs.Look.{is_worker}
+use Rattle.hist_model.specs.Sessions.{Rules, Fetch, Open, OpenB, Ask, ReadD, ActD, PlantD, Put, Take, Answer, Let, Injects, deed, session, skips, starts, joined, notif_of, any_of, is_read, reads_of, first_some, put_in, take_in, checks, number_of}
+use Rattle.hist_model.specs.Systems.{System}
+use Rattle.hist_model.specs.Steps.{IsStep, IsLegal}
+use Rattle.hist_model.specs.declared.event.Event.{Event}
+use Rattle.hist_model.specs.declared.event.What.{What}
+use Rattle.hist_model.specs.declared.event.What.TheVariants.{Recv, OpenMem, OpenBase, Check, Read, Act, Plant, AddfdPut, AddfdTake, Send, LetGo, Skip}
+use Rattle.sys_abi.specs.declared.wire.Notif.{Notif}
+use Rattle.mediation.proofs.Rows.{WorkerRow}
+use Rattle.mediation.proofs.Deeds.{deed-is}
+use Rattle.mediation.proofs.Work.{worker-row, session-same, session-more, started}
+
+-- the step is the deed after these
+abbrev pub Suits : Rules → List What → What → Type 0
+Suits R own (Recv a) = deed R own ≡ Fetch
+Suits R own (OpenMem p a) = deed R own ≡ Open p
+Suits R own (OpenBase p d a) = deed R own ≡ OpenB p d
+Suits R own (Check x a) = deed R own ≡ Ask x
+Suits R own (Read x l a) = deed R own ≡ ReadD x l
+Suits R own (Act q cap a) = deed R own ≡ ActD q cap
+Suits R own (Plant x b cap a) = deed R own ≡ PlantD x b cap
+Suits R own (AddfdPut q a) = deed R own ≡ Put q
+Suits R own (AddfdTake a) = deed R own ≡ Take
+Suits R own (Send x b a) = deed R own ≡ Answer x b
+Suits R own LetGo = deed R own ≡ Let
+Suits R own _ = ⊥
+
+abbrev pub IsOwn : Rules → List What → Type 0
+IsOwn R [] = Unit {0}
+IsOwn R (a ∷ []) = starts a ≡ true
+IsOwn R (a ∷ b ∷ own) = Suits R (b ∷ own) a × (starts a ≡ false) × IsOwn R (b ∷ own)
+
+suits : (S : System) (R : Rules) (K : List Event) (w : ℕ) (a : What) → WorkerRow S R K w a → skips a ≡ false → Suits R (session K w) a
+suits S R K w (Recv a) r h = r.0
+suits S R K w (OpenMem p a) r h = r.0
+suits S R K w (OpenBase p d a) r h = r.0
+suits S R K w (Check x a) r h = r.0
+suits S R K w (Read x l a) r h = r.0
+suits S R K w (Act q cap a) r h = r.0
+suits S R K w (Plant x b cap a) r h = r.0
+suits S R K w (AddfdPut q a) r h = r.0
+suits S R K w (AddfdTake a) r h = r.0
+suits S R K w (Send x b a) r h = r.0
+suits S R K w LetGo r h = r
+suits S R K w Skip r h = cc
+suits S R K w _ r h = absurd r
+
+joined-own : (R : Rules) (own : List What) (a : What) (b : Bool) → starts a ≡ b → IsOwn R own → Suits R own a → IsOwn R (joined a own)
+joined-own R own a true h i s = rw (started own a h) h
+joined-own R [] a false h i s = rw h tt
+joined-own R (b ∷ own) a false h i s = rw h (s, h, i)
+
+own-step : (S : System) (R : Rules) (K : List Event) (e : Event) (w : ℕ) → IsStep S R K e → IsOwn R (session K w) → IsOwn R (session (e ∷ K) w)
+own-step S R K e w r i =
+    elim (cases_Bool (is_worker e.who w && not (skips e.what))) [
+      | inl q ↦
+          let p = and_parts (is_worker e.who w) (not (skips e.what)) q in
+          let k : skips e.what ≡ false = grind arith in
+          rw (session-more e K w p.0 k) (joined-own R (session K w) e.what (starts e.what) refl i (suits S R K w e.what (worker-row S R K e w r p.0) k))
+      | inr q ↦ rw (session-same e K w q) i
+    ]
+
+pub is-own : (S : System) (R : Rules) (K : List Event) → IsLegal S R K → (w : ℕ) → IsOwn R (session K w)
+unfolding session
+is-own S R [] legal = λ w. tt
+is-own S R (e ∷ K) legal = λ w. own-step S R K e w legal.0 (is-own S R K legal.1 w)
+
+-- once something was put, the rule injects, and this stays
+pub record Injecting (R : Rules) (own : List What) (n : Notif) : Type 0 where
+  pub src : ℕ
+  pub place : Option ℕ
+  pub flags : ℕ
+  pub checked : any_of checks own ≡ true
+  pub twice : (number_of checks own == 1) ≡ false
+  pub copied : R.next_piece n (reads_of own) ≡ None
+  pub sound : R.fault n (reads_of own) ≡ None
+  pub decided : R.decide n (reads_of own) ≡ Injects src place flags
+
+injecting-later : (R : Rules) (own : List What) (n : Notif) (a : What) → is_read a ≡ false → checks a ≡ false → Injecting R own n → Injecting R (a ∷ own) n
+injecting-later R own n a h g i = record { checked = rw g i.checked; twice = rw g i.twice; src = i.src; place = i.place; flags = i.flags; copied = rw h i.copied; sound = rw h i.sound; decided = rw h i.decided }
+
+some-notif : (a b : Notif) → Some a ≡ Some b → a ≡ b
+some-notif a b h = cc
+
+pub put-fixed : (R : Rules) (own : List What) (n : Notif) (x : Result (Unit {0}) ℕ) → IsOwn R own → notif_of own ≡ Some n → first_some put_in own ≡ Some x → Injecting R own n
+put-fixed R [] n x i h p = cc
+put-fixed R (a ∷ []) n x i h p = first a i p
+  where
+    first : (a : What) → starts a ≡ true → first_some put_in (a ∷ []) ≡ Some x → Injecting R (a ∷ []) n
+    first (Recv (Ok m)) s p = cc
+    first a s p = cc
+put-fixed R (AddfdPut q y ∷ b ∷ own) n x i h p =
+    let t = deed-is R (b ∷ own) _ i.0 in
+    let m : t.0 ≡ n = some-notif t.0 n (sym t.1.notif_is ∙ h) in
+    let v : Injecting R (b ∷ own) t.0 = record { src = t.4.src; place = t.4.place; flags = t.4.flags; checked = t.3.checked; twice = t.3.twice; copied = t.3.copied; sound = t.4.sound; decided = t.4.decided } in
+    injecting-later R (b ∷ own) n (AddfdPut q y) refl refl (rw m at v)
+put-fixed R (Read y l z ∷ b ∷ own) n x i h p =
+    let t = deed-is R (b ∷ own) _ i.0 in
+    let m : t.0 ≡ n = some-notif t.0 n (sym t.1.notif_is ∙ h) in
+    let f = put-fixed R (b ∷ own) n x i.2 h p in
+    let g : R.next_piece n (reads_of (b ∷ own)) ≡ Some (y, l) = rw m at t.4 in
+    absurd (no (y, l) (sym f.copied ∙ g))
+  where
+    no : (v : ℕ × ℕ) → None ≡ Some v → ⊥
+    no v h = cc
+put-fixed R (Recv (Ok m) ∷ b ∷ own) n x i h p = absurd (clash i.1)
+  where
+    clash : true ≡ false → ⊥
+    clash q = cc
+put-fixed R (Check y z ∷ b ∷ own) n x i h p =
+    let t = deed-is R (b ∷ own) _ i.0 in
+    let f = put-fixed R (b ∷ own) n x i.2 h p in
+    elim t.4 [ inl q ↦ absurd (differ (any_of checks (b ∷ own)) q f.checked) | inr q ↦ absurd (differ (number_of checks (b ∷ own) == 1) f.twice q.0) ]
+  where
+    differ : (v : Bool) → v ≡ false → v ≡ true → ⊥
+    differ v g k = cc
+put-fixed R (a ∷ b ∷ own) n x i h p = injecting-later R (b ∷ own) n a refl refl (put-fixed R (b ∷ own) n x i.2 h p)
+
+-- a take comes after a good put
+pub take-after_put : (R : Rules) (own : List What) (t : Result ℕ ℕ) → IsOwn R own → first_some take_in own ≡ Some t → (u : Unit {0}) × (first_some put_in own ≡ Some (Ok u))
+take-after_put R [] t i h = cc
+take-after_put R (a ∷ []) t i h = first a i h
+  where
+    first : (a : What) → starts a ≡ true → first_some take_in (a ∷ []) ≡ Some t → (u : Unit {0}) × (first_some put_in (a ∷ []) ≡ Some (Ok u))
+    first (Recv (Ok m)) s h = cc
+    first a s h = cc
+take-after_put R (AddfdTake y ∷ b ∷ own) t i h = let v = deed-is R (b ∷ own) _ i.0 in (v.4.0, v.4.1)
+take-after_put R (AddfdPut q y ∷ b ∷ own) t i h =
+    let v = deed-is R (b ∷ own) _ i.0 in
+    let f = take-after_put R (b ∷ own) t i.2 h in
+    absurd (no f.0 (sym v.5 ∙ f.1))
+  where
+    no : (u : Unit {0}) → ◌≡◌ {A = Option (Result (Unit {0}) ℕ)} None (Some (Ok u)) → ⊥
+    no u h = cc
+take-after_put R (a ∷ b ∷ own) t i h = take-after_put R (b ∷ own) t i.2 h

@@ -1,0 +1,362 @@
+-- Installs and resumes are of the call's own session.
+use Rattle.std.proofs.Common.{◌≡◌, inl, inr, ℕ, ◌<◌, ◌^◌, Bool, true, false, ◌&&◌, ◌||◌, List, [], ◌∷◌, ◌++◌, length, Option, Some, None, refl, sym, ap, ◌∙◌, subst, arith}
+use Rattle.std.specs.Prelude.{if◌then◌else◌, ◌==◌, Result, Ok, pos}
+use Rattle.std.proofs.lemmas.Bool.{cases_Bool, and_parts, or_cases, or_left, or_right, eq-eqb, eqb-true, cases_order, false_from_ne_true}
+use Rattle.hist_model.specs.Look.{Name, name_eq, is_task}
+use Rattle.hist_model.specs.Calls.{listed, caller, answers, puts_to, installs_for, is_install, gave, first_sends, queue, rest_of, settled, settles, has_send, has_send_flag, is_send}
+use Rattle.hist_model.specs.Signals.{call_of}
+use Rattle.hist_model.specs.Sessions.{Rules, session, addfd_of}
+use Rattle.hist_model.specs.Systems.{System}
+use Rattle.hist_model.specs.Steps.{IsStep, IsLegal, reply, back_of, call_at, install_of, installed, is_first, asked_call}
+use Rattle.hist_model.specs.Laws.{fetcher, worker_of}
+use Rattle.hist_model.specs.Settlers.{IsRequestOf, IsInstallOf, Source, sent, installed_for}
+use Rattle.hist_model.specs.declared.event.Event.{Event}
+use Rattle.hist_model.specs.declared.event.Actor.{Actor}
+use Rattle.hist_model.specs.declared.event.Actor.TheVariants.{Start, Task, Worker, Listener}
+use Rattle.hist_model.specs.declared.event.What.{What}
+use Rattle.hist_model.specs.declared.event.What.TheVariants.{Install, Resume, Send, AddfdPut}
+use Rattle.sys_abi.specs.declared.wire.Addfd.{Addfd}
+use Rattle.hist_model.specs.declared.event.Back.{Back}
+use Rattle.hist_model.specs.declared.event.Back.TheVariants.{Value}
+use Rattle.hist_model.proofs.Look.{event_at-here, event_at-older, event_at-below, newest-some, name_eq-true}
+use Rattle.mediation.proofs.Before.{before-older, before-newest}
+use Rattle.mediation.proofs.Rows.{Row, TaskRow, WorkerRow}
+use Rattle.mediation.proofs.Deeds.{deed-is}
+use Rattle.mediation.proofs.Once.{installs-open, settles-once}
+use Rattle.mediation.proofs.Own.{row-of}
+use Rattle.mediation.proofs.Queues.{installing, install-first, put-call, call-at-older, call-at-here, call-at-above}
+use Rattle.mediation.proofs.Phases.{hand-fetcher, fetcher-fetched, fetcher-stays, install-same, install-now, install-new}
+use Rattle.mediation.proofs.Waiting.{actor-acts}
+
+clash : (b : Bool) → b ≡ false → b ≡ true → ⊥
+clash b g h = cc
+
+request-later : (S : System) (R : Rules) (K : List Event) (e : Event) (c r w : ℕ) → IsLegal S R K → length K < 2 ^ 64 → Row S R K e.who e.what → IsRequestOf K c r w → IsRequestOf (e ∷ K) c r w
+request-later S R K e c r w legal room row i =
+    let l : r < length K = i.below in
+    record {
+      below = omega arith;
+      for_call = call-at-older e K r l ∙ i.for_call;
+      sends = rw event_at-older i.sends;
+      put_by = rw event_at-older i.put_by;
+      session_of = fetcher-stays S R K e w c legal room row (fetcher-fetched K c w i.session_of) i.session_of;
+    }
+
+-- each of a call's requests is its session's
+AllOf : List Event → ℕ → List ℕ → Type 0
+AllOf K c [] = Unit {0}
+AllOf K c (r ∷ rs) = ((w : ℕ) × IsRequestOf K c r w) × AllOf K c rs
+
+all-later : (S : System) (R : Rules) (K : List Event) (e : Event) (c : ℕ) (rs : List ℕ) → IsLegal S R K → length K < 2 ^ 64 → Row S R K e.who e.what → AllOf K c rs → AllOf (e ∷ K) c rs
+unfolding AllOf
+all-later S R K e c [] legal room row h = tt
+all-later S R K e c (r ∷ rs) legal room row h = ((h.0.0, request-later S R K e c r h.0.0 legal room row h.0.1), all-later S R K e c rs legal room row h.1)
+
+all-rest : (K : List Event) (c : ℕ) (rs : List ℕ) → AllOf K c rs → AllOf K c (rest_of rs)
+unfolding AllOf
+all-rest K c [] h = tt
+all-rest K c (r ∷ rs) h = h.1
+
+all-push : (K : List Event) (c r w : ℕ) (rs : List ℕ) → AllOf K c rs → IsRequestOf K c r w → AllOf K c (rs ++ r ∷ [])
+unfolding AllOf
+all-push K c r w [] h i = ((w, i), tt)
+all-push K c r w (x ∷ rs) h i = (h.0, all-push K c r w rs h.1 i)
+
+-- each request of a worker has SEND
+put-sends : (S : System) (R : Rules) (K : List Event) (w : ℕ) (q : Addfd) (a : Result (Unit {0}) ℕ) → WorkerRow S R K w (AddfdPut q a) → has_send_flag q ≡ true
+put-sends S R K w q a r =
+    let t = deed-is R (session K w) _ r.0 in
+    ap has_send_flag t.4.is ∙ sends-of t.4.src t.4.place t.4.flags t.0.id
+  where
+    sends-of : (src : ℕ) (p : Option ℕ) (fl x : ℕ) → has_send_flag (addfd_of x src p fl) ≡ true
+    sends-of src None fl x = refl
+    sends-of src (Some at) fl x = refl
+
+-- the step is a request
+abbrev is_put : What → Bool
+is_put (AddfdPut q a) = true
+is_put _ = false
+
+put-is-put : (K : List Event) (what : What) (c : ℕ) → puts_to K what c ≡ true → is_put what ≡ true
+put-is-put K (AddfdPut q a) c h = refl
+put-is-put K what c h = cc
+
+puts-send : (S : System) (R : Rules) (K : List Event) (a : Actor) (what : What) → Row S R K a what → is_put what ≡ true → has_send what ≡ true
+puts-send S R K (Worker w) (AddfdPut q x) r h = put-sends S R K w q x r
+puts-send S R K (Task n) (AddfdPut q x) r h = absurd r
+puts-send S R K Start (AddfdPut q x) r h = cc
+puts-send S R K Listener (AddfdPut q x) r h = cc
+puts-send S R K a what r h = cc
+
+-- a new request is its session's
+put-own : (S : System) (R : Rules) (K : List Event) (e : Event) (c : ℕ) → IsLegal S R K → length K < 2 ^ 64 → Row S R K e.who e.what → puts_to K e.what c ≡ true → (w : ℕ) × IsRequestOf (e ∷ K) c (length K) w
+put-own S R K e c legal room row h =
+    let v = actor-acts S R K e.who e.what c legal room row (or_left (puts_to K e.what c) (answers K e.what c) h) in
+    let f = hand-fetcher S R K legal room v.0 c v.2 in (
+      v.0,
+      record {
+        below = omega arith;
+        for_call = call-at-here e K ∙ put-call K e.what c h;
+        sends = rw event_at-here (puts-send S R K e.who e.what row (put-is-put K e.what c h));
+        put_by = rw event_at-here (ap worker_of v.1);
+        session_of = fetcher-stays S R K e v.0 c legal room row (fetcher-fetched K c v.0 f) f;
+      },
+    )
+
+queue-put : (e : Event) (K : List Event) (c : ℕ) → puts_to K e.what c ≡ true → queue (e ∷ K) c ≡ queue K c ++ length K ∷ []
+unfolding queue
+queue-put e K c h = rw h
+
+queue-install : (e : Event) (K : List Event) (c : ℕ) → puts_to K e.what c ≡ false → installs_for K e c ≡ true → queue (e ∷ K) c ≡ rest_of (queue K c)
+unfolding queue
+queue-install e K c h g = rw (h, g)
+
+queue-other : (e : Event) (K : List Event) (c : ℕ) → puts_to K e.what c ≡ false → installs_for K e c ≡ false → queue (e ∷ K) c ≡ queue K c
+unfolding queue
+queue-other e K c h g = rw (h, g)
+
+none-of : (c : ℕ) → AllOf [] c (queue [] c)
+unfolding queue AllOf
+none-of c = tt
+
+-- the first event does nothing to any call
+first-calm : (S : System) (R : Rules) (e : Event) (c : ℕ) → IsStep S R [] e → (puts_to [] e.what c ≡ false) × (installs_for [] e c ≡ false) × (answers [] e.what c ≡ false)
+first-calm S R e c r = (ap (λ (d : Event). puts_to [] d.what c) r, ap (λ (d : Event). installs_for [] d c) r, ap (λ (d : Event). answers [] d.what c) r)
+
+first-of : (S : System) (R : Rules) (e : Event) (c : ℕ) → IsStep S R [] e → AllOf (e ∷ []) c (queue (e ∷ []) c)
+first-of S R e c r =
+    let k = first-calm S R e c r in
+    rw (queue-other e [] c k.0 k.1) (empty c)
+  where
+    empty : (c : ℕ) → AllOf (e ∷ []) c (queue [] c)
+    empty c = unfold queue AllOf in tt
+
+nothing-settled : (c : ℕ) → settled [] c ≡ true → ⊥
+unfolding settled
+nothing-settled c h = cc
+
+start-settles : (S : System) (R : Rules) (e : Event) (c : ℕ) → IsStep S R [] e → settled (e ∷ []) c ≡ true → ⊥
+unfolding settled
+start-settles S R e c r h =
+    let k = first-calm S R e c r in
+    no (answers [] e.what c) (installs_for [] e c) (gave e.what && first_sends [] (queue [] c)) k.2 k.1 h
+  where
+    no : (a i g : Bool) → a ≡ false → i ≡ false → ((a || (i && g)) || false) ≡ true → ⊥
+    no a i g p q h = grind arith
+
+reply-now : (e : Event) (K : List Event) (c : ℕ) → settles K e c ≡ true → reply (e ∷ K) c ≡ back_of e.what
+unfolding reply
+reply-now e K c h = rw h
+
+reply-same : (e : Event) (K : List Event) (c : ℕ) → settles K e c ≡ false → reply (e ∷ K) c ≡ reply K c
+unfolding reply
+reply-same e K c h = rw h
+
+settled-was : (e : Event) (K : List Event) (c : ℕ) → settles K e c ≡ false → settled (e ∷ K) c ≡ true → settled K c ≡ true
+unfolding settled
+settled-was e K c h g = grind arith
+
+all-kind : (S : System) (R : Rules) (K : List Event) (e : Event) (c : ℕ) → IsLegal S R K → length K < 2 ^ 64 → Row S R K e.who e.what → AllOf K c (queue K c) → AllOf (e ∷ K) c (queue (e ∷ K) c)
+all-kind S R K e c legal room row h =
+    elim (cases_Bool (puts_to K e.what c)) [
+      | inl q ↦ let p = put-own S R K e c legal room row q in rw (queue-put e K c q) (all-push (e ∷ K) c (length K) p.0 (queue K c) (all-later S R K e c (queue K c) legal room row h) p.1)
+      | inr q ↦ elim (cases_Bool (installs_for K e c)) [
+        | inl p ↦ rw (queue-install e K c q p) (all-later S R K e c (rest_of (queue K c)) legal room row (all-rest K c (queue K c) h))
+        | inr p ↦ rw (queue-other e K c q p) (all-later S R K e c (queue K c) legal room row h)
+      ]
+    ]
+
+all-of : (S : System) (R : Rules) (K : List Event) → IsLegal S R K → length K < 2 ^ 64 → (c : ℕ) → AllOf K c (queue K c)
+all-of S R [] legal room = λ c. none-of c
+all-of S R (e ∷ []) legal room = λ c. first-of S R e c legal.0
+all-of S R (e ∷ f ∷ K) legal room = λ c. all-kind S R (f ∷ K) e c legal.1 (omega arith) (row-of S R (f ∷ K) e legal.0 (omega arith)) (all-of S R (f ∷ K) legal.1 (omega arith) c)
+
+pub first-own : (S : System) (R : Rules) (K : List Event) (c r : ℕ) (rs : List ℕ) → IsLegal S R K → length K < 2 ^ 64 → queue K c ≡ r ∷ rs → (w : ℕ) × IsRequestOf K c r w
+unfolding AllOf
+first-own S R K c r rs legal room q = (rw q at (all-of S R K legal room c)).0
+
+installed-now : (e : Event) (K : List Event) (c r : ℕ) → call_at K r ≡ Some c → (installs_for K e c && is_first (queue K c) r) ≡ true → install_of (e ∷ K) r ≡ installed e.what
+unfolding install_of
+installed-now e K c r q p = rw (q, p)
+
+installed-same : (e : Event) (K : List Event) (c r : ℕ) → call_at K r ≡ Some c → (installs_for K e c && is_first (queue K c) r) ≡ false → install_of (e ∷ K) r ≡ install_of K r
+unfolding install_of
+installed-same e K c r q p = rw (q, p)
+
+waits-in-call : (K : List Event) (n : Name) (c : ℕ) → call_of K n ≡ Some c → (listed K c ≡ true) × (caller K c ≡ n)
+unfolding call_of
+waits-in-call K n c q =
+    let s = newest-some (λ d. listed K d && name_eq (caller K d) n) (length K) c q in
+    let p = and_parts (listed K c) (name_eq (caller K c) n) s.0 in
+    (p.0, name_eq-true (caller K c) n p.1)
+
+first-is : (rs : List ℕ) (r : ℕ) (more : List ℕ) → rs ≡ r ∷ more → is_first rs r ≡ true
+first-is rs r more q = rw q (eq-eqb r r refl)
+
+pub installs-own : (S : System) (R : Rules) (K : List Event) (n : Name) (x : Result ℕ ℕ) → IsLegal S R K → length K < 2 ^ 64 → TaskRow S K n (Install x) → (c r w : ℕ) × IsInstallOf K n c r w
+installs-own S R K n x legal room r =
+    let c = r.1.0 in
+    let l = waits-in-call K n c r.1.1 in
+    let i = install-first S K (Task n) x c (queue K c) refl r.1.1 r.1.3 in
+    let o = first-own S R K c i.first i.rest legal room i.queue_is in
+    (c, i.first, o.0, record { in_call = r.1.1; on_list = l.0; by_caller = l.1; is_next = first-is (queue K c) i.first i.rest i.queue_is; request = o.1 })
+
+-- a settled call gets no more installs
+no-install : (S : System) (R : Rules) (K : List Event) (e : Event) (c : ℕ) → IsLegal S R K → Row S R K e.who e.what → settled K c ≡ true → installs_for K e c ≡ false
+no-install S R K e c legal row h = false_from_ne_true (installs_for K e c) (λ f.
+    let p = and_parts (is_install e.what) (is_task e.who (caller K c) && listed K c) f in
+    let q = and_parts (is_task e.who (caller K c)) (listed K c) p.1 in
+    clash (settled K c) (installs-open S R K e.who e.what c legal row p.0 q.0 q.1) h)
+
+source-later : (S : System) (R : Rules) (K : List Event) (e : Event) (c w : ℕ) (b : Back) → IsLegal S R K → length K < 2 ^ 64 → Row S R K e.who e.what → settled K c ≡ true → Source K c w b → Source (e ∷ K) c w b
+source-later S R K e c w b legal room row s (sent p x b' u d q h g a) = let l = event_at-below K p d q in sent p x b' u d (rw event_at-older q) h g (rw (before-older e K p (omega arith)) a)
+source-later S R K e c w b legal room row s (installed_for r n h g) =
+    installed_for r n (request-later S R K e c r w legal room row h) (install-same e K c r h.for_call (no-install S R K e c legal row s) ∙ g)
+
+pub Settled : List Event → ℕ → Type 0
+Settled K c = (w : ℕ) × (fetcher K c ≡ Some w) × Source K c w (reply K c)
+
+settled-send : (S : System) (R : Rules) (K : List Event) (e : Event) (c : ℕ) → IsLegal S R K → length K < 2 ^ 64 → Row S R K e.who e.what → answers K e.what c ≡ true → (w : ℕ) × (fetcher K c ≡ Some w) × Source (e ∷ K) c w (back_of e.what)
+settled-send S R K e c legal room row h =
+    let v = actor-acts S R K e.who e.what c legal room row (or_right (puts_to K e.what c) (answers K e.what c) h) in
+    let f = hand-fetcher S R K legal room v.0 c v.2 in
+    let k = a-send e.what h in
+    (v.0, f, sent (length K) k.0 (back_of e.what) k.1 e (event_at-here e K) v.1 k.2 (rw (before-newest e K) h))
+  where
+    a-send : (what : What) → answers K what c ≡ true → (x : ℕ) × (u : Unit {0}) × (what ≡ Send x (back_of what) (Ok u))
+    a-send (Send x b (Ok u)) h = (x, u, refl)
+    a-send what h = cc
+
+settled-install : (S : System) (R : Rules) (K : List Event) (e : Event) (c : ℕ) → IsLegal S R K → length K < 2 ^ 64 → Row S R K e.who e.what → installs_for K e c ≡ true → gave e.what ≡ true → (w : ℕ) × (fetcher K c ≡ Some w) × Source (e ∷ K) c w (back_of e.what)
+settled-install S R K e c legal room row f g =
+    let p = and_parts (is_install e.what) (is_task e.who (caller K c) && listed K c) f in
+    let q = and_parts (is_task e.who (caller K c)) (listed K c) p.1 in
+    let i = installing S R K e.who e.what c legal row p.0 q.0 q.1 in
+    let o = first-own S R K c i.first i.rest legal room i.queue_is in
+    let k = number e.what g in
+    let h : install_of (e ∷ K) i.first ≡ Some (Ok k.0) = install-now e K c i.first i.rest o.1.for_call f i.queue_is ∙ ap installed k.1 in
+    (o.0, o.1.session_of, subst (Source (e ∷ K) c o.0) (sym k.2) (installed_for i.first k.0 (request-later S R K e c i.first o.0 legal room row o.1) h))
+  where
+    number : (what : What) → gave what ≡ true → (n : ℕ) × (what ≡ Install (Ok n)) × (back_of what ≡ Value (pos n))
+    number (Install (Ok n)) h = (n, refl, refl)
+    number what h = cc
+
+settled-kind : (S : System) (R : Rules) (K : List Event) (e : Event) (c : ℕ) → IsLegal S R K → length K < 2 ^ 64 → Row S R K e.who e.what → (settled K c ≡ true → Settled K c) → settled (e ∷ K) c ≡ true → Settled (e ∷ K) c
+unfolding Settled
+settled-kind S R K e c legal room row ih h =
+    elim (cases_Bool (settles K e c)) [
+      | inl q ↦ rw (reply-now e K c q) (kept (elim (or_cases (answers K e.what c) (installs_for K e c && (gave e.what && first_sends K (queue K c))) q) [
+        | inl a ↦ settled-send S R K e c legal room row a
+        | inr a ↦
+            let p = and_parts (installs_for K e c) (gave e.what && first_sends K (queue K c)) a in
+            settled-install S R K e c legal room row p.0 (and_parts (gave e.what) (first_sends K (queue K c)) p.1).0
+      ]))
+      | inr q ↦
+          let z = ih (settled-was e K c q h) in
+          rw (reply-same e K c q) (z.0, fetcher-stays S R K e z.0 c legal room row (fetcher-fetched K c z.0 z.1) z.1, source-later S R K e c z.0 (reply K c) legal room row (settled-was e K c q h) z.2)
+    ]
+  where
+    kept : {b : Back} → (w : ℕ) × (fetcher K c ≡ Some w) × Source (e ∷ K) c w b → (w : ℕ) × (fetcher (e ∷ K) c ≡ Some w) × Source (e ∷ K) c w b
+    kept z = (z.0, fetcher-stays S R K e z.0 c legal room row (fetcher-fetched K c z.0 z.1) z.1, z.2)
+
+pub settled-by : (S : System) (R : Rules) (K : List Event) → IsLegal S R K → length K < 2 ^ 64 → (c : ℕ) → settled K c ≡ true → Settled K c
+settled-by S R [] legal room = λ c h. absurd (nothing-settled c h)
+settled-by S R (e ∷ []) legal room = λ c h. absurd (start-settles S R e c legal.0 h)
+settled-by S R (e ∷ f ∷ K) legal room = λ c. settled-kind S R (f ∷ K) e c legal.1 (omega arith) (row-of S R (f ∷ K) e legal.0 (omega arith)) (settled-by S R (f ∷ K) legal.1 (omega arith) c)
+
+pub resumes-own : (S : System) (R : Rules) (K : List Event) (n : Name) (b : Back) → IsLegal S R K → length K < 2 ^ 64 → TaskRow S K n (Resume b) → (c w : ℕ) × (listed K c ≡ true) × (caller K c ≡ n) × (fetcher K c ≡ Some w) × Source K c w b
+unfolding Settled
+resumes-own S R K n b legal room r =
+    let c = r.1.0 in
+    let l = waits-in-call K n c r.1.1 in
+    let z = settled-by S R K legal room c r.1.2 in
+    (c, z.0, l.0, l.1, z.1, rw r.1.3 z.2)
+
+-- a number that was installed for a call's request settles the call, and is its reply
+pub Gave : List Event → ℕ → ℕ → Type 0
+Gave K c m = (settled K c ≡ true) × (reply K c ≡ Value (pos m))
+
+gave-kind : (S : System) (R : Rules) (K : List Event) (e : Event) (c r m : ℕ) → IsLegal S R K → length K < 2 ^ 64 → Row S R K e.who e.what → call_at K r ≡ Some c → (install_of K r ≡ Some (Ok m) → Gave K c m) → install_of (e ∷ K) r ≡ Some (Ok m) → Gave (e ∷ K) c m
+unfolding Gave settled
+gave-kind S R K e c r m legal room row q ih h =
+    elim (cases_Bool (installs_for K e c && is_first (queue K c) r)) [
+      | inl p ↦
+          let f = and_parts (installs_for K e c) (is_first (queue K c) r) p in
+          let w : e.what ≡ Install (Ok m) = number e.what (sym (installed-now e K c r q p) ∙ h) in
+          let s : settles K e c ≡ true = settling f.0 f.1 w in
+          (or_left (settles K e c) (settled K c) s, reply-now e K c s ∙ ap back_of w)
+      | inr p ↦
+          let z = ih (sym (installed-same e K c r q p) ∙ h) in
+          let n : settles K e c ≡ false = false_from_ne_true (settles K e c) (λ s. clash (settled K c) (settles-once S R K e c legal row s) z.0) in
+          (or_right (settles K e c) (settled K c) z.0, reply-same e K c n ∙ z.1)
+    ]
+  where
+    number : (what : What) → installed what ≡ Some (Ok m) → what ≡ Install (Ok m)
+    number (Install x) k = ap Install (some-same x (Ok m) k)
+      where
+        some-same : (x y : Result ℕ ℕ) → Some x ≡ Some y → x ≡ y
+        some-same x y k = cc
+    number what k = cc
+
+    first-of' : (rs : List ℕ) → is_first rs r ≡ true → first_sends K rs ≡ is_send K r
+    first-of' [] k = cc
+    first-of' (x ∷ rs) k = rw (eqb-true x r k)
+
+    settling : installs_for K e c ≡ true → is_first (queue K c) r ≡ true → e.what ≡ Install (Ok m) → settles K e c ≡ true
+    settling f g w =
+        let i = queue-of (queue K c) refl g in
+        let o = first-own S R K c r i.0 legal room i.1 in
+        let s : first_sends K (queue K c) ≡ true = first-of' (queue K c) g ∙ o.1.sends in
+        let y : gave e.what ≡ true = ap gave w in
+        grind arith
+      where
+        queue-of : (rs : List ℕ) → queue K c ≡ rs → is_first rs r ≡ true → (more : List ℕ) × (queue K c ≡ r ∷ more)
+        queue-of [] k z = cc
+        queue-of (x ∷ rs) k z = (rs, rw (eqb-true x r z) at k)
+
+-- a request that is put now has no install yet
+gave-step : (S : System) (R : Rules) (K : List Event) (e : Event) (c r m : ℕ) → IsLegal S R K → length K < 2 ^ 64 → Row S R K e.who e.what → (call_at K r ≡ Some c → install_of K r ≡ Some (Ok m) → Gave K c m) → call_at (e ∷ K) r ≡ Some c → install_of (e ∷ K) r ≡ Some (Ok m) → Gave (e ∷ K) c m
+gave-step S R K e c r m legal room row ih q h =
+    elim (cases_order r (length K)) [
+      | inl z ↦ absurd (none-some m (sym (install-new e K) ∙ rw z at h))
+      | inr z ↦ elim z [
+        | inl l ↦ let p : call_at K r ≡ Some c = sym (call-at-older e K r l) ∙ q in gave-kind S R K e c r m legal room row p (ih p) h
+        | inr l ↦ absurd (no-place c (sym (call-at-above (e ∷ K) r (omega arith)) ∙ q))
+      ]
+    ]
+  where
+    none-some : (m : ℕ) → ◌≡◌ {A = Option (Result ℕ ℕ)} None (Some (Ok m)) → ⊥
+    none-some m h = cc
+
+    no-place : (c : ℕ) → None ≡ Some c → ⊥
+    no-place c h = cc
+
+first-asks-nothing : (S : System) (R : Rules) (e : Event) (r : ℕ) → IsStep S R [] e → call_at (e ∷ []) r ≡ None
+unfolding call_at
+first-asks-nothing S R e r h = rw (ap (λ (d : Event). asked_call [] d.what) h) (both (r == 0))
+  where
+    both : (b : Bool) → ◌≡◌ {A = Option ℕ} (if b then None else None) None
+    both true = refl
+    both false = refl
+
+pub gave-number : (S : System) (R : Rules) (K : List Event) → IsLegal S R K → length K < 2 ^ 64 → (c r m : ℕ) → call_at K r ≡ Some c → install_of K r ≡ Some (Ok m) → Gave K c m
+gave-number S R [] legal room = λ c r m q h. absurd (none-some c (sym (call-at-above [] r (omega arith)) ∙ q))
+  where
+    none-some : (c : ℕ) → None ≡ Some c → ⊥
+    none-some c h = cc
+gave-number S R (e ∷ []) legal room = λ c r m q h. absurd (none-some c (sym (first-asks-nothing S R e r legal.0) ∙ q))
+  where
+    none-some : (c : ℕ) → None ≡ Some c → ⊥
+    none-some c h = cc
+gave-number S R (e ∷ f ∷ K) legal room = λ c r m. gave-step S R (f ∷ K) e c r m legal.1 (omega arith) (row-of S R (f ∷ K) e legal.0 (omega arith)) (gave-number S R (f ∷ K) legal.1 (omega arith) c r m)
+
+-- a resume of such a call returns the number
+pub returns-installed : (S : System) (R : Rules) (K : List Event) (n : Name) (b : Back) → IsLegal S R K → length K < 2 ^ 64 → TaskRow S K n (Resume b) → (c r m : ℕ) → call_of K n ≡ Some c → call_at K r ≡ Some c → install_of K r ≡ Some (Ok m) → b ≡ Value (pos m)
+unfolding Gave
+returns-installed S R K n b legal room row c r m k q h =
+    let g = gave-number S R K legal room c r m q h in
+    let s : row.1.0 ≡ c = some-same row.1.0 c (sym row.1.1 ∙ k) in
+    row.1.3 ∙ (ap (reply K) s ∙ g.1)
+  where
+    some-same : (x y : ℕ) → Some x ≡ Some y → x ≡ y
+    some-same x y h = cc

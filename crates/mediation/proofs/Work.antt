@@ -1,0 +1,308 @@
+-- A worker's open session, and its call.
+use Rattle.std.proofs.Common.{◌≡◌, ◌⊎◌, inl, inr, ℕ, ◌<◌, Bool, true, false, ◌&&◌, not, List, [], ◌∷◌, length, Option, Some, None, refl, sym, ap, ◌∙◌, arith}
+use Rattle.std.specs.Prelude.{Ok, Err}
+use Rattle.std.proofs.lemmas.Bool.{cases_Bool, and_parts, eqb-true, eq-eqb}
+use Rattle.hist_model.specs.Look.{event_at, is_worker}
+use Rattle.hist_model.specs.Tasks.{is_made, pid_of, ended}
+use Rattle.hist_model.specs.Calls.{fetched, caller, id, is_call}
+use Rattle.hist_model.specs.Sessions.{Rules, Fetch, session, skips, starts, joined, notif_of, fetched_by, any_of, is_letgo}
+use Rattle.hist_model.specs.Systems.{System}
+use Rattle.hist_model.specs.Steps.{IsStep, IsLegal, session_call, call_after, mem, mem_after, base, base_after, oldest_unfetched, task_place, pid_at, pid_or, notif}
+use Rattle.hist_model.specs.declared.event.Event.{Event}
+use Rattle.hist_model.specs.declared.event.Actor.{Actor}
+use Rattle.hist_model.specs.declared.event.Actor.TheVariants.{Start, Task, Worker, Listener}
+use Rattle.hist_model.specs.declared.event.What.{What}
+use Rattle.hist_model.specs.declared.event.What.TheVariants.{Recv, OpenMem, OpenBase, Check, Read, Act, Plant, AddfdPut, AddfdTake, Send, LetGo, Skip}
+use Rattle.sys_abi.specs.declared.wire.Notif.{Notif}
+use Rattle.hist_model.proofs.Look.{event_at-older}
+use Rattle.mediation.proofs.Rows.{Row, WorkerRow}
+use Rattle.mediation.proofs.Own.{row-of, calls_are_last, listed-below}
+use Rattle.mediation.proofs.Ids.{listed-is_call, is_call-below}
+use Rattle.mediation.proofs.Count.{fetching, fetched-now, fetched-more}
+use Rattle.mediation.proofs.Deeds.{AtWork, deed-is}
+use Rattle.mediation.proofs.Places.{place-stays, place-is, made-place, makes-pid}
+
+-- the row of a worker's step
+pub worker-row : (S : System) (R : Rules) (K : List Event) (e : Event) (w : ℕ) → IsStep S R K e → is_worker e.who w ≡ true → WorkerRow S R K w e.what
+worker-row S R [] e w r h = let q = ap (λ (d : Event). is_worker d.who w) r in absurd (no q h)
+  where
+    no : {b : Bool} → b ≡ false → b ≡ true → ⊥
+    no p q = cc
+worker-row S R (f ∷ K) e w r h = go e.who e.what (row-of S R (f ∷ K) e r (omega arith)) h
+  where
+    go : (a : Actor) (what : What) → Row S R (f ∷ K) a what → is_worker a w ≡ true → WorkerRow S R (f ∷ K) w what
+    go (Worker v) what r h = let q = eqb-true v w h in rw q at r
+    go Start what r h = cc
+    go (Task n) what r h = cc
+    go Listener what r h = cc
+
+pub session-same : (e : Event) (K : List Event) (w : ℕ) → (is_worker e.who w && not (skips e.what)) ≡ false → session (e ∷ K) w ≡ session K w
+unfolding session
+session-same e K w h = rw h
+
+pub session-more : (e : Event) (K : List Event) (w : ℕ) → is_worker e.who w ≡ true → skips e.what ≡ false → session (e ∷ K) w ≡ joined e.what (session K w)
+unfolding session
+session-more e K w h g = rw (h, g)
+
+pub grown : (own : List What) (a : What) (n : Notif) → notif_of own ≡ Some n → starts a ≡ false → joined a own ≡ a ∷ own
+grown [] a n h g = cc
+grown (b ∷ own) a n h g = rw g
+
+pub call-same : (e : Event) (K : List Event) (w : ℕ) → is_worker e.who w ≡ false → session_call (e ∷ K) w ≡ session_call K w
+unfolding session_call
+call-same e K w h = rw h
+
+pub call-more : (e : Event) (K : List Event) (w : ℕ) → is_worker e.who w ≡ true → session_call (e ∷ K) w ≡ call_after K e.what (session_call K w)
+unfolding session_call
+call-more e K w h = rw h
+
+-- the worker has this call in hand
+pub record InSession (K : List Event) (w c : ℕ) : Type 0 where
+  pub n : Notif
+  pub t : ℕ
+  pub call : is_call K c ≡ true
+  pub got : fetched K c ≡ true
+  pub notif_is : notif_of (session K w) ≡ Some n
+  pub no_letgo : any_of is_letgo (session K w) ≡ false
+  pub whole_is : n ≡ notif K c
+  pub id_is : n.id ≡ id K c
+  pub task_is : task_place K (caller K c) ≡ Some t
+  pub pid_is : pid_of K t ≡ Some n.pid
+
+-- the worker has no call in hand
+pub record Idle (K : List Event) (w : ℕ) : Type 0 where
+  pub none : (notif_of (session K w) ≡ None) ⊎ (any_of is_letgo (session K w) ≡ true)
+  pub mem_none : mem K w ≡ None
+  pub base_none : base K w ≡ None
+
+abbrev pub Hand : List Event → ℕ → Option ℕ → Type 0
+Hand K w (Some c) = InSession K w c
+Hand K w None = Idle K w
+
+-- a step that a session takes after its receive
+abbrev pub works : What → Bool
+works (OpenMem p a) = true
+works (OpenBase p d a) = true
+works (Check x a) = true
+works (Read x l a) = true
+works (Act q cap a) = true
+works (Plant x b cap a) = true
+works (AddfdPut q a) = true
+works (AddfdTake a) = true
+works (Send x b a) = true
+works _ = false
+
+pub at-work : (S : System) (R : Rules) (K : List Event) (w : ℕ) (what : What) → WorkerRow S R K w what → works what ≡ true → (n : Notif) × AtWork (session K w) n
+at-work S R K w (OpenMem p a) r h = let t = deed-is R (session K w) _ r.0 in (t.0, t.1)
+at-work S R K w (OpenBase p d a) r h = let t = deed-is R (session K w) _ r.0 in (t.0, t.1)
+at-work S R K w (Check x a) r h = let t = deed-is R (session K w) _ r.0 in (t.0, t.1)
+at-work S R K w (Read x l a) r h = let t = deed-is R (session K w) _ r.0 in (t.0, t.1)
+at-work S R K w (Act q cap a) r h = let t = deed-is R (session K w) _ r.0 in (t.0, t.1)
+at-work S R K w (Plant x b cap a) r h = let t = deed-is R (session K w) _ r.0 in (t.0, t.1)
+at-work S R K w (AddfdPut q a) r h = let t = deed-is R (session K w) _ r.0 in (t.0, t.1)
+at-work S R K w (AddfdTake a) r h = let t = deed-is R (session K w) _ r.0 in (t.0, t.1)
+at-work S R K w (Send x b a) r h = let t = deed-is R (session K w) _ r.0 in (t.0, t.1)
+at-work S R K w what r h = cc
+
+-- a call's notification stays
+notif-later : (e : Event) (K : List Event) (c t : ℕ) → c < length K → task_place K (caller K c) ≡ Some t → t < length K → notif (e ∷ K) c ≡ notif K c
+notif-later e K c t l p u =
+    let q : task_place (e ∷ K) (caller K c) ≡ Some t = place-stays e K (caller K c) t p in
+    rw (event_at-older e K c l, q, p, event_at-older e K t u)
+
+-- what stays of a call in hand while its session's steps stay
+in-session-kept : (e : Event) (K : List Event) (w c : ℕ) (i : InSession K w c) → notif_of (session (e ∷ K) w) ≡ Some i.n → any_of is_letgo (session (e ∷ K) w) ≡ false → InSession (e ∷ K) w c
+in-session-kept e K w c i h g =
+    let l = is_call-below K c i.call in
+    let p = place-is K (caller K c) i.t i.task_is in
+    let u : i.t < length K = p.2 in
+    record {
+      n = i.n;
+      t = i.t;
+      call = rw event_at-older i.call;
+      got = fetched-more e K c i.got;
+      notif_is = h;
+      no_letgo = g;
+      whole_is = i.whole_is ∙ sym (notif-later e K c i.t l i.task_is u);
+      id_is = rw event_at-older i.id_is;
+      task_is = rw event_at-older (place-stays e K (caller K c) i.t i.task_is);
+      pid_is = rw event_at-older i.pid_is;
+    }
+
+pub mem-same : (e : Event) (K : List Event) (w : ℕ) → is_worker e.who w ≡ false → mem (e ∷ K) w ≡ mem K w
+unfolding mem
+mem-same e K w h = rw h
+
+pub mem-more : (e : Event) (K : List Event) (w : ℕ) → is_worker e.who w ≡ true → mem (e ∷ K) w ≡ mem_after K e.what (mem K w)
+unfolding mem
+mem-more e K w h = rw h
+
+pub base-same : (e : Event) (K : List Event) (w : ℕ) → is_worker e.who w ≡ false → base (e ∷ K) w ≡ base K w
+unfolding base
+base-same e K w h = rw h
+
+pub base-more : (e : Event) (K : List Event) (w : ℕ) → is_worker e.who w ≡ true → base (e ∷ K) w ≡ base_after K e.what (base K w)
+unfolding base
+base-more e K w h = rw h
+
+-- another's step
+hand-other : (e : Event) (K : List Event) (w : ℕ) (o : Option ℕ) → is_worker e.who w ≡ false → Hand K w o → Hand (e ∷ K) w o
+hand-other e K w (Some c) h i =
+    let s = session-same e K w (grind arith) in
+    in-session-kept e K w c i (rw s i.notif_is) (rw s i.no_letgo)
+hand-other e K w None h i =
+    let s = session-same e K w (grind arith) in
+    record { none = rw s i.none; mem_none = mem-same e K w h ∙ i.mem_none; base_none = base-same e K w h ∙ i.base_none }
+
+abbrev pub by : Actor → What → Event
+by a w = record { who = a; what = w }
+
+pub started : (own : List What) (a : What) → starts a ≡ true → joined a own ≡ a ∷ []
+started [] a h = rw h
+started (b ∷ own) a h = rw h
+
+-- a step in the session keeps the call in hand
+pub record Kept (K : List Event) (what : What) : Type 0 where
+  pub call : (c : Option ℕ) → call_after K what c ≡ c
+  pub no_start : starts what ≡ false
+  pub no_skip : skips what ≡ false
+  pub no_letgo : is_letgo what ≡ false
+  pub no_notif : fetched_by what ≡ None
+
+pub works-keep : (K : List Event) (what : What) → works what ≡ true → Kept K what
+works-keep K (OpenMem p a) h = record { call = λ c. refl; no_start = refl; no_skip = refl; no_letgo = refl; no_notif = refl }
+works-keep K (OpenBase p d a) h = record { call = λ c. refl; no_start = refl; no_skip = refl; no_letgo = refl; no_notif = refl }
+works-keep K (Check x a) h = record { call = λ c. refl; no_start = refl; no_skip = refl; no_letgo = refl; no_notif = refl }
+works-keep K (Read x l a) h = record { call = λ c. refl; no_start = refl; no_skip = refl; no_letgo = refl; no_notif = refl }
+works-keep K (Act q cap a) h = record { call = λ c. refl; no_start = refl; no_skip = refl; no_letgo = refl; no_notif = refl }
+works-keep K (Plant x b cap a) h = record { call = λ c. refl; no_start = refl; no_skip = refl; no_letgo = refl; no_notif = refl }
+works-keep K (AddfdPut q a) h = record { call = λ c. refl; no_start = refl; no_skip = refl; no_letgo = refl; no_notif = refl }
+works-keep K (AddfdTake a) h = record { call = λ c. refl; no_start = refl; no_skip = refl; no_letgo = refl; no_notif = refl }
+works-keep K (Send x b a) h = record { call = λ c. refl; no_start = refl; no_skip = refl; no_letgo = refl; no_notif = refl }
+works-keep K what h = cc
+
+-- the notification of a session is its call's
+pub hand-notif : (K : List Event) (w c : ℕ) (i : InSession K w c) (n : Notif) → i.n ≡ n → n ≡ notif K c
+hand-notif K w c i n q = sym q ∙ i.whole_is
+
+-- a worker with a session at work has a call in hand
+pub in-hand : (K : List Event) (w : ℕ) (o : Option ℕ) (n : Notif) → AtWork (session K w) n → Hand K w o → (c : ℕ) × (o ≡ Some c) × (i : InSession K w c) × (i.n ≡ n)
+in-hand K w (Some c) n work i = (c, refl, i, some-same i.n n (sym i.notif_is ∙ work.notif_is))
+  where
+    some-same : (a b : Notif) → Some a ≡ Some b → a ≡ b
+    some-same a b h = cc
+in-hand K w None n work i = elim i.none [ inl q ↦ absurd (one n (sym q ∙ work.notif_is)) | inr q ↦ absurd (two (any_of is_letgo (session K w)) work.no_letgo q) ]
+  where
+    one : (m : Notif) → None ≡ Some m → ⊥
+    one m h = cc
+
+    two : (b : Bool) → b ≡ false → b ≡ true → ⊥
+    two b g h = cc
+
+module _ (S : System) (R : Rules) (K : List Event) (a : Actor) (w : ℕ) (legal : IsLegal S R K) (mine' : is_worker a w ≡ true) where
+  mine-works : (what : What) → WorkerRow S R K w what → works what ≡ true → Hand K w (session_call K w) → Hand (by a what ∷ K) w (session_call (by a what ∷ K) w)
+  mine-works what r h i =
+      let g = at-work S R K w what r h in
+      let j = in-hand K w (session_call K w) g.0 g.1 i in
+      let k = works-keep K what h in
+      let s : session (by a what ∷ K) w ≡ what ∷ session K w = session-more (by a what) K w mine' k.no_skip ∙ grown (session K w) what g.0 g.1.notif_is k.no_start in
+      let c : session_call (by a what ∷ K) w ≡ Some j.0 = call-more (by a what) K w mine' ∙ (k.call (session_call K w) ∙ j.1) in
+      rw c (in-session-kept (by a what) K w j.0 j.2 (rw (s, k.no_notif) j.2.notif_is) (rw (s, k.no_letgo) j.2.no_letgo))
+
+  mine-skip : Hand K w (session_call K w) → Hand (by a Skip ∷ K) w (session_call (by a Skip ∷ K) w)
+  mine-skip i = rw (call-more (by a Skip) K w mine') (go (session_call K w) i)
+    where
+      s : session (by a Skip ∷ K) w ≡ session K w
+      s = session-same (by a Skip) K w (grind arith)
+
+      go : (o : Option ℕ) → Hand K w o → Hand (by a Skip ∷ K) w o
+      go (Some c) i = in-session-kept (by a Skip) K w c i (rw s i.notif_is) (rw s i.no_letgo)
+      go None i = record { none = rw s i.none; mem_none = mem-more (by a Skip) K w mine' ∙ i.mem_none; base_none = base-more (by a Skip) K w mine' ∙ i.base_none }
+
+  mine-letgo : WorkerRow S R K w LetGo → Hand (by a LetGo ∷ K) w (session_call (by a LetGo ∷ K) w)
+  mine-letgo r =
+      let t = deed-is R (session K w) _ r in
+      let s : session (by a LetGo ∷ K) w ≡ LetGo ∷ session K w = session-more (by a LetGo) K w mine' refl ∙ grown (session K w) LetGo t.0 t.1 refl in
+      rw (call-more (by a LetGo) K w mine') (record { none = inr (rw s); mem_none = mem-more (by a LetGo) K w mine'; base_none = base-more (by a LetGo) K w mine' })
+
+  mine-fetch : (n : Notif) → WorkerRow S R K w (Recv (Ok n)) → Hand (by a (Recv (Ok n)) ∷ K) w (session_call (by a (Recv (Ok n)) ∷ K) w)
+  mine-fetch n r =
+      let e = by a (Recv (Ok n)) in
+      let f = fetching K n (oldest_unfetched K) refl r.2 in
+      let d = f.0 in
+      let l = calls_are_last S R K legal d f.2 in
+      let p = and_parts (is_made K (caller K d)) (not (ended K (caller K d))) l.0 in
+      let m = made-place K (caller K d) p.0 in
+      let q = place-is K (caller K d) m.0 m.1 in
+      let u : m.0 < length K = q.2 in
+      let v : d < length K = listed-below K d f.2 in
+      let pid : n.pid ≡ pid_or (pid_of K m.0) = ap (λ (x : Notif). x.pid) f.1 ∙ ap (pid_at K) m.1 in
+      let s : session (e ∷ K) w ≡ Recv (Ok n) ∷ [] = session-more e K w mine' refl ∙ started (session K w) (Recv (Ok n)) refl in
+      rw (call-more e K w mine', f.4) (record {
+        n = n;
+        t = m.0;
+        call = rw event_at-older (listed-is_call K d f.2);
+        got = fetched-now e K d (eq-eqb n.id (id K d) (ap (λ (x : Notif). x.id) f.1)) f.2;
+        notif_is = rw s;
+        no_letgo = rw s;
+        whole_is = f.1 ∙ sym (notif-later e K d m.0 v m.1 u);
+        id_is = rw event_at-older (ap (λ (x : Notif). x.id) f.1);
+        task_is = rw event_at-older (place-stays e K (caller K d) m.0 m.1);
+        pid_is = rw event_at-older (makes-pid (event_at K m.0) q.0 ∙ ap Some (sym pid));
+      })
+
+  mine-empty : (x : ℕ) → WorkerRow S R K w (Recv (Err x)) → Hand K w (session_call K w) → Hand (by a (Recv (Err x)) ∷ K) w (session_call (by a (Recv (Err x)) ∷ K) w)
+  mine-empty x r i = rw (call-more (by a (Recv (Err x))) K w mine') (go (session_call K w) i)
+    where
+      t : (notif_of (session K w) ≡ None) ⊎ (any_of is_letgo (session K w) ≡ true)
+      t = deed-is R (session K w) Fetch r.0
+
+      s : session (by a (Recv (Err x)) ∷ K) w ≡ joined (Recv (Err x)) (session K w)
+      s = session-more (by a (Recv (Err x))) K w mine' refl
+
+      stays : (own : List What) → (notif_of own ≡ None) ⊎ (any_of is_letgo own ≡ true) → (notif_of (joined (Recv (Err x)) own) ≡ None) ⊎ (any_of is_letgo (joined (Recv (Err x)) own) ≡ true)
+      stays [] h = h
+      stays (b ∷ own) h = h
+
+      no : (c : ℕ) → InSession K w c → (notif_of (session K w) ≡ None) ⊎ (any_of is_letgo (session K w) ≡ true) → ⊥
+      no c i (inl q) = one i.n (sym q ∙ i.notif_is)
+        where
+          one : (m : Notif) → None ≡ Some m → ⊥
+          one m h = cc
+      no c i (inr q) = two (any_of is_letgo (session K w)) i.no_letgo q
+        where
+          two : (b : Bool) → b ≡ false → b ≡ true → ⊥
+          two b g h = cc
+
+      go : (o : Option ℕ) → Hand K w o → Hand (by a (Recv (Err x)) ∷ K) w o
+      go (Some c) i = absurd (no c i t)
+      go None i = record { none = rw s (stays (session K w) t); mem_none = mem-more (by a (Recv (Err x))) K w mine' ∙ i.mem_none; base_none = base-more (by a (Recv (Err x))) K w mine' ∙ i.base_none }
+
+  mine-step : (what : What) → WorkerRow S R K w what → Hand K w (session_call K w) → Hand (by a what ∷ K) w (session_call (by a what ∷ K) w)
+  mine-step (Recv (Ok n)) r i = mine-fetch n r
+  mine-step (Recv (Err x)) r i = mine-empty x r i
+  mine-step LetGo r i = mine-letgo r
+  mine-step Skip r i = mine-skip i
+  mine-step (OpenMem p x) r i = mine-works (OpenMem p x) r refl i
+  mine-step (OpenBase p d x) r i = mine-works (OpenBase p d x) r refl i
+  mine-step (Check x y) r i = mine-works (Check x y) r refl i
+  mine-step (Read x l y) r i = mine-works (Read x l y) r refl i
+  mine-step (Act q cap x) r i = mine-works (Act q cap x) r refl i
+  mine-step (Plant x b cap y) r i = mine-works (Plant x b cap y) r refl i
+  mine-step (AddfdPut q x) r i = mine-works (AddfdPut q x) r refl i
+  mine-step (AddfdTake x) r i = mine-works (AddfdTake x) r refl i
+  mine-step (Send x b y) r i = mine-works (Send x b y) r refl i
+  mine-step _ r i = absurd r
+
+pub hand-step : (S : System) (R : Rules) (K : List Event) (e : Event) (w : ℕ) → IsLegal S R K → IsStep S R K e → Hand K w (session_call K w) → Hand (e ∷ K) w (session_call (e ∷ K) w)
+hand-step S R K e w legal r i =
+    elim (cases_Bool (is_worker e.who w)) [
+      | inl q ↦ mine-step S R K e.who w legal q e.what (worker-row S R K e w r q) i
+      | inr q ↦ rw call-same (hand-other e K w (session_call K w) q i)
+    ]
+
+-- what each worker has in hand
+pub hand : (S : System) (R : Rules) (K : List Event) → IsLegal S R K → (w : ℕ) → Hand K w (session_call K w)
+unfolding session_call session mem base
+hand S R [] legal = λ w. record { none = inl refl; mem_none = refl; base_none = refl }
+hand S R (e ∷ K) legal = λ w. hand-step S R K e w legal.1 legal.0 (hand S R K legal.1 w)

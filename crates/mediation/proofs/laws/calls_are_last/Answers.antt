@@ -1,0 +1,5 @@
+use Rattle.mediation.proofs.Own as lemma
+use Rattle.mediation.proofs.laws.calls_are_last.Goals as goal
+
+pub returns : goal.returns
+returns c = lemma.calls_are_last

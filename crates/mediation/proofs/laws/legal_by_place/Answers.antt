@@ -1,0 +1,5 @@
+use Rattle.mediation.proofs.Determined as lemma
+use Rattle.mediation.proofs.laws.legal_by_place.Goals as goal
+
+pub returns : goal.returns
+returns c = record { there = lemma.place-of-legal; back = lemma.legal-by-place }

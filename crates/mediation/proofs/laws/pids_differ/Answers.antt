@@ -1,0 +1,5 @@
+use Rattle.mediation.proofs.Pids as lemma
+use Rattle.mediation.proofs.laws.pids_differ.Goals as goal
+
+pub returns : goal.returns
+returns c = lemma.pids_differ

@@ -1,0 +1,104 @@
+//! Laws of every legal history: of any script's system and any rules. Each is the contract of a function that does nothing.
+
+ghost use Rattle.std.specs.Prelude.{◌≡◌, ◌<◌, ◌^◌, ℕ, List, length, reverse};
+ghost use Rattle.hist_model.specs.declared.event.Event.{Event};
+ghost use Rattle.hist_model.specs.Systems.{System};
+ghost use Rattle.hist_model.specs.Sessions.{Rules, session};
+ghost use Rattle.hist_model.specs.Steps.{IsLegal};
+ghost use Rattle.hist_model.specs.Laws.{CallsAreLast, PidsDiffer, AnsweredOnce, CountIs};
+ghost use Rattle.hist_model.specs.Settlers.{InstallsOwn, ResumesOwn, ReturnsInstalled};
+ghost use Rattle.hist_model.specs.Orders.{InOrder};
+ghost use Rattle.hist_model.specs.Mediated.{Each, TakenByItsActor, NamesOwn, NeverBusy, ErrorsKnown, LostIfGone, HasCause};
+ghost use Rattle.mediation.specs.Journals.{actors, IsLegalByPlace};
+ghost use Rattle.mediation.specs.Facts.{CallIdsDiffer};
+
+/// Two calls have different ids, whether listed or not.
+pub fn ids_differ()
+    ensures { (S : System) (R : Rules) (K : List Event) → IsLegal S R K → length K < 2 ^ 64 → CallIdsDiffer K }
+{}
+
+/// A listed call's task lives, and its last step of its own but `Install` and `Skip` is that call.
+pub fn calls_are_last()
+    ensures { (S : System) (R : Rules) (K : List Event) → IsLegal S R K → CallsAreLast K }
+{}
+
+/// Two tasks that are not reaped have different process numbers.
+pub fn pids_differ()
+    ensures { (S : System) (R : Rules) (K : List Event) → IsLegal S R K → PidsDiffer K }
+{}
+
+/// A call is settled at most once.
+pub fn answered_once()
+    ensures { (S : System) (R : Rules) (K : List Event) → IsLegal S R K → AnsweredOnce K }
+{}
+
+/// The request count is the number of listed calls that are not fetched, and of those that left the list unfetched,
+/// less the receives that found nothing.
+pub fn count_is()
+    ensures { (S : System) (R : Rules) (K : List Event) → IsLegal S R K → length K < 2 ^ 64 → CountIs K }
+{}
+
+/// Two legal histories with the same actors are one.
+pub fn fixed_by_actors()
+    ensures { (S : System) (R : Rules) (K L : List Event) → IsLegal S R K → IsLegal S R L → actors K ≡ actors L → K ≡ L }
+{}
+
+/// Legality reads the same by the places of a list that begins with the oldest event.
+pub fn legal_by_place()
+    ensures there { (S : System) (R : Rules) (H : List Event) → IsLegal S R (reverse H) → IsLegalByPlace S R H }
+    ensures back { (S : System) (R : Rules) (H : List Event) (d : Event) → IsLegalByPlace S R H → IsLegal S R (reverse H) }
+{}
+
+/// Each answer and each request that was accepted is for the call of its own session.
+pub fn names_own()
+    ensures { (S : System) (R : Rules) (K : List Event) → IsLegal S R K → length K < 2 ^ 64 → Each NamesOwn K }
+{}
+
+/// A worker is told that a call or its task is gone only where its session's call isn't listed.
+pub fn lost_if_gone()
+    ensures { (S : System) (R : Rules) (K : List Event) → IsLegal S R K → length K < 2 ^ 64 → Each LostIfGone K }
+{}
+
+/// No worker is answered EINPROGRESS or EBUSY.
+pub fn never_busy()
+    ensures { (S : System) (R : Rules) (K : List Event) → IsLegal S R K → length K < 2 ^ 64 → Each NeverBusy K }
+{}
+
+/// Each session's steps stand in order: openings, a good check, reads, a good check, uses.
+pub fn ordered()
+    ensures { (S : System) (R : Rules) (K : List Event) → IsLegal S R K → (w : ℕ) → InOrder (session K w) }
+{}
+
+/// Each answer stands after two good checks, and has its cause in the session's copy and the policy.
+pub fn has_cause()
+    ensures { (S : System) (R : Rules) (K : List Event) → IsLegal S R K → length K < 2 ^ 64 → Each (HasCause R) K }
+{}
+
+/// Each installation is a step of a listed call's task, for a request of that call's session.
+pub fn installs_own()
+    ensures { (S : System) (R : Rules) (K : List Event) → IsLegal S R K → length K < 2 ^ 64 → Each InstallsOwn K }
+{}
+
+/// Each return of a call gives what its session sent, or the number that was installed for its session's request.
+pub fn resumes_own()
+    ensures { (S : System) (R : Rules) (K : List Event) → IsLegal S R K → length K < 2 ^ 64 → Each ResumesOwn K }
+{}
+
+/// Each step is one that its actor takes.
+pub fn taken_by_its_actor()
+    ensures { (S : System) (R : Rules) (K : List Event) → IsLegal S R K → length K < 2 ^ 64 → Each TakenByItsActor K }
+{
+}
+
+/// A worker's check and answer have no error but ENOENT, its request for a descriptor none but EBADF and ENOENT, and its
+/// take none but EBADF, EMFILE and ENOENT.
+pub fn errors_known()
+    ensures { (S : System) (R : Rules) (K : List Event) → IsLegal S R K → length K < 2 ^ 64 → Each ErrorsKnown K }
+{
+}
+
+/// Each return of a call for one of whose requests a number was installed gives this number.
+pub fn returns_installed()
+    ensures { (S : System) (R : Rules) (K : List Event) → IsLegal S R K → length K < 2 ^ 64 → Each ReturnsInstalled K }
+{
+}
