@@ -70,8 +70,8 @@ answer_in _ = None
 
 -- a piece of the arguments may be taken: it answers the piece that is wanted
 abbrev pub FitsPiece : Arguments → Result (List ℕ) ℕ → Type 0
-FitsPiece (Reading c) (Ok bytes) = Answers (continued c []) (Ok bytes)
-FitsPiece (Reading c) (Err e) = Answers (continued c []) (Err e) × (e ≡ 14)
+FitsPiece (Reading c) (Ok bytes) = Answers (wanted (continued c [])) (Ok bytes)
+FitsPiece (Reading c) (Err e) = Answers (wanted (continued c [])) (Err e) × (e ≡ 14)
 FitsPiece (Judged j) answer = ⊥
 
 -- a check may be taken: the first, or the second, after which nothing more is read
