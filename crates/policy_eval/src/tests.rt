@@ -1,6 +1,5 @@
 use super::*;
 use hist_model::policy::{Calls, Cond, Rule};
-use hist_model::request::Kind;
 use hist_model::text::Sequence;
 use std::test::Fail;
 
@@ -110,35 +109,41 @@ fn mount(alloc: Global, flags: u64) -> Result<Request, Fail> {
     })
 }
 
+/// The condition on this key.
+fn condition(key: &str, value: Text) -> Cond {
+    match key {
+        "path" => Cond::Path(value),
+        "under" => Cond::Under(value),
+        "fstype" => Cond::Fstype(value),
+        "source" => Cond::Source(value),
+        "name" => Cond::Name(value),
+        _ => Cond::PlainFlags,
+    }
+}
+
 #[test]
 fn tests_conditions(rt: HostRuntime) -> Result<(), Fail> {
     let alloc = rt.alloc();
-    let cases = [
-        (Cond::Path(text(alloc, b"/mnt/x")?), true),
-        (Cond::Path(text(alloc, b"/mnt")?), false),
-        (Cond::Under(text(alloc, b"/mnt")?), true),
-        (Cond::Under(text(alloc, b"/mnt/x")?), false),
-        (Cond::Under(text(alloc, b"/mn")?), false),
-        (Cond::Kind(Kind::Chr), false),
-        (Cond::Dev(1, 3), false),
-        (Cond::Fstype(text(alloc, b"ext4")?), true),
-        (Cond::Fstype(text(alloc, b"ext")?), false),
-        (Cond::Source(text(alloc, b"/dev/sda1")?), true),
-        (Cond::Source(text(alloc, b"/dev/sda")?), false),
-        (Cond::Name(text(alloc, b"ext4")?), false),
-        (Cond::PlainFlags, true),
+    let cases: [(&str, &[u8], u64, bool); 14] = [
+        ("path", b"/mnt/x", 0, true),
+        ("path", b"/mnt", 0, false),
+        ("under", b"/mnt", 0, true),
+        ("under", b"/mnt/x", 0, false),
+        ("under", b"/mn", 0, false),
+        ("fstype", b"ext4", 0, true),
+        ("fstype", b"ext", 0, false),
+        ("source", b"/dev/sda1", 0, true),
+        ("source", b"/dev/sda", 0, false),
+        ("name", b"ext4", 0, false),
+        ("plain", b"", 15, true),
+        ("plain", b"", 32, false),
+        ("plain", b"", 4096, false),
+        ("plain", b"", 8192, false),
     ];
-    for (cond, fits) in cases {
-        let policy = rule(alloc, 165, cond)?;
-        assert_eq!(rt;
-            decide(&policy, &mount(alloc, 15)?) == (0, Verdict::Grant),
-            fits,
-            "{policy:?}"
-        );
-    }
-    let plain = rule(alloc, 165, Cond::PlainFlags)?;
-    for flags in [32, 4096, 8192, 0xffff_ffff_ffff_ffff] {
-        assert_eq!(rt; decide(&plain, &mount(alloc, flags)?), (1, Verdict::Pass));
+    for (key, value, flags, fits) in cases {
+        let policy = rule(alloc, 165, condition(key, text(alloc, value)?))?;
+        let decided = decide(&policy, &mount(alloc, flags)?);
+        assert_eq!(rt; decided == (0, Verdict::Grant), fits, "{key} {flags}");
     }
     Ok(())
 }
