@@ -2,6 +2,7 @@
 
 ghost use Rattle.std.specs.Prelude.{◌≡◌, ◌<◌, ◌≤◌, ◌∷◌, length, reverse, take, IfSome};
 ghost use Rattle.hist_model.specs.Copies as copies;
+ghost use Rattle.arg_capture.specs.Moments.{ArePlaced};
 ghost use Rattle.arg_capture.specs.Plans.{IsSound, first_part, rest_parts};
 
 use hist_model::copy::Part;
@@ -81,6 +82,7 @@ impl Plan {
     pub fn of(nr: i32, args: &[u64; 6]) -> Plan
         ensures parts { result ≡ copies.plan nr args.now }
         ensures few { length result ≤ 4 }
+        ensures placed { ArePlaced result }
     {
         match nr {
             133 => Plan {
