@@ -29,6 +29,24 @@ impl Model for Plan {
     ghost invariant = { λ p. (p.left ≤ 4) × (p.left ≤ length p.parts) × All IsSound p.parts };
 }
 
+// Numbers of the calls that have texts.
+const MKNOD: i32 = 133;
+
+const MOUNT: i32 = 165;
+
+const SETXATTR: i32 = 188;
+
+const OPENAT: i32 = 257;
+
+const MKNODAT: i32 = 259;
+
+// Errors of texts that don't end.
+const EINVAL: u16 = 22;
+
+const ERANGE: u16 = 34;
+
+const ENAMETOOLONG: u16 = 36;
+
 /// Stands behind the parts of a plan.
 const BLANK: Part = Part::Value { addr: 0, size: 0 };
 
@@ -49,7 +67,7 @@ fn path_at(addr: u64) -> Part
     Part::Text {
         addr,
         limit: 4096,
-        fault: errno(36),
+        fault: errno(ENAMETOOLONG),
     }
 }
 
@@ -59,7 +77,7 @@ fn name_at(addr: u64) -> Part
     Part::Text {
         addr,
         limit: 256,
-        fault: errno(34),
+        fault: errno(ERANGE),
     }
 }
 
@@ -72,7 +90,7 @@ fn option_at(addr: u64) -> Part
     Part::Text {
         addr,
         limit: 4096,
-        fault: errno(22),
+        fault: errno(EINVAL),
     }
 }
 
@@ -85,15 +103,15 @@ impl Plan {
         ensures placed { ArePlaced result }
     {
         match nr {
-            133 => Plan {
+            MKNOD => Plan {
                 parts: [path_at(args[0]), BLANK, BLANK, BLANK],
                 left: 1,
             },
-            257 | 259 => Plan {
+            MKNODAT | OPENAT => Plan {
                 parts: [path_at(args[1]), BLANK, BLANK, BLANK],
                 left: 1,
             },
-            165 => Plan {
+            MOUNT => Plan {
                 parts: [
                     option_at(args[4]),
                     option_at(args[2]),
@@ -102,7 +120,7 @@ impl Plan {
                 ],
                 left: 4,
             },
-            188 => Plan {
+            SETXATTR => Plan {
                 parts: [
                     Part::Value {
                         addr: args[2],
