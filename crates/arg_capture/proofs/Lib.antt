@@ -2,3 +2,4 @@ pub mod Stacks
 pub mod Zeros
 pub mod Steps
 pub mod Following
+pub mod Moments

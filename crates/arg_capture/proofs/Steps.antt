@@ -252,6 +252,20 @@ value-faults : (a s e : ℕ) (later : List (Result (List ℕ) ℕ)) → read_val
 unfolding read_value
 value-faults a s e later = refl
 
+pub text_asks : (a l f : ℕ) (parts : List Part) → progress (Text a l f ∷ parts) [] ≡ Wants a (piece a l)
+text_asks a l f parts = progress-at (Text a l f) parts [] ∙ ap (λ r. progress_after r (progress parts)) (text-asks f a l)
+
+pub value_asks : (a s : ℕ) (parts : List Part) → 0 < s → s ≤ 4096 → progress (Value a s ∷ parts) [] ≡ Wants a (piece a s)
+value_asks a s parts p l = progress-at (Value a s) parts [] ∙ ap (λ r. progress_after r (progress parts)) (value-read a s [] p l ∙ value-asks a s)
+
+pub text_fails : (a l f e : ℕ) (parts : List Part) (later : List (Result (List ℕ) ℕ)) → progress (Text a l f ∷ parts) (Err e ∷ later) ≡ Faulty e
+text_fails a l f e parts later = progress-at (Text a l f) parts (Err e ∷ later) ∙ ap (λ q. progress_after q (progress parts)) (text-faults f a l e later)
+
+pub value_fails : (a s e : ℕ) (parts : List Part) (later : List (Result (List ℕ) ℕ)) → 0 < s → s ≤ 4096 → progress (Value a s ∷ parts) (Err e ∷ later) ≡ Faulty e
+value_fails a s e parts later p l =
+    progress-at (Value a s) parts (Err e ∷ later)
+    ∙ ap (λ q. progress_after q (progress parts)) (value-read a s (Err e ∷ later) p l ∙ value-faults a s e later)
+
 -- EFAULT ends the reading of the part in hand
 faults-in : (texts : List (List ℕ)) (taken : List ℕ) (parts : List Part) (later : List (Result (List ℕ) ℕ)) → IsSettled (length taken) parts
     → Answers (wanted (with_texts texts (with_taken taken (progress parts [])))) (Err 14)

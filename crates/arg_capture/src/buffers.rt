@@ -8,7 +8,7 @@ use std::mem;
 use sys_abi::memory::NoMemory;
 
 /// The most bytes of a text or a value.
-const MOST_BYTES: usize = 4096;
+pub const MOST_BYTES: usize = 4096;
 
 /// The bytes of the part in hand, and empty buffers for the parts after it. Contracts see the bytes, and for how many parts
 /// there is room, the one in hand among them.

@@ -14,6 +14,9 @@ use std::marker::Model;
 use sys_abi::errno::Errno;
 use sys_abi::memory::NoMemory;
 
+/// The error of a read that no byte is mapped for.
+const EFAULT: u16 = 14;
+
 /// A copy of a call's texts that is read in pieces.
 #[derive(Drop)]
 pub struct Capture {
@@ -75,7 +78,7 @@ impl Capture {
     {
         match got {
             Ok(bytes) => self.fault = self.reading.take(bytes)?,
-            Err(_) => self.fault = Some(errno(14)),
+            Err(_) => self.fault = Some(errno(EFAULT)),
         }
         Ok(())
     }

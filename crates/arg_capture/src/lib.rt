@@ -12,6 +12,7 @@
 
 mod buffers;
 mod capture;
+pub mod laws;
 mod plan;
 mod reading;
 

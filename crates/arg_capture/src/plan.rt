@@ -2,6 +2,7 @@
 
 ghost use Rattle.std.specs.Prelude.{◌≡◌, ◌<◌, ◌≤◌, ◌∷◌, length, reverse, take, IfSome};
 ghost use Rattle.hist_model.specs.Copies as copies;
+ghost use Rattle.arg_capture.specs.Moments.{ArePlaced};
 ghost use Rattle.arg_capture.specs.Plans.{IsSound, first_part, rest_parts};
 
 use hist_model::copy::Part;
@@ -28,6 +29,24 @@ impl Model for Plan {
     ghost invariant = { λ p. (p.left ≤ 4) × (p.left ≤ length p.parts) × All IsSound p.parts };
 }
 
+// Numbers of the calls that have texts.
+const MKNOD: i32 = 133;
+
+const MOUNT: i32 = 165;
+
+const SETXATTR: i32 = 188;
+
+const OPENAT: i32 = 257;
+
+const MKNODAT: i32 = 259;
+
+// Errors of texts that don't end.
+const EINVAL: u16 = 22;
+
+const ERANGE: u16 = 34;
+
+const ENAMETOOLONG: u16 = 36;
+
 /// Stands behind the parts of a plan.
 const BLANK: Part = Part::Value { addr: 0, size: 0 };
 
@@ -48,7 +67,7 @@ fn path_at(addr: u64) -> Part
     Part::Text {
         addr,
         limit: 4096,
-        fault: errno(36),
+        fault: errno(ENAMETOOLONG),
     }
 }
 
@@ -58,7 +77,7 @@ fn name_at(addr: u64) -> Part
     Part::Text {
         addr,
         limit: 256,
-        fault: errno(34),
+        fault: errno(ERANGE),
     }
 }
 
@@ -71,7 +90,7 @@ fn option_at(addr: u64) -> Part
     Part::Text {
         addr,
         limit: 4096,
-        fault: errno(22),
+        fault: errno(EINVAL),
     }
 }
 
@@ -81,17 +100,18 @@ impl Plan {
     pub fn of(nr: i32, args: &[u64; 6]) -> Plan
         ensures parts { result ≡ copies.plan nr args.now }
         ensures few { length result ≤ 4 }
+        ensures placed { ArePlaced result }
     {
         match nr {
-            133 => Plan {
+            MKNOD => Plan {
                 parts: [path_at(args[0]), BLANK, BLANK, BLANK],
                 left: 1,
             },
-            257 | 259 => Plan {
+            MKNODAT | OPENAT => Plan {
                 parts: [path_at(args[1]), BLANK, BLANK, BLANK],
                 left: 1,
             },
-            165 => Plan {
+            MOUNT => Plan {
                 parts: [
                     option_at(args[4]),
                     option_at(args[2]),
@@ -100,7 +120,7 @@ impl Plan {
                 ],
                 left: 4,
             },
-            188 => Plan {
+            SETXATTR => Plan {
                 parts: [
                     Part::Value {
                         addr: args[2],

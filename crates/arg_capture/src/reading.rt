@@ -6,7 +6,7 @@ ghost use Rattle.hist_model.specs.declared.copy.Part.TheVariants as part;
 ghost use Rattle.arg_capture.specs.Captures.{reached_progress, unless_faulty, wanted, Answers, HasRoom, IsKept, Takes, with_answer, with_more, with_whole};
 ghost use Rattle.arg_capture.specs.Plans.{IsReadable, IsSettled, IsSound, first_part, rest_parts};
 
-use crate::buffers::Buffers;
+use crate::buffers::{Buffers, MOST_BYTES};
 use crate::plan::{Plan, errno};
 use hist_model::copy::Part;
 use hist_model::text::Text;
@@ -14,6 +14,9 @@ use std::alloc::Global;
 use std::marker::Model;
 use sys_abi::errno::Errno;
 use sys_abi::memory::NoMemory;
+
+/// The error of a value that is too great.
+const E2BIG: u16 = 7;
 
 /// The texts that are whole, the bytes of the part in hand, and the parts that are left.
 #[derive(Drop)]
@@ -124,7 +127,7 @@ impl Reading {
                 self.finish_part();
                 self.settle()
             }
-            Some(Part::Value { addr: _, size }) if size > 4096 => Some(errno(7)),
+            Some(Part::Value { addr: _, size }) if size > MOST_BYTES as u64 => Some(errno(E2BIG)),
             _ => None,
         }
     }
