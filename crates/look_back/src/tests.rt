@@ -1,9 +1,7 @@
 //! Answers about three small histories, by the rules of the manual pages.
 
-use crate::calls;
-use crate::signals;
 use crate::steps::{self, Tally};
-use crate::tasks;
+use crate::{calls, signals, tasks};
 use hist_model::event::{Actor, Back, Delivered, Entered, Event, Mode, SpawnKind, What};
 use hist_model::policy::Cap;
 use hist_model::request::Request;
@@ -29,10 +27,6 @@ const ASKED: Addfd = Addfd {
 
 fn name(alloc: Global, numbers: &[u32]) -> Result<TaskName, NoMemory> {
     Ok(TaskName::new(numbers.to_vec(alloc)?))
-}
-
-fn text(alloc: Global, bytes: &[u8]) -> Result<Text, NoMemory> {
-    Ok(Text::new(bytes.to_vec(alloc)?))
 }
 
 /// A step of the task with these numbers.
@@ -88,6 +82,15 @@ fn notif(pid: u32) -> Notif {
     }
 }
 
+/// The events before a place.
+fn before(events: &[Event], place: usize) -> &[Event] {
+    if place < events.len() {
+        &events[..place]
+    } else {
+        events
+    }
+}
+
 fn check() -> Event {
     by_worker(What::Check {
         id: 1,
@@ -95,19 +98,21 @@ fn check() -> Event {
     })
 }
 
-/// A task makes a device by the broker.
-fn granted(alloc: Global) -> Result<Vec<Event>, NoMemory> {
+/// A task enters a call for the broker.
+fn entered(alloc: Global) -> Result<Vec<Event>, NoMemory> {
     let mut events = Vec::new(alloc);
     events.push(start(alloc)?)?;
-    events.push(by_task(
-        alloc,
-        &[0],
-        What::Poke {
-            addr: 65536,
-            bytes: text(alloc, b"/null\0")?,
-        },
-    )?)?;
+    let poke = What::Poke {
+        addr: 65536,
+        bytes: Text::new(Vec::new(alloc)),
+    };
+    events.push(by_task(alloc, &[0], poke)?)?;
     events.push(by_task(alloc, &[0], call(133))?)?;
+    Ok(events)
+}
+
+/// A worker fetches the call, opens its task's memory and reads it.
+fn add_reading(alloc: Global, events: &mut Vec<Event>) -> Result<(), NoMemory> {
     events.push(by_worker(What::Recv {
         answer: Ok(notif(1)),
     }))?;
@@ -124,13 +129,18 @@ fn granted(alloc: Global) -> Result<Vec<Event>, NoMemory> {
     events.push(by_worker(What::Read {
         addr: 65536,
         len: 256,
-        answer: Ok(text(alloc, b"/null")?),
+        answer: Ok(Text::new(Vec::new(alloc))),
     }))?;
     events.push(check())?;
+    Ok(())
+}
+
+/// The worker makes the device, answers and lets go.
+fn add_effect(alloc: Global, events: &mut Vec<Event>) -> Result<(), NoMemory> {
     events.push(by_worker(What::Act {
         request: Request::Mknod {
             dirfd: None,
-            path: text(alloc, b"/null")?,
+            path: Text::new(Vec::new(alloc)),
             mode: 8630,
             dev: 259,
         },
@@ -143,75 +153,76 @@ fn granted(alloc: Global) -> Result<Vec<Event>, NoMemory> {
         answer: Ok(()),
     }))?;
     events.push(by_worker(What::LetGo))?;
-    events.push(by_task(
-        alloc,
-        &[0],
-        What::Resume {
-            back: Back::Value(0),
-        },
-    )?)?;
+    Ok(())
+}
+
+/// The call returns, its task ends, and the listener is closed.
+fn add_return(alloc: Global, events: &mut Vec<Event>) -> Result<(), NoMemory> {
+    let back = Back::Value(0);
+    events.push(by_task(alloc, &[0], What::Resume { back })?)?;
     events.push(by_task(alloc, &[0], What::Exit)?)?;
     events.push(Event {
         who: Actor::Listener,
         what: What::Close,
     })?;
+    Ok(())
+}
+
+/// A task makes a device by the broker: 15 events.
+fn granted(alloc: Global) -> Result<Vec<Event>, NoMemory> {
+    let mut events = entered(alloc)?;
+    add_reading(alloc, &mut events)?;
+    add_effect(alloc, &mut events)?;
+    add_return(alloc, &mut events)?;
     Ok(events)
 }
 
-/// A child is killed in its call, and its number is given again.
-fn killed(alloc: Global) -> Result<Vec<Event>, NoMemory> {
+/// A child handles a signal and enters a call, which a worker fetches.
+fn child(alloc: Global) -> Result<Vec<Event>, NoMemory> {
     let mut events = Vec::new(alloc);
     events.push(start(alloc)?)?;
-    events.push(by_task(
-        alloc,
-        &[0],
-        spawn(alloc, &[0, 1], 2, SpawnKind::Copied)?,
-    )?)?;
-    events.push(by_task(
-        alloc,
-        &[0, 1],
-        What::Handler {
-            sig: 10,
-            mode: Mode::Restart,
-        },
-    )?)?;
+    let made = spawn(alloc, &[0, 1], 2, SpawnKind::Copied)?;
+    events.push(by_task(alloc, &[0], made)?)?;
+    let handler = What::Handler {
+        sig: 10,
+        mode: Mode::Restart,
+    };
+    events.push(by_task(alloc, &[0, 1], handler)?)?;
     events.push(by_task(alloc, &[0, 1], call(133))?)?;
     events.push(by_worker(What::Recv {
         answer: Ok(notif(2)),
     }))?;
-    events.push(by_task(
-        alloc,
-        &[0],
-        What::Signal {
-            pid: 2,
-            sig: 9,
-            answer: Ok(()),
-        },
-    )?)?;
-    events.push(by_task(
-        alloc,
-        &[0, 1],
-        What::Deliver {
-            sig: 9,
-            effect: Delivered::End,
-        },
-    )?)?;
-    events.push(by_task(
-        alloc,
-        &[0],
-        What::Reap {
-            answer: Ok(name(alloc, &[0, 1])?),
-        },
-    )?)?;
-    events.push(by_task(
-        alloc,
-        &[0],
-        spawn(alloc, &[0, 2], 2, SpawnKind::Shared)?,
-    )?)?;
     Ok(events)
 }
 
-/// A descriptor is put into a task that waits in a call, and answers it.
+/// The child is killed and reaped, and another one gets its number.
+fn add_end(alloc: Global, events: &mut Vec<Event>) -> Result<(), NoMemory> {
+    let kill = What::Signal {
+        pid: 2,
+        sig: 9,
+        answer: Ok(()),
+    };
+    events.push(by_task(alloc, &[0], kill)?)?;
+    let delivery = What::Deliver {
+        sig: 9,
+        effect: Delivered::End,
+    };
+    events.push(by_task(alloc, &[0, 1], delivery)?)?;
+    let answer = Ok(name(alloc, &[0, 1])?);
+    events.push(by_task(alloc, &[0], What::Reap { answer })?)?;
+    let made = spawn(alloc, &[0, 2], 2, SpawnKind::Shared)?;
+    events.push(by_task(alloc, &[0], made)?)?;
+    Ok(())
+}
+
+/// A child is killed in its call, and its number is given again: 9 events.
+fn killed(alloc: Global) -> Result<Vec<Event>, NoMemory> {
+    let mut events = child(alloc)?;
+    add_end(alloc, &mut events)?;
+    Ok(events)
+}
+
+/// A descriptor is put into a task that waits in a call, and answers it: 5 events.
 fn injected(alloc: Global) -> Result<Vec<Event>, NoMemory> {
     let mut events = Vec::new(alloc);
     events.push(start(alloc)?)?;
@@ -228,123 +239,225 @@ fn injected(alloc: Global) -> Result<Vec<Event>, NoMemory> {
 }
 
 #[test]
-fn a_granted_call_is_answered_and_returns(rt: HostRuntime) -> Result<(), Fail> {
+fn calls_are_listed_fetched_and_settled(rt: HostRuntime) -> Result<(), Fail> {
     let events = granted(rt.alloc())?;
+    let sent = before(&events, 12);
     let own: &[u32] = &[0];
-    assert_eq!(rt; events.len(), 15);
-
-    let entered = &events[..3];
-    assert_eq!(rt; calls::oldest_unfetched(entered), Some(2));
-    assert_eq!(rt; calls::count(entered), 1);
-    assert_eq!(rt; steps::recv_answer(entered), Ok(notif(1)));
-    assert_eq!(rt; steps::send_answer(entered, 1), Err(Errno::EINPROGRESS));
-
-    let acted = &events[..10];
-    assert_eq!(rt; steps::check_answer(acted, 1), Ok(()));
-    assert_eq!(rt; steps::check_answer(acted, 2), Err(Errno::ENOENT));
-    assert_eq!(rt; steps::send_answer(acted, 1), Ok(()));
-    assert_eq!(rt; steps::session_call(acted, 0), Some(2));
-    assert_eq!(rt; steps::mem(acted, 0), Some(0));
-    assert_eq!(rt; steps::base(acted, 0), Some(0));
-    assert_eq!(rt; steps::open_group(acted, 1), Some(0));
-    assert_eq!(rt; steps::open_answer(acted, 2), Err(Errno::ESRCH));
-    assert_eq!(rt; steps::times_spent(acted, 0), 1);
-    assert!(rt; steps::is_spent(acted, ONCE) && !steps::is_spent(acted, None));
-
-    let sent = &events[..12];
-    assert!(rt; calls::listed(sent, 2) && calls::fetched(sent, 2) && calls::settled(sent, 2));
-    assert!(rt; calls::answered(sent, 2) && !calls::waiting(sent, 2));
+    let states = [
+        calls::listed(sent, 2),
+        calls::fetched(sent, 2),
+        calls::settled(sent, 2),
+        calls::answered(sent, 2),
+        calls::waiting(sent, 2),
+        calls::is_call(&events, 2),
+        calls::listed(&events, 2),
+        calls::owes_native(&events, own),
+    ];
+    assert_eq!(rt; states, [true, true, true, true, false, true, false, false]);
+    let counts = [
+        calls::calls(sent),
+        calls::recvs(sent),
+        calls::count(before(&events, 3)),
+    ];
+    assert_eq!(rt; counts, [1, 1, 1]);
+    let places = [
+        calls::oldest_unfetched(before(&events, 3)),
+        calls::oldest_unfetched(sent),
+        calls::call_of(sent, own),
+        calls::named(sent, 1),
+    ];
+    assert_eq!(rt; places, [Some(2), None, Some(2), Some(2)]);
     assert_eq!(rt; calls::reply(sent, 2), Back::Value(0));
-    assert_eq!(rt; calls::call_of(sent, own), Some(2));
-    assert_eq!(rt; calls::named(sent, 1), Some(2));
-    assert_eq!(rt; steps::mem(sent, 0), None);
-
-    assert_eq!(rt; calls::id_at(&events, 2), 1);
-    assert_eq!(rt; calls::caller(&events, 2), own);
-    assert!(rt; calls::is_call(&events, 2) && !calls::listed(&events, 2));
-    assert_eq!(rt; (calls::calls(&events), calls::recvs(&events)), (1, 1));
-    assert!(rt; !calls::owes_native(&events, own));
-    assert_eq!(rt; steps::next_place(&events, own), 2);
-    assert_eq!(rt; steps::steps_of(Tally::Instructions, &events, own), 2);
-    assert!(rt; matches!(steps::last_call(&events, own), Some(What::Enter { nr: 133, .. })));
-    assert!(rt; tasks::is_made(&events, own) && tasks::ended(&events, own));
-    assert!(rt; tasks::reaped(&events, own) && !tasks::was_waited_for(&events, own));
-    assert!(rt; !tasks::alive(&events, own) && !steps::lives(&events, 1));
-    assert_eq!(rt; tasks::holder(&events, 1), None);
+    assert!(rt; calls::id_at(sent, 2) == 1 && tasks::same_name(calls::caller(sent, 2), own));
     Ok(())
 }
 
 #[test]
-fn a_killed_child_is_reaped_and_its_number_is_free(rt: HostRuntime) -> Result<(), Fail> {
+fn workers_get_their_answers(rt: HostRuntime) -> Result<(), Fail> {
+    let events = granted(rt.alloc())?;
+    let acted = before(&events, 10);
+    assert_eq!(rt; steps::recv_answer(before(&events, 3)), Ok(notif(1)));
+    let answers = [
+        steps::send_answer(before(&events, 3), 1),
+        steps::send_answer(acted, 1),
+        steps::check_answer(acted, 1),
+        steps::check_answer(acted, 2),
+        steps::open_answer(acted, 2),
+    ];
+    let wanted = [
+        Err(Errno::EINPROGRESS),
+        Ok(()),
+        Ok(()),
+        Err(Errno::ENOENT),
+        Err(Errno::ESRCH),
+    ];
+    assert_eq!(rt; answers, wanted);
+    let places = [
+        steps::session_call(acted, 0),
+        steps::mem(acted, 0),
+        steps::base(acted, 0),
+        steps::open_group(acted, 1),
+        steps::mem(&events, 0),
+    ];
+    assert_eq!(rt; places, [Some(2), Some(0), Some(0), Some(0), None]);
+    let spent = [steps::is_spent(acted, ONCE), steps::is_spent(acted, None)];
+    assert_eq!(rt; (steps::times_spent(acted, 0), spent), (1, [true, false]));
+    Ok(())
+}
+
+#[test]
+fn tasks_step_and_end(rt: HostRuntime) -> Result<(), Fail> {
+    let events = granted(rt.alloc())?;
+    let own: &[u32] = &[0];
+    let states = [
+        tasks::is_made(&events, own),
+        tasks::ended(&events, own),
+        tasks::reaped(&events, own),
+        tasks::was_waited_for(&events, own),
+        tasks::alive(&events, own),
+        steps::lives(&events, 1),
+    ];
+    assert_eq!(rt; states, [true, true, true, false, false, false]);
+    let counts = [
+        steps::next_place(&events, own),
+        steps::steps_of(Tally::Instructions, &events, own),
+        steps::spawns(&events, own),
+    ];
+    assert_eq!(rt; counts, [2, 2, 0]);
+    let last = steps::last_call(&events, own);
+    assert!(rt; matches!(last, Some(What::Enter { nr: 133, .. })));
+    Ok(())
+}
+
+#[test]
+fn signals_wait_for_their_delivery(rt: HostRuntime) -> Result<(), Fail> {
+    let events = killed(rt.alloc())?;
+    let sent = before(&events, 6);
+    let child: &[u32] = &[0, 1];
+    let states = [
+        tasks::pending(sent, child, 9),
+        tasks::pending(sent, child, 10),
+        tasks::pending(&events, child, 9),
+        signals::held(true, sent, child),
+        signals::held(false, sent, child),
+        signals::is_fatal(sent, child, 9),
+        signals::due(true, sent, child, 9),
+    ];
+    assert_eq!(rt; states, [true, false, false, true, false, true, true]);
+    assert_eq!(rt; signals::next_signal(true, sent, child), Some(9));
+    let modes = [tasks::mode(sent, child, 10), tasks::mode(sent, child, 9)];
+    assert_eq!(rt; modes, [Mode::Restart, Mode::Default]);
+    let effects = [
+        signals::effect_in_call(10, Mode::Restart),
+        signals::effect_outside(10, Mode::Restart),
+    ];
+    assert_eq!(rt; effects, [Delivered::Restart, Delivered::Run]);
+    Ok(())
+}
+
+#[test]
+fn a_child_is_reaped_and_its_number_is_free(rt: HostRuntime) -> Result<(), Fail> {
+    let events = killed(rt.alloc())?;
+    let (running, ended, reaped) = (before(&events, 6), before(&events, 7), before(&events, 8));
+    let own: &[u32] = &[0];
+    let child: &[u32] = &[0, 1];
+    let found = [
+        tasks::waited(running, own),
+        tasks::waited(ended, own),
+        tasks::waited(ended, child),
+    ];
+    assert_eq!(rt; found, [None, Some(Ok(1)), Some(Err(Errno::ECHILD))]);
+    let pids = [
+        tasks::next_pid(0, 2, running),
+        tasks::next_pid(0, 2, reaped),
+    ];
+    assert_eq!(rt; pids, [None, Some(2)]);
+    let refused = steps::spawn_answer(0, 2, running, SpawnKind::Shared);
+    assert_eq!(rt; refused, Err(Errno::EAGAIN));
+    assert_eq!(rt; steps::signal_answer(reaped, 2), Err(Errno::ESRCH));
+    assert!(rt; tasks::was_waited_for(reaped, child) && tasks::reaped(reaped, child));
+    Ok(())
+}
+
+#[test]
+fn tasks_have_places_numbers_and_groups(rt: HostRuntime) -> Result<(), Fail> {
     let events = killed(rt.alloc())?;
     let own: &[u32] = &[0];
     let child: &[u32] = &[0, 1];
-    assert_eq!(rt; events.len(), 9);
-
-    let sent = &events[..6];
-    assert!(rt; tasks::pending(sent, child, 9) && !tasks::pending(sent, child, 10));
-    assert_eq!(rt; tasks::mode(sent, child, 10), Mode::Restart);
-    assert_eq!(rt; tasks::mode(sent, child, 9), Mode::Default);
-    assert!(rt; signals::held(true, sent, child) && !signals::held(false, sent, child));
-    assert!(rt; signals::is_fatal(sent, child, 9) && signals::due(true, sent, child, 9));
-    assert_eq!(rt; signals::next_signal(true, sent, child), Some(9));
-    assert_eq!(rt; signals::effect_in_call(10, Mode::Restart), Delivered::Restart);
-    assert_eq!(rt; signals::effect_outside(10, Mode::Restart), Delivered::Run);
-    assert_eq!(rt; tasks::first_child(sent, own), Some(1));
-    assert_eq!(rt; tasks::waited(sent, own), None);
-    assert_eq!(rt; tasks::next_pid(0, 2, sent), None);
-    assert_eq!(rt; steps::spawn_answer(0, 2, sent, SpawnKind::Shared), Err(Errno::EAGAIN));
-
-    let ended = &events[..7];
-    assert_eq!(rt; tasks::first_ended_child(ended, own), Some(1));
-    assert_eq!(rt; tasks::waited(ended, own), Some(Ok(1)));
-    assert_eq!(rt; tasks::waited(ended, child), Some(Err(Errno::ECHILD)));
-
-    let reaped = &events[..8];
-    assert!(rt; tasks::was_waited_for(reaped, child) && tasks::reaped(reaped, child));
-    assert_eq!(rt; tasks::next_pid(0, 2, reaped), Some(2));
-    assert_eq!(rt; steps::signal_answer(reaped, 2), Err(Errno::ESRCH));
-    assert_eq!(rt; steps::next_child(rt.alloc(), reaped, own)?.items(), [0, 2].as_slice());
-
-    assert_eq!(rt; tasks::holder(&events, 2), Some(8));
-    assert_eq!(rt; tasks::last_pid(0, &events), 2);
-    assert_eq!(rt; tasks::task_place(&events, child), Some(1));
-    assert_eq!(rt; tasks::child_place(&events, own, 2), Some(8));
-    assert_eq!(rt; tasks::name_at(&events, 1), child);
-    assert_eq!(rt; tasks::pid_named(&events, own), 1);
-    assert_eq!(rt; tasks::pid_at(&events, Some(8)), 2);
-    assert_eq!(rt; (tasks::group(&events, 1), tasks::group(&events, 8)), (1, 0));
-    assert_eq!(rt; tasks::opened(&events, None), None);
-    assert_eq!(rt; steps::group_named(&events, &[0, 2]), Some(0));
-    assert_eq!(rt; steps::signalled(&events, own, Whom::Child(2)), 2);
-    assert_eq!(rt; steps::signalled(&events, child, Whom::Parent), 1);
-    assert_eq!(rt; steps::spawns(&events, own), 2);
+    let places = [
+        tasks::holder(&events, 2),
+        tasks::task_place(&events, child),
+        tasks::child_place(&events, own, 2),
+        tasks::first_child(&events, own),
+        tasks::first_ended_child(before(&events, 7), own),
+        tasks::opened(&events, None),
+        steps::group_named(&events, &[0, 2]),
+    ];
+    let wanted = [Some(8), Some(1), Some(8), Some(8), Some(1), None, Some(0)];
+    assert_eq!(rt; places, wanted);
+    let pids = [
+        tasks::last_pid(0, &events),
+        tasks::pid_named(&events, own),
+        tasks::pid_at(&events, Some(8)),
+        steps::signalled(&events, own, Whom::Child(2)),
+        steps::signalled(&events, child, Whom::Parent),
+    ];
+    assert_eq!(rt; pids, [2, 1, 2, 2, 1]);
+    assert_eq!(rt;
+        [tasks::group(&events, 1), tasks::group(&events, 8)],
+        [1, 0]
+    );
+    assert!(rt; tasks::same_name(tasks::name_at(&events, 1), child));
     Ok(())
 }
 
 #[test]
-fn a_descriptor_that_is_put_is_installed_and_taken(rt: HostRuntime) -> Result<(), Fail> {
+fn the_next_child_has_the_next_number(rt: HostRuntime) -> Result<(), Fail> {
+    let events = child(rt.alloc())?;
+    assert!(rt; events.len() == 5);
+    let next = steps::next_child(rt.alloc(), &events, &[0])?;
+    assert!(rt; tasks::same_name(next.items(), &[0, 2]));
+    Ok(())
+}
+
+#[test]
+fn a_descriptor_is_put_installed_and_taken(rt: HostRuntime) -> Result<(), Fail> {
     let events = injected(rt.alloc())?;
-    assert_eq!(rt; events.len(), 5);
-
-    let fetched = &events[..3];
-    assert!(rt; calls::waiting(fetched, 1) && calls::queue_is_empty(fetched, 1));
-    assert_eq!(rt; steps::put_answer(fetched, &ASKED), Ok(()));
-
-    let put = &events[..4];
-    assert_eq!(rt; calls::first_in_queue(put, 1), Some(3));
-    assert_eq!(rt; calls::queue_length(put, 1), 1);
-    assert!(rt; calls::is_send(put, 3) && calls::some_sends(put, 1) && calls::first_sends(put, 1));
-    assert!(rt; calls::answered(put, 1) && !calls::settled(put, 1));
-    assert_eq!(rt; calls::call_at(put, 3), Some(1));
-    assert_eq!(rt; calls::install_of(put, 3), None);
-    assert_eq!(rt; steps::request_of(put, 0), Some(3));
-    assert_eq!(rt; steps::put_answer(put, &ASKED), Err(Errno::EINPROGRESS));
-    assert_eq!(rt; steps::take(put, 0), None);
-
-    assert!(rt; calls::settled(&events, 1) && calls::queue_is_empty(&events, 1));
+    let (fetched, put) = (before(&events, 3), before(&events, 4));
+    let states = [
+        calls::waiting(fetched, 1),
+        calls::queue_is_empty(fetched, 1),
+        calls::queue_is_empty(put, 1),
+        calls::is_send(put, 3),
+        calls::some_sends(put, 1),
+        calls::first_sends(put, 1),
+        calls::answered(put, 1),
+        calls::settled(put, 1),
+        calls::settled(&events, 1),
+    ];
+    assert_eq!(rt;
+        states,
+        [true, true, false, true, true, true, true, false, true]
+    );
+    let places = [
+        calls::first_in_queue(put, 1),
+        calls::call_at(put, 3),
+        steps::request_of(put, 0),
+        calls::first_in_queue(&events, 1),
+    ];
+    assert_eq!(rt; places, [Some(3), Some(1), Some(3), None]);
+    let answers = [
+        steps::put_answer(fetched, &ASKED),
+        steps::put_answer(put, &ASKED),
+    ];
+    assert_eq!(rt; answers, [Ok(()), Err(Errno::EINPROGRESS)]);
+    let taken = [
+        calls::install_of(put, 3),
+        steps::take(put, 0),
+        calls::install_of(&events, 3),
+        steps::take(&events, 0),
+    ];
+    assert_eq!(rt; taken, [None, None, Some(Ok(3)), Some(Ok(3))]);
     assert_eq!(rt; calls::reply(&events, 1), Back::Value(3));
-    assert_eq!(rt; calls::install_of(&events, 3), Some(Ok(3)));
-    assert_eq!(rt; steps::take(&events, 0), Some(Ok(3)));
     Ok(())
 }
