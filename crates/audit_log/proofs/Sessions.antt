@@ -2,10 +2,10 @@
 use Rattle.std.proofs.Common.{◌≡◌, ℕ, Bool, true, false, List, [], ◌∷◌, length, refl}
 use Rattle.std.specs.Prelude.{if◌then◌else◌, ◌==◌, ◌&&◌, not}
 use Rattle.hist_model.specs.Look.{is_worker}
-use Rattle.hist_model.specs.ReportAudit.{session_at, session_step, joined, is_shut, skips}
+use Rattle.hist_model.specs.ReportAudit.{session_at, session_step, is_shut, skips}
 use Rattle.hist_model.specs.declared.event.Event.{Event}
 use Rattle.hist_model.specs.declared.event.What.{What}
-use Rattle.audit_log.specs.Sessions.{facts_of, facts_with, facts_joined, facts_after}
+use Rattle.audit_log.specs.Sessions.{facts_of, facts_with, facts_after}
 
 joined_by : (shut : Bool) (own : List What) (a : What) → facts_of (if shut then own else (a ∷ own)) ≡ (if shut then facts_of own else facts_with (facts_of own) a)
 joined_by true own a = refl

@@ -1,16 +1,15 @@
 -- What writers did to a sink, one after another.
-use Rattle.std.proofs.Common.{◌≡◌, ℕ, ◌+◌, ◌≤◌, ◌<◌, true, List, [], ◌∷◌, ◌++◌, length, take, drop, reverse, get_or, Result, Ok, Err, refl, sym, ap, ◌∙◌, append_assoc, append-nil, arith}
+use Rattle.std.proofs.Common.{◌≡◌, ℕ, ◌+◌, ◌<◌, List, [], ◌∷◌, ◌++◌, length, take, drop, reverse, get_or, Result, Ok, Err, refl, sym, ap, ◌∙◌, append_assoc, append-nil, arith}
 use Rattle.std.proofs.lemmas.List.{reverse-append, take-append-le, take-append-drop, length-append}
 use Rattle.std.proofs.Math.Seq.{take-append-add}
 use Rattle.hist_model.proofs.Scans.{past_more}
 use Rattle.std.proofs.lemmas.Grind.{common_steps}
-use Rattle.io_edge.specs.Faults.{Rose}
-use Rattle.io_edge.specs.SinkState.{SinkState, Writes, AddsPrefix}
+use Rattle.io_edge.specs.SinkState.{SinkState, AddsPrefix}
 use Rattle.hist_model.specs.declared.event.Event.{Event}
 use Rattle.hist_model.specs.ReportJournal.{lines_of}
 use Rattle.audit_log.specs.Written.{Wrote}
 use Rattle.audit_log.specs.declared.error.ReportError.{ReportError}
-use Rattle.audit_log.specs.declared.error.ReportError.TheVariants.{WriteFault, NoMemory}
+use Rattle.audit_log.specs.declared.error.ReportError.TheVariants.{NoMemory}
 
 -- nothing is a prefix
 pub adds_nothing : (old text : List ℕ) → AddsPrefix old text old

@@ -1,5 +1,5 @@
 -- What is kept of a session while its steps are gone through.
-use Rattle.std.specs.Prelude.{Bool, true, false, ◌&&◌, ◌||◌, if◌then◌else◌, List, Option, None}
+use Rattle.std.specs.Prelude.{Bool, true, false, ◌&&◌, ◌||◌, if◌then◌else◌, List, None}
 use Rattle.std.specs.List.{list_any}
 use Rattle.hist_model.specs.ReportAudit.{is_gone, is_good_check, is_let_go, is_lost, is_sent, is_shut, is_spent, back_in, or_back, sent_back, checked_twice}
 use Rattle.hist_model.specs.declared.event.What.{What}

@@ -20,7 +20,6 @@ mod part;
 mod request;
 mod session;
 pub mod summary;
-mod words;
-
 #[cfg(test)]
 mod tests;
+mod words;

@@ -2,7 +2,7 @@
 
 ghost use Rattle.std.specs.Prelude.{◌≡◌, ◌<◌, ◌&&◌, IfSome, length, not, reverse};
 ghost use Rattle.hist_model.specs.Look.{is_worker};
-ghost use Rattle.hist_model.specs.ReportAudit.{call_with_id, installed, installed_at, is_gone, is_good_check, is_let_go, is_lost, is_notified, is_pending, is_sent, is_spent, back_in, number_step, session_at, skips};
+ghost use Rattle.hist_model.specs.ReportAudit.{call_with_id, installed, installed_at, is_gone, is_good_check, is_let_go, is_lost, is_notified, is_pending, is_sent, is_spent, back_in, number_given, number_step, session_at, skips};
 ghost use Rattle.audit_log.specs.Sessions.{facts_after, facts_joined, facts_of, facts_with, no_facts};
 
 use crate::outcome::{outcome_step, same_task, task_numbers};
@@ -221,8 +221,8 @@ fn call_with_id(events: &[Event], id: u64) -> Option<usize>
 }
 
 /// The number that a step gave, where it may count; else the one before.
-fn number_step(counts: bool, what: &What, before: Option<u32>) -> Option<u32>
-    ensures { result ≡ number_step counts what.now before }
+fn number_given(counts: bool, what: &What, before: Option<u32>) -> Option<u32>
+    ensures { result ≡ number_given counts what.now before }
 {
     match what {
         What::Install { answer: Ok(number) } if counts => Some(*number),
@@ -230,9 +230,20 @@ fn number_step(counts: bool, what: &What, before: Option<u32>) -> Option<u32>
     }
 }
 
+/// The number with one more step: nothing counts before the call's entry.
+fn number_step(entry: bool, counts: bool, what: &What, before: Option<u32>) -> Option<u32>
+    ensures { result ≡ number_step entry counts what.now before }
+{
+    if entry {
+        None
+    } else {
+        number_given(counts, what, before)
+    }
+}
+
 /// Whether nothing came of a call yet.
-fn is_pending(outcome: Outcome) -> bool
-    ensures { result ≡ is_pending outcome }
+fn is_pending(outcome: &Outcome) -> bool
+    ensures { result ≡ is_pending outcome.now }
 {
     matches!(outcome, Outcome::Open)
 }
@@ -247,7 +258,8 @@ fn installed(events: &[Event], task: &[u32], call: usize) -> Option<u32>
     for place in 0..events.len() {
         let event = &events[place];
         let own = same_task(&event.who, task);
-        number = number_step(own && is_pending(outcome), &event.what, number);
+        let counts = own && is_pending(&outcome);
+        number = number_step(place == call, counts, &event.what, number);
         outcome = outcome_step(place == call, own, outcome, &event.what);
     }
     number

@@ -104,22 +104,81 @@ fn null_device(alloc: Global) -> Result<Request, Fail> {
 fn granted(alloc: Global) -> Result<History, Fail> {
     let mut h = History::new(alloc);
     let child = name(alloc, &[0])?;
-    add(&mut h, Actor::Start, What::Spawn { child, answer: Ok((1, SpawnKind::New)) })?;
+    add(
+        &mut h,
+        Actor::Start,
+        What::Spawn {
+            child,
+            answer: Ok((1, SpawnKind::New)),
+        },
+    )?;
     let bytes = text(alloc, b"/null\0")?;
     task(&mut h, alloc, What::Poke { addr: 65536, bytes })?;
     task(&mut h, alloc, mknod(1))?;
     worker(&mut h, received(1, 1))?;
-    worker(&mut h, What::OpenMem { pid: 1, answer: Ok(()) })?;
-    worker(&mut h, What::OpenBase { pid: 1, dirfd: -100, answer: Ok(()) })?;
-    worker(&mut h, What::Check { id: 1, answer: Ok(()) })?;
+    worker(
+        &mut h,
+        What::OpenMem {
+            pid: 1,
+            answer: Ok(()),
+        },
+    )?;
+    worker(
+        &mut h,
+        What::OpenBase {
+            pid: 1,
+            dirfd: -100,
+            answer: Ok(()),
+        },
+    )?;
+    worker(
+        &mut h,
+        What::Check {
+            id: 1,
+            answer: Ok(()),
+        },
+    )?;
     let answer = Ok(text(alloc, b"/null\0\0\0")?);
-    worker(&mut h, What::Read { addr: 65536, len: 256, answer })?;
-    worker(&mut h, What::Check { id: 1, answer: Ok(()) })?;
+    worker(
+        &mut h,
+        What::Read {
+            addr: 65536,
+            len: 256,
+            answer,
+        },
+    )?;
+    worker(
+        &mut h,
+        What::Check {
+            id: 1,
+            answer: Ok(()),
+        },
+    )?;
     let request = null_device(alloc)?;
-    worker(&mut h, What::Act { request, cap: None, answer: Ok(()) })?;
-    worker(&mut h, What::Send { id: 1, back: Back::Value(0), answer: Ok(()) })?;
+    worker(
+        &mut h,
+        What::Act {
+            request,
+            cap: None,
+            answer: Ok(()),
+        },
+    )?;
+    worker(
+        &mut h,
+        What::Send {
+            id: 1,
+            back: Back::Value(0),
+            answer: Ok(()),
+        },
+    )?;
     worker(&mut h, What::LetGo)?;
-    task(&mut h, alloc, What::Resume { back: Back::Value(0) })?;
+    task(
+        &mut h,
+        alloc,
+        What::Resume {
+            back: Back::Value(0),
+        },
+    )?;
     task(&mut h, alloc, What::Exit)?;
     add(&mut h, Actor::Listener, What::Close)?;
     Ok(h)
@@ -148,7 +207,12 @@ audit 1
 summary events=15 calls=1 notified=1 answered=1 granted=1 denied=0 passed=0 injected=0 faults=0 gone=0 lost=0
 ";
 
-fn write_report(alloc: Global, judge: &Always, history: &History, out: &mut MemSink) -> Result<(), ReportError> {
+fn write_report(
+    alloc: Global,
+    judge: &Always,
+    history: &History,
+    out: &mut MemSink,
+) -> Result<(), ReportError> {
     write_journal(alloc, history, out)?;
     write_calls(alloc, history, out)?;
     write_audit(alloc, judge, history, out)?;
@@ -175,33 +239,97 @@ fn stops_at_a_write_fault(rt: HostRuntime) -> Result<(), Fail> {
     let history = granted(alloc)?;
     let failing = [3].to_vec(alloc)?;
     let mut out = MemSink::new(alloc, 4096, failing)?;
-    assert_eq!(rt; write_journal(alloc, &history, &mut out), Err(ReportError::WriteFault));
-    assert_eq!(rt; out.taken(), b"journal 15\n0 - spawn 0 pid=1 new\n".as_slice());
+    assert_eq!(rt;
+        write_journal(alloc, &history, &mut out),
+        Err(ReportError::WriteFault)
+    );
+    assert_eq!(rt;
+        out.taken(),
+        b"journal 15\n0 - spawn 0 pid=1 new\n".as_slice()
+    );
     Ok(())
 }
 
-/// A call that is interrupted while a descriptor is asked for; then one whose descriptor is installed before the worker took its number.
+/// Asks for a descriptor, for a call that is entered and received first.
+fn ask(h: &mut History, alloc: Global, id: u64) -> Result<(), Fail> {
+    task(h, alloc, mknod(id))?;
+    worker(h, received(id, 1))?;
+    worker(h, What::Check { id, answer: Ok(()) })?;
+    worker(h, What::Check { id, answer: Ok(()) })?;
+    let asked = Addfd {
+        id,
+        flags: 2,
+        srcfd: 5,
+        newfd: 0,
+        newfd_flags: 0,
+    };
+    worker(
+        h,
+        What::AddfdPut {
+            asked,
+            answer: Ok(()),
+        },
+    )
+}
+
+/// A call that gets a descriptor, one that is interrupted before, and one whose descriptor is installed before the worker took its number.
 fn injected(alloc: Global) -> Result<History, Fail> {
     let mut h = History::new(alloc);
     let child = name(alloc, &[0])?;
-    add(&mut h, Actor::Start, What::Spawn { child, answer: Ok((1, SpawnKind::New)) })?;
-    task(&mut h, alloc, What::Handler { sig: 10, mode: Mode::Plain })?;
-    for id in [1, 2] {
-        task(&mut h, alloc, mknod(id))?;
-        worker(&mut h, received(id, 1))?;
-        worker(&mut h, What::Check { id, answer: Ok(()) })?;
-        worker(&mut h, What::Check { id, answer: Ok(()) })?;
-        let asked = Addfd { id, flags: 2, srcfd: 5, newfd: 0, newfd_flags: 0 };
-        worker(&mut h, What::AddfdPut { asked, answer: Ok(()) })?;
-        if id == 1 {
-            task(&mut h, alloc, What::Signal { pid: 1, sig: 10, answer: Ok(()) })?;
-            task(&mut h, alloc, What::Deliver { sig: 10, effect: Delivered::Eintr })?;
-            worker(&mut h, What::AddfdTake { answer: Err(Errno::ENOENT) })?;
-            worker(&mut h, What::LetGo)?;
-        } else {
-            task(&mut h, alloc, What::Install { answer: Ok(3) })?;
-        }
-    }
+    add(
+        &mut h,
+        Actor::Start,
+        What::Spawn {
+            child,
+            answer: Ok((1, SpawnKind::New)),
+        },
+    )?;
+    task(
+        &mut h,
+        alloc,
+        What::Handler {
+            sig: 10,
+            mode: Mode::Plain,
+        },
+    )?;
+    ask(&mut h, alloc, 1)?;
+    task(&mut h, alloc, What::Install { answer: Ok(3) })?;
+    worker(&mut h, What::AddfdTake { answer: Ok(3) })?;
+    worker(&mut h, What::LetGo)?;
+    task(
+        &mut h,
+        alloc,
+        What::Resume {
+            back: Back::Value(3),
+        },
+    )?;
+    ask(&mut h, alloc, 2)?;
+    task(
+        &mut h,
+        alloc,
+        What::Signal {
+            pid: 1,
+            sig: 10,
+            answer: Ok(()),
+        },
+    )?;
+    task(
+        &mut h,
+        alloc,
+        What::Deliver {
+            sig: 10,
+            effect: Delivered::Eintr,
+        },
+    )?;
+    worker(
+        &mut h,
+        What::AddfdTake {
+            answer: Err(Errno::ENOENT),
+        },
+    )?;
+    worker(&mut h, What::LetGo)?;
+    ask(&mut h, alloc, 3)?;
+    task(&mut h, alloc, What::Install { answer: Ok(4) })?;
     Ok(h)
 }
 
@@ -217,13 +345,15 @@ fn tells_lost_and_installed(rt: HostRuntime) -> Result<(), Fail> {
     write_calls(alloc, &history, &mut out)?;
     write_audit(alloc, &judge, &history, &mut out)?;
     write_summary(alloc, &judge, &history, &mut out)?;
-    let want = "calls 2
-2 t0 pid=1 mknod EINTR
-11 t0 pid=1 mknod open
-audit 2
-3 w0 id=1 mknod rule=feed verdict=inject answer=- reply=lost
-12 w0 id=2 mknod rule=feed verdict=inject answer=3 reply=sent
-summary events=17 calls=2 notified=2 answered=1 granted=0 denied=0 passed=0 injected=2 faults=0 gone=0 lost=1
+    let want = "calls 3
+2 t0 pid=1 mknod 3
+11 t0 pid=1 mknod EINTR
+20 t0 pid=1 mknod open
+audit 3
+3 w0 id=1 mknod rule=feed verdict=inject answer=3 reply=sent
+12 w0 id=2 mknod rule=feed verdict=inject answer=- reply=lost
+21 w0 id=3 mknod rule=feed verdict=inject answer=4 reply=sent
+summary events=26 calls=3 notified=3 answered=2 granted=0 denied=0 passed=0 injected=3 faults=0 gone=0 lost=1
 ";
     assert_eq!(rt; out.taken(), want.as_bytes());
     Ok(())

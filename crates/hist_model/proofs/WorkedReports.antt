@@ -190,19 +190,21 @@ injected_parts : calls injected ++ audit (always (Decided 3 (Inject 5 None)) (co
 unfolding onto history task child worker ok null read_null mknod fetched null_device first always put injected event_at lines_of outcome first_pid session_at call_with_id installed audits counts_text findings_text digits
 injected_parts = refl
 
--- an injection that failed is answered by the worker; a handler without restart, and the task's next injection, which is another session's
+-- a descriptor goes to the session whose call was in hand: one before and one after an interrupted call are other sessions'
 interrupted : List Event
 interrupted = history (
-    ev Start first ∷ task (mknod (Notify 1)) ∷ worker (fetched 1 1) ∷ worker (Check 1 ok) ∷ worker (Check 1 ok) ∷ worker put ∷ task (Deliver 10 Eintr)
+    ev Start first ∷ task (mknod (Notify 7)) ∷ task (Install (Ok 3)) ∷ task (Resume (Value (pos 3)))
+    ∷ task (mknod (Notify 1)) ∷ worker (fetched 1 1) ∷ worker (Check 1 ok) ∷ worker (Check 1 ok) ∷ worker put ∷ task (Deliver 10 Eintr)
     ∷ task (mknod (Notify 2)) ∷ task (Install (Ok 4)) ∷ worker (AddfdTake (Err 2)) ∷ worker LetGo ∷ [])
 
 interrupted_parts : calls interrupted ++ audit (always (Decided 3 (Inject 5 None)) (codes "feed")) interrupted
-    ≡ codes "calls 2\n"
-    ++ codes "1 t0 pid=1 mknod EINTR\n"
-    ++ codes "7 t0 pid=1 mknod open\n"
+    ≡ codes "calls 3\n"
+    ++ codes "1 t0 pid=1 mknod 3\n"
+    ++ codes "4 t0 pid=1 mknod EINTR\n"
+    ++ codes "10 t0 pid=1 mknod open\n"
     ++ codes "audit 1\n"
-    ++ codes "2 w0 id=1 mknod rule=feed verdict=inject answer=- reply=lost\n"
-unfolding onto history task child worker ok null read_null mknod fetched null_device first always put interrupted event_at lines_of outcome first_pid session_at call_with_id installed audits counts_text findings_text digits
+    ++ codes "5 w0 id=1 mknod rule=feed verdict=inject answer=- reply=lost\n"
+unfolding onto history task child worker ok null read_null mknod fetched null_device first always put interrupted event_at lines_of outcome first_pid session_at call_with_id installed audits digits
 interrupted_parts = refl
 
 -- what the filters alone make of calls

@@ -150,14 +150,19 @@ is_pending Pending = true
 is_pending _ = false
 
 -- the number that a step of the task gave while nothing had come of its call, else the one before
-abbrev pub number_step : Bool → What → Option ℕ → Option ℕ
-number_step true (Install (Ok n)) before = Some n
-number_step _ _ before = before
+abbrev pub number_given : Bool → What → Option ℕ → Option ℕ
+number_given true (Install (Ok n)) before = Some n
+number_given _ _ before = before
+
+-- one more step: whether it is the call's entry, before which nothing counts, and whether what it gives counts
+abbrev pub number_step : Bool → Bool → What → Option ℕ → Option ℕ
+number_step true counts a before = None
+number_step false counts a before = number_given counts a before
 
 -- the number of the descriptor that was installed for the call that task n entered at place c
 unfoldable pub installed : Name → ℕ → List Event → Option ℕ
 installed n c [] = None
-installed n c (e ∷ K) = number_step (is_task e.who n && is_pending (outcome n c K)) e.what (installed n c K)
+installed n c (e ∷ K) = number_step (length K == c) (is_task e.who n && is_pending (outcome n c K)) e.what (installed n c K)
 
 abbrev pub actor_name : Option Event → Name
 actor_name (Some e) = task_name e.who

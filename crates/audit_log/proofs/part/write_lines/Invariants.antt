@@ -1,4 +1,4 @@
-use Rattle.std.proofs.Common.{◌≡◌, ℕ, take, reverse, Ok}
+use Rattle.std.proofs.Common.{take, reverse, Ok}
 use Rattle.hist_model.specs.ReportJournal.{lines_of}
 use Rattle.audit_log.specs.Written.{Wrote}
 use Rattle.audit_log.proofs.part.write_lines.Given as goal

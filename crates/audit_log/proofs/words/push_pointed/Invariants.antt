@@ -1,7 +1,6 @@
-use Rattle.std.proofs.Common.{◌≡◌, ◌++◌, ℕ, take}
+use Rattle.std.proofs.Common.{◌≡◌, ◌++◌, take}
 use Rattle.std.specs.Prelude.{codes, decimal}
 use Rattle.std.specs.List.{flat_map}
-use Rattle.hist_model.specs.ReportWords.{hex_byte, quoted_byte}
 use Rattle.audit_log.proofs.words.push_pointed.Given as goal
 
 abbrev pub invariant-loop-n : goal.invariant-loop-n
