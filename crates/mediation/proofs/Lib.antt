@@ -32,3 +32,5 @@ pub mod Placed
 pub mod Bases
 pub mod Granted
 pub mod Mediation
+pub mod Framed
+pub mod Finishes

@@ -14,7 +14,8 @@ ghost use Rattle.hist_model.specs.declared.policy.Policy.{Policy};
 ghost use Rattle.hist_model.specs.declared.script.Script.{Script};
 ghost use Rattle.hist_model.specs.Mediated.{Mediated, Each, TakenByItsActor, NamesOwn, NeverBusy, ErrorsKnown, LostIfGone, HasCause};
 ghost use Rattle.mediation.specs.Journals.{actors, IsLegalByPlace};
-ghost use Rattle.mediation.specs.Facts.{CallIdsDiffer};
+ghost use Rattle.mediation.specs.Facts.{CallIdsDiffer, StaysFinished};
+ghost use Rattle.mediation.specs.Frames.{Frame};
 
 /// Every legal history is mediated: each notification is answered at most once; each reply or descriptor reaches the
 /// waiting call that it was meant for, or nobody; each effect is what the policy grants on one copy of its call's arguments
@@ -110,3 +111,15 @@ pub fn errors_known()
 pub fn returns_installed()
     ensures { (S : System) (R : Rules) (K : List Event) → IsLegal S R K → length K < 2 ^ 64 → Each ReturnsInstalled K }
 {}
+
+/// A legal history that continues a finished one, without the close of the listener, is finished.
+pub fn stays_finished()
+    ensures { (S : System) (R : Rules) → StaysFinished S R }
+{
+}
+
+/// Which kinds of event can change which definitions: each other kind leaves them as they are.
+pub fn frame()
+    ensures { (K : List Event) (e : Event) → Frame K e }
+{
+}
