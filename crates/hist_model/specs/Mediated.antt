@@ -162,10 +162,10 @@ pub record OpenedBase (S : Script) (K : List Event) (w c g : ℕ) (n : Notif) (d
   pub of_caller : opened K (task_place K (caller K c)) ≡ Some g
   pub is_base : (files S K).base w ≡ base_of S (files S (before K place)) g dirfd
 
--- the base from which a session's effect goes: none where its call names none
-abbrev pub BaseIs : Rules → Script → List Event → ℕ → ℕ → Notif → Option ℤ → Type 0
-BaseIs R S K w c n None = (files S K).base w ≡ None
-BaseIs R S K w c n (Some dirfd) = (g : ℕ) × OpenedBase S K w c g n dirfd
+-- the base from which a session's effect goes: none where its call names none, or where the opening of what it names failed
+abbrev pub BaseIs : Script → List Event → ℕ → ℕ → Notif → Option ℤ → Type 0
+BaseIs S K w c n None = (files S K).base w ≡ None
+BaseIs S K w c n (Some dirfd) = ((files S K).base w ≡ None) ⊎ ((g : ℕ) × OpenedBase S K w c g n dirfd)
 
 -- what holds of an effect of a worker's session: of its call, its copy, its memory and the order of its steps
 pub record IsMediated (R : Rules) (K : List Event) (w c : ℕ) (n : Notif) : Type 0 where
@@ -182,7 +182,7 @@ pub record IsMediated (R : Rules) (K : List Event) (w c : ℕ) (n : Notif) : Typ
 abbrev pub ActIsGranted : Policy → Script → List Event → Event → Type 0
 ActIsGranted P S K e = (w : ℕ) (q : Request) (cap : Option Cap) (a : Result (Unit {0}) ℕ) → e.who ≡ Worker w → e.what ≡ Act q cap a
     → (c : ℕ) × (n : Notif) × IsMediated (rules_of P S.figures) K w c n × ((rules_of P S.figures).decide n (reads_of (session K w)) ≡ Acts q cap)
-    × (first_some outcome_in (session K w) ≡ None) × BaseIs (rules_of P S.figures) S K w c n ((rules_of P S.figures).dirfd n)
+    × (first_some outcome_in (session K w) ≡ None) × BaseIs S K w c n ((rules_of P S.figures).dirfd n)
 
 -- and so is what is written as the answer of sysinfo
 abbrev pub PlantIsGranted : Policy → Script → List Event → Event → Type 0

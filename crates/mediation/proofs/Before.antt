@@ -1,7 +1,13 @@
 -- The events before a place.
-use Rattle.std.proofs.Common.{◌≡◌, ℕ, ◌<◌, ◌≤◌, List, [], ◌∷◌, length, refl, arith}
-use Rattle.std.proofs.lemmas.Bool.{le-leb, lt-leb}
+use Rattle.std.proofs.Common.{◌≡◌, ℕ, ◌<◌, ◌≤◌, List, [], ◌∷◌, length, inl, inr, true, refl, arith}
+use Rattle.std.specs.Prelude.{nat_le}
+use Rattle.std.proofs.lemmas.Bool.{le-leb, lt-leb, cases_Bool}
 use Rattle.hist_model.specs.Look.{before}
+use Rattle.hist_model.specs.Calls.{fetched}
+use Rattle.hist_model.specs.Sessions.{Rules}
+use Rattle.hist_model.specs.Systems.{System}
+use Rattle.hist_model.specs.Steps.{IsLegal}
+use Rattle.mediation.proofs.Count.{fetched-more}
 use Rattle.hist_model.specs.declared.event.Event.{Event}
 
 -- from its length on, the whole list
@@ -17,3 +23,28 @@ before-older e K c h = let l : c < length (e ∷ K) = omega arith in rw (lt-leb 
 -- the events before the newest one
 pub before-newest : (e : Event) (K : List Event) → before (e ∷ K) (length K) ≡ K
 before-newest e K = rw (before-older e K (length K) (omega arith)) (before-all K (length K) (omega arith))
+
+pub length-before : (K : List Event) (c : ℕ) → length (before K c) ≤ length K
+unfolding before
+length-before [] c = omega arith
+length-before (e ∷ K) c = elim (cases_Bool (nat_le (length (e ∷ K)) c)) [
+  | inl q ↦ rw q (omega arith)
+  | inr q ↦ rw q (omega (arith, length-before K c))
+]
+
+-- what stands before a place of a legal history is legal
+pub legal-before : (S : System) (R : Rules) (K : List Event) (c : ℕ) → IsLegal S R K → IsLegal S R (before K c)
+unfolding before
+legal-before S R [] c legal = tt
+legal-before S R (e ∷ K) c legal = elim (cases_Bool (nat_le (length (e ∷ K)) c)) [
+  | inl q ↦ rw q legal
+  | inr q ↦ rw q (legal-before S R K c legal.1)
+]
+
+pub fetched-before : (K : List Event) (p c : ℕ) → fetched (before K p) c ≡ true → fetched K c ≡ true
+unfolding before
+fetched-before [] p c h = h
+fetched-before (e ∷ K) p c h = elim (cases_Bool (nat_le (length (e ∷ K)) p)) [
+  | inl q ↦ rw q at h
+  | inr q ↦ fetched-more e K c (fetched-before K p c (rw q at h))
+]

@@ -41,8 +41,8 @@ Tells R own (Open p) = (n : Notif) × AtWork own n × (any_of opens own ≡ fals
 Tells R own (OpenB p d) = (n : Notif) × AtWork own n × (any_of opens own ≡ true) × (any_of opens_base own ≡ false) × (p ≡ n.pid) × (R.dirfd n ≡ Some d)
 Tells R own (Ask x) = (n : Notif) × AtWork own n × HasOpened R own n × (x ≡ n.id) × ((any_of checks own ≡ false) ⊎ (((number_of checks own == 1) ≡ true) × (R.next_piece n (reads_of own) ≡ None)))
 Tells R own (ReadD a l) = (n : Notif) × AtWork own n × HasOpened R own n × (any_of checks own ≡ true) × (R.next_piece n (reads_of own) ≡ Some (a, l))
-Tells R own (ActD q cap) = (n : Notif) × AtWork own n × HasOpened R own n × HasCopied R own n × (R.decide n (reads_of own) ≡ Acts q cap) × (first_some outcome_in own ≡ None)
-Tells R own (PlantD a b cap) = (n : Notif) × AtWork own n × HasOpened R own n × HasCopied R own n × (R.decide n (reads_of own) ≡ Plants a b cap) × (first_some outcome_in own ≡ None)
+Tells R own (ActD q cap) = (n : Notif) × AtWork own n × HasOpened R own n × HasCopied R own n × (R.decide n (reads_of own) ≡ Acts q cap) × (first_some outcome_in own ≡ None) × (R.fault n (reads_of own) ≡ None)
+Tells R own (PlantD a b cap) = (n : Notif) × AtWork own n × HasOpened R own n × HasCopied R own n × (R.decide n (reads_of own) ≡ Plants a b cap) × (first_some outcome_in own ≡ None) × (R.fault n (reads_of own) ≡ None)
 Tells R own (Put q) = (n : Notif) × AtWork own n × HasOpened R own n × HasCopied R own n × IsInjected R own n q × (first_some put_in own ≡ None)
 Tells R own Take = (n : Notif) × AtWork own n × HasOpened R own n × HasCopied R own n × ((u : Unit {0}) × (first_some put_in own ≡ Some (Ok u))) × (first_some take_in own ≡ None)
 Tells R own (Answer x b) = (n : Notif) × AtWork own n × HasOpened R own n × HasCopied R own n × (x ≡ n.id) × Cause R own n b
@@ -61,8 +61,8 @@ module _ (R : Rules) (own : List What) (n : Notif) (work : AtWork own n) (open' 
   decided_tells : HasCopied R own n → R.fault n (reads_of own) ≡ None → (d : Decision) → R.decide n (reads_of own) ≡ d → Tells R own (decided_deed n.id own d)
   decided_tells c f (Denies e) h = (n, work, open', c, refl, denied e f h)
   decided_tells c f Passes h = (n, work, open', c, refl, passed f h)
-  decided_tells c f (Acts q cap) h = act_tells c f (ap is_acting h) (first_some outcome_in own) refl (ActD q cap) (λ k. (n, work, open', c, h, k))
-  decided_tells c f (Plants a b cap) h = act_tells c f (ap is_acting h) (first_some outcome_in own) refl (PlantD a b cap) (λ k. (n, work, open', c, h, k))
+  decided_tells c f (Acts q cap) h = act_tells c f (ap is_acting h) (first_some outcome_in own) refl (ActD q cap) (λ k. (n, work, open', c, h, k, f))
+  decided_tells c f (Plants a b cap) h = act_tells c f (ap is_acting h) (first_some outcome_in own) refl (PlantD a b cap) (λ k. (n, work, open', c, h, k, f))
   decided_tells c f (Injects src place flags) h = inject_tells c f (addfd_of n.id src place flags) (record { src = src; place = place; flags = flags; sound = f; decided = h; is = refl }) (first_some put_in own) (first_some take_in own) refl refl
 
   judged_tells : HasCopied R own n → (f : Option ℕ) → R.fault n (reads_of own) ≡ f → Tells R own (judged_deed R n own f)

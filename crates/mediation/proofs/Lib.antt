@@ -21,3 +21,16 @@ pub mod Fresh
 pub mod Settlers
 pub mod Determined
 pub mod Replies
+pub mod Sittings
+pub mod Arrivals
+pub mod Received
+pub mod Waited
+pub mod Opened
+pub mod Spent
+pub mod Privileged
+pub mod Placed
+pub mod Bases
+pub mod Granted
+pub mod Mediation
+pub mod Framed
+pub mod Finishes

@@ -1,5 +1,5 @@
 -- A listed call's task lives, and its last own event is that call.
-use Rattle.std.proofs.Common.{◌≡◌, ◌⊎◌, inl, inr, ℕ, ◌+◌, ◌<◌, true, false, ◌&&◌, ◌||◌, not, ◌%◌, ◌^◌, List, [], ◌∷◌, length, Some, None, refl, ap, ◌∙◌, subst, arith}
+use Rattle.std.proofs.Common.{◌≡◌, ◌⊎◌, inl, inr, ℕ, ◌+◌, ◌<◌, true, false, ◌&&◌, ◌||◌, not, ◌%◌, ◌^◌, List, [], ◌∷◌, length, Option, Some, None, refl, ap, ◌∙◌, subst, arith}
 use Rattle.std.specs.Prelude.{◌==◌, ℤ}
 use Rattle.std.proofs.lemmas.Bool.{cases_Bool, eqb-true, not-true, and_parts, and_from, ne_eqb, eq-eqb}
 use Rattle.hist_model.specs.Look.{Name, name_eq, is_task, task_name}
@@ -168,3 +168,11 @@ waits-in S R K n c d legal q h g =
     let a : last_own K n ≡ Some d = rw m at (calls_are_last S R K legal d p.0).1 in
     let b : last_own K n ≡ Some c = rw g at (calls_are_last S R K legal c h).1 in
     cc
+
+-- the task of a listed call waits in it
+pub waits-here : (S : System) (R : Rules) (K : List Event) (c : ℕ) → IsLegal S R K → listed K c ≡ true → call_of K (caller K c) ≡ Some c
+waits-here S R K c legal l = go (call_of K (caller K c)) refl
+  where
+    go : (o : Option ℕ) → call_of K (caller K c) ≡ o → call_of K (caller K c) ≡ Some c
+    go None q = absurd (waits-in_some K c l q)
+    go (Some d) q = q ∙ ap Some (waits-in S R K (caller K c) c d legal q l refl)

@@ -122,7 +122,7 @@ installing S R K (Task n) w c legal r h g l = cc
 installing S R K a w c legal r h g l = cc
 
 -- each request in a queue was put for that call
-pub Asks : List Event → ℕ → List ℕ → Type 0
+unfoldable pub Asks : List Event → ℕ → List ℕ → Type 0
 Asks K c [] = Unit {0}
 Asks K c (r ∷ rs) = (r < length K) × (call_at K r ≡ Some c) × Asks K c rs
 

@@ -1,4 +1,5 @@
-//! Laws of every legal history: of any script's system and any rules. Each is the contract of a function that does nothing.
+//! Laws of legal histories: the mediation law, of every policy and script, and facts of any system and any rules. Each is
+//! the contract of a function that does nothing.
 
 ghost use Rattle.std.specs.Prelude.{◌≡◌, ◌<◌, ◌^◌, ℕ, List, length, reverse};
 ghost use Rattle.hist_model.specs.declared.event.Event.{Event};
@@ -8,9 +9,20 @@ ghost use Rattle.hist_model.specs.Steps.{IsLegal};
 ghost use Rattle.hist_model.specs.Laws.{CallsAreLast, PidsDiffer, AnsweredOnce, CountIs};
 ghost use Rattle.hist_model.specs.Settlers.{InstallsOwn, ResumesOwn, ReturnsInstalled};
 ghost use Rattle.hist_model.specs.Orders.{InOrder};
-ghost use Rattle.hist_model.specs.Mediated.{Each, TakenByItsActor, NamesOwn, NeverBusy, ErrorsKnown, LostIfGone, HasCause};
+ghost use Rattle.hist_model.specs.Legal.{Legal};
+ghost use Rattle.hist_model.specs.declared.policy.Policy.{Policy};
+ghost use Rattle.hist_model.specs.declared.script.Script.{Script};
+ghost use Rattle.hist_model.specs.Mediated.{Mediated, Each, TakenByItsActor, NamesOwn, NeverBusy, ErrorsKnown, LostIfGone, HasCause};
 ghost use Rattle.mediation.specs.Journals.{actors, IsLegalByPlace};
-ghost use Rattle.mediation.specs.Facts.{CallIdsDiffer};
+ghost use Rattle.mediation.specs.Facts.{CallIdsDiffer, StaysFinished};
+ghost use Rattle.mediation.specs.Frames.{Frame};
+
+/// Every legal history is mediated: each notification is answered at most once; each reply or descriptor reaches the
+/// waiting call that it was meant for, or nobody; each effect is what the policy grants on one copy of its call's arguments
+/// found valid afterwards; each answer has its cause; and a passed call runs without the broker's rights.
+pub fn legal_is_mediated()
+    ensures { (P : Policy) (S : Script) (K : List Event) → Legal P S K → Mediated P S K }
+{}
 
 /// Two calls have different ids, whether listed or not.
 pub fn ids_differ()
@@ -87,18 +99,27 @@ pub fn resumes_own()
 /// Each step is one that its actor takes.
 pub fn taken_by_its_actor()
     ensures { (S : System) (R : Rules) (K : List Event) → IsLegal S R K → length K < 2 ^ 64 → Each TakenByItsActor K }
-{
-}
+{}
 
 /// A worker's check and answer have no error but ENOENT, its request for a descriptor none but EBADF and ENOENT, and its
 /// take none but EBADF, EMFILE and ENOENT.
 pub fn errors_known()
     ensures { (S : System) (R : Rules) (K : List Event) → IsLegal S R K → length K < 2 ^ 64 → Each ErrorsKnown K }
-{
-}
+{}
 
 /// Each return of a call for one of whose requests a number was installed gives this number.
 pub fn returns_installed()
     ensures { (S : System) (R : Rules) (K : List Event) → IsLegal S R K → length K < 2 ^ 64 → Each ReturnsInstalled K }
+{}
+
+/// A legal history that continues a finished one, without the close of the listener, is finished.
+pub fn stays_finished()
+    ensures { (S : System) (R : Rules) → StaysFinished S R }
+{
+}
+
+/// Which kinds of event can change which definitions: each other kind leaves them as they are.
+pub fn frame()
+    ensures { (K : List Event) (e : Event) → Frame K e }
 {
 }

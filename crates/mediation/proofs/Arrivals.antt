@@ -1,0 +1,78 @@
+-- A call has one session, and what was accepted for it arrives.
+use Rattle.std.proofs.Common.{◌≡◌, inl, inr, ℕ, ◌≤◌, ◌<◌, ◌^◌, Bool, true, false, ◌&&◌, ◌||◌, not, List, [], ◌∷◌, length, Some, refl, ap, sym, arith}
+use Rattle.std.proofs.lemmas.Bool.{cases_Bool, false_from_ne_true}
+use Rattle.hist_model.specs.Look.{name_eq, is_task}
+use Rattle.hist_model.specs.Calls.{listed, caller, fetched, fetches, id, settled, closes, leaves, unlists}
+use Rattle.hist_model.specs.Signals.{call_of}
+use Rattle.hist_model.specs.Sessions.{Rules}
+use Rattle.hist_model.specs.Systems.{System}
+use Rattle.hist_model.specs.Steps.{IsStep, IsLegal}
+use Rattle.hist_model.specs.Mediated.{fetches_of, OneSession, Arrives, returns}
+use Rattle.hist_model.specs.declared.event.Event.{Event}
+use Rattle.hist_model.specs.declared.event.Actor.{Actor}
+use Rattle.hist_model.specs.declared.event.Actor.TheVariants.{Start, Task, Worker, Listener}
+use Rattle.hist_model.specs.declared.event.What.{What}
+use Rattle.hist_model.specs.declared.event.What.TheVariants.{Deliver}
+use Rattle.hist_model.proofs.Look.{name_eq-true}
+use Rattle.mediation.proofs.Rows.{Row}
+use Rattle.mediation.proofs.Own.{row-of, listed-below, listed-older, waits-here}
+use Rattle.mediation.proofs.Phases.{refetch}
+use Rattle.mediation.proofs.Replies.{row-or-start}
+
+clash : (b : Bool) → b ≡ false → b ≡ true → ⊥
+clash b g h = cc
+
+-- a settled call is left by its return alone
+leaves-settled : (S : System) (R : Rules) (K : List Event) (c : ℕ) (a : Actor) (what : What) → IsLegal S R K → settled K c ≡ true → listed K c ≡ true → Row S R K a what
+    → (closes what || (leaves what && is_task a (caller K c))) ≡ true → (closes what || (returns what && is_task a (caller K c))) ≡ true
+leaves-settled S R K c (Task n) (Deliver sig effect) legal s l r u =
+    let q = name_eq-true n (caller K c) (go (name_eq n (caller K c)) u) in
+    let w : call_of K n ≡ Some c = rw q (waits-here S R K c legal l) in
+    absurd (clash (settled K c) (r.2 c w) s)
+  where
+    go : (b : Bool) → (false || (true && b)) ≡ true → b ≡ true
+    go b h = grind arith
+leaves-settled S R K c (Worker v) (Deliver sig effect) legal s l r u = absurd r
+leaves-settled S R K c Start (Deliver sig effect) legal s l r u = cc
+leaves-settled S R K c Listener (Deliver sig effect) legal s l r u = cc
+leaves-settled S R K c a what legal s l r u = u
+
+pub arrives : (S : System) (R : Rules) (K : List Event) (e : Event) → IsLegal S R K → length K < 2 ^ 64 → IsStep S R K e → Arrives K e
+arrives S R K e legal room r c s l g =
+    let b : c < length K = listed-below K c l in
+    let u : unlists e (caller K c) ≡ true = left (unlists e (caller K c)) (rw (listed-older e K c b, l) at g) in
+    elim (row-or-start S R K e r) [
+      | inl q ↦ absurd (clash (unlists e (caller K c)) (ap (λ (d : Event). unlists d (caller K c)) q) u)
+      | inr q ↦ leaves-settled S R K c e.who e.what legal s l q.1 u
+    ]
+  where
+    left : (b : Bool) → (true && not b) ≡ false → b ≡ true
+    left b h = grind arith
+
+-- a call is fetched once
+FetchedOnce : List Event → ℕ → Type 0
+FetchedOnce K c = (fetches_of K c ≤ 1) × (fetched K c ≡ false → fetches_of K c ≡ 0)
+
+once-kind : (S : System) (R : Rules) (K : List Event) (e : Event) (c : ℕ) → IsLegal S R K → length K < 2 ^ 64 → Row S R K e.who e.what → FetchedOnce K c → FetchedOnce (e ∷ K) c
+unfolding FetchedOnce
+once-kind S R K e c legal room r ih =
+    elim (cases_Bool (fetches e.what (id K c) && listed K c)) [
+      | inl q ↦
+          let f : fetched K c ≡ false = false_from_ne_true (fetched K c) (λ h. clash (fetches e.what (id K c) && listed K c) (refetch S R K e.who e.what c legal room r h) q) in
+          let z = ih.1 f in
+          unfold fetches_of fetched in rw q (omega arith, λ x. cc)
+      | inr q ↦ unfold fetches_of fetched in rw q (omega (arith, ih.0), λ x. omega (arith, ih.1 x))
+    ]
+
+once-step : (S : System) (R : Rules) (K : List Event) (e : Event) (c : ℕ) → IsLegal S R K → length K < 2 ^ 64 → IsStep S R K e → FetchedOnce K c → FetchedOnce (e ∷ K) c
+once-step S R [] e c legal room r ih = rw r (unfold FetchedOnce fetches_of fetched listed in (omega arith, λ _. refl))
+once-step S R (f ∷ K) e c legal room r ih = once-kind S R (f ∷ K) e c legal room (row-of S R (f ∷ K) e r (omega arith)) ih
+
+fetched-once : (S : System) (R : Rules) (K : List Event) → IsLegal S R K → length K < 2 ^ 64 → (c : ℕ) → FetchedOnce K c
+unfolding FetchedOnce fetches_of
+fetched-once S R [] legal room = λ c. (omega arith, λ _. refl)
+fetched-once S R (e ∷ K) legal room = λ c. once-step S R K e c legal.1 (omega arith) legal.0 (fetched-once S R K legal.1 (omega arith) c)
+
+pub one-session : (S : System) (R : Rules) (K : List Event) → IsLegal S R K → length K < 2 ^ 64 → OneSession K
+unfolding FetchedOnce
+one-session S R K legal room = λ c. (fetched-once S R K legal room c).0

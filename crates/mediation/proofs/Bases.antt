@@ -1,0 +1,306 @@
+-- The base from which a session's effect goes is one that the session opened, in a slot of its call's task's group.
+use Rattle.std.proofs.Common.{◌≡◌, ◌⊎◌, inl, inr, ℕ, ◌<◌, ◌^◌, Bool, true, false, ◌&&◌, not, List, [], ◌∷◌, length, Option, Some, None, refl, sym, ap, ◌∙◌, arith}
+use Rattle.std.specs.Prelude.{if◌then◌else◌, ◌==◌, Result, Ok, Err, ℤ}
+use Rattle.std.proofs.lemmas.Bool.{cases_Bool, eqb-true, ne_eqb, eq-eqb}
+use Rattle.hist_model.specs.Look.{ev, before, event_at, is_worker}
+use Rattle.hist_model.specs.Tasks.{holder, ended, name_of}
+use Rattle.hist_model.specs.Calls.{listed, caller}
+use Rattle.hist_model.specs.Sessions.{Rules, session, skips, any_of, gives_up, checks, notif_of}
+use Rattle.hist_model.specs.Systems.{System}
+use Rattle.hist_model.specs.Steps.{IsStep, IsLegal, session_call, base, base_after, base_answer, opened, group, task_place, place_or, oldest_unfetched}
+use Rattle.hist_model.specs.Natives.{Files, base_of}
+use Rattle.hist_model.specs.Files.{files, files_after, after_native, after_spawn, with_base}
+use Rattle.hist_model.specs.Natives.{NativeStep, Fails, Gives, Changes, Opens, Closes, Writes, native_step}
+use Rattle.hist_model.specs.Memory.{own_group}
+use Rattle.hist_model.specs.Mediated.{OpenedBase, BaseIs}
+use Rattle.hist_model.specs.declared.event.Event.{Event}
+use Rattle.hist_model.specs.declared.event.Actor.{Actor}
+use Rattle.hist_model.specs.declared.event.Actor.TheVariants.{Start, Task, Worker, Listener}
+use Rattle.hist_model.specs.declared.event.What.{What}
+use Rattle.hist_model.specs.declared.event.What.TheVariants.{Spawn, Native, Install, Recv, OpenMem, OpenBase, Check, Read, Act, Plant, AddfdPut, AddfdTake, Send, LetGo, Skip}
+use Rattle.hist_model.specs.declared.event.SpawnKind.{SpawnKind}
+use Rattle.hist_model.specs.declared.event.SpawnKind.TheVariants.{New, Copied, Shared}
+use Rattle.hist_model.specs.declared.request.Obj.{Obj}
+use Rattle.hist_model.specs.declared.script.Script.{Script}
+use Rattle.hist_model.specs.Legal.{system_of}
+use Rattle.sys_abi.specs.declared.wire.Notif.{Notif}
+use Rattle.hist_model.proofs.Look.{event_at-here, event_at-older, event_at-below}
+use Rattle.mediation.proofs.Before.{before-older, before-newest}
+use Rattle.mediation.proofs.Rows.{WorkerRow}
+use Rattle.mediation.proofs.Deeds.{deed-is}
+use Rattle.mediation.proofs.Work.{InSession, Idle, by, works, works-keep, worker-row, session-more, started, base-same, base-more, call-same}
+use Rattle.mediation.proofs.Handles.{Steady, steady}
+use Rattle.mediation.proofs.Opened.{good-check}
+use Rattle.mediation.proofs.Sittings.{Kept, by-session, in-hand-of}
+
+-- the base that the files have for a worker
+pub files_base : Script → List Event → ℕ → Option ℕ
+files_base S K w = (files S K).base w
+
+native-base : (F : Files) (g : ℕ) (s : NativeStep) (w : ℕ) → (after_native F g s).base w ≡ F.base w
+native-base F g (Changes U) w = refl
+native-base F g (Fails e) w = refl
+native-base F g (Gives n) w = refl
+native-base F g (Opens n x) w = refl
+native-base F g (Closes n) w = refl
+native-base F g Writes w = refl
+
+spawn-base : (K : List Event) (F : Files) (a : Actor) (k : SpawnKind) (w : ℕ) → (after_spawn K F a k).base w ≡ F.base w
+spawn-base K F a New w = refl
+spawn-base K F a Copied w = refl
+spawn-base K F a Shared w = refl
+
+-- the step opens or drops a base
+abbrev moves : What → Bool
+moves (OpenBase p d (Ok u)) = true
+moves LetGo = true
+moves _ = false
+
+-- another's step, or one that is no opening of a base and no letting go
+after-base : (S : Script) (K : List Event) (F : Files) (a : Actor) (what : What) (w : ℕ) → (is_worker a w && moves what) ≡ false → (files_after S K F a what).base w ≡ F.base w
+after-base S K F a (Spawn n (Ok made)) w h = spawn-base K F a made.1 w
+after-base S K F a (Spawn n (Err e)) w h = refl
+after-base S K F a (Native (Ok n)) w h = native-base F (own_group K a) _ w
+after-base S K F a (Native (Err e)) w h = refl
+after-base S K F a (Install (Ok m)) w h = refl
+after-base S K F a (Install (Err e)) w h = refl
+after-base S K F (Worker v) (Act q cap (Ok u)) w h = refl
+after-base S K F (Worker v) (Act q cap (Err e)) w h = refl
+after-base S K F (Worker v) (OpenBase p d (Ok u)) w h = rw (other v w h)
+  where
+    other : (v w : ℕ) → ((v == w) && true) ≡ false → (w == v) ≡ false
+    other v w h = elim (cases_Bool (w == v)) [
+      | inl q ↦ absurd (clash ((v == w) && true) h (both (eq-eqb v w (sym (eqb-true w v q)))))
+      | inr q ↦ q
+    ]
+      where
+        clash : (b : Bool) → b ≡ false → b ≡ true → ⊥
+        clash b g h = cc
+
+        both : {b : Bool} → b ≡ true → (b && true) ≡ true
+        both h = rw h
+after-base S K F (Worker v) (OpenBase p d (Err e)) w h = refl
+after-base S K F (Worker v) LetGo w h = rw (other v w h)
+  where
+    other : (v w : ℕ) → ((v == w) && true) ≡ false → (w == v) ≡ false
+    other v w h = elim (cases_Bool (w == v)) [
+      | inl q ↦ absurd (clash ((v == w) && true) h (both (eq-eqb v w (sym (eqb-true w v q)))))
+      | inr q ↦ q
+    ]
+      where
+        clash : (b : Bool) → b ≡ false → b ≡ true → ⊥
+        clash b g h = cc
+
+        both : {b : Bool} → b ≡ true → (b && true) ≡ true
+        both h = rw h
+after-base S K F a what w h = refl
+
+files-same : (S : Script) (e : Event) (K : List Event) (w : ℕ) → (is_worker e.who w && moves e.what) ≡ false → files_base S (e ∷ K) w ≡ files_base S K w
+unfolding files_base files
+files-same S e K w h = after-base S K (files S K) e.who e.what w h
+
+-- a worker's own steps
+files-opens : (S : Script) (K : List Event) (a : Actor) (w p : ℕ) (d : ℤ) (u : Unit {0}) → is_worker a w ≡ true → files_base S (by a (OpenBase p d (Ok u)) ∷ K) w ≡ base_of S (files S K) (place_or (opened K (holder K p))) d
+unfolding files_base files
+files-opens S K (Worker v) w p d u h = let q = eqb-true v w h in rw (q, eq-eqb w w refl)
+files-opens S K Start w p d u h = cc
+files-opens S K (Task n) w p d u h = cc
+files-opens S K Listener w p d u h = cc
+
+files-drops : (S : Script) (K : List Event) (a : Actor) (w : ℕ) → is_worker a w ≡ true → files_base S (by a LetGo ∷ K) w ≡ None
+unfolding files_base files
+files-drops S K (Worker v) w h = let q = eqb-true v w h in rw (q, eq-eqb w w refl)
+files-drops S K Start w h = cc
+files-drops S K (Task n) w h = cc
+files-drops S K Listener w h = cc
+
+-- what the base's group becomes
+base-after-same : (K : List Event) (what : What) (m : Option ℕ) → moves what ≡ false → base_after K what m ≡ m
+base-after-same K (OpenBase p d (Ok u)) m h = cc
+base-after-same K LetGo m h = cc
+base-after-same K (OpenBase p d (Err e)) m h = refl
+base-after-same K what m h = refl
+
+base-stays : (e : Event) (K : List Event) (w : ℕ) → (is_worker e.who w && moves e.what) ≡ false → base (e ∷ K) w ≡ base K w
+base-stays e K w h = elim (cases_Bool (is_worker e.who w)) [
+  | inl q ↦ base-more e K w q ∙ base-after-same K e.what (base K w) (right (is_worker e.who w) (moves e.what) q h)
+  | inr q ↦ base-same e K w q
+]
+  where
+    right : (a b : Bool) → a ≡ true → (a && b) ≡ false → b ≡ false
+    right a b q h = grind arith
+
+-- an opening that was answered ok found a living task
+opening-found : (S : System) (K : List Event) (o : Option ℕ) (d : ℤ) (u : Unit {0}) → ◌≡◌ {A = Result (Unit {0}) ℕ} (Ok u) (base_answer S K o d) → (t : ℕ) × (o ≡ Some t)
+opening-found S K None d u h = cc
+opening-found S K (Some t) d u h = (t, refl)
+
+-- a worker without a base's group has no base
+module _ (S : Script) (R : Rules) where
+  none-mine : (K : List Event) (a : Actor) (w : ℕ) (what : What) → is_worker a w ≡ true → WorkerRow (system_of S) R K w what → moves what ≡ true → base_after K what (base K w) ≡ None → files_base S (by a what ∷ K) w ≡ None
+  none-mine K a w (OpenBase p d (Ok u)) q row m h =
+      let f = opening-found (system_of S) K (holder K p) d u row.1 in
+      absurd (no (holder K p) f.0 f.1 h)
+    where
+      no : (o : Option ℕ) (t : ℕ) → o ≡ Some t → opened K o ≡ None → ⊥
+      no None t q h = cc
+      no (Some v) t q h = cc
+  none-mine K a w LetGo q row m h = files-drops S K a w q
+  none-mine K a w what q row m h = cc
+
+  none-step : (K : List Event) (e : Event) (w : ℕ) → IsStep (system_of S) R K e → (base K w ≡ None → files_base S K w ≡ None) → base (e ∷ K) w ≡ None → files_base S (e ∷ K) w ≡ None
+  none-step K e w r ih h =
+      elim (cases_Bool (is_worker e.who w && moves e.what)) [
+        | inl q ↦
+            let m : moves e.what ≡ true = grind arith in
+            let v : is_worker e.who w ≡ true = grind arith in
+            none-mine K e.who w e.what v (worker-row (system_of S) R K e w r v) m (sym (base-more e K w v) ∙ h)
+        | inr q ↦ files-same S e K w q ∙ ih (sym (base-stays e K w q) ∙ h)
+      ]
+
+  pub no-base : (K : List Event) → IsLegal (system_of S) R K → (w : ℕ) → base K w ≡ None → files_base S K w ≡ None
+  unfolding files_base files
+  no-base [] legal = λ w h. refl
+  no-base (e ∷ K) legal = λ w h. none-step K e w legal.0 (no-base K legal.1 w) h
+
+  -- what a base is, with the group in which it was looked up
+  record Found (K : List Event) (w c g : ℕ) : Type 0 where
+    pub n : Notif
+    pub dirfd : ℤ
+    pub place : ℕ
+    pub notif_is : notif_of (session K w) ≡ Some n
+    pub names : R.dirfd n ≡ Some dirfd
+    pub opening : event_at K place ≡ Some (ev (Worker w) (OpenBase n.pid dirfd (Ok tt)))
+    pub in_session : session_call (before K place) w ≡ Some c
+    pub is_base : files_base S K w ≡ base_of S (files S (before K place)) g dirfd
+
+  abbrev HasFound : List Event → ℕ → ℕ → Type 0
+  HasFound K w c = (g : ℕ) → base K w ≡ Some g → Found K w c g
+
+  found-later : (e : Event) (K : List Event) (w c g : ℕ) → (is_worker e.who w && moves e.what) ≡ false → notif_of (session (e ∷ K) w) ≡ notif_of (session K w) → Found K w c g → Found (e ∷ K) w c g
+  found-later e K w c g q s f =
+      let l = event_at-below K f.place _ f.opening in
+      let b : before (e ∷ K) f.place ≡ before K f.place = before-older e K f.place (omega arith) in
+      record {
+        n = f.n;
+        dirfd = f.dirfd;
+        place = f.place;
+        notif_is = s ∙ f.notif_is;
+        names = f.names;
+        opening = rw event_at-older f.opening;
+        in_session = rw b f.in_session;
+        is_base = rw b (files-same S e K w q ∙ f.is_base);
+      }
+
+  fetch-found : (K : List Event) (a : Actor) (w c : ℕ) (n : Notif) → IsStep (system_of S) R K (by a (Recv (Ok n))) → IsLegal (system_of S) R K → length (by a (Recv (Ok n)) ∷ K) < 2 ^ 64 → is_worker a w ≡ true
+      → WorkerRow (system_of S) R K w (Recv (Ok n)) → oldest_unfetched K ≡ Some c → Idle K w → HasFound (by a (Recv (Ok n)) ∷ K) w c
+  fetch-found K a w c n r legal room q row o idle g h = absurd (no g (sym (base-more (by a (Recv (Ok n))) K w q ∙ idle.base_none) ∙ h))
+    where
+      no : (g : ℕ) → None ≡ Some g → ⊥
+      no g h = cc
+
+  -- the opening of a base
+  opens-found : (K : List Event) (a : Actor) (w c p : ℕ) (d : ℤ) (u : Unit {0}) → is_worker a w ≡ true → WorkerRow (system_of S) R K w (OpenBase p d (Ok u)) → session_call K w ≡ Some c
+      → session (by a (OpenBase p d (Ok u)) ∷ K) w ≡ OpenBase p d (Ok u) ∷ session K w → HasFound (by a (OpenBase p d (Ok u)) ∷ K) w c
+  opens-found K a w c p d u q row s own g h =
+      let e = by a (OpenBase p d (Ok u)) in
+      let t = deed-is R (session K w) _ row.0 in
+      let f = opening-found (system_of S) K (holder K p) d u row.1 in
+      let o : opened K (holder K p) ≡ Some g = sym (base-more e K w q) ∙ h in
+      record {
+        n = t.0;
+        dirfd = d;
+        place = length K;
+        notif_is = rw own t.1.notif_is;
+        names = t.5;
+        opening = event_at-here e K ∙ ap Some (same-event a w p t.0.pid d u q t.4);
+        in_session = rw (before-newest e K) s;
+        is_base = rw (before-newest e K) (files-opens S K a w p d u q ∙ ap (λ (x : Option ℕ). base_of S (files S K) (place_or x) d) o);
+      }
+    where
+      same-event : (a : Actor) (w p r : ℕ) (d : ℤ) (u : Unit {0}) → is_worker a w ≡ true → p ≡ r → by a (OpenBase p d (Ok u)) ≡ ev (Worker w) (OpenBase r d (Ok tt))
+      same-event (Worker v) w p r d u h k = rw (eqb-true v w h, k)
+      same-event Start w p r d u h k = cc
+      same-event (Task n) w p r d u h k = cc
+      same-event Listener w p r d u h k = cc
+
+  -- a step of a session that moves no base
+  other-found : (K : List Event) (a : Actor) (w c : ℕ) (what : What) → works what ≡ true → moves what ≡ false → session (by a what ∷ K) w ≡ what ∷ session K w → HasFound K w c → is_worker a w ≡ true → HasFound (by a what ∷ K) w c
+  other-found K a w c what v m own ih q g h =
+      let e = by a what in
+      let k = works-keep K what v in
+      let still = moved (is_worker a w) (moves what) m in
+      found-later e K w c g still (rw (own, k.no_notif)) (ih g (sym (base-stays e K w still) ∙ h))
+    where
+      moved : (a b : Bool) → b ≡ false → (a && b) ≡ false
+      moved a b h = grind arith
+
+  work-found : (K : List Event) (a : Actor) (w c : ℕ) (what : What) → IsStep (system_of S) R K (by a what) → IsLegal (system_of S) R K → length (by a what ∷ K) < 2 ^ 64 → is_worker a w ≡ true
+      → WorkerRow (system_of S) R K w what → works what ≡ true → (i : InSession K w c) → session_call K w ≡ Some c → session (by a what ∷ K) w ≡ what ∷ session K w → HasFound K w c → HasFound (by a what ∷ K) w c
+  work-found K a w c (OpenBase p d (Ok u)) r legal room q row v i s own ih = opens-found K a w c p d u q row s own
+  work-found K a w c (OpenBase p d (Err x)) r legal room q row v i s own ih = other-found K a w c (OpenBase p d (Err x)) refl refl own ih q
+  work-found K a w c (OpenMem p x) r legal room q row v i s own ih = other-found K a w c (OpenMem p x) refl refl own ih q
+  work-found K a w c (Check x y) r legal room q row v i s own ih = other-found K a w c (Check x y) refl refl own ih q
+  work-found K a w c (Read x l y) r legal room q row v i s own ih = other-found K a w c (Read x l y) refl refl own ih q
+  work-found K a w c (Act x cap y) r legal room q row v i s own ih = other-found K a w c (Act x cap y) refl refl own ih q
+  work-found K a w c (Plant x b cap y) r legal room q row v i s own ih = other-found K a w c (Plant x b cap y) refl refl own ih q
+  work-found K a w c (AddfdPut x y) r legal room q row v i s own ih = other-found K a w c (AddfdPut x y) refl refl own ih q
+  work-found K a w c (AddfdTake x) r legal room q row v i s own ih = other-found K a w c (AddfdTake x) refl refl own ih q
+  work-found K a w c (Send x b y) r legal room q row v i s own ih = other-found K a w c (Send x b y) refl refl own ih q
+  work-found K a w c what r legal room q row v i s own ih = λ g h. cc
+
+  skip-moves : (what : What) → skips what ≡ true → moves what ≡ false
+  skip-moves Skip h = refl
+  skip-moves what h = cc
+
+  still-found : (K : List Event) (e : Event) (w c : ℕ) → IsStep (system_of S) R K e → IsLegal (system_of S) R K → length (e ∷ K) < 2 ^ 64 → (is_worker e.who w && not (skips e.what)) ≡ false
+      → (i : InSession K w c) → session_call K w ≡ Some c → session (e ∷ K) w ≡ session K w → HasFound K w c → HasFound (e ∷ K) w c
+  still-found K e w c r legal room q i s own ih g h =
+      found-later e K w c g no-move (ap notif_of own) (ih g (sym (base-stays e K w no-move) ∙ h))
+    where
+      no-move : (is_worker e.who w && moves e.what) ≡ false
+      no-move = elim (cases_Bool (skips e.what)) [
+        | inl z ↦ let y = skip-moves e.what z in grind arith
+        | inr z ↦ grind arith
+      ]
+
+  has-found : (K : List Event) → IsLegal (system_of S) R K → length K < 2 ^ 64 → (w c : ℕ) → session_call K w ≡ Some c → HasFound K w c
+  has-found = by-session (system_of S) R HasFound (record { fetch = fetch-found; work = work-found; still = still-found })
+
+  -- after a good check, the base is the one that the call names, or none
+  pub base-is : (K : List Event) (w c : ℕ) (n : Notif) → IsLegal (system_of S) R K → length K < 2 ^ 64 → session_call K w ≡ Some c → notif_of (session K w) ≡ Some n → any_of checks (session K w) ≡ true → any_of gives_up (session K w) ≡ false
+      → BaseIs S K w c n (R.dirfd n)
+  unfolding files_base
+  base-is K w c n legal room s m k g = go (base K w) refl (R.dirfd n) refl
+    where
+      i : InSession K w c
+      i = in-hand-of (system_of S) R K w c legal s
+
+      same : (x y : Notif) → Some x ≡ Some y → x ≡ y
+      same x y h = cc
+
+      some-dir : (x y : ℤ) → Some x ≡ Some y → x ≡ y
+      some-dir x y h = cc
+
+      none-dir : (x : ℤ) → None ≡ Some x → ⊥
+      none-dir x h = cc
+
+      found-is : (x : ℕ) → base K w ≡ Some x → (f : Found K w c x) → (d : ℤ) → R.dirfd n ≡ Some d → OpenedBase S K w c x n d
+      found-is x q f d h =
+          let v = same f.n n (sym f.notif_is ∙ m) in
+          let z : f.dirfd ≡ d = some-dir f.dirfd d (sym f.names ∙ (ap R.dirfd v ∙ h)) in
+          let t : Steady R K w c = rw s at (steady (system_of S) R K legal room w) in
+          let y = t.base_is i.t x i.task_is (inr (good-check (session K w) k g)) q in
+          record {
+            place = f.place;
+            opening = rw (v, z) at f.opening;
+            in_session = f.in_session;
+            of_caller = ap (opened K) i.task_is ∙ ap Some (sym y);
+            is_base = rw z at f.is_base;
+          }
+
+      go : (o : Option ℕ) → base K w ≡ o → (d : Option ℤ) → R.dirfd n ≡ d → BaseIs S K w c n d
+      go None q None h = no-base K legal w q
+      go None q (Some d) h = inl (no-base K legal w q)
+      go (Some x) q None h = let f = has-found K legal room w c s x q in absurd (none-dir f.dirfd (sym h ∙ (ap R.dirfd (sym (same f.n n (sym f.notif_is ∙ m))) ∙ f.names)))
+      go (Some x) q (Some d) h = inr (x, found-is x q (has-found K legal room w c s x q) d h)

@@ -1,0 +1,160 @@
+-- Finished stays finished.
+use Rattle.std.proofs.Common.{◌≡◌, ◌⊎◌, inl, inr, ℕ, ◌<◌, Bool, true, false, ◌&&◌, ◌||◌, not, List, [], ◌∷◌, ◌++◌, length, Option, Some, None, refl, sym, ◌∙◌, arith}
+use Rattle.std.specs.Prelude.{if◌then◌else◌, ◌==◌, Result, Ok, Err}
+use Rattle.std.proofs.lemmas.Bool.{cases_Bool, and_parts, false_from_ne_true}
+use Rattle.hist_model.specs.Look.{Name, name_eq, is_task, is_worker}
+use Rattle.hist_model.specs.Tasks.{ended, is_made, alive, makes, child_of}
+use Rattle.hist_model.specs.Calls.{listed, notifies, closes, leaves, caller}
+use Rattle.hist_model.specs.Sessions.{Rules, Fetch, session, skips, joined, any_of, is_letgo, notif_of, deed}
+use Rattle.hist_model.specs.Systems.{System}
+use Rattle.hist_model.specs.Steps.{IsStep, IsLegal, is_start, recv_answer, oldest_unfetched}
+use Rattle.hist_model.specs.Legal.{Finished, is_open_session}
+use Rattle.hist_model.specs.declared.event.Event.{Event}
+use Rattle.hist_model.specs.declared.event.Actor.{Actor}
+use Rattle.hist_model.specs.declared.event.Actor.TheVariants.{Start, Task, Worker, Listener}
+use Rattle.hist_model.specs.declared.event.What.{What}
+use Rattle.hist_model.specs.declared.event.What.TheVariants.{Spawn, Poke, Handler, Enter, Native, Install, Resume, Signal, Deliver, Reap, Exit, Recv, OpenMem, OpenBase, Check, Read, Act, Plant, AddfdPut, AddfdTake, Send, LetGo, Skip}
+use Rattle.sys_abi.specs.declared.wire.Notif.{Notif}
+use Rattle.mediation.specs.Facts.{NoClose, StaysFinished}
+use Rattle.mediation.proofs.Rows.{Row, TaskRow, WorkerRow}
+use Rattle.mediation.proofs.Own.{row-of, listed-below}
+use Rattle.mediation.proofs.Deeds.{AtWork, deed-is}
+use Rattle.mediation.proofs.Count.{fetching}
+use Rattle.mediation.proofs.Work.{works, at-work, session-same, session-more}
+
+-- the step does nothing: it was none, or it found nothing to receive
+abbrev pub idles : What → Bool
+idles Skip = true
+idles (Recv (Err x)) = true
+idles _ = false
+
+clash : (b : Bool) → b ≡ false → b ≡ true → ⊥
+clash b g h = cc
+
+-- a session that is not open is none, or has let go
+not-open : (own : List What) → is_open_session own ≡ false → (notif_of own ≡ None) ⊎ (any_of is_letgo own ≡ true)
+not-open [] h = inl refl
+not-open (a ∷ own) h = inr (negated (any_of is_letgo (a ∷ own)) h)
+  where
+    negated : (b : Bool) → not b ≡ false → b ≡ true
+    negated b h = grind arith
+
+no-work : (own : List What) (n : Notif) → AtWork own n → (notif_of own ≡ None) ⊎ (any_of is_letgo own ≡ true) → ⊥
+no-work own n k (inl q) = none n (sym q ∙ k.notif_is)
+  where
+    none : (n : Notif) → None ≡ Some n → ⊥
+    none n h = cc
+no-work own n k (inr q) = clash (any_of is_letgo own) k.no_letgo q
+
+module _ (S : System) (R : Rules) (K : List Event) (f : Finished K) where
+  no-life : (n : Name) → alive K n ≡ true → ⊥
+  no-life n h =
+      let p = and_parts (is_made K n) (not (ended K n)) h in
+      both (ended K n) p.1 (f.tasks n p.0)
+    where
+      both : (b : Bool) → not b ≡ true → b ≡ true → ⊥
+      both b g h = grind arith
+
+  task-idles : (n : Name) (what : What) → TaskRow S K n what → idles what ≡ true
+  task-idles n Skip r = refl
+  task-idles n (Spawn m a) r = absurd (no-life n r.0)
+  task-idles n (Poke a b) r = absurd (no-life n r.0)
+  task-idles n (Handler s m) r = absurd (no-life n r.0)
+  task-idles n (Enter nr args v) r = absurd (no-life n r.0)
+  task-idles n (Native a) r = absurd (no-life n r.0)
+  task-idles n (Install a) r = absurd (no-life n r.0)
+  task-idles n (Resume b) r = absurd (no-life n r.0)
+  task-idles n (Signal p s a) r = absurd (no-life n r.0)
+  task-idles n (Deliver s effect) r = absurd (no-life n r.0)
+  task-idles n (Reap a) r = absurd (no-life n r.0)
+  task-idles n Exit r = absurd (no-life n r.0)
+  task-idles n _ r = absurd r
+
+  works-no : (w : ℕ) (what : What) → WorkerRow S R K w what → works what ≡ true → ⊥
+  works-no w what r h = let g = at-work S R K w what r h in no-work (session K w) g.0 g.1 (not-open (session K w) (f.sessions w))
+
+  worker-idles : (w : ℕ) (what : What) → WorkerRow S R K w what → idles what ≡ true
+  worker-idles w Skip r = refl
+  worker-idles w (Recv (Err x)) r = refl
+  worker-idles w (Recv (Ok n)) r = let g = fetching K n (oldest_unfetched K) refl r.2 in absurd (clash (listed K g.0) (f.calls g.0) g.2)
+  worker-idles w LetGo r = let t = deed-is R (session K w) _ r in absurd (open-no (not-open (session K w) (f.sessions w)) t.0 t.1 t.2)
+    where
+      open-no : (notif_of (session K w) ≡ None) ⊎ (any_of is_letgo (session K w) ≡ true) → (n : Notif) → notif_of (session K w) ≡ Some n → any_of is_letgo (session K w) ≡ false → ⊥
+      open-no (inl q) n h g = none n (sym q ∙ h)
+        where
+          none : (n : Notif) → None ≡ Some n → ⊥
+          none n h = cc
+      open-no (inr q) n h g = clash (any_of is_letgo (session K w)) g q
+  worker-idles w (OpenMem p x) r = absurd (works-no w (OpenMem p x) r refl)
+  worker-idles w (OpenBase p d x) r = absurd (works-no w (OpenBase p d x) r refl)
+  worker-idles w (Check x y) r = absurd (works-no w (Check x y) r refl)
+  worker-idles w (Read x l y) r = absurd (works-no w (Read x l y) r refl)
+  worker-idles w (Act x cap y) r = absurd (works-no w (Act x cap y) r refl)
+  worker-idles w (Plant x b cap y) r = absurd (works-no w (Plant x b cap y) r refl)
+  worker-idles w (AddfdPut x y) r = absurd (works-no w (AddfdPut x y) r refl)
+  worker-idles w (AddfdTake x) r = absurd (works-no w (AddfdTake x) r refl)
+  worker-idles w (Send x b y) r = absurd (works-no w (Send x b y) r refl)
+  worker-idles w _ r = absurd r
+
+  row-idles : (a : Actor) (what : What) → Row S R K a what → closes what ≡ false → idles what ≡ true
+  row-idles Start what r c = rw r
+  row-idles Listener what r c = absurd (clash (closes what) c (rw r))
+  row-idles (Task n) what r c = task-idles n what r
+  row-idles (Worker w) what r c = worker-idles w what r
+
+-- what an idle step leaves
+idle-listed : (e : Event) (K : List Event) (c : ℕ) → idles e.what ≡ true → listed K c ≡ false → listed (e ∷ K) c ≡ false
+unfolding listed
+idle-listed e K c h l = go e.what h (c == length K)
+  where
+    go : (what : What) → idles what ≡ true → (b : Bool) → (if b then notifies what else (listed K c && not (closes what || (leaves what && is_task e.who (caller K c))))) ≡ false
+    go Skip h true = refl
+    go Skip h false = rw l
+    go (Recv (Err x)) h true = refl
+    go (Recv (Err x)) h false = rw l
+    go what h b = cc
+
+idle-made : (e : Event) (K : List Event) (n : Name) → idles e.what ≡ true → is_made (e ∷ K) n ≡ is_made K n
+unfolding is_made
+idle-made e K n h = go e.what h
+  where
+    go : (what : What) → idles what ≡ true → ((makes what && name_eq (child_of what) n) || is_made K n) ≡ is_made K n
+    go Skip h = refl
+    go (Recv (Err x)) h = refl
+    go what h = cc
+
+idle-ended : (e : Event) (K : List Event) (n : Name) → ended K n ≡ true → ended (e ∷ K) n ≡ true
+unfolding ended
+idle-ended e K n h = grind arith
+
+joined-closed : (own : List What) (x : ℕ) → is_open_session own ≡ false → is_open_session (joined (Recv (Err x)) own) ≡ false
+joined-closed [] x h = refl
+joined-closed (a ∷ own) x h = h
+
+idle-session : (e : Event) (K : List Event) (w : ℕ) → idles e.what ≡ true → is_open_session (session K w) ≡ false → is_open_session (session (e ∷ K) w) ≡ false
+unfolding session
+idle-session e K w h o = go e.what h (is_worker e.who w)
+  where
+    go : (what : What) → idles what ≡ true → (b : Bool) → is_open_session (if b && not (skips what) then joined what (session K w) else session K w) ≡ false
+    go Skip h true = o
+    go Skip h false = o
+    go (Recv (Err x)) h true = joined-closed (session K w) x o
+    go (Recv (Err x)) h false = o
+    go what h b = cc
+
+stays : (e : Event) (K : List Event) → idles e.what ≡ true → Finished K → Finished (e ∷ K)
+stays e K h f = record {
+  tasks = λ n m. idle-ended e K n (f.tasks n (sym (idle-made e K n h) ∙ m));
+  calls = λ c. idle-listed e K c h (f.calls c);
+  sessions = λ w. idle-session e K w h (f.sessions w);
+}
+
+longer : (L K : List Event) → 0 < length K → 0 < length (L ++ K)
+longer [] K h = h
+longer (e ∷ L) K h = omega arith
+
+pub stays-finished : (S : System) (R : Rules) → StaysFinished S R
+stays-finished S R K [] l legal f n = f
+stays-finished S R K (e ∷ L) l legal f n =
+    let ih = stays-finished S R K L l legal.1 f n.1 in
+    stays e (L ++ K) (row-idles S R (L ++ K) ih e.who e.what (row-of S R (L ++ K) e legal.0 (longer L K l)) n.0) ih

@@ -1,0 +1,167 @@
+-- The frame law.
+use Rattle.std.proofs.Common.{◌≡◌, inl, inr, ℕ, zero, suc, ◌+◌, ◌-◌, ◌<◌, ◌≤◌, Bool, true, false, ◌&&◌, ◌||◌, List, [], ◌∷◌, length, Option, Some, None, refl, sym, ◌∙◌, arith}
+use Rattle.std.specs.Prelude.{if◌then◌else◌, ◌==◌}
+use Rattle.std.proofs.lemmas.Bool.{cases_Bool, eqb-true, false_from_ne_true}
+use Rattle.hist_model.specs.Look.{Name, newest, oldest, or_else}
+use Rattle.hist_model.specs.Tasks.{ended, ends, was_waited_for, reaped, reaps, holds, holder, free_from, next_pid, last_pid, given, name_of}
+use Rattle.hist_model.specs.Calls.{listed, named, id, fetched, fetches, settled, answered, some_sends, queue, answers, puts_to, is_install, calls, recvs, receives, count, notifies, leaves, closes}
+use Rattle.hist_model.specs.Sessions.{session}
+use Rattle.mediation.specs.Frames.{changes_tasks, changes_list, changes_fetched, changes_count, changes_answered, Frame}
+use Rattle.hist_model.specs.declared.event.Event.{Event}
+use Rattle.hist_model.specs.declared.event.What.{What}
+use Rattle.hist_model.specs.declared.event.What.TheVariants.{Spawn, Enter, Deliver, Reap, Exit, Resume, Close, Recv, AddfdPut, Install, Send}
+use Rattle.hist_model.proofs.Look.{event_at-here, event_at-older, oldest-same}
+use Rattle.mediation.proofs.Own.{listed-below, listed-here}
+use Rattle.mediation.proofs.Queues.{Asks, queue-asks}
+
+-- a kind that changes no task
+pub record NoTask (w : What) : Type 0 where
+  pub no_end : ends w ≡ false
+  pub no_reap : (n : Name) → reaps w n ≡ false
+  pub no_pid : given w ≡ None
+
+no-task : (w : What) → changes_tasks w ≡ false → NoTask w
+no-task (Spawn n a) h = cc
+no-task (Enter nr args v) h = cc
+no-task (Deliver s e) h = cc
+no-task (Reap a) h = cc
+no-task Exit h = cc
+no-task w h = record { no_end = refl; no_reap = λ n. refl; no_pid = refl }
+
+ended-frame : (e : Event) (K : List Event) (n : Name) → NoTask e.what → ended (e ∷ K) n ≡ ended K n
+unfolding ended
+ended-frame e K n h = rw h.no_end
+
+reaped-frame : (e : Event) (K : List Event) (n : Name) → NoTask e.what → reaped (e ∷ K) n ≡ reaped K n
+unfolding reaped was_waited_for
+reaped-frame e K n h = rw (h.no_reap n, ended-frame e K n h, ended-frame e K _ h)
+
+newest-same : (p q : ℕ → Bool) (n : ℕ) → ((c : ℕ) → c < n → p c ≡ q c) → newest p n ≡ newest q n
+unfolding newest
+newest-same p q zero h = refl
+newest-same p q (suc n) h = rw (newest-same p q n (λ c l. h c (omega arith)), h n (omega arith))
+
+newest-suc : (test : ℕ → Bool) (n : ℕ) → newest test (suc n) ≡ (if test n then Some n else newest test n)
+unfolding newest
+newest-suc test n = refl
+
+oldest-suc : (test : ℕ → Bool) (n : ℕ) → oldest test (suc n) ≡ or_else (oldest test n) (if test n then Some n else None)
+unfolding oldest
+oldest-suc test n = refl
+
+holder-frame : (e : Event) (K : List Event) (p : ℕ) → NoTask e.what → holder (e ∷ K) p ≡ holder K p
+unfolding holder
+holder-frame e K p h =
+    let below = newest-same (holds (e ∷ K) p) (holds K p) (length K) (λ t l. rw (event_at-older e K t l, reaped-frame e K (name_of K t) h)) in
+    let here : holds (e ∷ K) p (length K) ≡ false = rw (event_at-here e K, h.no_pid) in
+    newest-suc (holds (e ∷ K) p) (length K) ∙ rw here below
+
+free-frame : (e : Event) (K : List Event) (n p : ℕ) → NoTask e.what → free_from (e ∷ K) n p ≡ free_from K n p
+unfolding free_from
+free-frame e K zero p h = refl
+free-frame e K (suc n) p h = rw (holder-frame e K p h, free-frame e K n (p + 1) h)
+
+last-frame : (base : ℕ) (e : Event) (K : List Event) → NoTask e.what → last_pid base (e ∷ K) ≡ last_pid base K
+unfolding last_pid
+last-frame base e K h = rw h.no_pid
+
+next-frame : (base m : ℕ) (e : Event) (K : List Event) → NoTask e.what → next_pid base m (e ∷ K) ≡ next_pid base m K
+unfolding next_pid
+next-frame base m e K h = rw (last-frame base e K h, free-frame e K (base + m - last_pid base K) (last_pid base K + 1) h, free-frame e K (last_pid base K - base) (base + 1) h)
+
+pub record NoList (w : What) : Type 0 where
+  pub no_leave : leaves w ≡ false
+  pub no_close : closes w ≡ false
+  pub no_enter : notifies w ≡ false
+
+no-list : (w : What) → changes_list w ≡ false → NoList w
+no-list (Enter nr args v) h = cc
+no-list (Resume b) h = cc
+no-list (Deliver s e) h = cc
+no-list Close h = cc
+no-list w h = record { no_leave = refl; no_close = refl; no_enter = refl }
+
+not-listed : (K : List Event) (c : ℕ) → length K ≤ c → listed K c ≡ false
+not-listed K c h = false_from_ne_true (listed K c) (λ q. omega (arith, listed-below K c q))
+
+listed-frame : (e : Event) (K : List Event) (c : ℕ) → NoList e.what → listed (e ∷ K) c ≡ listed K c
+unfolding listed
+listed-frame e K c h =
+    elim (cases_Bool (c == length K)) [
+      | inl q ↦ rw (q, h.no_enter) (sym (not-listed K c (omega (arith, eqb-true c (length K) q))))
+      | inr q ↦ rw (q, h.no_close, h.no_leave) (and-true (listed K c))
+    ]
+  where
+    and-true : (b : Bool) → (b && true) ≡ b
+    and-true b = grind arith
+
+named-frame : (e : Event) (K : List Event) (x : ℕ) → NoList e.what → named (e ∷ K) x ≡ named K x
+unfolding named
+named-frame e K x h =
+    let below = oldest-same (λ c. listed (e ∷ K) c && (id (e ∷ K) c == x)) (λ c. listed K c && (id K c == x)) (length K) (λ c l. rw (listed-frame e K c h, event_at-older e K c l)) in
+    let here : listed (e ∷ K) (length K) ≡ false = listed-here e K ∙ h.no_enter in
+    oldest-suc (λ c. listed (e ∷ K) c && (id (e ∷ K) c == x)) (length K) ∙ rw (here, below) (else-none (oldest (λ c. listed K c && (id K c == x)) (length K)))
+  where
+    else-none : (o : Option ℕ) → or_else o None ≡ o
+    else-none (Some c) = refl
+    else-none None = refl
+
+fetched-frame : (e : Event) (K : List Event) (c : ℕ) → changes_fetched e.what ≡ false → fetched (e ∷ K) c ≡ fetched K c
+unfolding fetched
+fetched-frame e K c h = rw (no e.what (id K c) h)
+  where
+    no : (w : What) (x : ℕ) → changes_fetched w ≡ false → fetches w x ≡ false
+    no (Recv a) x h = cc
+    no w x h = refl
+
+count-frame : (e : Event) (K : List Event) → changes_count e.what ≡ false → count (e ∷ K) ≡ count K
+unfolding calls recvs
+count-frame e K h = let p = no e.what h in rw (p.0, p.1) (omega arith)
+  where
+    no : (w : What) → changes_count w ≡ false → (notifies w ≡ false) × (receives w ≡ false)
+    no (Enter nr args v) h = cc
+    no (Recv a) h = cc
+    no w h = (refl, refl)
+
+pub record NoAnswer (K : List Event) (w : What) : Type 0 where
+  pub no_send : (c : ℕ) → answers K w c ≡ false
+  pub no_put : (c : ℕ) → puts_to K w c ≡ false
+  pub no_install : is_install w ≡ false
+
+no-answer : (K : List Event) (w : What) → changes_answered w ≡ false → NoAnswer K w
+no-answer K (AddfdPut q a) h = cc
+no-answer K (Install a) h = cc
+no-answer K (Send x b a) h = cc
+no-answer K w h = record { no_send = λ c. refl; no_put = λ c. refl; no_install = refl }
+
+settled-frame : (e : Event) (K : List Event) (c : ℕ) → NoAnswer K e.what → settled (e ∷ K) c ≡ settled K c
+unfolding settled
+settled-frame e K c h = rw (h.no_send c, h.no_install)
+
+queue-frame : (e : Event) (K : List Event) (c : ℕ) → NoAnswer K e.what → queue (e ∷ K) c ≡ queue K c
+unfolding queue
+queue-frame e K c h = rw (h.no_put c, h.no_install)
+
+-- requests that stand below keep their flags
+sends-frame : (e : Event) (K : List Event) (c : ℕ) (rs : List ℕ) → Asks K c rs → some_sends (e ∷ K) rs ≡ some_sends K rs
+unfolding Asks
+sends-frame e K c [] h = refl
+sends-frame e K c (r ∷ rs) h = rw (event_at-older e K r h.0, sends-frame e K c rs h.2)
+
+answered-frame : (e : Event) (K : List Event) (c : ℕ) → NoAnswer K e.what → answered (e ∷ K) c ≡ answered K c
+answered-frame e K c h = rw (settled-frame e K c h, queue-frame e K c h, sends-frame e K c (queue K c) (queue-asks K c))
+
+pub frame : (K : List Event) (e : Event) → Frame K e
+frame K e = record {
+  ended_same = λ n h. ended-frame e K n (no-task e.what h);
+  reaped_same = λ n h. reaped-frame e K n (no-task e.what h);
+  holder_same = λ p h. holder-frame e K p (no-task e.what h);
+  next_same = λ base m h. next-frame base m e K (no-task e.what h);
+  listed_same = λ c h. listed-frame e K c (no-list e.what h);
+  named_same = λ x h. named-frame e K x (no-list e.what h);
+  fetched_same = λ c h. fetched-frame e K c h;
+  count_same = λ h. count-frame e K h;
+  settled_same = λ c h. settled-frame e K c (no-answer K e.what h);
+  answered_same = λ c h. answered-frame e K c (no-answer K e.what h);
+  session_same = λ w h. unfold session in rw h;
+}

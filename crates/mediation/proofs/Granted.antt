@@ -1,0 +1,156 @@
+-- Each effect is what the policy grants on the one copy of its session, and each request for a descriptor what it injects.
+use Rattle.std.proofs.Common.{◌≡◌, ◌⊎◌, inl, inr, ℕ, ◌<◌, ◌≤◌, ◌^◌, Bool, true, false, List, [], ◌∷◌, length, Option, Some, None, option_map, refl, sym, ap, ◌∙◌, arith}
+use Rattle.std.specs.Prelude.{if◌then◌else◌, ◌==◌, ◌/◌, ◌%◌, ◌*◌, slice_get, Result, Ok, Err, ℤ}
+use Rattle.std.proofs.lemmas.Bool.{eq-eqb}
+use Rattle.hist_model.specs.Look.{is_worker}
+use Rattle.hist_model.specs.Calls.{caller}
+use Rattle.hist_model.specs.Sessions.{Rules, Decision, Denies, Passes, Acts, Plants, Injects, ActD, PlantD, ReadD, Put, session, any_of, opens, checks, gives_up, notif_of, reads_of}
+use Rattle.hist_model.specs.Systems.{System}
+use Rattle.hist_model.specs.Steps.{IsStep, IsLegal, session_call, mem, opened, task_place, times_spent}
+use Rattle.hist_model.specs.Decisions.{decide, cap_of, times_of}
+use Rattle.hist_model.specs.Requests.{request}
+use Rattle.hist_model.specs.Copies.{Progress, Wants, Complete, Faulty}
+use Rattle.hist_model.specs.Legal.{system_of, rules_of, judged, decided, decision, grant_decision, copied}
+use Rattle.hist_model.specs.Mediated.{IsMediated, ActIsGranted, PlantIsGranted, PutIsInjected, ReadsOwn, TimesKept}
+use Rattle.hist_model.specs.declared.event.Event.{Event}
+use Rattle.hist_model.specs.declared.event.Actor.TheVariants.{Worker}
+use Rattle.hist_model.specs.declared.event.What.{What}
+use Rattle.hist_model.specs.declared.event.What.TheVariants.{Act, Plant, AddfdPut, Read}
+use Rattle.hist_model.specs.declared.policy.Policy.{Policy}
+use Rattle.hist_model.specs.declared.policy.Cap.{Cap}
+use Rattle.hist_model.specs.declared.policy.Verdict.{Verdict}
+use Rattle.hist_model.specs.declared.policy.Verdict.TheVariants.{Grant, Deny, Pass, Inject}
+use Rattle.hist_model.specs.declared.request.Request.{Request}
+use Rattle.hist_model.specs.declared.request.Request.TheVariants.{Sysinfo}
+use Rattle.hist_model.specs.declared.script.Figures.{Figures}
+use Rattle.hist_model.specs.declared.script.Script.{Script}
+use Rattle.sys_abi.specs.declared.wire.Addfd.{Addfd}
+use Rattle.sys_abi.specs.declared.wire.Notif.{Notif}
+use Rattle.mediation.proofs.Rows.{WorkerRow}
+use Rattle.mediation.proofs.Deeds.{AtWork, HasOpened, HasCopied, deed-is}
+use Rattle.mediation.proofs.Work.{InSession, hand, hand-notif, in-hand}
+use Rattle.mediation.proofs.Sequence.{is-own}
+use Rattle.mediation.proofs.Ordered.{ordered, used-two}
+use Rattle.mediation.proofs.Opened.{own-memory}
+use Rattle.mediation.proofs.Waited.{waited}
+use Rattle.mediation.proofs.Bases.{base-is}
+use Rattle.mediation.proofs.Spent.{Capped, spent-within}
+use Rattle.mediation.proofs.Replies.{by-worker}
+
+-- at a use of a copy
+uses-copy : (S : System) (R : Rules) (K : List Event) (w : ℕ) (n : Notif) → IsLegal S R K → length K < 2 ^ 64 → AtWork (session K w) n → HasOpened R (session K w) n → HasCopied R (session K w) n → R.fault n (reads_of (session K w)) ≡ None
+    → (c : ℕ) × IsMediated R K w c n
+uses-copy S R K w n legal room work ready copy sound =
+    let j = in-hand K w (session_call K w) n work (hand S R K legal w) in
+    let two = used-two R (session K w) n work copy (ordered R (session K w) (is-own S R K legal w)) in (
+      j.0,
+      record {
+        of_call = j.1;
+        notif_is = work.notif_is;
+        of_notif = hand-notif K w j.0 j.2 n j.3;
+        whole = copy.copied;
+        no_fault = sound;
+        checked = two;
+        waited = waited S R K legal room w j.0 j.1 work.no_end (inr two);
+        memory = own-memory S R K w j.0 legal room j.1 ready.mem copy.checked work.no_end;
+      },
+    )
+
+pub act-is-granted : (P : Policy) (S : Script) (K : List Event) (e : Event) → IsLegal (system_of S) (rules_of P S.figures) K → length K < 2 ^ 64 → IsStep (system_of S) (rules_of P S.figures) K e → ActIsGranted P S K e
+act-is-granted P S K e legal room r w q cap a who what =
+    let R = rules_of P S.figures in
+    let row : WorkerRow (system_of S) R K w (Act q cap a) = rw what at (by-worker (system_of S) R K e w r who) in
+    let t = deed-is R (session K w) (ActD q cap) row.0 in
+    let m = uses-copy (system_of S) R K w t.0 legal room t.1 t.2 t.3 t.6 in
+    (m.0, t.0, m.1, t.4, t.5, base-is S R K w m.0 t.0 legal room m.1.of_call t.1.notif_is t.3.checked t.1.no_end)
+
+pub plant-is-granted : (P : Policy) (S : Script) (K : List Event) (e : Event) → IsLegal (system_of S) (rules_of P S.figures) K → length K < 2 ^ 64 → IsStep (system_of S) (rules_of P S.figures) K e → PlantIsGranted P S K e
+plant-is-granted P S K e legal room r w x b cap a who what =
+    let R = rules_of P S.figures in
+    let row : WorkerRow (system_of S) R K w (Plant x b cap a) = rw what at (by-worker (system_of S) R K e w r who) in
+    let t = deed-is R (session K w) (PlantD x b cap) row.0 in
+    let m = uses-copy (system_of S) R K w t.0 legal room t.1 t.2 t.3 t.6 in
+    (m.0, t.0, m.1, t.4, t.5)
+
+pub put-is-injected : (P : Policy) (S : Script) (K : List Event) (e : Event) → IsLegal (system_of S) (rules_of P S.figures) K → length K < 2 ^ 64 → IsStep (system_of S) (rules_of P S.figures) K e → PutIsInjected P S K e
+put-is-injected P S K e legal room r w q a who what =
+    let R = rules_of P S.figures in
+    let row : WorkerRow (system_of S) R K w (AddfdPut q a) = rw what at (by-worker (system_of S) R K e w r who) in
+    let t = deed-is R (session K w) (Put q) row.0 in
+    let m = uses-copy (system_of S) R K w t.0 legal room t.1 t.2 t.3 t.4.sound in
+    (m.0, t.0, m.1, (t.4.src, t.4.place, t.4.flags, t.4.decided, t.4.is), t.5)
+
+pub reads-are-own : (S : System) (R : Rules) (K : List Event) (e : Event) → IsLegal S R K → length K < 2 ^ 64 → IsStep S R K e → ReadsOwn K e
+reads-are-own S R K e legal room r w x l a who what =
+    let row : WorkerRow S R K w (Read x l a) = rw what at (by-worker S R K e w r who) in
+    let t = deed-is R (session K w) (ReadD x l) row.0 in
+    let j = in-hand K w (session_call K w) t.0 t.1 (hand S R K legal w) in
+    (j.0, j.1, own-memory S R K w j.0 legal room j.1 t.2.mem t.3 t.1.no_end)
+
+-- the cap of a rule
+times-in : Option Cap → ℕ
+times-in None = 0
+times-in (Some cap) = cap.times
+
+limit-of : Policy → ℕ → ℕ
+limit-of P i = times-in (cap_of P.rules i)
+
+-- the cap that a rule's decision carries is the rule's own
+own-times : (times : Option ℕ) (i : ℕ) (cap : Cap) → option_map (λ n. record { rule = i; times = n }) times ≡ Some cap → cap.rule ≡ i
+own-times None i cap h = cc
+own-times (Some n) i cap h = sym (ap cap-rule h)
+  where
+    cap-rule : Option Cap → ℕ
+    cap-rule (Some c) = c.rule
+    cap-rule None = i
+
+own-cap : (P : Policy) (i : ℕ) (cap : Cap) → cap_of P.rules i ≡ Some cap → cap.times ≤ limit-of P cap.rule
+unfolding limit-of times-in
+own-cap P i cap h =
+    let m = own-times (times_of (slice_get P.rules i)) i cap h in
+    at-most (cap_of P.rules cap.rule) cap (ap (cap_of P.rules) m ∙ h)
+  where
+    at-most : (o : Option Cap) (c : Cap) → o ≡ Some c → c.times ≤ times-in o
+    at-most o c q = rw q (omega arith)
+
+act-cap : Decision → Option Cap
+act-cap (Acts q cap) = cap
+act-cap (Plants a b cap) = cap
+act-cap _ = None
+
+-- whatever the decision, its cap is within the limit
+Within : Policy → Decision → Type 0
+Within P d = (cap : Cap) → act-cap d ≡ Some cap → cap.times ≤ limit-of P cap.rule
+
+grant-within : (P : Policy) (F : Figures) (i : ℕ) (q : Request) → Within P (grant_decision P F i q)
+unfolding Within act-cap
+grant-within P F i (Sysinfo x) cap h = own-cap P i cap h
+grant-within P F i q cap h = own-cap P i cap h
+
+decision-within : (P : Policy) (F : Figures) (q : Request) (i : ℕ) (v : Verdict) → Within P (decision P F q i v)
+unfolding Within act-cap
+decision-within P F q i Grant cap h = grant-within P F i q cap h
+decision-within P F q i (Deny e) cap h = cc
+decision-within P F q i Pass cap h = cc
+decision-within P F q i (Inject src at) cap h = cc
+
+judged-within : (P : Policy) (F : Figures) (n : Notif) (p : Progress) → Within P (judged P F n p)
+unfolding Within act-cap
+judged-within P F n (Complete texts) cap h =
+    let q = request n.call.nr n.call.args texts in
+    decision-within P F q (decide P.rules q).0 (decide P.rules q).1 cap h
+judged-within P F n (Wants a l) cap h = cc
+judged-within P F n (Faulty e) cap h = cc
+
+policy-capped : (P : Policy) (F : Figures) → Capped (rules_of P F) (limit-of P)
+unfolding Within act-cap
+policy-capped P F = record {
+  acts = λ n reads q cap h. judged-within P F n (copied n reads) cap (ap act-cap h);
+  plants = λ n reads a b cap h. judged-within P F n (copied n reads) cap (ap act-cap h);
+}
+
+pub times-kept : (P : Policy) (S : Script) (K : List Event) → IsLegal (system_of S) (rules_of P S.figures) K → TimesKept P K
+unfolding limit-of times-in
+times-kept P S K legal i cap h =
+    let m = spent-within (system_of S) (rules_of P S.figures) (limit-of P) (policy-capped P S.figures) K legal i in
+    rw h at m

@@ -1,0 +1,54 @@
+-- Every legal history is mediated.
+use Rattle.std.proofs.Common.{ℕ, ◌<◌, ◌^◌, List, [], ◌∷◌, length, arith}
+use Rattle.hist_model.specs.Sessions.{session}
+use Rattle.hist_model.specs.Legal.{Legal, system_of, rules_of}
+use Rattle.hist_model.specs.Settlers.{InstallsOwn, ResumesOwn, ReturnsInstalled}
+use Rattle.hist_model.specs.Mediated.{Mediated, Each, TakenByItsActor, NamesOwn, NeverBusy, ErrorsKnown, InstallsAlone, FailsAlone, Arrives, ActIsGranted, PlantIsGranted, PutIsInjected, ReadsOwn, HasCause, LostIfGone, ReceivesFor, ActsAlone}
+use Rattle.hist_model.specs.declared.event.Event.{Event}
+use Rattle.hist_model.specs.declared.policy.Policy.{Policy}
+use Rattle.hist_model.specs.declared.script.Script.{Script}
+use Rattle.mediation.proofs.Once.{answered_once}
+use Rattle.mediation.proofs.Sequence.{is-own}
+use Rattle.mediation.proofs.Ordered.{ordered}
+use Rattle.mediation.proofs.Replies.{each, taken-by-its-actor, names-own-call, never-busy, errors-known, installs-are-own, resumes-are-own, resumes-installed, has-cause, lost-if-gone}
+use Rattle.mediation.proofs.Arrivals.{arrives, one-session}
+use Rattle.mediation.proofs.Received.{receives-step, receives-are-for}
+use Rattle.mediation.proofs.Placed.{installs-alone, fails-alone}
+use Rattle.mediation.proofs.Privileged.{acts-alone}
+use Rattle.mediation.proofs.Granted.{act-is-granted, plant-is-granted, put-is-injected, reads-are-own, times-kept}
+
+-- a fact of each event that needs no more than the event
+every : (P : List Event → Event → Type 0) → ((K : List Event) (e : Event) → P K e) → (K : List Event) → Each P K
+every P f [] = tt
+every P f (e ∷ K) = (f K e, every P f K)
+
+pub mediated : (P : Policy) (S : Script) (K : List Event) → Legal P S K → Mediated P S K
+mediated P S K legal' =
+    let T = system_of S in
+    let R = rules_of P S.figures in
+    let legal = legal'.0 in
+    let room = legal'.1 in
+    record {
+      actors = each T R TakenByItsActor (taken-by-its-actor T R) K legal room;
+      once = answered_once T R K legal;
+      one_session = one-session T R K legal room;
+      own = each T R NamesOwn (names-own-call T R) K legal room;
+      resumes = each T R ResumesOwn (resumes-are-own T R) K legal room;
+      returns_installed = each T R ReturnsInstalled (resumes-installed T R) K legal room;
+      busy = each T R NeverBusy (never-busy T R) K legal room;
+      errors = each T R ErrorsKnown (errors-known T R) K legal room;
+      installs = each T R InstallsOwn (installs-are-own T R) K legal room;
+      installs_alone = every (InstallsAlone S) (installs-alone S) K;
+      fails_alone = every (FailsAlone S) (fails-alone S) K;
+      arrives = each T R Arrives (arrives T R) K legal room;
+      acts = each T R (ActIsGranted P S) (act-is-granted P S) K legal room;
+      plants = each T R (PlantIsGranted P S) (plant-is-granted P S) K legal room;
+      puts = each T R (PutIsInjected P S) (put-is-injected P S) K legal room;
+      reads = each T R ReadsOwn (reads-are-own T R) K legal room;
+      times = times-kept P S K legal;
+      ordered = λ w. (ordered R (session K w) (is-own T R K legal w)).order;
+      cause = each T R (HasCause R) (has-cause T R) K legal room;
+      lost = each T R LostIfGone (lost-if-gone T R) K legal room;
+      receives = each T R ReceivesFor (λ L e legal room r. receives-step T R L e legal room r (receives-are-for T R L legal room)) K legal room;
+      acts_alone = every (ActsAlone S) (acts-alone S) K;
+    }

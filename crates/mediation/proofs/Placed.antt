@@ -1,0 +1,14 @@
+-- An installation puts the request's file where it says, and nothing elsewhere; one that failed puts nothing.
+use Rattle.std.proofs.Common.{◌≡◌, ℕ, List, ◌∷◌, refl}
+use Rattle.hist_model.specs.Files.{files}
+use Rattle.hist_model.specs.Mediated.{InstallsAlone, FailsAlone}
+use Rattle.hist_model.specs.declared.event.Event.{Event}
+use Rattle.hist_model.specs.declared.script.Script.{Script}
+
+pub installs-alone : (S : Script) (K : List Event) (e : Event) → InstallsAlone S K e
+unfolding files
+installs-alone S K e n m who what f j = rw (who, what)
+
+pub fails-alone : (S : Script) (K : List Event) (e : Event) → FailsAlone S K e
+unfolding files
+fails-alone S K e x what f j = rw what

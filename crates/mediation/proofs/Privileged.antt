@@ -1,0 +1,184 @@
+-- A native call changes no device, no mount, and no attribute but the user's own.
+use Rattle.std.proofs.Common.{◌≡◌, inl, inr, ℕ, Bool, true, false, ◌&&◌, not, List, [], ◌∷◌, length, Option, Some, None, is_some, refl, sym, ap, ◌∙◌}
+use Rattle.std.specs.Prelude.{if◌then◌else◌, ◌==◌, ◌%◌, ◌^◌, Result, Ok, Err, ℤ, filter, nat_eq, codes, bytes_eq}
+use Rattle.std.specs.List.{starts_with}
+use Rattle.std.proofs.lemmas.Bool.{cases_Bool, and_parts}
+use Rattle.hist_model.specs.Look.{Name, task_name}
+use Rattle.hist_model.specs.Trees.{Tree, entry, attr, with_node, with_attr, is_attr, attr_put, attr_replaced, are_attr_flags, creates_attr, replaces_attr}
+use Rattle.hist_model.specs.Paths.{Place, At, New, Refused, Follow, Create, reaches}
+use Rattle.hist_model.specs.Effects.{effect, making, perform, made, attributed, attr_set}
+use Rattle.hist_model.specs.Requests.{kind_of, base_dirfd, request}
+use Rattle.hist_model.specs.Copies.{plan, copy_of}
+use Rattle.hist_model.specs.Memory.{is_number, argument, last_call, group_named, own_group, all_mapped, mapped_byte, sysinfo_size}
+use Rattle.hist_model.specs.Steps.{number_entered, entered, pid_named, place_or}
+use Rattle.hist_model.specs.Natives.{Files, root, base_for, lowest_free, NativeStep, Fails, Gives, Changes, Opens, Closes, Writes, native_step, call_natively, copied_natively, request_natively, make_natively, set_natively, changed, is_device, is_refused, open_at_number, opened_place, close_natively, has_base}
+use Rattle.hist_model.specs.Files.{files, files_after, after_native, after_spawn}
+use Rattle.hist_model.specs.Legal.{tree}
+use Rattle.hist_model.specs.Mediated.{KeepsPrivileged, ActsAlone, is_device_node, is_device_row, is_others_row, is_effect}
+use Rattle.hist_model.specs.declared.event.Event.{Event}
+use Rattle.hist_model.specs.declared.event.Actor.{Actor}
+use Rattle.hist_model.specs.declared.event.Actor.TheVariants.{Start, Task, Worker, Listener}
+use Rattle.hist_model.specs.declared.event.What.{What}
+use Rattle.hist_model.specs.declared.event.What.TheVariants.{Spawn, Native, Install, OpenBase, Act, LetGo}
+use Rattle.hist_model.specs.declared.event.SpawnKind.{SpawnKind}
+use Rattle.hist_model.specs.declared.event.SpawnKind.TheVariants.{New as NewGroup, Copied, Shared}
+use Rattle.hist_model.specs.declared.request.Kind.{Kind}
+use Rattle.hist_model.specs.declared.request.Kind.TheVariants as kind
+use Rattle.hist_model.specs.declared.request.Node.{Node}
+use Rattle.hist_model.specs.declared.request.Node.TheVariants as node
+use Rattle.hist_model.specs.declared.request.Obj.{Obj}
+use Rattle.hist_model.specs.declared.request.Request.{Request}
+use Rattle.hist_model.specs.declared.request.Request.TheVariants.{Mknod, Mount, SetXattr, OpenAt}
+use Rattle.hist_model.specs.declared.request.TreeOp.{TreeOp}
+use Rattle.hist_model.specs.declared.request.TreeOp.TheVariants.{Fail, Make, SetAttr}
+use Rattle.hist_model.specs.declared.script.Script.{Script}
+use Rattle.hist_model.specs.declared.tree.NodeRow.{NodeRow}
+use Rattle.hist_model.specs.declared.tree.AttrRow.{AttrRow}
+use Rattle.hist_model.proofs.Look.{name_eq-true}
+
+pub keeps-same : (T : Tree) → KeepsPrivileged T T
+keeps-same T = record { devices = refl; mounts = refl; attributes = refl }
+
+-- a step that keeps what is privileged of this tree
+abbrev Keeping : Tree → NativeStep → Type 0
+Keeping T (Changes U) = KeepsPrivileged T U
+Keeping T _ = Unit {0}
+
+either : (T : Tree) (b : Bool) (x y : NativeStep) → Keeping T x → Keeping T y → Keeping T (if b then x else y)
+either T true x y p q = p
+either T false x y p q = q
+
+-- a node that is no device
+made-keeps : (T : Tree) (k : Node) (p : Place) → is_device_node k ≡ false → Keeping T (make_natively false (made T k p))
+made-keeps T k (Refused e) h = tt
+made-keeps T k (At n) h = tt
+made-keeps T k (New dir name) h = go (is_some (entry T dir name))
+  where
+    go : (b : Bool) → Keeping T (make_natively false (if b then Err 17 else Ok (with_node T dir name k)))
+    go true = tt
+    go false = record { devices = rw h; mounts = refl; attributes = refl }
+
+device-keeps : (T : Tree) (r : Result Tree ℕ) → Keeping T (make_natively true r)
+device-keeps T (Ok U) = tt
+device-keeps T (Err e) = tt
+
+node-keeps : (T : Tree) (root : ℕ) (base : Option ℕ) (path : List ℕ) (dev : ℕ) (k : Kind) → Keeping T (make_natively (is_device (making path dev k)) (perform T root base (making path dev k)))
+node-keeps T root base path dev kind.Reg = made-keeps T node.Reg (reaches T root base path Create) refl
+node-keeps T root base path dev kind.Chr = device-keeps T (perform T root base (making path dev kind.Chr))
+node-keeps T root base path dev kind.Blk = device-keeps T (perform T root base (making path dev kind.Blk))
+node-keeps T root base path dev kind.Fifo = made-keeps T node.Fifo (reaches T root base path Create) refl
+node-keeps T root base path dev kind.Sock = made-keeps T node.Sock (reaches T root base path Create) refl
+node-keeps T root base path dev kind.Dir = tt
+node-keeps T root base path dev kind.Bad = tt
+
+-- an attribute of the user's own
+user_own : List ℕ → Bool
+user_own name = starts_with nat_eq name (codes "user.")
+
+replaced-keeps : (rs : List AttrRow) (on : ℕ) (name value : List ℕ) → user_own name ≡ true → filter is_others_row (attr_replaced rs on name value) ≡ filter is_others_row rs
+unfolding attr_replaced user_own
+replaced-keeps [] on name value h = refl
+replaced-keeps (r ∷ rs) on name value h =
+    let ih = replaced-keeps rs on name value h in
+    elim (cases_Bool (is_attr r on name)) [
+      | inl q ↦
+          let same = name_eq-true r.name name (and_parts (r.on == on) (bytes_eq r.name name) q).1 in
+          let own : starts_with nat_eq r.name (codes "user.") ≡ true = rw same h in
+          rw (q, own)
+      | inr q ↦ rw (q, ih)
+    ]
+
+put-keeps : (T : Tree) (on : ℕ) (name value : List ℕ) (old : Option (List ℕ)) → user_own name ≡ true → filter is_others_row (attr_put T.attrs on name value old) ≡ filter is_others_row T.attrs
+unfolding user_own
+put-keeps T on name value None h = rw h
+put-keeps T on name value (Some v) h = replaced-keeps T.attrs on name value h
+
+attr-keeps : (T : Tree) (on : ℕ) (name value : List ℕ) → user_own name ≡ true → KeepsPrivileged T (with_attr T on name value)
+attr-keeps T on name value h = record { devices = refl; mounts = refl; attributes = put-keeps T on name value (attr T on name) h }
+
+set-keeps : (T : Tree) (on : ℕ) (name value : List ℕ) (flags : ℕ) (old : Option (List ℕ)) → user_own name ≡ true → Keeping T (changed (attr_set T on name value flags old))
+set-keeps T on name value flags (Some v) h = go (creates_attr flags)
+  where
+    go : (b : Bool) → Keeping T (changed (if b then Err 17 else Ok (with_attr T on name value)))
+    go true = tt
+    go false = attr-keeps T on name value h
+set-keeps T on name value flags None h = go (replaces_attr flags)
+  where
+    go : (b : Bool) → Keeping T (changed (if b then Err 61 else Ok (with_attr T on name value)))
+    go true = tt
+    go false = attr-keeps T on name value h
+
+attributed-keeps : (T : Tree) (name value : List ℕ) (flags : ℕ) (p : Place) → user_own name ≡ true → Keeping T (changed (attributed T name value flags p))
+attributed-keeps T name value flags (Refused e) h = tt
+attributed-keeps T name value flags (New dir last) h = tt
+attributed-keeps T name value flags (At n) h = set-keeps T n name value flags (attr T n name) h
+
+not-own : (T : Tree) (r : Result Tree ℕ) → Keeping T (set_natively false false r)
+not-own T (Ok U) = tt
+not-own T (Err e) = tt
+
+xattr-keeps : (T : Tree) (root : ℕ) (base : Option ℕ) (path name value : List ℕ) (flags : ℕ) (known own : Bool) → are_attr_flags flags ≡ known → user_own name ≡ own
+    → Keeping T (set_natively (is_refused (if known then SetAttr path name value flags else Fail 22)) own (perform T root base (if known then SetAttr path name value flags else Fail 22)))
+xattr-keeps T root base path name value flags false own h g = tt
+xattr-keeps T root base path name value flags true true h g = rw h (attributed-keeps T name value flags (reaches T root base path Follow) g)
+xattr-keeps T root base path name value flags true false h g = not-own T (perform T root base (SetAttr path name value flags))
+
+opened-keeps : (T : Tree) (free : Option ℕ) (p : Place) → Keeping T (opened_place free p)
+opened-keeps T (Some n) (At x) = tt
+opened-keeps T None (At x) = tt
+opened-keeps T free (New dir name) = tt
+opened-keeps T free (Refused e) = tt
+
+request-keeps : (S : Script) (F : Files) (g : ℕ) (base : Option ℕ) (q : Request) → Keeping F.tree (request_natively S F g base q)
+unfolding user_own
+request-keeps S F g base (Mknod d path mode dev) = node-keeps F.tree (root S) base path dev (kind_of mode)
+request-keeps S F g base (SetXattr path name value flags) = xattr-keeps F.tree (root S) base path name value flags (are_attr_flags flags) (user_own name) refl refl
+request-keeps S F g base (OpenAt d path flags) = opened-keeps F.tree (lowest_free F g S.rlimit) (reaches F.tree (root S) base path Follow)
+request-keeps S F g base _ = tt
+
+copied-keeps : (S : Script) (F : Files) (g : ℕ) (call : What) (r : Result (List (List ℕ)) ℕ) → Keeping F.tree (copied_natively S F g call r)
+copied-keeps S F g call (Err e) = tt
+copied-keeps S F g call (Ok texts) = request-keeps S F g (base_for S F g (base_dirfd (number_entered call) (entered call))) (request (number_entered call) (entered call) texts)
+
+close-keeps : (T : Tree) (n : ℕ) (o : Option Obj) → Keeping T (close_natively n o)
+close-keeps T n None = tt
+close-keeps T n (Some x) = tt
+
+call-keeps : (S : Script) (K : List Event) (F : Files) (n : Name) (g : ℕ) (call : What) → Keeping F.tree (call_natively S K F n g call)
+call-keeps S K F n g call =
+    let nr = number_entered call in
+    let low = argument call 0 % 2 ^ 32 in
+    either F.tree (is_number nr 3) _ _ (close-keeps F.tree low (F.slot g low)) (
+    either F.tree (is_number nr 39) (Gives (pid_named K n)) _ tt (
+    either F.tree (is_number nr 99) _ _ (either F.tree (all_mapped S.map (argument call 0) sysinfo_size) Writes (Fails 14) tt tt) (
+    either F.tree (has_base (base_dirfd nr (entered call))) _ (Fails 38) (copied-keeps S F g call (copy_of (mapped_byte S K g) (plan nr (entered call)))) tt)))
+
+native-tree : (F : Files) (g : ℕ) (s : NativeStep) → Keeping F.tree s → KeepsPrivileged F.tree (after_native F g s).tree
+native-tree F g (Changes U) h = h
+native-tree F g (Fails e) h = keeps-same F.tree
+native-tree F g (Gives n) h = keeps-same F.tree
+native-tree F g (Opens n x) h = keeps-same F.tree
+native-tree F g (Closes n) h = keeps-same F.tree
+native-tree F g Writes h = keeps-same F.tree
+
+spawn-tree : (K : List Event) (F : Files) (a : Actor) (k : SpawnKind) → KeepsPrivileged F.tree (after_spawn K F a k).tree
+spawn-tree K F a NewGroup = keeps-same F.tree
+spawn-tree K F a Copied = keeps-same F.tree
+spawn-tree K F a Shared = keeps-same F.tree
+
+after-keeps : (S : Script) (K : List Event) (F : Files) (a : Actor) (what : What) → is_effect what ≡ false → KeepsPrivileged F.tree (files_after S K F a what).tree
+after-keeps S K F a (Spawn n (Ok made)) h = spawn-tree K F a made.1
+after-keeps S K F a (Spawn n (Err e)) h = keeps-same F.tree
+after-keeps S K F a (Native (Ok n)) h = native-tree F (own_group K a) (native_step S K F (task_name a)) (call-keeps S K F (task_name a) (place_or (group_named K (task_name a))) (last_call K (task_name a)))
+after-keeps S K F a (Native (Err e)) h = keeps-same F.tree
+after-keeps S K F a (Install (Ok m)) h = keeps-same F.tree
+after-keeps S K F a (Install (Err e)) h = keeps-same F.tree
+after-keeps S K F a (Act q cap x) h = cc
+after-keeps S K F (Worker w) (OpenBase p d (Ok u)) h = keeps-same F.tree
+after-keeps S K F (Worker w) (OpenBase p d (Err e)) h = keeps-same F.tree
+after-keeps S K F (Worker w) LetGo h = keeps-same F.tree
+after-keeps S K F a what h = keeps-same F.tree
+
+pub acts-alone : (S : Script) (K : List Event) (e : Event) → ActsAlone S K e
+unfolding files
+acts-alone S K e h = after-keeps S K (files S K) e.who e.what h

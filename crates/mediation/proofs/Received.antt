@@ -1,0 +1,104 @@
+-- The receives that found nothing are for calls that left the list unfetched.
+use Rattle.std.proofs.Common.{◌≡◌, inl, inr, ℕ, zero, suc, ◌+◌, ◌<◌, ◌≤◌, ◌^◌, Bool, true, false, ◌&&◌, ◌||◌, not, List, [], ◌∷◌, length, Option, Some, None, refl, ap, sym, ◌∙◌, arith}
+use Rattle.std.specs.Prelude.{if◌then◌else◌, ◌==◌, Result, Ok, Err}
+use Rattle.std.proofs.lemmas.Bool.{cases_Bool, eqb-false}
+use Rattle.hist_model.specs.Look.{oldest, event_at}
+use Rattle.hist_model.specs.Calls.{listed, fetched, is_call, count, caller, unlists, fetches, id}
+use Rattle.hist_model.specs.Sessions.{Rules}
+use Rattle.hist_model.specs.Systems.{System}
+use Rattle.hist_model.specs.Steps.{IsStep, IsLegal, recv_answer, oldest_unfetched}
+use Rattle.hist_model.specs.Laws.{count_below, empty_recvs, gets_nothing}
+use Rattle.hist_model.specs.Mediated.{left_unfetched, ReceivesFor}
+use Rattle.hist_model.specs.declared.event.Event.{Event}
+use Rattle.hist_model.specs.declared.event.Actor.{Actor}
+use Rattle.hist_model.specs.declared.event.What.{What}
+use Rattle.hist_model.specs.declared.event.What.TheVariants.{Recv}
+use Rattle.sys_abi.specs.declared.wire.Notif.{Notif}
+use Rattle.hist_model.proofs.Look.{event_at-older, oldest-none}
+use Rattle.mediation.proofs.Rows.{Row}
+use Rattle.mediation.proofs.Own.{listed-older}
+use Rattle.mediation.proofs.Count.{receiving, count_is}
+use Rattle.mediation.proofs.Replies.{row-or-start}
+
+count_below-le : (p q : ℕ → Bool) (n : ℕ) → ((c : ℕ) → c < n → p c ≡ true → q c ≡ true) → count_below p n ≤ count_below q n
+unfolding count_below
+count_below-le p q zero h = omega arith
+count_below-le p q (suc n) h =
+    let ih = count_below-le p q n (λ c l. h c (omega arith)) in
+    elim (cases_Bool (p n)) [
+      | inl s ↦ let t = h n (omega arith) s in rw (s, t) (omega arith)
+      | inr s ↦ rw s (omega arith)
+    ]
+
+count_below-none : (p : ℕ → Bool) (n : ℕ) → ((c : ℕ) → c < n → p c ≡ false) → count_below p n ≡ 0
+unfolding count_below
+count_below-none p zero h = refl
+count_below-none p (suc n) h = let ih = count_below-none p n (λ c l. h c (omega arith)) in let s = h n (omega arith) in rw s (omega arith)
+
+count_below-suc : (p : ℕ → Bool) (n : ℕ) → count_below p n ≤ count_below p (suc n)
+unfolding count_below
+count_below-suc p n = omega arith
+
+-- the call left the list unfetched
+abbrev left : List Event → ℕ → Bool
+left K c = is_call K c && (not (listed K c) && not (fetched K c))
+
+left-later : (e : Event) (K : List Event) (c : ℕ) → c < length K → left K c ≡ true → left (e ∷ K) c ≡ true
+unfolding fetched
+left-later e K c l h =
+    let a = event_at-older e K c l in
+    let b = listed-older e K c l in
+    rw (a, b) (kept (is_call K c) (listed K c) (fetched K c) (unlists e (caller K c)) (fetches e.what (id K c)) h)
+  where
+    kept : (a b c u f : Bool) → (a && (not b && not c)) ≡ true → (a && (not (b && not u) && not ((f && b) || c))) ≡ true
+    kept a b c u f h = grind arith
+
+left-more : (e : Event) (K : List Event) → left_unfetched K ≤ left_unfetched (e ∷ K)
+left-more e K =
+    let x = count_below-le (left K) (left (e ∷ K)) (length K) (λ c l h. left-later e K c l h) in
+    let y = count_below-suc (left (e ∷ K)) (length K) in
+    omega arith
+
+none-listed : (K : List Event) → oldest_unfetched K ≡ None → count_below (λ c. listed K c && not (fetched K c)) (length K) ≡ 0
+unfolding oldest_unfetched
+none-listed K q = count_below-none (λ c. listed K c && not (fetched K c)) (length K) (λ c l. oldest-none (λ c. listed K c && not (fetched K c)) (length K) c q l)
+
+nothing-found : (K : List Event) (o : Option ℕ) (x : ℕ) → ◌≡◌ {A = Result Notif ℕ} (Err x) (recv_answer K o) → o ≡ None
+nothing-found K None x h = refl
+nothing-found K (Some c) x h = cc
+
+empty-more : (e : Event) (K : List Event) → gets_nothing e.what ≡ true → empty_recvs (e ∷ K) ≡ empty_recvs K + 1
+unfolding empty_recvs
+empty-more e K h = rw h
+
+empty-same : (e : Event) (K : List Event) → gets_nothing e.what ≡ false → empty_recvs (e ∷ K) ≡ empty_recvs K
+unfolding empty_recvs
+empty-same e K h = rw h (omega arith)
+
+room-for : (S : System) (R : Rules) (K : List Event) (a : Actor) (what : What) → IsLegal S R K → length K < 2 ^ 64 → Row S R K a what → gets_nothing what ≡ true → empty_recvs K + 1 ≤ left_unfetched K
+room-for S R K a (Recv (Err x)) legal room r h =
+    let g = receiving S R K a (Err x) r in
+    let z = none-listed K (nothing-found K (oldest_unfetched K) x g.1) in
+    let s = count_is S R K legal room in
+    let n : count K ≡ 0 → ⊥ = eqb-false (count K) 0 g.0 in
+    omega arith
+room-for S R K a what legal room r h = cc
+
+pub receives-step : (S : System) (R : Rules) (K : List Event) (e : Event) → IsLegal S R K → length K < 2 ^ 64 → IsStep S R K e → empty_recvs K ≤ left_unfetched K → ReceivesFor K e
+receives-step S R K e legal room r ih =
+    let m = left-more e K in
+    elim (cases_Bool (gets_nothing e.what)) [
+      | inl q ↦ elim (row-or-start S R K e r) [
+        | inl z ↦ absurd (clash (gets_nothing e.what) (ap (λ (d : Event). gets_nothing d.what) z) q)
+        | inr z ↦ let s = room-for S R K e.who e.what legal room z.1 q in rw (empty-more e K q) (omega arith)
+      ]
+      | inr q ↦ rw (empty-same e K q) (omega arith)
+    ]
+  where
+    clash : (b : Bool) → b ≡ false → b ≡ true → ⊥
+    clash b g h = cc
+
+pub receives-are-for : (S : System) (R : Rules) (K : List Event) → IsLegal S R K → length K < 2 ^ 64 → empty_recvs K ≤ left_unfetched K
+unfolding empty_recvs count_below
+receives-are-for S R [] legal room = omega arith
+receives-are-for S R (e ∷ K) legal room = receives-step S R K e legal.1 (omega arith) legal.0 (receives-are-for S R K legal.1 (omega arith))

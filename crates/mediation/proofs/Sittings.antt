@@ -1,0 +1,108 @@
+-- What holds of a call in a worker's hand, by induction on the steps since it was fetched.
+use Rattle.std.proofs.Common.{◌≡◌, ◌⊎◌, inl, inr, ℕ, ◌<◌, ◌^◌, Bool, true, false, ◌&&◌, not, List, [], ◌∷◌, length, Option, Some, None, refl, sym, ◌∙◌, arith}
+use Rattle.std.specs.Prelude.{Ok, Err}
+use Rattle.std.proofs.lemmas.Bool.{cases_Bool, and_parts}
+use Rattle.hist_model.specs.Look.{is_worker}
+use Rattle.hist_model.specs.Sessions.{Rules, Fetch, session, skips, notif_of, any_of, is_letgo}
+use Rattle.hist_model.specs.Systems.{System}
+use Rattle.hist_model.specs.Steps.{IsStep, IsLegal, session_call, call_after, oldest_unfetched}
+use Rattle.hist_model.specs.declared.event.Event.{Event}
+use Rattle.hist_model.specs.declared.event.Actor.{Actor}
+use Rattle.hist_model.specs.declared.event.What.{What}
+use Rattle.hist_model.specs.declared.event.What.TheVariants.{Recv, OpenMem, OpenBase, Check, Read, Act, Plant, AddfdPut, AddfdTake, Send, LetGo, Skip}
+use Rattle.sys_abi.specs.declared.wire.Notif.{Notif}
+use Rattle.mediation.proofs.Rows.{WorkerRow}
+use Rattle.mediation.proofs.Deeds.{deed-is}
+use Rattle.mediation.proofs.Count.{fetching}
+use Rattle.mediation.proofs.Work.{InSession, Idle, Hand, hand, by, worker-row, works, works-keep, session-same, session-more, grown, call-same, call-more}
+
+clash : (b : Bool) → b ≡ false → b ≡ true → ⊥
+clash b g h = cc
+
+none-some : (c : ℕ) → None ≡ Some c → ⊥
+none-some c h = cc
+
+no-call : (w c : ℕ) → session_call [] w ≡ Some c → ⊥
+unfolding session_call
+no-call w c h = cc
+
+-- a worker with a call in hand fetches nothing
+pub no-fetch : (R : Rules) (K : List Event) (w c : ℕ) → InSession K w c → (notif_of (session K w) ≡ None) ⊎ (any_of is_letgo (session K w) ≡ true) → ⊥
+no-fetch R K w c i (inl q) = one i.n (sym q ∙ i.notif_is)
+  where
+    one : (m : Notif) → None ≡ Some m → ⊥
+    one m h = cc
+no-fetch R K w c i (inr q) = clash (any_of is_letgo (session K w)) i.no_letgo q
+
+-- the call in hand
+pub in-hand-of : (S : System) (R : Rules) (K : List Event) (w c : ℕ) → IsLegal S R K → session_call K w ≡ Some c → InSession K w c
+in-hand-of S R K w c legal h = rw h at (hand S R K legal w)
+
+-- what a skip does not change
+skip-call : (K : List Event) (what : What) (o : Option ℕ) → skips what ≡ true → call_after K what o ≡ o
+skip-call K Skip o h = refl
+skip-call K what o h = cc
+
+-- a fact of calls in hand, kept by each step
+pub record Kept (S : System) (R : Rules) (P : List Event → ℕ → ℕ → Type 0) : Type 0 where
+  -- the worker's receive
+  pub fetch : (K : List Event) (a : Actor) (w c : ℕ) (n : Notif) → IsStep S R K (by a (Recv (Ok n))) → IsLegal S R K → length (by a (Recv (Ok n)) ∷ K) < 2 ^ 64 → is_worker a w ≡ true
+      → WorkerRow S R K w (Recv (Ok n)) → oldest_unfetched K ≡ Some c → Idle K w → P (by a (Recv (Ok n)) ∷ K) w c
+  -- a step of the session
+  pub work : (K : List Event) (a : Actor) (w c : ℕ) (what : What) → IsStep S R K (by a what) → IsLegal S R K → length (by a what ∷ K) < 2 ^ 64 → is_worker a w ≡ true
+      → WorkerRow S R K w what → works what ≡ true → (i : InSession K w c) → session_call K w ≡ Some c → session (by a what ∷ K) w ≡ what ∷ session K w → P K w c → P (by a what ∷ K) w c
+  -- a step of another, or a skip
+  pub still : (K : List Event) (e : Event) (w c : ℕ) → IsStep S R K e → IsLegal S R K → length (e ∷ K) < 2 ^ 64 → (is_worker e.who w && not (skips e.what)) ≡ false
+      → (i : InSession K w c) → session_call K w ≡ Some c → session (e ∷ K) w ≡ session K w → P K w c → P (e ∷ K) w c
+
+module _ (S : System) (R : Rules) (P : List Event → ℕ → ℕ → Type 0) (k : Kept S R P) where
+  module _ (K : List Event) (w : ℕ) (legal : IsLegal S R K) (ih : (c : ℕ) → session_call K w ≡ Some c → P K w c) where
+    still-step : (e : Event) (c : ℕ) → IsStep S R K e → length (e ∷ K) < 2 ^ 64 → (is_worker e.who w && not (skips e.what)) ≡ false → session_call (e ∷ K) w ≡ session_call K w → session_call (e ∷ K) w ≡ Some c → P (e ∷ K) w c
+    still-step e c r room q same h =
+        let s : session_call K w ≡ Some c = sym same ∙ h in
+        k.still K e w c r legal room q (in-hand-of S R K w c legal s) s (session-same e K w q) (ih c s)
+
+    fetch-step : (a : Actor) (n : Notif) (c : ℕ) → IsStep S R K (by a (Recv (Ok n))) → length (by a (Recv (Ok n)) ∷ K) < 2 ^ 64 → is_worker a w ≡ true → WorkerRow S R K w (Recv (Ok n)) → session_call (by a (Recv (Ok n)) ∷ K) w ≡ Some c → P (by a (Recv (Ok n)) ∷ K) w c
+    fetch-step a n c r room q row h = k.fetch K a w c n r legal room q row (sym (call-more (by a (Recv (Ok n))) K w q) ∙ h) (idle (session_call K w) (hand S R K legal w))
+      where
+        idle : (o : Option ℕ) → Hand K w o → Idle K w
+        idle None i = i
+        idle (Some d) i = absurd (no-fetch R K w d i (deed-is R (session K w) Fetch row.0))
+
+    work-step : (a : Actor) (what : What) (c : ℕ) → IsStep S R K (by a what) → length (by a what ∷ K) < 2 ^ 64 → is_worker a w ≡ true → WorkerRow S R K w what → works what ≡ true → session_call (by a what ∷ K) w ≡ Some c → P (by a what ∷ K) w c
+    work-step a what c r room q row g h =
+        let keep = works-keep K what g in
+        let s : session_call K w ≡ Some c = sym (keep.call (session_call K w)) ∙ (sym (call-more (by a what) K w q) ∙ h) in
+        let i = in-hand-of S R K w c legal s in
+        k.work K a w c what r legal room q row g i s (session-more (by a what) K w q keep.no_skip ∙ grown (session K w) what i.n i.notif_is keep.no_start) (ih c s)
+
+    mine-step : (a : Actor) (what : What) (c : ℕ) → IsStep S R K (by a what) → length (by a what ∷ K) < 2 ^ 64 → is_worker a w ≡ true → skips what ≡ false → WorkerRow S R K w what → session_call (by a what ∷ K) w ≡ Some c → P (by a what ∷ K) w c
+    mine-step a (Recv (Ok n)) c r room q z row h = fetch-step a n c r room q row h
+    mine-step a (Recv (Err x)) c r room q z row h =
+        let s : session_call K w ≡ Some c = sym (call-more (by a (Recv (Err x))) K w q) ∙ h in
+        absurd (no-fetch R K w c (in-hand-of S R K w c legal s) (deed-is R (session K w) Fetch row.0))
+    mine-step a LetGo c r room q z row h = absurd (none-some c (sym (call-more (by a LetGo) K w q) ∙ h))
+    mine-step a Skip c r room q z row h = cc
+    mine-step a (OpenMem p x) c r room q z row h = work-step a (OpenMem p x) c r room q row refl h
+    mine-step a (OpenBase p d x) c r room q z row h = work-step a (OpenBase p d x) c r room q row refl h
+    mine-step a (Check x y) c r room q z row h = work-step a (Check x y) c r room q row refl h
+    mine-step a (Read x l y) c r room q z row h = work-step a (Read x l y) c r room q row refl h
+    mine-step a (Act x cap y) c r room q z row h = work-step a (Act x cap y) c r room q row refl h
+    mine-step a (Plant x b cap y) c r room q z row h = work-step a (Plant x b cap y) c r room q row refl h
+    mine-step a (AddfdPut x y) c r room q z row h = work-step a (AddfdPut x y) c r room q row refl h
+    mine-step a (AddfdTake x) c r room q z row h = work-step a (AddfdTake x) c r room q row refl h
+    mine-step a (Send x b y) c r room q z row h = work-step a (Send x b y) c r room q row refl h
+    mine-step a _ c r room q z row h = absurd row
+
+    step : (e : Event) (c : ℕ) → IsStep S R K e → length (e ∷ K) < 2 ^ 64 → session_call (e ∷ K) w ≡ Some c → P (e ∷ K) w c
+    step e c r room h = elim (cases_Bool (is_worker e.who w)) [
+      | inl q ↦ elim (cases_Bool (skips e.what)) [
+        | inl z ↦ still-step e c r room (grind arith) (call-more e K w q ∙ skip-call K e.what (session_call K w) z) h
+        | inr z ↦ mine-step e.who e.what c r room q z (worker-row S R K e w r q) h
+      ]
+      | inr q ↦ still-step e c r room (grind arith) (call-same e K w q) h
+    ]
+
+  pub by-session : (K : List Event) → IsLegal S R K → length K < 2 ^ 64 → (w c : ℕ) → session_call K w ≡ Some c → P K w c
+  by-session [] legal room = λ w c h. absurd (no-call w c h)
+  by-session (e ∷ K) legal room = λ w c h. step K w legal.1 (by-session K legal.1 (omega arith) w) e c legal.0 room h

@@ -1,0 +1,81 @@
+-- A rule's effects are done no more often than its times allow.
+use Rattle.std.proofs.Common.{◌≡◌, inl, inr, ℕ, ◌+◌, ◌<◌, ◌≤◌, Bool, true, false, List, [], ◌∷◌, Option, Some, None, refl, sym, ap, ◌∙◌, arith}
+use Rattle.std.specs.Prelude.{if◌then◌else◌, ◌==◌, nat_le, Result, Ok, Err}
+use Rattle.std.proofs.lemmas.Bool.{cases_Bool, eqb-true, leb-false}
+use Rattle.hist_model.specs.Sessions.{Rules, session, Acts, Plants, reads_of}
+use Rattle.hist_model.specs.Systems.{System}
+use Rattle.hist_model.specs.Steps.{IsStep, IsLegal, times_spent, spends, is_cap_of, is_spent}
+use Rattle.hist_model.specs.declared.event.Event.{Event}
+use Rattle.hist_model.specs.declared.event.Actor.{Actor}
+use Rattle.hist_model.specs.declared.event.Actor.TheVariants.{Start, Task, Worker, Listener}
+use Rattle.hist_model.specs.declared.event.What.{What}
+use Rattle.hist_model.specs.declared.event.What.TheVariants.{Act, Plant}
+use Rattle.hist_model.specs.declared.policy.Cap.{Cap}
+use Rattle.hist_model.specs.declared.request.Request.{Request}
+use Rattle.sys_abi.specs.declared.wire.Notif.{Notif}
+use Rattle.mediation.proofs.Rows.{Row}
+use Rattle.mediation.proofs.Deeds.{deed-is}
+use Rattle.mediation.proofs.Replies.{row-or-start}
+
+-- the caps of the rules' decisions have these times at most
+pub record Capped (R : Rules) (limit : ℕ → ℕ) : Type 0 where
+  pub acts : (n : Notif) (reads : List What) (q : Request) (cap : Cap) → R.decide n reads ≡ Acts q (Some cap) → cap.times ≤ limit cap.rule
+  pub plants : (n : Notif) (reads : List What) (a : ℕ) (b : List ℕ) (cap : Cap) → R.decide n reads ≡ Plants a b (Some cap) → cap.times ≤ limit cap.rule
+
+-- an effect that was done had times left
+left-times : (K : List Event) (cap : Cap) (u : Unit {0}) (other : Result (Unit {0}) ℕ) → ◌≡◌ {A = Result (Unit {0}) ℕ} (Ok u) (if is_spent K (Some cap) then Err 122 else other) → times_spent K cap.rule < cap.times
+left-times K cap u other h = go (nat_le cap.times (times_spent K cap.rule)) refl h
+  where
+    go : (b : Bool) → nat_le cap.times (times_spent K cap.rule) ≡ b → ◌≡◌ {A = Result (Unit {0}) ℕ} (Ok u) (if b then Err 122 else other) → times_spent K cap.rule < cap.times
+    go true q h = absurd (no u h)
+      where
+        no : (u : Unit {0}) → ◌≡◌ {A = Result (Unit {0}) ℕ} (Ok u) (Err 122) → ⊥
+        no u h = cc
+    go false q h = leb-false cap.times (times_spent K cap.rule) q
+
+below-limit : (limit : ℕ → ℕ) (K : List Event) (cap : Cap) (i : ℕ) → (cap.rule == i) ≡ true → times_spent K cap.rule < cap.times → cap.times ≤ limit cap.rule → times_spent K i + 1 ≤ limit i
+below-limit limit K cap i q l m = let s = eqb-true cap.rule i q in rw (← s) (omega arith)
+
+spends-left : (S : System) (R : Rules) (limit : ℕ → ℕ) (K : List Event) (a : Actor) (what : What) (i : ℕ) → Capped R limit → Row S R K a what → spends what i ≡ true → times_spent K i + 1 ≤ limit i
+spends-left S R limit K (Worker w) (Act q (Some cap) (Ok u)) i k r h =
+    let t = deed-is R (session K w) _ r.0 in
+    below-limit limit K cap i h (left-times K cap u (S.outcome K w q) r.1) (k.acts t.0 (reads_of (session K w)) q cap t.4)
+spends-left S R limit K (Worker w) (Plant x b (Some cap) (Ok u)) i k r h =
+    let t = deed-is R (session K w) _ r.0 in
+    below-limit limit K cap i h (left-times K cap u (if S.writable x then Ok tt else Err 14) r.1) (k.plants t.0 (reads_of (session K w)) x b cap t.4)
+spends-left S R limit K (Task n) (Act q (Some cap) (Ok u)) i k r h = absurd r
+spends-left S R limit K (Task n) (Plant x b (Some cap) (Ok u)) i k r h = absurd r
+spends-left S R limit K Start (Act q (Some cap) (Ok u)) i k r h = cc
+spends-left S R limit K Start (Plant x b (Some cap) (Ok u)) i k r h = cc
+spends-left S R limit K Listener (Act q (Some cap) (Ok u)) i k r h = cc
+spends-left S R limit K Listener (Plant x b (Some cap) (Ok u)) i k r h = cc
+spends-left S R limit K a (Act q None x) i k r h = absurd (no-cap x h)
+  where
+    no-cap : (x : Result (Unit {0}) ℕ) → spends (Act q None x) i ≡ true → ⊥
+    no-cap (Ok u) h = cc
+    no-cap (Err e) h = cc
+spends-left S R limit K a (Plant x b None y) i k r h = absurd (no-cap y h)
+  where
+    no-cap : (y : Result (Unit {0}) ℕ) → spends (Plant x b None y) i ≡ true → ⊥
+    no-cap (Ok u) h = cc
+    no-cap (Err e) h = cc
+spends-left S R limit K a what i k r h = cc
+
+spent-step : (S : System) (R : Rules) (limit : ℕ → ℕ) (K : List Event) (e : Event) (i : ℕ) → Capped R limit → IsStep S R K e → times_spent K i ≤ limit i → times_spent (e ∷ K) i ≤ limit i
+unfolding times_spent
+spent-step S R limit K e i k r ih =
+    elim (cases_Bool (spends e.what i)) [
+      | inl q ↦ elim (row-or-start S R K e r) [
+        | inl z ↦ absurd (clash (spends e.what i) (ap (λ (d : Event). spends d.what i) z) q)
+        | inr z ↦ let m = spends-left S R limit K e.who e.what i k z.1 q in rw q m
+      ]
+      | inr q ↦ rw q (omega (arith, ih))
+    ]
+  where
+    clash : (b : Bool) → b ≡ false → b ≡ true → ⊥
+    clash b g h = cc
+
+pub spent-within : (S : System) (R : Rules) (limit : ℕ → ℕ) → Capped R limit → (K : List Event) → IsLegal S R K → (i : ℕ) → times_spent K i ≤ limit i
+unfolding times_spent
+spent-within S R limit k [] legal = λ i. omega arith
+spent-within S R limit k (e ∷ K) legal = λ i. spent-step S R limit K e i k legal.0 (spent-within S R limit k K legal.1 i)
