@@ -1,6 +1,6 @@
 //! Walks of whole paths.
 
-ghost use Rattle.std.specs.Prelude.{◌≡◌, ℕ, ◌≤◌, not, ◌&&◌, ◌||◌, if◌then◌else◌, Some, List, ◌++◌, length, Option, IfOk, IfErr};
+ghost use Rattle.std.specs.Prelude.{◌≡◌, [], ℕ, ◌≤◌, not, ◌&&◌, ◌||◌, if◌then◌else◌, Some, List, ◌++◌, length, Option, IfOk, IfErr};
 ghost use Rattle.hist_model.specs.Trees.{ordinal_of};
 ghost use Rattle.hist_model.specs.Paths.{components, none_left, creates, is_absolute, link_start, arrived, walk, reaches};
 ghost use Rattle.path_walk.specs.Places.{last_of, place_of};
@@ -39,7 +39,9 @@ impl Model for Walk {
 
 impl Walk {
     /// Takes the memory of every later walk.
-    pub fn new(alloc: Global) -> Result<Walk, NoMemory> {
+    pub fn new(alloc: Global) -> Result<Walk, NoMemory>
+        ensures { IfOk result (λ w. w ≡ []) }
+    {
         Ok(Walk {
             name: Vec::with_capacity(alloc, MAX_NAME)?,
         })
