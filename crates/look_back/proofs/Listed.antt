@@ -1,10 +1,10 @@
 -- A listed call is a call that was entered with a notification.
-use Rattle.std.proofs.Common.{◌≡◌, inl, inr, ℕ, ◌<◌, ◌≤◌, Bool, true, false, ◌&&◌, List, [], ◌∷◌, length, reverse, Some, refl, sym, arith}
-use Rattle.std.specs.Prelude.{if◌then◌else◌, ◌==◌, not}
+use Rattle.std.proofs.Common.{◌≡◌, inl, inr, ℕ, ◌<◌, true, false, ◌&&◌, List, [], ◌∷◌, length, reverse, Some, arith}
+use Rattle.std.specs.Prelude.{◌==◌, not}
 use Rattle.std.proofs.lemmas.List.{length-reverse}
-use Rattle.std.proofs.lemmas.Bool.{cases_Bool, and_parts, ne_eqb, false_from_ne_true, both_ways}
-use Rattle.hist_model.specs.Look.{event_at, oldest}
-use Rattle.hist_model.specs.Calls.{listed, fetched, is_call, caller, notifies, unlists}
+use Rattle.std.proofs.lemmas.Bool.{cases_Bool, and_parts, false_from_ne_true, both_ways}
+use Rattle.hist_model.specs.Look.{event_at}
+use Rattle.hist_model.specs.Calls.{listed, fetched, is_call, caller, unlists}
 use Rattle.hist_model.specs.Steps.{oldest_unfetched}
 use Rattle.hist_model.specs.declared.event.Event.{Event}
 use Rattle.hist_model.proofs.Look.{oldest-some}

@@ -1,4 +1,4 @@
-use Rattle.std.proofs.Common.{◌≡◌, Bool, true, false, ◌∙◌, sym}
+use Rattle.std.proofs.Common.{◌≡◌, true, false, ◌∙◌, sym}
 use Rattle.hist_model.specs.Look.{name_eq}
 use Rattle.look_back.proofs.Past.{name_eq_last}
 use Rattle.look_back.proofs.tasks.is_child_name.Goals as goal
