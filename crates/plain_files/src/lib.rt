@@ -9,8 +9,10 @@
 //! `path_walk`; the kernel stands above.
 #![tactic(auto)]
 
+mod changes;
 pub mod copies;
 pub mod files;
+pub mod installs;
 pub mod logs;
 pub mod memory;
 pub mod natives;

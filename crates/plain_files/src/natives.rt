@@ -11,7 +11,7 @@ ghost use Rattle.hist_model.specs.Memory.{all_mapped, last_call, mapped_byte, sy
 ghost use Rattle.hist_model.specs.Copies.{plan, copy_of};
 ghost use Rattle.hist_model.specs.Natives as natives;
 ghost use Rattle.hist_model.specs.Natives.{root, base_for, is_device, make_natively, is_refused, set_natively, opened_place, request_natively, copied_natively, close_natively, call_natively, native_step};
-ghost use Rattle.hist_model.specs.Files.{files};
+ghost use Rattle.hist_model.specs.Files as after;
 ghost use Rattle.hist_model.specs.declared.event.Entered.{Entered};
 ghost use Rattle.plain_files.specs.Kept.{files_of, StandsFor};
 ghost use Rattle.plain_files.specs.NativeSteps.{step_of};
@@ -213,4 +213,109 @@ fn close(files: &Files, group: usize, number: u32) -> NativeStep
         Some(_) => NativeStep::Closes(number),
         None => NativeStep::Fails(Errno::EBADF),
     }
+}
+
+/// The call that runs, of a task in a group: ENOSYS for one that isn't known here.
+fn call_step(
+    alloc: Global,
+    script: &Script,
+    events: &[Event],
+    files: &Files,
+    name: &[u32],
+    group: usize,
+    nr: i32,
+    args: &[u64; 6],
+) -> Result<NativeStep, NoMemory>
+    ensures { IfOk result (λ s. (v : Entered) → step_of files.now.tree (root script.now) s ≡
+        call_natively script.now (reverse events.now) (files_of files.now) name.now group (What.Enter nr args.now v)) }
+{
+    match nr {
+        3 => Ok(close(files, group, low_32(args[0]))),
+        39 => Ok(NativeStep::Gives(pid_named(events, name))),
+        99 if is_writable(script, args[0]) => Ok(NativeStep::Writes),
+        99 => Ok(NativeStep::Fails(Errno::EFAULT)),
+        _ if base_dirfd(nr, args).is_some() => {
+            copied_step(alloc, script, events, files, group, nr, args)
+        }
+        _ => Ok(NativeStep::Fails(Errno::ENOSYS)),
+    }
+}
+
+/// The call that a task in a group entered.
+#[tactic(auto, unfolding(hist_model::specs::Requests::base_dirfd))]
+fn entered_step(
+    alloc: Global,
+    script: &Script,
+    events: &[Event],
+    files: &Files,
+    name: &[u32],
+    group: usize,
+    call: &What,
+) -> Result<NativeStep, NoMemory>
+    ensures { IfOk result (λ s. step_of files.now.tree (root script.now) s ≡
+        call_natively script.now (reverse events.now) (files_of files.now) name.now group call.now) }
+{
+    match call {
+        What::Enter { nr, args, .. } => {
+            call_step(alloc, script, events, files, name, group, *nr, args)
+        }
+        _ => Ok(NativeStep::Fails(Errno::ENOSYS)),
+    }
+}
+
+/// A task's native call: the one that it entered last. ENOSYS for a task that has entered none.
+pub(crate) fn native_step(
+    alloc: Global,
+    script: &Script,
+    events: &[Event],
+    files: &Files,
+    name: &[u32],
+) -> Result<NativeStep, NoMemory>
+    ensures { IfOk result (λ s. step_of files.now.tree (root script.now) s ≡ native_step script.now (reverse events.now) (files_of files.now) name.now) }
+{
+    let group = group_named(events, name).unwrap_or(0);
+    match last_call(events, name) {
+        Some(call) => entered_step(alloc, script, events, files, name, group, call),
+        None => Ok(NativeStep::Fails(Errno::ENOSYS)),
+    }
+}
+
+/// What a native call that does this answers.
+#[tactic(auto, using(crate::proofs::Calls::change_done, crate::proofs::Calls::change_refused))]
+fn step_answer(
+    alloc: Global,
+    script: &Script,
+    files: &Files,
+    step: &NativeStep,
+) -> Result<Result<u32, Errno>, NoMemory>
+    ensures { IfOk result (λ r. r ≡ natives.native_answer (step_of files.now.tree (root script.now) step.now)) }
+{
+    Ok(match step {
+        NativeStep::Fails(errno) => Err(*errno),
+        NativeStep::Gives(number) => Ok(*number),
+        NativeStep::Changes { base, op } => {
+            let mut walk = Walk::new(alloc)?;
+            match answer(&files.tree, script.root, *base, op, &mut walk) {
+                Ok(()) => Ok(0),
+                Err(errno) => Err(errno),
+            }
+        }
+        NativeStep::Opens { number, .. } => Ok(*number),
+        NativeStep::Closes(_) | NativeStep::Writes => Ok(0),
+    })
+}
+
+/// The answer of the native call of the task of this name, after a history for which the files stand. It changes nothing.
+pub fn native_answer(
+    alloc: Global,
+    script: &Script,
+    events: &[Event],
+    files: &Files,
+    name: &[u32],
+) -> Result<Result<u32, Errno>, NoMemory>
+    requires { StandsFor script.now (reverse events.now) files.now }
+    ensures { IfOk result (λ r. r ≡ natives.native_answer (native_step script.now (reverse events.now) (after.files script.now (reverse events.now)) name.now)) }
+{
+    let step = native_step(alloc, script, events, files, name)?;
+    step_answer(alloc, script, files, &step)
 }

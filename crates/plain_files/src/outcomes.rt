@@ -5,11 +5,16 @@ ghost use Rattle.hist_model.specs.Trees as trees;
 ghost use Rattle.hist_model.specs.Trees.{ordinal_of};
 ghost use Rattle.hist_model.specs.Paths.{Follow, Create, reaches};
 ghost use Rattle.hist_model.specs.Effects.{making, effect, made, mounted, attr_set, attributed, opened, perform};
-ghost use Rattle.hist_model.specs.Legal.{done};
+ghost use Rattle.hist_model.specs.Legal.{done, outcome};
+ghost use Rattle.hist_model.specs.Files as after;
+ghost use Rattle.hist_model.specs.declared.event.Event.{Event};
+ghost use Rattle.plain_files.specs.Kept.{files_of, StandsFor};
 ghost use Rattle.hist_model.specs.declared.request.Node.{Node};
 ghost use Rattle.hist_model.specs.declared.request.MountRow.{MountRow};
 
+use crate::files::Files;
 use hist_model::request::{Kind, MountRow, Node, NodeRef, Request, TreeOp};
+use hist_model::script::Script;
 use hist_model::text::Text;
 use mount_tree::tree::Tree;
 use path_walk::places::{Last, Place};
@@ -228,4 +233,22 @@ pub fn answer(
         }
         TreeOp::Open { path, .. } => open_answer(tree, root, base, path.items(), walk),
     }
+}
+
+/// What is answered when a worker does what a request asks for, with relative paths from the base that it has opened. The
+/// files stay as they are: their change belongs to the event.
+pub fn outcome(
+    alloc: Global,
+    script: &Script,
+    files: &Files,
+    worker: u8,
+    request: &Request,
+) -> Result<Result<(), Errno>, NoMemory>
+    ensures value { IfOk result (λ r. r ≡ outcome script.now (files_of files.now) worker request.now) }
+    ensures stands { IfOk result (λ r. (K : List Event) → StandsFor script.now K files.now → r ≡ outcome script.now (after.files script.now K) worker request.now) }
+{
+    let op = effect(alloc, request)?;
+    let mut walk = Walk::new(alloc)?;
+    let base = files.base(worker);
+    Ok(answer(&files.tree, script.root, base, &op, &mut walk))
 }
