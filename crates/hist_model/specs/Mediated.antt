@@ -23,6 +23,7 @@ use Rattle.hist_model.specs.declared.event.Actor.TheVariants.{Start, Worker, Tas
 use Rattle.hist_model.specs.declared.event.What.{What}
 use Rattle.hist_model.specs.declared.event.What.TheVariants.{Spawn, Poke, Handler, Enter, Native, Install, Resume, Signal, Deliver, Reap, Exit, Recv, OpenMem, OpenBase, Check, Read, Act, Plant, AddfdPut, AddfdTake, Send, LetGo, Skip, Close}
 use Rattle.hist_model.specs.declared.policy.Policy.{Policy}
+use Rattle.hist_model.specs.declared.policy.Verdict.TheVariants.{Grant}
 use Rattle.hist_model.specs.declared.policy.Cap.{Cap}
 use Rattle.hist_model.specs.declared.request.Node.{Node}
 use Rattle.hist_model.specs.declared.request.Node.TheVariants.{Chr, Blk}
@@ -216,12 +217,13 @@ abbrev pub HasCause : Rules → List Event → Event → Type 0
 HasCause R K e = (w x : ℕ) (b : Back) (a : Result (Unit {0}) ℕ) → e.who ≡ Worker w → e.what ≡ Send x b a
     → (c : ℕ) × (n : Notif) × (session_call K w ≡ Some c) × (notif_of (session K w) ≡ Some n) × (n ≡ notif K c) × (x ≡ n.id) × (number_of is_good_check (session K w) ≡ 2) × Cause R (session K w) n b
 
--- where a session answered and its copy has no fault, its audit names the rule that decided and its verdict, or that the rule's times were spent
+-- where a session answered and its copy has no fault, its audit names the rule that decided and its verdict: or, of a rule that grants, that its times were spent
 abbrev pub AuditNames : Policy → List Event → Type 0
 AuditNames P H = (s w x : ℕ) (b : Back) (a : Result (Unit {0}) ℕ) (n : Notif) (texts : List (List ℕ)) → event_at H s ≡ Some (ev (Worker w) (Send x b a))
     → notif_of (session (before H s) w) ≡ Some n → copied n (reads_of (session (before H s) w)) ≡ Complete texts
     → (r : ℕ) × (event_at H r ≡ Some (ev (Worker w) (Recv (Ok n))))
     × ((audit_of (judging_by P.rules) H (before H r) w n).finding ≡ finding_of (judged_as (decide P.rules (request n.call.nr n.call.args texts))) (list_any is_spent (session (before H s) w)))
+    × (list_any is_spent (session (before H s) w) ≡ true → (decide P.rules (request n.call.nr n.call.args texts)).1 ≡ Grant)
 
 -- the step answers that the call, or its task, is not there
 abbrev pub is_lost : What → Bool

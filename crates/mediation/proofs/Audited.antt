@@ -13,7 +13,7 @@ use Rattle.hist_model.specs.Orders.{is_good_check}
 use Rattle.hist_model.specs.Copies.{Complete, plan, progress}
 use Rattle.hist_model.specs.Requests.{request}
 use Rattle.hist_model.specs.Decisions.{decide}
-use Rattle.hist_model.specs.Legal.{copied, read_answers}
+use Rattle.hist_model.specs.Legal.{copied, decision, read_answers, rules_of}
 use Rattle.hist_model.specs.ReportAudit.{session_at, session_step, joined, is_gone, is_spent, reads, finding, finding_by, finding_of, checked_twice, audit_of, judging_by, judged_by, judged_as, is_good_check as is_found_valid, skips as is_skipped}
 use Rattle.hist_model.specs.Mediated.{AuditNames}
 use Rattle.hist_model.specs.declared.event.Event.{Event}
@@ -22,14 +22,19 @@ use Rattle.hist_model.specs.declared.event.Actor.TheVariants.{Start, Task, Worke
 use Rattle.hist_model.specs.declared.event.Back.{Back}
 use Rattle.hist_model.specs.declared.event.What.{What}
 use Rattle.hist_model.specs.declared.event.What.TheVariants.{Recv, OpenMem, OpenBase, Check, Read, Act, Plant, AddfdPut, AddfdTake, Send, LetGo, Skip}
+use Rattle.hist_model.specs.Causes.{is_acting}
 use Rattle.hist_model.specs.declared.policy.Policy.{Policy}
+use Rattle.hist_model.specs.declared.policy.Verdict.{Verdict}
+use Rattle.hist_model.specs.declared.policy.Verdict.TheVariants.{Grant, Deny, Pass, Inject}
+use Rattle.hist_model.specs.declared.request.Request.{Request}
+use Rattle.hist_model.specs.declared.script.Figures.{Figures}
 use Rattle.sys_abi.specs.declared.wire.Notif.{Notif}
 use Rattle.hist_model.proofs.Look.{event_at-here, event_at-older, event_at-below, event_at-above, below_or_last}
-use Rattle.mediation.proofs.Before.{before-all, before-older, before-newest, length-before}
+use Rattle.mediation.proofs.Before.{before-all, before-older, before-newest, length-before, legal-before}
 use Rattle.mediation.proofs.Rows.{WorkerRow}
 use Rattle.mediation.proofs.Deeds.{AtWork, deed-is}
 use Rattle.mediation.proofs.Work.{InSession, Idle, by, hand, in-hand, works, works-keep, at-work, worker-row, session-same, session-more, started, grown}
-use Rattle.mediation.proofs.Sequence.{is-own}
+use Rattle.mediation.proofs.Sequence.{IsOwn, is-own, is_effect, effect-fixed}
 use Rattle.mediation.proofs.Ordered.{ordered, used-two}
 use Rattle.mediation.proofs.Sittings.{Kept, by-session, in-hand-of}
 
@@ -272,15 +277,36 @@ names-rule P n x b a own texts g two c =
     let k : count_by is_found_valid own ≡ 2 = counted own ∙ two in
     rw (none-gone own g, k, q)
 
-pub audit-names : (S : System) (R : Rules) (P : Policy) (H : List Event) → IsLegal S R H → length H < 2 ^ 64 → AuditNames P H
-audit-names S R P H legal room s w x b a n texts h m c =
-    let t = sent S R H legal room s w x b a h in
+spent-effect : (own : List What) → list_any is_spent own ≡ true → any_of is_effect own ≡ true
+spent-effect [] h = cc
+spent-effect (Act q cap y ∷ own) h = refl
+spent-effect (Plant x b cap y ∷ own) h = refl
+spent-effect (a ∷ own) h = spent-effect own h
+
+-- a decision that acts is a grant
+acting-grants : (P : Policy) (F : Figures) (q : Request) (i : ℕ) (v : Verdict) → is_acting (decision P F q i v) ≡ true → v ≡ Grant
+acting-grants P F q i Grant h = refl
+acting-grants P F q i (Deny e) h = cc
+acting-grants P F q i Pass h = cc
+acting-grants P F q i (Inject src at) h = cc
+
+pub audit-names : (S : System) (P : Policy) (F : Figures) (H : List Event) → IsLegal S (rules_of P F) H → length H < 2 ^ 64 → AuditNames P H
+audit-names S P F H legal room s w x b a n texts h m c =
+    let t = sent S (rules_of P F) H legal room s w x b a h in
     let q = same t.n n (sym t.work.notif_is ∙ m) in
     let l = event_at-below H t.place _ t.receive in
     let z : length (before H t.place) ≡ t.place = before-length H t.place (omega arith) in
     let r = names-rule P n x b a (session (before H s) w) texts t.work.no_end t.two c in
-    (t.place, rw q at t.receive, go (length (before H t.place)) z r t.ends)
+    (t.place, rw q at t.receive, go (length (before H t.place)) z r t.ends, λ e. grants (session (before H s) w) (is-own S R' (before H s) (legal-before S R' H s legal) w) m c e)
   where
+    R' : Rules
+    R' = rules_of P F
+
+    grants : (own : List What) → IsOwn R' own → notif_of own ≡ Some n → copied n (reads_of own) ≡ Complete texts → list_any is_spent own ≡ true → (decide P.rules (request n.call.nr n.call.args texts)).1 ≡ Grant
+    grants own i h k e =
+        let f = effect-fixed R' own n i h (spent-effect own e) in
+        acting-grants P F (request n.call.nr n.call.args texts) _ _ (rw k at f.decided)
+
     same : (x y : Notif) → Some x ≡ Some y → x ≡ y
     same x y h = cc
 
@@ -292,7 +318,7 @@ audit-names S R P H legal room s w x b a n texts h m c =
     ]
 
     go : {r : ℕ} (p : ℕ) → p ≡ r → finding (judging_by P.rules) n (Send x b a ∷ session (before H s) w) ≡ finding_of (judged_as (decide P.rules (request n.call.nr n.call.args texts))) (list_any is_spent (session (before H s) w))
-        → Ends S R H w r (Send x b a ∷ session (before H s) w)
+        → Ends S (rules_of P F) H w r (Send x b a ∷ session (before H s) w)
         → finding (judging_by P.rules) n (session_at w p H) ≡ finding_of (judged_as (decide P.rules (request n.call.nr n.call.args texts))) (list_any is_spent (session (before H s) w))
     go p q r (answered k j) = rw (q, k) r
     go p q r (over k) = rw (q, k) r
