@@ -1,7 +1,7 @@
 -- What mediation means: a history in which each notification is answered at most once, each reply or descriptor reaches the waiting call it was meant for or nobody,
 -- each effect is what the policy grants on one copy of its call's arguments found valid afterwards, and each denial names its rule (seccomp_unotify(2)).
 use Rattle.std.specs.Prelude.{◌≡◌, ℕ, ◌+◌, ◌≤◌, Bool, true, false, ◌&&◌, ◌||◌, not, if◌then◌else◌, ◌==◌, List, [], ◌∷◌, length, filter, Option, Some, None, Result, Ok, Err, ◌⊎◌, nat_le, nat_eq, codes, ℤ}
-use Rattle.std.specs.List.{starts_with}
+use Rattle.std.specs.List.{list_any, starts_with}
 use Rattle.hist_model.specs.Look.{Name, ev, before, event_at, is_worker, is_task}
 use Rattle.hist_model.specs.Calls.{listed, caller, fetched, fetches, id, is_call, answers, puts_to, settled, waiting, closes}
 use Rattle.hist_model.specs.Sessions.{Rules, session, notif_of, reads_of, first_some, outcome_in, put_in, Acts, Plants, Injects, addfd_of, number_of, checks}
@@ -15,7 +15,7 @@ use Rattle.hist_model.specs.Memory.{own_group}
 use Rattle.hist_model.specs.Signals.{call_of}
 use Rattle.hist_model.specs.Natives.{Files, base_of}
 use Rattle.hist_model.specs.Files.{files, request_for}
-use Rattle.hist_model.specs.Legal.{rules_of, tree}
+use Rattle.hist_model.specs.Legal.{rules_of, tree, copied}
 use Rattle.hist_model.specs.declared.event.Back.{Back}
 use Rattle.hist_model.specs.declared.event.Event.{Event}
 use Rattle.hist_model.specs.declared.event.Actor.{Actor}
@@ -23,6 +23,7 @@ use Rattle.hist_model.specs.declared.event.Actor.TheVariants.{Start, Worker, Tas
 use Rattle.hist_model.specs.declared.event.What.{What}
 use Rattle.hist_model.specs.declared.event.What.TheVariants.{Spawn, Poke, Handler, Enter, Native, Install, Resume, Signal, Deliver, Reap, Exit, Recv, OpenMem, OpenBase, Check, Read, Act, Plant, AddfdPut, AddfdTake, Send, LetGo, Skip, Close}
 use Rattle.hist_model.specs.declared.policy.Policy.{Policy}
+use Rattle.hist_model.specs.declared.policy.Verdict.TheVariants.{Grant}
 use Rattle.hist_model.specs.declared.policy.Cap.{Cap}
 use Rattle.hist_model.specs.declared.request.Node.{Node}
 use Rattle.hist_model.specs.declared.request.Node.TheVariants.{Chr, Blk}
@@ -32,7 +33,10 @@ use Rattle.hist_model.specs.declared.request.Request.{Request}
 use Rattle.hist_model.specs.declared.script.Script.{Script}
 use Rattle.hist_model.specs.declared.tree.NodeRow.{NodeRow}
 use Rattle.hist_model.specs.declared.tree.AttrRow.{AttrRow}
-use Rattle.hist_model.specs.Decisions.{cap_of}
+use Rattle.hist_model.specs.Copies.{Complete}
+use Rattle.hist_model.specs.Decisions.{cap_of, decide}
+use Rattle.hist_model.specs.Requests.{request}
+use Rattle.hist_model.specs.ReportAudit.{audit_of, judging_by, judged_as, finding_of, is_spent}
 use Rattle.sys_abi.specs.declared.wire.Addfd.{Addfd}
 use Rattle.sys_abi.specs.declared.wire.Notif.{Notif}
 
@@ -213,6 +217,14 @@ abbrev pub HasCause : Rules → List Event → Event → Type 0
 HasCause R K e = (w x : ℕ) (b : Back) (a : Result (Unit {0}) ℕ) → e.who ≡ Worker w → e.what ≡ Send x b a
     → (c : ℕ) × (n : Notif) × (session_call K w ≡ Some c) × (notif_of (session K w) ≡ Some n) × (n ≡ notif K c) × (x ≡ n.id) × (number_of is_good_check (session K w) ≡ 2) × Cause R (session K w) n b
 
+-- where a session answered and its copy has no fault, its audit names the rule that decided and its verdict: or, of a rule that grants, that its times were spent
+abbrev pub AuditNames : Policy → List Event → Type 0
+AuditNames P H = (s w x : ℕ) (b : Back) (a : Result (Unit {0}) ℕ) (n : Notif) (texts : List (List ℕ)) → event_at H s ≡ Some (ev (Worker w) (Send x b a))
+    → notif_of (session (before H s) w) ≡ Some n → copied n (reads_of (session (before H s) w)) ≡ Complete texts
+    → (r : ℕ) × (event_at H r ≡ Some (ev (Worker w) (Recv (Ok n))))
+    × ((audit_of (judging_by P.rules) H (before H r) w n).finding ≡ finding_of (judged_as (decide P.rules (request n.call.nr n.call.args texts))) (list_any is_spent (session (before H s) w)))
+    × (list_any is_spent (session (before H s) w) ≡ true → (decide P.rules (request n.call.nr n.call.args texts)).1 ≡ Grant)
+
 -- the step answers that the call, or its task, is not there
 abbrev pub is_lost : What → Bool
 is_lost (OpenMem p (Err e)) = e == 3
@@ -287,6 +299,7 @@ pub record Mediated (P : Policy) (S : Script) (K : List Event) : Type 0 where
   pub ordered : (w : ℕ) → InOrder (session K w)
   -- each answer has its cause
   pub cause : Each (HasCause (rules_of P S.figures)) K
+  pub audit : AuditNames P K
   -- what is lost was gone
   pub lost : Each LostIfGone K
   pub receives : Each ReceivesFor K

@@ -24,7 +24,7 @@ use Rattle.mediation.proofs.Places.{place-is}
 use Rattle.mediation.proofs.Holders.{living-holder}
 use Rattle.mediation.proofs.Names.{names-own, named-some}
 use Rattle.mediation.proofs.Work.{InSession, by, works, works-keep, at-work, session-same, session-more, grown, call-more}
-use Rattle.mediation.proofs.Sequence.{is-own, put-fixed, take-after_put, Injecting}
+use Rattle.mediation.proofs.Sequence.{is-own, put-fixed, take-after_put, Fixed, IsInjection}
 use Rattle.mediation.proofs.Queues.{Clean, Calm, calm-clean, settled-more, clean-waiting, call-at-here}
 use Rattle.mediation.proofs.Phases.{install-new, Done, queued, gave_number, failed, Asked, StageOf, AtCall, stage-calm, request-more}
 
@@ -230,23 +230,23 @@ module _ (S : System) (R : Rules) (K : List Event) (a : Actor) (w c : ℕ) (lega
   answer-clean n b work z (Some (Ok u)) (Some t) q v s = s
   answer-clean n b work z (Some (Ok u)) None q v s = absurd (due z)
     where
-      f : Injecting R (session K w) n
+      f : Fixed R IsInjection (session K w) n
       f = put-fixed R (session K w) n (Ok u) (is-own S R K legal w) work.notif_is q
 
       some-not : (x : ℕ) → None ≡ Some x → ⊥
       some-not x h = cc
 
-      acting : (d : Decision) → d ≡ Injects f.src f.place f.flags → is_acting d ≡ true → ⊥
+      acting : (d : Decision) → d ≡ Injects f.decided.0 f.decided.1 f.decided.2 → is_acting d ≡ true → ⊥
       acting (Denies e) h g = cc
       acting Passes h g = cc
       acting (Acts q cap) h g = cc
       acting (Plants x y cap) h g = cc
       acting (Injects x y z) h g = cc
 
-      denies : (d : Decision) (e : ℕ) → d ≡ Injects f.src f.place f.flags → d ≡ Denies e → ⊥
+      denies : (d : Decision) (e : ℕ) → d ≡ Injects f.decided.0 f.decided.1 f.decided.2 → d ≡ Denies e → ⊥
       denies d e h g = cc
 
-      passes' : (d : Decision) → d ≡ Injects f.src f.place f.flags → d ≡ Passes → ⊥
+      passes' : (d : Decision) → d ≡ Injects f.decided.0 f.decided.1 f.decided.2 → d ≡ Passes → ⊥
       passes' d h g = cc
 
       no-err : (x : ℕ) → ◌≡◌ {A = Option (Result (Unit {0}) ℕ)} (Some (Ok u)) (Some (Err x)) → ⊥
@@ -257,9 +257,9 @@ module _ (S : System) (R : Rules) (K : List Event) (a : Actor) (w c : ℕ) (lega
 
       due : {b : Back} → Cause R (session K w) n b → ⊥
       due (faulty x g) = some-not x (sym f.sound ∙ g)
-      due (denied x g k) = denies (R.decide n (reads_of (session K w))) x f.decided k
-      due (passed g k) = passes' (R.decide n (reads_of (session K w))) f.decided k
-      due (done x g k e) = acting (R.decide n (reads_of (session K w))) f.decided k
+      due (denied x g k) = denies (R.decide n (reads_of (session K w))) x f.decided.3 k
+      due (passed g k) = passes' (R.decide n (reads_of (session K w))) f.decided.3 k
+      due (done x g k e) = acting (R.decide n (reads_of (session K w))) f.decided.3 k
       due (not_put x src place flags g d k) = no-err x (sym q ∙ k)
       due (not_taken y src place flags g d k) = no-take y (sym v ∙ k)
 

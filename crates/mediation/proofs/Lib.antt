@@ -34,3 +34,4 @@ pub mod Granted
 pub mod Mediation
 pub mod Framed
 pub mod Finishes
+pub mod Audited

@@ -15,6 +15,7 @@ use Rattle.mediation.proofs.Arrivals.{arrives, one-session}
 use Rattle.mediation.proofs.Received.{receives-step, receives-are-for}
 use Rattle.mediation.proofs.Placed.{installs-alone, fails-alone}
 use Rattle.mediation.proofs.Privileged.{acts-alone}
+use Rattle.mediation.proofs.Audited.{audit-names}
 use Rattle.mediation.proofs.Granted.{act-is-granted, plant-is-granted, put-is-injected, reads-are-own, times-kept}
 
 -- a fact of each event that needs no more than the event
@@ -48,6 +49,7 @@ mediated P S K legal' =
       times = times-kept P S K legal;
       ordered = λ w. (ordered R (session K w) (is-own T R K legal w)).order;
       cause = each T R (HasCause R) (has-cause T R) K legal room;
+      audit = audit-names T P S.figures K legal room;
       lost = each T R LostIfGone (lost-if-gone T R) K legal room;
       receives = each T R ReceivesFor (λ L e legal room r. receives-step T R L e legal room r (receives-are-for T R L legal room)) K legal room;
       acts_alone = every (ActsAlone S) (acts-alone S) K;

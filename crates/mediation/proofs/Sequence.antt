@@ -1,10 +1,11 @@
 -- A session by itself: each of its steps is the deed after those before it.
-use Rattle.std.proofs.Common.{◌≡◌, inl, inr, ℕ, Bool, true, false, ◌&&◌, not, List, [], ◌∷◌, Option, Some, None, refl, sym, ◌∙◌, arith}
+use Rattle.std.proofs.Common.{◌≡◌, inl, inr, ℕ, Bool, true, false, ◌&&◌, ◌||◌, not, List, [], ◌∷◌, Option, Some, None, refl, sym, ap, ◌∙◌, arith}
 use Rattle.std.specs.Prelude.{◌==◌, Result, Ok}
 use Rattle.std.proofs.lemmas.Bool.{cases_Bool, and_parts}
 use Rattle.hist_model.specs.Look.{is_worker}
-use Rattle.hist_model.specs.Sessions.{Rules, Fetch, Open, OpenB, Ask, ReadD, ActD, PlantD, Put, Take, Answer, Let, Injects, deed, session, skips, starts, joined, notif_of, any_of, is_read, reads_of, first_some, put_in, take_in, checks, number_of}
+use Rattle.hist_model.specs.Sessions.{Rules, Fetch, Open, OpenB, Ask, ReadD, ActD, PlantD, Put, Take, Answer, Let, Decision, Injects, fetched_by, deed, session, skips, starts, joined, notif_of, any_of, is_read, reads_of, first_some, put_in, take_in, checks, number_of}
 use Rattle.hist_model.specs.Systems.{System}
+use Rattle.hist_model.specs.Causes.{is_acting}
 use Rattle.hist_model.specs.Steps.{IsStep, IsLegal}
 use Rattle.hist_model.specs.declared.event.Event.{Event}
 use Rattle.hist_model.specs.declared.event.What.{What}
@@ -69,56 +70,117 @@ unfolding session
 is-own S R [] legal = λ w. tt
 is-own S R (e ∷ K) legal = λ w. own-step S R K e w legal.0 (is-own S R K legal.1 w)
 
--- once something was put, the rule injects, and this stays
-pub record Injecting (R : Rules) (own : List What) (n : Notif) : Type 0 where
-  pub src : ℕ
-  pub place : Option ℕ
-  pub flags : ℕ
+-- after both checks, and with the copy complete and sound, the decision is of this form
+pub record Fixed (R : Rules) (D : Decision → Type 0) (own : List What) (n : Notif) : Type 0 where
   pub checked : any_of checks own ≡ true
   pub twice : (number_of checks own == 1) ≡ false
   pub copied : R.next_piece n (reads_of own) ≡ None
   pub sound : R.fault n (reads_of own) ≡ None
-  pub decided : R.decide n (reads_of own) ≡ Injects src place flags
-
-injecting-later : (R : Rules) (own : List What) (n : Notif) (a : What) → is_read a ≡ false → checks a ≡ false → Injecting R own n → Injecting R (a ∷ own) n
-injecting-later R own n a h g i = record { checked = rw g i.checked; twice = rw g i.twice; src = i.src; place = i.place; flags = i.flags; copied = rw h i.copied; sound = rw h i.sound; decided = rw h i.decided }
+  pub decided : D (R.decide n (reads_of own))
 
 some-notif : (a b : Notif) → Some a ≡ Some b → a ≡ b
 some-notif a b h = cc
 
-pub put-fixed : (R : Rules) (own : List What) (n : Notif) (x : Result (Unit {0}) ℕ) → IsOwn R own → notif_of own ≡ Some n → first_some put_in own ≡ Some x → Injecting R own n
-put-fixed R [] n x i h p = cc
-put-fixed R (a ∷ []) n x i h p = first a i p
-  where
-    first : (a : What) → starts a ≡ true → first_some put_in (a ∷ []) ≡ Some x → Injecting R (a ∷ []) n
-    first (Recv (Ok m)) s p = cc
-    first a s p = cc
-put-fixed R (AddfdPut q y ∷ b ∷ own) n x i h p =
-    let t = deed-is R (b ∷ own) _ i.0 in
-    let m : t.0 ≡ n = some-notif t.0 n (sym t.1.notif_is ∙ h) in
-    let v : Injecting R (b ∷ own) t.0 = record { src = t.4.src; place = t.4.place; flags = t.4.flags; checked = t.3.checked; twice = t.3.twice; copied = t.3.copied; sound = t.4.sound; decided = t.4.decided } in
-    injecting-later R (b ∷ own) n (AddfdPut q y) refl refl (rw m at v)
-put-fixed R (Read y l z ∷ b ∷ own) n x i h p =
-    let t = deed-is R (b ∷ own) _ i.0 in
-    let m : t.0 ≡ n = some-notif t.0 n (sym t.1.notif_is ∙ h) in
-    let f = put-fixed R (b ∷ own) n x i.2 h p in
-    let g : R.next_piece n (reads_of (b ∷ own)) ≡ Some (y, l) = rw m at t.4 in
-    absurd (no (y, l) (sym f.copied ∙ g))
-  where
-    no : (v : ℕ × ℕ) → None ≡ Some v → ⊥
-    no v h = cc
-put-fixed R (Recv (Ok m) ∷ b ∷ own) n x i h p = absurd (clash i.1)
-  where
-    clash : true ≡ false → ⊥
-    clash q = cc
-put-fixed R (Check y z ∷ b ∷ own) n x i h p =
-    let t = deed-is R (b ∷ own) _ i.0 in
-    let f = put-fixed R (b ∷ own) n x i.2 h p in
-    elim t.4 [ inl q ↦ absurd (differ (any_of checks (b ∷ own)) q f.checked) | inr q ↦ absurd (differ (number_of checks (b ∷ own) == 1) f.twice q.0) ]
-  where
-    differ : (v : Bool) → v ≡ false → v ≡ true → ⊥
-    differ v g k = cc
-put-fixed R (a ∷ b ∷ own) n x i h p = injecting-later R (b ∷ own) n a refl refl (put-fixed R (b ∷ own) n x i.2 h p)
+no-start : (a : What) → starts a ≡ false → fetched_by a ≡ None
+no-start (Recv (Ok m)) h = cc
+no-start a h = refl
+
+-- the copy's uses of one kind: where each finds the decision of a form, the decision stays so for the rest of the session
+module _ (R : Rules) (D : Decision → Type 0) (uses : What → Bool)
+    (found : (own : List What) (a : What) → Suits R own a → uses a ≡ true → (n : Notif) × (notif_of own ≡ Some n) × Fixed R D own n)
+    (apart : (a : What) → uses a ≡ true → (is_read a ≡ false) × (checks a ≡ false) × (starts a ≡ false)) where
+  later : (own : List What) (n : Notif) (a : What) → is_read a ≡ false → checks a ≡ false → Fixed R D own n → Fixed R D (a ∷ own) n
+  later own n a h g i = record { checked = rw g i.checked; twice = rw g i.twice; copied = rw h i.copied; sound = rw h i.sound; decided = rw h i.decided }
+
+  -- another step once the decision is fixed
+  fixed-later : (own : List What) (n : Notif) (a : What) → Suits R own a → notif_of own ≡ Some n → Fixed R D own n → Fixed R D (a ∷ own) n
+  fixed-later own n (Read y l z) s h f =
+      let t = deed-is R own _ s in
+      let m : t.0 ≡ n = some-notif t.0 n (sym t.1.notif_is ∙ h) in
+      let g : R.next_piece n (reads_of own) ≡ Some (y, l) = rw m at t.4 in
+      absurd (no (y, l) (sym f.copied ∙ g))
+    where
+      no : (v : ℕ × ℕ) → None ≡ Some v → ⊥
+      no v h = cc
+  fixed-later own n (Check y z) s h f =
+      let t = deed-is R own _ s in
+      elim t.4 [ inl q ↦ absurd (differ (any_of checks own) q f.checked) | inr q ↦ absurd (differ (number_of checks own == 1) f.twice q.0) ]
+    where
+      differ : (v : Bool) → v ≡ false → v ≡ true → ⊥
+      differ v g k = cc
+  fixed-later own n a s h f = later own n a refl refl f
+
+  pub use-fixed : (own : List What) (n : Notif) → IsOwn R own → notif_of own ≡ Some n → any_of uses own ≡ true → Fixed R D own n
+  use-fixed [] n i h u = cc
+  use-fixed (a ∷ []) n i h u = absurd (clash (starts a) i (apart a (or-false (uses a) u)).2)
+    where
+      clash : (b : Bool) → b ≡ true → b ≡ false → ⊥
+      clash b g k = cc
+
+      or-false : (b : Bool) → (b || false) ≡ true → b ≡ true
+      or-false b k = grind arith
+  use-fixed (a ∷ b ∷ own) n i h u =
+      let q : notif_of (b ∷ own) ≡ Some n = rw (no-start a i.1) at h in
+      elim (cases_Bool (uses a)) [
+        | inl v ↦
+            let t = found (b ∷ own) a i.0 v in
+            let m : t.0 ≡ n = some-notif t.0 n (sym t.1 ∙ q) in
+            let p = apart a v in
+            later (b ∷ own) n a p.0 p.1 (rw m at t.2)
+        | inr v ↦ fixed-later (b ∷ own) n a i.0 q (use-fixed (b ∷ own) n i.2 q (rw v at u))
+      ]
+
+-- once something was put, the rule injects, and this stays
+abbrev pub IsInjection : Decision → Type 0
+IsInjection d = (src : ℕ) × (at : Option ℕ) × (flags : ℕ) × (d ≡ Injects src at flags)
+
+abbrev pub is_put : What → Bool
+is_put (AddfdPut q a) = true
+is_put _ = false
+
+put-found : (R : Rules) (own : List What) (a : What) → Suits R own a → is_put a ≡ true → (n : Notif) × (notif_of own ≡ Some n) × Fixed R IsInjection own n
+put-found R own (AddfdPut q y) s h =
+    let t = deed-is R own _ s in
+    (t.0, t.1.notif_is, record { checked = t.3.checked; twice = t.3.twice; copied = t.3.copied; sound = t.4.sound; decided = (t.4.src, t.4.place, t.4.flags, t.4.decided) })
+put-found R own a s h = cc
+
+put-apart : (a : What) → is_put a ≡ true → (is_read a ≡ false) × (checks a ≡ false) × (starts a ≡ false)
+put-apart (AddfdPut q y) h = (refl, refl, refl)
+put-apart a h = cc
+
+put-any : (own : List What) (x : Result (Unit {0}) ℕ) → first_some put_in own ≡ Some x → any_of is_put own ≡ true
+put-any [] x h = cc
+put-any (AddfdPut q y ∷ own) x h = refl
+put-any (a ∷ own) x h = put-any own x h
+
+pub put-fixed : (R : Rules) (own : List What) (n : Notif) (x : Result (Unit {0}) ℕ) → IsOwn R own → notif_of own ≡ Some n → first_some put_in own ≡ Some x → Fixed R IsInjection own n
+put-fixed R own n x i h p = use-fixed R IsInjection is_put (put-found R) put-apart own n i h (put-any own x p)
+
+-- once an effect was tried, the rule grants, and this stays
+abbrev pub IsGrant : Decision → Type 0
+IsGrant d = is_acting d ≡ true
+
+abbrev pub is_effect : What → Bool
+is_effect (Act q cap a) = true
+is_effect (Plant x b cap a) = true
+is_effect _ = false
+
+effect-found : (R : Rules) (own : List What) (a : What) → Suits R own a → is_effect a ≡ true → (n : Notif) × (notif_of own ≡ Some n) × Fixed R IsGrant own n
+effect-found R own (Act q cap y) s h =
+    let t = deed-is R own _ s in
+    (t.0, t.1.notif_is, record { checked = t.3.checked; twice = t.3.twice; copied = t.3.copied; sound = t.6; decided = ap is_acting t.4 })
+effect-found R own (Plant x b cap y) s h =
+    let t = deed-is R own _ s in
+    (t.0, t.1.notif_is, record { checked = t.3.checked; twice = t.3.twice; copied = t.3.copied; sound = t.6; decided = ap is_acting t.4 })
+effect-found R own a s h = cc
+
+effect-apart : (a : What) → is_effect a ≡ true → (is_read a ≡ false) × (checks a ≡ false) × (starts a ≡ false)
+effect-apart (Act q cap y) h = (refl, refl, refl)
+effect-apart (Plant x b cap y) h = (refl, refl, refl)
+effect-apart a h = cc
+
+pub effect-fixed : (R : Rules) (own : List What) (n : Notif) → IsOwn R own → notif_of own ≡ Some n → any_of is_effect own ≡ true → Fixed R IsGrant own n
+effect-fixed R own n i h e = use-fixed R IsGrant is_effect (effect-found R) effect-apart own n i h e
 
 -- a take comes after a good put
 pub take-after_put : (R : Rules) (own : List What) (t : Result ℕ ℕ) → IsOwn R own → first_some take_in own ≡ Some t → (u : Unit {0}) × (first_some put_in own ≡ Some (Ok u))

@@ -25,6 +25,7 @@ use Rattle.mediation.proofs.Deeds.{deed-is}
 use Rattle.mediation.proofs.Once.{installs-open, settles-once}
 use Rattle.mediation.proofs.Own.{row-of}
 use Rattle.mediation.proofs.Queues.{installing, install-first, put-call, call-at-older, call-at-here, call-at-above}
+use Rattle.mediation.proofs.Sequence.{is_put}
 use Rattle.mediation.proofs.Phases.{hand-fetcher, fetcher-fetched, fetcher-stays, install-same, install-now, install-new}
 use Rattle.mediation.proofs.Waiting.{actor-acts}
 
@@ -71,11 +72,6 @@ put-sends S R K w q a r =
     sends-of : (src : ℕ) (p : Option ℕ) (fl x : ℕ) → has_send_flag (addfd_of x src p fl) ≡ true
     sends-of src None fl x = refl
     sends-of src (Some at) fl x = refl
-
--- the step is a request
-abbrev is_put : What → Bool
-is_put (AddfdPut q a) = true
-is_put _ = false
 
 put-is-put : (K : List Event) (what : What) (c : ℕ) → puts_to K what c ≡ true → is_put what ≡ true
 put-is-put K (AddfdPut q a) c h = refl

@@ -22,7 +22,7 @@ use Rattle.mediation.proofs.Ids.{is_call-below}
 use Rattle.mediation.proofs.Count.{fetching}
 use Rattle.mediation.proofs.Work.{InSession, Idle, by, works, session-more, started}
 use Rattle.mediation.proofs.Handles.{check-listed, listed-was, Steady, steady}
-use Rattle.mediation.proofs.Sequence.{is-own}
+use Rattle.mediation.proofs.Sequence.{is-own, is_put}
 use Rattle.mediation.proofs.Ordered.{ordered}
 use Rattle.mediation.proofs.Queues.{Clean, clean-waiting}
 use Rattle.mediation.proofs.Phases.{StageOf, AtCall, hand-fetcher, fetcher-fetched}
@@ -31,11 +31,6 @@ use Rattle.mediation.proofs.Sittings.{Kept, by-session, in-hand-of}
 
 clash : (b : Bool) → b ≡ false → b ≡ true → ⊥
 clash b g h = cc
-
--- the step is a request for a descriptor
-abbrev is_put : What → Bool
-is_put (AddfdPut q a) = true
-is_put _ = false
 
 no-put : (a : What) → is_put a ≡ false → put_in a ≡ None
 no-put (AddfdPut q x) h = cc

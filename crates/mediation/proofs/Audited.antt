@@ -1,0 +1,324 @@
+-- The audit of a session that answered names the rule that decided.
+use Rattle.std.proofs.Common.{◌≡◌, ◌⊎◌, inl, inr, ℕ, zero, suc, ◌+◌, ◌<◌, ◌≤◌, ◌^◌, Bool, true, false, ◌&&◌, ◌||◌, not, List, [], ◌∷◌, ◌++◌, length, reverse, Option, Some, None, refl, sym, ap, subst, ◌∙◌, arith}
+use Rattle.std.specs.Prelude.{if◌then◌else◌, ◌==◌, nat_le, count_by, cond, Result, Ok, Err}
+use Rattle.std.specs.List.{list_any}
+use Rattle.std.proofs.lemmas.Bool.{cases_Bool, and_parts, or_parts, eq-eqb, ne_eqb, le-leb}
+use Rattle.std.proofs.lemmas.List.{reverse-append}
+use Rattle.std.proofs.lemmas.List.Recursion.{is_count_by}
+use Rattle.hist_model.specs.Look.{ev, before, event_at, is_worker}
+use Rattle.hist_model.specs.Sessions.{Rules, Fetch, Answer, session, skips, starts, any_of, is_letgo, gives_up, notif_of, reads_of, number_of}
+use Rattle.hist_model.specs.Systems.{System}
+use Rattle.hist_model.specs.Steps.{IsStep, IsLegal, session_call, oldest_unfetched}
+use Rattle.hist_model.specs.Orders.{is_good_check}
+use Rattle.hist_model.specs.Copies.{Complete, plan, progress}
+use Rattle.hist_model.specs.Requests.{request}
+use Rattle.hist_model.specs.Decisions.{decide}
+use Rattle.hist_model.specs.Legal.{copied, decision, read_answers, rules_of}
+use Rattle.hist_model.specs.ReportAudit.{session_at, session_step, joined, is_gone, is_spent, reads, finding, finding_by, finding_of, checked_twice, audit_of, judging_by, judged_by, judged_as, is_good_check as is_found_valid, skips as is_skipped}
+use Rattle.hist_model.specs.Mediated.{AuditNames}
+use Rattle.hist_model.specs.declared.event.Event.{Event}
+use Rattle.hist_model.specs.declared.event.Actor.{Actor}
+use Rattle.hist_model.specs.declared.event.Actor.TheVariants.{Start, Task, Worker, Listener}
+use Rattle.hist_model.specs.declared.event.Back.{Back}
+use Rattle.hist_model.specs.declared.event.What.{What}
+use Rattle.hist_model.specs.declared.event.What.TheVariants.{Recv, OpenMem, OpenBase, Check, Read, Act, Plant, AddfdPut, AddfdTake, Send, LetGo, Skip}
+use Rattle.hist_model.specs.Causes.{is_acting}
+use Rattle.hist_model.specs.declared.policy.Policy.{Policy}
+use Rattle.hist_model.specs.declared.policy.Verdict.{Verdict}
+use Rattle.hist_model.specs.declared.policy.Verdict.TheVariants.{Grant, Deny, Pass, Inject}
+use Rattle.hist_model.specs.declared.request.Request.{Request}
+use Rattle.hist_model.specs.declared.script.Figures.{Figures}
+use Rattle.sys_abi.specs.declared.wire.Notif.{Notif}
+use Rattle.hist_model.proofs.Look.{event_at-here, event_at-older, event_at-below, event_at-above, below_or_last}
+use Rattle.mediation.proofs.Before.{before-all, before-older, before-newest, length-before, legal-before}
+use Rattle.mediation.proofs.Rows.{WorkerRow}
+use Rattle.mediation.proofs.Deeds.{AtWork, deed-is}
+use Rattle.mediation.proofs.Work.{InSession, Idle, by, hand, in-hand, works, works-keep, at-work, worker-row, session-same, session-more, started, grown}
+use Rattle.mediation.proofs.Sequence.{IsOwn, is-own, is_effect, effect-fixed}
+use Rattle.mediation.proofs.Ordered.{ordered, used-two}
+use Rattle.mediation.proofs.Sittings.{Kept, by-session, in-hand-of}
+
+clash : (b : Bool) → b ≡ false → b ≡ true → ⊥
+clash b g h = cc
+
+skipped-same : (what : What) → is_skipped what ≡ skips what
+skipped-same Skip = refl
+skipped-same what = refl
+
+-- one more step of an open session
+joined-open : (own : List What) (a : What) (n : Notif) → notif_of own ≡ Some n → any_of is_letgo own ≡ false → joined own a ≡ a ∷ own
+joined-open [] a n h g = cc
+joined-open (LetGo ∷ own) a n h g = cc
+joined-open (b ∷ own) a n h g = refl
+
+at-here : (e : Event) (K : List Event) (w : ℕ) → session_at w (length K) (e ∷ K) ≡ e.what ∷ []
+unfolding session_at
+at-here e K w = rw (eq-eqb (length K) (length K) refl)
+
+at-more : (e : Event) (K : List Event) (w r : ℕ) → r < length K → is_worker e.who w ≡ true → skips e.what ≡ false → session_at w r (e ∷ K) ≡ joined (session_at w r K) e.what
+unfolding session_at
+at-more e K w r l h g =
+    let n : (length K ≡ r → ⊥) = omega arith in
+    let s : is_skipped e.what ≡ false = skipped-same e.what ∙ g in
+    rw (ne_eqb (length K) r n, h, s)
+
+at-same : (e : Event) (K : List Event) (w r : ℕ) → r < length K → (is_worker e.who w && not (skips e.what)) ≡ false → session_at w r (e ∷ K) ≡ session_at w r K
+unfolding session_at
+at-same e K w r l h =
+    let n : (length K ≡ r → ⊥) = omega arith in
+    let s = skipped-same e.what in
+    let q : (is_worker e.who w && not (is_skipped e.what)) ≡ false = rw s h in
+    rw (ne_eqb (length K) r n, q)
+
+-- the receive with which the open session began
+pub record Began (K : List Event) (w : ℕ) : Type 0 where
+  pub place : ℕ
+  pub n : Notif
+  pub receive : event_at K place ≡ Some (ev (Worker w) (Recv (Ok n)))
+  pub notif_is : notif_of (session K w) ≡ Some n
+  pub same : session_at w place K ≡ session K w
+
+worker-event : (a : Actor) (w : ℕ) (what : What) → is_worker a w ≡ true → by a what ≡ ev (Worker w) what
+worker-event (Worker v) w what h = rw (eqb v w h)
+  where
+    eqb : (v w : ℕ) → (v == w) ≡ true → v ≡ w
+    eqb v w h = grind arith
+worker-event Start w what h = cc
+worker-event (Task n) w what h = cc
+worker-event Listener w what h = cc
+
+module _ (S : System) (R : Rules) where
+  abbrev BeganOf : List Event → ℕ → ℕ → Type 0
+  BeganOf K w c = Began K w
+
+  fetch-began : (K : List Event) (a : Actor) (w c : ℕ) (n : Notif) → IsStep S R K (by a (Recv (Ok n))) → IsLegal S R K → length (by a (Recv (Ok n)) ∷ K) < 2 ^ 64 → is_worker a w ≡ true
+      → WorkerRow S R K w (Recv (Ok n)) → oldest_unfetched K ≡ Some c → Idle K w → Began (by a (Recv (Ok n)) ∷ K) w
+  fetch-began K a w c n r legal room q row o idle =
+      let e = by a (Recv (Ok n)) in
+      let own : session (e ∷ K) w ≡ Recv (Ok n) ∷ [] = session-more e K w q refl ∙ started (session K w) (Recv (Ok n)) refl in
+      record { place = length K; n = n; receive = event_at-here e K ∙ ap Some (worker-event a w (Recv (Ok n)) q); notif_is = rw own; same = at-here e K w ∙ sym own }
+
+  work-began : (K : List Event) (a : Actor) (w c : ℕ) (what : What) → IsStep S R K (by a what) → IsLegal S R K → length (by a what ∷ K) < 2 ^ 64 → is_worker a w ≡ true
+      → WorkerRow S R K w what → works what ≡ true → (i : InSession K w c) → session_call K w ≡ Some c → session (by a what ∷ K) w ≡ what ∷ session K w → Began K w → Began (by a what ∷ K) w
+  work-began K a w c what r legal room q row v i s own b =
+      let e = by a what in
+      let l = event_at-below K b.place _ b.receive in
+      let k = works-keep K what v in
+      let open' : joined (session K w) what ≡ what ∷ session K w = joined-open (session K w) what i.n i.notif_is i.no_letgo in
+      record {
+        place = b.place;
+        n = b.n;
+        receive = rw event_at-older b.receive;
+        notif_is = rw (own, k.no_notif) b.notif_is;
+        same = at-more e K w b.place l q k.no_skip ∙ (ap (λ x. joined x what) b.same ∙ (open' ∙ sym own));
+      }
+
+  still-began : (K : List Event) (e : Event) (w c : ℕ) → IsStep S R K e → IsLegal S R K → length (e ∷ K) < 2 ^ 64 → (is_worker e.who w && not (skips e.what)) ≡ false
+      → (i : InSession K w c) → session_call K w ≡ Some c → session (e ∷ K) w ≡ session K w → Began K w → Began (e ∷ K) w
+  still-began K e w c r legal room q i s own b =
+      let l = event_at-below K b.place _ b.receive in
+      record { place = b.place; n = b.n; receive = rw event_at-older b.receive; notif_is = rw own b.notif_is; same = at-same e K w b.place l q ∙ (b.same ∙ sym own) }
+
+  began : (K : List Event) → IsLegal S R K → length K < 2 ^ 64 → (w c : ℕ) → session_call K w ≡ Some c → Began K w
+  began = by-session S R BeganOf (record { fetch = fetch-began; work = work-began; still = still-began })
+
+  -- what the audit sees of a session that has answered: these steps, and then that it lets go
+  data Ends (H : List Event) (w r : ℕ) (own : List What) : Type 0 where
+    answered : session_at w r H ≡ own → session H w ≡ own → Ends H w r own
+    over : session_at w r H ≡ LetGo ∷ own → Ends H w r own
+
+  -- after its answer a session only lets go
+  lets-go : (K : List Event) (w : ℕ) (own : List What) (what : What) (n : Notif) → session K w ≡ own → notif_of own ≡ Some n → any_of is_letgo own ≡ false → any_of gives_up own ≡ true → WorkerRow S R K w what → skips what ≡ false → what ≡ LetGo
+  lets-go K w own what n q h g u row z = go what row z
+    where
+      no-work : (what : What) → WorkerRow S R K w what → works what ≡ true → ⊥
+      no-work what row v = let k = at-work S R K w what row v in clash (any_of gives_up (session K w)) k.1.no_end (rw q u)
+
+      none : (m : Notif) → None ≡ Some m → ⊥
+      none m h = cc
+
+      no-fetch : (notif_of (session K w) ≡ None) ⊎ (any_of is_letgo (session K w) ≡ true) → ⊥
+      no-fetch (inl x) = none n (sym x ∙ rw q h)
+      no-fetch (inr x) = clash (any_of is_letgo (session K w)) (rw q g) x
+
+      go : (what : What) → WorkerRow S R K w what → skips what ≡ false → what ≡ LetGo
+      go LetGo row z = refl
+      go Skip row z = cc
+      go (Recv x) row z = absurd (no-fetch (deed-is R (session K w) Fetch row.0))
+      go (OpenMem p x) row z = absurd (no-work (OpenMem p x) row refl)
+      go (OpenBase p d x) row z = absurd (no-work (OpenBase p d x) row refl)
+      go (Check x y) row z = absurd (no-work (Check x y) row refl)
+      go (Read x l y) row z = absurd (no-work (Read x l y) row refl)
+      go (Act x cap y) row z = absurd (no-work (Act x cap y) row refl)
+      go (Plant x b cap y) row z = absurd (no-work (Plant x b cap y) row refl)
+      go (AddfdPut x y) row z = absurd (no-work (AddfdPut x y) row refl)
+      go (AddfdTake x) row z = absurd (no-work (AddfdTake x) row refl)
+      go (Send x b y) row z = absurd (no-work (Send x b y) row refl)
+      go _ row z = absurd row
+
+  ends-later : (K : List Event) (e : Event) (w r : ℕ) (own : List What) (n : Notif) → IsStep S R K e → r < length K → notif_of own ≡ Some n → any_of is_letgo own ≡ false → any_of gives_up own ≡ true → Ends K w r own → Ends (e ∷ K) w r own
+  ends-later K e w r own n step l h g u ends =
+      elim (cases_Bool (is_worker e.who w && not (skips e.what))) [
+        | inl q ↦
+            let p = and_parts (is_worker e.who w) (not (skips e.what)) q in
+            let z : skips e.what ≡ false = grind arith in
+            mine p.0 z ends
+        | inr q ↦ still q ends
+      ]
+    where
+      mine : is_worker e.who w ≡ true → skips e.what ≡ false → Ends K w r own → Ends (e ∷ K) w r own
+      mine v z (answered a s) =
+          let m = lets-go K w own e.what n s h g u (worker-row S R K e w step v) z in
+          over (at-more e K w r l v z ∙ (ap (λ x. joined x e.what) a ∙ (joined-open own e.what n h g ∙ ap (λ x. x ∷ own) m)))
+      mine v z (over a) = over (at-more e K w r l v z ∙ ap (λ x. joined x e.what) a)
+
+      still : (is_worker e.who w && not (skips e.what)) ≡ false → Ends K w r own → Ends (e ∷ K) w r own
+      still q (answered a s) = answered (at-same e K w r l q ∙ a) (session-same e K w q ∙ s)
+      still q (over a) = over (at-same e K w r l q ∙ a)
+
+  -- the session of an answer
+  record Sent (H : List Event) (s w x : ℕ) (b : Back) (a : Result (Unit {0}) ℕ) : Type 0 where
+    pub place : ℕ
+    pub n : Notif
+    pub receive : event_at H place ≡ Some (ev (Worker w) (Recv (Ok n)))
+    pub work : AtWork (session (before H s) w) n
+    pub two : number_of is_good_check (session (before H s) w) ≡ 2
+    pub ends : Ends H w place (Send x b a ∷ session (before H s) w)
+
+  answer-row : (K : List Event) (e : Event) (w x : ℕ) (b : Back) (a : Result (Unit {0}) ℕ) → IsStep S R K e → e ≡ ev (Worker w) (Send x b a) → WorkerRow S R K w (Send x b a)
+  answer-row K e w x b a r q = subst (λ (d : Event). WorkerRow S R K w d.what) q (worker-row S R K e w r (subst (λ (d : Event). is_worker d.who w ≡ true) (sym q) (eq-eqb w w refl)))
+
+  sent-now : (K : List Event) (e : Event) (w x : ℕ) (b : Back) (a : Result (Unit {0}) ℕ) → IsLegal S R K → length K < 2 ^ 64 → IsStep S R K e → e ≡ ev (Worker w) (Send x b a) → Sent (e ∷ K) (length K) w x b a
+  sent-now K e w x b a legal room r q =
+      let row = answer-row K e w x b a r q in
+      let t = deed-is R (session K w) (Answer x b) row.0 in
+      let j = in-hand K w (session_call K w) t.0 t.1 (hand S R K legal w) in
+      let g = began K legal room w j.0 j.1 in
+      let l = event_at-below K g.place _ g.receive in
+      let m : e.what ≡ Send x b a = ap (λ (d : Event). d.what) q in
+      let v : is_worker e.who w ≡ true = subst (λ (d : Event). is_worker d.who w ≡ true) (sym q) (eq-eqb w w refl) in
+      let z : skips e.what ≡ false = ap skips m in
+      let k : starts e.what ≡ false = ap starts m in
+      record {
+        place = g.place;
+        n = g.n;
+        receive = rw event_at-older g.receive;
+        work = rw (before-newest e K, same g.n t.0 (sym g.notif_is ∙ t.1.notif_is)) t.1;
+        two = rw (before-newest e K) (used-two R (session K w) t.0 t.1 t.3 (ordered R (session K w) (is-own S R K legal w)));
+        ends = rw (before-newest e K) (answered
+          (at-more e K w g.place l v z ∙ (ap (λ y. joined y e.what) g.same ∙ (joined-open (session K w) e.what t.0 t.1.notif_is t.1.no_letgo ∙ ap (λ y. y ∷ session K w) m)))
+          (session-more e K w v z ∙ (grown (session K w) e.what t.0 t.1.notif_is k ∙ ap (λ y. y ∷ session K w) m)));
+      }
+    where
+      same : (x y : Notif) → Some x ≡ Some y → x ≡ y
+      same x y h = cc
+
+  sent-later : (K : List Event) (e : Event) (s w x : ℕ) (b : Back) (a : Result (Unit {0}) ℕ) → IsStep S R K e → s < length K → Sent K s w x b a → Sent (e ∷ K) s w x b a
+  sent-later K e s w x b a r l t =
+      let m = event_at-below K t.place _ t.receive in
+      let q : before (e ∷ K) s ≡ before K s = before-older e K s (omega arith) in
+      record {
+        place = t.place;
+        n = t.n;
+        receive = rw event_at-older t.receive;
+        work = rw q t.work;
+        two = rw q t.two;
+        ends = rw q (ends-later K e w t.place (Send x b a ∷ session (before K s) w) t.n r m t.work.notif_is t.work.no_letgo refl t.ends);
+      }
+
+  sent : (H : List Event) → IsLegal S R H → length H < 2 ^ 64 → (s w x : ℕ) (b : Back) (a : Result (Unit {0}) ℕ) → event_at H s ≡ Some (ev (Worker w) (Send x b a)) → Sent H s w x b a
+  sent [] legal room = λ s w x b a h. absurd (none-some (ev (Worker w) (Send x b a)) (sym (event_at-above [] s (omega arith)) ∙ h))
+    where
+      none-some : (e : Event) → None ≡ Some e → ⊥
+      none-some e h = cc
+  sent (e ∷ K) legal room = λ s w x b a h. elim (below_or_last s (length K) (event_at-below (e ∷ K) s (ev (Worker w) (Send x b a)) h)) [
+    | inl l ↦ sent-later K e s w x b a legal.0 l (sent K legal.1 (omega arith) s w x b a (sym (event_at-older e K s l) ∙ h))
+    | inr q ↦ rw q (sent-now K e w x b a legal.1 (omega arith) legal.0 (same-event e (ev (Worker w) (Send x b a)) (sym (event_at-here e K) ∙ rw q at h)))
+  ]
+    where
+      same-event : (d f : Event) → Some d ≡ Some f → d ≡ f
+      same-event d f h = cc
+
+-- what the audit makes of it
+gone-gives_up : (a : What) → gives_up a ≡ false → is_gone a ≡ false
+gone-gives_up (OpenMem p (Err e)) h = cc
+gone-gives_up (OpenBase p d (Err e)) h = h
+gone-gives_up (Check x (Err e)) h = cc
+gone-gives_up a h = refl
+
+none-gone : (own : List What) → any_of gives_up own ≡ false → list_any is_gone own ≡ false
+none-gone [] h = refl
+none-gone (a ∷ own) h = let p = or_parts (gives_up a) (any_of gives_up own) h in rw (gone-gives_up a p.0) (none-gone own p.1)
+
+valid-same : (a : What) → is_found_valid a ≡ is_good_check a
+valid-same (Check x (Ok u)) = refl
+valid-same (Check x (Err e)) = refl
+valid-same a = refl
+
+counted : (own : List What) → count_by is_found_valid own ≡ number_of is_good_check own
+counted own = sym (is_count_by (number_of is_good_check) is_found_valid refl more own)
+  where
+    more : (a : What) (own : List What) → number_of is_good_check (a ∷ own) ≡ cond (is_found_valid a) (1 + number_of is_good_check own) (number_of is_good_check own)
+    more a own = rw (valid-same a) (both (is_good_check a) (number_of is_good_check own))
+      where
+        both : (b : Bool) (n : ℕ) → (if b then suc n else n) ≡ cond b (1 + n) n
+        both true n = omega arith
+        both false n = refl
+
+reads-are : (own : List What) → reads own ≡ reverse (read_answers (reads_of own))
+reads-are [] = refl
+reads-are (Read x l a ∷ own) = ap (λ xs. xs ++ a ∷ []) (reads-are own) ∙ sym (reverse-append (a ∷ []) (read_answers (reads_of own)))
+reads-are (a ∷ own) = reads-are own
+
+names-rule : (P : Policy) (n : Notif) (x : ℕ) (b : Back) (a : Result (Unit {0}) ℕ) (own : List What) (texts : List (List ℕ)) → any_of gives_up own ≡ false → number_of is_good_check own ≡ 2 → copied n (reads_of own) ≡ Complete texts
+    → finding (judging_by P.rules) n (Send x b a ∷ own) ≡ finding_of (judged_as (decide P.rules (request n.call.nr n.call.args texts))) (list_any is_spent own)
+names-rule P n x b a own texts g two c =
+    let q : progress (plan n.call.nr n.call.args) (reads own) ≡ Complete texts = rw (reads-are own) c in
+    let k : count_by is_found_valid own ≡ 2 = counted own ∙ two in
+    rw (none-gone own g, k, q)
+
+spent-effect : (own : List What) → list_any is_spent own ≡ true → any_of is_effect own ≡ true
+spent-effect [] h = cc
+spent-effect (Act q cap y ∷ own) h = refl
+spent-effect (Plant x b cap y ∷ own) h = refl
+spent-effect (a ∷ own) h = spent-effect own h
+
+-- a decision that acts is a grant
+acting-grants : (P : Policy) (F : Figures) (q : Request) (i : ℕ) (v : Verdict) → is_acting (decision P F q i v) ≡ true → v ≡ Grant
+acting-grants P F q i Grant h = refl
+acting-grants P F q i (Deny e) h = cc
+acting-grants P F q i Pass h = cc
+acting-grants P F q i (Inject src at) h = cc
+
+pub audit-names : (S : System) (P : Policy) (F : Figures) (H : List Event) → IsLegal S (rules_of P F) H → length H < 2 ^ 64 → AuditNames P H
+audit-names S P F H legal room s w x b a n texts h m c =
+    let t = sent S (rules_of P F) H legal room s w x b a h in
+    let q = same t.n n (sym t.work.notif_is ∙ m) in
+    let l = event_at-below H t.place _ t.receive in
+    let z : length (before H t.place) ≡ t.place = before-length H t.place (omega arith) in
+    let r = names-rule P n x b a (session (before H s) w) texts t.work.no_end t.two c in
+    (t.place, rw q at t.receive, go (length (before H t.place)) z r t.ends, λ e. grants (session (before H s) w) (is-own S R' (before H s) (legal-before S R' H s legal) w) m c e)
+  where
+    R' : Rules
+    R' = rules_of P F
+
+    grants : (own : List What) → IsOwn R' own → notif_of own ≡ Some n → copied n (reads_of own) ≡ Complete texts → list_any is_spent own ≡ true → (decide P.rules (request n.call.nr n.call.args texts)).1 ≡ Grant
+    grants own i h k e =
+        let f = effect-fixed R' own n i h (spent-effect own e) in
+        acting-grants P F (request n.call.nr n.call.args texts) _ _ (rw k at f.decided)
+
+    same : (x y : Notif) → Some x ≡ Some y → x ≡ y
+    same x y h = cc
+
+    before-length : (K : List Event) (p : ℕ) → p ≤ length K → length (before K p) ≡ p
+    before-length [] p h = unfold before in omega arith
+    before-length (e ∷ K) p h = elim (below_or_last p (length (e ∷ K)) (omega arith)) [
+      | inl q ↦ rw (before-older e K p (omega arith)) (before-length K p (omega arith))
+      | inr q ↦ rw (before-all (e ∷ K) p (omega arith)) (sym q)
+    ]
+
+    go : {r : ℕ} (p : ℕ) → p ≡ r → finding (judging_by P.rules) n (Send x b a ∷ session (before H s) w) ≡ finding_of (judged_as (decide P.rules (request n.call.nr n.call.args texts))) (list_any is_spent (session (before H s) w))
+        → Ends S (rules_of P F) H w r (Send x b a ∷ session (before H s) w)
+        → finding (judging_by P.rules) n (session_at w p H) ≡ finding_of (judged_as (decide P.rules (request n.call.nr n.call.args texts))) (list_any is_spent (session (before H s) w))
+    go p q r (answered k j) = rw (q, k) r
+    go p q r (over k) = rw (q, k) r
