@@ -1,22 +1,28 @@
 //! The step of a task: clone(2), wait(2), kill(2), sigaction(2), and the entry of a call under seccomp(2).
 
-ghost use Rattle.std.specs.Prelude.{◌≡◌, ◌+◌, ◌%◌, ◌^◌, ◌<◌, ◌∷◌, [], ◌++◌, reverse, length, replicate, IfOk};
+ghost use Rattle.std.specs.Prelude.{◌≡◌, ◌+◌, ◌%◌, ◌^◌, ◌<◌, ◌∷◌, [], ◌++◌, reverse, length, replicate, IfOk, Some, None};
 ghost use Rattle.std.specs.Option.{option_copied};
 ghost use Rattle.hist_model.specs.Look.{oldest};
 ghost use Rattle.hist_model.specs.Tasks.{next_pid, holder};
-ghost use Rattle.hist_model.specs.Calls.{calls};
+ghost use Rattle.hist_model.specs.Calls.{calls, queue};
 ghost use Rattle.hist_model.specs.Filters.{verdict};
 ghost use Rattle.hist_model.specs.Legal.{system_of};
-ghost use Rattle.hist_model.specs.Steps.{next_child, spawn_answer, signalled, with_id, instr_step, wait_step, is_child, is_ended_child, found};
+ghost use Rattle.hist_model.specs.Steps.{next_child, spawn_answer, signalled, with_id, instr_step, wait_step, is_child, is_ended_child, found, living_step, install_step, task_step};
+ghost use Rattle.plain_files.specs.Kept.{StandsFor};
 ghost use Rattle.hist_model.specs.declared.event.What.TheVariants.{Spawn, Signal, Poke};
 
 use bpf_filter::verdict;
 use hist_model::event::{Entered, Event, SpawnKind, What};
 use hist_model::script::{Instr, Script, Whom};
 use hist_model::text::{TaskName, Text};
-use look_back::calls::calls;
+use look_back::calls::{call_of, calls, first_in_queue, owes_native, reply, settled};
+use look_back::signals::{effect_in_call, effect_outside, next_signal};
 use look_back::steps::{next_child, signal_answer, signalled, spawn_answer};
-use look_back::tasks::{name_at, waited};
+use look_back::tasks::{alive, mode, name_at, waited};
+use plain_files::files::Files;
+use plain_files::installs::slot_for;
+use plain_files::natives::native_answer;
+use plain_files::programs::next_instr;
 use std::alloc::Global;
 use sys_abi::memory::NoMemory;
 
@@ -25,13 +31,6 @@ fn copy_name(alloc: Global, name: &[u32]) -> Result<TaskName, NoMemory>
     ensures { IfOk result (λ n. n ≡ name.now) }
 {
     Ok(TaskName::new(Vec::from_slice(alloc, name)?))
-}
-
-/// The text of these bytes.
-fn copy_text(alloc: Global, bytes: &[u8]) -> Result<Text, NoMemory>
-    ensures { IfOk result (λ t. t ≡ bytes.now) }
-{
-    Ok(Text::new(Vec::from_slice(alloc, bytes)?))
 }
 
 /// A new task, or EAGAIN where no process number is free.
@@ -103,7 +102,7 @@ fn fill(alloc: Global, addr: u64, len: u32, byte: u8) -> Result<What, NoMemory>
 }
 
 /// The step that an instruction makes; the end of the program is an exit.
-pub(crate) fn instr_step(
+fn instr_step(
     alloc: Global,
     script: &Script,
     events: &[Event],
@@ -117,7 +116,7 @@ pub(crate) fn instr_step(
         None | Some(Instr::Exit) => Ok(What::Exit),
         Some(Instr::Poke { addr, bytes }) => Ok(What::Poke {
             addr: *addr,
-            bytes: copy_text(alloc, bytes.items())?,
+            bytes: bytes.copied(alloc)?,
         }),
         Some(Instr::Fill { addr, len, byte }) => fill(alloc, *addr, *len, *byte),
         Some(Instr::Call { nr, args }) => Ok(What::Enter {
@@ -133,5 +132,91 @@ pub(crate) fn instr_step(
             mode: *mode,
         }),
         Some(Instr::Wait) => wait(alloc, events, name),
+    }
+}
+
+/// The installation of the oldest request of a call that has none yet; no step where there is no such request.
+fn install(script: &Script, events: &[Event], files: &Files, call: usize) -> What
+    requires { StandsFor script.now (reverse events.now) files.now }
+    ensures { result ≡ install_step (system_of script.now) (reverse events.now) call (queue (reverse events.now) call) }
+{
+    match first_in_queue(events, call) {
+        None => What::Skip,
+        Some(request) => What::Install {
+            answer: slot_for(script, events, files, call, request),
+        },
+    }
+}
+
+/// The step of a task that waits in a listed call: its return, the delivery of a signal, an installation, or none.
+fn in_call(script: &Script, events: &[Event], files: &Files, name: &[u32], call: usize) -> What
+    requires { StandsFor script.now (reverse events.now) files.now }
+    ensures { result ≡ living_step (system_of script.now) (reverse events.now) name.now (Some call) }
+{
+    if settled(events, call) {
+        return What::Resume {
+            back: reply(events, call),
+        };
+    }
+    if let Some(sig) = next_signal(script.killable, events, name) {
+        return What::Deliver {
+            sig,
+            effect: effect_in_call(sig, mode(events, name, sig)),
+        };
+    }
+    install(script, events, files, call)
+}
+
+/// The step of a task that waits in no call: the native call that it owes, the delivery of a signal, or its next instruction.
+fn outside(
+    alloc: Global,
+    script: &Script,
+    events: &[Event],
+    files: &Files,
+    name: &[u32],
+) -> Result<What, NoMemory>
+    requires stands { StandsFor script.now (reverse events.now) files.now }
+    requires pids { script.now.pidbase + script.now.pidmax < 2 ^ 32 }
+    ensures { IfOk result (λ w. w ≡ living_step (system_of script.now) (reverse events.now) name.now None) }
+{
+    if owes_native(events, name) {
+        return Ok(What::Native {
+            answer: native_answer(alloc, script, events, files, name)?,
+        });
+    }
+    if let Some(sig) = next_signal(script.killable, events, name) {
+        return Ok(What::Deliver {
+            sig,
+            effect: effect_outside(sig, mode(events, name, sig)),
+        });
+    }
+    instr_step(
+        alloc,
+        script,
+        events,
+        name,
+        next_instr(script, events, name),
+    )
+}
+
+/// The step of the task of this name: none where it was never made or has ended.
+#[tactic(auto, unfolding(hist_model::specs::Steps::task_step))]
+pub fn task_step(
+    alloc: Global,
+    script: &Script,
+    events: &[Event],
+    files: &Files,
+    name: &[u32],
+) -> Result<What, NoMemory>
+    requires stands { StandsFor script.now (reverse events.now) files.now }
+    requires pids { script.now.pidbase + script.now.pidmax < 2 ^ 32 }
+    ensures { IfOk result (λ w. w ≡ task_step (system_of script.now) (reverse events.now) name.now) }
+{
+    if !alive(events, name) {
+        return Ok(What::Skip);
+    }
+    match call_of(events, name) {
+        Some(call) => Ok(in_call(script, events, files, name, call)),
+        None => outside(alloc, script, events, files, name),
     }
 }

@@ -1,21 +1,14 @@
 -- What a machine that plays a schedule keeps of the history so far.
-use Rattle.std.specs.Prelude.{◌≡◌, ℕ, ◌+◌, ◌<◌, ◌≤◌, ◌^◌, List, length, slice_get, Some, All}
-use Rattle.hist_model.specs.Sessions.{session}
+use Rattle.std.specs.Prelude.{◌≡◌, ℕ, ◌+◌, ◌<◌, ◌≤◌, ◌^◌, List, length, All}
 use Rattle.hist_model.specs.declared.event.Event.{Event}
 use Rattle.hist_model.specs.declared.event.Actor.{Actor}
 use Rattle.hist_model.specs.declared.event.Actor.TheVariants.{Worker as WorkerActor}
 use Rattle.hist_model.specs.declared.policy.Policy.{Policy}
-use Rattle.hist_model.specs.declared.script.Figures.{Figures}
 use Rattle.hist_model.specs.declared.script.Script.{Script}
 use Rattle.hist_model.specs.declared.script.Step.{Step}
-use Rattle.broker_core.specs.Remembered.{Remembers}
-use Rattle.broker_core.specs.declared.worker.Worker.{Worker}
 use Rattle.plain_files.specs.Kept.{StandsFor}
+use Rattle.plain_play.specs.Workers.{AllRemember}
 use Rattle.plain_play.specs.declared.machine.Machine.{Machine}
-
--- each worker remembers its session, and knows the container's figures
-abbrev pub AllRemember : Policy → Figures → List Event → List Worker → Type 0
-AllRemember P F K workers = (w : ℕ) (x : Worker) → slice_get workers w ≡ Some x → Remembers P (session K w) x × (x.figures ≡ F)
 
 -- the machine has played this history
 pub record IsAt (P : Policy) (S : Script) (K : List Event) (m : Machine) : Type 0 where
