@@ -1,6 +1,6 @@
 //! The files after one more event.
 
-ghost use Rattle.std.specs.Prelude.{◌≡◌, ◌∷◌, ℕ, List, Option, OnOk, Ok, reverse};
+ghost use Rattle.std.specs.Prelude.{◌≡◌, ◌∷◌, ℕ, List, Option, IfOk, OnOk, Ok, reverse};
 ghost use Rattle.hist_model.specs.Trees.{ordinal_of};
 ghost use Rattle.hist_model.specs.Effects.{perform};
 ghost use Rattle.hist_model.specs.Natives.{root, NativeStep};
@@ -24,6 +24,7 @@ use look_back::calls::{call_of, first_in_queue};
 use look_back::tasks::{holder, opened, task_name};
 use path_walk::effects::perform;
 use path_walk::resolution::Walk;
+use std::alloc::Global;
 use sys_abi::errno::Errno;
 use sys_abi::memory::{NoMemory, OrNoMemory};
 use sys_abi::wire::Addfd;
@@ -273,5 +274,17 @@ impl Files {
         ensures { OnOk result (StandsFor script.now (event.now ∷ reverse events.now) self.new) }
     {
         self.advance(script, events, event)
+    }
+
+    /// The files after these events, the oldest first.
+    #[tactic(auto, using(hist_model::proofs::Scans::past_more))]
+    pub fn replayed(alloc: Global, script: &Script, events: &[Event]) -> Result<Files, NoMemory>
+        ensures { IfOk result (λ f. StandsFor script.now (reverse events.now) f) }
+    {
+        let mut files = Files::stated(alloc, script)?;
+        for (place, event) in events.iter().enumerate() {
+            files.after(script, &events[..place], event)?;
+        }
+        Ok(files)
     }
 }

@@ -13,7 +13,7 @@ mod changes;
 pub mod copies;
 pub mod files;
 pub mod installs;
-pub mod logs;
+mod logs;
 pub mod memory;
 pub mod natives;
 pub mod outcomes;
