@@ -35,3 +35,4 @@ pub mod Mediation
 pub mod Framed
 pub mod Finishes
 pub mod Audited
+pub mod Refusals
