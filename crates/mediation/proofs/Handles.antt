@@ -7,6 +7,7 @@ use Rattle.hist_model.specs.Tasks.{holder}
 use Rattle.hist_model.specs.Calls.{listed, waiting, caller, named, unlists}
 use Rattle.hist_model.specs.Sessions.{Rules, Fetch, Open, OpenB, Ask, session, notif_of, any_of, is_letgo, opens, opens_base, checks}
 use Rattle.hist_model.specs.Systems.{System}
+use Rattle.hist_model.specs.Orders.{is_good_check}
 use Rattle.hist_model.specs.Steps.{IsStep, IsLegal, session_call, call_after, mem, mem_after, base, base_after, opened, group, task_place, check_answer}
 use Rattle.hist_model.specs.declared.event.Event.{Event}
 use Rattle.hist_model.specs.declared.event.Actor.{Actor}
@@ -23,24 +24,19 @@ use Rattle.mediation.proofs.Holders.{living-holder}
 use Rattle.mediation.proofs.Names.{names-own}
 use Rattle.mediation.proofs.Work.{InSession, Hand, by, hand, worker-row, works, works-keep, at-work, in-hand, session-same, session-more, grown, started, call-same, call-more, mem-same, mem-more, base-same, base-more}
 
--- the check was good
-abbrev pub passes : What → Bool
-passes (Check x (Ok u)) = true
-passes _ = false
-
-pub passes-checks : (own : List What) → any_of passes own ≡ true → any_of checks own ≡ true
-passes-checks [] h = cc
-passes-checks (a ∷ own) h = elim (or_cases (passes a) (any_of passes own) h) [
+pub good-checks : (own : List What) → any_of is_good_check own ≡ true → any_of checks own ≡ true
+good-checks [] h = cc
+good-checks (a ∷ own) h = elim (or_cases (is_good_check a) (any_of is_good_check own) h) [
   | inl q ↦ or_left (checks a) (any_of checks own) (one a q)
-  | inr q ↦ or_right (checks a) (any_of checks own) (passes-checks own q)
+  | inr q ↦ or_right (checks a) (any_of checks own) (good-checks own q)
 ]
   where
-    one : (a : What) → passes a ≡ true → checks a ≡ true
+    one : (a : What) → is_good_check a ≡ true → checks a ≡ true
     one (Check x (Ok u)) h = refl
     one a h = cc
 
 abbrev pub Steadily : List Event → ℕ → ℕ → Option ℕ → Type 0
-Steadily K w c m = (t g : ℕ) → task_place K (caller K c) ≡ Some t → (listed K c ≡ true) ⊎ (any_of passes (session K w) ≡ true) → m ≡ Some g → g ≡ group K t
+Steadily K w c m = (t g : ℕ) → task_place K (caller K c) ≡ Some t → (listed K c ≡ true) ⊎ (any_of is_good_check (session K w) ≡ true) → m ≡ Some g → g ≡ group K t
 
 pub record Steady (R : Rules) (K : List Event) (w c : ℕ) : Type 0 where
   pub opens_first : any_of checks (session K w) ≡ true → any_of opens (session K w) ≡ true
@@ -63,14 +59,14 @@ listed-was e K c l h = (and_parts (listed K c) (not (unlists e (caller K c))) (r
 
 -- the same task and group, one event later
 steadily-later : (e : Event) (K : List Event) (w c t' : ℕ) (m : Option ℕ) → c < length K → task_place K (caller K c) ≡ Some t'
-    → ((g : ℕ) → (listed K c ≡ true) ⊎ (any_of passes (session (e ∷ K) w) ≡ true) → m ≡ Some g → g ≡ group K t')
+    → ((g : ℕ) → (listed K c ≡ true) ⊎ (any_of is_good_check (session (e ∷ K) w) ≡ true) → m ≡ Some g → g ≡ group K t')
     → Steadily (e ∷ K) w c m
 steadily-later e K w c t' m l p h t g q s k =
     let p' : task_place (e ∷ K) (caller K c) ≡ Some t' = place-stays e K (caller K c) t' p in
     let q' : task_place (e ∷ K) (caller K c) ≡ Some t = rw event_at-older at q in
     let same : t ≡ t' = some-same t t' (sym q' ∙ p') in
     let below : t' < length K = (place-is K (caller K c) t' p).2 in
-    let s' : (listed K c ≡ true) ⊎ (any_of passes (session (e ∷ K) w) ≡ true) = elim s [ inl x ↦ inl (listed-was e K c l x) | inr x ↦ inr x ] in
+    let s' : (listed K c ≡ true) ⊎ (any_of is_good_check (session (e ∷ K) w) ≡ true) = elim s [ inl x ↦ inl (listed-was e K c l x) | inr x ↦ inr x ] in
     rw (same, group-older e K t' below) (h g s' k)
 
 -- another's step
@@ -90,8 +86,8 @@ module _ (S : System) (R : Rules) (K : List Event) (a : Actor) (w c : ℕ) (lega
   pub record Owes (what : What) : Type 0 where
     pub opens_before : checks what ≡ true → any_of opens (session K w) ≡ true
     pub base_before : (n : Notif) → notif_of (session K w) ≡ Some n → checks what ≡ true → (R.dirfd n ≡ None) ⊎ (any_of opens_base (session K w) ≡ true)
-    pub mem_then : (g : ℕ) → (listed K c ≡ true) ⊎ (any_of passes (what ∷ session K w) ≡ true) → mem_after K what (mem K w) ≡ Some g → g ≡ group K i.t
-    pub base_then : (g : ℕ) → (listed K c ≡ true) ⊎ (any_of passes (what ∷ session K w) ≡ true) → base_after K what (base K w) ≡ Some g → g ≡ group K i.t
+    pub mem_then : (g : ℕ) → (listed K c ≡ true) ⊎ (any_of is_good_check (what ∷ session K w) ≡ true) → mem_after K what (mem K w) ≡ Some g → g ≡ group K i.t
+    pub base_then : (g : ℕ) → (listed K c ≡ true) ⊎ (any_of is_good_check (what ∷ session K w) ≡ true) → base_after K what (base K w) ≡ Some g → g ≡ group K i.t
 
   one-more : (p q : What → Bool) (what : What) (own : List What) → (p what ≡ true → any_of q own ≡ true) → (any_of p own ≡ true → any_of q own ≡ true) → any_of p (what ∷ own) ≡ true → any_of q (what ∷ own) ≡ true
   one-more p q what own x y h = elim (or_cases (p what) (any_of p own) h) [ inl z ↦ or_right (q what) (any_of q own) (x z) | inr z ↦ or_right (q what) (any_of q own) (y z) ]
@@ -132,7 +128,7 @@ module _ (S : System) (R : Rules) (K : List Event) (a : Actor) (w c : ℕ) (lega
       let z : p ≡ i.n.pid = q ∙ ap (λ (v : Notif). v.pid) (sym m) in
       some-same g (group K i.t) (sym h ∙ rw (z, y))
 
-  quiet : (what : What) → checks what ≡ false → passes what ≡ false → ((m : Option ℕ) → mem_after K what m ≡ m) → ((m : Option ℕ) → base_after K what m ≡ m) → Owes what
+  quiet : (what : What) → checks what ≡ false → is_good_check what ≡ false → ((m : Option ℕ) → mem_after K what m ≡ m) → ((m : Option ℕ) → base_after K what m ≡ m) → Owes what
   quiet what x p y z = record {
     opens_before = λ h. absurd (clash (checks what) x h);
     base_before = λ n q h. absurd (clash (checks what) x h);
@@ -148,7 +144,7 @@ module _ (S : System) (R : Rules) (K : List Event) (a : Actor) (w c : ℕ) (lega
         base_before = λ n q h. cc;
         mem_then = λ g l k. elim l [
           | inl x ↦ opens-own t.0 p g t.1 t.3 x k
-          | inr x ↦ absurd (clash (any_of opens (session K w)) t.2 (s.opens_first (passes-checks (session K w) x)))
+          | inr x ↦ absurd (clash (any_of opens (session K w)) t.2 (s.opens_first (good-checks (session K w) x)))
         ];
         base_then = λ g l k. s.base_is i.t g i.task_is l k;
       }
@@ -162,7 +158,7 @@ module _ (S : System) (R : Rules) (K : List Event) (a : Actor) (w c : ℕ) (lega
         mem_then = λ g l k. s.mem_is i.t g i.task_is l k;
         base_then = λ g l k. elim l [
           | inl x ↦ opens-own t.0 p g t.1 t.4 x k
-          | inr x ↦ elim (s.base_first t.0 t.1.notif_is (passes-checks (session K w) x)) [
+          | inr x ↦ elim (s.base_first t.0 t.1.notif_is (good-checks (session K w) x)) [
             | inl y ↦ absurd (none-some d (sym y ∙ t.5))
             | inr y ↦ absurd (clash (any_of opens_base (session K w)) t.3 y)
           ]
@@ -192,7 +188,7 @@ module _ (S : System) (R : Rules) (K : List Event) (a : Actor) (w c : ℕ) (lega
               no : (u : Unit {0}) → ◌≡◌ {A = Result (Unit {0}) ℕ} (Ok u) (Err 2) → ⊥
               no u h = cc
 
-  ask-owes : (x : ℕ) (y : Result (Unit {0}) ℕ) → WorkerRow S R K w (Check x y) → ((any_of passes (Check x y ∷ session K w) ≡ true) → (listed K c ≡ true) ⊎ (any_of passes (session K w) ≡ true)) → Owes (Check x y)
+  ask-owes : (x : ℕ) (y : Result (Unit {0}) ℕ) → WorkerRow S R K w (Check x y) → ((any_of is_good_check (Check x y ∷ session K w) ≡ true) → (listed K c ≡ true) ⊎ (any_of is_good_check (session K w) ≡ true)) → Owes (Check x y)
   ask-owes x y r p =
       let t = deed-is R (session K w) (Ask x) r.0 in
       record {
@@ -202,7 +198,7 @@ module _ (S : System) (R : Rules) (K : List Event) (a : Actor) (w c : ℕ) (lega
         base_then = λ g l k. s.base_is i.t g i.task_is (either l) k;
       }
     where
-      either : (listed K c ≡ true) ⊎ (any_of passes (Check x y ∷ session K w) ≡ true) → (listed K c ≡ true) ⊎ (any_of passes (session K w) ≡ true)
+      either : (listed K c ≡ true) ⊎ (any_of is_good_check (Check x y ∷ session K w) ≡ true) → (listed K c ≡ true) ⊎ (any_of is_good_check (session K w) ≡ true)
       either (inl l) = inl l
       either (inr l) = p l
 

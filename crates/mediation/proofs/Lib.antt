@@ -36,3 +36,4 @@ pub mod Framed
 pub mod Finishes
 pub mod Audited
 pub mod Refusals
+pub mod Sessions

@@ -7,6 +7,7 @@ use Rattle.hist_model.specs.Tasks.{holder}
 use Rattle.hist_model.specs.Calls.{listed, caller}
 use Rattle.hist_model.specs.Sessions.{Rules, session, skips, any_of, gives_up, opens, checks}
 use Rattle.hist_model.specs.Systems.{System}
+use Rattle.hist_model.specs.Orders.{is_good_check}
 use Rattle.hist_model.specs.Steps.{IsStep, IsLegal, session_call, mem, mem_after, opened, group, lives, task_place, oldest_unfetched}
 use Rattle.hist_model.specs.declared.event.Event.{Event}
 use Rattle.hist_model.specs.declared.event.Actor.{Actor}
@@ -15,20 +16,20 @@ use Rattle.hist_model.specs.declared.event.What.TheVariants.{Recv, OpenMem, Open
 use Rattle.sys_abi.specs.declared.wire.Notif.{Notif}
 use Rattle.mediation.proofs.Rows.{WorkerRow}
 use Rattle.mediation.proofs.Work.{InSession, Idle, by, works, session-more, started, mem-same, mem-more}
-use Rattle.mediation.proofs.Handles.{passes, Steady, steady}
+use Rattle.mediation.proofs.Handles.{Steady, steady}
 use Rattle.mediation.proofs.Sittings.{Kept, by-session, in-hand-of}
 
 -- a check that did not end the session was good
-pub good-check : (own : List What) → any_of checks own ≡ true → any_of gives_up own ≡ false → any_of passes own ≡ true
+pub good-check : (own : List What) → any_of checks own ≡ true → any_of gives_up own ≡ false → any_of is_good_check own ≡ true
 good-check [] h g = cc
 good-check (a ∷ own) h g =
     let p = or_parts (gives_up a) (any_of gives_up own) g in
     elim (or_cases (checks a) (any_of checks own) h) [
-      | inl q ↦ or_left (passes a) (any_of passes own) (one a q p.0)
-      | inr q ↦ or_right (passes a) (any_of passes own) (good-check own q p.1)
+      | inl q ↦ or_left (is_good_check a) (any_of is_good_check own) (one a q p.0)
+      | inr q ↦ or_right (is_good_check a) (any_of is_good_check own) (good-check own q p.1)
     ]
   where
-    one : (a : What) → checks a ≡ true → gives_up a ≡ false → passes a ≡ true
+    one : (a : What) → checks a ≡ true → gives_up a ≡ false → is_good_check a ≡ true
     one (Check x (Ok u)) h g = refl
     one (Check x (Err y)) h g = cc
     one a h g = cc

@@ -74,7 +74,7 @@ few-good own m = let k = good-least own in omega arith
 
 module _ (S : System) (R : Rules) where
   -- a listed call whose session has not asked for a descriptor, and has not given up, waits
-  waits-now : (K : List Event) (w c : ℕ) → IsLegal S R K → length K < 2 ^ 64 → session_call K w ≡ Some c → listed K c ≡ true → any_of gives_up (session K w) ≡ false → first_some put_in (session K w) ≡ None → waiting K c ≡ true
+  pub waits-now : (K : List Event) (w c : ℕ) → IsLegal S R K → length K < 2 ^ 64 → session_call K w ≡ Some c → listed K c ≡ true → any_of gives_up (session K w) ≡ false → first_some put_in (session K w) ≡ None → waiting K c ≡ true
   waits-now K w c legal room s l g p =
       let i = in-hand-of S R K w c legal s in
       let k = (at-call S R K w c legal room s l).stage g in

@@ -14,7 +14,7 @@ ghost use Rattle.hist_model.specs.declared.policy.Policy.{Policy};
 ghost use Rattle.hist_model.specs.declared.script.Script.{Script};
 ghost use Rattle.hist_model.specs.Mediated.{Mediated, Each, TakenByItsActor, NamesOwn, NeverBusy, ErrorsKnown, LostIfGone, HasCause};
 ghost use Rattle.mediation.specs.Journals.{actors, IsLegalByPlace};
-ghost use Rattle.mediation.specs.Facts.{CallIdsDiffer, StaysFinished};
+ghost use Rattle.mediation.specs.Facts.{CallIdsDiffer, NamesDiffer, HandlesOwn, SessionsSettle, StaysFinished};
 ghost use Rattle.mediation.specs.Frames.{Frame};
 
 /// Every legal history is mediated: each notification is answered at most once; each reply or descriptor reaches the
@@ -121,5 +121,23 @@ pub fn stays_finished()
 /// Which kinds of event can change which definitions: each other kind leaves them as they are.
 pub fn frame()
     ensures { (K : List Event) (e : Event) → Frame K e }
+{
+}
+
+/// Two tasks have different names.
+pub fn names_differ()
+    ensures { (S : System) (R : Rules) (K : List Event) → IsLegal S R K → NamesDiffer K }
+{
+}
+
+/// While a session's call is listed, and once a check of it was good, what the session has opened is its call's task's.
+pub fn handles_own()
+    ensures { (S : System) (R : Rules) (K : List Event) → IsLegal S R K → length K < 2 ^ 64 → HandlesOwn K }
+{
+}
+
+/// A listed call whose session has ended is settled, and one whose session goes on, and has asked for no descriptor, waits.
+pub fn sessions_settle()
+    ensures { (S : System) (R : Rules) (K : List Event) → IsLegal S R K → length K < 2 ^ 64 → SessionsSettle K }
 {
 }
