@@ -33,7 +33,7 @@ use Rattle.hist_model.proofs.Look.{event_at-here, event_at-older, event_at-below
 use Rattle.mediation.proofs.Before.{before-all, before-older, before-newest, length-before, legal-before}
 use Rattle.mediation.proofs.Rows.{WorkerRow}
 use Rattle.mediation.proofs.Deeds.{AtWork, deed-is}
-use Rattle.mediation.proofs.Work.{InSession, Idle, by, hand, in-hand, works, works-keep, at-work, worker-row, session-same, session-more, started, grown}
+use Rattle.mediation.proofs.Work.{InSession, Idle, hand, in-hand, works, works-keep, at-work, worker-row, session-same, session-more, started, grown}
 use Rattle.mediation.proofs.Sequence.{IsOwn, is-own, is_effect, effect-fixed}
 use Rattle.mediation.proofs.Ordered.{ordered, used-two}
 use Rattle.mediation.proofs.Sittings.{Kept, by-session, in-hand-of}
@@ -78,7 +78,7 @@ pub record Began (K : List Event) (w : ℕ) : Type 0 where
   pub notif_is : notif_of (session K w) ≡ Some n
   pub same : session_at w place K ≡ session K w
 
-worker-event : (a : Actor) (w : ℕ) (what : What) → is_worker a w ≡ true → by a what ≡ ev (Worker w) what
+worker-event : (a : Actor) (w : ℕ) (what : What) → is_worker a w ≡ true → ev a what ≡ ev (Worker w) what
 worker-event (Worker v) w what h = rw (eqb v w h)
   where
     eqb : (v w : ℕ) → (v == w) ≡ true → v ≡ w
@@ -91,26 +91,26 @@ module _ (S : System) (R : Rules) where
   abbrev BeganOf : List Event → ℕ → ℕ → Type 0
   BeganOf K w c = Began K w
 
-  fetch-began : (K : List Event) (a : Actor) (w c : ℕ) (n : Notif) → IsStep S R K (by a (Recv (Ok n))) → IsLegal S R K → length (by a (Recv (Ok n)) ∷ K) < 2 ^ 64 → is_worker a w ≡ true
-      → WorkerRow S R K w (Recv (Ok n)) → oldest_unfetched K ≡ Some c → Idle K w → Began (by a (Recv (Ok n)) ∷ K) w
+  fetch-began : (K : List Event) (a : Actor) (w c : ℕ) (n : Notif) → IsStep S R K (ev a (Recv (Ok n))) → IsLegal S R K → length (ev a (Recv (Ok n)) ∷ K) < 2 ^ 64 → is_worker a w ≡ true
+      → WorkerRow S R K w (Recv (Ok n)) → oldest_unfetched K ≡ Some c → Idle K w → Began (ev a (Recv (Ok n)) ∷ K) w
   fetch-began K a w c n r legal room q row o idle =
-      let e = by a (Recv (Ok n)) in
+      let e = ev a (Recv (Ok n)) in
       let own : session (e ∷ K) w ≡ Recv (Ok n) ∷ [] = session-more e K w q refl ∙ started (session K w) (Recv (Ok n)) refl in
       record { place = length K; n = n; receive = event_at-here e K ∙ ap Some (worker-event a w (Recv (Ok n)) q); notif_is = rw own; same = at-here e K w ∙ sym own }
 
-  work-began : (K : List Event) (a : Actor) (w c : ℕ) (what : What) → IsStep S R K (by a what) → IsLegal S R K → length (by a what ∷ K) < 2 ^ 64 → is_worker a w ≡ true
-      → WorkerRow S R K w what → works what ≡ true → (i : InSession K w c) → session_call K w ≡ Some c → session (by a what ∷ K) w ≡ what ∷ session K w → Began K w → Began (by a what ∷ K) w
+  work-began : (K : List Event) (a : Actor) (w c : ℕ) (what : What) → IsStep S R K (ev a what) → IsLegal S R K → length (ev a what ∷ K) < 2 ^ 64 → is_worker a w ≡ true
+      → WorkerRow S R K w what → works what ≡ true → (i : InSession K w c) → session_call K w ≡ Some c → session (ev a what ∷ K) w ≡ what ∷ session K w → Began K w → Began (ev a what ∷ K) w
   work-began K a w c what r legal room q row v i s own b =
-      let e = by a what in
+      let e = ev a what in
       let l = event_at-below K b.place _ b.receive in
       let k = works-keep K what v in
-      let open' : joined (session K w) what ≡ what ∷ session K w = joined-open (session K w) what i.n i.notif_is i.no_letgo in
+      let joins : joined (session K w) what ≡ what ∷ session K w = joined-open (session K w) what i.n i.notif_is i.no_letgo in
       record {
         place = b.place;
         n = b.n;
         receive = rw event_at-older b.receive;
         notif_is = rw (own, k.no_notif) b.notif_is;
-        same = at-more e K w b.place l q k.no_skip ∙ (ap (λ x. joined x what) b.same ∙ (open' ∙ sym own));
+        same = at-more e K w b.place l q k.no_skip ∙ (ap (λ x. joined x what) b.same ∙ (joins ∙ sym own));
       }
 
   still-began : (K : List Event) (e : Event) (w c : ℕ) → IsStep S R K e → IsLegal S R K → length (e ∷ K) < 2 ^ 64 → (is_worker e.who w && not (skips e.what)) ≡ false
@@ -297,14 +297,14 @@ audit-names S P F H legal room s w x b a n texts h m c =
     let l = event_at-below H t.place _ t.receive in
     let z : length (before H t.place) ≡ t.place = before-length H t.place (omega arith) in
     let r = names-rule P n x b a (session (before H s) w) texts t.work.no_end t.two c in
-    (t.place, rw q at t.receive, go (length (before H t.place)) z r t.ends, λ e. grants (session (before H s) w) (is-own S R' (before H s) (legal-before S R' H s legal) w) m c e)
+    (t.place, rw q at t.receive, go (length (before H t.place)) z r t.ends, λ e. grants (session (before H s) w) (is-own S Q (before H s) (legal-before S Q H s legal) w) m c e)
   where
-    R' : Rules
-    R' = rules_of P F
+    Q : Rules
+    Q = rules_of P F
 
-    grants : (own : List What) → IsOwn R' own → notif_of own ≡ Some n → copied n (reads_of own) ≡ Complete texts → list_any is_spent own ≡ true → (decide P.rules (request n.call.nr n.call.args texts)).1 ≡ Grant
+    grants : (own : List What) → IsOwn Q own → notif_of own ≡ Some n → copied n (reads_of own) ≡ Complete texts → list_any is_spent own ≡ true → (decide P.rules (request n.call.nr n.call.args texts)).1 ≡ Grant
     grants own i h k e =
-        let f = effect-fixed R' own n i h (spent-effect own e) in
+        let f = effect-fixed Q own n i h (spent-effect own e) in
         acting-grants P F (request n.call.nr n.call.args texts) _ _ (rw k at f.decided)
 
     same : (x y : Notif) → Some x ≡ Some y → x ≡ y

@@ -28,7 +28,7 @@ use Rattle.hist_model.proofs.Look.{event_at-here, event_at-older, event_at-below
 use Rattle.mediation.proofs.Before.{before-older, before-newest}
 use Rattle.mediation.proofs.Rows.{WorkerRow}
 use Rattle.mediation.proofs.Deeds.{deed-is}
-use Rattle.mediation.proofs.Work.{InSession, Idle, by, works, works-keep, worker-row, session-more, started, base-same, base-more, call-same}
+use Rattle.mediation.proofs.Work.{InSession, Idle, works, works-keep, worker-row, session-more, started, base-same, base-more, call-same}
 use Rattle.mediation.proofs.Handles.{Steady, steady}
 use Rattle.mediation.proofs.Opened.{good-check}
 use Rattle.mediation.proofs.Sittings.{Kept, by-session, in-hand-of}
@@ -100,14 +100,14 @@ unfolding files_base files
 files-same S e K w h = after-base S K (files S K) e.who e.what w h
 
 -- a worker's own steps
-files-opens : (S : Script) (K : List Event) (a : Actor) (w p : ℕ) (d : ℤ) (u : Unit {0}) → is_worker a w ≡ true → files_base S (by a (OpenBase p d (Ok u)) ∷ K) w ≡ base_of S (files S K) (place_or (opened K (holder K p))) d
+files-opens : (S : Script) (K : List Event) (a : Actor) (w p : ℕ) (d : ℤ) (u : Unit {0}) → is_worker a w ≡ true → files_base S (ev a (OpenBase p d (Ok u)) ∷ K) w ≡ base_of S (files S K) (place_or (opened K (holder K p))) d
 unfolding files_base files
 files-opens S K (Worker v) w p d u h = let q = eqb-true v w h in rw (q, eq-eqb w w refl)
 files-opens S K Start w p d u h = cc
 files-opens S K (Task n) w p d u h = cc
 files-opens S K Listener w p d u h = cc
 
-files-drops : (S : Script) (K : List Event) (a : Actor) (w : ℕ) → is_worker a w ≡ true → files_base S (by a LetGo ∷ K) w ≡ None
+files-drops : (S : Script) (K : List Event) (a : Actor) (w : ℕ) → is_worker a w ≡ true → files_base S (ev a LetGo ∷ K) w ≡ None
 unfolding files_base files
 files-drops S K (Worker v) w h = let q = eqb-true v w h in rw (q, eq-eqb w w refl)
 files-drops S K Start w h = cc
@@ -137,7 +137,7 @@ opening-found S K (Some t) d u h = (t, refl)
 
 -- a worker without a base's group has no base
 module _ (S : Script) (R : Rules) where
-  none-mine : (K : List Event) (a : Actor) (w : ℕ) (what : What) → is_worker a w ≡ true → WorkerRow (system_of S) R K w what → moves what ≡ true → base_after K what (base K w) ≡ None → files_base S (by a what ∷ K) w ≡ None
+  none-mine : (K : List Event) (a : Actor) (w : ℕ) (what : What) → is_worker a w ≡ true → WorkerRow (system_of S) R K w what → moves what ≡ true → base_after K what (base K w) ≡ None → files_base S (ev a what ∷ K) w ≡ None
   none-mine K a w (OpenBase p d (Ok u)) q row m h =
       let f = opening-found (system_of S) K (holder K p) d u row.1 in
       absurd (no (holder K p) f.0 f.1 h)
@@ -192,18 +192,18 @@ module _ (S : Script) (R : Rules) where
         is_base = rw b (files-same S e K w q ∙ f.is_base);
       }
 
-  fetch-found : (K : List Event) (a : Actor) (w c : ℕ) (n : Notif) → IsStep (system_of S) R K (by a (Recv (Ok n))) → IsLegal (system_of S) R K → length (by a (Recv (Ok n)) ∷ K) < 2 ^ 64 → is_worker a w ≡ true
-      → WorkerRow (system_of S) R K w (Recv (Ok n)) → oldest_unfetched K ≡ Some c → Idle K w → HasFound (by a (Recv (Ok n)) ∷ K) w c
-  fetch-found K a w c n r legal room q row o idle g h = absurd (no g (sym (base-more (by a (Recv (Ok n))) K w q ∙ idle.base_none) ∙ h))
+  fetch-found : (K : List Event) (a : Actor) (w c : ℕ) (n : Notif) → IsStep (system_of S) R K (ev a (Recv (Ok n))) → IsLegal (system_of S) R K → length (ev a (Recv (Ok n)) ∷ K) < 2 ^ 64 → is_worker a w ≡ true
+      → WorkerRow (system_of S) R K w (Recv (Ok n)) → oldest_unfetched K ≡ Some c → Idle K w → HasFound (ev a (Recv (Ok n)) ∷ K) w c
+  fetch-found K a w c n r legal room q row o idle g h = absurd (no g (sym (base-more (ev a (Recv (Ok n))) K w q ∙ idle.base_none) ∙ h))
     where
       no : (g : ℕ) → None ≡ Some g → ⊥
       no g h = cc
 
   -- the opening of a base
   opens-found : (K : List Event) (a : Actor) (w c p : ℕ) (d : ℤ) (u : Unit {0}) → is_worker a w ≡ true → WorkerRow (system_of S) R K w (OpenBase p d (Ok u)) → session_call K w ≡ Some c
-      → session (by a (OpenBase p d (Ok u)) ∷ K) w ≡ OpenBase p d (Ok u) ∷ session K w → HasFound (by a (OpenBase p d (Ok u)) ∷ K) w c
+      → session (ev a (OpenBase p d (Ok u)) ∷ K) w ≡ OpenBase p d (Ok u) ∷ session K w → HasFound (ev a (OpenBase p d (Ok u)) ∷ K) w c
   opens-found K a w c p d u q row s own g h =
-      let e = by a (OpenBase p d (Ok u)) in
+      let e = ev a (OpenBase p d (Ok u)) in
       let t = deed-is R (session K w) _ row.0 in
       let f = opening-found (system_of S) K (holder K p) d u row.1 in
       let o : opened K (holder K p) ≡ Some g = sym (base-more e K w q) ∙ h in
@@ -218,16 +218,16 @@ module _ (S : Script) (R : Rules) where
         is_base = rw (before-newest e K) (files-opens S K a w p d u q ∙ ap (λ (x : Option ℕ). base_of S (files S K) (place_or x) d) o);
       }
     where
-      same-event : (a : Actor) (w p r : ℕ) (d : ℤ) (u : Unit {0}) → is_worker a w ≡ true → p ≡ r → by a (OpenBase p d (Ok u)) ≡ ev (Worker w) (OpenBase r d (Ok tt))
+      same-event : (a : Actor) (w p r : ℕ) (d : ℤ) (u : Unit {0}) → is_worker a w ≡ true → p ≡ r → ev a (OpenBase p d (Ok u)) ≡ ev (Worker w) (OpenBase r d (Ok tt))
       same-event (Worker v) w p r d u h k = rw (eqb-true v w h, k)
       same-event Start w p r d u h k = cc
       same-event (Task n) w p r d u h k = cc
       same-event Listener w p r d u h k = cc
 
   -- a step of a session that moves no base
-  other-found : (K : List Event) (a : Actor) (w c : ℕ) (what : What) → works what ≡ true → moves what ≡ false → session (by a what ∷ K) w ≡ what ∷ session K w → HasFound K w c → is_worker a w ≡ true → HasFound (by a what ∷ K) w c
+  other-found : (K : List Event) (a : Actor) (w c : ℕ) (what : What) → works what ≡ true → moves what ≡ false → session (ev a what ∷ K) w ≡ what ∷ session K w → HasFound K w c → is_worker a w ≡ true → HasFound (ev a what ∷ K) w c
   other-found K a w c what v m own ih q g h =
-      let e = by a what in
+      let e = ev a what in
       let k = works-keep K what v in
       let still = moved (is_worker a w) (moves what) m in
       found-later e K w c g still (rw (own, k.no_notif)) (ih g (sym (base-stays e K w still) ∙ h))
@@ -235,8 +235,8 @@ module _ (S : Script) (R : Rules) where
       moved : (a b : Bool) → b ≡ false → (a && b) ≡ false
       moved a b h = grind arith
 
-  work-found : (K : List Event) (a : Actor) (w c : ℕ) (what : What) → IsStep (system_of S) R K (by a what) → IsLegal (system_of S) R K → length (by a what ∷ K) < 2 ^ 64 → is_worker a w ≡ true
-      → WorkerRow (system_of S) R K w what → works what ≡ true → (i : InSession K w c) → session_call K w ≡ Some c → session (by a what ∷ K) w ≡ what ∷ session K w → HasFound K w c → HasFound (by a what ∷ K) w c
+  work-found : (K : List Event) (a : Actor) (w c : ℕ) (what : What) → IsStep (system_of S) R K (ev a what) → IsLegal (system_of S) R K → length (ev a what ∷ K) < 2 ^ 64 → is_worker a w ≡ true
+      → WorkerRow (system_of S) R K w what → works what ≡ true → (i : InSession K w c) → session_call K w ≡ Some c → session (ev a what ∷ K) w ≡ what ∷ session K w → HasFound K w c → HasFound (ev a what ∷ K) w c
   work-found K a w c (OpenBase p d (Ok u)) r legal room q row v i s own ih = opens-found K a w c p d u q row s own
   work-found K a w c (OpenBase p d (Err x)) r legal room q row v i s own ih = other-found K a w c (OpenBase p d (Err x)) refl refl own ih q
   work-found K a w c (OpenMem p x) r legal room q row v i s own ih = other-found K a w c (OpenMem p x) refl refl own ih q

@@ -2,7 +2,7 @@
 use Rattle.std.proofs.Common.{◌≡◌, ◌⊎◌, inl, inr, ℕ, ◌<◌, ◌^◌, Bool, true, false, not, List, [], ◌∷◌, length, Option, Some, None, refl, sym, ap, ◌∙◌, arith}
 use Rattle.std.specs.Prelude.{if◌then◌else◌, Result, Ok, Err, ℤ}
 use Rattle.std.proofs.lemmas.Bool.{cases_Bool, and_parts, or_cases, or_left, or_right}
-use Rattle.hist_model.specs.Look.{is_worker}
+use Rattle.hist_model.specs.Look.{ev, is_worker}
 use Rattle.hist_model.specs.Tasks.{holder}
 use Rattle.hist_model.specs.Calls.{listed, waiting, caller, named, unlists}
 use Rattle.hist_model.specs.Sessions.{Rules, Fetch, Open, OpenB, Ask, session, notif_of, any_of, is_letgo, opens, opens_base, checks}
@@ -22,7 +22,7 @@ use Rattle.mediation.proofs.Deeds.{AtWork, deed-is}
 use Rattle.mediation.proofs.Places.{place-stays, place-is, group-older}
 use Rattle.mediation.proofs.Holders.{living-holder}
 use Rattle.mediation.proofs.Names.{names-own}
-use Rattle.mediation.proofs.Work.{InSession, Hand, by, hand, worker-row, works, works-keep, at-work, in-hand, session-same, session-more, grown, started, call-same, call-more, mem-same, mem-more, base-same, base-more}
+use Rattle.mediation.proofs.Work.{InSession, Hand, hand, worker-row, works, works-keep, at-work, in-hand, session-same, session-more, grown, started, call-same, call-more, mem-same, mem-more, base-same, base-more}
 
 pub good-checks : (own : List What) → any_of is_good_check own ≡ true → any_of checks own ≡ true
 good-checks [] h = cc
@@ -81,7 +81,7 @@ steady-other R e K w c h i s =
       base_is = rw (base-same e K w h) (steadily-later e K w c i.t (base K w) l i.task_is (rw q (λ g x k. s.base_is i.t g i.task_is x k)));
     }
 
-module _ (S : System) (R : Rules) (K : List Event) (a : Actor) (w c : ℕ) (legal : IsLegal S R K) (room : length K < 2 ^ 64) (mine' : is_worker a w ≡ true) (i : InSession K w c) (s : Steady R K w c) where
+module _ (S : System) (R : Rules) (K : List Event) (a : Actor) (w c : ℕ) (legal : IsLegal S R K) (room : length K < 2 ^ 64) (is_mine : is_worker a w ≡ true) (i : InSession K w c) (s : Steady R K w c) where
   -- what one more step of the session owes
   pub record Owes (what : What) : Type 0 where
     pub opens_before : checks what ≡ true → any_of opens (session K w) ≡ true
@@ -92,21 +92,21 @@ module _ (S : System) (R : Rules) (K : List Event) (a : Actor) (w c : ℕ) (lega
   one-more : (p q : What → Bool) (what : What) (own : List What) → (p what ≡ true → any_of q own ≡ true) → (any_of p own ≡ true → any_of q own ≡ true) → any_of p (what ∷ own) ≡ true → any_of q (what ∷ own) ≡ true
   one-more p q what own x y h = elim (or_cases (p what) (any_of p own) h) [ inl z ↦ or_right (q what) (any_of q own) (x z) | inr z ↦ or_right (q what) (any_of q own) (y z) ]
 
-  steady-more : (what : What) → works what ≡ true → Owes what → Steady R (by a what ∷ K) w c
+  steady-more : (what : What) → works what ≡ true → Owes what → Steady R (ev a what ∷ K) w c
   steady-more what h o =
-      let e = by a what in
+      let e = ev a what in
       let k = works-keep K what h in
       let l = is_call-below K c i.call in
       let own = session K w in
-      let q : session (e ∷ K) w ≡ what ∷ own = session-more e K w mine' k.no_skip ∙ grown own what i.n i.notif_is k.no_start in
+      let q : session (e ∷ K) w ≡ what ∷ own = session-more e K w is_mine k.no_skip ∙ grown own what i.n i.notif_is k.no_start in
       record {
         opens_first = rw q (one-more checks opens what own o.opens_before s.opens_first);
         base_first = rw (q, k.no_notif) (λ n x y. elim (or_cases (checks what) (any_of checks own) y) [
           | inl z ↦ later n (o.base_before n x z)
           | inr z ↦ later n (s.base_first n x z)
         ]);
-        mem_is = rw (mem-more e K w mine') (steadily-later e K w c i.t (mem_after K what (mem K w)) l i.task_is (rw q o.mem_then));
-        base_is = rw (base-more e K w mine') (steadily-later e K w c i.t (base_after K what (base K w)) l i.task_is (rw q o.base_then));
+        mem_is = rw (mem-more e K w is_mine) (steadily-later e K w c i.t (mem_after K what (mem K w)) l i.task_is (rw q o.mem_then));
+        base_is = rw (base-more e K w is_mine) (steadily-later e K w c i.t (base_after K what (base K w)) l i.task_is (rw q o.base_then));
       }
     where
       later : (n : Notif) → (R.dirfd n ≡ None) ⊎ (any_of opens_base (session K w) ≡ true) → (R.dirfd n ≡ None) ⊎ (any_of opens_base (what ∷ session K w) ≡ true)
@@ -218,9 +218,9 @@ module _ (S : System) (R : Rules) (K : List Event) (a : Actor) (w c : ℕ) (lega
   owes-of what r h = cc
 
 -- a new session has opened nothing
-steady-new : (S : System) (R : Rules) (K : List Event) (a : Actor) (w : ℕ) (n : Notif) → is_worker a w ≡ true → mem K w ≡ None → base K w ≡ None → (c : ℕ) → Steady R (by a (Recv (Ok n)) ∷ K) w c
+steady-new : (S : System) (R : Rules) (K : List Event) (a : Actor) (w : ℕ) (n : Notif) → is_worker a w ≡ true → mem K w ≡ None → base K w ≡ None → (c : ℕ) → Steady R (ev a (Recv (Ok n)) ∷ K) w c
 steady-new S R K a w n h x y c =
-    let e = by a (Recv (Ok n)) in
+    let e = ev a (Recv (Ok n)) in
     let q : session (e ∷ K) w ≡ Recv (Ok n) ∷ [] = session-more e K w h refl ∙ started (session K w) (Recv (Ok n)) refl in
     record {
       opens_first = rw q (λ z. cc);
@@ -230,9 +230,9 @@ steady-new S R K a w n h x y c =
     }
 
 -- a step that leaves the session as it is
-steady-skip : (R : Rules) (K : List Event) (a : Actor) (w c : ℕ) → is_worker a w ≡ true → InSession K w c → Steady R K w c → Steady R (by a Skip ∷ K) w c
+steady-skip : (R : Rules) (K : List Event) (a : Actor) (w c : ℕ) → is_worker a w ≡ true → InSession K w c → Steady R K w c → Steady R (ev a Skip ∷ K) w c
 steady-skip R K a w c h i s =
-    let e = by a Skip in
+    let e = ev a Skip in
     let q = session-same e K w (grind arith) in
     let l = is_call-below K c i.call in
     record {
@@ -242,17 +242,17 @@ steady-skip R K a w c h i s =
       base_is = rw (base-more e K w h) (steadily-later e K w c i.t (base K w) l i.task_is (rw q (λ g x k. s.base_is i.t g i.task_is x k)));
     }
 
-module _ (S : System) (R : Rules) (K : List Event) (a : Actor) (w : ℕ) (legal : IsLegal S R K) (room : length K < 2 ^ 64) (mine' : is_worker a w ≡ true) where
-  steady-works : (what : What) → WorkerRow S R K w what → works what ≡ true → Hand K w (session_call K w) → SteadyFor R K w (session_call K w) → SteadyFor R (by a what ∷ K) w (session_call (by a what ∷ K) w)
+module _ (S : System) (R : Rules) (K : List Event) (a : Actor) (w : ℕ) (legal : IsLegal S R K) (room : length K < 2 ^ 64) (is_mine : is_worker a w ≡ true) where
+  steady-works : (what : What) → WorkerRow S R K w what → works what ≡ true → Hand K w (session_call K w) → SteadyFor R K w (session_call K w) → SteadyFor R (ev a what ∷ K) w (session_call (ev a what ∷ K) w)
   steady-works what r h i s =
       let g = at-work S R K w what r h in
       let j = in-hand K w (session_call K w) g.0 g.1 i in
       let k = works-keep K what h in
-      let c : session_call (by a what ∷ K) w ≡ Some j.0 = call-more (by a what) K w mine' ∙ (k.call (session_call K w) ∙ j.1) in
-      rw c (steady-more S R K a w j.0 legal room mine' j.2 (rw j.1 at s) what h (owes-of S R K a w j.0 legal room mine' j.2 (rw j.1 at s) what r h))
+      let c : session_call (ev a what ∷ K) w ≡ Some j.0 = call-more (ev a what) K w is_mine ∙ (k.call (session_call K w) ∙ j.1) in
+      rw c (steady-more S R K a w j.0 legal room is_mine j.2 (rw j.1 at s) what h (owes-of S R K a w j.0 legal room is_mine j.2 (rw j.1 at s) what r h))
 
-  steady-fetch : (n : Notif) → WorkerRow S R K w (Recv (Ok n)) → Hand K w (session_call K w) → SteadyFor R (by a (Recv (Ok n)) ∷ K) w (session_call (by a (Recv (Ok n)) ∷ K) w)
-  steady-fetch n r i = go (session_call K w) i (session_call (by a (Recv (Ok n)) ∷ K) w)
+  steady-fetch : (n : Notif) → WorkerRow S R K w (Recv (Ok n)) → Hand K w (session_call K w) → SteadyFor R (ev a (Recv (Ok n)) ∷ K) w (session_call (ev a (Recv (Ok n)) ∷ K) w)
+  steady-fetch n r i = go (session_call K w) i (session_call (ev a (Recv (Ok n)) ∷ K) w)
     where
       t : (notif_of (session K w) ≡ None) ⊎ (any_of is_letgo (session K w) ≡ true)
       t = deed-is R (session K w) Fetch r.0
@@ -264,15 +264,15 @@ module _ (S : System) (R : Rules) (K : List Event) (a : Actor) (w : ℕ) (legal 
           one m h = cc
       no c i (inr q) = clash (any_of is_letgo (session K w)) i.no_letgo q
 
-      go : (o : Option ℕ) → Hand K w o → (o' : Option ℕ) → SteadyFor R (by a (Recv (Ok n)) ∷ K) w o'
+      go : (o : Option ℕ) → Hand K w o → (o' : Option ℕ) → SteadyFor R (ev a (Recv (Ok n)) ∷ K) w o'
       go (Some c) i o' = absurd (no c i t)
       go None i None = tt
-      go None i (Some d) = steady-new S R K a w n mine' i.mem_none i.base_none d
+      go None i (Some d) = steady-new S R K a w n is_mine i.mem_none i.base_none d
 
-  steady-idle : (what : What) → ((o : Option ℕ) → Hand K w o → SteadyFor R K w o → SteadyFor R (by a what ∷ K) w (call_after K what o)) → Hand K w (session_call K w) → SteadyFor R K w (session_call K w) → SteadyFor R (by a what ∷ K) w (session_call (by a what ∷ K) w)
-  steady-idle what f i s = rw (call-more (by a what) K w mine') (f (session_call K w) i s)
+  steady-idle : (what : What) → ((o : Option ℕ) → Hand K w o → SteadyFor R K w o → SteadyFor R (ev a what ∷ K) w (call_after K what o)) → Hand K w (session_call K w) → SteadyFor R K w (session_call K w) → SteadyFor R (ev a what ∷ K) w (session_call (ev a what ∷ K) w)
+  steady-idle what f i s = rw (call-more (ev a what) K w is_mine) (f (session_call K w) i s)
 
-  steady-empty : (x : ℕ) → WorkerRow S R K w (Recv (Err x)) → (o : Option ℕ) → Hand K w o → SteadyFor R K w o → SteadyFor R (by a (Recv (Err x)) ∷ K) w o
+  steady-empty : (x : ℕ) → WorkerRow S R K w (Recv (Err x)) → (o : Option ℕ) → Hand K w o → SteadyFor R K w o → SteadyFor R (ev a (Recv (Err x)) ∷ K) w o
   steady-empty x r None i s = tt
   steady-empty x r (Some c) i s = absurd (no i (deed-is R (session K w) Fetch r.0))
     where
@@ -283,11 +283,11 @@ module _ (S : System) (R : Rules) (K : List Event) (a : Actor) (w : ℕ) (legal 
           one m h = cc
       no i (inr q) = clash (any_of is_letgo (session K w)) i.no_letgo q
 
-  skipped : (o : Option ℕ) → Hand K w o → SteadyFor R K w o → SteadyFor R (by a Skip ∷ K) w o
+  skipped : (o : Option ℕ) → Hand K w o → SteadyFor R K w o → SteadyFor R (ev a Skip ∷ K) w o
   skipped None i s = tt
-  skipped (Some c) i s = steady-skip R K a w c mine' i s
+  skipped (Some c) i s = steady-skip R K a w c is_mine i s
 
-  steady-mine : (what : What) → WorkerRow S R K w what → Hand K w (session_call K w) → SteadyFor R K w (session_call K w) → SteadyFor R (by a what ∷ K) w (session_call (by a what ∷ K) w)
+  steady-mine : (what : What) → WorkerRow S R K w what → Hand K w (session_call K w) → SteadyFor R K w (session_call K w) → SteadyFor R (ev a what ∷ K) w (session_call (ev a what ∷ K) w)
   steady-mine (Recv (Ok n)) r i s = steady-fetch n r i
   steady-mine (Recv (Err x)) r i s = steady-idle (Recv (Err x)) (steady-empty x r) i s
   steady-mine LetGo r i s = steady-idle LetGo (λ o h z. tt) i s

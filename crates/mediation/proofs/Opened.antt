@@ -2,7 +2,7 @@
 use Rattle.std.proofs.Common.{◌≡◌, ◌⊎◌, inl, inr, ℕ, ◌<◌, ◌^◌, Bool, true, false, ◌&&◌, ◌||◌, not, List, [], ◌∷◌, length, Option, Some, None, refl, sym, ap, ◌∙◌, arith}
 use Rattle.std.specs.Prelude.{if◌then◌else◌, Result, Ok, Err}
 use Rattle.std.proofs.lemmas.Bool.{cases_Bool, or_cases, or_parts, or_left, or_right}
-use Rattle.hist_model.specs.Look.{is_worker}
+use Rattle.hist_model.specs.Look.{ev, is_worker}
 use Rattle.hist_model.specs.Tasks.{holder}
 use Rattle.hist_model.specs.Calls.{listed, caller}
 use Rattle.hist_model.specs.Sessions.{Rules, session, skips, any_of, gives_up, opens, checks}
@@ -15,7 +15,7 @@ use Rattle.hist_model.specs.declared.event.What.{What}
 use Rattle.hist_model.specs.declared.event.What.TheVariants.{Recv, OpenMem, OpenBase, Check, Read, Act, Plant, AddfdPut, AddfdTake, Send, Skip}
 use Rattle.sys_abi.specs.declared.wire.Notif.{Notif}
 use Rattle.mediation.proofs.Rows.{WorkerRow}
-use Rattle.mediation.proofs.Work.{InSession, Idle, by, works, session-more, started, mem-same, mem-more}
+use Rattle.mediation.proofs.Work.{InSession, Idle, works, session-more, started, mem-same, mem-more}
 use Rattle.mediation.proofs.Handles.{Steady, steady}
 use Rattle.mediation.proofs.Sittings.{Kept, by-session, in-hand-of}
 
@@ -47,10 +47,10 @@ skip-mem K Skip m h = refl
 skip-mem K what m h = cc
 
 module _ (S : System) (R : Rules) where
-  mem-fetch : (K : List Event) (a : Actor) (w c : ℕ) (n : Notif) → IsStep S R K (by a (Recv (Ok n))) → IsLegal S R K → length (by a (Recv (Ok n)) ∷ K) < 2 ^ 64 → is_worker a w ≡ true
-      → WorkerRow S R K w (Recv (Ok n)) → oldest_unfetched K ≡ Some c → Idle K w → HasMemory (by a (Recv (Ok n)) ∷ K) w c
+  mem-fetch : (K : List Event) (a : Actor) (w c : ℕ) (n : Notif) → IsStep S R K (ev a (Recv (Ok n))) → IsLegal S R K → length (ev a (Recv (Ok n)) ∷ K) < 2 ^ 64 → is_worker a w ≡ true
+      → WorkerRow S R K w (Recv (Ok n)) → oldest_unfetched K ≡ Some c → Idle K w → HasMemory (ev a (Recv (Ok n)) ∷ K) w c
   mem-fetch K a w c n r legal room q row o idle h g =
-      let e = by a (Recv (Ok n)) in
+      let e = ev a (Recv (Ok n)) in
       let own : session (e ∷ K) w ≡ Recv (Ok n) ∷ [] = session-more e K w q refl ∙ started (session K w) (Recv (Ok n)) refl in
       absurd (no (rw own at h))
     where
@@ -70,11 +70,11 @@ module _ (S : System) (R : Rules) where
   work-mem K w (Send x b y) row v ih h g k = ih h k
   work-mem K w what row v ih h g k = cc
 
-  mem-work : (K : List Event) (a : Actor) (w c : ℕ) (what : What) → IsStep S R K (by a what) → IsLegal S R K → length (by a what ∷ K) < 2 ^ 64 → is_worker a w ≡ true
-      → WorkerRow S R K w what → works what ≡ true → (i : InSession K w c) → session_call K w ≡ Some c → session (by a what ∷ K) w ≡ what ∷ session K w → HasMemory K w c → HasMemory (by a what ∷ K) w c
+  mem-work : (K : List Event) (a : Actor) (w c : ℕ) (what : What) → IsStep S R K (ev a what) → IsLegal S R K → length (ev a what ∷ K) < 2 ^ 64 → is_worker a w ≡ true
+      → WorkerRow S R K w what → works what ≡ true → (i : InSession K w c) → session_call K w ≡ Some c → session (ev a what ∷ K) w ≡ what ∷ session K w → HasMemory K w c → HasMemory (ev a what ∷ K) w c
   mem-work K a w c what r legal room q row v i s own ih h g =
       let p = or_parts (gives_up what) (any_of gives_up (session K w)) (rw own at g) in
-      rw (mem-more (by a what) K w q) (work-mem K w what row v ih (rw own at h) p.0 p.1)
+      rw (mem-more (ev a what) K w q) (work-mem K w what row v ih (rw own at h) p.0 p.1)
 
   mem-still : (K : List Event) (e : Event) (w c : ℕ) → IsStep S R K e → IsLegal S R K → length (e ∷ K) < 2 ^ 64 → (is_worker e.who w && not (skips e.what)) ≡ false
       → (i : InSession K w c) → session_call K w ≡ Some c → session (e ∷ K) w ≡ session K w → HasMemory K w c → HasMemory (e ∷ K) w c

@@ -142,8 +142,8 @@ asked-install S e K c w q f np i op a =
       where
         or-true : (u v : Bool) → ((u || true) || v) ≡ true
         or-true u v = grind arith
-    slot Full h x y z = failed 9 (record { empty = emptied x; open' = unfold settled in rw (f, h, y) }) (z ∙ ap installed h) refl
-    slot Over h x y z = failed 24 (record { empty = emptied x; open' = unfold settled in rw (f, h, y) }) (z ∙ ap installed h) refl
+    slot Full h x y z = failed 9 (record { empty = emptied x; unsettled = unfold settled in rw (f, h, y) }) (z ∙ ap installed h) refl
+    slot Over h x y z = failed 24 (record { empty = emptied x; unsettled = unfold settled in rw (f, h, y) }) (z ∙ ap installed h) refl
 
     go : Done K c a.r → Done (e ∷ K) c a.r
     go (queued x y z) = slot (S.slot K c i.first) i.what_is x y (install-now e K c a.r [] a.for_call f x)

@@ -294,15 +294,15 @@ gave-kind S R K e c r m legal room row q ih h =
         some-same x y k = cc
     number what k = cc
 
-    first-of' : (rs : List ℕ) → is_first rs r ≡ true → first_sends K rs ≡ is_send K r
-    first-of' [] k = cc
-    first-of' (x ∷ rs) k = rw (eqb-true x r k)
+    first-send : (rs : List ℕ) → is_first rs r ≡ true → first_sends K rs ≡ is_send K r
+    first-send [] k = cc
+    first-send (x ∷ rs) k = rw (eqb-true x r k)
 
     settling : installs_for K e c ≡ true → is_first (queue K c) r ≡ true → e.what ≡ Install (Ok m) → settles K e c ≡ true
     settling f g w =
         let i = queue-of (queue K c) refl g in
         let o = first-own S R K c r i.0 legal room i.1 in
-        let s : first_sends K (queue K c) ≡ true = first-of' (queue K c) g ∙ o.1.sends in
+        let s : first_sends K (queue K c) ≡ true = first-send (queue K c) g ∙ o.1.sends in
         let y : gave e.what ≡ true = ap gave w in
         grind arith
       where

@@ -2,7 +2,7 @@
 use Rattle.std.proofs.Common.{◌≡◌, ◌⊎◌, inl, inr, ℕ, ◌<◌, ◌^◌, Bool, true, false, ◌&&◌, ◌||◌, List, [], ◌∷◌, length, Option, Some, None, refl, sym, ap, ◌∙◌, arith}
 use Rattle.std.specs.Prelude.{◌==◌, Result, Ok}
 use Rattle.std.proofs.lemmas.Bool.{cases_Bool, and_parts, eqb-true, eq-eqb, false_from_ne_true}
-use Rattle.hist_model.specs.Look.{is_task, is_worker}
+use Rattle.hist_model.specs.Look.{ev, is_task, is_worker}
 use Rattle.hist_model.specs.Calls.{listed, fetched, fetches, caller, id, answers, settled, puts_to, installs_for, is_install, notifies}
 use Rattle.hist_model.specs.Sessions.{Rules, session, first_some, put_in, take_in}
 use Rattle.hist_model.specs.Systems.{System}
@@ -20,7 +20,7 @@ use Rattle.mediation.proofs.Own.{row-of, listed-below, listed-here}
 use Rattle.mediation.proofs.Ids.{ids_differ}
 use Rattle.mediation.proofs.Count.{fetching, fetched-same}
 use Rattle.mediation.proofs.Once.{answers-waiting, installs-open}
-use Rattle.mediation.proofs.Work.{by, hand, worker-row, session-same, session-more, started, call-same, call-more}
+use Rattle.mediation.proofs.Work.{hand, worker-row, session-same, session-more, started, call-same, call-more}
 use Rattle.mediation.proofs.Queues.{Clean, Calm, calm-clean, calm-above, clean-above, settled-more, puts-waiting, Installing, installing}
 use Rattle.mediation.proofs.Phases.{stays-gone, StageOf, AtCall, Phase, stage-calm, stage-install, hand-fetcher, acts-own, request-same, fetcher-same, fetcher-now, fetcher-fetched, fetcher-stays}
 use Rattle.mediation.proofs.Count.{fetched-new}
@@ -120,9 +120,9 @@ module _ (S : System) (R : Rules) (K : List Event) (e : Event) (c : ℕ) (legal 
   now-phase : fetched K c ≡ false → Clean K c → (fetches e.what (id K c) && listed K c) ≡ true → Phase (e ∷ K) c (worker_of e.who)
   now-phase f k q = go e.who e.what row q (unfetched-calm f k)
     where
-      go : (a : Actor) (what : What) → Row S R K a what → (fetches what (id K c) && listed K c) ≡ true → Calm K (by a what) c → Phase (by a what ∷ K) c (worker_of a)
+      go : (a : Actor) (what : What) → Row S R K a what → (fetches what (id K c) && listed K c) ≡ true → Calm K (ev a what) c → Phase (ev a what ∷ K) c (worker_of a)
       go (Worker v) (Recv (Ok n)) r q m =
-          let e' = by (Worker v) (Recv (Ok n)) in
+          let e' = ev (Worker v) (Recv (Ok n)) in
           let d = fetching K n (oldest_unfetched K) refl r.2 in
           let p = and_parts (n.id == id K c) (listed K c) q in
           let same : d.0 ≡ c = ids_differ S R K legal room d.0 c d.2 l (sym (ap (λ (x : Notif). x.id) d.1) ∙ eqb-true n.id (id K c) p.0) in
