@@ -1,7 +1,7 @@
 -- Each step keeps how far a listed call is.
 use Rattle.std.proofs.Common.{◌≡◌, ◌⊎◌, inl, inr, ℕ, ◌<◌, ◌^◌, Bool, true, false, ◌&&◌, not, List, ◌∷◌, length, Option, Some, None, refl, sym, ap, ◌∙◌, arith}
 use Rattle.std.specs.Prelude.{if◌then◌else◌, ◌==◌, Result, Ok, Err, ℤ}
-use Rattle.std.proofs.lemmas.Bool.{eq-eqb}
+use Rattle.std.proofs.lemmas.Bool.{eq-eqb, both_ways}
 use Rattle.hist_model.specs.Look.{ev, is_worker}
 use Rattle.hist_model.specs.Tasks.{holder, ended, name_of}
 use Rattle.hist_model.specs.Calls.{listed, caller, named, settled, queue, has_send_flag}
@@ -27,9 +27,6 @@ use Rattle.mediation.proofs.Work.{InSession, works, works-keep, at-work, session
 use Rattle.mediation.proofs.Sequence.{is-own, put-fixed, take-after_put, Fixed, IsInjection}
 use Rattle.mediation.proofs.Queues.{Clean, Calm, calm-clean, settled-more, clean-waiting, call-at-here}
 use Rattle.mediation.proofs.Phases.{install-new, Done, queued, gave_number, failed, Asked, StageOf, AtCall, stage-calm, request-more}
-
-clash : (b : Bool) → b ≡ false → b ≡ true → ⊥
-clash b g h = cc
 
 and-false : (b : Bool) → (b && false) ≡ false
 and-false b = grind arith
@@ -113,7 +110,7 @@ module _ (S : System) (R : Rules) (K : List Event) (a : Actor) (w c : ℕ) (lega
       go None q = q
       go (Some x) q =
           let f = put-fixed R (session K w) n x (is-own S R K legal w) work.notif_is q in
-          elim v [ inl z ↦ absurd (clash (any_of checks (session K w)) z f.checked) | inr z ↦ absurd (clash (number_of checks (session K w) == 1) f.twice z.0) ]
+          elim v [ inl z ↦ absurd (both_ways (any_of checks (session K w)) z f.checked) | inr z ↦ absurd (both_ways (number_of checks (session K w) == 1) f.twice z.0) ]
 
   mine-check : (x : ℕ) (y : Result (Unit {0}) ℕ) → WorkerRow S R K w (Check x y) → AtCall (ev a (Check x y) ∷ K) c w
   mine-check x y r =
@@ -175,7 +172,7 @@ module _ (S : System) (R : Rules) (K : List Event) (a : Actor) (w c : ℕ) (lega
           let g = grew (AddfdPut q (Ok u)) n work refl in
           record {
             in_hand = g.1;
-            over = λ x. absurd (clash (any_of gives_up (session K w)) work.no_end (rw g.0 at x));
+            over = λ x. absurd (both_ways (any_of gives_up (session K w)) work.no_end (rw g.0 at x));
             stage = rw (g.0, take-none p) (λ x. asked u k nm fl);
           }
       go (Err x) true z n work p k nm fl = cc
@@ -186,7 +183,7 @@ module _ (S : System) (R : Rules) (K : List Event) (a : Actor) (w c : ℕ) (lega
           let m : Calm K (ev a (AddfdPut q (Err x))) c = record { no_put = refl; no_install = refl; no_answer = refl } in
           record {
             in_hand = g.1;
-            over = λ u. absurd (clash (any_of gives_up (session K w)) work.no_end (rw (g.0, lost) at u));
+            over = λ u. absurd (both_ways (any_of gives_up (session K w)) work.no_end (rw (g.0, lost) at u));
             stage = rw g.0 (λ u. calm-clean (ev a (AddfdPut q (Err x))) K c m k);
           }
 
@@ -218,10 +215,10 @@ module _ (S : System) (R : Rules) (K : List Event) (a : Actor) (w c : ℕ) (lega
           no q = cc
       go (gave_number k u v) q n work p =
           let s : y ≡ Ok k = taken y (Ok k) (rw v at q) in
-          rw s (finish (Ok k) n work (λ x. u) (λ x. absurd (clash true x refl)) p)
+          rw s (finish (Ok k) n work (λ x. u) (λ x. absurd (both_ways true x refl)) p)
       go (failed k u v z) q n work p =
           let s : y ≡ Err k = taken y (Err k) (rw v at q) in
-          rw s (finish (Err k) n work (λ x. absurd (clash (any_of gives_up (session K w)) work.no_end (rw z at x))) (λ x. u) p)
+          rw s (finish (Err k) n work (λ x. absurd (both_ways (any_of gives_up (session K w)) work.no_end (rw z at x))) (λ x. u) p)
 
   -- where an answer is due, the call is clean
   answer-clean : (n : Notif) (b : Back) → AtWork (session K w) n → Cause R (session K w) n b → (p : Option (Result (Unit {0}) ℕ)) (t : Option (Result ℕ ℕ)) → first_some put_in (session K w) ≡ p → first_some take_in (session K w) ≡ t → StageOf K c w p t → Clean K c
@@ -278,12 +275,12 @@ module _ (S : System) (R : Rules) (K : List Event) (a : Actor) (w c : ℕ) (lega
           record {
             in_hand = g.1;
             over = λ z. unfold settled in rw (nm, eq-eqb c c refl);
-            stage = rw g.0 (λ z. absurd (clash true z refl));
+            stage = rw g.0 (λ z. absurd (both_ways true z refl));
           }
 
   -- a session that is in hand fetches nothing
   no-fetch : deed R (session K w) ≡ Fetch → ⊥
-  no-fetch q = elim (deed-is R (session K w) Fetch q) [ inl z ↦ none i.n (sym z ∙ i.notif_is) | inr z ↦ clash (any_of is_letgo (session K w)) i.no_letgo z ]
+  no-fetch q = elim (deed-is R (session K w) Fetch q) [ inl z ↦ none i.n (sym z ∙ i.notif_is) | inr z ↦ both_ways (any_of is_letgo (session K w)) i.no_letgo z ]
     where
       none : (m : Notif) → None ≡ Some m → ⊥
       none m h = cc
@@ -366,7 +363,7 @@ module _ (S : System) (R : Rules) (K : List Event) (a : Actor) (w c : ℕ) (lega
       go (failed k u v f) q = no (sym z ∙ taken y (Err k) (rw v at q))
         where
           no : ◌≡◌ {A = Result ℕ ℕ} (Err 2) (Err k) → ⊥
-          no q = let m : 2 ≡ k = cc in clash (k == 2) f (rw (← m))
+          no q = let m : 2 ≡ k = cc in both_ways (k == 2) f (rw (← m))
 
   pub open-is : (p : ℕ) (x : Result (Unit {0}) ℕ) → WorkerRow S R K w (OpenMem p x) → x ≡ Ok tt
   open-is p x r =

@@ -2,7 +2,7 @@
 use Rattle.std.proofs.Common.{◌≡◌, ◌⊎◌, inl, inr, ℕ, zero, suc, ◌+◌, ◌<◌, ◌≤◌, ◌^◌, Bool, true, false, ◌&&◌, ◌||◌, not, List, [], ◌∷◌, ◌++◌, length, reverse, Option, Some, None, refl, sym, ap, subst, ◌∙◌, arith}
 use Rattle.std.specs.Prelude.{if◌then◌else◌, ◌==◌, nat_le, count_by, cond, Result, Ok, Err}
 use Rattle.std.specs.List.{list_any}
-use Rattle.std.proofs.lemmas.Bool.{cases_Bool, and_parts, or_parts, eq-eqb, ne_eqb, le-leb}
+use Rattle.std.proofs.lemmas.Bool.{cases_Bool, and_parts, or_parts, eq-eqb, ne_eqb, le-leb, both_ways}
 use Rattle.std.proofs.lemmas.List.{reverse-append}
 use Rattle.std.proofs.lemmas.List.Recursion.{is_count_by}
 use Rattle.hist_model.specs.Look.{ev, before, event_at, is_worker}
@@ -37,9 +37,6 @@ use Rattle.mediation.proofs.Work.{InSession, Idle, hand, in-hand, works, works-k
 use Rattle.mediation.proofs.Sequence.{IsOwn, is-own, is_effect, effect-fixed}
 use Rattle.mediation.proofs.Ordered.{ordered, used-two}
 use Rattle.mediation.proofs.Sittings.{Kept, by-session, in-hand-of}
-
-clash : (b : Bool) → b ≡ false → b ≡ true → ⊥
-clash b g h = cc
 
 skipped-same : (what : What) → is_skipped what ≡ skips what
 skipped-same Skip = refl
@@ -132,14 +129,14 @@ module _ (S : System) (R : Rules) where
   lets-go K w own what n q h g u row z = go what row z
     where
       no-work : (what : What) → WorkerRow S R K w what → works what ≡ true → ⊥
-      no-work what row v = let k = at-work S R K w what row v in clash (any_of gives_up (session K w)) k.1.no_end (rw q u)
+      no-work what row v = let k = at-work S R K w what row v in both_ways (any_of gives_up (session K w)) k.1.no_end (rw q u)
 
       none : (m : Notif) → None ≡ Some m → ⊥
       none m h = cc
 
       no-fetch : (notif_of (session K w) ≡ None) ⊎ (any_of is_letgo (session K w) ≡ true) → ⊥
       no-fetch (inl x) = none n (sym x ∙ rw q h)
-      no-fetch (inr x) = clash (any_of is_letgo (session K w)) (rw q g) x
+      no-fetch (inr x) = both_ways (any_of is_letgo (session K w)) (rw q g) x
 
       go : (what : What) → WorkerRow S R K w what → skips what ≡ false → what ≡ LetGo
       go LetGo row z = refl

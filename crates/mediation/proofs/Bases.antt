@@ -1,7 +1,7 @@
 -- The base from which a session's effect goes is one that the session opened, in a slot of its call's task's group.
 use Rattle.std.proofs.Common.{◌≡◌, ◌⊎◌, inl, inr, ℕ, ◌<◌, ◌^◌, Bool, true, false, ◌&&◌, not, List, [], ◌∷◌, length, Option, Some, None, refl, sym, ap, ◌∙◌, arith}
 use Rattle.std.specs.Prelude.{if◌then◌else◌, ◌==◌, Result, Ok, Err, ℤ}
-use Rattle.std.proofs.lemmas.Bool.{cases_Bool, eqb-true, ne_eqb, eq-eqb}
+use Rattle.std.proofs.lemmas.Bool.{cases_Bool, eqb-true, ne_eqb, eq-eqb, both_ways}
 use Rattle.hist_model.specs.Look.{ev, before, event_at, is_worker}
 use Rattle.hist_model.specs.Tasks.{holder, ended, name_of}
 use Rattle.hist_model.specs.Calls.{listed, caller}
@@ -56,6 +56,13 @@ moves (OpenBase p d (Ok u)) = true
 moves LetGo = true
 moves _ = false
 
+-- two workers
+another : (v w : ℕ) → ((v == w) && true) ≡ false → (w == v) ≡ false
+another v w h = ne_eqb w v (λ q. both_ways (v == w) (no-and (v == w) h) (eq-eqb v w (sym q)))
+  where
+    no-and : (b : Bool) → (b && true) ≡ false → b ≡ false
+    no-and b h = grind arith
+
 -- another's step, or one that is no opening of a base and no letting go
 after-base : (S : Script) (K : List Event) (F : Files) (a : Actor) (what : What) (w : ℕ) → (is_worker a w && moves what) ≡ false → (files_after S K F a what).base w ≡ F.base w
 after-base S K F a (Spawn n (Ok made)) w h = spawn-base K F a made.1 w
@@ -66,33 +73,9 @@ after-base S K F a (Install (Ok m)) w h = refl
 after-base S K F a (Install (Err e)) w h = refl
 after-base S K F (Worker v) (Act q cap (Ok u)) w h = refl
 after-base S K F (Worker v) (Act q cap (Err e)) w h = refl
-after-base S K F (Worker v) (OpenBase p d (Ok u)) w h = rw (other v w h)
-  where
-    other : (v w : ℕ) → ((v == w) && true) ≡ false → (w == v) ≡ false
-    other v w h = elim (cases_Bool (w == v)) [
-      | inl q ↦ absurd (clash ((v == w) && true) h (both (eq-eqb v w (sym (eqb-true w v q)))))
-      | inr q ↦ q
-    ]
-      where
-        clash : (b : Bool) → b ≡ false → b ≡ true → ⊥
-        clash b g h = cc
-
-        both : {b : Bool} → b ≡ true → (b && true) ≡ true
-        both h = rw h
+after-base S K F (Worker v) (OpenBase p d (Ok u)) w h = rw (another v w h)
 after-base S K F (Worker v) (OpenBase p d (Err e)) w h = refl
-after-base S K F (Worker v) LetGo w h = rw (other v w h)
-  where
-    other : (v w : ℕ) → ((v == w) && true) ≡ false → (w == v) ≡ false
-    other v w h = elim (cases_Bool (w == v)) [
-      | inl q ↦ absurd (clash ((v == w) && true) h (both (eq-eqb v w (sym (eqb-true w v q)))))
-      | inr q ↦ q
-    ]
-      where
-        clash : (b : Bool) → b ≡ false → b ≡ true → ⊥
-        clash b g h = cc
-
-        both : {b : Bool} → b ≡ true → (b && true) ≡ true
-        both h = rw h
+after-base S K F (Worker v) LetGo w h = rw (another v w h)
 after-base S K F a what w h = refl
 
 files-same : (S : Script) (e : Event) (K : List Event) (w : ℕ) → (is_worker e.who w && moves e.what) ≡ false → files_base S (e ∷ K) w ≡ files_base S K w

@@ -1,7 +1,7 @@
 -- A child's name is new.
 use Rattle.std.proofs.Common.{◌≡◌, inl, inr, ℕ, ◌+◌, ◌<◌, ◌≤◌, Bool, true, false, ◌&&◌, ◌||◌, List, [], ◌∷◌, ◌++◌, length, refl, sym, ap, ◌∙◌, arith}
 use Rattle.std.specs.Prelude.{if◌then◌else◌, Ok}
-use Rattle.std.proofs.lemmas.Bool.{or_cases, or_left, or_right, and_parts, false_from_ne_true}
+use Rattle.std.proofs.lemmas.Bool.{or_cases, or_left, or_right, and_parts, false_from_ne_true, both_ways}
 use Rattle.hist_model.specs.Look.{Name, name_eq, is_task, event_at}
 use Rattle.hist_model.specs.Tasks.{is_made, makes, child_of, name_of}
 use Rattle.hist_model.specs.Sessions.{Rules}
@@ -98,14 +98,11 @@ unfolding spawned
 all-named-step S R K e r ih h =
     elim (or_cases (spawns e.what []) (spawned K []) h) [
       | inl q ↦ elim (row-or-start S R K e r) [
-        | inl z ↦ clash (spawns e.what []) (ap (λ (d : Event). spawns d.what []) z) q
+        | inl z ↦ both_ways (spawns e.what []) (ap (λ (d : Event). spawns d.what []) z) q
         | inr z ↦ spawns-named S R K e.who e.what z.1 q
       ]
       | inr q ↦ ih q
     ]
-  where
-    clash : (b : Bool) → b ≡ false → b ≡ true → ⊥
-    clash b g h = cc
 
 all-named : (S : System) (R : Rules) (K : List Event) → IsLegal S R K → spawned K [] ≡ true → ⊥
 unfolding spawned

@@ -1,7 +1,7 @@
 -- What a session has opened is its call's task's.
 use Rattle.std.proofs.Common.{◌≡◌, ◌⊎◌, inl, inr, ℕ, ◌<◌, ◌^◌, Bool, true, false, not, List, [], ◌∷◌, length, Option, Some, None, refl, sym, ap, ◌∙◌, arith}
 use Rattle.std.specs.Prelude.{if◌then◌else◌, Result, Ok, Err, ℤ}
-use Rattle.std.proofs.lemmas.Bool.{cases_Bool, and_parts, or_cases, or_left, or_right}
+use Rattle.std.proofs.lemmas.Bool.{cases_Bool, and_parts, or_cases, or_left, or_right, both_ways}
 use Rattle.hist_model.specs.Look.{ev, is_worker}
 use Rattle.hist_model.specs.Tasks.{holder}
 use Rattle.hist_model.specs.Calls.{listed, waiting, caller, named, unlists}
@@ -50,9 +50,6 @@ SteadyFor R K w None = Unit {0}
 
 some-same : (a b : ℕ) → Some a ≡ Some b → a ≡ b
 some-same a b h = cc
-
-clash : (b : Bool) → b ≡ false → b ≡ true → ⊥
-clash b g h = cc
 
 pub listed-was : (e : Event) (K : List Event) (c : ℕ) → c < length K → listed (e ∷ K) c ≡ true → listed K c ≡ true
 listed-was e K c l h = (and_parts (listed K c) (not (unlists e (caller K c))) (rw listed-older at h)).0
@@ -130,8 +127,8 @@ module _ (S : System) (R : Rules) (K : List Event) (a : Actor) (w c : ℕ) (lega
 
   quiet : (what : What) → checks what ≡ false → is_good_check what ≡ false → ((m : Option ℕ) → mem_after K what m ≡ m) → ((m : Option ℕ) → base_after K what m ≡ m) → Owes what
   quiet what x p y z = record {
-    opens_before = λ h. absurd (clash (checks what) x h);
-    base_before = λ n q h. absurd (clash (checks what) x h);
+    opens_before = λ h. absurd (both_ways (checks what) x h);
+    base_before = λ n q h. absurd (both_ways (checks what) x h);
     mem_then = rw (y (mem K w), p) (λ g l k. s.mem_is i.t g i.task_is l k);
     base_then = rw (z (base K w), p) (λ g l k. s.base_is i.t g i.task_is l k);
   }
@@ -144,7 +141,7 @@ module _ (S : System) (R : Rules) (K : List Event) (a : Actor) (w c : ℕ) (lega
         base_before = λ n q h. cc;
         mem_then = λ g l k. elim l [
           | inl x ↦ opens-own t.0 p g t.1 t.3 x k
-          | inr x ↦ absurd (clash (any_of opens (session K w)) t.2 (s.opens_first (good-checks (session K w) x)))
+          | inr x ↦ absurd (both_ways (any_of opens (session K w)) t.2 (s.opens_first (good-checks (session K w) x)))
         ];
         base_then = λ g l k. s.base_is i.t g i.task_is l k;
       }
@@ -160,7 +157,7 @@ module _ (S : System) (R : Rules) (K : List Event) (a : Actor) (w c : ℕ) (lega
           | inl x ↦ opens-own t.0 p g t.1 t.4 x k
           | inr x ↦ elim (s.base_first t.0 t.1.notif_is (good-checks (session K w) x)) [
             | inl y ↦ absurd (none-some d (sym y ∙ t.5))
-            | inr y ↦ absurd (clash (any_of opens_base (session K w)) t.3 y)
+            | inr y ↦ absurd (both_ways (any_of opens_base (session K w)) t.3 y)
           ]
         ];
       }
@@ -262,7 +259,7 @@ module _ (S : System) (R : Rules) (K : List Event) (a : Actor) (w : ℕ) (legal 
         where
           one : (m : Notif) → None ≡ Some m → ⊥
           one m h = cc
-      no c i (inr q) = clash (any_of is_letgo (session K w)) i.no_letgo q
+      no c i (inr q) = both_ways (any_of is_letgo (session K w)) i.no_letgo q
 
       go : (o : Option ℕ) → Hand K w o → (o' : Option ℕ) → SteadyFor R (ev a (Recv (Ok n)) ∷ K) w o'
       go (Some c) i o' = absurd (no c i t)
@@ -281,7 +278,7 @@ module _ (S : System) (R : Rules) (K : List Event) (a : Actor) (w : ℕ) (legal 
         where
           one : (m : Notif) → None ≡ Some m → ⊥
           one m h = cc
-      no i (inr q) = clash (any_of is_letgo (session K w)) i.no_letgo q
+      no i (inr q) = both_ways (any_of is_letgo (session K w)) i.no_letgo q
 
   skipped : (o : Option ℕ) → Hand K w o → SteadyFor R K w o → SteadyFor R (ev a Skip ∷ K) w o
   skipped None i s = tt

@@ -1,7 +1,7 @@
 -- What holds of a call in a worker's hand, by induction on the steps since it was fetched.
 use Rattle.std.proofs.Common.{◌≡◌, ◌⊎◌, inl, inr, ℕ, ◌<◌, ◌^◌, Bool, true, false, ◌&&◌, not, List, [], ◌∷◌, length, Option, Some, None, refl, sym, ◌∙◌, arith}
 use Rattle.std.specs.Prelude.{Ok, Err}
-use Rattle.std.proofs.lemmas.Bool.{cases_Bool, and_parts}
+use Rattle.std.proofs.lemmas.Bool.{cases_Bool, and_parts, both_ways}
 use Rattle.hist_model.specs.Look.{ev, is_worker}
 use Rattle.hist_model.specs.Sessions.{Rules, Fetch, session, skips, notif_of, any_of, is_letgo}
 use Rattle.hist_model.specs.Systems.{System}
@@ -16,9 +16,6 @@ use Rattle.mediation.proofs.Deeds.{deed-is}
 use Rattle.mediation.proofs.Count.{fetching}
 use Rattle.mediation.proofs.Work.{InSession, Idle, Hand, hand, worker-row, works, works-keep, session-same, session-more, grown, call-same, call-more}
 
-clash : (b : Bool) → b ≡ false → b ≡ true → ⊥
-clash b g h = cc
-
 none-some : (c : ℕ) → None ≡ Some c → ⊥
 none-some c h = cc
 
@@ -32,7 +29,7 @@ no-fetch R K w c i (inl q) = one i.n (sym q ∙ i.notif_is)
   where
     one : (m : Notif) → None ≡ Some m → ⊥
     one m h = cc
-no-fetch R K w c i (inr q) = clash (any_of is_letgo (session K w)) i.no_letgo q
+no-fetch R K w c i (inr q) = both_ways (any_of is_letgo (session K w)) i.no_letgo q
 
 -- the call in hand
 pub in-hand-of : (S : System) (R : Rules) (K : List Event) (w c : ℕ) → IsLegal S R K → session_call K w ≡ Some c → InSession K w c

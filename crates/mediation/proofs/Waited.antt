@@ -1,7 +1,7 @@
 -- A session's call waits up to the second good check.
 use Rattle.std.proofs.Common.{◌≡◌, ◌⊎◌, inl, inr, ℕ, zero, suc, ◌<◌, ◌≤◌, ◌^◌, Bool, true, false, ◌&&◌, ◌||◌, not, List, [], ◌∷◌, length, Option, Some, None, refl, sym, subst, ◌∙◌, arith}
 use Rattle.std.specs.Prelude.{if◌then◌else◌, nat_le, Result, Ok, Err}
-use Rattle.std.proofs.lemmas.Bool.{cases_Bool, and_parts, or_parts, leb-true}
+use Rattle.std.proofs.lemmas.Bool.{cases_Bool, and_parts, or_parts, leb-true, both_ways}
 use Rattle.hist_model.specs.Look.{ev, before, is_worker}
 use Rattle.hist_model.specs.Calls.{listed, fetched, waiting, caller, unlists}
 use Rattle.hist_model.specs.Sessions.{Rules, session, skips, any_of, gives_up, first_some, put_in, take_in, number_of, checks, notif_of}
@@ -28,9 +28,6 @@ use Rattle.mediation.proofs.Queues.{Clean, clean-waiting}
 use Rattle.mediation.proofs.Phases.{StageOf, AtCall, hand-fetcher, fetcher-fetched}
 use Rattle.mediation.proofs.Waiting.{at-call}
 use Rattle.mediation.proofs.Sittings.{Kept, by-session, in-hand-of}
-
-clash : (b : Bool) → b ≡ false → b ≡ true → ⊥
-clash b g h = cc
 
 no-put : (a : What) → is_put a ≡ false → put_in a ≡ None
 no-put (AddfdPut q x) h = cc
@@ -101,7 +98,7 @@ module _ (S : System) (R : Rules) where
   unfetched-before K w c legal room f p s =
       let m = length-before K p in
       let h = hand-fetcher S R (before K p) (legal-before S R K p legal) (omega arith) w c s in
-      clash (fetched K c) f (fetched-before K p c (fetcher-fetched (before K p) c w h))
+      both_ways (fetched K c) f (fetched-before K p c (fetcher-fetched (before K p) c w h))
 
   nothing-before : (K : List Event) (w c : ℕ) → IsLegal S R K → length K < 2 ^ 64 → fetched K c ≡ false → WaitedUntilChecked K w c
   nothing-before K w c legal room f p l s u = absurd (unfetched-before K w c legal room f p s)
