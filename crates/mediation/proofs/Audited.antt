@@ -1,8 +1,8 @@
 -- The audit of a session that answered names the rule that decided.
-use Rattle.std.proofs.Common.{◌≡◌, ◌⊎◌, inl, inr, ℕ, zero, suc, ◌+◌, ◌<◌, ◌≤◌, ◌^◌, Bool, true, false, ◌&&◌, ◌||◌, not, List, [], ◌∷◌, ◌++◌, length, reverse, Option, Some, None, refl, sym, ap, subst, ◌∙◌, arith}
-use Rattle.std.specs.Prelude.{if◌then◌else◌, ◌==◌, nat_le, count_by, cond, Result, Ok, Err}
+use Rattle.std.proofs.Common.{◌≡◌, ◌⊎◌, inl, inr, ℕ, suc, ◌+◌, ◌<◌, ◌≤◌, ◌^◌, Bool, true, false, ◌&&◌, not, List, [], ◌∷◌, ◌++◌, length, reverse, Some, None, refl, sym, ap, subst, ◌∙◌, arith}
+use Rattle.std.specs.Prelude.{if◌then◌else◌, ◌==◌, count_by, cond, Result, Ok, Err}
 use Rattle.std.specs.List.{list_any}
-use Rattle.std.proofs.lemmas.Bool.{cases_Bool, and_parts, or_parts, eq-eqb, ne_eqb, le-leb, both_ways}
+use Rattle.std.proofs.lemmas.Bool.{cases_Bool, and_parts, or_parts, eq-eqb, ne_eqb, both_ways}
 use Rattle.std.proofs.lemmas.List.{reverse-append}
 use Rattle.std.proofs.lemmas.List.Recursion.{is_count_by}
 use Rattle.hist_model.specs.Look.{ev, before, event_at, is_worker}
@@ -14,7 +14,7 @@ use Rattle.hist_model.specs.Copies.{Complete, plan, progress}
 use Rattle.hist_model.specs.Requests.{request}
 use Rattle.hist_model.specs.Decisions.{decide}
 use Rattle.hist_model.specs.Legal.{copied, decision, read_answers, rules_of}
-use Rattle.hist_model.specs.ReportAudit.{session_at, session_step, joined, is_gone, is_spent, reads, finding, finding_by, finding_of, checked_twice, audit_of, judging_by, judged_by, judged_as, is_good_check as is_found_valid, skips as is_skipped}
+use Rattle.hist_model.specs.ReportAudit.{session_at, joined, is_gone, is_spent, reads, finding, finding_of, judging_by, judged_as, is_good_check as is_found_valid, skips as is_skipped}
 use Rattle.hist_model.specs.Mediated.{AuditNames}
 use Rattle.hist_model.specs.declared.event.Event.{Event}
 use Rattle.hist_model.specs.declared.event.Actor.{Actor}
@@ -30,13 +30,13 @@ use Rattle.hist_model.specs.declared.request.Request.{Request}
 use Rattle.hist_model.specs.declared.script.Figures.{Figures}
 use Rattle.sys_abi.specs.declared.wire.Notif.{Notif}
 use Rattle.hist_model.proofs.Look.{event_at-here, event_at-older, event_at-below, event_at-above, below_or_last}
-use Rattle.mediation.proofs.Before.{before-all, before-older, before-newest, length-before, legal-before}
+use Rattle.mediation.proofs.Before.{before-all, before-older, before-newest, legal-before}
 use Rattle.mediation.proofs.Rows.{WorkerRow}
 use Rattle.mediation.proofs.Deeds.{AtWork, deed-is}
 use Rattle.mediation.proofs.Work.{InSession, Idle, hand, in-hand, works, works-keep, at-work, worker-row, session-same, session-more, started, grown}
 use Rattle.mediation.proofs.Sequence.{IsOwn, is-own, is_effect, effect-fixed}
 use Rattle.mediation.proofs.Ordered.{ordered, used-two}
-use Rattle.mediation.proofs.Sittings.{Kept, by-session, in-hand-of}
+use Rattle.mediation.proofs.Sittings.{by-session}
 
 skipped-same : (what : What) → is_skipped what ≡ skips what
 skipped-same Skip = refl
@@ -203,8 +203,8 @@ module _ (S : System) (R : Rules) where
         work = rw (before-newest e K, same g.n t.0 (sym g.notif_is ∙ t.1.notif_is)) t.1;
         two = rw (before-newest e K) (used-two R (session K w) t.0 t.1 t.3 (ordered R (session K w) (is-own S R K legal w)));
         ends = rw (before-newest e K) (answered
-          (at-more e K w g.place l v z ∙ (ap (λ y. joined y e.what) g.same ∙ (joined-open (session K w) e.what t.0 t.1.notif_is t.1.no_letgo ∙ ap (λ y. y ∷ session K w) m)))
-          (session-more e K w v z ∙ (grown (session K w) e.what t.0 t.1.notif_is k ∙ ap (λ y. y ∷ session K w) m)));
+            (at-more e K w g.place l v z ∙ (ap (λ y. joined y e.what) g.same ∙ (joined-open (session K w) e.what t.0 t.1.notif_is t.1.no_letgo ∙ ap (λ y. y ∷ session K w) m)))
+            (session-more e K w v z ∙ (grown (session K w) e.what t.0 t.1.notif_is k ∙ ap (λ y. y ∷ session K w) m)));
       }
     where
       same : (x y : Notif) → Some x ≡ Some y → x ≡ y

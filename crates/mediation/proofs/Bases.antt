@@ -1,16 +1,15 @@
 -- The base from which a session's effect goes is one that the session opened, in a slot of its call's task's group.
-use Rattle.std.proofs.Common.{◌≡◌, ◌⊎◌, inl, inr, ℕ, ◌<◌, ◌^◌, Bool, true, false, ◌&&◌, not, List, [], ◌∷◌, length, Option, Some, None, refl, sym, ap, ◌∙◌, arith}
-use Rattle.std.specs.Prelude.{if◌then◌else◌, ◌==◌, Result, Ok, Err, ℤ}
+use Rattle.std.proofs.Common.{◌≡◌, inl, inr, ℕ, ◌<◌, ◌^◌, Bool, true, false, ◌&&◌, not, List, [], ◌∷◌, length, Option, Some, None, refl, sym, ap, ◌∙◌, arith}
+use Rattle.std.specs.Prelude.{◌==◌, Result, Ok, Err, ℤ}
 use Rattle.std.proofs.lemmas.Bool.{cases_Bool, eqb-true, ne_eqb, eq-eqb, both_ways}
 use Rattle.hist_model.specs.Look.{ev, before, event_at, is_worker}
-use Rattle.hist_model.specs.Tasks.{holder, ended, name_of}
-use Rattle.hist_model.specs.Calls.{listed, caller}
+use Rattle.hist_model.specs.Tasks.{holder}
 use Rattle.hist_model.specs.Sessions.{Rules, session, skips, any_of, gives_up, checks, notif_of}
 use Rattle.hist_model.specs.Systems.{System}
-use Rattle.hist_model.specs.Steps.{IsStep, IsLegal, session_call, base, base_after, base_answer, opened, group, task_place, place_or, oldest_unfetched}
+use Rattle.hist_model.specs.Steps.{IsStep, IsLegal, session_call, base, base_after, base_answer, opened, place_or, oldest_unfetched}
 use Rattle.hist_model.specs.Natives.{Files, base_of}
-use Rattle.hist_model.specs.Files.{files, files_after, after_native, after_spawn, with_base}
-use Rattle.hist_model.specs.Natives.{NativeStep, Fails, Gives, Changes, Opens, Closes, Writes, native_step}
+use Rattle.hist_model.specs.Files.{files, files_after, after_native, after_spawn}
+use Rattle.hist_model.specs.Natives.{NativeStep, Fails, Gives, Changes, Opens, Closes, Writes}
 use Rattle.hist_model.specs.Memory.{own_group}
 use Rattle.hist_model.specs.Mediated.{OpenedBase, BaseIs}
 use Rattle.hist_model.specs.declared.event.Event.{Event}
@@ -20,7 +19,6 @@ use Rattle.hist_model.specs.declared.event.What.{What}
 use Rattle.hist_model.specs.declared.event.What.TheVariants.{Spawn, Native, Install, Recv, OpenMem, OpenBase, Check, Read, Act, Plant, AddfdPut, AddfdTake, Send, LetGo, Skip}
 use Rattle.hist_model.specs.declared.event.SpawnKind.{SpawnKind}
 use Rattle.hist_model.specs.declared.event.SpawnKind.TheVariants.{New, Copied, Shared}
-use Rattle.hist_model.specs.declared.request.Obj.{Obj}
 use Rattle.hist_model.specs.declared.script.Script.{Script}
 use Rattle.hist_model.specs.Legal.{system_of}
 use Rattle.sys_abi.specs.declared.wire.Notif.{Notif}
@@ -28,10 +26,10 @@ use Rattle.hist_model.proofs.Look.{event_at-here, event_at-older, event_at-below
 use Rattle.mediation.proofs.Before.{before-older, before-newest}
 use Rattle.mediation.proofs.Rows.{WorkerRow}
 use Rattle.mediation.proofs.Deeds.{deed-is}
-use Rattle.mediation.proofs.Work.{InSession, Idle, works, works-keep, worker-row, session-more, started, base-same, base-more, call-same}
+use Rattle.mediation.proofs.Work.{InSession, Idle, works, works-keep, worker-row, base-same, base-more}
 use Rattle.mediation.proofs.Handles.{Steady, steady}
 use Rattle.mediation.proofs.Opened.{good-check}
-use Rattle.mediation.proofs.Sittings.{Kept, by-session, in-hand-of}
+use Rattle.mediation.proofs.Sittings.{by-session, in-hand-of}
 
 -- the base that the files have for a worker
 pub files_base : Script → List Event → ℕ → Option ℕ

@@ -1,13 +1,13 @@
 -- Finished stays finished.
-use Rattle.std.proofs.Common.{◌≡◌, ◌⊎◌, inl, inr, ℕ, ◌<◌, Bool, true, false, ◌&&◌, ◌||◌, not, List, [], ◌∷◌, ◌++◌, length, Option, Some, None, refl, sym, ◌∙◌, arith}
-use Rattle.std.specs.Prelude.{if◌then◌else◌, ◌==◌, Result, Ok, Err}
-use Rattle.std.proofs.lemmas.Bool.{cases_Bool, and_parts, false_from_ne_true, both_ways}
+use Rattle.std.proofs.Common.{◌≡◌, ◌⊎◌, inl, inr, ℕ, ◌<◌, Bool, true, false, ◌&&◌, ◌||◌, not, List, [], ◌∷◌, ◌++◌, length, Some, None, refl, sym, ◌∙◌, arith}
+use Rattle.std.specs.Prelude.{if◌then◌else◌, ◌==◌, Ok, Err}
+use Rattle.std.proofs.lemmas.Bool.{and_parts, both_ways}
 use Rattle.hist_model.specs.Look.{Name, name_eq, is_task, is_worker}
 use Rattle.hist_model.specs.Tasks.{ended, is_made, alive, makes, child_of}
 use Rattle.hist_model.specs.Calls.{listed, notifies, closes, leaves, caller}
-use Rattle.hist_model.specs.Sessions.{Rules, Fetch, session, skips, joined, any_of, is_letgo, notif_of, deed}
+use Rattle.hist_model.specs.Sessions.{Rules, session, skips, joined, any_of, is_letgo, notif_of}
 use Rattle.hist_model.specs.Systems.{System}
-use Rattle.hist_model.specs.Steps.{IsStep, IsLegal, is_start, recv_answer, oldest_unfetched}
+use Rattle.hist_model.specs.Steps.{oldest_unfetched}
 use Rattle.hist_model.specs.Legal.{Finished, is_open_session}
 use Rattle.hist_model.specs.declared.event.Event.{Event}
 use Rattle.hist_model.specs.declared.event.Actor.{Actor}
@@ -15,12 +15,12 @@ use Rattle.hist_model.specs.declared.event.Actor.TheVariants.{Start, Task, Worke
 use Rattle.hist_model.specs.declared.event.What.{What}
 use Rattle.hist_model.specs.declared.event.What.TheVariants.{Spawn, Poke, Handler, Enter, Native, Install, Resume, Signal, Deliver, Reap, Exit, Recv, OpenMem, OpenBase, Check, Read, Act, Plant, AddfdPut, AddfdTake, Send, LetGo, Skip}
 use Rattle.sys_abi.specs.declared.wire.Notif.{Notif}
-use Rattle.mediation.specs.Facts.{NoClose, StaysFinished}
+use Rattle.mediation.specs.Facts.{StaysFinished}
 use Rattle.mediation.proofs.Rows.{Row, TaskRow, WorkerRow}
-use Rattle.mediation.proofs.Own.{row-of, listed-below}
+use Rattle.mediation.proofs.Own.{row-of}
 use Rattle.mediation.proofs.Deeds.{AtWork, deed-is}
 use Rattle.mediation.proofs.Count.{fetching}
-use Rattle.mediation.proofs.Work.{works, at-work, session-same, session-more}
+use Rattle.mediation.proofs.Work.{works, at-work}
 
 -- the step does nothing: it was none, or it found nothing to receive
 abbrev pub idles : What → Bool

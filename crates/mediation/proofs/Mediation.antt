@@ -1,5 +1,5 @@
 -- Every legal history is mediated.
-use Rattle.std.proofs.Common.{ℕ, ◌<◌, ◌^◌, List, [], ◌∷◌, length, arith}
+use Rattle.std.proofs.Common.{List, [], ◌∷◌}
 use Rattle.hist_model.specs.Sessions.{session}
 use Rattle.hist_model.specs.Legal.{Legal, system_of, rules_of}
 use Rattle.hist_model.specs.Settlers.{InstallsOwn, ResumesOwn, ReturnsInstalled}

@@ -1,8 +1,7 @@
 -- The receives that found nothing are for calls that left the list unfetched.
-use Rattle.std.proofs.Common.{◌≡◌, inl, inr, ℕ, zero, suc, ◌+◌, ◌<◌, ◌≤◌, ◌^◌, Bool, true, false, ◌&&◌, ◌||◌, not, List, [], ◌∷◌, length, Option, Some, None, refl, ap, sym, ◌∙◌, arith}
-use Rattle.std.specs.Prelude.{if◌then◌else◌, ◌==◌, Result, Ok, Err}
+use Rattle.std.proofs.Common.{◌≡◌, inl, inr, ℕ, zero, suc, ◌+◌, ◌<◌, ◌≤◌, ◌^◌, Bool, true, false, ◌&&◌, ◌||◌, not, List, [], ◌∷◌, length, Option, Some, None, refl, ap, arith}
+use Rattle.std.specs.Prelude.{Result, Err}
 use Rattle.std.proofs.lemmas.Bool.{cases_Bool, eqb-false, both_ways}
-use Rattle.hist_model.specs.Look.{oldest, event_at}
 use Rattle.hist_model.specs.Calls.{listed, fetched, is_call, count, caller, unlists, fetches, id}
 use Rattle.hist_model.specs.Sessions.{Rules}
 use Rattle.hist_model.specs.Systems.{System}

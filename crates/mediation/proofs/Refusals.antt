@@ -1,5 +1,5 @@
 -- The small histories that wrong kernels and brokers would make are not legal.
-use Rattle.std.proofs.Common.{◌≡◌, ℕ, ◌<◌, ◌&&◌, Bool, true, false, List, [], ◌∷◌, length, Option, Some, None, refl, sym, ap, ◌∙◌, arith}
+use Rattle.std.proofs.Common.{◌≡◌, ℕ, ◌<◌, ◌&&◌, Bool, true, false, List, [], ◌∷◌, length, None, refl, ap, ◌∙◌, arith}
 use Rattle.std.specs.Prelude.{Ok, Err, pos, nat_le, ◌==◌}
 use Rattle.std.proofs.lemmas.Bool.{and_parts, eqb-false}
 use Rattle.hist_model.specs.Look.{ev, event_at, newest, oldest}
@@ -8,7 +8,7 @@ use Rattle.hist_model.specs.Signals.{call_of, next_signal}
 use Rattle.hist_model.specs.Calls.{listed, fetched, named, settled, queue, calls, recvs, closes}
 use Rattle.hist_model.specs.Sessions.{Rules, session, deed}
 use Rattle.hist_model.specs.Systems.{System}
-use Rattle.hist_model.specs.Steps.{IsStep, IsLegal, is_start, is_actor, start, step, task_step, worker_step, steps_of, reply, oldest_unfetched, task_place, group, mem, base, session_call, install_of, call_at, request_of, owes_native, times_spent}
+use Rattle.hist_model.specs.Steps.{IsLegal, is_start, is_actor, start, step, task_step, worker_step, steps_of, reply, oldest_unfetched, task_place, group, mem, base, session_call, install_of, call_at, request_of, owes_native, times_spent}
 use Rattle.hist_model.specs.declared.event.Actor.{Actor}
 use Rattle.hist_model.specs.declared.event.Actor.TheVariants.{Start, Task, Worker, Listener}
 use Rattle.hist_model.specs.declared.event.Event.{Event}
@@ -17,7 +17,7 @@ use Rattle.hist_model.specs.declared.event.What.TheVariants.{Recv, OpenMem, Chec
 use Rattle.hist_model.specs.declared.event.Back.TheVariants.{Value}
 use Rattle.sys_abi.specs.declared.wire.Addfd.{Addfd}
 use Rattle.sys_abi.specs.declared.wire.Notif.{Notif}
-use Rattle.mediation.specs.Refused.{after, played, Refuses, one_call, reused, interrupted, two_calls, granting, injecting, asked, parent, child, worker, read_once, checked_twice, answered, renumbered, put_and_interrupted, both_called, newest_notif, without_send, EarlyEffect, LateOpening, SecondReading, SecondAnswer, ValidByNumber, LateInstallation, WithoutSend, NewestFirst}
+use Rattle.mediation.specs.Refused.{after, played, Refuses, one_call, reused, interrupted, two_calls, granting, injecting, asked, parent, worker, read_once, checked_twice, answered, renumbered, put_and_interrupted, both_called, newest_notif, without_send, EarlyEffect, LateOpening, SecondReading, SecondAnswer, ValidByNumber, LateInstallation, WithoutSend, NewestFirst}
 use Rattle.mediation.proofs.Rows.{Row, step-row}
 
 -- tasks and workers
@@ -88,12 +88,12 @@ numbers a b h q = eqb-false a b h q
 pub refusals : EarlyEffect × LateOpening × SecondReading × SecondAnswer × ValidByNumber × LateInstallation × WithoutSend × NewestFirst
 unfolding step task_step worker_step event_at newest oldest ended was_waited_for reaped holder free_from last_pid next_pid is_made mode pending next_signal listed fetched named settled queue calls recvs session deed call_of steps_of reply oldest_unfetched task_place group mem base session_call install_of call_at request_of owes_native times_spent with_send oldest_notif number_of
 refusals = (
-    refuses one_call granting read_once worker (Act asked None (Ok tt)) (Check 1 (Ok tt)) refl refl (λ (h : (Act asked None (Ok tt)) ≡ (Check 1 (Ok tt))). cc),
-    refuses one_call granting checked_twice worker (OpenMem 1 (Ok tt)) (Act asked None (Ok tt)) refl refl (λ (h : (OpenMem 1 (Ok tt)) ≡ (Act asked None (Ok tt))). cc),
-    refuses one_call granting checked_twice worker (Read 65536 256 (Ok (47 ∷ 0 ∷ []))) (Act asked None (Ok tt)) refl refl (λ (h : (Read 65536 256 (Ok (47 ∷ 0 ∷ []))) ≡ (Act asked None (Ok tt))). cc),
-    refuses one_call granting answered worker (Send 1 (Value (pos 0)) (Ok tt)) (LetGo) refl refl (λ (h : (Send 1 (Value (pos 0)) (Ok tt)) ≡ (LetGo)). cc),
-    refuses reused granting renumbered worker (Check 1 (Ok tt)) (Check 1 (Err 2)) refl refl (λ (h : (Check 1 (Ok tt)) ≡ (Check 1 (Err 2))). cc),
-    refuses interrupted injecting put_and_interrupted parent (Install (Ok 3)) (Exit) refl refl (λ (h : (Install (Ok 3)) ≡ (Exit)). cc),
-    refuses one_call injecting read_once worker (AddfdPut without_send (Ok tt)) (AddfdPut with_send (Ok tt)) refl refl (λ h. numbers 0 2 refl (ap number_of h)),
-    refuses two_calls granting both_called worker (Recv (Ok newest_notif)) (Recv (Ok oldest_notif)) refl refl (λ h. numbers 2 1 refl (ap number_of h)),
+  refuses one_call granting read_once worker (Act asked None (Ok tt)) (Check 1 (Ok tt)) refl refl (λ (h : (Act asked None (Ok tt)) ≡ (Check 1 (Ok tt))). cc),
+  refuses one_call granting checked_twice worker (OpenMem 1 (Ok tt)) (Act asked None (Ok tt)) refl refl (λ (h : (OpenMem 1 (Ok tt)) ≡ (Act asked None (Ok tt))). cc),
+  refuses one_call granting checked_twice worker (Read 65536 256 (Ok (47 ∷ 0 ∷ []))) (Act asked None (Ok tt)) refl refl (λ (h : (Read 65536 256 (Ok (47 ∷ 0 ∷ []))) ≡ (Act asked None (Ok tt))). cc),
+  refuses one_call granting answered worker (Send 1 (Value (pos 0)) (Ok tt)) (LetGo) refl refl (λ (h : (Send 1 (Value (pos 0)) (Ok tt)) ≡ (LetGo)). cc),
+  refuses reused granting renumbered worker (Check 1 (Ok tt)) (Check 1 (Err 2)) refl refl (λ (h : (Check 1 (Ok tt)) ≡ (Check 1 (Err 2))). cc),
+  refuses interrupted injecting put_and_interrupted parent (Install (Ok 3)) (Exit) refl refl (λ (h : (Install (Ok 3)) ≡ (Exit)). cc),
+  refuses one_call injecting read_once worker (AddfdPut without_send (Ok tt)) (AddfdPut with_send (Ok tt)) refl refl (λ h. numbers 0 2 refl (ap number_of h)),
+  refuses two_calls granting both_called worker (Recv (Ok newest_notif)) (Recv (Ok oldest_notif)) refl refl (λ h. numbers 2 1 refl (ap number_of h)),
 )

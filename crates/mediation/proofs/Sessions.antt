@@ -1,14 +1,13 @@
 -- The facts of sessions: what they opened is their call's task's, and what they leave is settled.
-use Rattle.std.proofs.Common.{◌≡◌, ◌⊎◌, inl, inr, ℕ, ◌<◌, ◌^◌, Bool, true, false, List, length, Some, None, refl}
-use Rattle.hist_model.specs.Calls.{listed, settled, waiting}
-use Rattle.hist_model.specs.Sessions.{Rules, session, any_of, gives_up, first_some, put_in}
+use Rattle.std.proofs.Common.{◌≡◌, ◌⊎◌, inl, inr, ◌<◌, ◌^◌, true, List, length, Some}
+use Rattle.hist_model.specs.Calls.{settled}
+use Rattle.hist_model.specs.Sessions.{Rules}
 use Rattle.hist_model.specs.Systems.{System}
 use Rattle.hist_model.specs.Steps.{IsLegal, session_call}
-use Rattle.hist_model.specs.Laws.{fetcher}
 use Rattle.hist_model.specs.declared.event.Event.{Event}
-use Rattle.mediation.specs.Facts.{HandlesOwn, SessionSettles, SessionsSettle}
+use Rattle.mediation.specs.Facts.{HandlesOwn, SessionsSettle}
 use Rattle.mediation.proofs.Handles.{Steady, steady}
-use Rattle.mediation.proofs.Phases.{AtCall, Phase}
+use Rattle.mediation.proofs.Phases.{AtCall}
 use Rattle.mediation.proofs.Waiting.{phases, at-call}
 use Rattle.mediation.proofs.Waited.{waits-now}
 

@@ -1,7 +1,7 @@
 -- What holds of a call in a worker's hand, by induction on the steps since it was fetched.
-use Rattle.std.proofs.Common.{◌≡◌, ◌⊎◌, inl, inr, ℕ, ◌<◌, ◌^◌, Bool, true, false, ◌&&◌, not, List, [], ◌∷◌, length, Option, Some, None, refl, sym, ◌∙◌, arith}
+use Rattle.std.proofs.Common.{◌≡◌, ◌⊎◌, inl, inr, ℕ, ◌<◌, ◌^◌, true, false, ◌&&◌, not, List, [], ◌∷◌, length, Option, Some, None, refl, sym, ◌∙◌, arith}
 use Rattle.std.specs.Prelude.{Ok, Err}
-use Rattle.std.proofs.lemmas.Bool.{cases_Bool, and_parts, both_ways}
+use Rattle.std.proofs.lemmas.Bool.{cases_Bool, both_ways}
 use Rattle.hist_model.specs.Look.{ev, is_worker}
 use Rattle.hist_model.specs.Sessions.{Rules, Fetch, session, skips, notif_of, any_of, is_letgo}
 use Rattle.hist_model.specs.Systems.{System}
@@ -13,7 +13,6 @@ use Rattle.hist_model.specs.declared.event.What.TheVariants.{Recv, OpenMem, Open
 use Rattle.sys_abi.specs.declared.wire.Notif.{Notif}
 use Rattle.mediation.proofs.Rows.{WorkerRow}
 use Rattle.mediation.proofs.Deeds.{deed-is}
-use Rattle.mediation.proofs.Count.{fetching}
 use Rattle.mediation.proofs.Work.{InSession, Idle, Hand, hand, worker-row, works, works-keep, session-same, session-more, grown, call-same, call-more}
 
 none-some : (c : ℕ) → None ≡ Some c → ⊥

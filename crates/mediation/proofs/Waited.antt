@@ -1,14 +1,14 @@
 -- A session's call waits up to the second good check.
-use Rattle.std.proofs.Common.{◌≡◌, ◌⊎◌, inl, inr, ℕ, zero, suc, ◌<◌, ◌≤◌, ◌^◌, Bool, true, false, ◌&&◌, ◌||◌, not, List, [], ◌∷◌, length, Option, Some, None, refl, sym, subst, ◌∙◌, arith}
-use Rattle.std.specs.Prelude.{if◌then◌else◌, nat_le, Result, Ok, Err}
+use Rattle.std.proofs.Common.{◌≡◌, ◌⊎◌, inl, inr, ℕ, ◌<◌, ◌≤◌, ◌^◌, Bool, true, false, ◌&&◌, ◌||◌, not, List, [], ◌∷◌, length, Some, None, refl, sym, subst, ◌∙◌, arith}
+use Rattle.std.specs.Prelude.{nat_le, Ok, Err}
 use Rattle.std.proofs.lemmas.Bool.{cases_Bool, and_parts, or_parts, leb-true, both_ways}
 use Rattle.hist_model.specs.Look.{ev, before, is_worker}
-use Rattle.hist_model.specs.Calls.{listed, fetched, waiting, caller, unlists}
-use Rattle.hist_model.specs.Sessions.{Rules, session, skips, any_of, gives_up, first_some, put_in, take_in, number_of, checks, notif_of}
+use Rattle.hist_model.specs.Calls.{listed, fetched, waiting}
+use Rattle.hist_model.specs.Sessions.{Rules, session, skips, any_of, gives_up, first_some, put_in, number_of, checks}
 use Rattle.hist_model.specs.Systems.{System}
 use Rattle.hist_model.specs.Steps.{IsStep, IsLegal, session_call, oldest_unfetched}
 use Rattle.hist_model.specs.Orders.{InOrder, is_good_check, uses_copy}
-use Rattle.hist_model.specs.Mediated.{WaitedUntilChecked, is_until_checked, ends_with_check}
+use Rattle.hist_model.specs.Mediated.{WaitedUntilChecked, is_until_checked}
 use Rattle.hist_model.specs.declared.event.Event.{Event}
 use Rattle.hist_model.specs.declared.event.Actor.{Actor}
 use Rattle.hist_model.specs.declared.event.What.{What}
@@ -20,14 +20,14 @@ use Rattle.mediation.proofs.Rows.{WorkerRow}
 use Rattle.mediation.proofs.Own.{listed-older}
 use Rattle.mediation.proofs.Ids.{is_call-below}
 use Rattle.mediation.proofs.Count.{fetching}
-use Rattle.mediation.proofs.Work.{InSession, Idle, works, session-more, started}
-use Rattle.mediation.proofs.Handles.{check-listed, listed-was, Steady, steady}
+use Rattle.mediation.proofs.Work.{InSession, Idle, session-more, started}
+use Rattle.mediation.proofs.Handles.{check-listed, listed-was, steady}
 use Rattle.mediation.proofs.Sequence.{is-own, is_put}
 use Rattle.mediation.proofs.Ordered.{ordered}
-use Rattle.mediation.proofs.Queues.{Clean, clean-waiting}
-use Rattle.mediation.proofs.Phases.{StageOf, AtCall, hand-fetcher, fetcher-fetched}
+use Rattle.mediation.proofs.Queues.{clean-waiting}
+use Rattle.mediation.proofs.Phases.{hand-fetcher, fetcher-fetched}
 use Rattle.mediation.proofs.Waiting.{at-call}
-use Rattle.mediation.proofs.Sittings.{Kept, by-session, in-hand-of}
+use Rattle.mediation.proofs.Sittings.{by-session, in-hand-of}
 
 no-put : (a : What) → is_put a ≡ false → put_in a ≡ None
 no-put (AddfdPut q x) h = cc

@@ -3,7 +3,7 @@ use Rattle.std.specs.Prelude.{◌≡◌, ◌<◌, ◌⊎◌, ℕ, Bool, true, fa
 use Rattle.hist_model.specs.Look.{Name, name_eq, event_at}
 use Rattle.hist_model.specs.Tasks.{name_of}
 use Rattle.hist_model.specs.Calls.{is_call, id, caller, listed, settled, waiting, closes}
-use Rattle.hist_model.specs.Sessions.{Rules, session, any_of, number_of, gives_up, first_some, put_in}
+use Rattle.hist_model.specs.Sessions.{Rules, session, any_of, gives_up, first_some, put_in}
 use Rattle.hist_model.specs.Systems.{System}
 use Rattle.hist_model.specs.Orders.{is_good_check}
 use Rattle.hist_model.specs.Laws.{fetcher}

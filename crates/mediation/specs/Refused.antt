@@ -1,7 +1,7 @@
 -- Small histories that are legal but for their last event: what a wrong kernel or a wrong broker would do.
-use Rattle.std.specs.Prelude.{ℕ, Bool, true, false, if◌then◌else◌, List, [], ◌∷◌, Option, Some, None, Ok, Err, pos}
+use Rattle.std.specs.Prelude.{ℕ, true, false, if◌then◌else◌, List, [], ◌∷◌, Option, Some, None, Ok, Err, pos}
 use Rattle.hist_model.specs.Look.{Name, name_eq, ev}
-use Rattle.hist_model.specs.Sessions.{Rules, Decision, Acts, Injects}
+use Rattle.hist_model.specs.Sessions.{Rules, Acts, Injects}
 use Rattle.hist_model.specs.Systems.{System, Number}
 use Rattle.hist_model.specs.Steps.{IsLegal, step, start}
 use Rattle.hist_model.specs.declared.event.Actor.{Actor}

@@ -12,5 +12,4 @@ pub fn wrong_histories_are_refused()
     ensures late_installation { LateInstallation }
     ensures without_send { WithoutSend }
     ensures newest_first { NewestFirst }
-{
-}
+{}
