@@ -6,14 +6,14 @@ use Rattle.hist_model.specs.Look.{Name, ev, before, event_at, is_worker, is_task
 use Rattle.hist_model.specs.Calls.{listed, caller, fetched, fetches, id, is_call, answers, puts_to, settled, waiting, closes}
 use Rattle.hist_model.specs.Sessions.{Rules, session, notif_of, reads_of, first_some, outcome_in, put_in, Acts, Plants, Injects, addfd_of, number_of, checks}
 use Rattle.hist_model.specs.Steps.{session_call, mem, task_place, times_spent, opened, notif}
-use Rattle.hist_model.specs.Laws.{AnsweredOnce, count_below, empty_recvs}
+use Rattle.hist_model.specs.Laws.{AnsweredOnce, count_below, empty_recvs, fetcher}
 use Rattle.hist_model.specs.Settlers.{InstallsOwn, ResumesOwn, ReturnsInstalled}
 use Rattle.hist_model.specs.Orders.{InOrder, is_good_check}
 use Rattle.hist_model.specs.Causes.{Cause}
 use Rattle.hist_model.specs.Trees.{Tree}
 use Rattle.hist_model.specs.Memory.{own_group}
 use Rattle.hist_model.specs.Signals.{call_of}
-use Rattle.hist_model.specs.Natives.{Files, base_of}
+use Rattle.hist_model.specs.Natives.{base_of}
 use Rattle.hist_model.specs.Files.{files, request_for}
 use Rattle.hist_model.specs.Legal.{rules_of, tree, copied}
 use Rattle.hist_model.specs.declared.event.Back.{Back}
@@ -27,7 +27,6 @@ use Rattle.hist_model.specs.declared.policy.Verdict.TheVariants.{Grant}
 use Rattle.hist_model.specs.declared.policy.Cap.{Cap}
 use Rattle.hist_model.specs.declared.request.Node.{Node}
 use Rattle.hist_model.specs.declared.request.Node.TheVariants.{Chr, Blk}
-use Rattle.hist_model.specs.declared.request.Obj.{Obj}
 use Rattle.hist_model.specs.declared.request.Obj.TheVariants.{Broker}
 use Rattle.hist_model.specs.declared.request.Request.{Request}
 use Rattle.hist_model.specs.declared.script.Script.{Script}
@@ -171,16 +170,21 @@ abbrev pub BaseIs : Script → List Event → ℕ → ℕ → Notif → Option �
 BaseIs S K w c n None = (files S K).base w ≡ None
 BaseIs S K w c n (Some dirfd) = ((files S K).base w ≡ None) ⊎ ((g : ℕ) × OpenedBase S K w c g n dirfd)
 
+-- the memory that the worker has opened is that of the group of the call's task
+abbrev pub HasMemory : List Event → ℕ → ℕ → Type 0
+HasMemory K w c = (g : ℕ) × (mem K w ≡ Some g) × (opened K (task_place K (caller K c)) ≡ Some g)
+
 -- what holds of an effect of a worker's session: of its call, its copy, its memory and the order of its steps
 pub record IsMediated (R : Rules) (K : List Event) (w c : ℕ) (n : Notif) : Type 0 where
   pub of_call : session_call K w ≡ Some c
+  pub fetched_by : fetcher K c ≡ Some w
   pub notif_is : notif_of (session K w) ≡ Some n
   pub of_notif : n ≡ notif K c
   pub whole : R.next_piece n (reads_of (session K w)) ≡ None
   pub no_fault : R.fault n (reads_of (session K w)) ≡ None
   pub checked : number_of is_good_check (session K w) ≡ 2
   pub waited : WaitedUntilChecked K w c
-  pub memory : mem K w ≡ opened K (task_place K (caller K c))
+  pub memory : HasMemory K w c
 
 -- an act is the one of its session, and what the deciding rule grants, with its cap, from the base of the call's task
 abbrev pub ActIsGranted : Policy → Script → List Event → Event → Type 0
@@ -204,7 +208,7 @@ PutIsInjected P S K e = (w : ℕ) (q : Addfd) (a : Result (Unit {0}) ℕ) → e.
 -- each read is of the memory of the call's task
 abbrev pub ReadsOwn : List Event → Event → Type 0
 ReadsOwn K e = (w addr len : ℕ) (a : Result (List ℕ) ℕ) → e.who ≡ Worker w → e.what ≡ Read addr len a
-    → (c : ℕ) × (session_call K w ≡ Some c) × (mem K w ≡ opened K (task_place K (caller K c)))
+    → (c : ℕ) × (session_call K w ≡ Some c) × HasMemory K w c
 
 -- of the effects under the cap of a rule with times n at most n were done
 abbrev pub TimesKept : Policy → List Event → Type 0

@@ -1,6 +1,6 @@
 -- A call has one session, and what was accepted for it arrives.
-use Rattle.std.proofs.Common.{◌≡◌, inl, inr, ℕ, ◌≤◌, ◌<◌, ◌^◌, Bool, true, false, ◌&&◌, ◌||◌, not, List, [], ◌∷◌, length, Some, refl, ap, sym, arith}
-use Rattle.std.proofs.lemmas.Bool.{cases_Bool, false_from_ne_true}
+use Rattle.std.proofs.Common.{◌≡◌, inl, inr, ℕ, ◌≤◌, ◌<◌, ◌^◌, Bool, true, false, ◌&&◌, ◌||◌, not, List, [], ◌∷◌, length, Some, refl, ap, arith}
+use Rattle.std.proofs.lemmas.Bool.{cases_Bool, false_from_ne_true, both_ways}
 use Rattle.hist_model.specs.Look.{name_eq, is_task}
 use Rattle.hist_model.specs.Calls.{listed, caller, fetched, fetches, id, settled, closes, leaves, unlists}
 use Rattle.hist_model.specs.Signals.{call_of}
@@ -19,16 +19,13 @@ use Rattle.mediation.proofs.Own.{row-of, listed-below, listed-older, waits-here}
 use Rattle.mediation.proofs.Phases.{refetch}
 use Rattle.mediation.proofs.Replies.{row-or-start}
 
-clash : (b : Bool) → b ≡ false → b ≡ true → ⊥
-clash b g h = cc
-
 -- a settled call is left by its return alone
 leaves-settled : (S : System) (R : Rules) (K : List Event) (c : ℕ) (a : Actor) (what : What) → IsLegal S R K → settled K c ≡ true → listed K c ≡ true → Row S R K a what
     → (closes what || (leaves what && is_task a (caller K c))) ≡ true → (closes what || (returns what && is_task a (caller K c))) ≡ true
 leaves-settled S R K c (Task n) (Deliver sig effect) legal s l r u =
     let q = name_eq-true n (caller K c) (go (name_eq n (caller K c)) u) in
     let w : call_of K n ≡ Some c = rw q (waits-here S R K c legal l) in
-    absurd (clash (settled K c) (r.2 c w) s)
+    absurd (both_ways (settled K c) (r.2 c w) s)
   where
     go : (b : Bool) → (false || (true && b)) ≡ true → b ≡ true
     go b h = grind arith
@@ -42,7 +39,7 @@ arrives S R K e legal room r c s l g =
     let b : c < length K = listed-below K c l in
     let u : unlists e (caller K c) ≡ true = left (unlists e (caller K c)) (rw (listed-older e K c b, l) at g) in
     elim (row-or-start S R K e r) [
-      | inl q ↦ absurd (clash (unlists e (caller K c)) (ap (λ (d : Event). unlists d (caller K c)) q) u)
+      | inl q ↦ absurd (both_ways (unlists e (caller K c)) (ap (λ (d : Event). unlists d (caller K c)) q) u)
       | inr q ↦ leaves-settled S R K c e.who e.what legal s l q.1 u
     ]
   where
@@ -58,7 +55,7 @@ unfolding FetchedOnce
 once-kind S R K e c legal room r ih =
     elim (cases_Bool (fetches e.what (id K c) && listed K c)) [
       | inl q ↦
-          let f : fetched K c ≡ false = false_from_ne_true (fetched K c) (λ h. clash (fetches e.what (id K c) && listed K c) (refetch S R K e.who e.what c legal room r h) q) in
+          let f : fetched K c ≡ false = false_from_ne_true (fetched K c) (λ h. both_ways (fetches e.what (id K c) && listed K c) (refetch S R K e.who e.what c legal room r h) q) in
           let z = ih.1 f in
           unfold fetches_of fetched in rw q (omega arith, λ x. cc)
       | inr q ↦ unfold fetches_of fetched in rw q (omega (arith, ih.0), λ x. omega (arith, ih.1 x))

@@ -1,8 +1,8 @@
 -- The audit of a session that answered names the rule that decided.
-use Rattle.std.proofs.Common.{◌≡◌, ◌⊎◌, inl, inr, ℕ, zero, suc, ◌+◌, ◌<◌, ◌≤◌, ◌^◌, Bool, true, false, ◌&&◌, ◌||◌, not, List, [], ◌∷◌, ◌++◌, length, reverse, Option, Some, None, refl, sym, ap, subst, ◌∙◌, arith}
-use Rattle.std.specs.Prelude.{if◌then◌else◌, ◌==◌, nat_le, count_by, cond, Result, Ok, Err}
+use Rattle.std.proofs.Common.{◌≡◌, ◌⊎◌, inl, inr, ℕ, suc, ◌+◌, ◌<◌, ◌≤◌, ◌^◌, Bool, true, false, ◌&&◌, not, List, [], ◌∷◌, ◌++◌, length, reverse, Some, None, refl, sym, ap, subst, ◌∙◌, arith}
+use Rattle.std.specs.Prelude.{if◌then◌else◌, ◌==◌, count_by, cond, Result, Ok, Err}
 use Rattle.std.specs.List.{list_any}
-use Rattle.std.proofs.lemmas.Bool.{cases_Bool, and_parts, or_parts, eq-eqb, ne_eqb, le-leb}
+use Rattle.std.proofs.lemmas.Bool.{cases_Bool, and_parts, or_parts, eq-eqb, ne_eqb, both_ways}
 use Rattle.std.proofs.lemmas.List.{reverse-append}
 use Rattle.std.proofs.lemmas.List.Recursion.{is_count_by}
 use Rattle.hist_model.specs.Look.{ev, before, event_at, is_worker}
@@ -14,7 +14,7 @@ use Rattle.hist_model.specs.Copies.{Complete, plan, progress}
 use Rattle.hist_model.specs.Requests.{request}
 use Rattle.hist_model.specs.Decisions.{decide}
 use Rattle.hist_model.specs.Legal.{copied, decision, read_answers, rules_of}
-use Rattle.hist_model.specs.ReportAudit.{session_at, session_step, joined, is_gone, is_spent, reads, finding, finding_by, finding_of, checked_twice, audit_of, judging_by, judged_by, judged_as, is_good_check as is_found_valid, skips as is_skipped}
+use Rattle.hist_model.specs.ReportAudit.{session_at, joined, is_gone, is_spent, reads, finding, finding_of, judging_by, judged_as, is_good_check as is_found_valid, skips as is_skipped}
 use Rattle.hist_model.specs.Mediated.{AuditNames}
 use Rattle.hist_model.specs.declared.event.Event.{Event}
 use Rattle.hist_model.specs.declared.event.Actor.{Actor}
@@ -30,16 +30,13 @@ use Rattle.hist_model.specs.declared.request.Request.{Request}
 use Rattle.hist_model.specs.declared.script.Figures.{Figures}
 use Rattle.sys_abi.specs.declared.wire.Notif.{Notif}
 use Rattle.hist_model.proofs.Look.{event_at-here, event_at-older, event_at-below, event_at-above, below_or_last}
-use Rattle.mediation.proofs.Before.{before-all, before-older, before-newest, length-before, legal-before}
+use Rattle.mediation.proofs.Before.{before-all, before-older, before-newest, legal-before}
 use Rattle.mediation.proofs.Rows.{WorkerRow}
 use Rattle.mediation.proofs.Deeds.{AtWork, deed-is}
-use Rattle.mediation.proofs.Work.{InSession, Idle, by, hand, in-hand, works, works-keep, at-work, worker-row, session-same, session-more, started, grown}
+use Rattle.mediation.proofs.Work.{InSession, Idle, hand, in-hand, works, works-keep, at-work, worker-row, session-same, session-more, started, grown}
 use Rattle.mediation.proofs.Sequence.{IsOwn, is-own, is_effect, effect-fixed}
 use Rattle.mediation.proofs.Ordered.{ordered, used-two}
-use Rattle.mediation.proofs.Sittings.{Kept, by-session, in-hand-of}
-
-clash : (b : Bool) → b ≡ false → b ≡ true → ⊥
-clash b g h = cc
+use Rattle.mediation.proofs.Sittings.{by-session}
 
 skipped-same : (what : What) → is_skipped what ≡ skips what
 skipped-same Skip = refl
@@ -78,7 +75,7 @@ pub record Began (K : List Event) (w : ℕ) : Type 0 where
   pub notif_is : notif_of (session K w) ≡ Some n
   pub same : session_at w place K ≡ session K w
 
-worker-event : (a : Actor) (w : ℕ) (what : What) → is_worker a w ≡ true → by a what ≡ ev (Worker w) what
+worker-event : (a : Actor) (w : ℕ) (what : What) → is_worker a w ≡ true → ev a what ≡ ev (Worker w) what
 worker-event (Worker v) w what h = rw (eqb v w h)
   where
     eqb : (v w : ℕ) → (v == w) ≡ true → v ≡ w
@@ -91,26 +88,26 @@ module _ (S : System) (R : Rules) where
   abbrev BeganOf : List Event → ℕ → ℕ → Type 0
   BeganOf K w c = Began K w
 
-  fetch-began : (K : List Event) (a : Actor) (w c : ℕ) (n : Notif) → IsStep S R K (by a (Recv (Ok n))) → IsLegal S R K → length (by a (Recv (Ok n)) ∷ K) < 2 ^ 64 → is_worker a w ≡ true
-      → WorkerRow S R K w (Recv (Ok n)) → oldest_unfetched K ≡ Some c → Idle K w → Began (by a (Recv (Ok n)) ∷ K) w
+  fetch-began : (K : List Event) (a : Actor) (w c : ℕ) (n : Notif) → IsStep S R K (ev a (Recv (Ok n))) → IsLegal S R K → length (ev a (Recv (Ok n)) ∷ K) < 2 ^ 64 → is_worker a w ≡ true
+      → WorkerRow S R K w (Recv (Ok n)) → oldest_unfetched K ≡ Some c → Idle K w → Began (ev a (Recv (Ok n)) ∷ K) w
   fetch-began K a w c n r legal room q row o idle =
-      let e = by a (Recv (Ok n)) in
+      let e = ev a (Recv (Ok n)) in
       let own : session (e ∷ K) w ≡ Recv (Ok n) ∷ [] = session-more e K w q refl ∙ started (session K w) (Recv (Ok n)) refl in
       record { place = length K; n = n; receive = event_at-here e K ∙ ap Some (worker-event a w (Recv (Ok n)) q); notif_is = rw own; same = at-here e K w ∙ sym own }
 
-  work-began : (K : List Event) (a : Actor) (w c : ℕ) (what : What) → IsStep S R K (by a what) → IsLegal S R K → length (by a what ∷ K) < 2 ^ 64 → is_worker a w ≡ true
-      → WorkerRow S R K w what → works what ≡ true → (i : InSession K w c) → session_call K w ≡ Some c → session (by a what ∷ K) w ≡ what ∷ session K w → Began K w → Began (by a what ∷ K) w
+  work-began : (K : List Event) (a : Actor) (w c : ℕ) (what : What) → IsStep S R K (ev a what) → IsLegal S R K → length (ev a what ∷ K) < 2 ^ 64 → is_worker a w ≡ true
+      → WorkerRow S R K w what → works what ≡ true → (i : InSession K w c) → session_call K w ≡ Some c → session (ev a what ∷ K) w ≡ what ∷ session K w → Began K w → Began (ev a what ∷ K) w
   work-began K a w c what r legal room q row v i s own b =
-      let e = by a what in
+      let e = ev a what in
       let l = event_at-below K b.place _ b.receive in
       let k = works-keep K what v in
-      let open' : joined (session K w) what ≡ what ∷ session K w = joined-open (session K w) what i.n i.notif_is i.no_letgo in
+      let joins : joined (session K w) what ≡ what ∷ session K w = joined-open (session K w) what i.n i.notif_is i.no_letgo in
       record {
         place = b.place;
         n = b.n;
         receive = rw event_at-older b.receive;
         notif_is = rw (own, k.no_notif) b.notif_is;
-        same = at-more e K w b.place l q k.no_skip ∙ (ap (λ x. joined x what) b.same ∙ (open' ∙ sym own));
+        same = at-more e K w b.place l q k.no_skip ∙ (ap (λ x. joined x what) b.same ∙ (joins ∙ sym own));
       }
 
   still-began : (K : List Event) (e : Event) (w c : ℕ) → IsStep S R K e → IsLegal S R K → length (e ∷ K) < 2 ^ 64 → (is_worker e.who w && not (skips e.what)) ≡ false
@@ -132,14 +129,14 @@ module _ (S : System) (R : Rules) where
   lets-go K w own what n q h g u row z = go what row z
     where
       no-work : (what : What) → WorkerRow S R K w what → works what ≡ true → ⊥
-      no-work what row v = let k = at-work S R K w what row v in clash (any_of gives_up (session K w)) k.1.no_end (rw q u)
+      no-work what row v = let k = at-work S R K w what row v in both_ways (any_of gives_up (session K w)) k.1.no_end (rw q u)
 
       none : (m : Notif) → None ≡ Some m → ⊥
       none m h = cc
 
       no-fetch : (notif_of (session K w) ≡ None) ⊎ (any_of is_letgo (session K w) ≡ true) → ⊥
       no-fetch (inl x) = none n (sym x ∙ rw q h)
-      no-fetch (inr x) = clash (any_of is_letgo (session K w)) (rw q g) x
+      no-fetch (inr x) = both_ways (any_of is_letgo (session K w)) (rw q g) x
 
       go : (what : What) → WorkerRow S R K w what → skips what ≡ false → what ≡ LetGo
       go LetGo row z = refl
@@ -206,8 +203,8 @@ module _ (S : System) (R : Rules) where
         work = rw (before-newest e K, same g.n t.0 (sym g.notif_is ∙ t.1.notif_is)) t.1;
         two = rw (before-newest e K) (used-two R (session K w) t.0 t.1 t.3 (ordered R (session K w) (is-own S R K legal w)));
         ends = rw (before-newest e K) (answered
-          (at-more e K w g.place l v z ∙ (ap (λ y. joined y e.what) g.same ∙ (joined-open (session K w) e.what t.0 t.1.notif_is t.1.no_letgo ∙ ap (λ y. y ∷ session K w) m)))
-          (session-more e K w v z ∙ (grown (session K w) e.what t.0 t.1.notif_is k ∙ ap (λ y. y ∷ session K w) m)));
+            (at-more e K w g.place l v z ∙ (ap (λ y. joined y e.what) g.same ∙ (joined-open (session K w) e.what t.0 t.1.notif_is t.1.no_letgo ∙ ap (λ y. y ∷ session K w) m)))
+            (session-more e K w v z ∙ (grown (session K w) e.what t.0 t.1.notif_is k ∙ ap (λ y. y ∷ session K w) m)));
       }
     where
       same : (x y : Notif) → Some x ≡ Some y → x ≡ y
@@ -297,14 +294,14 @@ audit-names S P F H legal room s w x b a n texts h m c =
     let l = event_at-below H t.place _ t.receive in
     let z : length (before H t.place) ≡ t.place = before-length H t.place (omega arith) in
     let r = names-rule P n x b a (session (before H s) w) texts t.work.no_end t.two c in
-    (t.place, rw q at t.receive, go (length (before H t.place)) z r t.ends, λ e. grants (session (before H s) w) (is-own S R' (before H s) (legal-before S R' H s legal) w) m c e)
+    (t.place, rw q at t.receive, go (length (before H t.place)) z r t.ends, λ e. grants (session (before H s) w) (is-own S Q (before H s) (legal-before S Q H s legal) w) m c e)
   where
-    R' : Rules
-    R' = rules_of P F
+    Q : Rules
+    Q = rules_of P F
 
-    grants : (own : List What) → IsOwn R' own → notif_of own ≡ Some n → copied n (reads_of own) ≡ Complete texts → list_any is_spent own ≡ true → (decide P.rules (request n.call.nr n.call.args texts)).1 ≡ Grant
+    grants : (own : List What) → IsOwn Q own → notif_of own ≡ Some n → copied n (reads_of own) ≡ Complete texts → list_any is_spent own ≡ true → (decide P.rules (request n.call.nr n.call.args texts)).1 ≡ Grant
     grants own i h k e =
-        let f = effect-fixed R' own n i h (spent-effect own e) in
+        let f = effect-fixed Q own n i h (spent-effect own e) in
         acting-grants P F (request n.call.nr n.call.args texts) _ _ (rw k at f.decided)
 
     same : (x y : Notif) → Some x ≡ Some y → x ≡ y

@@ -1,16 +1,15 @@
 -- The base from which a session's effect goes is one that the session opened, in a slot of its call's task's group.
-use Rattle.std.proofs.Common.{◌≡◌, ◌⊎◌, inl, inr, ℕ, ◌<◌, ◌^◌, Bool, true, false, ◌&&◌, not, List, [], ◌∷◌, length, Option, Some, None, refl, sym, ap, ◌∙◌, arith}
-use Rattle.std.specs.Prelude.{if◌then◌else◌, ◌==◌, Result, Ok, Err, ℤ}
-use Rattle.std.proofs.lemmas.Bool.{cases_Bool, eqb-true, ne_eqb, eq-eqb}
+use Rattle.std.proofs.Common.{◌≡◌, inl, inr, ℕ, ◌<◌, ◌^◌, Bool, true, false, ◌&&◌, not, List, [], ◌∷◌, length, Option, Some, None, refl, sym, ap, ◌∙◌, arith}
+use Rattle.std.specs.Prelude.{◌==◌, Result, Ok, Err, ℤ}
+use Rattle.std.proofs.lemmas.Bool.{cases_Bool, eqb-true, ne_eqb, eq-eqb, both_ways}
 use Rattle.hist_model.specs.Look.{ev, before, event_at, is_worker}
-use Rattle.hist_model.specs.Tasks.{holder, ended, name_of}
-use Rattle.hist_model.specs.Calls.{listed, caller}
+use Rattle.hist_model.specs.Tasks.{holder}
 use Rattle.hist_model.specs.Sessions.{Rules, session, skips, any_of, gives_up, checks, notif_of}
 use Rattle.hist_model.specs.Systems.{System}
-use Rattle.hist_model.specs.Steps.{IsStep, IsLegal, session_call, base, base_after, base_answer, opened, group, task_place, place_or, oldest_unfetched}
+use Rattle.hist_model.specs.Steps.{IsStep, IsLegal, session_call, base, base_after, base_answer, opened, place_or, oldest_unfetched}
 use Rattle.hist_model.specs.Natives.{Files, base_of}
-use Rattle.hist_model.specs.Files.{files, files_after, after_native, after_spawn, with_base}
-use Rattle.hist_model.specs.Natives.{NativeStep, Fails, Gives, Changes, Opens, Closes, Writes, native_step}
+use Rattle.hist_model.specs.Files.{files, files_after, after_native, after_spawn}
+use Rattle.hist_model.specs.Natives.{NativeStep, Fails, Gives, Changes, Opens, Closes, Writes}
 use Rattle.hist_model.specs.Memory.{own_group}
 use Rattle.hist_model.specs.Mediated.{OpenedBase, BaseIs}
 use Rattle.hist_model.specs.declared.event.Event.{Event}
@@ -20,7 +19,6 @@ use Rattle.hist_model.specs.declared.event.What.{What}
 use Rattle.hist_model.specs.declared.event.What.TheVariants.{Spawn, Native, Install, Recv, OpenMem, OpenBase, Check, Read, Act, Plant, AddfdPut, AddfdTake, Send, LetGo, Skip}
 use Rattle.hist_model.specs.declared.event.SpawnKind.{SpawnKind}
 use Rattle.hist_model.specs.declared.event.SpawnKind.TheVariants.{New, Copied, Shared}
-use Rattle.hist_model.specs.declared.request.Obj.{Obj}
 use Rattle.hist_model.specs.declared.script.Script.{Script}
 use Rattle.hist_model.specs.Legal.{system_of}
 use Rattle.sys_abi.specs.declared.wire.Notif.{Notif}
@@ -28,10 +26,10 @@ use Rattle.hist_model.proofs.Look.{event_at-here, event_at-older, event_at-below
 use Rattle.mediation.proofs.Before.{before-older, before-newest}
 use Rattle.mediation.proofs.Rows.{WorkerRow}
 use Rattle.mediation.proofs.Deeds.{deed-is}
-use Rattle.mediation.proofs.Work.{InSession, Idle, by, works, works-keep, worker-row, session-more, started, base-same, base-more, call-same}
+use Rattle.mediation.proofs.Work.{InSession, Idle, works, works-keep, worker-row, base-same, base-more}
 use Rattle.mediation.proofs.Handles.{Steady, steady}
 use Rattle.mediation.proofs.Opened.{good-check}
-use Rattle.mediation.proofs.Sittings.{Kept, by-session, in-hand-of}
+use Rattle.mediation.proofs.Sittings.{by-session, in-hand-of}
 
 -- the base that the files have for a worker
 pub files_base : Script → List Event → ℕ → Option ℕ
@@ -56,6 +54,13 @@ moves (OpenBase p d (Ok u)) = true
 moves LetGo = true
 moves _ = false
 
+-- two workers
+another : (v w : ℕ) → ((v == w) && true) ≡ false → (w == v) ≡ false
+another v w h = ne_eqb w v (λ q. both_ways (v == w) (no-and (v == w) h) (eq-eqb v w (sym q)))
+  where
+    no-and : (b : Bool) → (b && true) ≡ false → b ≡ false
+    no-and b h = grind arith
+
 -- another's step, or one that is no opening of a base and no letting go
 after-base : (S : Script) (K : List Event) (F : Files) (a : Actor) (what : What) (w : ℕ) → (is_worker a w && moves what) ≡ false → (files_after S K F a what).base w ≡ F.base w
 after-base S K F a (Spawn n (Ok made)) w h = spawn-base K F a made.1 w
@@ -66,33 +71,9 @@ after-base S K F a (Install (Ok m)) w h = refl
 after-base S K F a (Install (Err e)) w h = refl
 after-base S K F (Worker v) (Act q cap (Ok u)) w h = refl
 after-base S K F (Worker v) (Act q cap (Err e)) w h = refl
-after-base S K F (Worker v) (OpenBase p d (Ok u)) w h = rw (other v w h)
-  where
-    other : (v w : ℕ) → ((v == w) && true) ≡ false → (w == v) ≡ false
-    other v w h = elim (cases_Bool (w == v)) [
-      | inl q ↦ absurd (clash ((v == w) && true) h (both (eq-eqb v w (sym (eqb-true w v q)))))
-      | inr q ↦ q
-    ]
-      where
-        clash : (b : Bool) → b ≡ false → b ≡ true → ⊥
-        clash b g h = cc
-
-        both : {b : Bool} → b ≡ true → (b && true) ≡ true
-        both h = rw h
+after-base S K F (Worker v) (OpenBase p d (Ok u)) w h = rw (another v w h)
 after-base S K F (Worker v) (OpenBase p d (Err e)) w h = refl
-after-base S K F (Worker v) LetGo w h = rw (other v w h)
-  where
-    other : (v w : ℕ) → ((v == w) && true) ≡ false → (w == v) ≡ false
-    other v w h = elim (cases_Bool (w == v)) [
-      | inl q ↦ absurd (clash ((v == w) && true) h (both (eq-eqb v w (sym (eqb-true w v q)))))
-      | inr q ↦ q
-    ]
-      where
-        clash : (b : Bool) → b ≡ false → b ≡ true → ⊥
-        clash b g h = cc
-
-        both : {b : Bool} → b ≡ true → (b && true) ≡ true
-        both h = rw h
+after-base S K F (Worker v) LetGo w h = rw (another v w h)
 after-base S K F a what w h = refl
 
 files-same : (S : Script) (e : Event) (K : List Event) (w : ℕ) → (is_worker e.who w && moves e.what) ≡ false → files_base S (e ∷ K) w ≡ files_base S K w
@@ -100,14 +81,14 @@ unfolding files_base files
 files-same S e K w h = after-base S K (files S K) e.who e.what w h
 
 -- a worker's own steps
-files-opens : (S : Script) (K : List Event) (a : Actor) (w p : ℕ) (d : ℤ) (u : Unit {0}) → is_worker a w ≡ true → files_base S (by a (OpenBase p d (Ok u)) ∷ K) w ≡ base_of S (files S K) (place_or (opened K (holder K p))) d
+files-opens : (S : Script) (K : List Event) (a : Actor) (w p : ℕ) (d : ℤ) (u : Unit {0}) → is_worker a w ≡ true → files_base S (ev a (OpenBase p d (Ok u)) ∷ K) w ≡ base_of S (files S K) (place_or (opened K (holder K p))) d
 unfolding files_base files
 files-opens S K (Worker v) w p d u h = let q = eqb-true v w h in rw (q, eq-eqb w w refl)
 files-opens S K Start w p d u h = cc
 files-opens S K (Task n) w p d u h = cc
 files-opens S K Listener w p d u h = cc
 
-files-drops : (S : Script) (K : List Event) (a : Actor) (w : ℕ) → is_worker a w ≡ true → files_base S (by a LetGo ∷ K) w ≡ None
+files-drops : (S : Script) (K : List Event) (a : Actor) (w : ℕ) → is_worker a w ≡ true → files_base S (ev a LetGo ∷ K) w ≡ None
 unfolding files_base files
 files-drops S K (Worker v) w h = let q = eqb-true v w h in rw (q, eq-eqb w w refl)
 files-drops S K Start w h = cc
@@ -137,7 +118,7 @@ opening-found S K (Some t) d u h = (t, refl)
 
 -- a worker without a base's group has no base
 module _ (S : Script) (R : Rules) where
-  none-mine : (K : List Event) (a : Actor) (w : ℕ) (what : What) → is_worker a w ≡ true → WorkerRow (system_of S) R K w what → moves what ≡ true → base_after K what (base K w) ≡ None → files_base S (by a what ∷ K) w ≡ None
+  none-mine : (K : List Event) (a : Actor) (w : ℕ) (what : What) → is_worker a w ≡ true → WorkerRow (system_of S) R K w what → moves what ≡ true → base_after K what (base K w) ≡ None → files_base S (ev a what ∷ K) w ≡ None
   none-mine K a w (OpenBase p d (Ok u)) q row m h =
       let f = opening-found (system_of S) K (holder K p) d u row.1 in
       absurd (no (holder K p) f.0 f.1 h)
@@ -192,18 +173,18 @@ module _ (S : Script) (R : Rules) where
         is_base = rw b (files-same S e K w q ∙ f.is_base);
       }
 
-  fetch-found : (K : List Event) (a : Actor) (w c : ℕ) (n : Notif) → IsStep (system_of S) R K (by a (Recv (Ok n))) → IsLegal (system_of S) R K → length (by a (Recv (Ok n)) ∷ K) < 2 ^ 64 → is_worker a w ≡ true
-      → WorkerRow (system_of S) R K w (Recv (Ok n)) → oldest_unfetched K ≡ Some c → Idle K w → HasFound (by a (Recv (Ok n)) ∷ K) w c
-  fetch-found K a w c n r legal room q row o idle g h = absurd (no g (sym (base-more (by a (Recv (Ok n))) K w q ∙ idle.base_none) ∙ h))
+  fetch-found : (K : List Event) (a : Actor) (w c : ℕ) (n : Notif) → IsStep (system_of S) R K (ev a (Recv (Ok n))) → IsLegal (system_of S) R K → length (ev a (Recv (Ok n)) ∷ K) < 2 ^ 64 → is_worker a w ≡ true
+      → WorkerRow (system_of S) R K w (Recv (Ok n)) → oldest_unfetched K ≡ Some c → Idle K w → HasFound (ev a (Recv (Ok n)) ∷ K) w c
+  fetch-found K a w c n r legal room q row o idle g h = absurd (no g (sym (base-more (ev a (Recv (Ok n))) K w q ∙ idle.base_none) ∙ h))
     where
       no : (g : ℕ) → None ≡ Some g → ⊥
       no g h = cc
 
   -- the opening of a base
   opens-found : (K : List Event) (a : Actor) (w c p : ℕ) (d : ℤ) (u : Unit {0}) → is_worker a w ≡ true → WorkerRow (system_of S) R K w (OpenBase p d (Ok u)) → session_call K w ≡ Some c
-      → session (by a (OpenBase p d (Ok u)) ∷ K) w ≡ OpenBase p d (Ok u) ∷ session K w → HasFound (by a (OpenBase p d (Ok u)) ∷ K) w c
+      → session (ev a (OpenBase p d (Ok u)) ∷ K) w ≡ OpenBase p d (Ok u) ∷ session K w → HasFound (ev a (OpenBase p d (Ok u)) ∷ K) w c
   opens-found K a w c p d u q row s own g h =
-      let e = by a (OpenBase p d (Ok u)) in
+      let e = ev a (OpenBase p d (Ok u)) in
       let t = deed-is R (session K w) _ row.0 in
       let f = opening-found (system_of S) K (holder K p) d u row.1 in
       let o : opened K (holder K p) ≡ Some g = sym (base-more e K w q) ∙ h in
@@ -218,16 +199,16 @@ module _ (S : Script) (R : Rules) where
         is_base = rw (before-newest e K) (files-opens S K a w p d u q ∙ ap (λ (x : Option ℕ). base_of S (files S K) (place_or x) d) o);
       }
     where
-      same-event : (a : Actor) (w p r : ℕ) (d : ℤ) (u : Unit {0}) → is_worker a w ≡ true → p ≡ r → by a (OpenBase p d (Ok u)) ≡ ev (Worker w) (OpenBase r d (Ok tt))
+      same-event : (a : Actor) (w p r : ℕ) (d : ℤ) (u : Unit {0}) → is_worker a w ≡ true → p ≡ r → ev a (OpenBase p d (Ok u)) ≡ ev (Worker w) (OpenBase r d (Ok tt))
       same-event (Worker v) w p r d u h k = rw (eqb-true v w h, k)
       same-event Start w p r d u h k = cc
       same-event (Task n) w p r d u h k = cc
       same-event Listener w p r d u h k = cc
 
   -- a step of a session that moves no base
-  other-found : (K : List Event) (a : Actor) (w c : ℕ) (what : What) → works what ≡ true → moves what ≡ false → session (by a what ∷ K) w ≡ what ∷ session K w → HasFound K w c → is_worker a w ≡ true → HasFound (by a what ∷ K) w c
+  other-found : (K : List Event) (a : Actor) (w c : ℕ) (what : What) → works what ≡ true → moves what ≡ false → session (ev a what ∷ K) w ≡ what ∷ session K w → HasFound K w c → is_worker a w ≡ true → HasFound (ev a what ∷ K) w c
   other-found K a w c what v m own ih q g h =
-      let e = by a what in
+      let e = ev a what in
       let k = works-keep K what v in
       let still = moved (is_worker a w) (moves what) m in
       found-later e K w c g still (rw (own, k.no_notif)) (ih g (sym (base-stays e K w still) ∙ h))
@@ -235,8 +216,8 @@ module _ (S : Script) (R : Rules) where
       moved : (a b : Bool) → b ≡ false → (a && b) ≡ false
       moved a b h = grind arith
 
-  work-found : (K : List Event) (a : Actor) (w c : ℕ) (what : What) → IsStep (system_of S) R K (by a what) → IsLegal (system_of S) R K → length (by a what ∷ K) < 2 ^ 64 → is_worker a w ≡ true
-      → WorkerRow (system_of S) R K w what → works what ≡ true → (i : InSession K w c) → session_call K w ≡ Some c → session (by a what ∷ K) w ≡ what ∷ session K w → HasFound K w c → HasFound (by a what ∷ K) w c
+  work-found : (K : List Event) (a : Actor) (w c : ℕ) (what : What) → IsStep (system_of S) R K (ev a what) → IsLegal (system_of S) R K → length (ev a what ∷ K) < 2 ^ 64 → is_worker a w ≡ true
+      → WorkerRow (system_of S) R K w what → works what ≡ true → (i : InSession K w c) → session_call K w ≡ Some c → session (ev a what ∷ K) w ≡ what ∷ session K w → HasFound K w c → HasFound (ev a what ∷ K) w c
   work-found K a w c (OpenBase p d (Ok u)) r legal room q row v i s own ih = opens-found K a w c p d u q row s own
   work-found K a w c (OpenBase p d (Err x)) r legal room q row v i s own ih = other-found K a w c (OpenBase p d (Err x)) refl refl own ih q
   work-found K a w c (OpenMem p x) r legal room q row v i s own ih = other-found K a w c (OpenMem p x) refl refl own ih q

@@ -2,7 +2,7 @@
 use Rattle.std.proofs.Common.{◌≡◌, inl, inr, ℕ, zero, suc, ◌+◌, ◌<◌, ◌≤◌, ◌^◌, Bool, true, false, ◌&&◌, not, List, [], ◌∷◌, length, Option, Some, None, refl, sym, ap, ◌∙◌, arith}
 use Rattle.std.specs.Prelude.{if◌then◌else◌, ◌==◌, Result, Ok, Err}
 use Rattle.std.proofs.lemmas.Bool.{cases_Bool, and_parts, eqb-true, eqb-false, eq-eqb, not-true, false_from_ne_true}
-use Rattle.hist_model.specs.Look.{event_at}
+use Rattle.hist_model.specs.Look.{ev, event_at}
 use Rattle.hist_model.specs.Calls.{listed, fetched, fetches, calls, recvs, count, id, is_call, notifies}
 use Rattle.hist_model.specs.Sessions.{Rules}
 use Rattle.hist_model.specs.Systems.{System}
@@ -126,31 +126,28 @@ pub record Counted (K : List Event) : Type 0 where
 same-unfetched : (e : Event) (K : List Event) → ((c : ℕ) → fetches e.what (id K c) ≡ false) → count_below (unfetched (e ∷ K)) (length K) ≡ count_below (unfetched K) (length K)
 same-unfetched e K h = count_below-same (unfetched (e ∷ K)) (unfetched K) (length K) (λ c l. rw (event_at-older e K c l, fetched-same e K c (rw (h c))))
 
-abbrev ev' : Actor → What → Event
-ev' a w = record { who = a; what = w }
-
-counted-kind : (S : System) (R : Rules) (K : List Event) (a : Actor) (w : What) → Row S R K a w → IsLegal S R K → length K < 2 ^ 64 → Counted K → Counted (ev' a w ∷ K)
+counted-kind : (S : System) (R : Rules) (K : List Event) (a : Actor) (w : What) → Row S R K a w → IsLegal S R K → length K < 2 ^ 64 → Counted K → Counted (ev a w ∷ K)
 unfolding calls recvs empty_recvs
 counted-kind S R K a (Recv (Ok n)) r legal b ih =
     let g = receiving S R K a (Ok n) r in
     let f = fetching K n (oldest_unfetched K) refl g.1 in
-    let x = fetch-one S R K (ev' a (Recv (Ok n))) f.0 legal b (ap (λ m. Recv (Ok m)) f.1) f.2 f.3 in
-    let y = unfetched-step (ev' a (Recv (Ok n))) K in
+    let x = fetch-one S R K (ev a (Recv (Ok n))) f.0 legal b (ap (λ m. Recv (Ok m)) f.1) f.2 f.3 in
+    let y = unfetched-step (ev a (Recv (Ok n))) K in
     let z : count K ≡ 0 → ⊥ = eqb-false (count K) 0 g.0 in
     let u = ih.room in
     let v = ih.sum in
     record { room = omega arith; sum = omega arith }
 counted-kind S R K a (Recv (Err err)) r legal b ih =
     let g = receiving S R K a (Err err) r in
-    let x = same-unfetched (ev' a (Recv (Err err))) K (λ c. refl) in
-    let y = unfetched-step (ev' a (Recv (Err err))) K in
+    let x = same-unfetched (ev a (Recv (Err err))) K (λ c. refl) in
+    let y = unfetched-step (ev a (Recv (Err err))) K in
     let z : count K ≡ 0 → ⊥ = eqb-false (count K) 0 g.0 in
     let u = ih.room in
     let v = ih.sum in
     record { room = omega arith; sum = omega arith }
 counted-kind S R K a w r legal b ih =
-    let x = same-unfetched (ev' a w) K (λ c. refl) in
-    let y = unfetched-step (ev' a w) K in
+    let x = same-unfetched (ev a w) K (λ c. refl) in
+    let y = unfetched-step (ev a w) K in
     let u = ih.room in
     let v = ih.sum in
     record { room = omega arith; sum = omega arith }

@@ -47,48 +47,48 @@ Tells R own (Put q) = (n : Notif) × AtWork own n × HasOpened R own n × HasCop
 Tells R own Take = (n : Notif) × AtWork own n × HasOpened R own n × HasCopied R own n × ((u : Unit {0}) × (first_some put_in own ≡ Some (Ok u))) × (first_some take_in own ≡ None)
 Tells R own (Answer x b) = (n : Notif) × AtWork own n × HasOpened R own n × HasCopied R own n × (x ≡ n.id) × Cause R own n b
 
-module _ (R : Rules) (own : List What) (n : Notif) (work : AtWork own n) (open' : HasOpened R own n) where
+module _ (R : Rules) (own : List What) (n : Notif) (work : AtWork own n) (ready : HasOpened R own n) where
   act_tells : HasCopied R own n → R.fault n (reads_of own) ≡ None → is_acting (R.decide n (reads_of own)) ≡ true → (o : Option (Result (Unit {0}) ℕ)) → first_some outcome_in own ≡ o → (d : Deed) → (first_some outcome_in own ≡ None → Tells R own d) → Tells R own (after_act n.id o d)
   act_tells c f v None h d t = t h
-  act_tells c f v (Some r) h d t = (n, work, open', c, refl, done r f v h)
+  act_tells c f v (Some r) h d t = (n, work, ready, c, refl, done r f v h)
 
   inject_tells : HasCopied R own n → R.fault n (reads_of own) ≡ None → (a : Addfd) → IsInjected R own n a → (p : Option (Result (Unit {0}) ℕ)) (t : Option (Result ℕ ℕ)) → first_some put_in own ≡ p → first_some take_in own ≡ t → Tells R own (inject_deed n.id a p t)
-  inject_tells c f a g None t h k = (n, work, open', c, g, h)
-  inject_tells c f a g (Some (Err e)) t h k = (n, work, open', c, refl, not_put e g.src g.place g.flags f g.decided h)
-  inject_tells c f a g (Some (Ok u)) None h k = (n, work, open', c, (u, h), k)
-  inject_tells c f a g (Some (Ok u)) (Some t) h k = (n, work, open', c, refl, not_taken t g.src g.place g.flags f g.decided k)
+  inject_tells c f a g None t h k = (n, work, ready, c, g, h)
+  inject_tells c f a g (Some (Err e)) t h k = (n, work, ready, c, refl, not_put e g.src g.place g.flags f g.decided h)
+  inject_tells c f a g (Some (Ok u)) None h k = (n, work, ready, c, (u, h), k)
+  inject_tells c f a g (Some (Ok u)) (Some t) h k = (n, work, ready, c, refl, not_taken t g.src g.place g.flags f g.decided k)
 
   decided_tells : HasCopied R own n → R.fault n (reads_of own) ≡ None → (d : Decision) → R.decide n (reads_of own) ≡ d → Tells R own (decided_deed n.id own d)
-  decided_tells c f (Denies e) h = (n, work, open', c, refl, denied e f h)
-  decided_tells c f Passes h = (n, work, open', c, refl, passed f h)
-  decided_tells c f (Acts q cap) h = act_tells c f (ap is_acting h) (first_some outcome_in own) refl (ActD q cap) (λ k. (n, work, open', c, h, k, f))
-  decided_tells c f (Plants a b cap) h = act_tells c f (ap is_acting h) (first_some outcome_in own) refl (PlantD a b cap) (λ k. (n, work, open', c, h, k, f))
+  decided_tells c f (Denies e) h = (n, work, ready, c, refl, denied e f h)
+  decided_tells c f Passes h = (n, work, ready, c, refl, passed f h)
+  decided_tells c f (Acts q cap) h = act_tells c f (ap is_acting h) (first_some outcome_in own) refl (ActD q cap) (λ k. (n, work, ready, c, h, k, f))
+  decided_tells c f (Plants a b cap) h = act_tells c f (ap is_acting h) (first_some outcome_in own) refl (PlantD a b cap) (λ k. (n, work, ready, c, h, k, f))
   decided_tells c f (Injects src place flags) h = inject_tells c f (addfd_of n.id src place flags) (record { src = src; place = place; flags = flags; sound = f; decided = h; is = refl }) (first_some put_in own) (first_some take_in own) refl refl
 
   judged_tells : HasCopied R own n → (f : Option ℕ) → R.fault n (reads_of own) ≡ f → Tells R own (judged_deed R n own f)
-  judged_tells c (Some f) h = (n, work, open', c, refl, faulty f h)
+  judged_tells c (Some f) h = (n, work, ready, c, refl, faulty f h)
   judged_tells c None h = decided_tells c h (R.decide n (reads_of own)) refl
 
   twice_tells : any_of checks own ≡ true → R.next_piece n (reads_of own) ≡ None → (b : Bool) → (number_of checks own == 1) ≡ b → Tells R own (if b then Ask n.id else judged_deed R n own (R.fault n (reads_of own)))
-  twice_tells c p true h = (n, work, open', refl, inr (h, p))
+  twice_tells c p true h = (n, work, ready, refl, inr (h, p))
   twice_tells c p false h = judged_tells (record { checked = c; twice = h; copied = p }) (R.fault n (reads_of own)) refl
 
   copied_tells : any_of checks own ≡ true → (p : Option (ℕ × ℕ)) → R.next_piece n (reads_of own) ≡ p → Tells R own (copied_deed R n own p)
-  copied_tells c (Some a) h = (n, work, open', c, h)
+  copied_tells c (Some a) h = (n, work, ready, c, h)
   copied_tells c None h = twice_tells c h (number_of checks own == 1) refl
 
   checked_tells : (b : Bool) → any_of checks own ≡ b → Tells R own (if not b then Ask n.id else copied_deed R n own (R.next_piece n (reads_of own)))
   checked_tells true h = copied_tells h (R.next_piece n (reads_of own)) refl
-  checked_tells false h = (n, work, open', refl, inl h)
+  checked_tells false h = (n, work, ready, refl, inl h)
 
-module _ (R : Rules) (own : List What) (n : Notif) (work : AtWork own n) (mem' : any_of opens own ≡ true) where
+module _ (R : Rules) (own : List What) (n : Notif) (work : AtWork own n) (has_opened : any_of opens own ≡ true) where
   base_tells : (d : ℤ) → R.dirfd n ≡ Some d → (b : Bool) → any_of opens_base own ≡ b → Tells R own (if not b then OpenB n.pid d else checked_deed R n own)
-  base_tells d q true h = checked_tells R own n work (record { mem = mem'; base = inr h }) (any_of checks own) refl
-  base_tells d q false h = (n, work, mem', h, refl, q)
+  base_tells d q true h = checked_tells R own n work (record { mem = has_opened; base = inr h }) (any_of checks own) refl
+  base_tells d q false h = (n, work, has_opened, h, refl, q)
 
   based_tells : (d : Option ℤ) → R.dirfd n ≡ d → Tells R own (based_deed R n own d)
   based_tells (Some d) q = base_tells d q (any_of opens_base own) refl
-  based_tells None q = checked_tells R own n work (record { mem = mem'; base = inl q }) (any_of checks own) refl
+  based_tells None q = checked_tells R own n work (record { mem = has_opened; base = inl q }) (any_of checks own) refl
 
 open_tells : (R : Rules) (own : List What) (n : Notif) → AtWork own n → (b : Bool) → any_of opens own ≡ b → Tells R own (if not b then Open n.pid else based_deed R n own (R.dirfd n))
 open_tells R own n work true h = based_tells R own n work h (R.dirfd n) refl

@@ -1,13 +1,13 @@
 -- Finished stays finished.
-use Rattle.std.proofs.Common.{◌≡◌, ◌⊎◌, inl, inr, ℕ, ◌<◌, Bool, true, false, ◌&&◌, ◌||◌, not, List, [], ◌∷◌, ◌++◌, length, Option, Some, None, refl, sym, ◌∙◌, arith}
-use Rattle.std.specs.Prelude.{if◌then◌else◌, ◌==◌, Result, Ok, Err}
-use Rattle.std.proofs.lemmas.Bool.{cases_Bool, and_parts, false_from_ne_true}
+use Rattle.std.proofs.Common.{◌≡◌, ◌⊎◌, inl, inr, ℕ, ◌<◌, Bool, true, false, ◌&&◌, ◌||◌, not, List, [], ◌∷◌, ◌++◌, length, Some, None, refl, sym, ◌∙◌, arith}
+use Rattle.std.specs.Prelude.{if◌then◌else◌, ◌==◌, Ok, Err}
+use Rattle.std.proofs.lemmas.Bool.{and_parts, both_ways}
 use Rattle.hist_model.specs.Look.{Name, name_eq, is_task, is_worker}
 use Rattle.hist_model.specs.Tasks.{ended, is_made, alive, makes, child_of}
 use Rattle.hist_model.specs.Calls.{listed, notifies, closes, leaves, caller}
-use Rattle.hist_model.specs.Sessions.{Rules, Fetch, session, skips, joined, any_of, is_letgo, notif_of, deed}
+use Rattle.hist_model.specs.Sessions.{Rules, session, skips, joined, any_of, is_letgo, notif_of}
 use Rattle.hist_model.specs.Systems.{System}
-use Rattle.hist_model.specs.Steps.{IsStep, IsLegal, is_start, recv_answer, oldest_unfetched}
+use Rattle.hist_model.specs.Steps.{oldest_unfetched}
 use Rattle.hist_model.specs.Legal.{Finished, is_open_session}
 use Rattle.hist_model.specs.declared.event.Event.{Event}
 use Rattle.hist_model.specs.declared.event.Actor.{Actor}
@@ -15,21 +15,18 @@ use Rattle.hist_model.specs.declared.event.Actor.TheVariants.{Start, Task, Worke
 use Rattle.hist_model.specs.declared.event.What.{What}
 use Rattle.hist_model.specs.declared.event.What.TheVariants.{Spawn, Poke, Handler, Enter, Native, Install, Resume, Signal, Deliver, Reap, Exit, Recv, OpenMem, OpenBase, Check, Read, Act, Plant, AddfdPut, AddfdTake, Send, LetGo, Skip}
 use Rattle.sys_abi.specs.declared.wire.Notif.{Notif}
-use Rattle.mediation.specs.Facts.{NoClose, StaysFinished}
+use Rattle.mediation.specs.Facts.{StaysFinished}
 use Rattle.mediation.proofs.Rows.{Row, TaskRow, WorkerRow}
-use Rattle.mediation.proofs.Own.{row-of, listed-below}
+use Rattle.mediation.proofs.Own.{row-of}
 use Rattle.mediation.proofs.Deeds.{AtWork, deed-is}
 use Rattle.mediation.proofs.Count.{fetching}
-use Rattle.mediation.proofs.Work.{works, at-work, session-same, session-more}
+use Rattle.mediation.proofs.Work.{works, at-work}
 
 -- the step does nothing: it was none, or it found nothing to receive
 abbrev pub idles : What → Bool
 idles Skip = true
 idles (Recv (Err x)) = true
 idles _ = false
-
-clash : (b : Bool) → b ≡ false → b ≡ true → ⊥
-clash b g h = cc
 
 -- a session that is not open is none, or has let go
 not-open : (own : List What) → is_open_session own ≡ false → (notif_of own ≡ None) ⊎ (any_of is_letgo own ≡ true)
@@ -44,7 +41,7 @@ no-work own n k (inl q) = none n (sym q ∙ k.notif_is)
   where
     none : (n : Notif) → None ≡ Some n → ⊥
     none n h = cc
-no-work own n k (inr q) = clash (any_of is_letgo own) k.no_letgo q
+no-work own n k (inr q) = both_ways (any_of is_letgo own) k.no_letgo q
 
 module _ (S : System) (R : Rules) (K : List Event) (f : Finished K) where
   no-life : (n : Name) → alive K n ≡ true → ⊥
@@ -76,7 +73,7 @@ module _ (S : System) (R : Rules) (K : List Event) (f : Finished K) where
   worker-idles : (w : ℕ) (what : What) → WorkerRow S R K w what → idles what ≡ true
   worker-idles w Skip r = refl
   worker-idles w (Recv (Err x)) r = refl
-  worker-idles w (Recv (Ok n)) r = let g = fetching K n (oldest_unfetched K) refl r.2 in absurd (clash (listed K g.0) (f.calls g.0) g.2)
+  worker-idles w (Recv (Ok n)) r = let g = fetching K n (oldest_unfetched K) refl r.2 in absurd (both_ways (listed K g.0) (f.calls g.0) g.2)
   worker-idles w LetGo r = let t = deed-is R (session K w) _ r in absurd (open-no (not-open (session K w) (f.sessions w)) t.0 t.1 t.2)
     where
       open-no : (notif_of (session K w) ≡ None) ⊎ (any_of is_letgo (session K w) ≡ true) → (n : Notif) → notif_of (session K w) ≡ Some n → any_of is_letgo (session K w) ≡ false → ⊥
@@ -84,7 +81,7 @@ module _ (S : System) (R : Rules) (K : List Event) (f : Finished K) where
         where
           none : (n : Notif) → None ≡ Some n → ⊥
           none n h = cc
-      open-no (inr q) n h g = clash (any_of is_letgo (session K w)) g q
+      open-no (inr q) n h g = both_ways (any_of is_letgo (session K w)) g q
   worker-idles w (OpenMem p x) r = absurd (works-no w (OpenMem p x) r refl)
   worker-idles w (OpenBase p d x) r = absurd (works-no w (OpenBase p d x) r refl)
   worker-idles w (Check x y) r = absurd (works-no w (Check x y) r refl)
@@ -98,7 +95,7 @@ module _ (S : System) (R : Rules) (K : List Event) (f : Finished K) where
 
   row-idles : (a : Actor) (what : What) → Row S R K a what → closes what ≡ false → idles what ≡ true
   row-idles Start what r c = rw r
-  row-idles Listener what r c = absurd (clash (closes what) c (rw r))
+  row-idles Listener what r c = absurd (both_ways (closes what) c (rw r))
   row-idles (Task n) what r c = task-idles n what r
   row-idles (Worker w) what r c = worker-idles w what r
 

@@ -1,29 +1,22 @@
 -- A child's name is new.
-use Rattle.std.proofs.Common.{◌≡◌, inl, inr, ℕ, ◌+◌, ◌≤◌, Bool, true, false, ◌&&◌, ◌||◌, List, [], ◌∷◌, ◌++◌, refl, sym, ◌∙◌, arith}
+use Rattle.std.proofs.Common.{◌≡◌, inl, inr, ℕ, ◌+◌, ◌<◌, ◌≤◌, Bool, true, false, ◌&&◌, ◌||◌, List, [], ◌∷◌, ◌++◌, length, refl, sym, ap, ◌∙◌, arith}
 use Rattle.std.specs.Prelude.{if◌then◌else◌, Ok}
-use Rattle.std.proofs.lemmas.Bool.{or_cases, or_left, or_right, false_from_ne_true}
-use Rattle.hist_model.specs.Look.{Name, name_eq, is_task}
-use Rattle.hist_model.specs.Tasks.{is_made, makes, child_of}
+use Rattle.std.proofs.lemmas.Bool.{or_cases, or_left, or_right, and_parts, false_from_ne_true, both_ways}
+use Rattle.hist_model.specs.Look.{Name, name_eq, is_task, event_at}
+use Rattle.hist_model.specs.Tasks.{is_made, makes, child_of, name_of}
 use Rattle.hist_model.specs.Sessions.{Rules}
 use Rattle.hist_model.specs.Systems.{System}
-use Rattle.hist_model.specs.Steps.{IsStep, IsLegal, steps_of, is_spawn}
+use Rattle.hist_model.specs.Steps.{IsStep, IsLegal, steps_of, is_spawn, makes_in}
 use Rattle.hist_model.specs.declared.event.Event.{Event}
 use Rattle.hist_model.specs.declared.event.Actor.{Actor}
 use Rattle.hist_model.specs.declared.event.Actor.TheVariants.{Start, Task, Worker, Listener}
 use Rattle.hist_model.specs.declared.event.What.{What}
 use Rattle.hist_model.specs.declared.event.What.TheVariants.{Spawn}
-use Rattle.hist_model.proofs.Look.{name_eq-true, name_eq-refl}
+use Rattle.hist_model.proofs.Look.{name_eq-true, name_eq-refl, event_at-here, event_at-older, event_at-above, below_or_last}
+use Rattle.mediation.specs.Facts.{spawns, spawned, NamesDiffer}
 use Rattle.mediation.proofs.Rows.{Row}
 use Rattle.mediation.proofs.Own.{row-of}
-
--- a spawn named this
-abbrev pub spawns : What → Name → Bool
-spawns (Spawn m a) n = name_eq m n
-spawns _ n = false
-
-unfoldable pub spawned : List Event → Name → Bool
-spawned [] n = false
-spawned (e ∷ K) n = spawns e.what n || spawned K n
+use Rattle.mediation.proofs.Replies.{row-or-start}
 
 made-spawns : (w : What) (n : Name) → (makes w && name_eq (child_of w) n) ≡ true → spawns w n ≡ true
 made-spawns (Spawn m (Ok a)) n h = h
@@ -51,8 +44,8 @@ snoc-same (a ∷ n) (b ∷ m) k l h =
     let q = r.0 in
     (cc, r.1)
 
-abbrev pub Numbered' : List Event → Type 0
-Numbered' K = (n : Name) (k : ℕ) → (n ≡ [] → ⊥) → spawned K (n ++ k ∷ []) ≡ true → k ≤ steps_of is_spawn K n
+abbrev pub ChildrenNumbered : List Event → Type 0
+ChildrenNumbered K = (n : Name) (k : ℕ) → (n ≡ [] → ⊥) → spawned K (n ++ k ∷ []) ≡ true → k ≤ steps_of is_spawn K n
 
 steps-more : (e : Event) (K : List Event) (n : Name) → steps_of is_spawn K n ≤ steps_of is_spawn (e ∷ K) n
 unfolding steps_of
@@ -68,7 +61,7 @@ numbered-kind S R K Start (Spawn c x) n k z r h = cc
 numbered-kind S R K Listener (Spawn c x) n k z r h = cc
 numbered-kind S R K a w n k z r h = cc
 
-numbered-step : (S : System) (R : Rules) (K : List Event) (e : Event) → IsStep S R K e → Numbered' K → Numbered' (e ∷ K)
+numbered-step : (S : System) (R : Rules) (K : List Event) (e : Event) → IsStep S R K e → ChildrenNumbered K → ChildrenNumbered (e ∷ K)
 unfolding spawned steps_of
 numbered-step S R [] e r ih n k z h = absurd (first (name_eq-true (0 ∷ []) (n ++ k ∷ []) (rw r at (or-false (spawns e.what (n ++ k ∷ [])) h))))
   where
@@ -83,11 +76,91 @@ numbered-step S R (f ∷ K) e r ih n k z h =
       | inr q ↦ let x = ih n k z q in omega arith
     ]
 
-pub numbered' : (S : System) (R : Rules) (K : List Event) → IsLegal S R K → Numbered' K
+pub children-numbered : (S : System) (R : Rules) (K : List Event) → IsLegal S R K → ChildrenNumbered K
 unfolding spawned
-numbered' S R [] legal = λ n k z h. cc
-numbered' S R (e ∷ K) legal = numbered-step S R K e legal.0 (numbered' S R K legal.1)
+children-numbered S R [] legal = λ n k z h. cc
+children-numbered S R (e ∷ K) legal = numbered-step S R K e legal.0 (children-numbered S R K legal.1)
 
 -- the next child's name was never given
 pub child-fresh : (S : System) (R : Rules) (K : List Event) (n : Name) → IsLegal S R K → (n ≡ [] → ⊥) → spawned K (n ++ (steps_of is_spawn K n + 1) ∷ []) ≡ false
-child-fresh S R K n legal z = false_from_ne_true (spawned K (n ++ (steps_of is_spawn K n + 1) ∷ [])) (λ h. let x = numbered' S R K legal n (steps_of is_spawn K n + 1) z h in absurd (omega arith))
+child-fresh S R K n legal z = false_from_ne_true (spawned K (n ++ (steps_of is_spawn K n + 1) ∷ [])) (λ h. let x = children-numbered S R K legal n (steps_of is_spawn K n + 1) z h in absurd (omega arith))
+
+-- nobody's name is empty
+spawns-named : (S : System) (R : Rules) (K : List Event) (a : Actor) (w : What) → Row S R K a w → spawns w [] ≡ true → ⊥
+spawns-named S R K (Task m) (Spawn c x) r h = snoc-not-nil m (steps_of is_spawn K m + 1) (sym r.3 ∙ name_eq-true c [] h)
+spawns-named S R K (Worker v) (Spawn c x) r h = absurd r
+spawns-named S R K Start (Spawn c x) r h = cc
+spawns-named S R K Listener (Spawn c x) r h = cc
+spawns-named S R K a w r h = cc
+
+all-named-step : (S : System) (R : Rules) (K : List Event) (e : Event) → IsStep S R K e → (spawned K [] ≡ true → ⊥) → spawned (e ∷ K) [] ≡ true → ⊥
+unfolding spawned
+all-named-step S R K e r ih h =
+    elim (or_cases (spawns e.what []) (spawned K []) h) [
+      | inl q ↦ elim (row-or-start S R K e r) [
+        | inl z ↦ both_ways (spawns e.what []) (ap (λ (d : Event). spawns d.what []) z) q
+        | inr z ↦ spawns-named S R K e.who e.what z.1 q
+      ]
+      | inr q ↦ ih q
+    ]
+
+all-named : (S : System) (R : Rules) (K : List Event) → IsLegal S R K → spawned K [] ≡ true → ⊥
+unfolding spawned
+all-named S R [] legal = λ h. cc
+all-named S R (e ∷ K) legal = all-named-step S R K e legal.0 (all-named S R K legal.1)
+
+made-below : (K : List Event) (t : ℕ) → makes_in (event_at K t) ≡ true → t < length K
+made-below K t m = grind (arith, event_at-above K t)
+
+-- a task that was made below was spawned
+placed-spawned : (K : List Event) (t : ℕ) (n : Name) → makes_in (event_at K t) ≡ true → name_of K t ≡ n → spawned K n ≡ true
+unfolding spawned
+placed-spawned [] t n m q = absurd (omega (arith, made-below [] t m))
+placed-spawned (e ∷ K) t n m q =
+    elim (below_or_last t (length K) (made-below (e ∷ K) t m)) [
+      | inl l ↦ or_right (spawns e.what n) (spawned K n) (placed-spawned K t n (rw event_at-older at m) (rw event_at-older at q))
+      | inr z ↦
+          let k : makes e.what ≡ true = rw (z, event_at-here) at m in
+          let p : child_of e.what ≡ n = rw (z, event_at-here) at q in
+          or_left (spawns e.what n) (spawned K n) (made-spawns e.what n (rw (k, p) (name_eq-refl n)))
+    ]
+
+-- the name of a new task is new
+new-name : (S : System) (R : Rules) (K : List Event) (a : Actor) (w : What) → IsLegal S R K → Row S R K a w → makes w ≡ true → spawned K (child_of w) ≡ false
+new-name S R K (Task m) (Spawn c (Ok x)) legal r h = rw r.3 (child-fresh S R K m legal (λ q. all-named S R K legal (rw q at (made-spawned K m (and_parts (is_made K m) _ r.0).0))))
+new-name S R K (Worker v) (Spawn c (Ok x)) legal r h = absurd r
+new-name S R K Start (Spawn c (Ok x)) legal r h = cc
+new-name S R K Listener (Spawn c (Ok x)) legal r h = cc
+new-name S R K a w legal r h = cc
+
+nothing-spawned : (n : Name) → spawned [] n ≡ false
+unfolding spawned
+nothing-spawned n = refl
+
+new-event : (S : System) (R : Rules) (K : List Event) (e : Event) → IsLegal S R K → IsStep S R K e → makes e.what ≡ true → spawned K (child_of e.what) ≡ false
+new-event S R [] e legal r m = nothing-spawned (child_of e.what)
+new-event S R (f ∷ K) e legal r m = new-name S R (f ∷ K) e.who e.what legal (row-of S R (f ∷ K) e r (omega arith)) m
+
+-- a task that stands below has another name than the new one
+older-differs : (S : System) (R : Rules) (K : List Event) (e : Event) (t : ℕ) → IsLegal S R K → IsStep S R K e → makes e.what ≡ true → makes_in (event_at K t) ≡ true → name_of K t ≡ child_of e.what → ⊥
+older-differs S R K e t legal r m k q = both (spawned K (child_of e.what)) (new-event S R K e legal r m) (placed-spawned K t (child_of e.what) k q)
+  where
+    both : (b : Bool) → b ≡ false → b ≡ true → ⊥
+    both b g h = cc
+
+names-step : (S : System) (R : Rules) (K : List Event) (e : Event) → IsLegal S R K → IsStep S R K e → NamesDiffer K → NamesDiffer (e ∷ K)
+names-step S R K e legal r ih t u m k q =
+    elim (below_or_last t (length K) (made-below (e ∷ K) t m)) [
+      | inl l ↦ elim (below_or_last u (length K) (made-below (e ∷ K) u k)) [
+        | inl j ↦ ih t u (rw event_at-older at m) (rw event_at-older at k) (rw (event_at-older e K t l, event_at-older e K u j) at q)
+        | inr j ↦ absurd (older-differs S R K e t legal r (rw (j, event_at-here) at k) (rw event_at-older at m) (rw (event_at-older e K t l, j, event_at-here) at q))
+      ]
+      | inr l ↦ elim (below_or_last u (length K) (made-below (e ∷ K) u k)) [
+        | inl j ↦ absurd (older-differs S R K e u legal r (rw (l, event_at-here) at m) (rw event_at-older at k) (sym (rw (l, event_at-here, event_at-older e K u j) at q)))
+        | inr j ↦ l ∙ sym j
+      ]
+    ]
+
+pub names_differ : (S : System) (R : Rules) (K : List Event) → IsLegal S R K → NamesDiffer K
+names_differ S R [] legal = λ t u m k q. absurd (omega (arith, made-below [] t m))
+names_differ S R (e ∷ K) legal = names-step S R K e legal.1 legal.0 (names_differ S R K legal.1)

@@ -1,20 +1,15 @@
 -- Each effect is what the policy grants on the one copy of its session, and each request for a descriptor what it injects.
-use Rattle.std.proofs.Common.{◌≡◌, ◌⊎◌, inl, inr, ℕ, ◌<◌, ◌≤◌, ◌^◌, Bool, true, false, List, [], ◌∷◌, length, Option, Some, None, option_map, refl, sym, ap, ◌∙◌, arith}
-use Rattle.std.specs.Prelude.{if◌then◌else◌, ◌==◌, ◌/◌, ◌%◌, ◌*◌, slice_get, Result, Ok, Err, ℤ}
-use Rattle.std.proofs.lemmas.Bool.{eq-eqb}
-use Rattle.hist_model.specs.Look.{is_worker}
-use Rattle.hist_model.specs.Calls.{caller}
-use Rattle.hist_model.specs.Sessions.{Rules, Decision, Denies, Passes, Acts, Plants, Injects, ActD, PlantD, ReadD, Put, session, any_of, opens, checks, gives_up, notif_of, reads_of}
+use Rattle.std.proofs.Common.{◌≡◌, inr, ℕ, ◌<◌, ◌≤◌, ◌^◌, List, length, Option, Some, None, option_map, sym, ap, ◌∙◌, arith}
+use Rattle.std.specs.Prelude.{slice_get}
+use Rattle.hist_model.specs.Sessions.{Rules, Decision, Acts, Plants, ActD, PlantD, ReadD, Put, session, reads_of}
 use Rattle.hist_model.specs.Systems.{System}
-use Rattle.hist_model.specs.Steps.{IsStep, IsLegal, session_call, mem, opened, task_place, times_spent}
+use Rattle.hist_model.specs.Steps.{IsStep, IsLegal, session_call}
 use Rattle.hist_model.specs.Decisions.{decide, cap_of, times_of}
 use Rattle.hist_model.specs.Requests.{request}
 use Rattle.hist_model.specs.Copies.{Progress, Wants, Complete, Faulty}
-use Rattle.hist_model.specs.Legal.{system_of, rules_of, judged, decided, decision, grant_decision, copied}
+use Rattle.hist_model.specs.Legal.{system_of, rules_of, judged, decision, grant_decision, copied}
 use Rattle.hist_model.specs.Mediated.{IsMediated, ActIsGranted, PlantIsGranted, PutIsInjected, ReadsOwn, TimesKept}
 use Rattle.hist_model.specs.declared.event.Event.{Event}
-use Rattle.hist_model.specs.declared.event.Actor.TheVariants.{Worker}
-use Rattle.hist_model.specs.declared.event.What.{What}
 use Rattle.hist_model.specs.declared.event.What.TheVariants.{Act, Plant, AddfdPut, Read}
 use Rattle.hist_model.specs.declared.policy.Policy.{Policy}
 use Rattle.hist_model.specs.declared.policy.Cap.{Cap}
@@ -24,13 +19,13 @@ use Rattle.hist_model.specs.declared.request.Request.{Request}
 use Rattle.hist_model.specs.declared.request.Request.TheVariants.{Sysinfo}
 use Rattle.hist_model.specs.declared.script.Figures.{Figures}
 use Rattle.hist_model.specs.declared.script.Script.{Script}
-use Rattle.sys_abi.specs.declared.wire.Addfd.{Addfd}
 use Rattle.sys_abi.specs.declared.wire.Notif.{Notif}
 use Rattle.mediation.proofs.Rows.{WorkerRow}
 use Rattle.mediation.proofs.Deeds.{AtWork, HasOpened, HasCopied, deed-is}
-use Rattle.mediation.proofs.Work.{InSession, hand, hand-notif, in-hand}
+use Rattle.mediation.proofs.Work.{hand, hand-notif, in-hand}
 use Rattle.mediation.proofs.Sequence.{is-own}
 use Rattle.mediation.proofs.Ordered.{ordered, used-two}
+use Rattle.mediation.proofs.Phases.{hand-fetcher}
 use Rattle.mediation.proofs.Opened.{own-memory}
 use Rattle.mediation.proofs.Waited.{waited}
 use Rattle.mediation.proofs.Bases.{base-is}
@@ -46,6 +41,7 @@ uses-copy S R K w n legal room work ready copy sound =
       j.0,
       record {
         of_call = j.1;
+        fetched_by = hand-fetcher S R K legal room w j.0 j.1;
         notif_is = work.notif_is;
         of_notif = hand-notif K w j.0 j.2 n j.3;
         whole = copy.copied;

@@ -35,3 +35,5 @@ pub mod Mediation
 pub mod Framed
 pub mod Finishes
 pub mod Audited
+pub mod Refusals
+pub mod Sessions

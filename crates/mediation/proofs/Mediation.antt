@@ -1,5 +1,5 @@
 -- Every legal history is mediated.
-use Rattle.std.proofs.Common.{ℕ, ◌<◌, ◌^◌, List, [], ◌∷◌, length, arith}
+use Rattle.std.proofs.Common.{List, [], ◌∷◌}
 use Rattle.hist_model.specs.Sessions.{session}
 use Rattle.hist_model.specs.Legal.{Legal, system_of, rules_of}
 use Rattle.hist_model.specs.Settlers.{InstallsOwn, ResumesOwn, ReturnsInstalled}
@@ -24,11 +24,11 @@ every P f [] = tt
 every P f (e ∷ K) = (f K e, every P f K)
 
 pub mediated : (P : Policy) (S : Script) (K : List Event) → Legal P S K → Mediated P S K
-mediated P S K legal' =
+mediated P S K lawful =
     let T = system_of S in
     let R = rules_of P S.figures in
-    let legal = legal'.0 in
-    let room = legal'.1 in
+    let legal = lawful.0 in
+    let room = lawful.1 in
     record {
       actors = each T R TakenByItsActor (taken-by-its-actor T R) K legal room;
       once = answered_once T R K legal;

@@ -1,7 +1,7 @@
 -- The steps of a session stand in order.
-use Rattle.std.proofs.Common.{◌≡◌, ◌⊎◌, inl, inr, ℕ, ◌<◌, ◌≤◌, Bool, true, false, List, [], ◌∷◌, Some, None, refl, sym, ◌∙◌, arith}
+use Rattle.std.proofs.Common.{◌≡◌, ◌⊎◌, inl, inr, ℕ, ◌<◌, ◌≤◌, true, false, List, [], ◌∷◌, Some, None, refl, sym, ◌∙◌, arith}
 use Rattle.std.specs.Prelude.{Ok, Err, ℤ}
-use Rattle.std.proofs.lemmas.Bool.{cases_Bool, or_parts, eqb-true, eqb-false}
+use Rattle.std.proofs.lemmas.Bool.{cases_Bool, or_parts, eqb-true, eqb-false, both_ways}
 use Rattle.hist_model.specs.Sessions.{Rules, starts, notif_of, any_of, number_of, checks, opens, opens_base, gives_up, is_read, reads_of}
 use Rattle.hist_model.specs.Orders.{InOrder, is_good_check}
 use Rattle.hist_model.specs.declared.event.What.{What}
@@ -40,9 +40,6 @@ pub record Checked (R : Rules) (own : List What) : Type 0 where
 
 same : (m n : Notif) → Some m ≡ Some n → m ≡ n
 same m n h = cc
-
-clash : (b : Bool) → b ≡ false → b ≡ true → ⊥
-clash b g h = cc
 
 -- a step that is no check, no opening, no read and no use
 plain : (R : Rules) (own : List What) (a : What) → checks a ≡ false → is_read a ≡ false → (any_of opens own ≡ true → any_of opens (a ∷ own) ≡ true) → (any_of opens_base own ≡ true → any_of opens_base (a ∷ own) ≡ true)
@@ -107,13 +104,13 @@ ordered R (OpenMem p y ∷ b ∷ own) i =
     let t = deed-is R (b ∷ own) _ i.0 in
     let ih = ordered R (b ∷ own) i.2 in
     let g = goods (b ∷ own) t.1.no_end in
-    let no : (0 < number_of checks (b ∷ own)) → ⊥ = λ h. clash (any_of opens (b ∷ own)) t.2 (ih.opened h) in
+    let no : (0 < number_of checks (b ∷ own)) → ⊥ = λ h. both_ways (any_of opens (b ∷ own)) t.2 (ih.opened h) in
     plain R (b ∷ own) (OpenMem p y) refl refl (λ h. refl) (λ h. h) (λ n h. h) ih (λ h. (omega arith), λ h. cc, λ h. cc, ih.order)
 ordered R (OpenBase p d y ∷ b ∷ own) i =
     let t = deed-is R (b ∷ own) _ i.0 in
     let ih = ordered R (b ∷ own) i.2 in
     let g = goods (b ∷ own) t.1.no_end in
-    let no : (0 < number_of checks (b ∷ own)) → ⊥ = λ h. elim (ih.based t.0 t.1.notif_is h) [ inl q ↦ none-some d (sym q ∙ t.5) | inr q ↦ clash (any_of opens_base (b ∷ own)) t.3 q ] in
+    let no : (0 < number_of checks (b ∷ own)) → ⊥ = λ h. elim (ih.based t.0 t.1.notif_is h) [ inl q ↦ none-some d (sym q ∙ t.5) | inr q ↦ both_ways (any_of opens_base (b ∷ own)) t.3 q ] in
     plain R (b ∷ own) (OpenBase p d y) refl refl (λ h. h) (λ h. refl) (λ n h. h) ih (λ h. (omega arith), λ h. cc, λ h. cc, ih.order)
   where
     none-some : (v : ℤ) → None ≡ Some v → ⊥

@@ -1,7 +1,7 @@
 -- How far a listed call is: not fetched, in hand, or answered.
 use Rattle.std.proofs.Common.{◌≡◌, ◌⊎◌, inl, inr, ℕ, ◌<◌, ◌≤◌, ◌^◌, Bool, true, false, ◌&&◌, ◌||◌, List, [], ◌∷◌, length, Option, Some, None, refl, sym, ap, ◌∙◌, arith}
 use Rattle.std.specs.Prelude.{◌==◌, Result, Ok, Err}
-use Rattle.std.proofs.lemmas.Bool.{cases_Bool, and_parts, or_right, or_left, eqb-true, eq-eqb, false_from_ne_true}
+use Rattle.std.proofs.lemmas.Bool.{cases_Bool, and_parts, or_right, or_left, eqb-true, eq-eqb, false_from_ne_true, both_ways}
 use Rattle.hist_model.specs.Look.{is_place, is_worker}
 use Rattle.hist_model.specs.Calls.{listed, fetched, fetches, id, named, answers, settled, puts_to, installs_for, queue, is_send}
 use Rattle.hist_model.specs.Sessions.{Rules, session, any_of, gives_up, addfd_of, first_some, put_in, take_in}
@@ -54,9 +54,6 @@ pub record AtCall (K : List Event) (c w : ℕ) : Type 0 where
 abbrev pub Phase : List Event → ℕ → Option ℕ → Type 0
 Phase K c None = (fetched K c ≡ false) × Clean K c
 Phase K c (Some w) = AtCall K c w ⊎ ((settled K c ≡ true) × (session_call K w ≡ Some c → ⊥))
-
-clash : (b : Bool) → b ≡ false → b ≡ true → ⊥
-clash b g h = cc
 
 none-some : {A : Type 0} → (a : A) → None ≡ Some a → ⊥
 none-some a h = cc
@@ -142,12 +139,12 @@ asked-install S e K c w q f np i op a =
       where
         or-true : (u v : Bool) → ((u || true) || v) ≡ true
         or-true u v = grind arith
-    slot Full h x y z = failed 9 (record { empty = emptied x; open' = unfold settled in rw (f, h, y) }) (z ∙ ap installed h) refl
-    slot Over h x y z = failed 24 (record { empty = emptied x; open' = unfold settled in rw (f, h, y) }) (z ∙ ap installed h) refl
+    slot Full h x y z = failed 9 (record { empty = emptied x; unsettled = unfold settled in rw (f, h, y) }) (z ∙ ap installed h) refl
+    slot Over h x y z = failed 24 (record { empty = emptied x; unsettled = unfold settled in rw (f, h, y) }) (z ∙ ap installed h) refl
 
     go : Done K c a.r → Done (e ∷ K) c a.r
     go (queued x y z) = slot (S.slot K c i.first) i.what_is x y (install-now e K c a.r [] a.for_call f x)
-    go (gave_number n x y) = absurd (clash (settled K c) op x)
+    go (gave_number n x y) = absurd (both_ways (settled K c) op x)
     go (failed x y z v) = absurd (no i.first i.rest (sym y.empty ∙ i.queue_is))
       where
         no : (r : ℕ) (rs : List ℕ) → [] ≡ r ∷ rs → ⊥
@@ -179,7 +176,7 @@ refetch S R K a (Recv (Ok n)) c legal room r f =
     false_from_ne_true _ (λ h.
     let p = and_parts (n.id == id K c) (listed K c) h in
     let m : d.0 ≡ c = ids_differ S R K legal room d.0 c d.2 p.1 (sym (ap (λ (x : Notif). x.id) d.1) ∙ eqb-true n.id (id K c) p.0) in
-    clash (fetched K d.0) d.3 (rw (← m) at f))
+    both_ways (fetched K d.0) d.3 (rw (← m) at f))
 refetch S R K a what c legal room r f = refl
 
 -- what is in hand was fetched by that worker
@@ -253,7 +250,7 @@ stays-gone S R K e w c legal room r f n h =
     elim (cases_Bool (is_worker e.who w)) [
       | inl q ↦ elim (hand-fetcher-kind S R K e.who e.what w c legal room r q refl (sym (call-more e K w q) ∙ h)) [
         | inl p ↦ n p
-        | inr p ↦ clash (fetches e.what (id K c) && listed K c) (refetch S R K e.who e.what c legal room r f) p.0
+        | inr p ↦ both_ways (fetches e.what (id K c) && listed K c) (refetch S R K e.who e.what c legal room r f) p.0
       ]
       | inr q ↦ n (sym (call-same e K w q) ∙ h)
     ]

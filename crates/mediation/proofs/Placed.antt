@@ -1,5 +1,5 @@
 -- An installation puts the request's file where it says, and nothing elsewhere; one that failed puts nothing.
-use Rattle.std.proofs.Common.{◌≡◌, ℕ, List, ◌∷◌, refl}
+use Rattle.std.proofs.Common.{List}
 use Rattle.hist_model.specs.Files.{files}
 use Rattle.hist_model.specs.Mediated.{InstallsAlone, FailsAlone}
 use Rattle.hist_model.specs.declared.event.Event.{Event}

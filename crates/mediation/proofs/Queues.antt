@@ -21,7 +21,7 @@ use Rattle.mediation.proofs.Own.{waits-in, listed-below}
 -- nothing is asked of the call, and it is not answered
 pub record Clean (K : List Event) (c : ℕ) : Type 0 where
   pub empty : queue K c ≡ []
-  pub open' : settled K c ≡ false
+  pub unsettled : settled K c ≡ false
 
 -- the event does nothing to the call
 pub record Calm (K : List Event) (e : Event) (c : ℕ) : Type 0 where
@@ -38,14 +38,14 @@ unfolding settled
 calm-settled e K c m = rw (m.no_answer, m.no_install)
 
 pub calm-clean : (e : Event) (K : List Event) (c : ℕ) → Calm K e c → Clean K c → Clean (e ∷ K) c
-calm-clean e K c m k = record { empty = calm-queue e K c m ∙ k.empty; open' = calm-settled e K c m ∙ k.open' }
+calm-clean e K c m k = record { empty = calm-queue e K c m ∙ k.empty; unsettled = calm-settled e K c m ∙ k.unsettled }
 
 pub settled-more : (e : Event) (K : List Event) (c : ℕ) → settled K c ≡ true → settled (e ∷ K) c ≡ true
 unfolding settled
 settled-more e K c h = or_right (settles K e c) (settled K c) h
 
 pub clean-waiting : (K : List Event) (c : ℕ) → listed K c ≡ true → fetched K c ≡ true → Clean K c → waiting K c ≡ true
-clean-waiting K c l f k = rw (l, f, k.open', k.empty)
+clean-waiting K c l f k = rw (l, f, k.unsettled, k.empty)
 
 -- a place that is named is a place below
 named-below : (K : List Event) (x c : ℕ) → is_place (named K x) c ≡ true → c < length K
@@ -75,7 +75,7 @@ calm-above K e c h = record {
 }
 
 pub clean-above : (K : List Event) (c : ℕ) → length K ≤ c → Clean K c
-clean-above [] c h = record { empty = unfold queue in refl; open' = unfold settled in refl }
+clean-above [] c h = record { empty = unfold queue in refl; unsettled = unfold settled in refl }
 clean-above (e ∷ K) c h = let l : length K ≤ c = omega arith in calm-clean e K c (calm-above K e c l) (clean-above K c l)
 
 -- a request goes to a waiting call

@@ -1,8 +1,7 @@
 -- The receives that found nothing are for calls that left the list unfetched.
-use Rattle.std.proofs.Common.{◌≡◌, inl, inr, ℕ, zero, suc, ◌+◌, ◌<◌, ◌≤◌, ◌^◌, Bool, true, false, ◌&&◌, ◌||◌, not, List, [], ◌∷◌, length, Option, Some, None, refl, ap, sym, ◌∙◌, arith}
-use Rattle.std.specs.Prelude.{if◌then◌else◌, ◌==◌, Result, Ok, Err}
-use Rattle.std.proofs.lemmas.Bool.{cases_Bool, eqb-false}
-use Rattle.hist_model.specs.Look.{oldest, event_at}
+use Rattle.std.proofs.Common.{◌≡◌, inl, inr, ℕ, zero, suc, ◌+◌, ◌<◌, ◌≤◌, ◌^◌, Bool, true, false, ◌&&◌, ◌||◌, not, List, [], ◌∷◌, length, Option, Some, None, refl, ap, arith}
+use Rattle.std.specs.Prelude.{Result, Err}
+use Rattle.std.proofs.lemmas.Bool.{cases_Bool, eqb-false, both_ways}
 use Rattle.hist_model.specs.Calls.{listed, fetched, is_call, count, caller, unlists, fetches, id}
 use Rattle.hist_model.specs.Sessions.{Rules}
 use Rattle.hist_model.specs.Systems.{System}
@@ -89,14 +88,11 @@ receives-step S R K e legal room r ih =
     let m = left-more e K in
     elim (cases_Bool (gets_nothing e.what)) [
       | inl q ↦ elim (row-or-start S R K e r) [
-        | inl z ↦ absurd (clash (gets_nothing e.what) (ap (λ (d : Event). gets_nothing d.what) z) q)
+        | inl z ↦ absurd (both_ways (gets_nothing e.what) (ap (λ (d : Event). gets_nothing d.what) z) q)
         | inr z ↦ let s = room-for S R K e.who e.what legal room z.1 q in rw (empty-more e K q) (omega arith)
       ]
       | inr q ↦ rw (empty-same e K q) (omega arith)
     ]
-  where
-    clash : (b : Bool) → b ≡ false → b ≡ true → ⊥
-    clash b g h = cc
 
 pub receives-are-for : (S : System) (R : Rules) (K : List Event) → IsLegal S R K → length K < 2 ^ 64 → empty_recvs K ≤ left_unfetched K
 unfolding empty_recvs count_below

@@ -1,7 +1,7 @@
 -- Answers: whose they are, what causes them, and when they tell that a call is gone.
 use Rattle.std.proofs.Common.{◌≡◌, Bool, ◌⊎◌, inl, inr, ℕ, ◌<◌, ◌^◌, true, false, List, [], ◌∷◌, length, refl, ap, arith, ◌||◌, not, ◌∙◌, sym, None, Some, Option}
 use Rattle.std.specs.Prelude.{Result, Ok, Err, ◌==◌, if◌then◌else◌}
-use Rattle.std.proofs.lemmas.Bool.{or_cases, eqb-true, eq-eqb, false_from_ne_true, cases_Bool}
+use Rattle.std.proofs.lemmas.Bool.{or_cases, eqb-true, eq-eqb, false_from_ne_true, cases_Bool, both_ways}
 use Rattle.hist_model.specs.Look.{is_worker, Name, is_place}
 use Rattle.hist_model.specs.Calls.{listed, named, waiting, queue, puts_to, answers}
 use Rattle.hist_model.specs.Sessions.{Rules, session, Answer, Put, addfd_of}
@@ -33,9 +33,6 @@ pub each : (S : System) (R : Rules) (P : List Event → Event → Type 0) → ((
     → (K : List Event) → IsLegal S R K → length K < 2 ^ 64 → Each P K
 each S R P f [] legal room = tt
 each S R P f (e ∷ K) legal room = (f K e legal.1 (omega arith) legal.0, each S R P f K legal.1 (omega arith))
-
-clash : (b : Bool) → b ≡ false → b ≡ true → ⊥
-clash b g h = cc
 
 -- the first event, or a step of its actor
 pub row-or-start : (S : System) (R : Rules) (K : List Event) (e : Event) → IsStep S R K e → (e ≡ start S) ⊎ ((is_start e.who ≡ false) × Row S R K e.who e.what)
@@ -121,22 +118,22 @@ names-row S R K a what legal room r h = cc
 
 pub names-own-call : (S : System) (R : Rules) (K : List Event) (e : Event) → IsLegal S R K → length K < 2 ^ 64 → IsStep S R K e → NamesOwn K e
 names-own-call S R K e legal room r h = elim (row-or-start S R K e r) [
-  | inl q ↦ absurd (clash (is_accepted e.what) (ap (λ (d : Event). is_accepted d.what) q) h)
+  | inl q ↦ absurd (both_ways (is_accepted e.what) (ap (λ (d : Event). is_accepted d.what) q) h)
   | inr q ↦ names-row S R K e.who e.what legal room q.1 h
 ]
 
-module _ (S : System) (R : Rules) (K : List Event) (a : Actor) (w c : ℕ) (legal : IsLegal S R K) (room : length K < 2 ^ 64) (mine' : is_worker a w ≡ true) (l : listed K c ≡ true) (h : AtCall K c w) (i : InSession K w c) where
+module _ (S : System) (R : Rules) (K : List Event) (a : Actor) (w c : ℕ) (legal : IsLegal S R K) (room : length K < 2 ^ 64) (is_mine : is_worker a w ≡ true) (l : listed K c ≡ true) (h : AtCall K c w) (i : InSession K w c) where
   not-lost : (what : What) → WorkerRow S R K w what → is_lost what ≡ true → ⊥
-  not-lost (OpenMem p (Err x)) r q = let z = open-is S R K a w c legal room mine' l h i p (Err x) r in cc
-  not-lost (OpenBase p d (Err x)) r q = absurd (base-is S R K a w c legal room mine' l h i p d (Err x) r (ap Err (eqb-true x 3 q)))
-  not-lost (Check x (Err y)) r q = let z = check-is S R K a w c legal room mine' l h i x (Err y) r in cc
-  not-lost (AddfdPut q' (Err x)) r q = go (put-is S R K a w c legal room mine' l h i q' (Err x) r)
+  not-lost (OpenMem p (Err x)) r q = let z = open-is S R K a w c legal room is_mine l h i p (Err x) r in cc
+  not-lost (OpenBase p d (Err x)) r q = absurd (base-is S R K a w c legal room is_mine l h i p d (Err x) r (ap Err (eqb-true x 3 q)))
+  not-lost (Check x (Err y)) r q = let z = check-is S R K a w c legal room is_mine l h i x (Err y) r in cc
+  not-lost (AddfdPut q' (Err x)) r q = go (put-is S R K a w c legal room is_mine l h i q' (Err x) r)
     where
       go : ◌⊎◌ (◌≡◌ {A = Result (Unit {0}) ℕ} (Err x) (Ok tt)) (◌≡◌ {A = Result (Unit {0}) ℕ} (Err x) (Err 9)) → ⊥
       go (inl z) = cc
       go (inr z) = let m : x ≡ 9 = cc in let e : x ≡ 2 = eqb-true x 2 q in omega arith
-  not-lost (AddfdTake (Err x)) r q = take-is S R K a w c legal room mine' l h i (Err x) r (ap Err (eqb-true x 2 q))
-  not-lost (Send x b (Err y)) r q = let z = send-is S R K a w c legal room mine' l h i x b (Err y) r in cc
+  not-lost (AddfdTake (Err x)) r q = take-is S R K a w c legal room is_mine l h i (Err x) r (ap Err (eqb-true x 2 q))
+  not-lost (Send x b (Err y)) r q = let z = send-is S R K a w c legal room is_mine l h i x b (Err y) r in cc
   not-lost what r q = cc
 
 lost-works : (what : What) → is_lost what ≡ true → works what ≡ true
@@ -171,7 +168,7 @@ names-nothing S R K w c legal room i g = go (named K i.n.id) refl
     go (Some d) q =
         let m = names-own S R K w c d legal room i q in
         let l = (named-is K i.n.id d q).0 in
-        absurd (clash (listed K c) g (rw m at l))
+        absurd (both_ways (listed K c) g (rw m at l))
 
 -- the error of an install
 install-error : (S : System) (R : Rules) (K : List Event) (a : Actor) (what : What) (x : ℕ) → Row S R K a what → installed what ≡ Some (Err x) → ((x == 9) || ((x == 24) || (x == 2))) ≡ true

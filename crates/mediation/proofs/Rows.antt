@@ -57,9 +57,9 @@ Row S R K (Task n) a = TaskRow S K n a
 Row S R K (Worker w) a = WorkerRow S R K w a
 Row S R K Listener a = a ≡ Close
 
-module _ (S : System) (K : List Event) (n : Name) (lives' : alive K n ≡ true) where
+module _ (S : System) (K : List Event) (n : Name) (living : alive K n ≡ true) where
   deliver_row : (r : Option ℕ) (effect : ℕ → Delivered) (other : What) → next_signal S.killable K n ≡ r → ((c : ℕ) → call_of K n ≡ Some c → settled K c ≡ false) → (r ≡ None → TaskRow S K n other) → TaskRow S K n (deliver_or r effect other)
-  deliver_row (Some s) effect other q u h = (lives', q, u)
+  deliver_row (Some s) effect other q u h = (living, q, u)
   deliver_row None effect other q u h = h refl
 
   -- the call in which the task waits is not settled
@@ -76,32 +76,32 @@ module _ (S : System) (K : List Event) (n : Name) (lives' : alive K n ≡ true) 
       none-some x h = cc
 
   wait_row : (child ended : Option ℕ) → call_of K n ≡ None → oldest (is_child K n) (length K) ≡ child → oldest (is_ended_child K n) (length K) ≡ ended → TaskRow S K n (wait_step K child ended)
-  wait_row None ended q h g = (lives', q, rw h)
+  wait_row None ended q h g = (living, q, rw h)
   wait_row (Some child) None q h g = tt
-  wait_row (Some child) (Some t) q h g = (lives', q, rw (h, g))
+  wait_row (Some child) (Some t) q h g = (living, q, rw (h, g))
 
   instr_row : (i : Option Instr) → call_of K n ≡ None → TaskRow S K n (instr_step S K n i)
-  instr_row None q = (lives', q)
-  instr_row (Some (IPoke a b)) q = (lives', q)
-  instr_row (Some (IFill a len b)) q = (lives', q)
-  instr_row (Some (ICall nr args)) q = (lives', q, refl)
-  instr_row (Some (ISpawn p)) q = (lives', q, (Copied, refl), refl)
-  instr_row (Some (IThread p)) q = (lives', q, (Shared, refl), refl)
-  instr_row (Some (IKill whom s)) q = (lives', q, refl)
-  instr_row (Some (IHandler s m)) q = (lives', q)
-  instr_row (Some IExit) q = (lives', q)
+  instr_row None q = (living, q)
+  instr_row (Some (IPoke a b)) q = (living, q)
+  instr_row (Some (IFill a len b)) q = (living, q)
+  instr_row (Some (ICall nr args)) q = (living, q, refl)
+  instr_row (Some (ISpawn p)) q = (living, q, (Copied, refl), refl)
+  instr_row (Some (IThread p)) q = (living, q, (Shared, refl), refl)
+  instr_row (Some (IKill whom s)) q = (living, q, refl)
+  instr_row (Some (IHandler s m)) q = (living, q)
+  instr_row (Some IExit) q = (living, q)
   instr_row (Some IWait) q = wait_row (oldest (is_child K n) (length K)) (oldest (is_ended_child K n) (length K)) q refl refl
 
   install_row : (c : ℕ) → call_of K n ≡ Some c → settled K c ≡ false → (rs : List ℕ) → queue K c ≡ rs → TaskRow S K n (install_step S K c rs)
   install_row c q h [] g = tt
-  install_row c q h (r ∷ rs) g = (lives', (c, q, h, rw g))
+  install_row c q h (r ∷ rs) g = (living, (c, q, h, rw g))
 
   resume_row : (c : ℕ) → call_of K n ≡ Some c → (b : Bool) → settled K c ≡ b → TaskRow S K n (if b then Resume (reply K c) else deliver_or (next_signal S.killable K n) (λ s. effect_in_call s (mode K n s)) (install_step S K c (queue K c)))
-  resume_row c q true h = (lives', (c, q, h, refl))
+  resume_row c q true h = (living, (c, q, h, refl))
   resume_row c q false h = deliver_row (next_signal S.killable K n) (λ s. effect_in_call s (mode K n s)) (install_step S K c (queue K c)) refl (λ d g. one_open c d q h g) (λ _. install_row c q h (queue K c) refl)
 
   outside_row : call_of K n ≡ None → (b : Bool) → owes_native K n ≡ b → TaskRow S K n (if b then Native (S.native K n) else deliver_or (next_signal S.killable K n) (λ s. effect_outside s (mode K n s)) (instr_step S K n (next_instr S K n)))
-  outside_row q true h = (lives', q, h, refl)
+  outside_row q true h = (living, q, h, refl)
   outside_row q false h = deliver_row (next_signal S.killable K n) (λ s. effect_outside s (mode K n s)) (instr_step S K n (next_instr S K n)) refl (λ c g. none_open c q g) (λ _. instr_row (next_instr S K n) q)
 
   living_row : (r : Option ℕ) → call_of K n ≡ r → TaskRow S K n (living_step S K n r)

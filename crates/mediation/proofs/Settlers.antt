@@ -1,7 +1,7 @@
 -- Installs and resumes are of the call's own session.
 use Rattle.std.proofs.Common.{◌≡◌, inl, inr, ℕ, ◌<◌, ◌^◌, Bool, true, false, ◌&&◌, ◌||◌, List, [], ◌∷◌, ◌++◌, length, Option, Some, None, refl, sym, ap, ◌∙◌, subst, arith}
 use Rattle.std.specs.Prelude.{if◌then◌else◌, ◌==◌, Result, Ok, pos}
-use Rattle.std.proofs.lemmas.Bool.{cases_Bool, and_parts, or_cases, or_left, or_right, eq-eqb, eqb-true, cases_order, false_from_ne_true}
+use Rattle.std.proofs.lemmas.Bool.{cases_Bool, and_parts, or_cases, or_left, or_right, eq-eqb, eqb-true, cases_order, false_from_ne_true, both_ways}
 use Rattle.hist_model.specs.Look.{Name, name_eq, is_task}
 use Rattle.hist_model.specs.Calls.{listed, caller, answers, puts_to, installs_for, is_install, gave, first_sends, queue, rest_of, settled, settles, has_send, has_send_flag, is_send}
 use Rattle.hist_model.specs.Signals.{call_of}
@@ -28,9 +28,6 @@ use Rattle.mediation.proofs.Queues.{installing, install-first, put-call, call-at
 use Rattle.mediation.proofs.Sequence.{is_put}
 use Rattle.mediation.proofs.Phases.{hand-fetcher, fetcher-fetched, fetcher-stays, install-same, install-now, install-new}
 use Rattle.mediation.proofs.Waiting.{actor-acts}
-
-clash : (b : Bool) → b ≡ false → b ≡ true → ⊥
-clash b g h = cc
 
 request-later : (S : System) (R : Rules) (K : List Event) (e : Event) (c r w : ℕ) → IsLegal S R K → length K < 2 ^ 64 → Row S R K e.who e.what → IsRequestOf K c r w → IsRequestOf (e ∷ K) c r w
 request-later S R K e c r w legal room row i =
@@ -202,7 +199,7 @@ no-install : (S : System) (R : Rules) (K : List Event) (e : Event) (c : ℕ) →
 no-install S R K e c legal row h = false_from_ne_true (installs_for K e c) (λ f.
     let p = and_parts (is_install e.what) (is_task e.who (caller K c) && listed K c) f in
     let q = and_parts (is_task e.who (caller K c)) (listed K c) p.1 in
-    clash (settled K c) (installs-open S R K e.who e.what c legal row p.0 q.0 q.1) h)
+    both_ways (settled K c) (installs-open S R K e.who e.what c legal row p.0 q.0 q.1) h)
 
 source-later : (S : System) (R : Rules) (K : List Event) (e : Event) (c w : ℕ) (b : Back) → IsLegal S R K → length K < 2 ^ 64 → Row S R K e.who e.what → settled K c ≡ true → Source K c w b → Source (e ∷ K) c w b
 source-later S R K e c w b legal room row s (sent p x b' u d q h g a) = let l = event_at-below K p d q in sent p x b' u d (rw event_at-older q) h g (rw (before-older e K p (omega arith)) a)
@@ -283,7 +280,7 @@ gave-kind S R K e c r m legal room row q ih h =
           (or_left (settles K e c) (settled K c) s, reply-now e K c s ∙ ap back_of w)
       | inr p ↦
           let z = ih (sym (installed-same e K c r q p) ∙ h) in
-          let n : settles K e c ≡ false = false_from_ne_true (settles K e c) (λ s. clash (settled K c) (settles-once S R K e c legal row s) z.0) in
+          let n : settles K e c ≡ false = false_from_ne_true (settles K e c) (λ s. both_ways (settled K c) (settles-once S R K e c legal row s) z.0) in
           (or_right (settles K e c) (settled K c) z.0, reply-same e K c n ∙ z.1)
     ]
   where
@@ -294,15 +291,15 @@ gave-kind S R K e c r m legal room row q ih h =
         some-same x y k = cc
     number what k = cc
 
-    first-of' : (rs : List ℕ) → is_first rs r ≡ true → first_sends K rs ≡ is_send K r
-    first-of' [] k = cc
-    first-of' (x ∷ rs) k = rw (eqb-true x r k)
+    first-send : (rs : List ℕ) → is_first rs r ≡ true → first_sends K rs ≡ is_send K r
+    first-send [] k = cc
+    first-send (x ∷ rs) k = rw (eqb-true x r k)
 
     settling : installs_for K e c ≡ true → is_first (queue K c) r ≡ true → e.what ≡ Install (Ok m) → settles K e c ≡ true
     settling f g w =
         let i = queue-of (queue K c) refl g in
         let o = first-own S R K c r i.0 legal room i.1 in
-        let s : first_sends K (queue K c) ≡ true = first-of' (queue K c) g ∙ o.1.sends in
+        let s : first_sends K (queue K c) ≡ true = first-send (queue K c) g ∙ o.1.sends in
         let y : gave e.what ≡ true = ap gave w in
         grind arith
       where

@@ -1,8 +1,8 @@
 -- What holds of a call in a worker's hand, by induction on the steps since it was fetched.
-use Rattle.std.proofs.Common.{◌≡◌, ◌⊎◌, inl, inr, ℕ, ◌<◌, ◌^◌, Bool, true, false, ◌&&◌, not, List, [], ◌∷◌, length, Option, Some, None, refl, sym, ◌∙◌, arith}
+use Rattle.std.proofs.Common.{◌≡◌, ◌⊎◌, inl, inr, ℕ, ◌<◌, ◌^◌, true, false, ◌&&◌, not, List, [], ◌∷◌, length, Option, Some, None, refl, sym, ◌∙◌, arith}
 use Rattle.std.specs.Prelude.{Ok, Err}
-use Rattle.std.proofs.lemmas.Bool.{cases_Bool, and_parts}
-use Rattle.hist_model.specs.Look.{is_worker}
+use Rattle.std.proofs.lemmas.Bool.{cases_Bool, both_ways}
+use Rattle.hist_model.specs.Look.{ev, is_worker}
 use Rattle.hist_model.specs.Sessions.{Rules, Fetch, session, skips, notif_of, any_of, is_letgo}
 use Rattle.hist_model.specs.Systems.{System}
 use Rattle.hist_model.specs.Steps.{IsStep, IsLegal, session_call, call_after, oldest_unfetched}
@@ -13,11 +13,7 @@ use Rattle.hist_model.specs.declared.event.What.TheVariants.{Recv, OpenMem, Open
 use Rattle.sys_abi.specs.declared.wire.Notif.{Notif}
 use Rattle.mediation.proofs.Rows.{WorkerRow}
 use Rattle.mediation.proofs.Deeds.{deed-is}
-use Rattle.mediation.proofs.Count.{fetching}
-use Rattle.mediation.proofs.Work.{InSession, Idle, Hand, hand, by, worker-row, works, works-keep, session-same, session-more, grown, call-same, call-more}
-
-clash : (b : Bool) → b ≡ false → b ≡ true → ⊥
-clash b g h = cc
+use Rattle.mediation.proofs.Work.{InSession, Idle, Hand, hand, worker-row, works, works-keep, session-same, session-more, grown, call-same, call-more}
 
 none-some : (c : ℕ) → None ≡ Some c → ⊥
 none-some c h = cc
@@ -32,7 +28,7 @@ no-fetch R K w c i (inl q) = one i.n (sym q ∙ i.notif_is)
   where
     one : (m : Notif) → None ≡ Some m → ⊥
     one m h = cc
-no-fetch R K w c i (inr q) = clash (any_of is_letgo (session K w)) i.no_letgo q
+no-fetch R K w c i (inr q) = both_ways (any_of is_letgo (session K w)) i.no_letgo q
 
 -- the call in hand
 pub in-hand-of : (S : System) (R : Rules) (K : List Event) (w c : ℕ) → IsLegal S R K → session_call K w ≡ Some c → InSession K w c
@@ -46,11 +42,11 @@ skip-call K what o h = cc
 -- a fact of calls in hand, kept by each step
 pub record Kept (S : System) (R : Rules) (P : List Event → ℕ → ℕ → Type 0) : Type 0 where
   -- the worker's receive
-  pub fetch : (K : List Event) (a : Actor) (w c : ℕ) (n : Notif) → IsStep S R K (by a (Recv (Ok n))) → IsLegal S R K → length (by a (Recv (Ok n)) ∷ K) < 2 ^ 64 → is_worker a w ≡ true
-      → WorkerRow S R K w (Recv (Ok n)) → oldest_unfetched K ≡ Some c → Idle K w → P (by a (Recv (Ok n)) ∷ K) w c
+  pub fetch : (K : List Event) (a : Actor) (w c : ℕ) (n : Notif) → IsStep S R K (ev a (Recv (Ok n))) → IsLegal S R K → length (ev a (Recv (Ok n)) ∷ K) < 2 ^ 64 → is_worker a w ≡ true
+      → WorkerRow S R K w (Recv (Ok n)) → oldest_unfetched K ≡ Some c → Idle K w → P (ev a (Recv (Ok n)) ∷ K) w c
   -- a step of the session
-  pub work : (K : List Event) (a : Actor) (w c : ℕ) (what : What) → IsStep S R K (by a what) → IsLegal S R K → length (by a what ∷ K) < 2 ^ 64 → is_worker a w ≡ true
-      → WorkerRow S R K w what → works what ≡ true → (i : InSession K w c) → session_call K w ≡ Some c → session (by a what ∷ K) w ≡ what ∷ session K w → P K w c → P (by a what ∷ K) w c
+  pub work : (K : List Event) (a : Actor) (w c : ℕ) (what : What) → IsStep S R K (ev a what) → IsLegal S R K → length (ev a what ∷ K) < 2 ^ 64 → is_worker a w ≡ true
+      → WorkerRow S R K w what → works what ≡ true → (i : InSession K w c) → session_call K w ≡ Some c → session (ev a what ∷ K) w ≡ what ∷ session K w → P K w c → P (ev a what ∷ K) w c
   -- a step of another, or a skip
   pub still : (K : List Event) (e : Event) (w c : ℕ) → IsStep S R K e → IsLegal S R K → length (e ∷ K) < 2 ^ 64 → (is_worker e.who w && not (skips e.what)) ≡ false
       → (i : InSession K w c) → session_call K w ≡ Some c → session (e ∷ K) w ≡ session K w → P K w c → P (e ∷ K) w c
@@ -62,26 +58,26 @@ module _ (S : System) (R : Rules) (P : List Event → ℕ → ℕ → Type 0) (k
         let s : session_call K w ≡ Some c = sym same ∙ h in
         k.still K e w c r legal room q (in-hand-of S R K w c legal s) s (session-same e K w q) (ih c s)
 
-    fetch-step : (a : Actor) (n : Notif) (c : ℕ) → IsStep S R K (by a (Recv (Ok n))) → length (by a (Recv (Ok n)) ∷ K) < 2 ^ 64 → is_worker a w ≡ true → WorkerRow S R K w (Recv (Ok n)) → session_call (by a (Recv (Ok n)) ∷ K) w ≡ Some c → P (by a (Recv (Ok n)) ∷ K) w c
-    fetch-step a n c r room q row h = k.fetch K a w c n r legal room q row (sym (call-more (by a (Recv (Ok n))) K w q) ∙ h) (idle (session_call K w) (hand S R K legal w))
+    fetch-step : (a : Actor) (n : Notif) (c : ℕ) → IsStep S R K (ev a (Recv (Ok n))) → length (ev a (Recv (Ok n)) ∷ K) < 2 ^ 64 → is_worker a w ≡ true → WorkerRow S R K w (Recv (Ok n)) → session_call (ev a (Recv (Ok n)) ∷ K) w ≡ Some c → P (ev a (Recv (Ok n)) ∷ K) w c
+    fetch-step a n c r room q row h = k.fetch K a w c n r legal room q row (sym (call-more (ev a (Recv (Ok n))) K w q) ∙ h) (idle (session_call K w) (hand S R K legal w))
       where
         idle : (o : Option ℕ) → Hand K w o → Idle K w
         idle None i = i
         idle (Some d) i = absurd (no-fetch R K w d i (deed-is R (session K w) Fetch row.0))
 
-    work-step : (a : Actor) (what : What) (c : ℕ) → IsStep S R K (by a what) → length (by a what ∷ K) < 2 ^ 64 → is_worker a w ≡ true → WorkerRow S R K w what → works what ≡ true → session_call (by a what ∷ K) w ≡ Some c → P (by a what ∷ K) w c
+    work-step : (a : Actor) (what : What) (c : ℕ) → IsStep S R K (ev a what) → length (ev a what ∷ K) < 2 ^ 64 → is_worker a w ≡ true → WorkerRow S R K w what → works what ≡ true → session_call (ev a what ∷ K) w ≡ Some c → P (ev a what ∷ K) w c
     work-step a what c r room q row g h =
         let keep = works-keep K what g in
-        let s : session_call K w ≡ Some c = sym (keep.call (session_call K w)) ∙ (sym (call-more (by a what) K w q) ∙ h) in
+        let s : session_call K w ≡ Some c = sym (keep.call (session_call K w)) ∙ (sym (call-more (ev a what) K w q) ∙ h) in
         let i = in-hand-of S R K w c legal s in
-        k.work K a w c what r legal room q row g i s (session-more (by a what) K w q keep.no_skip ∙ grown (session K w) what i.n i.notif_is keep.no_start) (ih c s)
+        k.work K a w c what r legal room q row g i s (session-more (ev a what) K w q keep.no_skip ∙ grown (session K w) what i.n i.notif_is keep.no_start) (ih c s)
 
-    mine-step : (a : Actor) (what : What) (c : ℕ) → IsStep S R K (by a what) → length (by a what ∷ K) < 2 ^ 64 → is_worker a w ≡ true → skips what ≡ false → WorkerRow S R K w what → session_call (by a what ∷ K) w ≡ Some c → P (by a what ∷ K) w c
+    mine-step : (a : Actor) (what : What) (c : ℕ) → IsStep S R K (ev a what) → length (ev a what ∷ K) < 2 ^ 64 → is_worker a w ≡ true → skips what ≡ false → WorkerRow S R K w what → session_call (ev a what ∷ K) w ≡ Some c → P (ev a what ∷ K) w c
     mine-step a (Recv (Ok n)) c r room q z row h = fetch-step a n c r room q row h
     mine-step a (Recv (Err x)) c r room q z row h =
-        let s : session_call K w ≡ Some c = sym (call-more (by a (Recv (Err x))) K w q) ∙ h in
+        let s : session_call K w ≡ Some c = sym (call-more (ev a (Recv (Err x))) K w q) ∙ h in
         absurd (no-fetch R K w c (in-hand-of S R K w c legal s) (deed-is R (session K w) Fetch row.0))
-    mine-step a LetGo c r room q z row h = absurd (none-some c (sym (call-more (by a LetGo) K w q) ∙ h))
+    mine-step a LetGo c r room q z row h = absurd (none-some c (sym (call-more (ev a LetGo) K w q) ∙ h))
     mine-step a Skip c r room q z row h = cc
     mine-step a (OpenMem p x) c r room q z row h = work-step a (OpenMem p x) c r room q row refl h
     mine-step a (OpenBase p d x) c r room q z row h = work-step a (OpenBase p d x) c r room q row refl h

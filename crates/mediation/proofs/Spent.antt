@@ -1,10 +1,10 @@
 -- A rule's effects are done no more often than its times allow.
-use Rattle.std.proofs.Common.{◌≡◌, inl, inr, ℕ, ◌+◌, ◌<◌, ◌≤◌, Bool, true, false, List, [], ◌∷◌, Option, Some, None, refl, sym, ap, ◌∙◌, arith}
+use Rattle.std.proofs.Common.{◌≡◌, inl, inr, ℕ, ◌+◌, ◌<◌, ◌≤◌, Bool, true, false, List, [], ◌∷◌, Some, None, refl, ap, arith}
 use Rattle.std.specs.Prelude.{if◌then◌else◌, ◌==◌, nat_le, Result, Ok, Err}
-use Rattle.std.proofs.lemmas.Bool.{cases_Bool, eqb-true, leb-false}
+use Rattle.std.proofs.lemmas.Bool.{cases_Bool, eqb-true, leb-false, both_ways}
 use Rattle.hist_model.specs.Sessions.{Rules, session, Acts, Plants, reads_of}
 use Rattle.hist_model.specs.Systems.{System}
-use Rattle.hist_model.specs.Steps.{IsStep, IsLegal, times_spent, spends, is_cap_of, is_spent}
+use Rattle.hist_model.specs.Steps.{IsStep, IsLegal, times_spent, spends, is_spent}
 use Rattle.hist_model.specs.declared.event.Event.{Event}
 use Rattle.hist_model.specs.declared.event.Actor.{Actor}
 use Rattle.hist_model.specs.declared.event.Actor.TheVariants.{Start, Task, Worker, Listener}
@@ -66,14 +66,11 @@ unfolding times_spent
 spent-step S R limit K e i k r ih =
     elim (cases_Bool (spends e.what i)) [
       | inl q ↦ elim (row-or-start S R K e r) [
-        | inl z ↦ absurd (clash (spends e.what i) (ap (λ (d : Event). spends d.what i) z) q)
+        | inl z ↦ absurd (both_ways (spends e.what i) (ap (λ (d : Event). spends d.what i) z) q)
         | inr z ↦ let m = spends-left S R limit K e.who e.what i k z.1 q in rw q m
       ]
       | inr q ↦ rw q (omega (arith, ih))
     ]
-  where
-    clash : (b : Bool) → b ≡ false → b ≡ true → ⊥
-    clash b g h = cc
 
 pub spent-within : (S : System) (R : Rules) (limit : ℕ → ℕ) → Capped R limit → (K : List Event) → IsLegal S R K → (i : ℕ) → times_spent K i ≤ limit i
 unfolding times_spent

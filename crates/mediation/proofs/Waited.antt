@@ -1,14 +1,14 @@
 -- A session's call waits up to the second good check.
-use Rattle.std.proofs.Common.{◌≡◌, ◌⊎◌, inl, inr, ℕ, zero, suc, ◌<◌, ◌≤◌, ◌^◌, Bool, true, false, ◌&&◌, ◌||◌, not, List, [], ◌∷◌, length, Option, Some, None, refl, sym, subst, ◌∙◌, arith}
-use Rattle.std.specs.Prelude.{if◌then◌else◌, nat_le, Result, Ok, Err}
-use Rattle.std.proofs.lemmas.Bool.{cases_Bool, and_parts, or_parts, leb-true}
-use Rattle.hist_model.specs.Look.{before, is_worker}
-use Rattle.hist_model.specs.Calls.{listed, fetched, waiting, caller, unlists}
-use Rattle.hist_model.specs.Sessions.{Rules, session, skips, any_of, gives_up, first_some, put_in, take_in, number_of, checks, notif_of}
+use Rattle.std.proofs.Common.{◌≡◌, ◌⊎◌, inl, inr, ℕ, ◌<◌, ◌≤◌, ◌^◌, Bool, true, false, ◌&&◌, ◌||◌, not, List, [], ◌∷◌, length, Some, None, refl, sym, subst, ◌∙◌, arith}
+use Rattle.std.specs.Prelude.{nat_le, Ok, Err}
+use Rattle.std.proofs.lemmas.Bool.{cases_Bool, and_parts, or_parts, leb-true, both_ways}
+use Rattle.hist_model.specs.Look.{ev, before, is_worker}
+use Rattle.hist_model.specs.Calls.{listed, fetched, waiting}
+use Rattle.hist_model.specs.Sessions.{Rules, session, skips, any_of, gives_up, first_some, put_in, number_of, checks}
 use Rattle.hist_model.specs.Systems.{System}
 use Rattle.hist_model.specs.Steps.{IsStep, IsLegal, session_call, oldest_unfetched}
 use Rattle.hist_model.specs.Orders.{InOrder, is_good_check, uses_copy}
-use Rattle.hist_model.specs.Mediated.{WaitedUntilChecked, is_until_checked, ends_with_check}
+use Rattle.hist_model.specs.Mediated.{WaitedUntilChecked, is_until_checked}
 use Rattle.hist_model.specs.declared.event.Event.{Event}
 use Rattle.hist_model.specs.declared.event.Actor.{Actor}
 use Rattle.hist_model.specs.declared.event.What.{What}
@@ -20,17 +20,14 @@ use Rattle.mediation.proofs.Rows.{WorkerRow}
 use Rattle.mediation.proofs.Own.{listed-older}
 use Rattle.mediation.proofs.Ids.{is_call-below}
 use Rattle.mediation.proofs.Count.{fetching}
-use Rattle.mediation.proofs.Work.{InSession, Idle, by, works, session-more, started}
-use Rattle.mediation.proofs.Handles.{check-listed, listed-was, Steady, steady}
+use Rattle.mediation.proofs.Work.{InSession, Idle, session-more, started}
+use Rattle.mediation.proofs.Handles.{check-listed, listed-was, steady}
 use Rattle.mediation.proofs.Sequence.{is-own, is_put}
 use Rattle.mediation.proofs.Ordered.{ordered}
-use Rattle.mediation.proofs.Queues.{Clean, clean-waiting}
-use Rattle.mediation.proofs.Phases.{StageOf, AtCall, hand-fetcher, fetcher-fetched}
+use Rattle.mediation.proofs.Queues.{clean-waiting}
+use Rattle.mediation.proofs.Phases.{hand-fetcher, fetcher-fetched}
 use Rattle.mediation.proofs.Waiting.{at-call}
-use Rattle.mediation.proofs.Sittings.{Kept, by-session, in-hand-of}
-
-clash : (b : Bool) → b ≡ false → b ≡ true → ⊥
-clash b g h = cc
+use Rattle.mediation.proofs.Sittings.{by-session, in-hand-of}
 
 no-put : (a : What) → is_put a ≡ false → put_in a ≡ None
 no-put (AddfdPut q x) h = cc
@@ -74,7 +71,7 @@ few-good own m = let k = good-least own in omega arith
 
 module _ (S : System) (R : Rules) where
   -- a listed call whose session has not asked for a descriptor, and has not given up, waits
-  waits-now : (K : List Event) (w c : ℕ) → IsLegal S R K → length K < 2 ^ 64 → session_call K w ≡ Some c → listed K c ≡ true → any_of gives_up (session K w) ≡ false → first_some put_in (session K w) ≡ None → waiting K c ≡ true
+  pub waits-now : (K : List Event) (w c : ℕ) → IsLegal S R K → length K < 2 ^ 64 → session_call K w ≡ Some c → listed K c ≡ true → any_of gives_up (session K w) ≡ false → first_some put_in (session K w) ≡ None → waiting K c ≡ true
   waits-now K w c legal room s l g p =
       let i = in-hand-of S R K w c legal s in
       let k = (at-call S R K w c legal room s l).stage g in
@@ -101,15 +98,15 @@ module _ (S : System) (R : Rules) where
   unfetched-before K w c legal room f p s =
       let m = length-before K p in
       let h = hand-fetcher S R (before K p) (legal-before S R K p legal) (omega arith) w c s in
-      clash (fetched K c) f (fetched-before K p c (fetcher-fetched (before K p) c w h))
+      both_ways (fetched K c) f (fetched-before K p c (fetcher-fetched (before K p) c w h))
 
   nothing-before : (K : List Event) (w c : ℕ) → IsLegal S R K → length K < 2 ^ 64 → fetched K c ≡ false → WaitedUntilChecked K w c
   nothing-before K w c legal room f p l s u = absurd (unfetched-before K w c legal room f p s)
 
-  fetch-kept : (K : List Event) (a : Actor) (w c : ℕ) (n : Notif) → IsStep S R K (by a (Recv (Ok n))) → IsLegal S R K → length (by a (Recv (Ok n)) ∷ K) < 2 ^ 64 → is_worker a w ≡ true
-      → WorkerRow S R K w (Recv (Ok n)) → oldest_unfetched K ≡ Some c → Idle K w → session_call (by a (Recv (Ok n)) ∷ K) w ≡ Some c → Open (by a (Recv (Ok n)) ∷ K) w c
+  fetch-kept : (K : List Event) (a : Actor) (w c : ℕ) (n : Notif) → IsStep S R K (ev a (Recv (Ok n))) → IsLegal S R K → length (ev a (Recv (Ok n)) ∷ K) < 2 ^ 64 → is_worker a w ≡ true
+      → WorkerRow S R K w (Recv (Ok n)) → oldest_unfetched K ≡ Some c → Idle K w → session_call (ev a (Recv (Ok n)) ∷ K) w ≡ Some c → Open (ev a (Recv (Ok n)) ∷ K) w c
   fetch-kept K a w c n r legal room q row o idle s g either =
-      let e = by a (Recv (Ok n)) in
+      let e = ev a (Recv (Ok n)) in
       let own : session (e ∷ K) w ≡ Recv (Ok n) ∷ [] = session-more e K w q refl ∙ started (session K w) (Recv (Ok n)) refl in
       let f = fetching K n (oldest_unfetched K) refl row.2 in
       let m : f.0 ≡ c = some-place f.0 c (sym f.4 ∙ o) in
@@ -125,8 +122,8 @@ module _ (S : System) (R : Rules) where
 
   -- one more step of the session: its call was listed before, or has had both checks
   was-open : (K : List Event) (a : Actor) (w c : ℕ) (what : What) → IsLegal S R K → length K < 2 ^ 64 → is_worker a w ≡ true → WorkerRow S R K w what → (i : InSession K w c) → session_call K w ≡ Some c
-      → (listed (by a what ∷ K) c ≡ true) ⊎ (number_of is_good_check (what ∷ session K w) ≡ 2) → (listed K c ≡ true) ⊎ (number_of is_good_check (session K w) ≡ 2)
-  was-open K a w c what legal room q row i s (inl l) = inl (listed-was (by a what) K c (is_call-below K c i.call) l)
+      → (listed (ev a what ∷ K) c ≡ true) ⊎ (number_of is_good_check (what ∷ session K w) ≡ 2) → (listed K c ≡ true) ⊎ (number_of is_good_check (session K w) ≡ 2)
+  was-open K a w c what legal room q row i s (inl l) = inl (listed-was (ev a what) K c (is_call-below K c i.call) l)
   was-open K a w c what legal room q row i s (inr t) = elim (cases_Bool (is_good_check what)) [
     | inl z ↦ inl (good what row z)
     | inr z ↦ inr (rw z at t)
@@ -136,10 +133,10 @@ module _ (S : System) (R : Rules) where
       good (Check x (Ok u)) row z = (and_parts (listed K c) _ (check-listed S R K a w c legal room q i (rw s at (steady S R K legal room w)) x u row)).0
       good what row z = cc
 
-  work-kept : (K : List Event) (a : Actor) (w c : ℕ) (what : What) → IsStep S R K (by a what) → IsLegal S R K → length (by a what ∷ K) < 2 ^ 64 → is_worker a w ≡ true
-      → WorkerRow S R K w what → (i : InSession K w c) → session_call K w ≡ Some c → session_call (by a what ∷ K) w ≡ Some c → session (by a what ∷ K) w ≡ what ∷ session K w → Open K w c → Open (by a what ∷ K) w c
+  work-kept : (K : List Event) (a : Actor) (w c : ℕ) (what : What) → IsStep S R K (ev a what) → IsLegal S R K → length (ev a what ∷ K) < 2 ^ 64 → is_worker a w ≡ true
+      → WorkerRow S R K w what → (i : InSession K w c) → session_call K w ≡ Some c → session_call (ev a what ∷ K) w ≡ Some c → session (ev a what ∷ K) w ≡ what ∷ session K w → Open K w c → Open (ev a what ∷ K) w c
   work-kept K a w c what r legal room q row i s s' own ih g either =
-      let e = by a what in
+      let e = ev a what in
       let p = or_parts (gives_up what) (any_of gives_up (session K w)) (rw own at g) in
       let was = was-open K a w c what legal (omega arith) q row i s (rw own at either) in
       prefixes e K w c (ih p.1 was) (λ u. now either u p.0)
@@ -148,17 +145,17 @@ module _ (S : System) (R : Rules) where
       b = is_call-below K c i.call
 
       -- before the second check
-      early : listed (by a what ∷ K) c ≡ true → number_of is_good_check (session (by a what ∷ K) w) ≤ 1 → waiting (by a what ∷ K) c ≡ true
-      early l n = waits-now (by a what ∷ K) w c (r, legal) room s' l g (put-late (session (by a what ∷ K) w) (in-order (by a what ∷ K) w (r, legal)) n)
+      early : listed (ev a what ∷ K) c ≡ true → number_of is_good_check (session (ev a what ∷ K) w) ≤ 1 → waiting (ev a what ∷ K) c ≡ true
+      early l n = waits-now (ev a what ∷ K) w c (r, legal) room s' l g (put-late (session (ev a what ∷ K) w) (in-order (ev a what ∷ K) w (r, legal)) n)
 
       -- at a check that was good
-      checked : (what : What) → IsStep S R K (by a what) → WorkerRow S R K w what → session_call (by a what ∷ K) w ≡ Some c → session (by a what ∷ K) w ≡ what ∷ session K w → any_of gives_up (session (by a what ∷ K) w) ≡ false
-          → checks what ≡ true → gives_up what ≡ false → number_of is_good_check (what ∷ session K w) ≤ 2 → waiting (by a what ∷ K) c ≡ true
+      checked : (what : What) → IsStep S R K (ev a what) → WorkerRow S R K w what → session_call (ev a what ∷ K) w ≡ Some c → session (ev a what ∷ K) w ≡ what ∷ session K w → any_of gives_up (session (ev a what ∷ K) w) ≡ false
+          → checks what ≡ true → gives_up what ≡ false → number_of is_good_check (what ∷ session K w) ≤ 2 → waiting (ev a what ∷ K) c ≡ true
       checked (Check x (Ok u)) r row s' own g z y n =
           let v = check-listed S R K a w c legal (omega arith) q i (rw s at (steady S R K legal (omega arith) w)) x u row in
-          let l : listed (by a (Check x (Ok u)) ∷ K) c ≡ true = listed-older (by a (Check x (Ok u))) K c b ∙ still (listed K c) (and_parts (listed K c) _ v).0 in
+          let l : listed (ev a (Check x (Ok u)) ∷ K) c ≡ true = listed-older (ev a (Check x (Ok u))) K c b ∙ still (listed K c) (and_parts (listed K c) _ v).0 in
           let late = put-late (session K w) (in-order K w legal) (omega arith) in
-          waits-now (by a (Check x (Ok u)) ∷ K) w c (r, legal) room s' l g (rw own late)
+          waits-now (ev a (Check x (Ok u)) ∷ K) w c (r, legal) room s' l g (rw own late)
         where
           still : (b : Bool) → b ≡ true → (b && true) ≡ true
           still b h = grind arith
@@ -168,18 +165,18 @@ module _ (S : System) (R : Rules) where
       most : number_of is_good_check (what ∷ session K w) ≡ 2 → number_of is_good_check (what ∷ session K w) ≤ 2
       most h = omega arith
 
-      now : (listed (by a what ∷ K) c ≡ true) ⊎ (number_of is_good_check (session (by a what ∷ K) w) ≡ 2) → is_until_checked (by a what ∷ K) w ≡ true → gives_up what ≡ false → waiting (by a what ∷ K) c ≡ true
-      now either u z = elim (cases_Bool (nat_le (number_of is_good_check (session (by a what ∷ K) w)) 1)) [
-        | inl v ↦ let n = leb-true (number_of is_good_check (session (by a what ∷ K) w)) 1 v in early (is-listed either n) n
+      now : (listed (ev a what ∷ K) c ≡ true) ⊎ (number_of is_good_check (session (ev a what ∷ K) w) ≡ 2) → is_until_checked (ev a what ∷ K) w ≡ true → gives_up what ≡ false → waiting (ev a what ∷ K) c ≡ true
+      now either u z = elim (cases_Bool (nat_le (number_of is_good_check (session (ev a what ∷ K) w)) 1)) [
+        | inl v ↦ let n = leb-true (number_of is_good_check (session (ev a what ∷ K) w)) 1 v in early (is-listed either n) n
         | inr v ↦ let y = and_parts (checks what) (is_worker a w) (rw v at u) in checked what r row s' own g y.0 z (at-most v)
       ]
         where
-          is-listed : (listed (by a what ∷ K) c ≡ true) ⊎ (number_of is_good_check (session (by a what ∷ K) w) ≡ 2) → number_of is_good_check (session (by a what ∷ K) w) ≤ 1 → listed (by a what ∷ K) c ≡ true
+          is-listed : (listed (ev a what ∷ K) c ≡ true) ⊎ (number_of is_good_check (session (ev a what ∷ K) w) ≡ 2) → number_of is_good_check (session (ev a what ∷ K) w) ≤ 1 → listed (ev a what ∷ K) c ≡ true
           is-listed (inl l) n = l
           is-listed (inr t) n = absurd (omega arith)
 
-          at-most : nat_le (number_of is_good_check (session (by a what ∷ K) w)) 1 ≡ false → number_of is_good_check (what ∷ session K w) ≤ 2
-          at-most v = subst (λ x. number_of is_good_check x ≤ 2) own (few-good (session (by a what ∷ K) w) (ordered R (session (by a what ∷ K) w) (is-own S R (by a what ∷ K) (r, legal) w)).most)
+          at-most : nat_le (number_of is_good_check (session (ev a what ∷ K) w)) 1 ≡ false → number_of is_good_check (what ∷ session K w) ≤ 2
+          at-most v = subst (λ x. number_of is_good_check x ≤ 2) own (few-good (session (ev a what ∷ K) w) (ordered R (session (ev a what ∷ K) w) (is-own S R (ev a what ∷ K) (r, legal) w)).most)
 
   skip-checks : (what : What) → skips what ≡ true → checks what ≡ false
   skip-checks Skip h = refl

@@ -1,8 +1,8 @@
 -- Each listed call is not fetched, in hand, or answered.
-use Rattle.std.proofs.Common.{◌≡◌, ◌⊎◌, inl, inr, ℕ, ◌<◌, ◌^◌, Bool, true, false, ◌&&◌, ◌||◌, List, [], ◌∷◌, length, Option, Some, None, refl, sym, ap, ◌∙◌, arith}
+use Rattle.std.proofs.Common.{◌≡◌, ◌⊎◌, inl, inr, ℕ, ◌<◌, ◌^◌, true, false, ◌&&◌, ◌||◌, List, [], ◌∷◌, length, Option, Some, None, refl, sym, ap, ◌∙◌, arith}
 use Rattle.std.specs.Prelude.{◌==◌, Result, Ok}
-use Rattle.std.proofs.lemmas.Bool.{cases_Bool, and_parts, eqb-true, eq-eqb, false_from_ne_true}
-use Rattle.hist_model.specs.Look.{is_task, is_worker}
+use Rattle.std.proofs.lemmas.Bool.{cases_Bool, and_parts, eqb-true, eq-eqb, false_from_ne_true, both_ways}
+use Rattle.hist_model.specs.Look.{ev, is_task, is_worker}
 use Rattle.hist_model.specs.Calls.{listed, fetched, fetches, caller, id, answers, settled, puts_to, installs_for, is_install, notifies}
 use Rattle.hist_model.specs.Sessions.{Rules, session, first_some, put_in, take_in}
 use Rattle.hist_model.specs.Systems.{System}
@@ -20,15 +20,12 @@ use Rattle.mediation.proofs.Own.{row-of, listed-below, listed-here}
 use Rattle.mediation.proofs.Ids.{ids_differ}
 use Rattle.mediation.proofs.Count.{fetching, fetched-same}
 use Rattle.mediation.proofs.Once.{answers-waiting, installs-open}
-use Rattle.mediation.proofs.Work.{by, hand, worker-row, session-same, session-more, started, call-same, call-more}
+use Rattle.mediation.proofs.Work.{hand, worker-row, session-same, session-more, started, call-same, call-more}
 use Rattle.mediation.proofs.Queues.{Clean, Calm, calm-clean, calm-above, clean-above, settled-more, puts-waiting, Installing, installing}
 use Rattle.mediation.proofs.Phases.{stays-gone, StageOf, AtCall, Phase, stage-calm, stage-install, hand-fetcher, acts-own, request-same, fetcher-same, fetcher-now, fetcher-fetched, fetcher-stays}
 use Rattle.mediation.proofs.Count.{fetched-new}
 use Rattle.mediation.proofs.Answered.{mine-phase}
 use Rattle.mediation.proofs.Handles.{listed-was}
-
-clash : (b : Bool) → b ≡ false → b ≡ true → ⊥
-clash b g h = cc
 
 some-nat : (x y : ℕ) → Some x ≡ Some y → x ≡ y
 some-nat x y h = cc
@@ -62,9 +59,9 @@ module _ (S : System) (R : Rules) (K : List Event) (e : Event) (c : ℕ) (legal 
 
   unfetched-calm : fetched K c ≡ false → Clean K c → Calm K e c
   unfetched-calm f k = record {
-    no_put = false_from_ne_true (puts_to K e.what c) (λ q. let w = puts-waiting S R K e.who e.what c row q in clash (fetched K c) f (grind arith));
+    no_put = false_from_ne_true (puts_to K e.what c) (λ q. let w = puts-waiting S R K e.who e.what c row q in both_ways (fetched K c) f (grind arith));
     no_install = false_from_ne_true (installs_for K e c) (λ q. let i = for-call q in no i.first i.rest (sym k.empty ∙ i.queue_is));
-    no_answer = false_from_ne_true (answers K e.what c) (λ q. let w = answers-waiting S R K e.who e.what c row q in clash (fetched K c) f (grind arith));
+    no_answer = false_from_ne_true (answers K e.what c) (λ q. let w = answers-waiting S R K e.who e.what c row q in both_ways (fetched K c) f (grind arith));
   }
     where
       no : (r : ℕ) (rs : List ℕ) → [] ≡ r ∷ rs → ⊥
@@ -106,7 +103,7 @@ module _ (S : System) (R : Rules) (K : List Event) (e : Event) (c : ℕ) (legal 
           let x = hand-fetcher S R K legal room v.0 c v.2 in
           let y = hand-fetcher S R K legal room w c h.in_hand in
           let m : v.0 ≡ w = some-nat v.0 w (sym x ∙ y) in
-          clash (is_worker e.who w) o (rw (v.1, m) (eq-eqb w w refl))
+          both_ways (is_worker e.who w) o (rw (v.1, m) (eq-eqb w w refl))
 
   -- the worker that has it in hand steps
   mine-old : (IsStep S R K e) → (w : ℕ) → is_worker e.who w ≡ true → AtCall K c w → AtCall (e ∷ K) c w ⊎ ((settled (e ∷ K) c ≡ true) × (session_call (e ∷ K) w ≡ Some c → ⊥))
@@ -120,9 +117,9 @@ module _ (S : System) (R : Rules) (K : List Event) (e : Event) (c : ℕ) (legal 
   now-phase : fetched K c ≡ false → Clean K c → (fetches e.what (id K c) && listed K c) ≡ true → Phase (e ∷ K) c (worker_of e.who)
   now-phase f k q = go e.who e.what row q (unfetched-calm f k)
     where
-      go : (a : Actor) (what : What) → Row S R K a what → (fetches what (id K c) && listed K c) ≡ true → Calm K (by a what) c → Phase (by a what ∷ K) c (worker_of a)
+      go : (a : Actor) (what : What) → Row S R K a what → (fetches what (id K c) && listed K c) ≡ true → Calm K (ev a what) c → Phase (ev a what ∷ K) c (worker_of a)
       go (Worker v) (Recv (Ok n)) r q m =
-          let e' = by (Worker v) (Recv (Ok n)) in
+          let e' = ev (Worker v) (Recv (Ok n)) in
           let d = fetching K n (oldest_unfetched K) refl r.2 in
           let p = and_parts (n.id == id K c) (listed K c) q in
           let same : d.0 ≡ c = ids_differ S R K legal room d.0 c d.2 l (sym (ap (λ (x : Notif). x.id) d.1) ∙ eqb-true n.id (id K c) p.0) in
@@ -157,7 +154,7 @@ new-phase e K =
   where
     go : (o : Option ℕ) → fetcher (e ∷ K) (length K) ≡ o → fetched (e ∷ K) (length K) ≡ false → Clean (e ∷ K) (length K) → Phase (e ∷ K) (length K) o
     go None q f k = (f, k)
-    go (Some w) q f k = absurd (clash (fetched (e ∷ K) (length K)) f (fetcher-fetched (e ∷ K) (length K) w q))
+    go (Some w) q f k = absurd (both_ways (fetched (e ∷ K) (length K)) f (fetcher-fetched (e ∷ K) (length K) w q))
 
 abbrev pub Phases : List Event → Type 0
 Phases K = (c : ℕ) → listed K c ≡ true → Phase K c (fetcher K c)
@@ -167,7 +164,7 @@ first-none S R e c r h =
     let l = listed-below (e ∷ []) c h in
     let z : c ≡ 0 = omega arith in
     let n : notifies e.what ≡ false = ap (λ (d : Event). notifies d.what) r in
-    clash (notifies e.what) n (sym (listed-here e []) ∙ rw z at h)
+    both_ways (notifies e.what) n (sym (listed-here e []) ∙ rw z at h)
 
 pub phases : (S : System) (R : Rules) (K : List Event) → IsLegal S R K → length K < 2 ^ 64 → Phases K
 phases S R [] legal room = λ c h. absurd (omega (arith, listed-below [] c h))

@@ -2,7 +2,7 @@
 use Rattle.std.proofs.Common.{◌≡◌, ◌⊎◌, inl, inr, ℕ, ◌<◌, Bool, true, false, ◌&&◌, not, List, [], ◌∷◌, length, Option, Some, None, refl, sym, ap, ◌∙◌, arith}
 use Rattle.std.specs.Prelude.{Ok, Err}
 use Rattle.std.proofs.lemmas.Bool.{cases_Bool, and_parts, eqb-true, eq-eqb}
-use Rattle.hist_model.specs.Look.{event_at, is_worker}
+use Rattle.hist_model.specs.Look.{ev, event_at, is_worker}
 use Rattle.hist_model.specs.Tasks.{is_made, pid_of, ended}
 use Rattle.hist_model.specs.Calls.{fetched, caller, id, is_call}
 use Rattle.hist_model.specs.Sessions.{Rules, Fetch, session, skips, starts, joined, notif_of, fetched_by, any_of, is_letgo}
@@ -154,9 +154,6 @@ hand-other e K w None h i =
     let s = session-same e K w (grind arith) in
     record { none = rw s i.none; mem_none = mem-same e K w h ∙ i.mem_none; base_none = base-same e K w h ∙ i.base_none }
 
-abbrev pub by : Actor → What → Event
-by a w = record { who = a; what = w }
-
 pub started : (own : List What) (a : What) → starts a ≡ true → joined a own ≡ a ∷ []
 started [] a h = rw h
 started (b ∷ own) a h = rw h
@@ -199,35 +196,35 @@ in-hand K w None n work i = elim i.none [ inl q ↦ absurd (one n (sym q ∙ wor
     two : (b : Bool) → b ≡ false → b ≡ true → ⊥
     two b g h = cc
 
-module _ (S : System) (R : Rules) (K : List Event) (a : Actor) (w : ℕ) (legal : IsLegal S R K) (mine' : is_worker a w ≡ true) where
-  mine-works : (what : What) → WorkerRow S R K w what → works what ≡ true → Hand K w (session_call K w) → Hand (by a what ∷ K) w (session_call (by a what ∷ K) w)
+module _ (S : System) (R : Rules) (K : List Event) (a : Actor) (w : ℕ) (legal : IsLegal S R K) (is_mine : is_worker a w ≡ true) where
+  mine-works : (what : What) → WorkerRow S R K w what → works what ≡ true → Hand K w (session_call K w) → Hand (ev a what ∷ K) w (session_call (ev a what ∷ K) w)
   mine-works what r h i =
       let g = at-work S R K w what r h in
       let j = in-hand K w (session_call K w) g.0 g.1 i in
       let k = works-keep K what h in
-      let s : session (by a what ∷ K) w ≡ what ∷ session K w = session-more (by a what) K w mine' k.no_skip ∙ grown (session K w) what g.0 g.1.notif_is k.no_start in
-      let c : session_call (by a what ∷ K) w ≡ Some j.0 = call-more (by a what) K w mine' ∙ (k.call (session_call K w) ∙ j.1) in
-      rw c (in-session-kept (by a what) K w j.0 j.2 (rw (s, k.no_notif) j.2.notif_is) (rw (s, k.no_letgo) j.2.no_letgo))
+      let s : session (ev a what ∷ K) w ≡ what ∷ session K w = session-more (ev a what) K w is_mine k.no_skip ∙ grown (session K w) what g.0 g.1.notif_is k.no_start in
+      let c : session_call (ev a what ∷ K) w ≡ Some j.0 = call-more (ev a what) K w is_mine ∙ (k.call (session_call K w) ∙ j.1) in
+      rw c (in-session-kept (ev a what) K w j.0 j.2 (rw (s, k.no_notif) j.2.notif_is) (rw (s, k.no_letgo) j.2.no_letgo))
 
-  mine-skip : Hand K w (session_call K w) → Hand (by a Skip ∷ K) w (session_call (by a Skip ∷ K) w)
-  mine-skip i = rw (call-more (by a Skip) K w mine') (go (session_call K w) i)
+  mine-skip : Hand K w (session_call K w) → Hand (ev a Skip ∷ K) w (session_call (ev a Skip ∷ K) w)
+  mine-skip i = rw (call-more (ev a Skip) K w is_mine) (go (session_call K w) i)
     where
-      s : session (by a Skip ∷ K) w ≡ session K w
-      s = session-same (by a Skip) K w (grind arith)
+      s : session (ev a Skip ∷ K) w ≡ session K w
+      s = session-same (ev a Skip) K w (grind arith)
 
-      go : (o : Option ℕ) → Hand K w o → Hand (by a Skip ∷ K) w o
-      go (Some c) i = in-session-kept (by a Skip) K w c i (rw s i.notif_is) (rw s i.no_letgo)
-      go None i = record { none = rw s i.none; mem_none = mem-more (by a Skip) K w mine' ∙ i.mem_none; base_none = base-more (by a Skip) K w mine' ∙ i.base_none }
+      go : (o : Option ℕ) → Hand K w o → Hand (ev a Skip ∷ K) w o
+      go (Some c) i = in-session-kept (ev a Skip) K w c i (rw s i.notif_is) (rw s i.no_letgo)
+      go None i = record { none = rw s i.none; mem_none = mem-more (ev a Skip) K w is_mine ∙ i.mem_none; base_none = base-more (ev a Skip) K w is_mine ∙ i.base_none }
 
-  mine-letgo : WorkerRow S R K w LetGo → Hand (by a LetGo ∷ K) w (session_call (by a LetGo ∷ K) w)
+  mine-letgo : WorkerRow S R K w LetGo → Hand (ev a LetGo ∷ K) w (session_call (ev a LetGo ∷ K) w)
   mine-letgo r =
       let t = deed-is R (session K w) _ r in
-      let s : session (by a LetGo ∷ K) w ≡ LetGo ∷ session K w = session-more (by a LetGo) K w mine' refl ∙ grown (session K w) LetGo t.0 t.1 refl in
-      rw (call-more (by a LetGo) K w mine') (record { none = inr (rw s); mem_none = mem-more (by a LetGo) K w mine'; base_none = base-more (by a LetGo) K w mine' })
+      let s : session (ev a LetGo ∷ K) w ≡ LetGo ∷ session K w = session-more (ev a LetGo) K w is_mine refl ∙ grown (session K w) LetGo t.0 t.1 refl in
+      rw (call-more (ev a LetGo) K w is_mine) (record { none = inr (rw s); mem_none = mem-more (ev a LetGo) K w is_mine; base_none = base-more (ev a LetGo) K w is_mine })
 
-  mine-fetch : (n : Notif) → WorkerRow S R K w (Recv (Ok n)) → Hand (by a (Recv (Ok n)) ∷ K) w (session_call (by a (Recv (Ok n)) ∷ K) w)
+  mine-fetch : (n : Notif) → WorkerRow S R K w (Recv (Ok n)) → Hand (ev a (Recv (Ok n)) ∷ K) w (session_call (ev a (Recv (Ok n)) ∷ K) w)
   mine-fetch n r =
-      let e = by a (Recv (Ok n)) in
+      let e = ev a (Recv (Ok n)) in
       let f = fetching K n (oldest_unfetched K) refl r.2 in
       let d = f.0 in
       let l = calls_are_last S R K legal d f.2 in
@@ -237,8 +234,8 @@ module _ (S : System) (R : Rules) (K : List Event) (a : Actor) (w : ℕ) (legal 
       let u : m.0 < length K = q.2 in
       let v : d < length K = listed-below K d f.2 in
       let pid : n.pid ≡ pid_or (pid_of K m.0) = ap (λ (x : Notif). x.pid) f.1 ∙ ap (pid_at K) m.1 in
-      let s : session (e ∷ K) w ≡ Recv (Ok n) ∷ [] = session-more e K w mine' refl ∙ started (session K w) (Recv (Ok n)) refl in
-      rw (call-more e K w mine', f.4) (record {
+      let s : session (e ∷ K) w ≡ Recv (Ok n) ∷ [] = session-more e K w is_mine refl ∙ started (session K w) (Recv (Ok n)) refl in
+      rw (call-more e K w is_mine, f.4) (record {
         n = n;
         t = m.0;
         call = rw event_at-older (listed-is_call K d f.2);
@@ -251,14 +248,14 @@ module _ (S : System) (R : Rules) (K : List Event) (a : Actor) (w : ℕ) (legal 
         pid_is = rw event_at-older (makes-pid (event_at K m.0) q.0 ∙ ap Some (sym pid));
       })
 
-  mine-empty : (x : ℕ) → WorkerRow S R K w (Recv (Err x)) → Hand K w (session_call K w) → Hand (by a (Recv (Err x)) ∷ K) w (session_call (by a (Recv (Err x)) ∷ K) w)
-  mine-empty x r i = rw (call-more (by a (Recv (Err x))) K w mine') (go (session_call K w) i)
+  mine-empty : (x : ℕ) → WorkerRow S R K w (Recv (Err x)) → Hand K w (session_call K w) → Hand (ev a (Recv (Err x)) ∷ K) w (session_call (ev a (Recv (Err x)) ∷ K) w)
+  mine-empty x r i = rw (call-more (ev a (Recv (Err x))) K w is_mine) (go (session_call K w) i)
     where
       t : (notif_of (session K w) ≡ None) ⊎ (any_of is_letgo (session K w) ≡ true)
       t = deed-is R (session K w) Fetch r.0
 
-      s : session (by a (Recv (Err x)) ∷ K) w ≡ joined (Recv (Err x)) (session K w)
-      s = session-more (by a (Recv (Err x))) K w mine' refl
+      s : session (ev a (Recv (Err x)) ∷ K) w ≡ joined (Recv (Err x)) (session K w)
+      s = session-more (ev a (Recv (Err x))) K w is_mine refl
 
       stays : (own : List What) → (notif_of own ≡ None) ⊎ (any_of is_letgo own ≡ true) → (notif_of (joined (Recv (Err x)) own) ≡ None) ⊎ (any_of is_letgo (joined (Recv (Err x)) own) ≡ true)
       stays [] h = h
@@ -274,11 +271,11 @@ module _ (S : System) (R : Rules) (K : List Event) (a : Actor) (w : ℕ) (legal 
           two : (b : Bool) → b ≡ false → b ≡ true → ⊥
           two b g h = cc
 
-      go : (o : Option ℕ) → Hand K w o → Hand (by a (Recv (Err x)) ∷ K) w o
+      go : (o : Option ℕ) → Hand K w o → Hand (ev a (Recv (Err x)) ∷ K) w o
       go (Some c) i = absurd (no c i t)
-      go None i = record { none = rw s (stays (session K w) t); mem_none = mem-more (by a (Recv (Err x))) K w mine' ∙ i.mem_none; base_none = base-more (by a (Recv (Err x))) K w mine' ∙ i.base_none }
+      go None i = record { none = rw s (stays (session K w) t); mem_none = mem-more (ev a (Recv (Err x))) K w is_mine ∙ i.mem_none; base_none = base-more (ev a (Recv (Err x))) K w is_mine ∙ i.base_none }
 
-  mine-step : (what : What) → WorkerRow S R K w what → Hand K w (session_call K w) → Hand (by a what ∷ K) w (session_call (by a what ∷ K) w)
+  mine-step : (what : What) → WorkerRow S R K w what → Hand K w (session_call K w) → Hand (ev a what ∷ K) w (session_call (ev a what ∷ K) w)
   mine-step (Recv (Ok n)) r i = mine-fetch n r
   mine-step (Recv (Err x)) r i = mine-empty x r i
   mine-step LetGo r i = mine-letgo r

@@ -1,11 +1,17 @@
 -- Facts of legal histories, beside those that mediation asks for.
-use Rattle.std.specs.Prelude.{◌≡◌, ◌<◌, ℕ, true, false, List, [], ◌∷◌, ◌++◌, length}
-use Rattle.hist_model.specs.Calls.{is_call, id, closes}
-use Rattle.hist_model.specs.Sessions.{Rules}
+use Rattle.std.specs.Prelude.{◌≡◌, ◌<◌, ◌⊎◌, ℕ, Bool, true, false, ◌||◌, List, [], ◌∷◌, ◌++◌, length, Some, None}
+use Rattle.hist_model.specs.Look.{Name, name_eq, event_at}
+use Rattle.hist_model.specs.Tasks.{name_of}
+use Rattle.hist_model.specs.Calls.{is_call, id, caller, listed, settled, waiting, closes}
+use Rattle.hist_model.specs.Sessions.{Rules, session, any_of, gives_up, first_some, put_in}
 use Rattle.hist_model.specs.Systems.{System}
-use Rattle.hist_model.specs.Steps.{IsLegal}
+use Rattle.hist_model.specs.Orders.{is_good_check}
+use Rattle.hist_model.specs.Laws.{fetcher}
+use Rattle.hist_model.specs.Steps.{IsLegal, makes_in, session_call, task_place, group, mem, base}
 use Rattle.hist_model.specs.Legal.{Finished}
 use Rattle.hist_model.specs.declared.event.Event.{Event}
+use Rattle.hist_model.specs.declared.event.What.{What}
+use Rattle.hist_model.specs.declared.event.What.TheVariants.{Spawn}
 
 -- two calls have different ids, listed or not
 abbrev pub CallIdsDiffer : List Event → Type 0
@@ -19,3 +25,30 @@ NoClose (e ∷ L) = (closes e.what ≡ false) × NoClose L
 -- a legal history that continues a finished one, without its close, is finished; the empty list is no history yet
 abbrev pub StaysFinished : System → Rules → Type 0
 StaysFinished S R = (K L : List Event) → 0 < length K → IsLegal S R (L ++ K) → Finished K → NoClose L → Finished (L ++ K)
+
+-- a spawn named this, also one that was refused
+abbrev pub spawns : What → Name → Bool
+spawns (Spawn m a) n = name_eq m n
+spawns _ n = false
+
+unfoldable pub spawned : List Event → Name → Bool
+spawned [] n = false
+spawned (e ∷ K) n = spawns e.what n || spawned K n
+
+-- two tasks have different names
+abbrev pub NamesDiffer : List Event → Type 0
+NamesDiffer K = (t u : ℕ) → makes_in (event_at K t) ≡ true → makes_in (event_at K u) ≡ true → name_of K t ≡ name_of K u → t ≡ u
+
+-- while a session's call is listed, and once a check of it was good, the memory and the base that it has opened are of its call's task's group
+abbrev pub HandlesOwn : List Event → Type 0
+HandlesOwn K = (w c t g : ℕ) → session_call K w ≡ Some c → task_place K (caller K c) ≡ Some t → (listed K c ≡ true) ⊎ (any_of is_good_check (session K w) ≡ true)
+    → (mem K w ≡ Some g → g ≡ group K t) × (base K w ≡ Some g → g ≡ group K t)
+
+-- a fetched call that is still listed: where its session has ended, or is about to, it is settled; where the session goes on and has asked for no descriptor, it waits
+pub record SessionSettles (K : List Event) (w c : ℕ) : Type 0 where
+  pub ended : (session_call K w ≡ Some c → ⊥) → settled K c ≡ true
+  pub ends : session_call K w ≡ Some c → any_of gives_up (session K w) ≡ true → settled K c ≡ true
+  pub goes_on : session_call K w ≡ Some c → any_of gives_up (session K w) ≡ false → first_some put_in (session K w) ≡ None → waiting K c ≡ true
+
+abbrev pub SessionsSettle : List Event → Type 0
+SessionsSettle K = (w c : ℕ) → listed K c ≡ true → fetcher K c ≡ Some w → SessionSettles K w c

@@ -3,6 +3,7 @@
 
 ghost use Rattle.std.specs.Prelude.{◌≡◌, ◌<◌, ◌^◌, ℕ, List, length, reverse};
 ghost use Rattle.hist_model.specs.declared.event.Event.{Event};
+ghost use Rattle.hist_model.specs.Look.{before};
 ghost use Rattle.hist_model.specs.Systems.{System};
 ghost use Rattle.hist_model.specs.Sessions.{Rules, session};
 ghost use Rattle.hist_model.specs.Steps.{IsLegal};
@@ -14,7 +15,7 @@ ghost use Rattle.hist_model.specs.declared.policy.Policy.{Policy};
 ghost use Rattle.hist_model.specs.declared.script.Script.{Script};
 ghost use Rattle.hist_model.specs.Mediated.{Mediated, Each, TakenByItsActor, NamesOwn, NeverBusy, ErrorsKnown, LostIfGone, HasCause};
 ghost use Rattle.mediation.specs.Journals.{actors, IsLegalByPlace};
-ghost use Rattle.mediation.specs.Facts.{CallIdsDiffer, StaysFinished};
+ghost use Rattle.mediation.specs.Facts.{CallIdsDiffer, NamesDiffer, HandlesOwn, SessionsSettle, StaysFinished};
 ghost use Rattle.mediation.specs.Frames.{Frame};
 
 /// Every legal history is mediated: each notification is answered at most once; each reply or descriptor reaches the
@@ -59,6 +60,11 @@ pub fn fixed_by_actors()
 pub fn legal_by_place()
     ensures there { (S : System) (R : Rules) (H : List Event) → IsLegal S R (reverse H) → IsLegalByPlace S R H }
     ensures back { (S : System) (R : Rules) (H : List Event) (d : Event) → IsLegalByPlace S R H → IsLegal S R (reverse H) }
+{}
+
+/// What stands before a place of a legal history is legal.
+pub fn prefixes_are_legal()
+    ensures { (S : System) (R : Rules) (K : List Event) (place : ℕ) → IsLegal S R K → IsLegal S R (before K place) }
 {}
 
 /// Each answer and each request that was accepted is for the call of its own session.
@@ -115,11 +121,24 @@ pub fn returns_installed()
 /// A legal history that continues a finished one, without the close of the listener, is finished.
 pub fn stays_finished()
     ensures { (S : System) (R : Rules) → StaysFinished S R }
-{
-}
+{}
 
 /// Which kinds of event can change which definitions: each other kind leaves them as they are.
 pub fn frame()
     ensures { (K : List Event) (e : Event) → Frame K e }
-{
-}
+{}
+
+/// Two tasks have different names.
+pub fn names_differ()
+    ensures { (S : System) (R : Rules) (K : List Event) → IsLegal S R K → NamesDiffer K }
+{}
+
+/// While a session's call is listed, and once a check of it was good, what the session has opened is its call's task's.
+pub fn handles_own()
+    ensures { (S : System) (R : Rules) (K : List Event) → IsLegal S R K → length K < 2 ^ 64 → HandlesOwn K }
+{}
+
+/// A listed call whose session has ended is settled, and one whose session goes on, and has asked for no descriptor, waits.
+pub fn sessions_settle()
+    ensures { (S : System) (R : Rules) (K : List Event) → IsLegal S R K → length K < 2 ^ 64 → SessionsSettle K }
+{}

@@ -1,0 +1,99 @@
+-- The small histories that wrong kernels and brokers would make are not legal.
+use Rattle.std.proofs.Common.{◌≡◌, ℕ, ◌<◌, ◌&&◌, Bool, true, false, List, [], ◌∷◌, length, None, refl, ap, ◌∙◌, arith}
+use Rattle.std.specs.Prelude.{Ok, Err, pos, nat_le, ◌==◌}
+use Rattle.std.proofs.lemmas.Bool.{and_parts, eqb-false}
+use Rattle.hist_model.specs.Look.{ev, event_at, newest, oldest}
+use Rattle.hist_model.specs.Tasks.{ended, was_waited_for, reaped, holder, free_from, last_pid, next_pid, is_made, mode, pending}
+use Rattle.hist_model.specs.Signals.{call_of, next_signal}
+use Rattle.hist_model.specs.Calls.{listed, fetched, named, settled, queue, calls, recvs, closes}
+use Rattle.hist_model.specs.Sessions.{Rules, session, deed}
+use Rattle.hist_model.specs.Systems.{System}
+use Rattle.hist_model.specs.Steps.{IsLegal, is_start, is_actor, start, step, task_step, worker_step, steps_of, reply, oldest_unfetched, task_place, group, mem, base, session_call, install_of, call_at, request_of, owes_native, times_spent}
+use Rattle.hist_model.specs.declared.event.Actor.{Actor}
+use Rattle.hist_model.specs.declared.event.Actor.TheVariants.{Start, Task, Worker, Listener}
+use Rattle.hist_model.specs.declared.event.Event.{Event}
+use Rattle.hist_model.specs.declared.event.What.{What}
+use Rattle.hist_model.specs.declared.event.What.TheVariants.{Recv, OpenMem, Check, Read, Act, Install, AddfdPut, Send, LetGo, Exit, Close}
+use Rattle.hist_model.specs.declared.event.Back.TheVariants.{Value}
+use Rattle.sys_abi.specs.declared.wire.Addfd.{Addfd}
+use Rattle.sys_abi.specs.declared.wire.Notif.{Notif}
+use Rattle.mediation.specs.Refused.{after, played, Refuses, one_call, reused, interrupted, two_calls, granting, injecting, asked, parent, worker, read_once, checked_twice, answered, renumbered, put_and_interrupted, both_called, newest_notif, without_send, EarlyEffect, LateOpening, SecondReading, SecondAnswer, ValidByNumber, LateInstallation, WithoutSend, NewestFirst}
+use Rattle.mediation.proofs.Rows.{Row, step-row}
+
+-- tasks and workers
+abbrev moves : Actor → Bool
+moves (Task n) = true
+moves (Worker w) = nat_le w 16
+moves _ = false
+
+abbrev all_move : List Actor → Bool
+all_move [] = true
+all_move (a ∷ more) = moves a && all_move more
+
+-- they don't close the listener
+row-closes : (S : System) (R : Rules) (K : List Event) (a : Actor) (what : What) → moves a ≡ true → Row S R K a what → closes what ≡ false
+row-closes S R K (Task n) Close m r = absurd r
+row-closes S R K (Task n) what m r = refl
+row-closes S R K (Worker w) Close m r = absurd r
+row-closes S R K (Worker w) what m r = refl
+row-closes S R K Start what m r = cc
+row-closes S R K Listener what m r = cc
+
+moves-actor : (a : Actor) → moves a ≡ true → (is_start a ≡ false) × (is_actor a ≡ true)
+moves-actor (Task n) h = (refl, refl)
+moves-actor (Worker w) h = (refl, h)
+moves-actor Start h = cc
+moves-actor Listener h = cc
+
+-- what they play is legal
+after-legal : (S : System) (R : Rules) (actors : List Actor) (f : Event) (K : List Event) → all_move actors ≡ true → closes f.what ≡ false → IsLegal S R (f ∷ K) → IsLegal S R (after S R actors (f ∷ K))
+after-legal S R [] f K m c legal = legal
+after-legal S R (a ∷ more) f K m c legal =
+    let p = and_parts (moves a) (all_move more) m in
+    let q = moves-actor a p.0 in
+    let r = row-closes S R (f ∷ K) a (step S R (f ∷ K) a) p.0 (step-row S R (f ∷ K) a) in
+    after-legal S R more (ev a (step S R (f ∷ K) a)) (f ∷ K) p.1 r ((c, q.0, refl, q.1), legal)
+
+played-legal : (S : System) (R : Rules) (actors : List Actor) → all_move actors ≡ true → IsLegal S R (played S R actors)
+played-legal S R actors m = after-legal S R actors (start S) [] m refl (refl, tt)
+
+-- an event that is not the step of its actor
+other-step : (S : System) (R : Rules) (K : List Event) (a : Actor) (wrong right : What) → 0 < length K → step S R K a ≡ right → (wrong ≡ right → ⊥) → IsLegal S R (ev a wrong ∷ K) → ⊥
+other-step S R [] a wrong right l q n legal = absurd (omega arith)
+other-step S R (f ∷ K) a wrong right l q n legal = n (legal.0.2 ∙ q)
+
+longer : (S : System) (R : Rules) (actors : List Actor) (K : List Event) → 0 < length K → 0 < length (after S R actors K)
+longer S R [] K h = h
+longer S R (a ∷ more) K h = longer S R more (ev a (step S R K a) ∷ K) (omega arith)
+
+refuses : (S : System) (R : Rules) (actors : List Actor) (a : Actor) (wrong right : What) → all_move actors ≡ true → step S R (played S R actors) a ≡ right → (wrong ≡ right → ⊥) → Refuses S R actors a wrong
+refuses S R actors a wrong right m q n = (played-legal S R actors m, other-step S R (played S R actors) a wrong right (longer S R actors (start S ∷ []) (omega arith)) q n)
+
+with_send : Addfd
+with_send = record { id = 1; flags = 2; srcfd = 5; newfd = 0; newfd_flags = 0 }
+
+oldest_notif : Notif
+oldest_notif = record { id = 1; pid = 2; flags = 0; call = record { nr = pos 133; arch = 0xc000003e; ip = 0; args = 65536 ∷ [] } }
+
+-- the flags of a request, and the id of a notification
+number_of : What → ℕ
+number_of (AddfdPut q a) = q.flags
+number_of (Recv (Ok n)) = n.id
+number_of what = 0
+
+numbers : (a b : ℕ) → (a == b) ≡ false → a ≡ b → ⊥
+numbers a b h q = eqb-false a b h q
+
+-- each by what its actor's step is in truth
+pub refusals : EarlyEffect × LateOpening × SecondReading × SecondAnswer × ValidByNumber × LateInstallation × WithoutSend × NewestFirst
+unfolding step task_step worker_step event_at newest oldest ended was_waited_for reaped holder free_from last_pid next_pid is_made mode pending next_signal listed fetched named settled queue calls recvs session deed call_of steps_of reply oldest_unfetched task_place group mem base session_call install_of call_at request_of owes_native times_spent with_send oldest_notif number_of
+refusals = (
+  refuses one_call granting read_once worker (Act asked None (Ok tt)) (Check 1 (Ok tt)) refl refl (λ (h : (Act asked None (Ok tt)) ≡ (Check 1 (Ok tt))). cc),
+  refuses one_call granting checked_twice worker (OpenMem 1 (Ok tt)) (Act asked None (Ok tt)) refl refl (λ (h : (OpenMem 1 (Ok tt)) ≡ (Act asked None (Ok tt))). cc),
+  refuses one_call granting checked_twice worker (Read 65536 256 (Ok (47 ∷ 0 ∷ []))) (Act asked None (Ok tt)) refl refl (λ (h : (Read 65536 256 (Ok (47 ∷ 0 ∷ []))) ≡ (Act asked None (Ok tt))). cc),
+  refuses one_call granting answered worker (Send 1 (Value (pos 0)) (Ok tt)) (LetGo) refl refl (λ (h : (Send 1 (Value (pos 0)) (Ok tt)) ≡ (LetGo)). cc),
+  refuses reused granting renumbered worker (Check 1 (Ok tt)) (Check 1 (Err 2)) refl refl (λ (h : (Check 1 (Ok tt)) ≡ (Check 1 (Err 2))). cc),
+  refuses interrupted injecting put_and_interrupted parent (Install (Ok 3)) (Exit) refl refl (λ (h : (Install (Ok 3)) ≡ (Exit)). cc),
+  refuses one_call injecting read_once worker (AddfdPut without_send (Ok tt)) (AddfdPut with_send (Ok tt)) refl refl (λ h. numbers 0 2 refl (ap number_of h)),
+  refuses two_calls granting both_called worker (Recv (Ok newest_notif)) (Recv (Ok oldest_notif)) refl refl (λ h. numbers 2 1 refl (ap number_of h)),
+)
