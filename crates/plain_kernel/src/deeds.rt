@@ -5,8 +5,9 @@ ghost use Rattle.hist_model.specs.Calls.{named};
 ghost use Rattle.hist_model.specs.Tasks.{holder};
 ghost use Rattle.plain_files.specs.Kept.{StandsFor};
 ghost use Rattle.hist_model.specs.Legal.{system_of};
-ghost use Rattle.hist_model.specs.Sessions.{Fetch, Open, OpenB, Ask, ReadD, ActD, PlantD, Put, Take, Answer};
+ghost use Rattle.hist_model.specs.Sessions.{Fetch, Open, Ask, ReadD, ActD, PlantD, Put, Take, Answer};
 ghost use Rattle.hist_model.specs.Steps.{deed_step, put_answer, base_answer, is_spent};
+ghost use Rattle.hist_model.specs.declared.event.What.TheVariants.{OpenBase};
 ghost use Rattle.hist_model.specs.declared.script.Script.{Script as ScriptData};
 
 use hist_model::event::{Back, Event, What};
@@ -151,7 +152,7 @@ fn base_answer(
 /// The opening of that directory.
 pub fn open_base(script: &Script, events: &[Event], files: &Files, pid: u32, dirfd: i32) -> What
     requires { StandsFor script.now (reverse events.now) files.now }
-    ensures { (w : ℕ) → result ≡ deed_step (system_of script.now) (reverse events.now) w (OpenB pid dirfd) }
+    ensures { result ≡ OpenBase pid dirfd (base_answer (system_of script.now) (reverse events.now) (holder (reverse events.now) pid) dirfd) }
 {
     What::OpenBase {
         pid,

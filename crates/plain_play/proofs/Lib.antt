@@ -1,3 +1,4 @@
 pub mod Sessions
 pub mod Fitting
 pub mod Turns
+pub mod Plays

@@ -4,16 +4,16 @@ use Rattle.std.proofs.lemmas.List.{get_or_append_left, get_or-set_same, get_or-s
 use Rattle.std.proofs.Math.Seq.{get_or-append_seam}
 use Rattle.plain_files.specs.Kept.{StandsFor}
 use Rattle.std.specs.Prelude.{slice_set, get_or, if◌then◌else◌, ◌==◌, Result, Ok, Err}
-use Rattle.std.proofs.lemmas.Bool.{cases_Bool, eqb-true, eq-eqb, ne_eqb, cases_order}
+use Rattle.std.proofs.lemmas.Bool.{cases_Bool, eqb-true, eq-eqb, ne_eqb, cases_lt}
 use Rattle.hist_model.specs.Look.{Name, ev, is_worker}
 use Rattle.hist_model.specs.Legal.{system_of, rules_of, with_step, started}
 use Rattle.hist_model.specs.Sessions.{session, joined, skips, deed}
 use Rattle.hist_model.specs.Steps.{step, deed_step, task_step, worker_step, start}
 use Rattle.hist_model.specs.declared.event.Event.{Event}
 use Rattle.hist_model.specs.declared.event.Actor.{Actor}
-use Rattle.hist_model.specs.declared.event.Actor.TheVariants.{Start, Task, Worker as WorkerActor}
+use Rattle.hist_model.specs.declared.event.Actor.TheVariants.{Start, Task, Listener, Worker as WorkerActor}
 use Rattle.hist_model.specs.declared.event.What.{What}
-use Rattle.hist_model.specs.declared.event.What.TheVariants.{Skip, Spawn}
+use Rattle.hist_model.specs.declared.event.What.TheVariants.{Skip, Spawn, Close}
 use Rattle.hist_model.specs.declared.event.SpawnKind.TheVariants.{New}
 use Rattle.hist_model.specs.declared.policy.Policy.{Policy}
 use Rattle.hist_model.specs.declared.script.Figures.{Figures}
@@ -53,7 +53,7 @@ all-after P F K v what ws x a r f = λ w d l.
     ]
   where
     order_or_same : (w v : ℕ) → (w ≡ v) ⊎ (w ≡ v → ⊥)
-    order_or_same w v = elim (cases_Bool (w == v)) [ | inl h ↦ inl (eqb-true w v h) | inr h ↦ inr (λ q. no (sym (eq-eqb w v q) ∙ h)) ]
+    order_or_same w v = elim (cases_Bool (w == v)) [ inl h ↦ inl (eqb-true w v h) | inr h ↦ inr (λ q. no (sym (eq-eqb w v q) ∙ h)) ]
       where
         no : true ≡ false → ⊥
         no h = cc
@@ -61,10 +61,19 @@ all-after P F K v what ws x a r f = λ w d l.
 -- one more worker without a session
 pub all_push : (P : Policy) (F : Figures) (ws : List Worker) (x : Worker) → AllRemember P F [] ws → Remembers P [] x → x.figures ≡ F → AllRemember P F [] (ws ++ x ∷ [])
 unfolding session
-all_push P F ws x a r f = λ w d l. elim (cases_order w (length ws)) [
+all_push P F ws x a r f = λ w d l. elim (cases_lt w (length ws)) [
   | inl h ↦ rw (get_or_append_left ws (x ∷ []) d w h) (a w d h)
-  | inr h ↦ let q : w ≡ length ws = omega (arith, length-append ws (x ∷ [])) in rw (q, get_or-append_seam ws x [] d) (r, f)
+  | inr h ↦
+      let n : w < length ws + 1 = rw length-append at l in
+      let q : w ≡ length ws = omega arith in
+      rw (q, get_or-append_seam ws x [] d) (r, f)
 ]
+
+pub one_more : (ws : List Worker) (x : Worker) → length (ws ++ x ∷ []) ≡ length ws + 1
+one_more ws x = length-append ws (x ∷ [])
+
+pub starts_with : (S : Script) (L K : List Event) (w : What) → L ≡ ev Start w ∷ K → w ≡ Spawn (0 ∷ []) (Ok (S.pidbase + 1, New)) → K ≡ [] → L ≡ started S
+starts_with S L K w h e z = h ∙ rw (e, z) refl
 
 module _ (P : Policy) (S : Script) where
   -- a task's turn
@@ -105,3 +114,26 @@ module _ (P : Policy) (S : Script) where
     number = n;
     workers = all-other P S.figures [] (start (system_of S)) new.workers.items (λ w. refl) a;
   }
+
+  -- an actor that has no turn of its own: the start steps no more, and the listener closes
+  pub after_other : (a : Actor) (what : What) (old new : Machine) → IsAt P S old.history.events old → ((w : ℕ) → is_worker a w ≡ false) → what ≡ step (system_of S) (rules_of P S.figures) old.history.events a
+      → new.history.events ≡ ev a what ∷ old.history.events → StandsFor S new.history.events new.files → new.workers ≡ old.workers
+      → IsAt P S (with_step P S a old.history.events) new
+  after_other a what old new at o e h f ws =
+      let q : new.history.events ≡ with_step P S a old.history.events = h ∙ ap (λ w. ev a w ∷ old.history.events) e in
+      record {
+        events = q;
+        files = rw q at f;
+        number = rw ws at.number;
+        workers = rw ws (all-other P S.figures old.history.events (ev a (step (system_of S) (rules_of P S.figures) old.history.events a)) old.workers.items o at.workers);
+      }
+
+  pub after_close : (old new : Machine) → IsAt P S old.history.events old → new.history.events ≡ ev Listener Close ∷ old.history.events → StandsFor S new.history.events new.files → new.workers ≡ old.workers
+      → IsAt P S (with_step P S Listener old.history.events) new
+  unfolding step
+  after_close old new at h f ws = after_other Listener Close old new at (λ w. refl) refl h f ws
+
+  pub after_start : (old new : Machine) → IsAt P S old.history.events old → new.history.events ≡ ev Start Skip ∷ old.history.events → StandsFor S new.history.events new.files → new.workers ≡ old.workers
+      → IsAt P S (with_step P S Start old.history.events) new
+  unfolding step
+  after_start old new at h f ws = after_other Start Skip old new at (λ w. refl) refl h f ws

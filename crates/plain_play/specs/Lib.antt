@@ -1,2 +1,3 @@
 pub mod Workers
+pub mod Playable
 pub mod Running

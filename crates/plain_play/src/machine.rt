@@ -1,27 +1,32 @@
 //! The kernel's plain program and the workers, which take turns.
 
-ghost use Rattle.std.specs.Prelude.{◌≡◌, ℕ, ◌<◌, ◌+◌, ◌^◌, List, [], ◌∷◌, length, reverse, OnOk, IfOk, false};
+ghost use Rattle.std.specs.Prelude.{◌≡◌, ℕ, ◌<◌, ◌+◌, ◌^◌, List, [], ◌∷◌, length, reverse, OnOk, IfOk, Ok};
 ghost use Rattle.hist_model.specs.Look.{ev};
-ghost use Rattle.hist_model.specs.Legal.{system_of, rules_of, with_step, started};
-ghost use Rattle.hist_model.specs.Sessions.{session};
+ghost use Rattle.hist_model.specs.Legal.{system_of, rules_of, with_step, with_steps, with_schedule, started, played};
+ghost use Rattle.hist_model.specs.Sessions.{session, skips};
 ghost use Rattle.hist_model.specs.Steps.{deed_step, worker_step};
 ghost use Rattle.hist_model.specs.declared.event.Event.{Event};
 ghost use Rattle.hist_model.specs.declared.event.Actor.TheVariants.{Task, Worker as WorkerActor};
+ghost use Rattle.hist_model.specs.declared.event.What.TheVariants.{Spawn};
+ghost use Rattle.hist_model.specs.declared.event.SpawnKind.TheVariants.{New};
 ghost use Rattle.hist_model.specs.declared.policy.Policy.{Policy};
 ghost use Rattle.broker_core.specs.Deeds.{deed_of};
 ghost use Rattle.plain_files.specs.Kept.{StandsFor};
 ghost use Rattle.broker_core.specs.Remembered.{Remembers};
 ghost use Rattle.plain_play.specs.Workers.{AllRemember};
+ghost use Rattle.plain_play.specs.Playable.{IsPlayable};
 
 use broker_core::deed::Deed;
 use broker_core::worker::Worker;
 use hist_model::event::{Actor, Event, SpawnKind, What};
 use hist_model::history::History;
 use hist_model::policy::Policy;
-use hist_model::script::{Figures, Script};
+use hist_model::script::{Figures, Script, Step};
 use hist_model::text::TaskName;
 use plain_files::files::Files;
-use plain_kernel::deeds::{act, addfd_put, addfd_take, check, open_base, open_mem, plant, read, recv, send};
+use plain_kernel::deeds::{
+    act, addfd_put, addfd_take, check, open_base, open_mem, plant, read, recv, send,
+};
 use plain_kernel::tasks::task_step;
 use std::alloc::Global;
 use sys_abi::memory::NoMemory;
@@ -44,28 +49,48 @@ fn deed_step(
     events: &[Event],
     files: &Files,
     worker: u8,
-    deed: Deed<'_>,
+    deed: &Deed<'_>,
 ) -> Result<What, NoMemory>
     requires { StandsFor script.now (reverse events.now) files.now }
-    ensures { IfOk result (λ w. w ≡ deed_step (system_of script.now) (reverse events.now) worker (deed_of deed.entry)) }
+    ensures { IfOk result (λ w. w ≡ deed_step (system_of script.now) (reverse events.now) worker (deed_of deed.now)) }
 {
     match deed {
         Deed::Recv => Ok(recv(events)),
-        Deed::OpenMem { pid } => Ok(open_mem(events, pid)),
-        Deed::OpenBase { pid, dirfd } => Ok(open_base(script, events, files, pid, dirfd)),
-        Deed::Check { id } => Ok(check(events, id)),
-        Deed::Read { addr, len } => read(alloc, script, events, worker, addr, len),
-        Deed::Act { request, cap } => act(alloc, script, events, files, worker, request, cap),
-        Deed::Plant { addr, bytes, cap } => Ok(plant(script, events, addr, bytes, cap)),
-        Deed::AddfdPut(asked) => Ok(addfd_put(script, events, asked)),
+        Deed::OpenMem { pid } => Ok(open_mem(events, *pid)),
+        Deed::OpenBase { pid, dirfd } => Ok(open_base(script, events, files, *pid, *dirfd)),
+        Deed::Check { id } => Ok(check(events, *id)),
+        Deed::Read { addr, len } => read(alloc, script, events, worker, *addr, *len),
+        Deed::Act { request, cap } => act(alloc, script, events, files, worker, request, *cap),
+        Deed::Plant { addr, bytes, cap } => Ok(plant(script, events, *addr, *bytes, *cap)),
+        Deed::AddfdPut(asked) => Ok(addfd_put(script, events, *asked)),
         Deed::AddfdTake => Ok(addfd_take(events, worker)),
-        Deed::Send { id, back } => Ok(send(events, id, back)),
+        Deed::Send { id, back } => Ok(send(events, *id, *back)),
         Deed::LetGo => Ok(What::LetGo),
     }
 }
 
+/// The step is none.
+fn is_skip(what: &What) -> bool
+    ensures { result ≡ skips what.now }
+{
+    matches!(what, What::Skip)
+}
+
+/// The first event's step: the first task gets the first process number, and memory and descriptors of its own.
+fn first_step(alloc: Global, script: &Script) -> Result<What, NoMemory>
+    requires { script.now.pidbase + 1 < 2 ^ 32 }
+    ensures { IfOk result (λ w. w ≡ Spawn (0 ∷ []) (Ok (script.now.pidbase + 1, New))) }
+{
+    let mut name = Vec::new(alloc);
+    name.push(0)?;
+    Ok(What::Spawn {
+        child: TaskName::new(name),
+        answer: Ok((script.pidbase + 1, SpawnKind::New)),
+    })
+}
+
 /// A worker's turn: what it does next, with the kernel's answer, which it takes. Where it can't step it takes nothing.
-#[tactic(auto, using(crate::proofs::Fitting::fits_next, crate::proofs::Turns::remembers_skip, crate::proofs::Turns::remembers_step, crate::proofs::Turns::step_of_deed))]
+#[tactic(auto, using(crate::proofs::Turns::remembers_skip, crate::proofs::Turns::step_of_deed))]
 fn worker_step(
     alloc: Global,
     policy: &Policy,
@@ -82,8 +107,8 @@ fn worker_step(
     ensures remembers { IfOk result (λ w. Remembers policy.now (session (ev (WorkerActor number) w ∷ reverse events.now) number) worker.new) }
     ensures figures { worker.new.figures ≡ worker.old.figures }
 {
-    let what = deed_step(alloc, script, events, files, number, worker.next())?;
-    if matches!(what, What::Skip) {
+    let what = deed_step(alloc, script, events, files, number, &worker.next())?;
+    if is_skip(&what) {
         return Ok(what);
     }
     worker.took(alloc, policy, &what)?;
@@ -104,6 +129,7 @@ fn idle_workers(alloc: Global, figures: Figures) -> Result<Vec<Worker>, NoMemory
 
 impl Machine {
     ghost use Rattle.plain_play.specs.Running.{IsAt};
+    ghost use Rattle.plain_play.specs.Playable.{CanStep, AllCanStep};
 
     /// The history with one more event, and the files after it.
     fn append(&mut self, script: &Script, who: Actor, what: What) -> Result<(), NoMemory>
@@ -120,10 +146,8 @@ impl Machine {
     }
 
     /// The machine at the start of a script.
-    #[tactic(auto, using(crate::proofs::Turns::at_start))]
     pub fn start(alloc: Global, script: &Script) -> Result<Machine, NoMemory>
-        requires pids { script.now.pidbase + script.now.pidmax < 2 ^ 32 }
-        requires numbers { 0 < script.now.pidmax }
+        requires { script.now.pidbase + 1 < 2 ^ 32 }
         ensures { IfOk result (λ m. (P : Policy) → IsAt P script.now (started script.now) m) }
     {
         let mut machine = Machine {
@@ -131,13 +155,7 @@ impl Machine {
             files: Files::stated(alloc, script)?,
             workers: idle_workers(alloc, script.figures)?,
         };
-        let mut name = Vec::new(alloc);
-        name.push(0)?;
-        let what = What::Spawn {
-            child: TaskName::new(name),
-            answer: Ok((script.pidbase + 1, SpawnKind::New)),
-        };
-        machine.append(script, Actor::Start, what)?;
+        machine.append(script, Actor::Start, first_step(alloc, script)?)?;
         Ok(machine)
     }
 
@@ -190,4 +208,77 @@ impl Machine {
         )?;
         self.append(script, Actor::Worker(number), what)
     }
+
+    /// An actor's turn.
+    #[tactic(auto, using(crate::proofs::Turns::after_close, crate::proofs::Turns::after_start))]
+    pub fn turn(
+        &mut self,
+        alloc: Global,
+        policy: &Policy,
+        script: &Script,
+        who: &Actor,
+    ) -> Result<(), NoMemory>
+        requires at { IsAt policy.now script.now self.old.history.events self.old }
+        requires pids { script.now.pidbase + script.now.pidmax < 2 ^ 32 }
+        requires can_step { CanStep who.now }
+        ensures { OnOk result (IsAt policy.now script.now (with_step policy.now script.now who.now self.old.history.events) self.new) }
+    {
+        match who {
+            Actor::Task(name) => self.task_turn(alloc, policy, script, name),
+            Actor::Worker(number) => self.worker_turn(alloc, policy, script, *number),
+            Actor::Listener => self.append(script, Actor::Listener, What::Close),
+            Actor::Start => self.append(script, Actor::Start, What::Skip),
+        }
+    }
+
+    /// As many turns of an actor.
+    fn turns(
+        &mut self,
+        alloc: Global,
+        policy: &Policy,
+        script: &Script,
+        who: &Actor,
+        count: u32,
+    ) -> Result<(), NoMemory>
+        requires at { IsAt policy.now script.now self.old.history.events self.old }
+        requires pids { script.now.pidbase + script.now.pidmax < 2 ^ 32 }
+        requires can_step { CanStep who.now }
+        ensures { OnOk result (IsAt policy.now script.now (with_steps policy.now script.now who.now count self.old.history.events) self.new) }
+    {
+        for _ in 0..count {
+            self.turn(alloc, policy, script, who)?;
+        }
+        Ok(())
+    }
+
+    /// The turns of a schedule, in order.
+    fn schedule(
+        &mut self,
+        alloc: Global,
+        policy: &Policy,
+        script: &Script,
+        steps: &[Step],
+    ) -> Result<(), NoMemory>
+        requires at { IsAt policy.now script.now self.old.history.events self.old }
+        requires pids { script.now.pidbase + script.now.pidmax < 2 ^ 32 }
+        requires can_step { AllCanStep steps.now }
+        ensures { OnOk result (IsAt policy.now script.now (with_schedule policy.now script.now steps.now self.old.history.events) self.new) }
+    {
+        for step in steps {
+            self.turns(alloc, policy, script, &step.who, step.count)?;
+        }
+        Ok(())
+    }
+}
+
+/// Plays the schedule of a script on a kernel and its workers, and closes the listener.
+pub fn play(alloc: Global, policy: &Policy, script: &Script) -> Result<History, NoMemory>
+    requires { IsPlayable script.now }
+    ensures { IfOk result (λ h. h.events ≡ played policy.now script.now) }
+{
+    let mut machine = Machine::start(alloc, script)?;
+    machine.schedule(alloc, policy, script, script.schedule.items())?;
+    machine.turn(alloc, policy, script, &Actor::Listener)?;
+    let Machine { history, .. } = machine;
+    Ok(history)
 }
