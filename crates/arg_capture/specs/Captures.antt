@@ -1,6 +1,7 @@
 -- What contracts see of a capture, and what it comes to.
 use Rattle.std.specs.Prelude.{◌≡◌, ℕ, ◌≤◌, List, [], ◌∷◌, ◌++◌, length, Option, Some, None, Result, Ok, Err, ⊤}
 use Rattle.hist_model.specs.Copies.{Progress, Wants, Complete, Faulty, progress, progress_with}
+pub use Rattle.hist_model.specs.Copies.{wanted}
 use Rattle.hist_model.specs.declared.copy.Part.{Part}
 use Rattle.hist_model.specs.declared.request.Fault.{Fault}
 use Rattle.hist_model.specs.declared.request.ArgCopy.{ArgCopy}
@@ -48,11 +49,6 @@ continued c answers = unless_faulty c.fault (reached_progress c.reached answers)
 -- the capture has had these answers of a plan, the oldest first: whatever comes later, it is as far as they make it
 abbrev pub Follows : List Part → List (Result (List ℕ) ℕ) → Captured → Type 0
 Follows parts answers c = (later : List (Result (List ℕ) ℕ)) → continued c later ≡ progress parts (answers ++ later)
-
--- the piece to read
-abbrev pub wanted : Progress → Option (ℕ × ℕ)
-wanted (Wants address n) = Some (address, n)
-wanted _ = None
 
 -- an answer to a piece: EFAULT, or some bytes, at most as many as were asked for
 abbrev pub Answers : Option (ℕ × ℕ) → Result (List ℕ) ℕ → Type 0

@@ -18,7 +18,7 @@ mod line;
 mod outcome;
 mod part;
 mod request;
-mod session;
+pub mod session;
 pub mod summary;
 #[cfg(test)]
 mod tests;

@@ -32,7 +32,7 @@ pub(crate) struct Facts {
 }
 
 /// Whether the step lets go of what was opened for a notification.
-fn is_let_go(what: &What) -> bool
+pub fn is_let_go(what: &What) -> bool
     ensures { result ≡ is_let_go what.now }
 {
     matches!(what, What::LetGo)
@@ -183,7 +183,7 @@ impl Facts {
 }
 
 /// Whether the event is a step of the worker, but no skip.
-fn is_own(event: &Event, worker: u8) -> bool
+pub fn is_own(event: &Event, worker: u8) -> bool
     ensures { result ≡ (is_worker event.now.who worker && not (skips event.now.what)) }
 {
     match &event.who {

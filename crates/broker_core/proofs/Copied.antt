@@ -4,7 +4,7 @@ use Rattle.std.specs.Prelude.{Result, Ok, Err, ◌||◌, if◌then◌else◌}
 use Rattle.std.proofs.lemmas.List.{reverse-append, append-nil}
 use Rattle.hist_model.specs.Copies.{Progress, Wants, Complete, Faulty, plan, progress}
 use Rattle.hist_model.specs.Sessions.{reads_of, number_of, checks, starts, is_letgo, fetched_by, gives_up, opens, opens_base, outcome_in, put_in, take_in, or_some}
-use Rattle.hist_model.specs.Legal.{read_answers, wanted_piece, copy_fault, judged}
+use Rattle.hist_model.specs.Legal.{read_answers, copy_fault, judged}
 use Rattle.hist_model.specs.declared.event.What.{What}
 use Rattle.hist_model.specs.declared.event.What.TheVariants.{Read, Check, Recv}
 use Rattle.hist_model.specs.declared.policy.Policy.{Policy}
@@ -34,7 +34,7 @@ read_more P F n own c d addr len answer h a = (
 
 -- what a complete or faulty copy is judged as
 judged-as : (P : Policy) (F : Figures) (n : Notif) (p q : Progress) (j : Judgement) → p ≡ q → wanted q ≡ None → IsJudged P F n q j
-    → (wanted_piece p ≡ None) × (copy_fault p ≡ fault_of j) × (fault_of j ≡ None → judged P F n p ≡ decision_of F j)
+    → (wanted p ≡ None) × (copy_fault p ≡ fault_of j) × (fault_of j ≡ None → judged P F n p ≡ decision_of F j)
 judged-as P F n p (Wants addr len) j e w h = absurd h
 judged-as P F n p (Complete texts) j e w h = rw e (refl, sym h.0, λ f. sym h.1)
 judged-as P F n p (Faulty e') j e w h = rw e (refl, sym h, λ f. absurd (none-some (sym f ∙ h)))

@@ -3,9 +3,9 @@ use Rattle.std.proofs.Common.{◌≡◌, ℕ, suc, ◌≤◌, ◌<◌, Bool, tru
 use Rattle.std.specs.Prelude.{if◌then◌else◌, ◌==◌, ℤ, Result, Ok, Err}
 use Rattle.std.proofs.lemmas.Bool.{cases_Bool, ne_eqb, eq-eqb, eqb-true, false_from_ne_true, or_right}
 use Rattle.std.proofs.lemmas.List.{append-nil}
-use Rattle.hist_model.specs.Copies.{Progress, Wants, Complete, Faulty as Broken, plan, progress}
+use Rattle.hist_model.specs.Copies.{Progress, plan, progress}
 use Rattle.hist_model.specs.Requests.{base_dirfd}
-use Rattle.hist_model.specs.Legal.{rules_of, wanted_piece}
+use Rattle.hist_model.specs.Legal.{rules_of}
 use Rattle.hist_model.specs.Sessions.{Rules, Deed, Fetch, Ask, deed_for, notif_of, OpenB, Open, Let, deed, any_of, number_of, checks, reads_of, joined, starts, is_letgo, copied_deed, based_deed as based, checked_deed as checked}
 use Rattle.hist_model.specs.declared.event.What.{What}
 use Rattle.hist_model.specs.declared.event.What.TheVariants.{Recv, LetGo}
@@ -30,11 +30,6 @@ any-number p (a ∷ own) = elim (cases_Bool (p a)) [
   | inr h ↦ rw h (any-number p own)
 ]
 
-wanted-same : (p : Progress) → wanted_piece p ≡ wanted p
-wanted-same (Wants a n) = refl
-wanted-same (Complete texts) = refl
-wanted-same (Broken e) = refl
-
 module _ (P : Policy) (F : Figures) (own : List What) (s : Session) (k : Knows P F own s) where
   R : Rules
   R = rules_of P F
@@ -55,7 +50,7 @@ module _ (P : Policy) (F : Figures) (own : List What) (s : Session) (k : Knows P
   arguments-known : (a : Arguments) → ArgumentsOf P F s.notif own a → (s.checks == 0) ≡ false → copied_deed (rules_of P F) s.notif own ((rules_of P F).next_piece s.notif (reads_of own)) ≡ arguments_deed F s a
   arguments-known (Reading c) a z =
       let e : progress (plan s.notif.call.nr s.notif.call.args) (answers_of own) ≡ continued c [] = sym (a.0 [] ∙ ap (progress (plan s.notif.call.nr s.notif.call.args)) (append-nil (answers_of own))) in
-      let w : (rules_of P F).next_piece s.notif (reads_of own) ≡ wanted (continued c []) = wanted-same (progress (plan s.notif.call.nr s.notif.call.args) (answers_of own)) ∙ ap wanted e in
+      let w : (rules_of P F).next_piece s.notif (reads_of own) ≡ wanted (continued c []) = ap wanted e in
       let n : (number_of checks own ≡ 0 → ⊥) = (λ h. no (sym (eq-eqb s.checks 0 (sym k.checks ∙ h)) ∙ z)) in
       let one : number_of checks own ≡ 1 = omega (arith, a.1) in
       rw w (piece-known (wanted (continued c [])) (eq-eqb (number_of checks own) 1 one))

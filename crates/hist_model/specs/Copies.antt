@@ -1,6 +1,6 @@
 -- The copy of a call's arguments: which texts a call has in its caller's memory (mknod(2), openat(2), mount(2), setxattr(2)),
 -- what they are at one moment, and how they are read in pieces.
-use Rattle.std.specs.Prelude.{ℕ, zero, suc, ◌+◌, ◌-◌, ◌%◌, ◌^◌, min, Bool, true, false, if◌then◌else◌, ◌==◌, nat_lt, nat_le, List, [], ◌∷◌, ◌++◌, length, slice_index_or, Option, Some, None, Result, Ok, Err, ℤ, pos}
+use Rattle.std.specs.Prelude.{ℕ, zero, suc, ◌+◌, ◌-◌, ◌%◌, ◌^◌, min, Bool, true, false, ◌&&◌, if◌then◌else◌, ◌==◌, nat_lt, nat_le, List, [], ◌∷◌, ◌++◌, length, slice_index_or, Option, Some, None, Result, Ok, Err, ℤ, pos}
 use Rattle.hist_model.specs.declared.copy.Part.{Part}
 use Rattle.hist_model.specs.declared.copy.Part.TheVariants.{Text, Value}
 
@@ -164,3 +164,23 @@ progress_after (Fails e) rest = Faulty e
 unfoldable pub progress : List Part → List (Result (List ℕ) ℕ) → Progress
 progress [] answers = Complete []
 progress (part ∷ parts) answers = progress_after (read_part part answers) (progress parts)
+
+-- the piece to read, at an address and of a length
+abbrev pub wanted : Progress → Option (ℕ × ℕ)
+wanted (Wants address n) = Some (address, n)
+wanted _ = None
+
+-- it answers the piece: some bytes, at most as many as were asked for, or EFAULT
+abbrev pub fits_piece : Option (ℕ × ℕ) → Result (List ℕ) ℕ → Bool
+fits_piece (Some asked) (Ok bytes) = nat_le 1 (length bytes) && nat_le (length bytes) asked.1
+fits_piece (Some asked) (Err e) = e == 14
+fits_piece None answer = false
+
+-- one more answer, where it answers the piece that is wanted
+abbrev pub with_heard : List Part → List (Result (List ℕ) ℕ) → Result (List ℕ) ℕ → List (Result (List ℕ) ℕ)
+with_heard parts taken a = if fits_piece (wanted (progress parts taken)) a then taken ++ a ∷ [] else taken
+
+-- the answers that were taken, and those of the further ones, the oldest first, that answer the piece that is then wanted
+unfoldable pub heard : List Part → List (Result (List ℕ) ℕ) → List (Result (List ℕ) ℕ) → List (Result (List ℕ) ℕ)
+heard parts taken [] = taken
+heard parts taken (a ∷ later) = heard parts (with_heard parts taken a) later

@@ -14,7 +14,7 @@ use Rattle.hist_model.specs.Files.{files, slot_for}
 use Rattle.hist_model.specs.Effects.{effect, perform}
 use Rattle.hist_model.specs.Trees.{Tree}
 use Rattle.hist_model.specs.Filters.{verdict}
-use Rattle.hist_model.specs.Copies.{Progress, Wants, Complete, Faulty, plan, progress}
+use Rattle.hist_model.specs.Copies.{Progress, Complete, Faulty, plan, progress, wanted}
 use Rattle.hist_model.specs.Requests.{request, base_dirfd}
 use Rattle.hist_model.specs.Decisions.{decide, cap_of, granted_by}
 use Rattle.hist_model.specs.Sysinfo.{container_sysinfo}
@@ -79,10 +79,6 @@ read_answers (a ∷ own) = read_answers own
 abbrev pub copied : Notif → List What → Progress
 copied n reads = progress (plan n.call.nr n.call.args) (reverse (read_answers reads))
 
-abbrev pub wanted_piece : Progress → Option (ℕ × ℕ)
-wanted_piece (Wants a n) = Some (a, n)
-wanted_piece _ = None
-
 abbrev pub copy_fault : Progress → Option ℕ
 copy_fault (Faulty e) = Some e
 copy_fault _ = None
@@ -116,7 +112,7 @@ judged P F n _ = Passes
 abbrev pub rules_of : Policy → Figures → Rules
 rules_of P F = record {
   dirfd = λ n. base_dirfd n.call.nr n.call.args;
-  next_piece = λ n reads. wanted_piece (copied n reads);
+  next_piece = λ n reads. wanted (copied n reads);
   fault = λ n reads. copy_fault (copied n reads);
   decide = λ n reads. judged P F n (copied n reads);
 }

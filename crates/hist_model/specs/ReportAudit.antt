@@ -3,7 +3,7 @@ use Rattle.std.specs.Prelude.{ℕ, Bool, true, false, ◌&&◌, ◌||◌, not, i
 use Rattle.std.specs.List.{list_any}
 use Rattle.sys_abi.specs.declared.wire.Notif.{Notif}
 use Rattle.hist_model.specs.Look.{Name, is_task, is_worker, task_name, event_at}
-use Rattle.hist_model.specs.Copies.{Progress, Wants, Complete, Faulty as Broken, plan, progress}
+use Rattle.hist_model.specs.Copies.{Progress, Wants, Complete, Faulty as Broken, plan, progress, heard}
 use Rattle.hist_model.specs.Requests.{request}
 use Rattle.hist_model.specs.Decisions.{decide, rule_name}
 use Rattle.hist_model.specs.ReportWords.{call_text, back_text}
@@ -45,10 +45,15 @@ judged_by rules notif (Wants address n) = Unfinished
 judged_by rules notif (Complete texts) = judged_as (decide rules (request notif.call.nr notif.call.args texts))
 judged_by rules notif (Broken e) = Faulty e
 
+-- what the rules make of a notification and of these answers. An answer that isn't one to the piece that is wanted counts for
+-- nothing; in a legal history every answer is.
+abbrev pub judged_after : List Rule → Notif → List (Result (List ℕ) ℕ) → Judged
+judged_after rules notif answers = let parts = plan notif.call.nr notif.call.args in judged_by rules notif (progress parts (heard parts [] answers))
+
 -- the judging by the rules of a policy
 abbrev pub judging_by : List Rule → Judging
 judging_by rules = record {
-  judge = λ notif answers. judged_by rules notif (progress (plan notif.call.nr notif.call.args) answers);
+  judge = λ notif answers. judged_after rules notif answers;
   name = rule_name rules;
 }
 
