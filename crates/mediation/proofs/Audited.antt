@@ -36,7 +36,7 @@ use Rattle.mediation.proofs.Deeds.{AtWork, deed-is}
 use Rattle.mediation.proofs.Work.{InSession, Idle, hand, in-hand, works, works-keep, at-work, worker-row, session-same, session-more, started, grown}
 use Rattle.mediation.proofs.Sequence.{IsOwn, is-own, is_effect, effect-fixed}
 use Rattle.mediation.proofs.Ordered.{ordered, used-two}
-use Rattle.mediation.proofs.Sittings.{by-session}
+use Rattle.mediation.proofs.InHand.{by-session}
 
 skipped-same : (what : What) → is_skipped what ≡ skips what
 skipped-same Skip = refl
