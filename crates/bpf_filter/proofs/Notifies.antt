@@ -1,6 +1,6 @@
 -- Lemmas on the filter that notifies on some calls.
-use Rattle.std.proofs.Common.{◌≡◌, ℕ, zero, suc, ◌+◌, ◌-◌, ◌<◌, ◌≤◌, List, [], ◌∷◌, ◌++◌, length, get_or, drop, None, Some, refl, ap, sym, ◌∙◌, append_assoc, inl, inr, add-one, arith, ℤ, length-drop}
-use Rattle.std.specs.Prelude.{Bool, true, false, nat_le, nat_lt, ◌==◌, ◌||◌, if◌then◌else◌, slice_index_or}
+use Rattle.std.proofs.Common.{◌≡◌, ℕ, zero, suc, ◌+◌, ◌-◌, ◌<◌, ◌≤◌, List, [], ◌∷◌, ◌++◌, length, get_or, drop, None, refl, ap, sym, ◌∙◌, append_assoc, inl, inr, arith, ℤ, length-drop}
+use Rattle.std.specs.Prelude.{false, nat_le, nat_lt, ◌==◌, ◌||◌, if◌then◌else◌, slice_index_or}
 use Rattle.std.specs.Int.{w32, cast_unsigned}
 use Rattle.std.proofs.lemmas.List.{drop_more}
 use Rattle.std.proofs.lemmas.Bool.{cases_Bool}

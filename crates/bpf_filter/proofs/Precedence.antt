@@ -1,13 +1,13 @@
 -- Lemmas on the answer that counts.
-use Rattle.std.proofs.Common.{◌≡◌, ℕ, zero, suc, ◌+◌, ◌-◌, ◌<◌, ◌≤◌, List, [], ◌∷◌, length, get_or, drop, take, reverse, inl, inr, add-one, refl, ap, sym, ◌∙◌, arith}
+use Rattle.std.proofs.Common.{◌≡◌, ℕ, ◌+◌, ◌<◌, ◌≤◌, List, [], ◌∷◌, length, get_or, drop, take, reverse, inl, inr, add-one, refl, ap, sym, ◌∙◌, arith}
 use Rattle.std.proofs.Math.Seq.{take-length}
 use Rattle.std.proofs.lemmas.List.{drop_more}
 use Rattle.std.proofs.Math.ListN.{drop_of_length-le}
 use Rattle.std.proofs.lemmas.Bool.{cases_Bool}
-use Rattle.std.specs.Prelude.{Bool, true, false, nat_lt}
+use Rattle.std.specs.Prelude.{false, nat_lt}
 use Rattle.sys_abi.specs.declared.wire.SeccompData.{SeccompData}
 use Rattle.hist_model.specs.declared.script.FilterLine.{FilterLine}
-use Rattle.hist_model.specs.Filters.{combine, with_newer, chosen, answers, has_listener, rank, run}
+use Rattle.hist_model.specs.Filters.{combine, with_newer, chosen, answers, rank, run}
 use Rattle.hist_model.proofs.Scans.{past_more}
 use Rattle.bpf_filter.specs.Choices.{newer_filter}
 

@@ -5,20 +5,16 @@ ghost use Rattle.hist_model.specs.Filters as definitions;
 ghost use Rattle.bpf_filter.specs.Choices.{newer_filter};
 
 use crate::machine::run_insns;
+use crate::numbers::{ACTION, ALLOW, ARCH, DATA, ERRNO, LOG, TRACE, USER_NOTIF};
 use hist_model::event::Entered;
 use hist_model::script::FilterLine;
 use sys_abi::wire::SeccompData;
-
-const ALLOW: u32 = 0x7fff0000;
-
-/// AUDIT_ARCH_X86_64.
-const ARCH: u32 = 0xc000003e;
 
 /// How far the action of an answer stands above the least one, where actions are signed numbers of 32 bits.
 fn rank(value: u32) -> u32
     ensures { result ≡ definitions.rank value }
 {
-    (value & 0xffff0000).wrapping_add(1 << 31)
+    (value & ACTION).wrapping_add(1 << 31)
 }
 
 /// The answer of a newer filter beside the one that counts among the older ones.
@@ -53,13 +49,12 @@ pub fn combine(values: &[u32]) -> (u32, usize)
 fn entered(value: u32, listener: bool) -> Entered
     ensures { result ≡ definitions.entered value listener }
 {
-    match value & 0xffff0000 {
-        0x00050000 => Entered::Fails((value & 0xffff).min(4095) as u16),
-        0x7fc00000 if listener => Entered::Notify { id: 0 },
-        0x7fc00000 => Entered::NoSys,
-        0x7ff00000 => Entered::NoSys,
-        0x7ffc0000 => Entered::Log,
-        0x7fff0000 => Entered::Allow,
+    match value & ACTION {
+        ERRNO => Entered::Fails((value & DATA).min(4095) as u16),
+        USER_NOTIF if listener => Entered::Notify { id: 0 },
+        USER_NOTIF | TRACE => Entered::NoSys,
+        LOG => Entered::Log,
+        ALLOW => Entered::Allow,
         _ => Entered::Kill,
     }
 }

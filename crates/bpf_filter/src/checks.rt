@@ -4,6 +4,7 @@ ghost use Rattle.std.specs.Prelude.{◌≡◌, ◌≤◌, ◌<◌, length};
 ghost use Rattle.hist_model.specs.Filters as definitions;
 
 use crate::machine::operation;
+use crate::numbers::{ACTION, TRAP};
 use hist_model::filter::{BadFilter, FilterReason, Operation};
 use hist_model::script::Insn;
 
@@ -34,7 +35,7 @@ fn insn_fault(insn: Insn, left: usize) -> Option<FilterReason>
             insn.jt as usize >= left || insn.jf as usize >= left,
             FilterReason::BadJump,
         ),
-        Operation::Return => fault_if(insn.k & 0xffff0000 == 0x00030000, FilterReason::BadAction),
+        Operation::Return => fault_if(insn.k & ACTION == TRAP, FilterReason::BadAction),
         Operation::Unknown => Some(FilterReason::BadCode),
         _ => None,
     }

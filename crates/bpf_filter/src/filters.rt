@@ -5,6 +5,7 @@ ghost use Rattle.hist_model.specs.Filters as definitions;
 
 use crate::checks::first_fault;
 use crate::machine::run_insns;
+use crate::numbers::{ALLOW, ARCH, JUMP_EQUAL, KILL_PROCESS, LOAD, RETURN, USER_NOTIF};
 use hist_model::filter::BadFilter;
 use hist_model::script::Insn;
 use std::alloc::Global;
@@ -73,18 +74,18 @@ pub fn notify_on(alloc: Global, calls: &[i32]) -> Result<Filter, NoMemory>
     ensures answers { IfOk result (λ f. (call : SeccompData) → definitions.run f call ≡ definitions.notify_answer calls.now call) }
 {
     let mut insns = Vec::with_capacity(alloc, 6 + calls.len())?;
-    insns.push_reserved(insn(0x20, 4, 0));
-    insns.push_reserved(insn(0x15, 0xc000003e, 1));
-    insns.push_reserved(insn(0x06, 0x80000000, 0));
-    insns.push_reserved(insn(0x20, 0, 0));
+    insns.push_reserved(insn(LOAD, 4, 0));
+    insns.push_reserved(insn(JUMP_EQUAL, ARCH, 1));
+    insns.push_reserved(insn(RETURN, KILL_PROCESS, 0));
+    insns.push_reserved(insn(LOAD, 0, 0));
     for place in 0..calls.len() {
         insns.push_reserved(insn(
-            0x15,
+            JUMP_EQUAL,
             calls[place].cast_unsigned(),
             (calls.len() - place) as u8,
         ));
     }
-    insns.push_reserved(insn(0x06, 0x7fff0000, 0));
-    insns.push_reserved(insn(0x06, 0x7fc00000, 0));
+    insns.push_reserved(insn(RETURN, ALLOW, 0));
+    insns.push_reserved(insn(RETURN, USER_NOTIF, 0));
     Ok(Filter { insns })
 }

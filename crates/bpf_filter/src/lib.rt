@@ -14,6 +14,7 @@ mod answers;
 mod checks;
 mod filters;
 mod machine;
+mod numbers;
 
 pub use answers::{combine, verdict};
 pub use filters::{Filter, notify_on, run};

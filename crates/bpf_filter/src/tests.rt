@@ -209,7 +209,7 @@ fn filters_decide_a_call(rt: HostRuntime) {
         ((0x00000000, false), (0x80000000, false), Entered::Kill),
     ] {
         let filters = [line(alloc, older.0, older.1), line(alloc, newer.0, newer.1)];
-        assert!(rt; verdict(&filters, 39, &args) == entered, "at {older.0}");
+        assert!(rt; verdict(&filters, 39, &args) == entered, "at {}", older.0);
     }
     assert!(rt; verdict(&[], 39, &args) == Entered::Allow);
 }

@@ -9,12 +9,17 @@
 
 ghost use Rattle.std.specs.Prelude.{◌≡◌, get_or, drop, []};
 ghost use Rattle.std.specs.Vec.Iter.{into_iter_items};
-ghost use Rattle.hist_model.specs.Requests.{request, low_16, low_32, signed_32};
+ghost use Rattle.hist_model.specs.Requests.{request, base_dirfd, low_16, low_32, signed_32};
 
 use hist_model::request::{ArgCopy, Request};
 use hist_model::text::Text;
 use std::alloc::Global;
 use std::vec::IntoIter;
+use sys_abi::calls;
+use sys_abi::wire::AT_FDCWD;
+
+#[cfg(test)]
+mod tests;
 
 /// The request of the call `nr` with these arguments. The copy has the texts of the call's plan, in its order, and is
 /// moved; a text that it lacks is empty. A call that has no request of its own gives `Request::Other`.
@@ -26,14 +31,14 @@ pub fn request(nr: i32, args: &[u64; 6], copy: ArgCopy) -> Request
     let alloc = *texts.allocator();
     let mut texts = texts.into_iter();
     match nr {
-        99 => Request::Sysinfo { addr: args[0] },
-        133 => Request::Mknod {
+        calls::SYSINFO => Request::Sysinfo { addr: args[0] },
+        calls::MKNOD => Request::Mknod {
             dirfd: None,
             path: next_text(alloc, &mut texts),
             mode: low_16(args[1]),
             dev: low_32(args[2]),
         },
-        165 => Request::Mount {
+        calls::MOUNT => Request::Mount {
             source: next_text(alloc, &mut texts),
             target: next_text(alloc, &mut texts),
             fstype: next_text(alloc, &mut texts),
@@ -42,24 +47,37 @@ pub fn request(nr: i32, args: &[u64; 6], copy: ArgCopy) -> Request
             flags: args[3],
             shift: false,
         },
-        188 => Request::SetXattr {
+        calls::SETXATTR => Request::SetXattr {
             path: next_text(alloc, &mut texts),
             name: next_text(alloc, &mut texts),
             value: next_text(alloc, &mut texts),
             flags: low_32(args[4]),
         },
-        257 => Request::OpenAt {
+        calls::OPENAT => Request::OpenAt {
             dirfd: signed_32(args[0]),
             path: next_text(alloc, &mut texts),
             flags: low_32(args[2]),
         },
-        259 => Request::Mknod {
+        calls::MKNODAT => Request::Mknod {
             dirfd: Some(signed_32(args[0])),
             path: next_text(alloc, &mut texts),
             mode: low_16(args[2]),
             dev: low_32(args[3]),
         },
         _ => Request::Other { nr },
+    }
+}
+
+/// The descriptor from which the relative paths of the call `nr` go: AT_FDCWD, which is the container's root, for a call
+/// that has none; nothing for a call without paths.
+#[tactic(auto, unfolding(hist_model::specs::Requests::base_dirfd))]
+pub fn base_dirfd(nr: i32, args: &[u64; 6]) -> Option<i32>
+    ensures { result ≡ base_dirfd nr args.now }
+{
+    match nr {
+        calls::MKNOD | calls::MOUNT | calls::SETXATTR => Some(AT_FDCWD),
+        calls::OPENAT | calls::MKNODAT => Some(signed_32(args[0])),
+        _ => None,
     }
 }
 

@@ -15,8 +15,8 @@ use Rattle.hist_model.specs.Effects.{effect, perform}
 use Rattle.hist_model.specs.Trees.{Tree}
 use Rattle.hist_model.specs.Filters.{verdict}
 use Rattle.hist_model.specs.Copies.{Progress, Wants, Complete, Faulty, plan, progress}
-use Rattle.hist_model.specs.Requests.{request, base_dirfd, granted}
-use Rattle.hist_model.specs.Decisions.{decide, cap_of}
+use Rattle.hist_model.specs.Requests.{request, base_dirfd}
+use Rattle.hist_model.specs.Decisions.{decide, cap_of, granted_by}
 use Rattle.hist_model.specs.Sysinfo.{container_sysinfo}
 use Rattle.hist_model.specs.declared.event.Event.{Event}
 use Rattle.hist_model.specs.declared.event.Actor.{Actor}
@@ -87,10 +87,6 @@ abbrev pub copy_fault : Progress → Option ℕ
 copy_fault (Faulty e) = Some e
 copy_fault _ = None
 
-abbrev pub granted_by : Option Rule → Request → Request
-granted_by (Some rule) q = granted rule q
-granted_by None q = q
-
 -- O_CLOEXEC, which is 0o2000000, as the caller of openat set it
 abbrev pub cloexec_of : Request → ℕ
 cloexec_of (OpenAt d path flags) = flags / 524288 % 2 * 524288
@@ -99,7 +95,7 @@ cloexec_of _ = 0
 -- a granted request is done in the tree; sysinfo's answer is written into the caller's memory
 abbrev pub grant_decision : Policy → Figures → ℕ → Request → Decision
 grant_decision P F i (Sysinfo addr) = Plants addr (container_sysinfo F) (cap_of P.rules i)
-grant_decision P F i q = Acts (granted_by (slice_get P.rules i) q) (cap_of P.rules i)
+grant_decision P F i q = Acts (granted_by P.rules i q) (cap_of P.rules i)
 
 -- what the rule at a place, with its verdict, makes of a request
 abbrev pub decision : Policy → Figures → Request → ℕ → Verdict → Decision

@@ -66,11 +66,15 @@ unfoldable pub audits : Judging → List Event → List Event → List Audit
 audits J H [] = []
 audits J H (e ∷ K) = audits J H K ++ audits_by J H K e.who e.what
 
--- the summary of a history with so many events, calls, listed calls and answers, and with these audits
-abbrev pub summary_of : ℕ → ℕ → ℕ → ℕ → List Audit → List ℕ
-summary_of events entered notified answered found =
+-- the first words of a summary: the number of events, of calls, of listed calls and of answers
+unfoldable pub counts_text : ℕ → ℕ → ℕ → ℕ → List ℕ
+counts_text events entered notified answered =
     codes "summary events=" ++ decimal events ++ codes " calls=" ++ decimal entered ++ codes " notified=" ++ decimal notified ++ codes " answered=" ++ decimal answered
-    ++ codes " granted=" ++ decimal (count_by (λ a. grants a.finding) found) ++ codes " denied=" ++ decimal (count_by (λ a. denies a.finding) found)
+
+-- its other words: how many sessions came to what
+unfoldable pub findings_text : List Audit → List ℕ
+findings_text found =
+    codes " granted=" ++ decimal (count_by (λ a. grants a.finding) found) ++ codes " denied=" ++ decimal (count_by (λ a. denies a.finding) found)
     ++ codes " passed=" ++ decimal (count_by (λ a. passes a.finding) found) ++ codes " injected=" ++ decimal (count_by (λ a. injects a.finding) found)
     ++ codes " faults=" ++ decimal (count_by (λ a. faults a.finding) found) ++ codes " gone=" ++ decimal (count_by (λ a. is_gone_session a.finding) found)
     ++ codes " lost=" ++ decimal (count_by (λ a. loses a.arrival) found) ++ codes "\n"
@@ -78,7 +82,8 @@ summary_of events entered notified answered found =
 -- the summary's line
 abbrev pub summary : Judging → List Event → List ℕ
 summary J H =
-    summary_of (length H) (count_by (λ e. enters e.what) H) (count_by (λ e. is_listed e.what) H) (count_by (λ e. is_answer e.what) H) (audits J H H)
+    counts_text (length H) (count_by (λ e. enters e.what) H) (count_by (λ e. is_listed e.what) H) (count_by (λ e. is_answer e.what) H)
+    ++ findings_text (audits J H H)
 
 -- the whole report
 abbrev pub report : Judging → List Event → List ℕ

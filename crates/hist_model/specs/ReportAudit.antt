@@ -49,18 +49,26 @@ judged_by rules notif (Broken e) = Faulty e
 abbrev pub judging_by : List Rule → Judging
 judging_by rules = record {
   judge = λ notif answers. judged_by rules notif (progress (plan notif.call.nr notif.call.args) answers);
-  name = rule_name rules
+  name = rule_name rules;
 }
 
 abbrev pub skips : What → Bool
 skips Skip = true
 skips _ = false
 
+-- the step lets go of what was opened for a notification
+abbrev pub is_let_go : What → Bool
+is_let_go LetGo = true
+is_let_go _ = false
+
+-- a session that hasn't begun, or that let go
+abbrev pub is_shut : List What → Bool
+is_shut [] = true
+is_shut (a ∷ own) = is_let_go a
+
 -- one more step of a session; none before its first, and none after it let go
 abbrev pub joined : List What → What → List What
-joined [] a = []
-joined (LetGo ∷ own) a = LetGo ∷ own
-joined (b ∷ own) a = a ∷ b ∷ own
+joined own a = if is_shut own then own else (a ∷ own)
 
 -- one more step: whether it is the session's first, whether it is its worker's, and the session's steps before
 abbrev pub session_step : Bool → Bool → List What → What → List What
@@ -103,17 +111,29 @@ abbrev pub is_sent : What → Bool
 is_sent (Send id back (Ok u)) = true
 is_sent _ = false
 
+-- what the step sent
+abbrev pub back_in : What → Option Back
+back_in (Send id back answer) = Some back
+back_in _ = None
+
+abbrev pub or_back : Option Back → Option Back → Option Back
+or_back (Some back) before = Some back
+or_back None before = before
+
 -- what the newest send sent
 abbrev pub sent_back : List What → Option Back
 sent_back [] = None
-sent_back (Send id back answer ∷ own) = Some back
-sent_back (a ∷ own) = sent_back own
+sent_back (a ∷ own) = or_back (back_in a) (sent_back own)
+
+-- what a read answered
+abbrev pub read_in : What → List (Result (List ℕ) ℕ)
+read_in (Read addr len answer) = answer ∷ []
+read_in _ = []
 
 -- what the session's reads answered, the oldest first
 abbrev pub reads : List What → List (Result (List ℕ) ℕ)
 reads [] = []
-reads (Read addr len answer ∷ own) = reads own ++ answer ∷ []
-reads (a ∷ own) = reads own
+reads (a ∷ own) = reads own ++ read_in a
 
 -- the step enters a call that is listed with this id
 abbrev pub is_notified : What → ℕ → Bool
@@ -130,14 +150,19 @@ is_pending Pending = true
 is_pending _ = false
 
 -- the number that a step of the task gave while nothing had come of its call, else the one before
-abbrev pub number_step : Bool → What → Option ℕ → Option ℕ
-number_step true (Install (Ok n)) before = Some n
-number_step _ _ before = before
+abbrev pub number_given : Bool → What → Option ℕ → Option ℕ
+number_given true (Install (Ok n)) before = Some n
+number_given _ _ before = before
+
+-- one more step: whether it is the call's entry, before which nothing counts, and whether what it gives counts
+abbrev pub number_step : Bool → Bool → What → Option ℕ → Option ℕ
+number_step true counts a before = None
+number_step false counts a before = number_given counts a before
 
 -- the number of the descriptor that was installed for the call that task n entered at place c
 unfoldable pub installed : Name → ℕ → List Event → Option ℕ
 installed n c [] = None
-installed n c (e ∷ K) = number_step (is_task e.who n && is_pending (outcome n c K)) e.what (installed n c K)
+installed n c (e ∷ K) = number_step (length K == c) (is_task e.who n && is_pending (outcome n c K)) e.what (installed n c K)
 
 abbrev pub actor_name : Option Event → Name
 actor_name (Some e) = task_name e.who
@@ -167,8 +192,10 @@ finding_by true checked judged spent = Gone
 finding_by false true judged spent = finding_of judged spent
 finding_by false false judged spent = Open
 
+-- the session found its notification valid twice: a good check came after a good check
 abbrev pub checked_twice : List What → Bool
-checked_twice own = nat_le 2 (count_by is_good_check own)
+checked_twice [] = false
+checked_twice (a ∷ own) = (is_good_check a && list_any is_good_check own) || checked_twice own
 
 -- what a session came to
 abbrev pub finding : Judging → Notif → List What → Finding

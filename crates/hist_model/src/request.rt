@@ -1,9 +1,12 @@
 //! What a call asks for, and what the tree and the tables are made of.
 
-ghost use Rattle.std.specs.Prelude.{◌≡◌};
+ghost use Rattle.std.specs.Prelude.{◌≡◌, IfOk};
 
 use crate::text::{Sequence, Text};
+use std::alloc::Global;
+use sys_abi::calls;
 use sys_abi::errno::Errno;
+use sys_abi::memory::NoMemory;
 
 /// The n-th task made, counted from 0.
 #[derive(Clone, Copy, PartialEq, Eq, Debug)]
@@ -131,17 +134,71 @@ pub enum Request {
 impl Request {
     ghost use Rattle.hist_model.specs.Requests.{call_of_request};
 
+    /// Another request of the same.
+    pub fn copied(&self, alloc: Global) -> Result<Request, NoMemory>
+        ensures { IfOk result (λ q. q ≡ self.now) }
+    {
+        Ok(match self {
+            Request::Mknod {
+                dirfd,
+                path,
+                mode,
+                dev,
+            } => Request::Mknod {
+                dirfd: *dirfd,
+                path: path.copied(alloc)?,
+                mode: *mode,
+                dev: *dev,
+            },
+            Request::Mount {
+                source,
+                target,
+                fstype,
+                options,
+                via,
+                flags,
+                shift,
+            } => Request::Mount {
+                source: source.copied(alloc)?,
+                target: target.copied(alloc)?,
+                fstype: fstype.copied(alloc)?,
+                options: options.copied(alloc)?,
+                via: via.copied(alloc)?,
+                flags: *flags,
+                shift: *shift,
+            },
+            Request::SetXattr {
+                path,
+                name,
+                value,
+                flags,
+            } => Request::SetXattr {
+                path: path.copied(alloc)?,
+                name: name.copied(alloc)?,
+                value: value.copied(alloc)?,
+                flags: *flags,
+            },
+            Request::OpenAt { dirfd, path, flags } => Request::OpenAt {
+                dirfd: *dirfd,
+                path: path.copied(alloc)?,
+                flags: *flags,
+            },
+            Request::Sysinfo { addr } => Request::Sysinfo { addr: *addr },
+            Request::Other { nr } => Request::Other { nr: *nr },
+        })
+    }
+
     /// The number of the call that asks for it.
     pub fn call(&self) -> i32
         ensures { result ≡ call_of_request self.now }
     {
         match self {
-            Request::Mknod { dirfd: None, .. } => 133,
-            Request::Mknod { dirfd: Some(_), .. } => 259,
-            Request::Mount { .. } => 165,
-            Request::SetXattr { .. } => 188,
-            Request::OpenAt { .. } => 257,
-            Request::Sysinfo { .. } => 99,
+            Request::Mknod { dirfd: None, .. } => calls::MKNOD,
+            Request::Mknod { dirfd: Some(_), .. } => calls::MKNODAT,
+            Request::Mount { .. } => calls::MOUNT,
+            Request::SetXattr { .. } => calls::SETXATTR,
+            Request::OpenAt { .. } => calls::OPENAT,
+            Request::Sysinfo { .. } => calls::SYSINFO,
             Request::Other { nr } => *nr,
         }
     }

@@ -1,9 +1,11 @@
 //! Small lists, which contracts see as lists.
 
-ghost use Rattle.std.specs.Prelude.{◌≡◌, ◌↔◌, IsTrue, []};
+ghost use Rattle.std.specs.Prelude.{◌≡◌, ◌↔◌, IsTrue, [], IfOk};
 
+use std::alloc::Global;
 use std::marker::Model;
 use std::mem;
+use sys_abi::memory::NoMemory;
 
 /// Bytes: a path, a name, a value. They need not be UTF-8.
 #[derive(Debug, Drop)]
@@ -25,6 +27,13 @@ impl Text {
         ensures { result ≡ bytes.items }
     {
         Text { bytes }
+    }
+
+    /// Another text of the same bytes.
+    pub fn copied(&self, alloc: Global) -> Result<Text, NoMemory>
+        ensures { IfOk result (λ t. t ≡ self.now) }
+    {
+        Ok(Text::new(Vec::from_slice(alloc, self.items())?))
     }
 
     /// Its bytes.
@@ -77,6 +86,13 @@ impl TaskName {
         ensures { result ≡ numbers.items }
     {
         TaskName { numbers }
+    }
+
+    /// Another name of the same numbers.
+    pub fn copied(&self, alloc: Global) -> Result<TaskName, NoMemory>
+        ensures { IfOk result (λ n. n ≡ self.now) }
+    {
+        Ok(TaskName::new(Vec::from_slice(alloc, self.items())?))
     }
 
     /// Its numbers.

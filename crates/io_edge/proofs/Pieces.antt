@@ -1,8 +1,7 @@
 -- A list that is read piece by piece.
-use Rattle.std.proofs.Common.{◌≡◌, ℕ, ◌+◌, ◌≤◌, List, ◌++◌, length, take, drop, refl, arith, append_assoc}
+use Rattle.std.proofs.Common.{◌≡◌, ℕ, ◌+◌, ◌≤◌, List, ◌++◌, length, take, drop, refl, arith, append_assoc, drop-drop, take-add}
 use Rattle.std.proofs.lemmas.List.{take-append-le, length-take-le, length-drop}
 use Rattle.std.proofs.lemmas.Grind.{common_steps}
-use Rattle.std.proofs.Common.{drop-drop, take-add}
 
 -- what is left after one more piece
 pub left_after : (xs left rest : List ℕ) (total n : ℕ) → left ≡ drop total xs → rest ≡ drop n left → rest ≡ drop (total + n) xs

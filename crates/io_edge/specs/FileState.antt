@@ -14,7 +14,7 @@ pub record FileState : Type 0 where
   pub left : List ℕ
   -- how many bytes reads gave since the last `open`
   pub given : ℕ
-  -- whether it fails only where a name isn't there
+  -- whether it tells its bytes and fails only where a name isn't there
   pub sound : Bool
   -- how often it failed
   pub faults : ℕ
@@ -26,7 +26,7 @@ pub record SameFiles (old new : FileState) : Type 0 where
   pub sound : new.sound ≡ old.sound
   pub faults : old.faults ≤ new.faults
 
--- What `open` of this name did.
+-- What `open` of this name did: it failed, and there is no current file, or the whole file is left.
 pub record Opens {T E : Type 0} (old : FileState) (name : List ℕ) (result : Result T E) (new : FileState) : Type 0 where
   pub same : SameFiles old new
   pub cause : OnErr result (Rose old.faults new.faults)
@@ -37,7 +37,8 @@ pub record Opens {T E : Type 0} (old : FileState) (name : List ℕ) (result : Re
   pub whole : OnOk result (old.tells ≡ true → old.bytes name ≡ Some new.left)
   pub given : new.given ≡ 0
 
--- What `read` into a buffer did, which held `buf` before and `filled` after.
+-- What `read` into a buffer did, which held `buf` before and `filled` after: it failed, and the current file stands
+-- where it stood, or n of its bytes are at the buffer's front, 0 of them only at the end or where there is no room.
 pub record Reads {E : Type 0} (old : FileState) (buf : List ℕ) (result : Result ℕ E) (filled : List ℕ) (new : FileState) : Type 0 where
   pub same : SameFiles old new
   pub cause : OnErr result (Rose old.faults new.faults)

@@ -15,7 +15,7 @@ pub record SinkState : Type 0 where
 abbrev pub AddsPrefix : List ℕ → List ℕ → List ℕ → Type 0
 AddsPrefix old piece new = (n : ℕ) × (n ≤ length piece) × (new ≡ old ++ take n piece)
 
--- What `write` of this piece did.
+-- What `write` of this piece did: it took the whole piece, or failed after a prefix of it.
 pub record Writes {T E : Type 0} (old : SinkState) (piece : List ℕ) (result : Result T E) (new : SinkState) : Type 0 where
   pub tells : new.tells ≡ old.tells
   pub faults : old.faults ≤ new.faults

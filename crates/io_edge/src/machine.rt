@@ -8,7 +8,7 @@ use crate::sink::Sink;
 use std::io::{Read, Write};
 use std::{fs, rt};
 
-/// The machine's files. It tells no bytes, and so isn't sound.
+/// The machine's files. Each error of the machine is a fault. It tells no bytes, and so isn't sound.
 #[derive(Drop)]
 pub struct RealFiles<'a, R: rt::Files> {
     rt: &'a R,
@@ -82,7 +82,9 @@ impl<R: rt::Files> Files for RealFiles<'_, R> {
     }
 }
 
-/// A sink over a writer, as standard output. It tells no bytes.
+/// A sink over a writer, as standard output. Each error of the writer is a fault, and so is a write that
+/// takes nothing of a piece that isn't empty. A piece is flushed before it counts as taken. It tells no
+/// bytes.
 #[derive(Drop)]
 pub struct RealSink<W: Write + Drop> {
     inner: W,
@@ -92,7 +94,8 @@ pub struct RealSink<W: Write + Drop> {
 impl<W: Write + Drop> RealSink<W> {
     /// A sink over this writer.
     pub fn new(inner: W) -> RealSink<W>
-        ensures { ⟦<RealSink<W> as Sink>⟧.state result ≡ record { tells = false; taken = []; faults = 0 } }
+        ensures { ⟦<RealSink<W> as Sink>⟧.state result
+            ≡ record { tells = false; taken = []; faults = 0 } }
     {
         RealSink { inner, faults: 0 }
     }

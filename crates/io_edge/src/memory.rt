@@ -14,7 +14,8 @@ use crate::sink::Sink;
 use std::alloc::Global;
 use sys_abi::memory::NoMemory;
 
-/// Files in memory. Of two entries with one name the first counts.
+/// Files in memory. Of two entries with one name the first counts. A read gives as many bytes as there
+/// are left and fit into the buffer.
 #[derive(Debug, Drop)]
 pub struct MemFiles {
     files: Vec<(String, Vec<u8>)>,
@@ -29,7 +30,8 @@ pub struct MemFiles {
 
 impl MemFiles {
     /// These files, as pairs of a name and its bytes. Calls of `open` and `read` are counted together
-    /// from 1, and those in `failing` fail. The source is sound exactly where `failing` is empty.
+    /// from 1, and those in `failing` fail; `open` also fails where the name isn't there. The source
+    /// tells its bytes, and is sound exactly where `failing` is empty.
     pub fn new(files: Vec<(String, Vec<u8>)>, failing: Vec<u64>) -> MemFiles
         ensures state { ⟦<MemFiles as Files>⟧.state result ≡ record {
           tells = true;
@@ -76,8 +78,10 @@ impl Files for MemFiles {
 
     #[tactic(auto, using(crate::proofs::Counts::none_listed))]
     fn open(&mut self, name: &str) -> Result<(), Failed>
-        ensures opens { Opens (⟦<MemFiles as Files>⟧.state self.old) name.now result (⟦<MemFiles as Files>⟧.state self.new) }
-        ensures fails { is_err result ≡ (fails_next self.old.plan || is_none ((⟦<MemFiles as Files>⟧.state self.old).bytes name.now)) }
+        ensures opens { Opens (⟦<MemFiles as Files>⟧.state self.old) name.now result
+            (⟦<MemFiles as Files>⟧.state self.new) }
+        ensures fails { is_err result
+            ≡ (fails_next self.old.plan || is_none ((⟦<MemFiles as Files>⟧.state self.old).bytes name.now)) }
         ensures plan { self.new.plan ≡ after_call self.old.plan (is_err result) }
     {
         self.current = None;
@@ -94,9 +98,11 @@ impl Files for MemFiles {
     #[tactic(auto, using(crate::proofs::Counts::none_listed))]
     fn read(&mut self, buf: &mut [u8]) -> Result<usize, Failed>
         requires { IsSome self.old.current }
-        ensures reads { Reads (⟦<MemFiles as Files>⟧.state self.old) buf.old result buf.new (⟦<MemFiles as Files>⟧.state self.new) }
+        ensures reads { Reads (⟦<MemFiles as Files>⟧.state self.old) buf.old result buf.new
+            (⟦<MemFiles as Files>⟧.state self.new) }
         ensures fails { is_err result ≡ fails_next self.old.plan }
-        ensures most { IfOk result (λ n. n ≡ min (length buf.old) (length (⟦<MemFiles as Files>⟧.state self.old).left)) }
+        ensures most { IfOk result
+            (λ n. n ≡ min (length buf.old) (length (⟦<MemFiles as Files>⟧.state self.old).left)) }
         ensures plan { self.new.plan ≡ after_call self.old.plan (is_err result) }
     {
         if self.plan.begin() {
@@ -136,7 +142,7 @@ pub struct MemSink {
 impl MemSink {
     /// A sink with room for so many bytes. Calls of `write` are counted from 1; those in `failing` fail,
     /// and take nothing. A piece that doesn't fit into what is left of the room fails after the bytes
-    /// that fit.
+    /// that fit. All its memory is taken here; `NoMemory` comes where there is none for the room.
     pub fn new(alloc: Global, room: usize, failing: Vec<u64>) -> Result<MemSink, NoMemory>
         ensures state { IfOk result (λ sink. ⟦<MemSink as Sink>⟧.state sink ≡ record {
           tells = true;
@@ -144,7 +150,8 @@ impl MemSink {
           faults = 0;
         }) }
         ensures room { IfOk result (λ sink. sink.room ≡ room) }
-        ensures plan { IfOk result (λ sink. sink.plan ≡ record { listed = failing; calls = 0; faults = 0 }) }
+        ensures plan { IfOk result
+            (λ sink. sink.plan ≡ record { listed = failing; calls = 0; faults = 0 }) }
     {
         let taken = Vec::with_capacity(alloc, room)?;
         Ok(MemSink {
@@ -167,9 +174,9 @@ impl Sink for MemSink {
 
     ghost state = { λ s. record { tells = true; taken = s.taken.items; faults = s.plan.faults } };
 
-    #[tactic(auto, using(crate::proofs::Prefixes::adds_none, crate::proofs::Prefixes::adds_front))]
     fn write(&mut self, piece: &[u8]) -> Result<(), Failed>
-        ensures writes { Writes (⟦<MemSink as Sink>⟧.state self.old) piece.now result (⟦<MemSink as Sink>⟧.state self.new) }
+        ensures writes { Writes (⟦<MemSink as Sink>⟧.state self.old) piece.now result
+            (⟦<MemSink as Sink>⟧.state self.new) }
         ensures fails { is_err result
             ≡ (fails_next self.old.plan || nat_lt (self.old.room - vec_len self.old.taken) (length piece.now)) }
         ensures taken { self.new.taken.items ≡ (if fails_next self.old.plan then self.old.taken.items

@@ -1,10 +1,10 @@
 -- A listed call is a call that was entered with a notification.
-use Rattle.std.proofs.Common.{◌≡◌, inl, inr, ℕ, ◌<◌, ◌≤◌, Bool, true, false, ◌&&◌, List, [], ◌∷◌, length, reverse, Some, refl, sym, arith}
-use Rattle.std.specs.Prelude.{if◌then◌else◌, ◌==◌, not}
+use Rattle.std.proofs.Common.{◌≡◌, inl, inr, ℕ, ◌<◌, true, false, ◌&&◌, List, [], ◌∷◌, length, reverse, Some, arith}
+use Rattle.std.specs.Prelude.{◌==◌, not}
 use Rattle.std.proofs.lemmas.List.{length-reverse}
-use Rattle.std.proofs.lemmas.Bool.{cases_Bool, and_parts, ne_eqb, eqb-true, eq-eqb}
-use Rattle.hist_model.specs.Look.{event_at, oldest}
-use Rattle.hist_model.specs.Calls.{listed, fetched, is_call, caller, notifies, unlists}
+use Rattle.std.proofs.lemmas.Bool.{cases_Bool, and_parts, false_from_ne_true, both_ways}
+use Rattle.hist_model.specs.Look.{event_at}
+use Rattle.hist_model.specs.Calls.{listed, fetched, is_call, caller, unlists}
 use Rattle.hist_model.specs.Steps.{oldest_unfetched}
 use Rattle.hist_model.specs.declared.event.Event.{Event}
 use Rattle.hist_model.proofs.Look.{oldest-some}
@@ -16,6 +16,9 @@ listed-call (e ∷ K) c h = elim (cases_Bool (c == length K)) [
   | inl q ↦ rw q (rw q at h)
   | inr q ↦ rw q (listed-call K c (and_parts (listed K c) (not (unlists e (caller K c))) (rw q at h)).0)
 ]
+
+pub listed_only_calls : (K : List Event) (c : ℕ) → is_call K c ≡ false → listed K c ≡ false
+listed_only_calls K c h = false_from_ne_true (listed K c) (λ l. both_ways (is_call K c) h (listed-call K c l))
 
 pub unfetched_call : (K : List Event) (c : ℕ) → oldest_unfetched K ≡ Some c → is_call K c ≡ true
 unfolding oldest_unfetched

@@ -1,10 +1,10 @@
 -- The queue of a call holds the last requests for it.
-use Rattle.std.proofs.Common.{◌≡◌, ◌⊎◌, inl, inr, ℕ, zero, suc, ◌+◌, ◌-◌, ◌<◌, ◌≤◌, Bool, true, false, ◌&&◌, ◌||◌, List, [], ◌∷◌, ◌++◌, length, Option, Some, None, refl, sym, ap, ◌∙◌, arith, add-one, length-append}
-use Rattle.std.specs.Prelude.{if◌then◌else◌, ◌==◌, not}
-use Rattle.std.proofs.lemmas.Bool.{cases_Bool, ne_eqb, eq-eqb}
+use Rattle.std.proofs.Common.{◌≡◌, inl, inr, ℕ, zero, suc, ◌+◌, ◌-◌, ◌<◌, Bool, true, false, ◌||◌, List, [], ◌∷◌, ◌++◌, length, Some, None, refl, sym, ap, ◌∙◌, arith, length-append}
+use Rattle.std.specs.Prelude.{if◌then◌else◌, ◌==◌}
+use Rattle.std.proofs.lemmas.Bool.{cases_Bool, ne_eqb}
 use Rattle.hist_model.specs.Calls.{queue, puts_to, installs_for, rest_of, some_sends, first_sends, is_send, has_send}
 use Rattle.hist_model.specs.Steps.{is_first, is_empty}
-use Rattle.hist_model.specs.Look.{event_at, is_place}
+use Rattle.hist_model.specs.Look.{is_place}
 use Rattle.hist_model.proofs.Look.{event_at-here, event_at-older}
 use Rattle.hist_model.specs.declared.event.Event.{Event}
 use Rattle.look_back.specs.Queues.{first_of, nth_put, last_puts, last_puts_send}

@@ -1,5 +1,5 @@
 -- The requests of a call that have no installation yet: they are its last ones.
-use Rattle.std.specs.Prelude.{ℕ, ◌-◌, Bool, true, false, ◌||◌, if◌then◌else◌, ◌==◌, List, [], ◌∷◌, ◌++◌, length, Option, Some, None}
+use Rattle.std.specs.Prelude.{ℕ, ◌-◌, Bool, false, ◌||◌, if◌then◌else◌, ◌==◌, List, [], ◌∷◌, ◌++◌, length, Option, Some, None}
 use Rattle.hist_model.specs.Calls.{puts_to, has_send}
 use Rattle.hist_model.specs.declared.event.Event.{Event}
 

@@ -72,6 +72,17 @@ pub fn id_at(events: &[Event], call: usize) -> u64
     }
 }
 
+/// A call that is listed was entered at this place.
+#[tactic(auto, using(hist_model::proofs::Scans::event_at_past, crate::proofs::Past::event_at_after))]
+pub fn is_call(events: &[Event], place: usize) -> bool
+    ensures { result ≡ is_call (reverse events.now) place }
+{
+    match events.get(place) {
+        Some(event) => notifies(&event.what),
+        None => false,
+    }
+}
+
 /// Whether a call is listed after an event, from whether it was before.
 pub fn listed_after(was: bool, older: &[Event], event: &Event, call: usize) -> bool
     ensures { result ≡ (if call == length (reverse older.now) then notifies event.now.what else (was && not (unlists event.now (caller (reverse older.now) call)))) }
@@ -84,10 +95,13 @@ pub fn listed_after(was: bool, older: &[Event], event: &Event, call: usize) -> b
 }
 
 /// The call at this place is listed: it was entered with a notification, and its task waits in it.
-#[tactic(auto, using(hist_model::proofs::Scans::past_more), unfolding(hist_model::specs::Calls::listed))]
+#[tactic(auto, using(hist_model::proofs::Scans::past_more, crate::proofs::Listed::listed_only_calls), unfolding(hist_model::specs::Calls::listed))]
 pub fn listed(events: &[Event], call: usize) -> bool
     ensures { result ≡ listed (reverse events.now) call }
 {
+    if !is_call(events, call) {
+        return false;
+    }
     let mut on = false;
     for (place, event) in events.iter().enumerate() {
         on = listed_after(on, &events[..place], event, call);
@@ -160,7 +174,9 @@ pub fn answers(older: &[Event], what: &What, call: usize) -> bool
 {
     match what {
         What::Send {
-            id, answer: Ok(()), ..
+            id,
+            answer: Ok(()),
+            ..
         } => is_place(named(older, *id), call),
         _ => false,
     }

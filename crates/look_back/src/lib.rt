@@ -12,3 +12,5 @@ pub mod calls;
 pub mod signals;
 pub mod steps;
 pub mod tasks;
+#[cfg(test)]
+mod tests;

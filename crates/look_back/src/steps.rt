@@ -1,21 +1,31 @@
 //! What an actor's next step needs to know, and the answers of a worker's steps (seccomp_unotify(2)).
 
-ghost use Rattle.std.specs.Prelude.{◌≡◌, ℕ, ◌^◌, true, List, Option, Result, Some, None, Ok, Err, ◌+◌, ◌-◌, ◌<◌, ◌≤◌, ◌==◌, ◌&&◌, not, reverse, length, if◌then◌else◌, IfSome, IfNone};
+ghost use Rattle.std.specs.Prelude.{◌≡◌, ℕ, ◌^◌, true, List, Option, Result, Some, None, Ok, Err, ◌+◌, ◌-◌, ◌<◌, ◌≤◌, ◌==◌, ◌&&◌, not, reverse, length, if◌then◌else◌, IfSome, IfNone, IfOk};
 ghost use Rattle.hist_model.specs.Look.{is_task, is_worker, event_at};
 ghost use Rattle.hist_model.specs.Tasks.{holder, next_pid};
 ghost use Rattle.hist_model.specs.Calls.{is_call, named};
-ghost use Rattle.hist_model.specs.Steps.{counts, recounts, steps_of, is_spawn, spawn_answer, found, oldest_unfetched, notif, recv_answer, lives, check_answer, send_answer, call_after, session_call, opened, mem_after, mem, base_after, base, put_answer, request_after, request_of, call_listed, install_at, request_listed, take_step, is_cap_of, spends, times_spent, is_spent};
+ghost use Rattle.hist_model.specs.Steps.{counts, recounts, steps_of, is_spawn, next_child, signalled, spawn_answer, found, oldest_unfetched, notif, recv_answer, lives, check_answer, send_answer, call_after, session_call, opened, mem_after, mem, base_after, base, put_answer, request_after, request_of, call_listed, install_at, request_listed, take_step, is_cap_of, spends, times_spent, is_spent};
 ghost use Rattle.hist_model.specs.Memory.{enters, last_call, group_named};
 ghost use Rattle.hist_model.specs.Systems.{System};
 ghost use Rattle.hist_model.specs.declared.event.What.TheVariants.{Skip};
 ghost use Rattle.look_back.specs.Tallies.{tally};
 ghost use Rattle.look_back.specs.Outcomes.{taken_step};
 
-use crate::calls::{call_at, has_send_flag, id_at, install_of, listed, named, oldest_unfetched, queue_is_empty, waiting};
-use crate::tasks::{ended, holder, is_task, name_at, next_pid, opened, pid_named, task_name, task_place};
+use crate::calls::{
+    call_at, has_send_flag, id_at, install_of, listed, named, oldest_unfetched, queue_is_empty,
+    waiting,
+};
+use crate::tasks::{
+    child_place, ended, holder, is_task, name_at, next_pid, opened, parent, pid_at, pid_named,
+    task_name, task_place,
+};
 use hist_model::event::{Actor, Delivered, Event, SpawnKind, What};
 use hist_model::policy::Cap;
+use hist_model::script::Whom;
+use hist_model::text::TaskName;
+use std::alloc::Global;
 use sys_abi::errno::Errno;
+use sys_abi::memory::NoMemory;
 use sys_abi::wire::{AUDIT_ARCH_X86_64, Addfd, Notif, SeccompData};
 
 /// What is counted of a task's steps.
@@ -114,8 +124,36 @@ pub fn spawns(events: &[Event], name: &[u32]) -> usize
     steps_of(Tally::Spawns, events, name)
 }
 
+/// The name of the next child of the task of this name.
+pub fn next_child(alloc: Global, events: &[Event], name: &[u32]) -> Result<TaskName, NoMemory>
+    requires { length events.now < 2 ^ 32 - 1 }
+    ensures { IfOk result (λ child. child ≡ next_child (reverse events.now) name.now) }
+{
+    let number = spawns(events, name) as u32 + 1;
+    let mut numbers = name.to_vec(alloc)?;
+    numbers.push(number)?;
+    Ok(TaskName::new(numbers))
+}
+
+/// The process number for which a signal is meant; 0, which nobody holds, where its task was never made.
+pub fn signalled(events: &[Event], name: &[u32], whom: Whom) -> u32
+    ensures { result ≡ signalled (reverse events.now) name.now whom }
+{
+    match whom {
+        Whom::Own => pid_named(events, name),
+        Whom::Parent => pid_named(events, parent(name)),
+        Whom::Child(number) => pid_at(events, child_place(events, name, number)),
+        Whom::Pid(pid) => pid,
+    }
+}
+
 /// The answer of a spawn: the number that the new task gets, or EAGAIN where every number has a holder.
-pub fn spawn_answer(base: u32, pidmax: u32, events: &[Event], kind: SpawnKind) -> Result<(u32, SpawnKind), Errno>
+pub fn spawn_answer(
+    base: u32,
+    pidmax: u32,
+    events: &[Event],
+    kind: SpawnKind,
+) -> Result<(u32, SpawnKind), Errno>
     requires { base + pidmax < 2 ^ 32 }
     ensures { result ≡ spawn_answer (next_pid base pidmax (reverse events.now)) kind }
 {
@@ -146,7 +184,12 @@ pub fn is_worker(who: &Actor, worker: u8) -> bool
 }
 
 /// The call of a worker's session after an event, from what it was before.
-fn session_call_after(was: Option<usize>, older: &[Event], event: &Event, worker: u8) -> Option<usize>
+fn session_call_after(
+    was: Option<usize>,
+    older: &[Event],
+    event: &Event,
+    worker: u8,
+) -> Option<usize>
     ensures { result ≡ (if is_worker event.now.who worker then call_after (reverse older.now) event.now.what was else was) }
 {
     if !is_worker(&event.who, worker) {
@@ -393,6 +436,17 @@ pub fn open_answer(events: &[Event], pid: u32) -> Result<(), Errno>
         Ok(())
     } else {
         Err(Errno::ESRCH)
+    }
+}
+
+/// The group of the living task that holds this number: the one whose memory and descriptors are opened.
+pub fn open_group(events: &[Event], pid: u32) -> Option<usize>
+    ensures { result ≡ (if lives (reverse events.now) (holder (reverse events.now) pid) then opened (reverse events.now) (holder (reverse events.now) pid) else None) }
+{
+    if lives(events, pid) {
+        opened(events, holder(events, pid))
+    } else {
+        None
     }
 }
 

@@ -1,6 +1,6 @@
 //! Tasks, process numbers and pending signals (clone(2), wait(2), kill(2), signal(7)).
 
-ghost use Rattle.std.specs.Prelude.{◌≡◌, ℕ, Some, None, ◌==◌, ◌+◌, ◌-◌, ◌<◌, ◌^◌, ◌&&◌, ◌||◌, not, reverse, length, if◌then◌else◌};
+ghost use Rattle.std.specs.Prelude.{◌≡◌, ℕ, Some, None, ◌==◌, ◌+◌, ◌-◌, ◌<◌, ◌^◌, ◌&&◌, ◌||◌, not, [], ◌∷◌, ◌++◌, reverse, length, if◌then◌else◌};
 ghost use Rattle.hist_model.specs.Look.{name_eq, is_task, task_name, oldest, event_at};
 ghost use Rattle.hist_model.specs.Tasks.{ends, ended, reaps, was_waited_for, parent, has_parent, reaped, child_of, given, name_of, holds, holder, free_from, last_pid, next_pid, or_number, makes, is_made, alive, handles, mode, sends_signal, is_named, delivers, pending};
 ghost use Rattle.look_back.specs.Outcomes.{waited, reap_step};
@@ -385,6 +385,40 @@ pub fn task_place(events: &[Event], name: &[u32]) -> Option<usize>
 {
     for place in 0..events.len() {
         if is_task_place(events, name, place) {
+            return Some(place);
+        }
+    }
+    None
+}
+
+/// The first name is that of the task's child that has this number among its children.
+#[tactic(auto, using(crate::proofs::Past::name_eq_last, crate::proofs::Past::name_eq_none))]
+pub fn is_child_name(child: &[u32], name: &[u32], number: u32) -> bool
+    ensures { result ≡ name_eq child.now (name.now ++ number ∷ []) }
+{
+    match child.split_last() {
+        Some((last, above)) => same_name(above, name) && *last == number,
+        None => false,
+    }
+}
+
+/// The event at this place made the child that has this number among the task's children.
+#[tactic(auto, using(hist_model::proofs::Scans::event_at_past))]
+pub fn is_child_place(events: &[Event], name: &[u32], number: u32, place: usize) -> bool
+    requires { place < length events.now }
+    ensures { result ≡ (makes_in (event_at (reverse events.now) place) && name_eq (name_of (reverse events.now) place) (name.now ++ number ∷ [])) }
+{
+    let what = &events[place].what;
+    makes(what) && is_child_name(child_of(what), name, number)
+}
+
+/// The place of the child that has this number among the children of the task of this name.
+#[tactic(auto, using(crate::proofs::Past::oldest_start, crate::proofs::Past::oldest_on), unfolding(hist_model::specs::Steps::task_place))]
+pub fn child_place(events: &[Event], name: &[u32], number: u32) -> Option<usize>
+    ensures { result ≡ task_place (reverse events.now) (name.now ++ number ∷ []) }
+{
+    for place in 0..events.len() {
+        if is_child_place(events, name, number, place) {
             return Some(place);
         }
     }

@@ -8,5 +8,7 @@
 
 pub mod errors;
 mod search;
+#[cfg(test)]
+mod tests;
 mod texts;
 pub mod tree;

@@ -54,7 +54,7 @@ impl Tree {
 
     /// The tree of `/` alone.
     pub fn new(alloc: Global) -> Result<Tree, NoMemory>
-        ensures { IfOk result (λ t. t.tree ≡ bare_tree) }
+        ensures { IfOk result (λ t. t ≡ record { tree = bare_tree; spare = 0 }) }
     {
         let mut nodes = Vec::with_capacity(alloc, 1)?;
         nodes.push_reserved(NodeRow {

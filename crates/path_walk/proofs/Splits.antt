@@ -1,6 +1,6 @@
 -- A path and its first component.
-use Rattle.std.proofs.Common.{◌≡◌, ℕ, zero, suc, ◌+◌, ◌<◌, ◌≤◌, Bool, true, false, List, [], ◌∷◌, ◌++◌, length, take, drop, inl, inr, refl, sym, ap, ◌∙◌, arith}
-use Rattle.std.specs.Prelude.{if◌then◌else◌, ◌==◌, filter}
+use Rattle.std.proofs.Common.{◌≡◌, ℕ, suc, ◌<◌, ◌≤◌, List, [], ◌∷◌, ◌++◌, length, take, drop, inl, inr, refl, ap, ◌∙◌, arith}
+use Rattle.std.specs.Prelude.{◌==◌, filter}
 use Rattle.std.proofs.lemmas.Bool.{cases_Bool}
 use Rattle.std.proofs.lemmas.List.{append-nil, length-take-le}
 use Rattle.hist_model.specs.Paths.{pieces, onto_first, has_bytes, components}
@@ -77,4 +77,3 @@ components_split p z h =
     let some = name_some p z h in
     let long : 0 < length (take (name_length p) p) = rw (length-take-le (name_length p) p (name_within p)) some in
     ap (filter has_bytes) (pieces_split p) ∙ filtered (take (name_length p) p) after.0 (pieces (drop (name_length p) p)) long after.1
-

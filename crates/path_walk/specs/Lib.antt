@@ -1,3 +1,5 @@
 pub mod Components
 pub mod Places
 pub mod Turns
+pub mod Walks
+pub mod Performed

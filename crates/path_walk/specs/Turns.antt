@@ -1,5 +1,5 @@
 -- What a component says, as the definitions have it.
-use Rattle.std.specs.Prelude.{ℕ, ◌≤◌, List, length}
+use Rattle.std.specs.Prelude.{◌≤◌, length}
 use Rattle.hist_model.specs.Paths as paths
 use Rattle.path_walk.specs.Places.{error_number}
 use Rattle.path_walk.specs.declared.turns.Ending.{Ending}

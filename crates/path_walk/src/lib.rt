@@ -7,6 +7,9 @@
 #![tactic(auto)]
 
 mod components;
+pub mod effects;
 pub mod places;
 pub mod resolution;
+#[cfg(test)]
+mod tests;
 mod turns;

@@ -8,6 +8,8 @@ ghost use Rattle.hist_model.specs.Decisions.{fits, covers, meets, is_text, path_
 
 use hist_model::policy::{Calls, Cond, Rule};
 use hist_model::request::{Kind, Request};
+use sys_abi::calls;
+use sys_abi::device::split_dev;
 
 /// The flags of mount(2) that make it another operation than a plain mount.
 const MS_REMOUNT: u64 = 32;
@@ -17,7 +19,16 @@ const MS_BIND: u64 = 4096;
 const MS_MOVE: u64 = 8192;
 
 /// The calls that a policy can name: close, getpid, sysinfo, mknod, mount, setxattr, openat and mknodat.
-const NAMED: [i32; 8] = [3, 39, 99, 133, 165, 188, 257, 259];
+const NAMED: [i32; 8] = [
+    calls::CLOSE,
+    calls::GETPID,
+    calls::SYSINFO,
+    calls::MKNOD,
+    calls::MOUNT,
+    calls::SETXATTR,
+    calls::OPENAT,
+    calls::MKNODAT,
+];
 
 /// Whether the request is one of the rule's calls, and meets all its conditions.
 #[tactic(auto, unfolding(hist_model::specs::Decisions::fits))]
@@ -174,7 +185,7 @@ fn is_device(kind: Kind) -> bool
 fn is_numbered(dev: u32, major: u32, minor: u32) -> bool
     ensures { result ≡ ((major_of dev == major) && (minor_of dev == minor)) }
 {
-    dev / 256 % 4096 == major && dev % 256 + dev / 1048576 * 256 == minor
+    split_dev(dev) == (major, minor)
 }
 
 /// Whether the request isn't a mount that remounts, binds or moves.

@@ -7,6 +7,7 @@ use hist_model::policy::{Calls, Cond, Policy, Rule, Verdict};
 use hist_model::request::Kind;
 use hist_model::text::{Sequence, Text};
 use std::alloc::Global;
+use sys_abi::calls;
 use sys_abi::memory::NoMemory;
 
 /// The devices that a container may make, by major and minor number. 0:0 is the whiteout of an overlay.
@@ -23,14 +24,14 @@ const SAFE_DEVICES: [(u32, u32); 8] = [
 
 /// The calls that have a default of their own, by name and number.
 const CALLS: [(&str, i32); 8] = [
-    ("close", 3),
-    ("getpid", 39),
-    ("sysinfo", 99),
-    ("mknod", 133),
-    ("mount", 165),
-    ("setxattr", 188),
-    ("openat", 257),
-    ("mknodat", 259),
+    ("close", calls::CLOSE),
+    ("getpid", calls::GETPID),
+    ("sysinfo", calls::SYSINFO),
+    ("mknod", calls::MKNOD),
+    ("mount", calls::MOUNT),
+    ("setxattr", calls::SETXATTR),
+    ("openat", calls::OPENAT),
+    ("mknodat", calls::MKNODAT),
 ];
 
 /// The policy whose one switch is mknod: the rules of the eight safe devices, and the defaults.
@@ -62,7 +63,7 @@ fn mknod_rule(alloc: Global, major: u32, minor: u32) -> Result<Rule, NoMemory>
     ensures { IfOk result (λ r. r ≡ lxd_mknod_rule (major, minor)) }
 {
     let name = format!(in alloc; "lxd.mknod.{major}:{minor}")?;
-    let calls = vec![in alloc; 133, 259]?;
+    let calls = vec![in alloc; calls::MKNOD, calls::MKNODAT]?;
     let conds = vec![in alloc; Cond::Kind(Kind::Chr), Cond::Dev(major, minor)]?;
     Ok(plain_rule(
         name,

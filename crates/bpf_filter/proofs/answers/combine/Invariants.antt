@@ -1,5 +1,5 @@
 -- The best of the answers from the place on, which counts less than there are.
-use Rattle.std.proofs.Common.{◌≡◌, ℕ, ◌+◌, ◌≤◌, length, drop}
+use Rattle.std.proofs.Common.{◌≡◌, ◌+◌, ◌≤◌, length, drop}
 use Rattle.hist_model.specs.Filters as definitions
 use Rattle.bpf_filter.proofs.answers.combine.Given as goal
 

@@ -1,7 +1,7 @@
 -- One more filter is newer than those before it.
 use mir.Val.{SFits}
 use mir.Syntax.{w32}
-use Rattle.std.proofs.Common.{rules, ◌≡◌, ◌∙◌, sym, ap, take, reverse, arith, length}
+use Rattle.std.proofs.Common.{rules, ◌∙◌, sym, ap, reverse}
 use Rattle.std.proofs.lemmas.Int.{to_z-of_z}
 use Rattle.bpf_filter.specs.Choices.{newer_filter}
 use Rattle.std.specs.Prelude.{ℕ, Bool}

@@ -1,5 +1,5 @@
 -- The answer that counts among the filters so far.
-use Rattle.std.proofs.Common.{◌≡◌, ℕ, reverse, take}
+use Rattle.std.proofs.Common.{◌≡◌, reverse, take}
 use Rattle.hist_model.specs.Filters as definitions
 use Rattle.bpf_filter.proofs.answers.verdict.Given as goal
 

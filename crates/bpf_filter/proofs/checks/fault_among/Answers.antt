@@ -1,6 +1,5 @@
 -- The first fault is that of the place.
-use Rattle.std.proofs.Common.{◌≡◌, sym, ◌∙◌}
-use Rattle.hist_model.specs.Filters as definitions
+use Rattle.std.proofs.Common.{sym, ◌∙◌}
 use Rattle.bpf_filter.proofs.checks.fault_among.Goals as goal
 use Rattle.bpf_filter.proofs.Faults.{faults_here}
 

@@ -1,5 +1,5 @@
 -- No instruction before the place has a fault.
-use Rattle.std.proofs.Common.{◌≡◌, ℕ, drop}
+use Rattle.std.proofs.Common.{◌≡◌, drop}
 use Rattle.hist_model.specs.Filters as definitions
 use Rattle.bpf_filter.proofs.checks.fault_among.Given as goal
 

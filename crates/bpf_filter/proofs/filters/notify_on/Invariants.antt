@@ -1,5 +1,5 @@
 -- The tests of the calls so far.
-use Rattle.std.proofs.Common.{◌≡◌, ℕ, ◌+◌, ◌≤◌, ◌++◌, length, drop, vec_len, vec_capacity}
+use Rattle.std.proofs.Common.{◌≡◌, ◌+◌, ◌≤◌, ◌++◌, length, drop, vec_len, vec_capacity}
 use Rattle.hist_model.specs.Filters as definitions
 use Rattle.bpf_filter.proofs.filters.notify_on.Given as goal
 

@@ -1,5 +1,5 @@
 -- What is left to run gives the answer.
-use Rattle.std.proofs.Common.{◌≡◌, ℕ, ◌-◌, length, drop}
+use Rattle.std.proofs.Common.{◌≡◌, ◌-◌, length, drop}
 use Rattle.hist_model.specs.Filters as definitions
 use Rattle.bpf_filter.proofs.machine.run_insns.Given as goal
 

@@ -7,7 +7,7 @@ abbrev pub invariant-loop-call : goal.invariant-loop-call
 invariant-loop-call l =
     (l.call ≤ length l.events)
     × (newest (λ c. listed (reverse l.events) c && name_eq (caller (reverse l.events) c) l.name) (length l.events)
-      ≡ newest (λ c. listed (reverse l.events) c && name_eq (caller (reverse l.events) c) l.name) l.call)
+    ≡ newest (λ c. listed (reverse l.events) c && name_eq (caller (reverse l.events) c) l.name) l.call)
 
 abbrev pub decreases-loop-call : goal.decreases-loop-call
 decreases-loop-call l = l.call

@@ -1,4 +1,4 @@
-use Rattle.std.proofs.Common.{◌≡◌, ◌<◌, length, take, drop, ◌∷◌, [], sym, ap, ◌∙◌, arith, rules}
+use Rattle.std.proofs.Common.{◌≡◌, ◌<◌, length, sym, ap, ◌∙◌, rules}
 use Rattle.std.proofs.lemmas.List.{nil_from_length, take_rest}
 use Rattle.hist_model.specs.Paths.{components, pieces}
 use Rattle.path_walk.proofs.Splits.{components_split}

@@ -1,0 +1,5 @@
+pub mod Stacks
+pub mod Zeros
+pub mod Steps
+pub mod Following
+pub mod Moments

@@ -1,0 +1,99 @@
+//! The capture of a call's texts.
+
+ghost use Rattle.std.specs.Prelude.{◌≡◌, ◌∷◌, ◌++◌, [], List, Result, ℕ, IfOk, OnOk, OnErr, IsOk, None};
+ghost use Rattle.hist_model.specs.Copies as copies;
+ghost use Rattle.hist_model.specs.declared.copy.Part.{Part};
+ghost use Rattle.arg_capture.specs.Captures.{continued, wanted, answer_of, Answers, Finishes, Follows, HasRoom, IsKept};
+
+use crate::plan::{Plan, errno};
+use crate::reading::Reading;
+use hist_model::request::{ArgCopy, Fault};
+use hist_model::text::Sequence;
+use std::alloc::Global;
+use std::marker::Model;
+use sys_abi::errno::Errno;
+use sys_abi::memory::NoMemory;
+
+/// The error of a read that no byte is mapped for.
+const EFAULT: u16 = 14;
+
+/// A copy of a call's texts that is read in pieces.
+#[derive(Drop)]
+pub struct Capture {
+    reading: Reading,
+    fault: Option<Errno>,
+}
+
+impl Model for Capture {
+    ghost use Rattle.std.specs.Prelude.{◌≡◌, length, None};
+    ghost use Rattle.arg_capture.specs.Captures.{Captured};
+    ghost use Rattle.arg_capture.specs.Plans.{IsSettled};
+
+    ghost Value = { Captured };
+
+    ghost view = { λ c. record { reached = c.reading; fault = c.fault } };
+
+    ghost invariant = { λ c. c.fault ≡ None → IsSettled (length c.reading.taken) c.reading.parts };
+}
+
+impl Capture {
+    /// The capture of a plan of which nothing is read yet.
+    pub fn new(alloc: Global, plan: Plan) -> Result<Capture, NoMemory>
+        ensures { IfOk result (λ c. Follows plan [] c) }
+    {
+        let mut reading = Reading::new(alloc, plan)?;
+        let fault = reading.settle();
+        Ok(Capture { reading, fault })
+    }
+
+    /// Makes room for every later answer.
+    pub fn ready(&mut self) -> Result<(), NoMemory>
+        ensures reached { IsKept self.old.reached self.new.reached }
+        ensures fault { self.new.fault ≡ self.old.fault }
+        ensures room { OnOk result (HasRoom self.new.reached) }
+    {
+        self.reading.reserve()
+    }
+
+    /// The piece to read, at an address and of a length from 1 to 256; none where the copy is complete or has a fault.
+    pub fn next(&self) -> Option<(u64, u16)>
+        ensures piece { result ≡ wanted (continued self.now []) }
+        ensures follows { (parts : List Part) (answers : List (Result (List ℕ) ℕ)) → Follows parts answers self.now → result ≡ wanted (copies.progress parts answers) }
+    {
+        match self.fault {
+            Some(_) => None,
+            None => self.reading.next(),
+        }
+    }
+
+    /// Takes the answer of the read of the piece. After `ready` it takes no memory.
+    pub fn feed(&mut self, got: Result<&[u8], Fault>) -> Result<(), NoMemory>
+        requires { Answers (wanted (continued self.old [])) (answer_of got) }
+        ensures goes_on { OnOk result ((later : List (Result (List ℕ) ℕ)) → continued self.new later ≡ continued self.old (answer_of got.entry ∷ later)) }
+        ensures follows { (parts : List Part) (answers : List (Result (List ℕ) ℕ)) → Follows parts answers self.old → OnOk result (Follows parts (answers ++ answer_of got.entry ∷ []) self.new) }
+        ensures reached { OnErr result (IsKept self.old.reached self.new.reached) }
+        ensures fault { OnErr result (self.new.fault ≡ self.old.fault) }
+        ensures room { HasRoom self.old.reached → IsOk result }
+        ensures ready { HasRoom self.old.reached → HasRoom self.new.reached }
+    {
+        match got {
+            Ok(bytes) => self.fault = self.reading.take(bytes)?,
+            Err(_) => self.fault = Some(errno(EFAULT)),
+        }
+        Ok(())
+    }
+
+    /// The texts, in the plan's order, or the fault of the first that has one.
+    pub fn finish(self) -> Result<ArgCopy, Errno>
+        requires { wanted (continued self []) ≡ None }
+        ensures copy { Finishes (continued self []) result }
+        ensures follows { (parts : List Part) (answers : List (Result (List ℕ) ℕ)) → Follows parts answers self → Finishes (copies.progress parts answers) result }
+    {
+        match self.fault {
+            Some(fault) => Err(fault),
+            None => Ok(ArgCopy {
+                texts: Sequence::new(self.reading.into_texts()),
+            }),
+        }
+    }
+}

@@ -1,0 +1,5 @@
+pub mod Counted
+pub mod Past
+pub mod Sessions
+pub mod Trimmed
+pub mod Writing

@@ -1,0 +1,21 @@
+-- The events of a history so far, kept the oldest first, and seen the newest first.
+use Rattle.std.proofs.Common.{◌≡◌, ℕ, ◌+◌, ◌<◌, ◌≤◌, List, ◌∷◌, length, take, get_or, reverse, Some, arith}
+use Rattle.std.proofs.lemmas.List.{length-reverse, length-take}
+use Rattle.hist_model.specs.Look.{event_at}
+use Rattle.hist_model.specs.declared.event.Event.{Event}
+use Rattle.hist_model.proofs.Scans.{past_more as one_more, event_at_past}
+
+pub length_past : (xs : List Event) → length (reverse xs) ≡ length xs
+length_past xs = length-reverse xs
+
+-- one more event is past
+pub past_more : (xs : List Event) (i : ℕ) (d : Event) → i < length xs → reverse (take (i + 1) xs) ≡ get_or xs i d ∷ reverse (take i xs)
+past_more xs i d h = one_more xs i d h
+
+-- so many events are past
+pub length_taken : (xs : List Event) (i : ℕ) → i ≤ length xs → length (reverse (take i xs)) ≡ i
+length_taken xs i h = simp (length-reverse, length-take) (omega arith)
+
+-- the event at a place is the one that the list has there
+pub event_past : (xs : List Event) (d : Event) (i : ℕ) → i < length xs → event_at (reverse xs) i ≡ Some (get_or xs i d)
+event_past xs d i l = event_at_past xs d i l

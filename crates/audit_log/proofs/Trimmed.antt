@@ -1,0 +1,47 @@
+-- Bytes without the zero bytes at their end.
+use Rattle.std.proofs.Common.{◌≡◌, ℕ, zero, suc, ◌+◌, ◌-◌, ◌<◌, ◌≤◌, List, [], ◌∷◌, ◌++◌, length, take, get_or, refl, ap, ◌∙◌, arith}
+use Rattle.std.proofs.lemmas.List.{take_more}
+use Rattle.std.proofs.lemmas.Bool.{ne_eqb}
+use Rattle.hist_model.specs.ReportWords.{trimmed, trim_onto}
+
+-- a zero byte at the end is dropped
+zero-last : (xs : List ℕ) → trimmed (xs ++ 0 ∷ []) ≡ trimmed xs
+zero-last [] = refl
+zero-last (x ∷ xs) = ap (trim_onto x) (zero-last xs)
+
+onto-full : (x b : ℕ) (xs : List ℕ) → trim_onto x (xs ++ b ∷ []) ≡ x ∷ (xs ++ b ∷ [])
+onto-full x b [] = refl
+onto-full x b (y ∷ xs) = refl
+
+-- nothing is dropped where the last byte isn't zero
+full-last : (xs : List ℕ) (b : ℕ) → trimmed (xs ++ suc b ∷ []) ≡ xs ++ suc b ∷ []
+full-last [] b = rw (ne_eqb (suc b) 0 (λ h. cc)) refl
+full-last (x ∷ xs) b = ap (trim_onto x) (full-last xs b) ∙ onto-full x (suc b) xs
+
+-- a front that ends with a zero byte
+pub trimmed_zero : (xs : List ℕ) (n : ℕ) (d : ℕ) → 0 < n → n ≤ length xs → get_or xs (n - 1) d ≡ 0 → trimmed (take (n - 1) xs) ≡ trimmed (take n xs)
+trimmed_zero xs zero d pos le is = absurd (omega arith)
+trimmed_zero xs (suc n) d pos le is =
+    let e : suc n - 1 ≡ n = omega arith in
+    let z : get_or xs n d ≡ 0 = rw e at is in
+    let m : take (suc n) xs ≡ take n xs ++ get_or xs n d ∷ [] = take_more_suc xs n d (omega arith) in
+    rw (e, m, z, zero-last (take n xs)) refl
+  where
+    take_more_suc : (xs : List ℕ) (n d : ℕ) → n < length xs → take (suc n) xs ≡ take n xs ++ get_or xs n d ∷ []
+    take_more_suc xs n d l = let e : n + 1 ≡ suc n = omega arith in rw e at (take_more xs n d l)
+
+-- a front that ends with another byte
+pub trimmed_full : (xs : List ℕ) (n : ℕ) (d : ℕ) → 0 < n → n ≤ length xs → 0 < get_or xs (n - 1) d → trimmed (take n xs) ≡ take n xs
+trimmed_full xs zero d pos le is = absurd (omega arith)
+trimmed_full xs (suc n) d pos le is =
+    let e : suc n - 1 ≡ n = omega arith in
+    let z : 0 < get_or xs n d = rw e at is in
+    let m : take (suc n) xs ≡ take n xs ++ get_or xs n d ∷ [] = take_more_suc xs n d (omega arith) in
+    rw m (ends (get_or xs n d) z)
+  where
+    take_more_suc : (xs : List ℕ) (n d : ℕ) → n < length xs → take (suc n) xs ≡ take n xs ++ get_or xs n d ∷ []
+    take_more_suc xs n d l = let e : n + 1 ≡ suc n = omega arith in rw e at (take_more xs n d l)
+
+    ends : (b : ℕ) → 0 < b → trimmed (take n xs ++ b ∷ []) ≡ take n xs ++ b ∷ []
+    ends zero h = absurd (omega arith)
+    ends (suc b) h = full-last (take n xs) b

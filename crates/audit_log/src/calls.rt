@@ -1,0 +1,115 @@
+//! The calls: a line for each call that a task entered.
+
+ghost use Rattle.std.specs.Prelude.{◌≡◌, ◌++◌, OnOk, length, reverse};
+ghost use Rattle.hist_model.specs.Look.{task_name};
+ghost use Rattle.hist_model.specs.ReportCalls.{call_line_of, calls, first_pid, or_zero, outcome, outcome_text};
+ghost use Rattle.audit_log.specs.Written.{Wrote};
+
+use crate::count::entered;
+use crate::error::ReportError;
+use crate::line::Line;
+use crate::outcome::{first_pid, outcome_of, task_numbers};
+use crate::part::{Part, write_part};
+use crate::words::{push_actor, push_call, push_errno};
+use hist_model::event::{Actor, Event, What};
+use hist_model::history::History;
+use hist_model::report::Outcome;
+use io_edge::sink::Sink;
+use std::alloc::Global;
+use sys_abi::memory::NoMemory;
+
+/// Writes the calls of a history: `calls N` and a line for each of the N calls that a task entered, from the oldest on, with what came of it.
+///
+/// `WriteFault` comes only where the sink's count of faults rose. After an error the sink took a prefix of the calls.
+pub fn write_calls<O: Sink>(
+    alloc: Global,
+    history: &History,
+    out: &mut O,
+) -> Result<(), ReportError>
+    ensures { Wrote (O.state out.old) (calls history.now.events) result (O.state out.new) }
+{
+    let events = history.events();
+    write_part(
+        alloc,
+        &Calls { events },
+        "calls",
+        entered(events),
+        events,
+        out,
+    )
+}
+
+/// The calls as a part of the report.
+#[derive(Drop)]
+struct Calls<'a> {
+    /// All events of the history.
+    events: &'a [Event],
+}
+
+impl Part for Calls<'_> {
+    ghost use Rattle.std.specs.Prelude.{reverse};
+    ghost use Rattle.hist_model.specs.ReportCalls.{call_line};
+
+    ghost text = { λ c. call_line (reverse c.events.now) };
+
+    #[tactic(auto, using(crate::proofs::Past::length_past))]
+    fn push_line(&self, line: &mut Line, before: &[Event], event: &Event) -> Result<(), NoMemory> {
+        match &event.what {
+            What::Enter { nr, .. } => push_entry(line, self.events, before, &event.who, *nr),
+            _ => Ok(()),
+        }
+    }
+}
+
+/// Adds the line of the call that is entered after `before`.
+#[tactic(auto, using(crate::proofs::Past::length_past))]
+fn push_entry(
+    line: &mut Line,
+    events: &[Event],
+    before: &[Event],
+    who: &Actor,
+    nr: i32,
+) -> Result<(), NoMemory>
+    ensures { OnOk result (line.new ≡ line.old ++ call_line_of (length before.now) who.now (or_zero (first_pid (task_name who.now) (reverse before.now))) nr (outcome (task_name who.now) (length before.now) (reverse events.now))) }
+{
+    let task = task_numbers(who);
+    let pid = first_pid(before, task).unwrap_or(0);
+    let outcome = outcome_of(events, task, before.len());
+    push_call_line(line, before.len(), who, pid, nr, outcome)
+}
+
+/// Adds the line of a call.
+fn push_call_line(
+    line: &mut Line,
+    place: usize,
+    who: &Actor,
+    pid: u32,
+    nr: i32,
+    outcome: Outcome,
+) -> Result<(), NoMemory>
+    ensures { OnOk result (line.new ≡ line.old ++ call_line_of place who.now pid nr outcome) }
+{
+    line.push_number(place as u64)?;
+    line.push(" ")?;
+    push_actor(line, who)?;
+    line.push(" pid=")?;
+    line.push_number(u64::from(pid))?;
+    line.push(" ")?;
+    push_call(line, nr)?;
+    line.push(" ")?;
+    push_outcome(line, outcome)?;
+    line.push("\n")
+}
+
+/// Adds what came of a call.
+fn push_outcome(line: &mut Line, outcome: Outcome) -> Result<(), NoMemory>
+    ensures { OnOk result (line.new ≡ line.old ++ outcome_text outcome) }
+{
+    match outcome {
+        Outcome::Open => line.push("open"),
+        Outcome::Returned(value) => line.push_signed(value),
+        Outcome::Failed(error) => push_errno(line, error),
+        Outcome::Restarted => line.push("restarted"),
+        Outcome::Ended => line.push("ended"),
+    }
+}

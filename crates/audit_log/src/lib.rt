@@ -1,0 +1,25 @@
+//! The report of a history: its journal, its calls, the audit of its sessions, and a summary.
+//!
+//! The writers' model is the text that `hist_model` defines for any list of events. Each writes its part to a sink, line by
+//! line, one write for each; after any error the sink took a prefix of that part.
+//!
+//! Below stand the plain types and the definitions (`hist_model`) and the sinks (`io_edge`). Above stands the program, which
+//! writes the whole report of what it played, or its summary alone.
+#![tactic(auto)]
+
+pub mod audit;
+pub mod calls;
+mod count;
+pub mod error;
+mod event;
+pub mod journal;
+pub mod judge;
+mod line;
+mod outcome;
+mod part;
+mod request;
+mod session;
+pub mod summary;
+#[cfg(test)]
+mod tests;
+mod words;

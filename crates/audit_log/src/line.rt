@@ -1,0 +1,79 @@
+//! A line of a report, as it is put together.
+
+ghost use Rattle.std.specs.Prelude.{◌≡◌, ◌++◌, [], OnOk, decimal};
+ghost use Rattle.std.specs.Fmt.{signed_decimal};
+
+use itoa::Buffer;
+use std::alloc::Global;
+use std::marker::Model;
+use sys_abi::memory::NoMemory;
+
+/// The bytes of a line so far. After want of memory they say nothing.
+#[derive(Drop)]
+pub(crate) struct Line {
+    bytes: Vec<u8>,
+}
+
+impl Model for Line {
+    ghost use Rattle.std.specs.Prelude.{List, ℕ};
+
+    ghost Value = { List ℕ };
+
+    ghost view = { λ l. l.bytes.items };
+}
+
+impl Line {
+    /// An empty line.
+    pub(crate) fn new(alloc: Global) -> Line
+        ensures { result ≡ [] }
+    {
+        Line {
+            bytes: Vec::new(alloc),
+        }
+    }
+
+    /// Its bytes.
+    pub(crate) fn bytes(&self) -> &[u8]
+        ensures { result.now ≡ self.now }
+    {
+        self.bytes.as_slice()
+    }
+
+    /// Makes it empty, and keeps its room.
+    pub(crate) fn clear(&mut self)
+        ensures { self.new ≡ [] }
+    {
+        self.bytes.clear();
+    }
+
+    /// Adds bytes as they are.
+    pub(crate) fn push_bytes(&mut self, bytes: &[u8]) -> Result<(), NoMemory>
+        ensures { OnOk result (self.new ≡ self.old ++ bytes.now) }
+    {
+        self.bytes.extend_from_slice(bytes)?;
+        Ok(())
+    }
+
+    /// Adds a text.
+    pub(crate) fn push(&mut self, text: &str) -> Result<(), NoMemory>
+        ensures { OnOk result (self.new ≡ self.old ++ text.now) }
+    {
+        self.push_bytes(text.as_bytes())
+    }
+
+    /// Adds a number.
+    pub(crate) fn push_number(&mut self, n: u64) -> Result<(), NoMemory>
+        ensures { OnOk result (self.new ≡ self.old ++ decimal n) }
+    {
+        let mut buffer = Buffer::new();
+        self.push(buffer.format(n))
+    }
+
+    /// Adds a number that may be negative.
+    pub(crate) fn push_signed(&mut self, n: i64) -> Result<(), NoMemory>
+        ensures { OnOk result (self.new ≡ self.old ++ signed_decimal n) }
+    {
+        let mut buffer = Buffer::new();
+        self.push(buffer.format(n))
+    }
+}

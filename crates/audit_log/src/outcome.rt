@@ -1,0 +1,156 @@
+//! What came of a call, and who entered it.
+
+ghost use Rattle.std.specs.Prelude.{◌≡◌, reverse};
+ghost use Rattle.hist_model.specs.Look.{is_task, task_name};
+ghost use Rattle.hist_model.specs.ReportCalls.{first_pid, outcome, outcome_at_entry, outcome_by, outcome_next, outcome_of_verdict, outcome_step, pid_given};
+
+use hist_model::event::{Actor, Back, Delivered, Entered, Event, What};
+use hist_model::report::Outcome;
+use sys_abi::errno::Errno;
+
+/// Whether the two are one task. An actor that is no task is a task without a name.
+pub(crate) fn same_task(who: &Actor, task: &[u32]) -> bool
+    ensures { result ≡ is_task who.now task.now }
+{
+    match who {
+        Actor::Task(name) => name.items() == task,
+        _ => false,
+    }
+}
+
+/// The numbers of a task's name; none of an actor that is no task.
+pub(crate) fn task_numbers(who: &Actor) -> &[u32]
+    ensures { result.now ≡ task_name who.now }
+{
+    match who {
+        Actor::Task(name) => name.items(),
+        _ => &[],
+    }
+}
+
+/// What the filters alone make of a call.
+fn outcome_of_verdict(verdict: Entered) -> Outcome
+    ensures { result ≡ outcome_of_verdict verdict }
+{
+    match verdict {
+        Entered::Fails(number) => match Errno::of(number.min(4095)) {
+            Some(error) => Outcome::Failed(error),
+            None => Outcome::Returned(0),
+        },
+        Entered::NoSys => Outcome::Failed(Errno::ENOSYS),
+        Entered::Kill => Outcome::Ended,
+        Entered::Notify { .. } | Entered::Allow | Entered::Log => Outcome::Open,
+    }
+}
+
+/// What the step that enters a call makes of it.
+fn outcome_at_entry(what: &What) -> Outcome
+    ensures { result ≡ outcome_at_entry what.now }
+{
+    match what {
+        What::Enter { verdict, .. } => outcome_of_verdict(*verdict),
+        _ => Outcome::Open,
+    }
+}
+
+/// What a later step of its task makes of a call of which nothing came yet.
+fn outcome_by(what: &What) -> Outcome
+    ensures { result ≡ outcome_by what.now }
+{
+    match what {
+        What::Native { answer: Ok(number) } => Outcome::Returned(i64::from(*number)),
+        What::Native { answer: Err(error) } => Outcome::Failed(*error),
+        What::Resume { back } => outcome_of_back(*back),
+        What::Deliver { effect, .. } => outcome_of_delivery(*effect),
+        _ => Outcome::Open,
+    }
+}
+
+/// What a return makes of a call: it runs natively where it is to continue.
+fn outcome_of_back(back: Back) -> Outcome
+    ensures { result ≡ outcome_by (What.Resume back) }
+{
+    match back {
+        Back::Value(value) => Outcome::Returned(value),
+        Back::Fail(error) => Outcome::Failed(error),
+        Back::Continue => Outcome::Open,
+    }
+}
+
+/// What the delivery of a signal makes of a call.
+fn outcome_of_delivery(effect: Delivered) -> Outcome
+    ensures { result ≡ outcome_by (What.Deliver 0 effect) }
+{
+    match effect {
+        Delivered::End => Outcome::Ended,
+        Delivered::Run => Outcome::Open,
+        Delivered::Restart => Outcome::Restarted,
+        Delivered::Eintr => Outcome::Failed(Errno::EINTR),
+    }
+}
+
+/// What came of a call with one more step of its task: the first step that something came of decides.
+fn outcome_next(before: Outcome, what: &What) -> Outcome
+    ensures { result ≡ outcome_next before what.now }
+{
+    match before {
+        Outcome::Open => outcome_by(what),
+        _ => before,
+    }
+}
+
+/// What came of a call with one more step, of whichever actor.
+pub(crate) fn outcome_step(entry: bool, own: bool, before: Outcome, what: &What) -> Outcome
+    ensures { result ≡ outcome_step entry own before what.now }
+{
+    if entry {
+        outcome_at_entry(what)
+    } else if own {
+        outcome_next(before, what)
+    } else {
+        before
+    }
+}
+
+/// What came of the call that a task entered at a place.
+#[tactic(auto, using(crate::proofs::Past::past_more, crate::proofs::Past::length_taken), unfolding(hist_model::specs::ReportCalls::outcome))]
+pub(crate) fn outcome_of(events: &[Event], task: &[u32], call: usize) -> Outcome
+    ensures { result ≡ outcome task.now call (reverse events.now) }
+{
+    let mut outcome = Outcome::Open;
+    for place in 0..events.len() {
+        let event = &events[place];
+        outcome = outcome_step(
+            place == call,
+            same_task(&event.who, task),
+            outcome,
+            &event.what,
+        );
+    }
+    outcome
+}
+
+/// The process number that the step gave to the task.
+fn pid_given(what: &What, task: &[u32]) -> Option<u32>
+    ensures { result ≡ pid_given what.now task.now }
+{
+    match what {
+        What::Spawn {
+            child,
+            answer: Ok((pid, _)),
+        } if child.items() == task => Some(*pid),
+        _ => None,
+    }
+}
+
+/// The first process number that a task was given.
+#[tactic(auto, using(crate::proofs::Past::past_more), unfolding(hist_model::specs::ReportCalls::first_pid))]
+pub(crate) fn first_pid(events: &[Event], task: &[u32]) -> Option<u32>
+    ensures { result ≡ first_pid task.now (reverse events.now) }
+{
+    let mut found = None;
+    for event in events {
+        found = found.or(pid_given(&event.what, task));
+    }
+    found
+}

@@ -1,0 +1,106 @@
+//! The parts of a report that have a line for some of the events.
+
+ghost use Rattle.std.specs.Prelude.{◌≡◌, ◌++◌, OnOk, reverse};
+ghost use Rattle.hist_model.specs.ReportJournal.{lines_of, title};
+ghost use Rattle.audit_log.specs.Written.{Wrote};
+
+use crate::error::ReportError;
+use crate::line::Line;
+use hist_model::event::Event;
+use io_edge::sink::Sink;
+use std::alloc::Global;
+use sys_abi::memory::NoMemory;
+
+/// A part of a report.
+pub(crate) trait Part {
+    ghost use Rattle.std.specs.Prelude.{List, ℕ};
+    ghost use Rattle.hist_model.specs.declared.event.Event.{Event};
+
+    /// The line of an event, with the byte that ends it, where the events before it are given the newest first; empty where it has none.
+    ghost text: { Self → List Event → Event → List ℕ };
+
+    /// Adds the line of the event that comes after `before`.
+    fn push_line(&self, line: &mut Line, before: &[Event], event: &Event) -> Result<(), NoMemory>
+        ensures { OnOk result (line.new ≡ line.old ++ text self.now (reverse before.now) event.now) };
+}
+
+/// Writes a line, in one write; nothing where it is empty.
+pub(crate) fn write_line<O: Sink>(line: &Line, out: &mut O) -> Result<(), ReportError>
+    ensures { Wrote (O.state out.old) line.now result (O.state out.new) }
+{
+    if line.bytes().is_empty() {
+        return Ok(());
+    }
+    out.write(line.bytes())?;
+    Ok(())
+}
+
+/// Adds the title of a part that has so many lines.
+fn push_title(line: &mut Line, word: &str, count: usize) -> Result<(), NoMemory>
+    ensures { OnOk result (line.new ≡ line.old ++ title word.now count) }
+{
+    line.push(word)?;
+    line.push(" ")?;
+    line.push_number(count as u64)?;
+    line.push("\n")
+}
+
+/// Writes the title of a part.
+fn write_title<O: Sink>(
+    line: &mut Line,
+    word: &str,
+    count: usize,
+    out: &mut O,
+) -> Result<(), ReportError>
+    ensures { Wrote (O.state out.old) (title word.now count) result (O.state out.new) }
+{
+    line.clear();
+    push_title(line, word, count)?;
+    write_line(line, out)
+}
+
+/// Writes the line of the event that comes after `before`.
+fn write_event<P: Part, O: Sink>(
+    part: &P,
+    line: &mut Line,
+    before: &[Event],
+    event: &Event,
+    out: &mut O,
+) -> Result<(), ReportError>
+    ensures { Wrote (O.state out.old) (P.text part.now (reverse before.now) event.now) result (O.state out.new) }
+{
+    line.clear();
+    part.push_line(line, before, event)?;
+    write_line(line, out)
+}
+
+/// Writes the lines of the events, from the oldest on.
+fn write_lines<P: Part, O: Sink>(
+    part: &P,
+    line: &mut Line,
+    events: &[Event],
+    out: &mut O,
+) -> Result<(), ReportError>
+    ensures { Wrote (O.state out.old) (lines_of (P.text part.now) (reverse events.now)) result (O.state out.new) }
+{
+    for place in 0..events.len() {
+        write_event(part, line, &events[..place], &events[place], out)?;
+    }
+    Ok(())
+}
+
+/// Writes a part: its title, with the number of its lines, and its lines.
+pub(crate) fn write_part<P: Part, O: Sink>(
+    alloc: Global,
+    part: &P,
+    word: &str,
+    count: usize,
+    events: &[Event],
+    out: &mut O,
+) -> Result<(), ReportError>
+    ensures { Wrote (O.state out.old) (title word.now count ++ lines_of (P.text part.now) (reverse events.now)) result (O.state out.new) }
+{
+    let mut line = Line::new(alloc);
+    write_title(&mut line, word, count, out)?;
+    write_lines(part, &mut line, events, out)
+}

@@ -1,0 +1,277 @@
+//! The sessions of a history: what their workers did, and what was installed for their calls.
+
+ghost use Rattle.std.specs.Prelude.{◌≡◌, ◌<◌, ◌&&◌, IfSome, length, not, reverse};
+ghost use Rattle.hist_model.specs.Look.{is_worker};
+ghost use Rattle.hist_model.specs.ReportAudit.{call_with_id, installed, installed_at, is_gone, is_good_check, is_let_go, is_lost, is_notified, is_pending, is_sent, is_spent, back_in, number_given, number_step, session_at, skips};
+ghost use Rattle.audit_log.specs.Sessions.{facts_after, facts_joined, facts_of, facts_with, no_facts};
+
+use crate::outcome::{outcome_step, same_task, task_numbers};
+use hist_model::event::{Actor, Back, Entered, Event, What};
+use hist_model::report::Outcome;
+use sys_abi::errno::Errno;
+
+/// What is kept of a session while its steps are gone through.
+#[derive(Clone, Copy, PartialEq, Eq, Debug)]
+pub(crate) struct Facts {
+    /// It hasn't begun, or it let go.
+    pub(crate) shut: bool,
+    /// Its caller, or its call, was found gone.
+    pub(crate) gone: bool,
+    /// A check found its notification valid.
+    pub(crate) checked: bool,
+    /// So did another.
+    pub(crate) checked_twice: bool,
+    /// Its effect was refused since the rule's times were spent.
+    pub(crate) spent: bool,
+    /// An answer was taken.
+    pub(crate) sent: bool,
+    /// An answer or a descriptor found no listed call.
+    pub(crate) lost: bool,
+    /// What was sent last.
+    pub(crate) back: Option<Back>,
+}
+
+/// Whether the step lets go of what was opened for a notification.
+fn is_let_go(what: &What) -> bool
+    ensures { result ≡ is_let_go what.now }
+{
+    matches!(what, What::LetGo)
+}
+
+/// Whether the step shows that the caller, or its call, is gone.
+fn is_gone(what: &What) -> bool
+    ensures { result ≡ is_gone what.now }
+{
+    match what {
+        What::OpenMem {
+            answer: Err(error),
+            ..
+        }
+        | What::OpenBase {
+            answer: Err(error),
+            ..
+        } => { *error == Errno::ESRCH }
+        What::Check {
+            answer: Err(error),
+            ..
+        } => *error == Errno::ENOENT,
+        _ => false,
+    }
+}
+
+/// Whether the step found the notification valid.
+fn is_good_check(what: &What) -> bool
+    ensures { result ≡ is_good_check what.now }
+{
+    matches!(what, What::Check { answer: Ok(()), .. })
+}
+
+/// Whether the step was refused since its rule's times were spent.
+fn is_spent(what: &What) -> bool
+    ensures { result ≡ is_spent what.now }
+{
+    match what {
+        What::Act {
+            answer: Err(error),
+            ..
+        }
+        | What::Plant {
+            answer: Err(error),
+            ..
+        } => { *error == Errno::EDQUOT }
+        _ => false,
+    }
+}
+
+/// Whether the step reached no listed call.
+fn is_lost(what: &What) -> bool
+    ensures { result ≡ is_lost what.now }
+{
+    match what {
+        What::AddfdPut {
+            answer: Err(error),
+            ..
+        }
+        | What::AddfdTake { answer: Err(error) }
+        | What::Send {
+            answer: Err(error),
+            ..
+        } => *error == Errno::ENOENT,
+        _ => false,
+    }
+}
+
+/// Whether the step sent an answer that was taken.
+fn is_sent(what: &What) -> bool
+    ensures { result ≡ is_sent what.now }
+{
+    matches!(what, What::Send { answer: Ok(()), .. })
+}
+
+/// What the step sent.
+fn back_in(what: &What) -> Option<Back>
+    ensures { result ≡ back_in what.now }
+{
+    match what {
+        What::Send { back, .. } => Some(*back),
+        _ => None,
+    }
+}
+
+impl Facts {
+    /// Of no step.
+    const NONE: Facts = Facts {
+        shut: true,
+        gone: false,
+        checked: false,
+        checked_twice: false,
+        spent: false,
+        sent: false,
+        lost: false,
+        back: None,
+    };
+
+    /// With one more step.
+    fn with(self, what: &What) -> Facts
+        ensures { result ≡ facts_with self what.now }
+    {
+        let good = is_good_check(what);
+        Facts {
+            shut: is_let_go(what),
+            gone: is_gone(what) | self.gone,
+            checked: good | self.checked,
+            checked_twice: (good & self.checked) | self.checked_twice,
+            spent: is_spent(what) | self.spent,
+            sent: is_sent(what) | self.sent,
+            lost: is_lost(what) | self.lost,
+            back: back_in(what).or(self.back),
+        }
+    }
+
+    /// With one more step of the worker.
+    fn joined(self, what: &What) -> Facts
+        ensures { result ≡ facts_joined self what.now }
+    {
+        if self.shut { self } else { self.with(what) }
+    }
+
+    /// With one more step of anyone: whether it is the session's first, and whether it is its worker's.
+    fn after(self, first: bool, own: bool, what: &What) -> Facts
+        ensures { result ≡ facts_after first own self what.now }
+    {
+        if first {
+            Facts::NONE.with(what)
+        } else if own {
+            self.joined(what)
+        } else {
+            self
+        }
+    }
+
+    /// Of the session that a worker began at a place.
+    #[tactic(auto, using(crate::proofs::Past::past_more, crate::proofs::Past::length_taken, crate::proofs::Sessions::facts_more, crate::proofs::Sessions::facts_none))]
+    pub(crate) fn of(events: &[Event], worker: u8, first: usize) -> Facts
+        ensures { result ≡ facts_of (session_at worker first (reverse events.now)) }
+    {
+        let mut facts = Facts::NONE;
+        for place in 0..events.len() {
+            let event = &events[place];
+            facts = facts.after(place == first, is_own(event, worker), &event.what);
+        }
+        facts
+    }
+}
+
+/// Whether the event is a step of the worker, but no skip.
+fn is_own(event: &Event, worker: u8) -> bool
+    ensures { result ≡ (is_worker event.now.who worker && not (skips event.now.what)) }
+{
+    match &event.who {
+        Actor::Worker(number) => *number == worker && !matches!(event.what, What::Skip),
+        _ => false,
+    }
+}
+
+/// Whether the step enters a call that is listed with this id.
+fn is_notified(what: &What, id: u64) -> bool
+    ensures { result ≡ is_notified what.now id }
+{
+    match what {
+        What::Enter {
+            verdict: Entered::Notify { id: given },
+            ..
+        } => *given == id,
+        _ => false,
+    }
+}
+
+/// The place of the newest call with this id.
+#[tactic(auto, using(crate::proofs::Past::past_more, crate::proofs::Past::length_taken), unfolding(hist_model::specs::ReportAudit::call_with_id))]
+fn call_with_id(events: &[Event], id: u64) -> Option<usize>
+    ensures place { result ≡ call_with_id id (reverse events.now) }
+    ensures bound { IfSome result (λ c. c < length events.now) }
+{
+    let mut found = None;
+    for place in 0..events.len() {
+        if is_notified(&events[place].what, id) {
+            found = Some(place);
+        }
+    }
+    found
+}
+
+/// The number that a step gave, where it may count; else the one before.
+fn number_given(counts: bool, what: &What, before: Option<u32>) -> Option<u32>
+    ensures { result ≡ number_given counts what.now before }
+{
+    match what {
+        What::Install { answer: Ok(number) } if counts => Some(*number),
+        _ => before,
+    }
+}
+
+/// The number with one more step: nothing counts before the call's entry.
+fn number_step(entry: bool, counts: bool, what: &What, before: Option<u32>) -> Option<u32>
+    ensures { result ≡ number_step entry counts what.now before }
+{
+    if entry {
+        None
+    } else {
+        number_given(counts, what, before)
+    }
+}
+
+/// Whether nothing came of a call yet.
+fn is_pending(outcome: &Outcome) -> bool
+    ensures { result ≡ is_pending outcome.now }
+{
+    matches!(outcome, Outcome::Open)
+}
+
+/// The number that was installed for the call that a task entered at a place.
+#[tactic(auto, using(crate::proofs::Past::past_more, crate::proofs::Past::length_taken), unfolding(hist_model::specs::ReportAudit::installed, hist_model::specs::ReportCalls::outcome))]
+fn installed(events: &[Event], task: &[u32], call: usize) -> Option<u32>
+    ensures { result ≡ installed task.now call (reverse events.now) }
+{
+    let mut outcome = Outcome::Open;
+    let mut number = None;
+    for place in 0..events.len() {
+        let event = &events[place];
+        let own = same_task(&event.who, task);
+        let counts = own && is_pending(&outcome);
+        number = number_step(place == call, counts, &event.what, number);
+        outcome = outcome_step(place == call, own, outcome, &event.what);
+    }
+    number
+}
+
+/// The number that was installed for the call with this id that is the newest of those before.
+#[tactic(auto, using(crate::proofs::Past::event_past))]
+pub(crate) fn installed_for(events: &[Event], before: &[Event], id: u64) -> Option<u32>
+    ensures { result ≡ installed_at (reverse events.now) (reverse before.now) (call_with_id id (reverse before.now)) }
+{
+    match call_with_id(before, id) {
+        Some(call) => installed(events, task_numbers(&before[call].who), call),
+        None => None,
+    }
+}

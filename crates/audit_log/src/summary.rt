@@ -1,0 +1,126 @@
+//! The summary: one line of counts.
+
+ghost use Rattle.std.specs.Prelude.{◌≡◌, ◌++◌, IfOk, OnOk, count_by, decimal, length, reverse};
+ghost use Rattle.hist_model.specs.ReportCalls.{enters};
+ghost use Rattle.hist_model.specs.Report.{audits, audits_by, counts_text, findings_text, is_answer, is_listed, summary};
+ghost use Rattle.audit_log.specs.Written.{Wrote};
+
+use crate::audit::audit_of;
+use crate::count::{
+    answered, denied, entered, faulty, gone, granted, injected, lost, notified, passed,
+};
+use crate::error::ReportError;
+use crate::judge::Judge;
+use crate::line::Line;
+use crate::part::write_line;
+use hist_model::event::{Actor, Event, What};
+use hist_model::history::History;
+use hist_model::report::Audit;
+use io_edge::sink::Sink;
+use std::alloc::Global;
+use sys_abi::memory::NoMemory;
+
+/// Writes the summary of a history: how many events, calls, listed calls and answers it has, and how many sessions came to what.
+///
+/// `WriteFault` comes only where the sink's count of faults rose. After an error the sink took a prefix of the summary.
+pub fn write_summary<J: Judge, O: Sink>(
+    alloc: Global,
+    judge: &J,
+    history: &History,
+    out: &mut O,
+) -> Result<(), ReportError>
+    ensures { Wrote (O.state out.old) (summary (J.judging judge.now) history.now.events) result (O.state out.new) }
+{
+    let line = summary_line(alloc, judge, history.events())?;
+    write_line(&line, out)
+}
+
+/// The line of the summary.
+#[tactic(auto, using(crate::proofs::Past::length_past))]
+fn summary_line<J: Judge>(alloc: Global, judge: &J, events: &[Event]) -> Result<Line, NoMemory>
+    ensures { IfOk result (λ line. line ≡ summary (J.judging judge.now) (reverse events.now)) }
+{
+    let found = audits(alloc, judge, events)?;
+    let mut line = Line::new(alloc);
+    push_counts(&mut line, events)?;
+    push_findings(&mut line, found.as_slice())?;
+    Ok(line)
+}
+
+/// What came of each session, from the oldest on.
+#[tactic(auto, using(crate::proofs::Past::past_more), unfolding(hist_model::specs::Report::audits))]
+fn audits<J: Judge>(alloc: Global, judge: &J, events: &[Event]) -> Result<Vec<Audit>, NoMemory>
+    ensures { IfOk result (λ found. found.items ≡ audits (J.judging judge.now) (reverse events.now) (reverse events.now)) }
+{
+    let mut found = Vec::new(alloc);
+    for place in 0..events.len() {
+        push_audit(
+            &mut found,
+            alloc,
+            judge,
+            events,
+            &events[..place],
+            &events[place],
+        )?;
+    }
+    Ok(found)
+}
+
+/// Adds what came of the session that the event after `before` begins, if it begins one.
+fn push_audit<J: Judge>(
+    found: &mut Vec<Audit>,
+    alloc: Global,
+    judge: &J,
+    events: &[Event],
+    before: &[Event],
+    event: &Event,
+) -> Result<(), NoMemory>
+    ensures { OnOk result (found.new.items ≡ found.old.items ++ audits_by (J.judging judge.now) (reverse events.now) (reverse before.now) event.now.who event.now.what) }
+{
+    match (&event.who, &event.what) {
+        (Actor::Worker(worker), What::Recv { answer: Ok(notif) }) => {
+            let audit = audit_of(alloc, judge, events, before, *worker, notif)?;
+            found.push(audit)?;
+            Ok(())
+        }
+        _ => Ok(()),
+    }
+}
+
+/// Adds the numbers of events, calls, listed calls and answers.
+#[tactic(auto, unfolding(hist_model::specs::Report::counts_text))]
+fn push_counts(line: &mut Line, events: &[Event]) -> Result<(), NoMemory>
+    ensures { OnOk result (line.new ≡ line.old ++ counts_text (length events.now)
+        (count_by (λ e. enters e.what) (reverse events.now))
+        (count_by (λ e. is_listed e.what) (reverse events.now))
+        (count_by (λ e. is_answer e.what) (reverse events.now))) }
+{
+    line.push("summary")?;
+    push_count(line, " events=", events.len())?;
+    push_count(line, " calls=", entered(events))?;
+    push_count(line, " notified=", notified(events))?;
+    push_count(line, " answered=", answered(events))
+}
+
+/// Adds a word and a count.
+fn push_count(line: &mut Line, word: &str, count: usize) -> Result<(), NoMemory>
+    ensures { OnOk result (line.new ≡ line.old ++ (word.now ++ decimal count)) }
+{
+    line.push(word)?;
+    line.push_number(count as u64)
+}
+
+/// Adds how many sessions came to what, and ends the line.
+#[tactic(auto, unfolding(hist_model::specs::Report::findings_text))]
+fn push_findings(line: &mut Line, found: &[Audit]) -> Result<(), NoMemory>
+    ensures { OnOk result (line.new ≡ line.old ++ findings_text found.now) }
+{
+    push_count(line, " granted=", granted(found))?;
+    push_count(line, " denied=", denied(found))?;
+    push_count(line, " passed=", passed(found))?;
+    push_count(line, " injected=", injected(found))?;
+    push_count(line, " faults=", faulty(found))?;
+    push_count(line, " gone=", gone(found))?;
+    push_count(line, " lost=", lost(found))?;
+    line.push("\n")
+}

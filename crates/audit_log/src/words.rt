@@ -1,0 +1,198 @@
+//! The words of a report: bytes as text, names, errors, and who takes a step.
+
+ghost use Rattle.std.specs.Prelude.{◌≡◌, ◌++◌, ◌<◌, OnOk, codes, decimal};
+ghost use Rattle.std.specs.List.{flat_map};
+ghost use Rattle.hist_model.specs.ReportWords.{hex_digit, hex_byte, hex, hex_or_dash, quoted_byte, quoted, or_dash, name_text, errno_text, call_text, result_text, number_text, back_text, actor_text};
+
+use crate::line::Line;
+use hist_model::event::{Actor, Back};
+use hist_model::text::TaskName;
+use sys_abi::calls::call_name;
+use sys_abi::errno::Errno;
+use sys_abi::memory::NoMemory;
+
+/// A digit of base 16.
+fn hex_digit(d: u8) -> u8
+    requires { d < 16 }
+    ensures { result ≡ hex_digit d }
+{
+    if d < 10 { b'0' + d } else { b'a' - 10 + d }
+}
+
+/// Adds a byte as two digits of base 16.
+fn push_hex_byte(line: &mut Line, byte: u8) -> Result<(), NoMemory>
+    ensures { OnOk result (line.new ≡ line.old ++ hex_byte byte) }
+{
+    line.push_bytes(&[hex_digit(byte / 16), hex_digit(byte % 16)])
+}
+
+/// Adds bytes as digits of base 16.
+pub(crate) fn push_hex(line: &mut Line, bytes: &[u8]) -> Result<(), NoMemory>
+    ensures { OnOk result (line.new ≡ line.old ++ hex bytes.now) }
+{
+    for byte in bytes {
+        push_hex_byte(line, *byte)?;
+    }
+    Ok(())
+}
+
+/// Adds bytes as digits of base 16, or `-` where there are none.
+pub(crate) fn push_hex_or_dash(line: &mut Line, bytes: &[u8]) -> Result<(), NoMemory>
+    ensures { OnOk result (line.new ≡ line.old ++ hex_or_dash bytes.now) }
+{
+    if bytes.is_empty() {
+        line.push("-")
+    } else {
+        push_hex(line, bytes)
+    }
+}
+
+/// Adds a byte of a quoted text.
+fn push_quoted_byte(line: &mut Line, byte: u8) -> Result<(), NoMemory>
+    ensures { OnOk result (line.new ≡ line.old ++ quoted_byte byte) }
+{
+    if byte == b'"' || byte == b'\\' {
+        line.push_bytes(&[b'\\', byte])
+    } else if 32 <= byte && byte <= 126 {
+        line.push_bytes(&[byte])
+    } else {
+        line.push("\\x")?;
+        push_hex_byte(line, byte)
+    }
+}
+
+/// Adds the bytes of a quoted text.
+fn push_quoted_bytes(line: &mut Line, text: &[u8]) -> Result<(), NoMemory>
+    ensures { OnOk result (line.new ≡ line.old ++ flat_map quoted_byte text.now) }
+{
+    for byte in text {
+        push_quoted_byte(line, *byte)?;
+    }
+    Ok(())
+}
+
+/// Adds a text between quotes.
+pub(crate) fn push_quoted(line: &mut Line, text: &[u8]) -> Result<(), NoMemory>
+    ensures { OnOk result (line.new ≡ line.old ++ quoted text.now) }
+{
+    line.push("\"")?;
+    push_quoted_bytes(line, text)?;
+    line.push("\"")
+}
+
+/// Adds a text as it is, or `-` where it is empty.
+pub(crate) fn push_or_dash(line: &mut Line, text: &[u8]) -> Result<(), NoMemory>
+    ensures { OnOk result (line.new ≡ line.old ++ or_dash text.now) }
+{
+    if text.is_empty() {
+        line.push("-")
+    } else {
+        line.push_bytes(text)
+    }
+}
+
+/// Adds a task's name: its numbers, with points between them.
+pub(crate) fn push_name(line: &mut Line, name: &TaskName) -> Result<(), NoMemory>
+    ensures { OnOk result (line.new ≡ line.old ++ name_text name.now) }
+{
+    push_numbers(line, name.items())
+}
+
+/// Adds numbers with points between them.
+fn push_numbers(line: &mut Line, numbers: &[u32]) -> Result<(), NoMemory>
+    ensures { OnOk result (line.new ≡ line.old ++ name_text numbers.now) }
+{
+    match numbers {
+        [] => Ok(()),
+        [first, rest @ ..] => {
+            line.push_number(u64::from(*first))?;
+            push_pointed(line, rest)
+        }
+    }
+}
+
+/// Adds numbers with a point before each.
+fn push_pointed(line: &mut Line, numbers: &[u32]) -> Result<(), NoMemory>
+    ensures { OnOk result (line.new ≡ line.old ++ flat_map (λ n. codes "." ++ decimal n) numbers.now) }
+{
+    for n in numbers {
+        line.push(".")?;
+        line.push_number(u64::from(*n))?;
+    }
+    Ok(())
+}
+
+/// Adds an error's name, or `E` and its number.
+pub(crate) fn push_errno(line: &mut Line, error: Errno) -> Result<(), NoMemory>
+    ensures { OnOk result (line.new ≡ line.old ++ errno_text error) }
+{
+    match error.name() {
+        Some(name) => line.push(name),
+        None => {
+            line.push("E")?;
+            line.push_number(u64::from(error.number()))
+        }
+    }
+}
+
+/// Adds a call's name, or its number.
+pub(crate) fn push_call(line: &mut Line, nr: i32) -> Result<(), NoMemory>
+    ensures { OnOk result (line.new ≡ line.old ++ call_text nr) }
+{
+    match call_name(nr) {
+        Some(name) => line.push(name),
+        None => line.push_signed(i64::from(nr)),
+    }
+}
+
+/// Adds `ok`, or an error.
+pub(crate) fn push_result(line: &mut Line, answer: &Result<(), Errno>) -> Result<(), NoMemory>
+    ensures { OnOk result (line.new ≡ line.old ++ result_text answer.now) }
+{
+    match answer {
+        Ok(()) => line.push("ok"),
+        Err(error) => push_errno(line, *error),
+    }
+}
+
+/// Adds a number, or an error.
+pub(crate) fn push_number_or_errno(
+    line: &mut Line,
+    answer: &Result<u32, Errno>,
+) -> Result<(), NoMemory>
+    ensures { OnOk result (line.new ≡ line.old ++ number_text answer.now) }
+{
+    match answer {
+        Ok(n) => line.push_number(u64::from(*n)),
+        Err(error) => push_errno(line, *error),
+    }
+}
+
+/// Adds how a call returns.
+pub(crate) fn push_back(line: &mut Line, back: Back) -> Result<(), NoMemory>
+    ensures { OnOk result (line.new ≡ line.old ++ back_text back) }
+{
+    match back {
+        Back::Value(value) => line.push_signed(value),
+        Back::Fail(error) => push_errno(line, error),
+        Back::Continue => line.push("continue"),
+    }
+}
+
+/// Adds who takes a step.
+pub(crate) fn push_actor(line: &mut Line, who: &Actor) -> Result<(), NoMemory>
+    ensures { OnOk result (line.new ≡ line.old ++ actor_text who.now) }
+{
+    match who {
+        Actor::Start => line.push("-"),
+        Actor::Task(name) => {
+            line.push("t")?;
+            push_name(line, name)
+        }
+        Actor::Worker(number) => {
+            line.push("w")?;
+            line.push_number(u64::from(*number))
+        }
+        Actor::Listener => line.push("listener"),
+    }
+}

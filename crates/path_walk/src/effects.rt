@@ -1,0 +1,156 @@
+//! What requests do to the tree.
+
+ghost use Rattle.std.specs.Prelude.{◌≡◌, ◌+◌, length, MatchResult};
+ghost use Rattle.hist_model.specs.Trees.{ordinal_of};
+ghost use Rattle.hist_model.specs.Paths.{Follow, At, reaches};
+ghost use Rattle.hist_model.specs.Effects.{perform};
+ghost use Rattle.path_walk.specs.Performed.{IsPerformed, IsNotFollowed, room_wanted};
+
+use crate::places::{Last, Place, known};
+use crate::resolution::{Walk, resolve};
+use hist_model::request::{MountRow, Node, NodeRef, TreeOp};
+use mount_tree::errors::AttrError;
+use mount_tree::tree::Tree;
+use sys_abi::errno::Errno;
+use sys_abi::memory::{NoMemory, OrNoMemory};
+
+/// An attribute that is to be set, with the flags of setxattr(2).
+#[derive(Clone, Copy, Debug)]
+pub struct AttrChange<'a> {
+    pub name: &'a [u8],
+    pub value: &'a [u8],
+    pub flags: u32,
+}
+
+/// The node at a path, or the errno of the walk.
+pub fn follow(
+    tree: &Tree,
+    root: NodeRef,
+    base: Option<NodeRef>,
+    path: &[u8],
+    walk: &mut Walk,
+) -> Result<NodeRef, Errno>
+    ensures { MatchResult result
+        (λ n. reaches tree.now.tree root.ordinal (ordinal_of base) path.now Follow ≡ At n.ordinal)
+        (λ e. IsNotFollowed (reaches tree.now.tree root.ordinal (ordinal_of base) path.now Follow) e) }
+{
+    match resolve(tree, root, base, path, Last::Follow, walk) {
+        Ok(Place::At(node)) => Ok(node),
+        Ok(Place::New { .. }) => Err(known(2)),
+        Err(error) => Err(error.errno()),
+    }
+}
+
+/// Makes a node at a path (mknod(2)), as `perform` does. It takes no memory where the tree is ready for 255 bytes.
+pub fn make(
+    tree: &mut Tree,
+    root: NodeRef,
+    base: Option<NodeRef>,
+    path: &[u8],
+    node: Node,
+    walk: &mut Walk,
+) -> Result<(), OrNoMemory<Errno>>
+    ensures { IsPerformed 256 tree.old tree.new (perform tree.old.tree root.ordinal (ordinal_of base) (TreeOp.Make path.now node)) result }
+{
+    let dir = match resolve(tree, root, base, path, Last::Create, walk) {
+        Ok(Place::New { dir }) => dir,
+        Ok(Place::At(_)) => return Err(OrNoMemory::Refused(known(17))),
+        Err(error) => return Err(OrNoMemory::Refused(error.errno())),
+    };
+    match tree.make_node(dir, walk.name(), node) {
+        Ok(_) => Ok(()),
+        Err(OrNoMemory::Refused(_)) => Err(OrNoMemory::Refused(known(17))),
+        Err(OrNoMemory::NoMemory) => Err(OrNoMemory::NoMemory),
+    }
+}
+
+/// Mounts something on the directory at a path (mount(2)), as `perform` does. It takes no memory where the tree is ready.
+pub fn mount(
+    tree: &mut Tree,
+    root: NodeRef,
+    base: Option<NodeRef>,
+    target: &[u8],
+    row: MountRow,
+    walk: &mut Walk,
+) -> Result<(), OrNoMemory<Errno>>
+    ensures { IsPerformed 1 tree.old tree.new (perform tree.old.tree root.ordinal (ordinal_of base) (TreeOp.Mount target.now row)) result }
+{
+    let dir = match follow(tree, root, base, target, walk) {
+        Ok(dir) => dir,
+        Err(errno) => return Err(OrNoMemory::Refused(errno)),
+    };
+    if !tree.is_dir(dir) {
+        return Err(OrNoMemory::Refused(known(20)));
+    }
+    match tree.mount_at(dir, row) {
+        Ok(_) => Ok(()),
+        Err(NoMemory) => Err(OrNoMemory::NoMemory),
+    }
+}
+
+/// Sets an attribute of the node at a path (setxattr(2)), as `perform` does. It takes no memory where the tree is ready for the
+/// name and the value.
+pub fn set_attr(
+    tree: &mut Tree,
+    root: NodeRef,
+    base: Option<NodeRef>,
+    path: &[u8],
+    change: AttrChange<'_>,
+    walk: &mut Walk,
+) -> Result<(), OrNoMemory<Errno>>
+    ensures { IsPerformed (length change.entry.name.now + length change.entry.value.now + 1) tree.old tree.new
+        (perform tree.old.tree root.ordinal (ordinal_of base)
+        (TreeOp.SetAttr path.now change.entry.name.now change.entry.value.now change.entry.flags)) result }
+{
+    if change.flags >= 4 {
+        return Err(OrNoMemory::Refused(known(22)));
+    }
+    let node = match follow(tree, root, base, path, walk) {
+        Ok(node) => node,
+        Err(errno) => return Err(OrNoMemory::Refused(errno)),
+    };
+    match tree.set_attr(node, change.name, change.value, change.flags) {
+        Ok(()) => Ok(()),
+        Err(AttrError::BadFlags) => Err(OrNoMemory::Refused(known(22))),
+        Err(AttrError::Exists) => Err(OrNoMemory::Refused(known(17))),
+        Err(AttrError::Absent) => Err(OrNoMemory::Refused(known(61))),
+        Err(AttrError::NoMemory) => Err(OrNoMemory::NoMemory),
+    }
+}
+
+/// Does what a request does to the tree, with paths from a container's root and from a base.
+///
+/// Each errno comes exactly as the definitions have it, and leaves the tree as it is; `Open` changes nothing.
+/// It takes no memory where the tree is ready for a name of 255 bytes, for an attribute's name and value, or for a mount.
+pub fn perform(
+    tree: &mut Tree,
+    root: NodeRef,
+    base: Option<NodeRef>,
+    op: TreeOp,
+    walk: &mut Walk,
+) -> Result<(), OrNoMemory<Errno>>
+    ensures { IsPerformed (room_wanted op) tree.old tree.new (perform tree.old.tree root.ordinal (ordinal_of base) op) result }
+{
+    match op {
+        TreeOp::Fail(errno) => Err(OrNoMemory::Refused(errno)),
+        TreeOp::Make { path, node } => make(tree, root, base, path.items(), node, walk),
+        TreeOp::Mount { target, row } => mount(tree, root, base, target.items(), row, walk),
+        TreeOp::SetAttr {
+            path,
+            name,
+            value,
+            flags,
+        } => {
+            let change = AttrChange {
+                name: name.items(),
+                value: value.items(),
+                flags,
+            };
+            set_attr(tree, root, base, path.items(), change, walk)
+        }
+        TreeOp::Open { path, .. } => match follow(tree, root, base, path.items(), walk) {
+            Ok(_) => Ok(()),
+            Err(errno) => Err(OrNoMemory::Refused(errno)),
+        },
+    }
+}

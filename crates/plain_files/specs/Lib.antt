@@ -1,0 +1,5 @@
+pub mod Sources
+pub mod Logs
+pub mod Kept
+pub mod Copied
+pub mod NativeSteps

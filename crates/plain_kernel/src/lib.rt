@@ -1,0 +1,5 @@
+//! The written kernel, as its plain program.
+#![tactic(auto)]
+
+pub mod deeds;
+pub mod tasks;

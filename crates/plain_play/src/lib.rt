@@ -1,0 +1,4 @@
+//! Plays a schedule.
+#![tactic(auto)]
+
+pub mod machine;

@@ -1,0 +1,193 @@
+//! The kernel's plain program and the workers, which take turns.
+
+ghost use Rattle.std.specs.Prelude.{◌≡◌, ℕ, ◌<◌, ◌+◌, ◌^◌, List, [], ◌∷◌, length, reverse, OnOk, IfOk, false};
+ghost use Rattle.hist_model.specs.Look.{ev};
+ghost use Rattle.hist_model.specs.Legal.{system_of, rules_of, with_step, started};
+ghost use Rattle.hist_model.specs.Sessions.{session};
+ghost use Rattle.hist_model.specs.Steps.{deed_step, worker_step};
+ghost use Rattle.hist_model.specs.declared.event.Event.{Event};
+ghost use Rattle.hist_model.specs.declared.event.Actor.TheVariants.{Task, Worker as WorkerActor};
+ghost use Rattle.hist_model.specs.declared.policy.Policy.{Policy};
+ghost use Rattle.broker_core.specs.Deeds.{deed_of};
+ghost use Rattle.plain_files.specs.Kept.{StandsFor};
+ghost use Rattle.broker_core.specs.Remembered.{Remembers};
+ghost use Rattle.plain_play.specs.Workers.{AllRemember};
+
+use broker_core::deed::Deed;
+use broker_core::worker::Worker;
+use hist_model::event::{Actor, Event, SpawnKind, What};
+use hist_model::history::History;
+use hist_model::policy::Policy;
+use hist_model::script::{Figures, Script};
+use hist_model::text::TaskName;
+use plain_files::files::Files;
+use plain_kernel::deeds::{act, addfd_put, addfd_take, check, open_base, open_mem, plant, read, recv, send};
+use plain_kernel::tasks::task_step;
+use std::alloc::Global;
+use sys_abi::memory::NoMemory;
+
+/// How many workers a schedule may name.
+const WORKERS: usize = 16;
+
+/// A machine that plays: the history so far, the files after it, and what each worker remembers of its session.
+#[derive(Drop)]
+pub struct Machine {
+    pub history: History,
+    pub files: Files,
+    pub workers: Vec<Worker>,
+}
+
+/// The kernel's step for a worker's deed.
+fn deed_step(
+    alloc: Global,
+    script: &Script,
+    events: &[Event],
+    files: &Files,
+    worker: u8,
+    deed: Deed<'_>,
+) -> Result<What, NoMemory>
+    requires { StandsFor script.now (reverse events.now) files.now }
+    ensures { IfOk result (λ w. w ≡ deed_step (system_of script.now) (reverse events.now) worker (deed_of deed.entry)) }
+{
+    match deed {
+        Deed::Recv => Ok(recv(events)),
+        Deed::OpenMem { pid } => Ok(open_mem(events, pid)),
+        Deed::OpenBase { pid, dirfd } => Ok(open_base(script, events, files, pid, dirfd)),
+        Deed::Check { id } => Ok(check(events, id)),
+        Deed::Read { addr, len } => read(alloc, script, events, worker, addr, len),
+        Deed::Act { request, cap } => act(alloc, script, events, files, worker, request, cap),
+        Deed::Plant { addr, bytes, cap } => Ok(plant(script, events, addr, bytes, cap)),
+        Deed::AddfdPut(asked) => Ok(addfd_put(script, events, asked)),
+        Deed::AddfdTake => Ok(addfd_take(events, worker)),
+        Deed::Send { id, back } => Ok(send(events, id, back)),
+        Deed::LetGo => Ok(What::LetGo),
+    }
+}
+
+/// A worker's turn: what it does next, with the kernel's answer, which it takes. Where it can't step it takes nothing.
+#[tactic(auto, using(crate::proofs::Fitting::fits_next, crate::proofs::Turns::remembers_skip, crate::proofs::Turns::remembers_step, crate::proofs::Turns::step_of_deed))]
+fn worker_step(
+    alloc: Global,
+    policy: &Policy,
+    script: &Script,
+    events: &[Event],
+    files: &Files,
+    number: u8,
+    worker: &mut Worker,
+) -> Result<What, NoMemory>
+    requires stands { StandsFor script.now (reverse events.now) files.now }
+    requires remembers { Remembers policy.now (session (reverse events.now) number) worker.old }
+    requires figures { worker.old.figures ≡ script.now.figures }
+    ensures step { IfOk result (λ w. w ≡ worker_step (system_of script.now) (rules_of policy.now script.now.figures) (reverse events.now) number) }
+    ensures remembers { IfOk result (λ w. Remembers policy.now (session (ev (WorkerActor number) w ∷ reverse events.now) number) worker.new) }
+    ensures figures { worker.new.figures ≡ worker.old.figures }
+{
+    let what = deed_step(alloc, script, events, files, number, worker.next())?;
+    if matches!(what, What::Skip) {
+        return Ok(what);
+    }
+    worker.took(alloc, policy, &what)?;
+    Ok(what)
+}
+
+/// As many workers as a schedule may name, each without a session.
+fn idle_workers(alloc: Global, figures: Figures) -> Result<Vec<Worker>, NoMemory>
+    ensures number { IfOk result (λ v. length v.items ≡ 16) }
+    ensures idle { IfOk result (λ v. (P : Policy) → AllRemember P figures [] v.items) }
+{
+    let mut workers = Vec::new(alloc);
+    for _ in 0..WORKERS {
+        workers.push(Worker::new(figures))?;
+    }
+    Ok(workers)
+}
+
+impl Machine {
+    ghost use Rattle.plain_play.specs.Running.{IsAt};
+
+    /// The history with one more event, and the files after it.
+    fn append(&mut self, script: &Script, who: Actor, what: What) -> Result<(), NoMemory>
+        requires { StandsFor script.now self.old.history.events self.old.files }
+        ensures events { OnOk result (self.new.history.events ≡ ev who what ∷ self.old.history.events) }
+        ensures files { OnOk result (StandsFor script.now self.new.history.events self.new.files) }
+        ensures workers { self.new.workers ≡ self.old.workers }
+    {
+        let event = Event { who, what };
+        self.files.after(script, self.history.events(), &event)?;
+        self.history.ready(1)?;
+        self.history.push(event);
+        Ok(())
+    }
+
+    /// The machine at the start of a script.
+    #[tactic(auto, using(crate::proofs::Turns::at_start))]
+    pub fn start(alloc: Global, script: &Script) -> Result<Machine, NoMemory>
+        requires pids { script.now.pidbase + script.now.pidmax < 2 ^ 32 }
+        requires numbers { 0 < script.now.pidmax }
+        ensures { IfOk result (λ m. (P : Policy) → IsAt P script.now (started script.now) m) }
+    {
+        let mut machine = Machine {
+            history: History::new(alloc),
+            files: Files::stated(alloc, script)?,
+            workers: idle_workers(alloc, script.figures)?,
+        };
+        let mut name = Vec::new(alloc);
+        name.push(0)?;
+        let what = What::Spawn {
+            child: TaskName::new(name),
+            answer: Ok((script.pidbase + 1, SpawnKind::New)),
+        };
+        machine.append(script, Actor::Start, what)?;
+        Ok(machine)
+    }
+
+    /// A task's turn.
+    #[tactic(auto, using(crate::proofs::Turns::after_task))]
+    fn task_turn(
+        &mut self,
+        alloc: Global,
+        policy: &Policy,
+        script: &Script,
+        name: &TaskName,
+    ) -> Result<(), NoMemory>
+        requires at { IsAt policy.now script.now self.old.history.events self.old }
+        requires pids { script.now.pidbase + script.now.pidmax < 2 ^ 32 }
+        ensures { OnOk result (IsAt policy.now script.now (with_step policy.now script.now (Task name.now) self.old.history.events) self.new) }
+    {
+        let what = task_step(
+            alloc,
+            script,
+            self.history.events(),
+            &self.files,
+            name.items(),
+        )?;
+        let who = Actor::Task(name.copied(alloc)?);
+        self.append(script, who, what)
+    }
+
+    /// A worker's turn.
+    #[tactic(auto, using(crate::proofs::Turns::after_worker))]
+    fn worker_turn(
+        &mut self,
+        alloc: Global,
+        policy: &Policy,
+        script: &Script,
+        number: u8,
+    ) -> Result<(), NoMemory>
+        requires at { IsAt policy.now script.now self.old.history.events self.old }
+        requires number { number < 16 }
+        ensures { OnOk result (IsAt policy.now script.now (with_step policy.now script.now (WorkerActor number) self.old.history.events) self.new) }
+    {
+        let worker = &mut self.workers[number as usize];
+        let what = worker_step(
+            alloc,
+            policy,
+            script,
+            self.history.events(),
+            &self.files,
+            number,
+            worker,
+        )?;
+        self.append(script, Actor::Worker(number), what)
+    }
+}

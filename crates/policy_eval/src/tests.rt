@@ -1,0 +1,166 @@
+use super::*;
+use hist_model::policy::{Calls, Cond, Rule};
+use hist_model::text::Sequence;
+use std::test::Fail;
+
+/// The text of these bytes.
+fn text(alloc: Global, bytes: &[u8]) -> Result<Text, Fail> {
+    Ok(Text::new(Vec::from_slice(alloc, bytes)?))
+}
+
+/// A mknod of `/d` with this mode and device.
+fn mknod(alloc: Global, dirfd: Option<i32>, mode: u16, dev: u32) -> Result<Request, Fail> {
+    Ok(Request::Mknod {
+        dirfd,
+        path: text(alloc, b"/d")?,
+        mode,
+        dev,
+    })
+}
+
+#[test]
+fn grants_safe_devices(rt: HostRuntime) -> Result<(), Fail> {
+    let alloc = rt.alloc();
+    let policy = lxd_mknod_policy(alloc)?;
+    // Each device that the switch grants, and one beside each; a device number that no field holds, and the greatest.
+    let cases: [(u32, &[u8]); 18] = [
+        (0, b"lxd.mknod.0:0"),
+        (1281, b"lxd.mknod.5:1"),
+        (263, b"lxd.mknod.1:7"),
+        (259, b"lxd.mknod.1:3"),
+        (264, b"lxd.mknod.1:8"),
+        (1280, b"lxd.mknod.5:0"),
+        (265, b"lxd.mknod.1:9"),
+        (261, b"lxd.mknod.1:5"),
+        (1, b"default.mknod"),
+        (1282, b"default.mknod"),
+        (262, b"default.mknod"),
+        (260, b"default.mknod"),
+        (256, b"default.mknod"),
+        (1536, b"default.mknod"),
+        (266, b"default.mknod"),
+        (257, b"default.mknod"),
+        (1048835, b"default.mknod"),
+        (4294967295, b"default.mknod"),
+    ];
+    for (dev, name) in cases {
+        let (i, verdict) = decide(&policy, &mknod(alloc, None, 0o020666, dev)?);
+        assert!(rt; i < policy.rules.items().len());
+        assert_eq!(rt; rule_name(&policy, i), name, "at {dev}");
+        assert_eq!(rt;
+            verdict == Verdict::Grant,
+            name.starts_with(b"lxd."),
+            "at {dev}"
+        );
+        assert_eq!(rt;
+            decide(&policy, &mknod(alloc, None, 0o060666, dev)?),
+            (11, Verdict::Pass)
+        );
+    }
+    assert_eq!(rt;
+        decide(&policy, &mknod(alloc, Some(7), 0o020666, 259)?),
+        (3, Verdict::Grant)
+    );
+    assert_eq!(rt;
+        decide(&policy, &mknod(alloc, Some(7), 0o010666, 259)?),
+        (15, Verdict::Pass)
+    );
+    assert_eq!(rt;
+        decide(&policy, &Request::Sysinfo { addr: 0 }),
+        (10, Verdict::Pass)
+    );
+    assert_eq!(rt;
+        decide(&policy, &Request::Other { nr: 39 }),
+        (9, Verdict::Pass)
+    );
+    assert_eq!(rt;
+        decide(&policy, &Request::Other { nr: 60 }),
+        (16, Verdict::Pass)
+    );
+    Ok(())
+}
+
+/// A rule of one call and condition, with a program, a shift and a limit.
+fn rule(alloc: Global, nr: i32, cond: Cond) -> Result<Policy, Fail> {
+    let rule = Rule {
+        name: text(alloc, b"own")?,
+        calls: Calls::Named(Sequence::new(vec![in alloc; nr]?)),
+        conds: Sequence::new(vec![in alloc; cond]?),
+        verdict: Verdict::Grant,
+        via: text(alloc, b"fuse2fs")?,
+        shift: true,
+        times: Some(2),
+    };
+    Ok(Policy {
+        rules: Sequence::new(vec![in alloc; rule]?),
+    })
+}
+
+/// A mount with these flags.
+fn mount(alloc: Global, flags: u64) -> Result<Request, Fail> {
+    Ok(Request::Mount {
+        source: text(alloc, b"/dev/sda1")?,
+        target: text(alloc, b"/mnt/x")?,
+        fstype: text(alloc, b"ext4")?,
+        options: text(alloc, b"ro")?,
+        via: text(alloc, b"")?,
+        flags,
+        shift: false,
+    })
+}
+
+/// The condition on this key.
+fn condition(key: &str, value: Text) -> Cond {
+    match key {
+        "path" => Cond::Path(value),
+        "under" => Cond::Under(value),
+        "fstype" => Cond::Fstype(value),
+        "source" => Cond::Source(value),
+        "name" => Cond::Name(value),
+        _ => Cond::PlainFlags,
+    }
+}
+
+#[test]
+fn tests_conditions(rt: HostRuntime) -> Result<(), Fail> {
+    let alloc = rt.alloc();
+    let cases: [(&str, &[u8], u64, bool); 14] = [
+        ("path", b"/mnt/x", 0, true),
+        ("path", b"/mnt", 0, false),
+        ("under", b"/mnt", 0, true),
+        ("under", b"/mnt/x", 0, false),
+        ("under", b"/mn", 0, false),
+        ("fstype", b"ext4", 0, true),
+        ("fstype", b"ext", 0, false),
+        ("source", b"/dev/sda1", 0, true),
+        ("source", b"/dev/sda", 0, false),
+        ("name", b"ext4", 0, false),
+        ("plain", b"", 15, true),
+        ("plain", b"", 32, false),
+        ("plain", b"", 4096, false),
+        ("plain", b"", 8192, false),
+    ];
+    for (key, value, flags, fits) in cases {
+        let policy = rule(alloc, 165, condition(key, text(alloc, value)?))?;
+        let decided = decide(&policy, &mount(alloc, flags)?);
+        assert_eq!(rt; decided == (0, Verdict::Grant), fits, "{key} {flags}");
+    }
+    Ok(())
+}
+
+#[test]
+fn grants_by_program(rt: HostRuntime) -> Result<(), Fail> {
+    let alloc = rt.alloc();
+    let policy = rule(alloc, 165, Cond::PlainFlags)?;
+    assert!(rt; !policy.rules.items().is_empty());
+    assert_eq!(rt; cap(&policy, 0), Some(Cap { rule: 0, times: 2 }));
+    let mut request = mount(alloc, 1)?;
+    grant(alloc, &policy, 0, &mut request)?;
+    let shown = format!(in alloc; "{request:?}")?;
+    assert!(rt;
+        shown.as_str().contains(
+            "via: Text { bytes: [102, 117, 115, 101, 50, 102, 115] }, flags: 1, shift: true"
+        )
+    );
+    Ok(())
+}
