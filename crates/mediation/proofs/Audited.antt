@@ -1,10 +1,9 @@
 -- The audit of a session that answered names the rule that decided.
-use Rattle.std.proofs.Common.{◌≡◌, ◌⊎◌, inl, inr, ℕ, suc, ◌+◌, ◌<◌, ◌≤◌, ◌^◌, Bool, true, false, ◌&&◌, not, List, [], ◌∷◌, ◌++◌, length, reverse, Some, None, refl, sym, ap, subst, ◌∙◌, arith}
-use Rattle.std.specs.Prelude.{if◌then◌else◌, ◌==◌, count_by, cond, Result, Ok, Err}
+use Rattle.std.proofs.Common.{◌≡◌, ◌⊎◌, inl, inr, ℕ, suc, ◌<◌, ◌≤◌, ◌^◌, true, false, ◌&&◌, not, List, [], ◌∷◌, ◌++◌, length, reverse, Some, None, refl, sym, ap, subst, ◌∙◌, arith}
+use Rattle.std.specs.Prelude.{◌==◌, Result, Ok, Err}
 use Rattle.std.specs.List.{list_any}
-use Rattle.std.proofs.lemmas.Bool.{cases_Bool, and_parts, or_parts, eq-eqb, ne_eqb, both_ways}
-use Rattle.std.proofs.lemmas.List.{reverse-append}
-use Rattle.std.proofs.lemmas.List.Recursion.{is_count_by}
+use Rattle.std.proofs.lemmas.Bool.{cases_Bool, and_parts, or_parts, eq-eqb, ne_eqb, both_ways, or_right}
+use Rattle.std.proofs.lemmas.List.{reverse-append, append-nil}
 use Rattle.hist_model.specs.Look.{ev, before, event_at, is_worker}
 use Rattle.hist_model.specs.Sessions.{Rules, Fetch, Answer, session, skips, starts, any_of, is_letgo, gives_up, notif_of, reads_of, number_of}
 use Rattle.hist_model.specs.Systems.{System}
@@ -14,7 +13,7 @@ use Rattle.hist_model.specs.Copies.{Complete, plan, progress}
 use Rattle.hist_model.specs.Requests.{request}
 use Rattle.hist_model.specs.Decisions.{decide}
 use Rattle.hist_model.specs.Legal.{copied, decision, read_answers, rules_of}
-use Rattle.hist_model.specs.ReportAudit.{session_at, joined, is_gone, is_spent, reads, finding, finding_of, judging_by, judged_as, is_good_check as is_found_valid, skips as is_skipped}
+use Rattle.hist_model.specs.ReportAudit.{Judging, checked_twice, session_at, joined, is_gone, is_spent, reads, finding, finding_of, judging_by, judged_as, is_good_check as is_found_valid, skips as is_skipped}
 use Rattle.hist_model.specs.Mediated.{AuditNames}
 use Rattle.hist_model.specs.declared.event.Event.{Event}
 use Rattle.hist_model.specs.declared.event.Actor.{Actor}
@@ -36,7 +35,7 @@ use Rattle.mediation.proofs.Deeds.{AtWork, deed-is}
 use Rattle.mediation.proofs.Work.{InSession, Idle, hand, in-hand, works, works-keep, at-work, worker-row, session-same, session-more, started, grown}
 use Rattle.mediation.proofs.Sequence.{IsOwn, is-own, is_effect, effect-fixed}
 use Rattle.mediation.proofs.Ordered.{ordered, used-two}
-use Rattle.mediation.proofs.Sittings.{by-session}
+use Rattle.mediation.proofs.InHand.{by-session}
 
 skipped-same : (what : What) → is_skipped what ≡ skips what
 skipped-same Skip = refl
@@ -252,27 +251,39 @@ valid-same (Check x (Ok u)) = refl
 valid-same (Check x (Err e)) = refl
 valid-same a = refl
 
-counted : (own : List What) → count_by is_found_valid own ≡ number_of is_good_check own
-counted own = sym (is_count_by (number_of is_good_check) is_found_valid refl more own)
+some-valid : (own : List What) → 1 ≤ number_of is_good_check own → list_any is_found_valid own ≡ true
+some-valid [] h = absurd (omega arith)
+some-valid (a ∷ own) h = elim (cases_Bool (is_good_check a)) [
+  | inl q ↦ rw (valid-same a, q)
+  | inr q ↦ or_right (is_found_valid a) (list_any is_found_valid own) (some-valid own (rw q at h))
+]
+
+-- two good checks are a good check after a good one
+twice-valid : (own : List What) → 2 ≤ number_of is_good_check own → checked_twice own ≡ true
+twice-valid [] h = absurd (omega arith)
+twice-valid (a ∷ own) h = elim (cases_Bool (is_good_check a)) [
+  | inl q ↦ let s = some-valid own (omega (arith, rest own (rw q at h))) in rw (valid-same a, q, s)
+  | inr q ↦ or_right (is_found_valid a && list_any is_found_valid own) (checked_twice own) (twice-valid own (rw q at h))
+]
   where
-    more : (a : What) (own : List What) → number_of is_good_check (a ∷ own) ≡ cond (is_found_valid a) (1 + number_of is_good_check own) (number_of is_good_check own)
-    more a own = rw (valid-same a) (both (is_good_check a) (number_of is_good_check own))
-      where
-        both : (b : Bool) (n : ℕ) → (if b then suc n else n) ≡ cond b (1 + n) n
-        both true n = omega arith
-        both false n = refl
+    rest : (own : List What) → 2 ≤ suc (number_of is_good_check own) → 1 ≤ number_of is_good_check own
+    rest own h = omega arith
 
 reads-are : (own : List What) → reads own ≡ reverse (read_answers (reads_of own))
 reads-are [] = refl
 reads-are (Read x l a ∷ own) = ap (λ xs. xs ++ a ∷ []) (reads-are own) ∙ sym (reverse-append (a ∷ []) (read_answers (reads_of own)))
-reads-are (a ∷ own) = reads-are own
+reads-are (a ∷ own) = append-nil (reads own) ∙ reads-are own
 
 names-rule : (P : Policy) (n : Notif) (x : ℕ) (b : Back) (a : Result (Unit {0}) ℕ) (own : List What) (texts : List (List ℕ)) → any_of gives_up own ≡ false → number_of is_good_check own ≡ 2 → copied n (reads_of own) ≡ Complete texts
     → finding (judging_by P.rules) n (Send x b a ∷ own) ≡ finding_of (judged_as (decide P.rules (request n.call.nr n.call.args texts))) (list_any is_spent own)
 names-rule P n x b a own texts g two c =
     let q : progress (plan n.call.nr n.call.args) (reads own) ≡ Complete texts = rw (reads-are own) c in
-    let k : count_by is_found_valid own ≡ 2 = counted own ∙ two in
-    rw (none-gone own g, k, q)
+    let k : checked_twice own ≡ true = twice-valid own (omega arith) in
+    rw (append-nil (reads own), none-gone own g, k, q)
+
+-- letting go adds nothing
+lets-go-finding : (J : Judging) (n : Notif) (own : List What) → finding J n (LetGo ∷ own) ≡ finding J n own
+lets-go-finding J n own = rw (append-nil (reads own))
 
 spent-effect : (own : List What) → list_any is_spent own ≡ true → any_of is_effect own ≡ true
 spent-effect [] h = cc
@@ -318,4 +329,4 @@ audit-names S P F H legal room s w x b a n texts h m c =
         → Ends S (rules_of P F) H w r (Send x b a ∷ session (before H s) w)
         → finding (judging_by P.rules) n (session_at w p H) ≡ finding_of (judged_as (decide P.rules (request n.call.nr n.call.args texts))) (list_any is_spent (session (before H s) w))
     go p q r (answered k j) = rw (q, k) r
-    go p q r (over k) = rw (q, k) r
+    go p q r (over k) = rw (q, k) (lets-go-finding (judging_by P.rules) n (Send x b a ∷ session (before H s) w) ∙ r)

@@ -29,7 +29,7 @@ use Rattle.mediation.proofs.Deeds.{deed-is}
 use Rattle.mediation.proofs.Work.{InSession, Idle, works, works-keep, worker-row, base-same, base-more}
 use Rattle.mediation.proofs.Handles.{Steady, steady}
 use Rattle.mediation.proofs.Opened.{good-check}
-use Rattle.mediation.proofs.Sittings.{by-session, in-hand-of}
+use Rattle.mediation.proofs.InHand.{by-session, in-hand-of}
 
 -- the base that the files have for a worker
 pub files_base : Script → List Event → ℕ → Option ℕ

@@ -21,7 +21,7 @@ pub mod Fresh
 pub mod Settlers
 pub mod Determined
 pub mod Replies
-pub mod Sittings
+pub mod InHand
 pub mod Arrivals
 pub mod Received
 pub mod Waited

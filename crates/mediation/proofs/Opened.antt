@@ -17,7 +17,7 @@ use Rattle.sys_abi.specs.declared.wire.Notif.{Notif}
 use Rattle.mediation.proofs.Rows.{WorkerRow}
 use Rattle.mediation.proofs.Work.{InSession, Idle, works, session-more, started, mem-same, mem-more}
 use Rattle.mediation.proofs.Handles.{Steady, steady}
-use Rattle.mediation.proofs.Sittings.{by-session, in-hand-of}
+use Rattle.mediation.proofs.InHand.{by-session, in-hand-of}
 
 -- a check that did not end the session was good
 pub good-check : (own : List What) → any_of checks own ≡ true → any_of gives_up own ≡ false → any_of is_good_check own ≡ true

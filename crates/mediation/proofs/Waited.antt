@@ -27,7 +27,7 @@ use Rattle.mediation.proofs.Ordered.{ordered}
 use Rattle.mediation.proofs.Queues.{clean-waiting}
 use Rattle.mediation.proofs.Phases.{hand-fetcher, fetcher-fetched}
 use Rattle.mediation.proofs.Waiting.{at-call}
-use Rattle.mediation.proofs.Sittings.{by-session, in-hand-of}
+use Rattle.mediation.proofs.InHand.{by-session, in-hand-of}
 
 no-put : (a : What) → is_put a ≡ false → put_in a ≡ None
 no-put (AddfdPut q x) h = cc

@@ -40,7 +40,7 @@ skip-call K Skip o h = refl
 skip-call K what o h = cc
 
 -- a fact of calls in hand, kept by each step
-pub record Kept (S : System) (R : Rules) (P : List Event → ℕ → ℕ → Type 0) : Type 0 where
+pub record StepKept (S : System) (R : Rules) (P : List Event → ℕ → ℕ → Type 0) : Type 0 where
   -- the worker's receive
   pub fetch : (K : List Event) (a : Actor) (w c : ℕ) (n : Notif) → IsStep S R K (ev a (Recv (Ok n))) → IsLegal S R K → length (ev a (Recv (Ok n)) ∷ K) < 2 ^ 64 → is_worker a w ≡ true
       → WorkerRow S R K w (Recv (Ok n)) → oldest_unfetched K ≡ Some c → Idle K w → P (ev a (Recv (Ok n)) ∷ K) w c
@@ -51,7 +51,7 @@ pub record Kept (S : System) (R : Rules) (P : List Event → ℕ → ℕ → Typ
   pub still : (K : List Event) (e : Event) (w c : ℕ) → IsStep S R K e → IsLegal S R K → length (e ∷ K) < 2 ^ 64 → (is_worker e.who w && not (skips e.what)) ≡ false
       → (i : InSession K w c) → session_call K w ≡ Some c → session (e ∷ K) w ≡ session K w → P K w c → P (e ∷ K) w c
 
-module _ (S : System) (R : Rules) (P : List Event → ℕ → ℕ → Type 0) (k : Kept S R P) where
+module _ (S : System) (R : Rules) (P : List Event → ℕ → ℕ → Type 0) (k : StepKept S R P) where
   module _ (K : List Event) (w : ℕ) (legal : IsLegal S R K) (ih : (c : ℕ) → session_call K w ≡ Some c → P K w c) where
     still-step : (e : Event) (c : ℕ) → IsStep S R K e → length (e ∷ K) < 2 ^ 64 → (is_worker e.who w && not (skips e.what)) ≡ false → session_call (e ∷ K) w ≡ session_call K w → session_call (e ∷ K) w ≡ Some c → P (e ∷ K) w c
     still-step e c r room q same h =
