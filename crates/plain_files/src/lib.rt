@@ -18,3 +18,5 @@ pub mod memory;
 pub mod natives;
 pub mod outcomes;
 pub mod programs;
+#[cfg(test)]
+mod tests;
