@@ -1,4 +1,6 @@
 //! The top call of the program.
 #![tactic(auto)]
 
+pub mod inputs;
+pub mod status;
 pub mod words;

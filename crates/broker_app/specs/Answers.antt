@@ -1,0 +1,89 @@
+-- What the program's answer means: what it read, what it wrote, and why it stopped.
+use Rattle.std.specs.Prelude.{◌≡◌, ℕ, ◌<◌, ◌+◌, ◌++◌, ◌∷◌, [], true, List, length, Option, Some, None, ◌⊎◌, codes}
+use Rattle.hist_model.specs.FirstPath.{policy_of, script_of}
+use Rattle.hist_model.specs.Legal.{played}
+use Rattle.hist_model.specs.Report.{report}
+use Rattle.hist_model.specs.ReportAudit.{judging_by}
+use Rattle.hist_model.specs.Words.{Form, Play, form}
+use Rattle.hist_model.specs.declared.policy.Policy.{Policy}
+use Rattle.hist_model.specs.declared.script.Script.{Script}
+use Rattle.io_edge.specs.Faults.{Rose}
+use Rattle.io_edge.specs.FileState.{FileState}
+use Rattle.io_edge.specs.SinkState.{SinkState, AddsPrefix}
+use Rattle.broker_app.specs.Inputs.{policy_in, script_in, input_limit}
+use Rattle.broker_app.specs.declared.status.InputFile.{InputFile}
+use Rattle.broker_app.specs.declared.status.InputFile.TheVariants.{Policy as PolicyFile, Script as ScriptFile}
+use Rattle.broker_app.specs.declared.status.Unbuilt.{Unbuilt}
+use Rattle.broker_app.specs.declared.status.Unbuilt.TheVariants.{Command, Policy as PolicyText, Script as ScriptText}
+use Rattle.broker_app.specs.declared.status.Status.{Status}
+use Rattle.broker_app.specs.declared.status.Status.TheVariants.{Done, Usage, ReadFault, WriteFault, NoMemory, NotBuilt}
+
+-- the report of the history that a policy and a script play
+abbrev pub report_of : Policy → Script → List ℕ
+report_of P S = report (judging_by P.rules) (played P S)
+
+-- these are the policy and the script of the named files, where the files tell their bytes
+pub record AreRead (files : FileState) (policy script : List ℕ) (P : Policy) (S : Script) : Type 0 where
+  pub policy_is : files.tells ≡ true → policy_in files policy ≡ Some P
+  pub script_is : files.tells ≡ true → script_in files script ≡ Some S
+
+-- the sink took nothing
+abbrev pub TookNothing : SinkState → SinkState → Type 0
+TookNothing old new = old.tells ≡ true → new.taken ≡ old.taken
+
+-- the sink took a prefix of the report of what the two files play
+abbrev pub TookPrefix : FileState → List ℕ → List ℕ → SinkState → SinkState → Type 0
+TookPrefix files policy script old new = (P : Policy) × (S : Script) × AreRead files policy script P S × (old.tells ≡ true → AddsPrefix old.taken (report_of P S) new.taken)
+
+-- the sink took the whole report
+abbrev pub TookReport : FileState → List ℕ → List ℕ → SinkState → SinkState → Type 0
+TookReport files policy script old new = (P : Policy) × (S : Script) × AreRead files policy script P S × (old.tells ≡ true → new.taken ≡ old.taken ++ report_of P S)
+
+-- the file has more bytes than are read, or they are none of the texts that are built
+abbrev pub IsUnbuilt : {A : Type 0} → (List ℕ → Option A) → Option (List ℕ) → Type 0
+IsUnbuilt built None = ⊥
+IsUnbuilt built (Some bytes) = (input_limit < length bytes) ⊎ (built bytes ≡ None)
+
+-- why the policy wasn't taken
+abbrev pub PolicyRefused : FileState → FileState → List ℕ → Status → Type 0
+PolicyRefused files after policy (ReadFault PolicyFile) = Rose files.faults after.faults × (files.sound ≡ true → files.bytes policy ≡ None)
+PolicyRefused files after policy (NotBuilt PolicyText) = files.tells ≡ true → IsUnbuilt policy_of (files.bytes policy)
+PolicyRefused files after policy NoMemory = Unit {0}
+PolicyRefused files after policy _ = ⊥
+
+-- why the script wasn't taken
+abbrev pub ScriptRefused : FileState → FileState → List ℕ → Status → Type 0
+ScriptRefused files after script (ReadFault ScriptFile) = Rose files.faults after.faults × (files.sound ≡ true → files.bytes script ≡ None)
+ScriptRefused files after script (NotBuilt ScriptText) = files.tells ≡ true → IsUnbuilt script_of (files.bytes script)
+ScriptRefused files after script NoMemory = Unit {0}
+ScriptRefused files after script _ = ⊥
+
+-- a policy was taken
+abbrev pub HasPolicy : FileState → List ℕ → Type 0
+HasPolicy files policy = (P : Policy) × (files.tells ≡ true → policy_in files policy ≡ Some P)
+
+-- how the play of a policy's and a script's files ended
+abbrev pub PlayEnds : FileState → FileState → SinkState → SinkState → List ℕ → List ℕ → Status → Type 0
+PlayEnds files after old new policy script Done = TookReport files policy script old new
+PlayEnds files after old new policy script WriteFault = Rose old.faults new.faults × TookPrefix files policy script old new
+PlayEnds files after old new policy script NoMemory = TookNothing old new ⊎ TookPrefix files policy script old new
+PlayEnds files after old new policy script (ReadFault PolicyFile) = PolicyRefused files after policy (ReadFault PolicyFile) × TookNothing old new
+PlayEnds files after old new policy script (NotBuilt PolicyText) = PolicyRefused files after policy (NotBuilt PolicyText) × TookNothing old new
+PlayEnds files after old new policy script (ReadFault ScriptFile) = HasPolicy files policy × ScriptRefused files after script (ReadFault ScriptFile) × TookNothing old new
+PlayEnds files after old new policy script (NotBuilt ScriptText) = HasPolicy files policy × ScriptRefused files after script (NotBuilt ScriptText) × TookNothing old new
+PlayEnds files after old new policy script _ = ⊥
+
+-- the words have no form
+abbrev pub IsUsage : Status → Type 0
+IsUsage Usage = Unit {0}
+IsUsage _ = ⊥
+
+abbrev pub IsUnbuiltCommand : Status → Type 0
+IsUnbuiltCommand (NotBuilt Command) = Unit {0}
+IsUnbuiltCommand _ = ⊥
+
+-- what the answer means, by the form of the words: usage exactly where they have none
+abbrev pub Answers : Option Form → FileState → FileState → SinkState → SinkState → Status → Type 0
+Answers None files after old new status = IsUsage status × TookNothing old new
+Answers (Some (Play policy script)) files after old new status = PlayEnds files after old new policy script status
+Answers (Some form) files after old new status = IsUnbuiltCommand status × TookNothing old new
