@@ -14,19 +14,28 @@ use hist_model::policy::Policy;
 use hist_model::report::Judged;
 use policy_eval::{decide, rule_name};
 use std::alloc::Global;
+use std::marker::Model;
 use sys_abi::memory::NoMemory;
 use sys_abi::wire::Notif;
 
-/// Judges sessions by the rules of a policy.
-#[derive(Clone, Copy)]
+/// Judges sessions by the rules of a policy. Contracts see it as that policy.
+#[derive(Drop)]
 pub struct PolicyJudge<'a> {
     policy: &'a Policy,
+}
+
+impl<'a> Model for PolicyJudge<'a> {
+    ghost use Rattle.hist_model.specs.declared.policy.Policy.{Policy};
+
+    ghost Value = { Policy };
+
+    ghost view = { λ j. j.policy.now };
 }
 
 impl<'a> PolicyJudge<'a> {
     /// What judges by this policy.
     pub fn new(policy: &'a Policy) -> PolicyJudge<'a>
-        ensures { result.policy.now ≡ policy.now }
+        ensures { result ≡ policy.now }
     {
         PolicyJudge { policy }
     }
@@ -52,7 +61,7 @@ fn judged(policy: &Policy, notif: &Notif, capture: Capture) -> Judged
 impl Judge for PolicyJudge<'_> {
     ghost use Rattle.hist_model.specs.ReportAudit.{judging_by};
 
-    ghost judging = { λ j. judging_by j.policy.now.rules };
+    ghost judging = { λ policy. judging_by policy.rules };
 
     fn judge(
         &self,

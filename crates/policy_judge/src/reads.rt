@@ -46,7 +46,6 @@ fn take(capture: &mut Capture, answer: &Result<Text, Errno>) -> Result<(), NoMem
 }
 
 /// Takes what one more step of the session tells.
-
 fn hear(capture: &mut Capture, what: &What) -> Result<(), NoMemory>
     ensures { (parts : List Part) (own : List Step) → Follows parts (heard parts [] (reads own)) capture.old → OnOk result (Follows parts (heard parts [] (reads (what.now ∷ own))) capture.new) }
 {
