@@ -1,5 +1,5 @@
 -- The kernel's answer to a worker's next deed is one that the worker can take.
-use Rattle.std.proofs.Common.{◌≡◌, ℕ, zero, suc, ◌+◌, ◌<◌, ◌≤◌, Bool, true, false, not, List, [], ◌∷◌, ◌++◌, length, refl, ap, sym, ◌∙◌, Option, Some, None, inl, inr, ◌⊎◌, arith}
+use Rattle.std.proofs.Common.{◌≡◌, ℕ, ◌≤◌, Bool, true, false, not, List, [], refl, ap, sym, ◌∙◌, Option, Some, None, inl, inr, arith}
 use Rattle.std.specs.Prelude.{if◌then◌else◌, ◌==◌, ℤ, Result, Ok, Err}
 use Rattle.std.proofs.lemmas.Bool.{cases_Bool, eqb-true, eq-eqb}
 use Rattle.std.proofs.lemmas.List.{append-nil}
@@ -7,7 +7,7 @@ use Rattle.hist_model.specs.Copies.{plan, progress}
 use Rattle.hist_model.specs.Legal.{system_of, rules_of}
 use Rattle.hist_model.specs.Memory.{bytes_read, is_mapped}
 use Rattle.hist_model.specs.Requests.{base_dirfd}
-use Rattle.hist_model.specs.Sessions.{Deed, ReadD, ActD, PlantD, Ask, OpenB, Open, Let, Take, deed, session, number_of, checks, after_act, inject_deed, addfd_of}
+use Rattle.hist_model.specs.Sessions.{Deed, ActD, PlantD, OpenB, Open, Let, deed, after_act, inject_deed, addfd_of}
 use Rattle.hist_model.specs.Sysinfo.{container_sysinfo}
 use Rattle.hist_model.specs.Steps.{deed_step, mem, read_answer, take_step, install_at, request_of, request_listed}
 use Rattle.hist_model.proofs.Pieces.{IsWanting, piece_wanted, wanted_some}
@@ -18,7 +18,7 @@ use Rattle.hist_model.specs.declared.policy.Policy.{Policy}
 use Rattle.hist_model.specs.declared.script.Figures.{Figures}
 use Rattle.hist_model.specs.declared.script.Script.{Script}
 use Rattle.sys_abi.specs.declared.wire.Addfd.{Addfd}
-use Rattle.arg_capture.specs.Captures.{Captured, continued, wanted, Answers}
+use Rattle.arg_capture.specs.Captures.{Captured, continued, wanted}
 use Rattle.broker_core.proofs.Workers.{known_deed}
 use Rattle.broker_core.specs.Deeds.{session_deed, based_deed, checked_deed, arguments_deed, piece_deed, judgement_deed}
 use Rattle.broker_core.specs.Remembered.{Knows, KnowsIf, Remembers, ArgumentsOf, FitsPiece, FitsCheck, FitsSession, FitsIf, Fits, answers_of}
