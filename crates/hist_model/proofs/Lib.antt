@@ -2,6 +2,8 @@ pub mod CopyCases
 pub mod Decided
 pub mod FilterCases
 pub mod Look
+pub mod MappedBytes
+pub mod Pieces
 pub mod Scans
 mod WalkedPaths
 mod PlayedCases

@@ -1,18 +1,18 @@
 -- The audit of a session that answered names the rule that decided.
-use Rattle.std.proofs.Common.{◌≡◌, ◌⊎◌, inl, inr, ℕ, suc, ◌<◌, ◌≤◌, ◌^◌, true, false, ◌&&◌, not, List, [], ◌∷◌, ◌++◌, length, reverse, Some, None, refl, sym, ap, subst, ◌∙◌, arith}
+use Rattle.std.proofs.Common.{◌≡◌, ◌⊎◌, inl, inr, ℕ, suc, ◌<◌, ◌≤◌, ◌^◌, true, false, ◌&&◌, not, List, [], ◌∷◌, length, Some, None, refl, sym, ap, subst, ◌∙◌, arith}
 use Rattle.std.specs.Prelude.{◌==◌, Result, Ok, Err}
 use Rattle.std.specs.List.{list_any}
 use Rattle.std.proofs.lemmas.Bool.{cases_Bool, and_parts, or_parts, eq-eqb, ne_eqb, both_ways, or_right}
-use Rattle.std.proofs.lemmas.List.{reverse-append, append-nil}
+use Rattle.std.proofs.lemmas.List.{append-nil}
 use Rattle.hist_model.specs.Look.{ev, before, event_at, is_worker}
 use Rattle.hist_model.specs.Sessions.{Rules, Fetch, Answer, session, skips, starts, any_of, is_letgo, gives_up, notif_of, reads_of, number_of}
 use Rattle.hist_model.specs.Systems.{System}
 use Rattle.hist_model.specs.Steps.{IsStep, IsLegal, session_call, oldest_unfetched}
 use Rattle.hist_model.specs.Orders.{is_good_check}
-use Rattle.hist_model.specs.Copies.{Complete, plan, progress}
+use Rattle.hist_model.specs.Copies.{Complete, plan, progress, heard}
 use Rattle.hist_model.specs.Requests.{request}
 use Rattle.hist_model.specs.Decisions.{decide}
-use Rattle.hist_model.specs.Legal.{copied, decision, read_answers, rules_of}
+use Rattle.hist_model.specs.Legal.{copied, decision, system_of, rules_of}
 use Rattle.hist_model.specs.ReportAudit.{Judging, checked_twice, session_at, joined, is_gone, is_spent, reads, finding, finding_of, judging_by, judged_as, is_good_check as is_found_valid, skips as is_skipped}
 use Rattle.hist_model.specs.Mediated.{AuditNames}
 use Rattle.hist_model.specs.declared.event.Event.{Event}
@@ -27,6 +27,7 @@ use Rattle.hist_model.specs.declared.policy.Verdict.{Verdict}
 use Rattle.hist_model.specs.declared.policy.Verdict.TheVariants.{Grant, Deny, Pass, Inject}
 use Rattle.hist_model.specs.declared.request.Request.{Request}
 use Rattle.hist_model.specs.declared.script.Figures.{Figures}
+use Rattle.hist_model.specs.declared.script.Script.{Script}
 use Rattle.sys_abi.specs.declared.wire.Notif.{Notif}
 use Rattle.hist_model.proofs.Look.{event_at-here, event_at-older, event_at-below, event_at-above, below_or_last}
 use Rattle.mediation.proofs.Before.{before-all, before-older, before-newest, legal-before}
@@ -36,6 +37,7 @@ use Rattle.mediation.proofs.Work.{InSession, Idle, hand, in-hand, works, works-k
 use Rattle.mediation.proofs.Sequence.{IsOwn, is-own, is_effect, effect-fixed}
 use Rattle.mediation.proofs.Ordered.{ordered, used-two}
 use Rattle.mediation.proofs.InHand.{by-session}
+use Rattle.mediation.proofs.Heard.{reads-are, fit-reads, all-heard}
 
 skipped-same : (what : What) → is_skipped what ≡ skips what
 skipped-same Skip = refl
@@ -269,17 +271,12 @@ twice-valid (a ∷ own) h = elim (cases_Bool (is_good_check a)) [
     rest : (own : List What) → 2 ≤ suc (number_of is_good_check own) → 1 ≤ number_of is_good_check own
     rest own h = omega arith
 
-reads-are : (own : List What) → reads own ≡ reverse (read_answers (reads_of own))
-reads-are [] = refl
-reads-are (Read x l a ∷ own) = ap (λ xs. xs ++ a ∷ []) (reads-are own) ∙ sym (reverse-append (a ∷ []) (read_answers (reads_of own)))
-reads-are (a ∷ own) = append-nil (reads own) ∙ reads-are own
-
-names-rule : (P : Policy) (n : Notif) (x : ℕ) (b : Back) (a : Result (Unit {0}) ℕ) (own : List What) (texts : List (List ℕ)) → any_of gives_up own ≡ false → number_of is_good_check own ≡ 2 → copied n (reads_of own) ≡ Complete texts
+names-rule : (P : Policy) (n : Notif) (x : ℕ) (b : Back) (a : Result (Unit {0}) ℕ) (own : List What) (texts : List (List ℕ)) → any_of gives_up own ≡ false → number_of is_good_check own ≡ 2 → copied n (reads_of own) ≡ Complete texts → heard (plan n.call.nr n.call.args) [] (reads own) ≡ reads own
     → finding (judging_by P.rules) n (Send x b a ∷ own) ≡ finding_of (judged_as (decide P.rules (request n.call.nr n.call.args texts))) (list_any is_spent own)
-names-rule P n x b a own texts g two c =
+names-rule P n x b a own texts g two c v =
     let q : progress (plan n.call.nr n.call.args) (reads own) ≡ Complete texts = rw (reads-are own) c in
     let k : checked_twice own ≡ true = twice-valid own (omega arith) in
-    rw (append-nil (reads own), none-gone own g, k, q)
+    rw (append-nil (reads own), v, none-gone own g, k, q)
 
 -- letting go adds nothing
 lets-go-finding : (J : Judging) (n : Notif) (own : List What) → finding J n (LetGo ∷ own) ≡ finding J n own
@@ -298,15 +295,20 @@ acting-grants P F q i (Deny e) h = cc
 acting-grants P F q i Pass h = cc
 acting-grants P F q i (Inject src at) h = cc
 
-pub audit-names : (S : System) (P : Policy) (F : Figures) (H : List Event) → IsLegal S (rules_of P F) H → length H < 2 ^ 64 → AuditNames P H
-audit-names S P F H legal room s w x b a n texts h m c =
+pub audit-names : (P : Policy) (F : Figures) (T : Script) (H : List Event) → IsLegal (system_of T) (rules_of P F) H → length H < 2 ^ 64 → AuditNames P H
+audit-names P F T H legal room s w x b a n texts h m c =
     let t = sent S (rules_of P F) H legal room s w x b a h in
     let q = same t.n n (sym t.work.notif_is ∙ m) in
     let l = event_at-below H t.place _ t.receive in
     let z : length (before H t.place) ≡ t.place = before-length H t.place (omega arith) in
-    let r = names-rule P n x b a (session (before H s) w) texts t.work.no_end t.two c in
-    (t.place, rw q at t.receive, go (length (before H t.place)) z r t.ends, λ e. grants (session (before H s) w) (is-own S Q (before H s) (legal-before S Q H s legal) w) m c e)
+    let i = legal-before S Q H s legal in
+    let v = all-heard P F n (session (before H s) w) (is-own S Q (before H s) i w) m (fit-reads P F T (before H s) i w) in
+    let r = names-rule P n x b a (session (before H s) w) texts t.work.no_end t.two c v in
+    (t.place, rw q at t.receive, go (length (before H t.place)) z r t.ends, λ e. grants (session (before H s) w) (is-own S Q (before H s) i w) m c e)
   where
+    S : System
+    S = system_of T
+
     Q : Rules
     Q = rules_of P F
 

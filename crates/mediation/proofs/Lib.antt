@@ -34,6 +34,7 @@ pub mod Granted
 pub mod Mediation
 pub mod Framed
 pub mod Finishes
+pub mod Heard
 pub mod Audited
 pub mod Refusals
 pub mod Sessions

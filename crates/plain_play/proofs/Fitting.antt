@@ -1,23 +1,24 @@
 -- The kernel's answer to a worker's next deed is one that the worker can take.
-use Rattle.std.proofs.Common.{◌≡◌, ℕ, zero, suc, ◌+◌, ◌<◌, ◌≤◌, Bool, true, false, not, List, [], ◌∷◌, ◌++◌, length, refl, ap, sym, ◌∙◌, Option, Some, None, inl, inr, ◌⊎◌, arith}
+use Rattle.std.proofs.Common.{◌≡◌, ℕ, ◌≤◌, Bool, true, false, not, List, [], refl, ap, sym, ◌∙◌, Option, Some, None, inl, inr, arith}
 use Rattle.std.specs.Prelude.{if◌then◌else◌, ◌==◌, ℤ, Result, Ok, Err}
 use Rattle.std.proofs.lemmas.Bool.{cases_Bool, eqb-true, eq-eqb}
 use Rattle.std.proofs.lemmas.List.{append-nil}
-use Rattle.hist_model.specs.Copies.{Progress, Wants, Complete, Faulty as Broken, plan, progress}
+use Rattle.hist_model.specs.Copies.{plan, progress}
 use Rattle.hist_model.specs.Legal.{system_of, rules_of}
-use Rattle.hist_model.specs.Memory.{bytes_read, mapped_bytes, is_mapped}
+use Rattle.hist_model.specs.Memory.{bytes_read, is_mapped}
 use Rattle.hist_model.specs.Requests.{base_dirfd}
-use Rattle.hist_model.specs.Sessions.{Deed, ReadD, ActD, PlantD, Ask, OpenB, Open, Let, Take, deed, session, number_of, checks, after_act, inject_deed, addfd_of}
+use Rattle.hist_model.specs.Sessions.{Deed, ActD, PlantD, OpenB, Open, Let, deed, after_act, inject_deed, addfd_of}
 use Rattle.hist_model.specs.Sysinfo.{container_sysinfo}
 use Rattle.hist_model.specs.Steps.{deed_step, mem, read_answer, take_step, install_at, request_of, request_listed}
+use Rattle.hist_model.proofs.Pieces.{IsWanting, piece_wanted, wanted_some}
+use Rattle.hist_model.proofs.MappedBytes.{at_most, at_least}
 use Rattle.hist_model.specs.declared.event.Event.{Event}
 use Rattle.hist_model.specs.declared.event.What.{What}
 use Rattle.hist_model.specs.declared.policy.Policy.{Policy}
 use Rattle.hist_model.specs.declared.script.Figures.{Figures}
 use Rattle.hist_model.specs.declared.script.Script.{Script}
 use Rattle.sys_abi.specs.declared.wire.Addfd.{Addfd}
-use Rattle.arg_capture.specs.Captures.{Captured, continued, wanted, Answers}
-use Rattle.broker_core.proofs.Pieces.{IsWanting, piece_wanted}
+use Rattle.arg_capture.specs.Captures.{Captured, continued, wanted}
 use Rattle.broker_core.proofs.Workers.{known_deed}
 use Rattle.broker_core.specs.Deeds.{session_deed, based_deed, checked_deed, arguments_deed, piece_deed, judgement_deed}
 use Rattle.broker_core.specs.Remembered.{Knows, KnowsIf, Remembers, ArgumentsOf, FitsPiece, FitsCheck, FitsSession, FitsIf, Fits, answers_of}
@@ -28,34 +29,10 @@ use Rattle.broker_core.specs.declared.session.Arguments.TheVariants.{Reading, Ju
 use Rattle.broker_core.specs.declared.session.Session.{Session}
 use Rattle.broker_core.specs.declared.worker.Worker.{Worker}
 
--- a read gives at most as many bytes as were asked for
-at-most : (S : Script) (K : List Event) (m a n : ℕ) → length (mapped_bytes S K m a n) ≤ n
-unfolding mapped_bytes
-at-most S K m a zero = omega arith
-at-most S K m a (suc n) = elim (cases_Bool (is_mapped S.map a)) [
-  | inl h ↦ let g : length (mapped_bytes S K m (a + 1) n) ≤ n = at-most S K m (a + 1) n in rw h (omega arith)
-  | inr h ↦ rw h (omega arith)
-]
-
--- and at least one where the first is mapped
-at-least : (S : Script) (K : List Event) (m a n : ℕ) → is_mapped S.map a ≡ true → 1 ≤ n → 1 ≤ length (mapped_bytes S K m a n)
-unfolding mapped_bytes
-at-least S K m a zero h l = absurd (omega arith)
-at-least S K m a (suc n) h l = rw h (omega arith)
-
-wanted-length : (p : Progress) (q : ℕ × ℕ) → IsWanting p → wanted p ≡ Some q → 1 ≤ q.1
-wanted-length (Wants a n) q h e = let m : n ≡ q.1 = ap (λ (o : Option (ℕ × ℕ)). second o) e in rw (sym m) h
-  where
-    second : Option (ℕ × ℕ) → ℕ
-    second (Some q) = q.1
-    second None = 0
-wanted-length (Complete texts) q h e = cc
-wanted-length (Broken x) q h e = cc
-
 module _ (P : Policy) (F : Figures) (S : Script) (K : List Event) (w : ℕ) (own : List What) (s : Session) (k : Knows P F own s) where
   bytes-fit : (c : Captured) (m : ℕ) (q : ℕ × ℕ) → wanted (continued c []) ≡ Some q → 1 ≤ q.1 → FitsPiece (Reading c) (bytes_read S K m q.0 q.1)
   bytes-fit c m q e l = elim (cases_Bool (is_mapped S.map q.0)) [
-    | inl h ↦ rw (h, e) (at-least S K m q.0 q.1 h l, at-most S K m q.0 q.1)
+    | inl h ↦ rw (h, e) (at_least S K m q.0 q.1 h l, at_most S K m q.0 q.1)
     | inr h ↦ rw (h, e) (tt, refl)
   ]
 
@@ -65,7 +42,7 @@ module _ (P : Policy) (F : Figures) (S : Script) (K : List Event) (w : ℕ) (own
 
   -- a piece is read, or the second check is made
   piece-fits : (c : Captured) (o : Option (ℕ × ℕ)) → s.arguments ≡ Reading c → wanted (continued c []) ≡ o → IsWanting (continued c []) → s.checks ≡ 1 → FitsSession s (deed_step (system_of S) K w (piece_deed s o))
-  piece-fits c (Some q) a e h one = rw a (read-fits c (mem K w) q e (wanted-length (continued c []) q h e))
+  piece-fits c (Some q) a e h one = rw a (read-fits c (mem K w) q e (wanted_some (continued c []) q h e))
   piece-fits c None a e h one = rw a (inr (one, e))
 
   act-fits : (o : Option (Result (Unit {0}) ℕ)) (x : ℕ) (d : Deed) → FitsSession s (deed_step (system_of S) K w d) → FitsSession s (deed_step (system_of S) K w (after_act x o d))

@@ -3,7 +3,7 @@ use Rattle.std.proofs.Common.{inl, inr, ◌≡◌, ℕ, ◌+◌, ◌-◌, ◌%�
 use Rattle.std.specs.Prelude.{Result, Ok, Err, ℤ, pos, negsuc, nat_le, nat_lt, ◌==◌, if◌then◌else◌, min}
 use Rattle.std.proofs.lemmas.Bool.{cases_Bool}
 use Rattle.std.proofs.lemmas.Bool.Decides.{nat_tests}
-use Rattle.hist_model.specs.Copies.{Reading, Asks, Whole, Fails, Progress, Wants, Complete, Faulty, further, piece, has_zero, begun_with, text_goes_on, text_piece, read_text, value_piece, read_value, read_sized, read_part, progress_with, progress_after, progress, plan, path_at, option_at, name_at, arg}
+use Rattle.hist_model.specs.Copies.{Reading, Asks, Whole, Fails, Progress, Wants, Complete, Faulty, further, piece, has_zero, begun_with, text_goes_on, text_piece, read_text, value_piece, read_value, read_sized, read_part, progress_with, progress_after, progress, wanted, plan, path_at, option_at, name_at, arg}
 use Rattle.hist_model.specs.declared.copy.Part.{Part}
 use Rattle.hist_model.specs.declared.copy.Part.TheVariants.{Text, Value}
 
@@ -104,3 +104,13 @@ plan-sound (negsuc nr) args = tt
 -- no piece of a call's arguments is empty
 pub piece_wanted : (nr : ℤ) (args : List ℕ) (answers : List (Result (List ℕ) ℕ)) → IsWanting (progress (plan nr args) answers)
 piece_wanted nr args answers = wants-some (plan nr args) answers (plan-sound nr args)
+
+-- the piece that is wanted, where none is empty
+pub wanted_some : (p : Progress) (q : ℕ × ℕ) → IsWanting p → wanted p ≡ Some q → 1 ≤ q.1
+wanted_some (Wants a n) q h e = let m : n ≡ q.1 = ap (λ (o : Option (ℕ × ℕ)). second o) e in rw (sym m) h
+  where
+    second : Option (ℕ × ℕ) → ℕ
+    second (Some q) = q.1
+    second None = 0
+wanted_some (Complete texts) q h e = cc
+wanted_some (Faulty x) q h e = cc
