@@ -1,5 +1,5 @@
 -- What the program's answer means: what it read, what it wrote, and why it stopped.
-use Rattle.std.specs.Prelude.{◌≡◌, ℕ, ◌<◌, ◌+◌, ◌++◌, ◌∷◌, [], true, List, length, Option, Some, None, ◌⊎◌, codes}
+use Rattle.std.specs.Prelude.{◌≡◌, ℕ, ◌<◌, ◌≤◌, ◌++◌, ◌∷◌, [], true, List, length, Option, Some, None, Result, Ok, Err, ◌⊎◌}
 use Rattle.hist_model.specs.FirstPath.{policy_of, script_of}
 use Rattle.hist_model.specs.Legal.{played}
 use Rattle.hist_model.specs.Report.{report}
@@ -38,6 +38,13 @@ TookPrefix files policy script old new = (P : Policy) × (S : Script) × AreRead
 -- the sink took the whole report
 abbrev pub TookReport : FileState → List ℕ → List ℕ → SinkState → SinkState → Type 0
 TookReport files policy script old new = (P : Policy) × (S : Script) × AreRead files policy script P S × (old.tells ≡ true → new.taken ≡ old.taken ++ report_of P S)
+
+-- what a play of a policy and a script wrote
+abbrev pub Reported : Policy → Script → SinkState → SinkState → Result (Unit {0}) Status → Type 0
+Reported P S old new (Ok u) = old.tells ≡ true → new.taken ≡ old.taken ++ report_of P S
+Reported P S old new (Err WriteFault) = Rose old.faults new.faults × (old.tells ≡ true → AddsPrefix old.taken (report_of P S) new.taken)
+Reported P S old new (Err NoMemory) = old.tells ≡ true → AddsPrefix old.taken (report_of P S) new.taken
+Reported P S old new (Err status) = ⊥
 
 -- the file has more bytes than are read, or they are none of the texts that are built
 abbrev pub IsUnbuilt : {A : Type 0} → (List ℕ → Option A) → Option (List ℕ) → Type 0
@@ -87,3 +94,15 @@ abbrev pub Answers : Option Form → FileState → FileState → SinkState → S
 Answers None files after old new status = IsUsage status × TookNothing old new
 Answers (Some (Play policy script)) files after old new status = PlayEnds files after old new policy script status
 Answers (Some form) files after old new status = IsUnbuiltCommand status × TookNothing old new
+
+-- the status that an outcome is
+abbrev pub status_of : Result (Unit {0}) Status → Status
+status_of (Ok u) = Done
+status_of (Err status) = status
+
+-- standard error took the whole line, and nothing where it is empty, or its count of faults rose, and it took a prefix of the line
+pub record Said (old : SinkState) (line : List ℕ) (new : SinkState) : Type 0 where
+  pub tells : new.tells ≡ old.tells
+  pub faults : old.faults ≤ new.faults
+  pub whole : Rose old.faults new.faults ⊎ (old.tells ≡ true → new.taken ≡ old.taken ++ line)
+  pub part : old.tells ≡ true → AddsPrefix old.taken line new.taken

@@ -1,0 +1,50 @@
+-- How a play ends.
+use Rattle.std.proofs.Common.{◌≡◌, ℕ, true, List, ◌++◌, ◌∙◌, ap, refl, sym}
+use Rattle.std.specs.Prelude.{Result, Ok, Err}
+use Rattle.hist_model.specs.Legal.{played}
+use Rattle.hist_model.specs.Report.{report}
+use Rattle.hist_model.specs.ReportAudit.{judging_by}
+use Rattle.hist_model.specs.declared.event.Event.{Event}
+use Rattle.hist_model.specs.declared.policy.Policy.{Policy}
+use Rattle.hist_model.specs.declared.script.Script.{Script}
+use Rattle.io_edge.specs.SinkState.{SinkState, AddsPrefix}
+use Rattle.audit_log.proofs.Writing.{adds_nothing, wrote_front, wrote_more}
+use Rattle.audit_log.specs.Written.{Wrote}
+use Rattle.audit_log.specs.declared.error.ReportError.{ReportError}
+use Rattle.audit_log.specs.declared.error.ReportError.TheVariants.{WriteFault, NoMemory}
+use Rattle.broker_app.specs.Answers.{Reported, report_of}
+use Rattle.broker_app.specs.Lines.{status_of_report}
+use Rattle.broker_app.specs.declared.status.Status.{Status}
+use Rattle.broker_app.specs.declared.status.Status.TheVariants.{NoMemory as OutOfMemory}
+
+-- a part that failed ends what it is a part of
+pub wrote_stopped : (old new : SinkState) (a b : List ℕ) (e : ReportError) (r : Result (Unit {0}) ReportError) → r ≡ Err e → Wrote old a (Err e) new → Wrote old (a ++ b) r new
+wrote_stopped old new a b e r is w = rw is (wrote_front old new a b e w)
+
+-- a part was written after another, and its text is this one
+pub wrote_next : (old mid new : SinkState) (a b same : List ℕ) (r : Result (Unit {0}) ReportError) → b ≡ same → Wrote old a (Ok tt) mid → Wrote mid b r new → Wrote old (a ++ same) r new
+wrote_next old mid new a b same r is f g = rw (sym is) (wrote_more old mid new a b r f g)
+
+-- a text that is this one was written whole
+told_whole : (text same : List ℕ) (old new : SinkState) → text ≡ same → Wrote old text (Ok tt) new → old.tells ≡ true → new.taken ≡ old.taken ++ same
+told_whole text same old new e w t = w.whole t ∙ ap (λ xs. old.taken ++ xs) e
+
+-- a prefix of it was written
+told_part : (text same : List ℕ) (x : ReportError) (old new : SinkState) → text ≡ same → Wrote old text (Err x) new → old.tells ≡ true → AddsPrefix old.taken same new.taken
+told_part text same x old new e w t = rw (sym e) (w.part t)
+
+same_report : (P : Policy) (K L : List Event) → K ≡ L → report (judging_by P.rules) K ≡ report (judging_by P.rules) L
+same_report P K L e = ap (λ xs. report (judging_by P.rules) xs) e
+
+-- the whole report was written
+pub ends_written : (P : Policy) (S : Script) (K : List Event) (old new : SinkState) → K ≡ played P S → Wrote old (report (judging_by P.rules) K) (Ok tt) new → Reported P S old new (Ok tt)
+ends_written P S K old new e w = told_whole _ _ old new (same_report P K (played P S) e) w
+
+-- a part of it was
+pub ends_cut : (P : Policy) (S : Script) (K : List Event) (old new : SinkState) (x : ReportError) → K ≡ played P S → Wrote old (report (judging_by P.rules) K) (Err x) new → Reported P S old new (Err (status_of_report x))
+ends_cut P S K old new WriteFault e w = (w.cause refl, told_part _ _ WriteFault old new (same_report P K (played P S) e) w)
+ends_cut P S K old new NoMemory e w = told_part _ _ NoMemory old new (same_report P K (played P S) e) w
+
+-- nothing was, for want of memory
+pub ends_unplayed : (P : Policy) (S : Script) (old : SinkState) → Reported P S old old (Err OutOfMemory)
+ends_unplayed P S old = λ t. adds_nothing old.taken (report_of P S)

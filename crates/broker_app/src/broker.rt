@@ -1,0 +1,194 @@
+//! The top call.
+
+ghost use Rattle.std.specs.Prelude.{◌≡◌, ◌++◌, true, Some, None, IfOk, IfErr, Err};
+ghost use Rattle.hist_model.specs.Legal.{played};
+ghost use Rattle.hist_model.specs.Report.{report};
+ghost use Rattle.hist_model.specs.ReportJournal.{journal};
+ghost use Rattle.hist_model.specs.ReportCalls.{calls};
+ghost use Rattle.hist_model.specs.ReportAudit.{judging_by, audit};
+ghost use Rattle.hist_model.specs.Words.{form};
+ghost use Rattle.io_edge.specs.Faults.{Rose};
+ghost use Rattle.io_edge.specs.FileState.{SameFiles};
+ghost use Rattle.audit_log.specs.Written.{Wrote};
+ghost use Rattle.plain_play.specs.Playable.{IsPlayable};
+ghost use Rattle.broker_app.specs.Forms.{texts};
+ghost use Rattle.broker_app.specs.Inputs.{policy_in, script_in};
+ghost use Rattle.broker_app.specs.Answers.{PolicyRefused, ScriptRefused, Reported, PlayEnds, Answers, Said, status_of};
+ghost use Rattle.broker_app.specs.Lines.{line_of};
+ghost use Rattle.broker_app.specs.declared.status.InputFile.TheVariants.{Policy as PolicyFile, Script as ScriptFile};
+ghost use Rattle.broker_app.specs.declared.status.Status.TheVariants.{ReadFault};
+
+use crate::inputs::{policy_of, script_of};
+use crate::status::{InputFile, Status, Unbuilt};
+use crate::words::{Form, read_form};
+use audit_log::audit::write_audit;
+use audit_log::calls::write_calls;
+use audit_log::error::ReportError;
+use audit_log::journal::write_journal;
+use audit_log::summary::write_summary;
+use hist_model::history::History;
+use hist_model::policy::Policy;
+use hist_model::script::Script;
+use io_edge::files::Files;
+use io_edge::sink::Sink;
+use io_edge::whole::{ReadAllError, read_all};
+use plain_play::machine::play;
+use policy_judge::PolicyJudge;
+use std::alloc::Global;
+
+/// How many bytes of a policy or a script are read at most.
+const INPUT_LIMIT: u64 = 4096;
+
+/// Reads the policy of this name.
+fn read_policy<F: Files>(alloc: Global, files: &mut F, name: &str) -> Result<Policy, Status>
+    ensures same { SameFiles (F.state files.old) (F.state files.new) }
+    ensures read { IfOk result (λ p. (F.state files.old).tells ≡ true → policy_in (F.state files.old) name.now ≡ Some p) }
+    ensures refused { IfErr result (λ s. PolicyRefused (F.state files.old) (F.state files.new) name.now s) }
+    ensures absent { (F.state files.old).sound ≡ true → (F.state files.old).bytes name.now ≡ None → result ≡ Err (ReadFault PolicyFile) }
+{
+    let mut bytes = Vec::new(alloc);
+    match read_all(files, name, INPUT_LIMIT, &mut bytes) {
+        Err(ReadAllError::ReadFault) => return Err(Status::ReadFault(InputFile::Policy)),
+        Err(ReadAllError::TooLong) => return Err(Status::NotBuilt(Unbuilt::Policy)),
+        Err(ReadAllError::NoMemory) => return Err(Status::NoMemory),
+        Ok(()) => {}
+    }
+    match policy_of(alloc, bytes.as_slice()) {
+        Ok(Some(policy)) => Ok(policy),
+        Ok(None) => Err(Status::NotBuilt(Unbuilt::Policy)),
+        Err(_) => Err(Status::NoMemory),
+    }
+}
+
+/// Reads the script of this name.
+fn read_script<F: Files>(alloc: Global, files: &mut F, name: &str) -> Result<Script, Status>
+    ensures same { SameFiles (F.state files.old) (F.state files.new) }
+    ensures read { IfOk result (λ s. (F.state files.old).tells ≡ true → script_in (F.state files.old) name.now ≡ Some s) }
+    ensures playable { IfOk result IsPlayable }
+    ensures refused { IfErr result (λ s. ScriptRefused (F.state files.old) (F.state files.new) name.now s) }
+    ensures absent { (F.state files.old).sound ≡ true → (F.state files.old).bytes name.now ≡ None → result ≡ Err (ReadFault ScriptFile) }
+{
+    let mut bytes = Vec::new(alloc);
+    match read_all(files, name, INPUT_LIMIT, &mut bytes) {
+        Err(ReadAllError::ReadFault) => return Err(Status::ReadFault(InputFile::Script)),
+        Err(ReadAllError::TooLong) => return Err(Status::NotBuilt(Unbuilt::Script)),
+        Err(ReadAllError::NoMemory) => return Err(Status::NoMemory),
+        Ok(()) => {}
+    }
+    match script_of(alloc, bytes.as_slice()) {
+        Ok(Some(script)) => Ok(script),
+        Ok(None) => Err(Status::NotBuilt(Unbuilt::Script)),
+        Err(_) => Err(Status::NoMemory),
+    }
+}
+
+/// Writes the journal and the calls.
+fn write_events<O: Sink>(alloc: Global, history: &History, out: &mut O) -> Result<(), ReportError>
+    ensures { Wrote (O.state out.old) (journal history.now.events ++ calls history.now.events) result (O.state out.new) }
+{
+    write_journal(alloc, history, out)?;
+    write_calls(alloc, history, out)
+}
+
+/// Writes the journal, the calls and the audit.
+fn write_sessions<O: Sink>(
+    alloc: Global,
+    policy: &Policy,
+    history: &History,
+    out: &mut O,
+) -> Result<(), ReportError>
+    ensures { Wrote (O.state out.old) (journal history.now.events ++ calls history.now.events ++ audit (judging_by policy.now.rules) history.now.events) result (O.state out.new) }
+{
+    write_events(alloc, history, out)?;
+    write_audit(alloc, &PolicyJudge::new(policy), history, out)
+}
+
+/// Writes the report.
+fn write_report<O: Sink>(
+    alloc: Global,
+    policy: &Policy,
+    history: &History,
+    out: &mut O,
+) -> Result<(), ReportError>
+    ensures { Wrote (O.state out.old) (report (judging_by policy.now.rules) history.now.events) result (O.state out.new) }
+{
+    write_sessions(alloc, policy, history, out)?;
+    write_summary(alloc, &PolicyJudge::new(policy), history, out)
+}
+
+/// Plays a script under a policy and writes the report.
+#[tactic(auto, using(crate::proofs::Ends::ends_written, crate::proofs::Ends::ends_cut, crate::proofs::Ends::ends_unplayed))]
+fn report_play<O: Sink>(
+    alloc: Global,
+    policy: &Policy,
+    script: &Script,
+    out: &mut O,
+) -> Result<(), Status>
+    requires { IsPlayable script.now }
+    ensures { Reported policy.now script.now (O.state out.old) (O.state out.new) result }
+{
+    let history = play(alloc, policy, script)?;
+    write_report(alloc, policy, &history, out)?;
+    Ok(())
+}
+
+/// Plays the script of a file under the policy of another, and writes the report.
+fn play_files<F: Files, O: Sink>(
+    alloc: Global,
+    files: &mut F,
+    policy: &str,
+    script: &str,
+    out: &mut O,
+) -> Result<(), Status>
+    ensures ends { PlayEnds (F.state files.old) (F.state files.new) (O.state out.old) (O.state out.new) policy.now script.now (status_of result) }
+    ensures absent { (F.state files.old).sound ≡ true → (F.state files.old).bytes policy.now ≡ None → result ≡ Err (ReadFault PolicyFile) }
+{
+    let policy = read_policy(alloc, files, policy)?;
+    let script = read_script(alloc, files, script)?;
+    report_play(alloc, &policy, &script, out)
+}
+
+/// Does what the words ask for.
+fn answer<F: Files, O: Sink>(
+    alloc: Global,
+    words: &[String],
+    files: &mut F,
+    out: &mut O,
+) -> Result<(), Status>
+    ensures { Answers (form (texts words.now)) (F.state files.old) (F.state files.new) (O.state out.old) (O.state out.new) (status_of result) }
+{
+    match read_form(words) {
+        None => Err(Status::Usage),
+        Some(Form::Play { policy, script }) => play_files(alloc, files, policy, script, out),
+        Some(_) => Err(Status::NotBuilt(Unbuilt::Command)),
+    }
+}
+
+/// Does what the words ask for, and says on `err` why it didn't, in one line.
+pub fn broker<F: Files, O: Sink, E: Sink>(
+    alloc: Global,
+    words: &[String],
+    files: &mut F,
+    out: &mut O,
+    err: &mut E,
+) -> Status
+    ensures answers { Answers (form (texts words.now)) (F.state files.old) (F.state files.new) (O.state out.old) (O.state out.new) result }
+    ensures said { Said (E.state err.old) (line_of result) (E.state err.new) }
+{
+    let status = match answer(alloc, words, files, out) {
+        Ok(()) => Status::Done,
+        Err(status) => status,
+    };
+    say(status.line(), err);
+    status
+}
+
+/// Says a line. Whether it could be written changes nothing of the answer.
+fn say<E: Sink>(line: &[u8], err: &mut E)
+    ensures { Said (E.state err.old) line.now (E.state err.new) }
+{
+    if line.is_empty() {
+        return;
+    }
+    let _ = err.write(line);
+}
