@@ -4,4 +4,6 @@
 pub mod broker;
 pub mod inputs;
 pub mod status;
+#[cfg(test)]
+mod tests;
 pub mod words;
