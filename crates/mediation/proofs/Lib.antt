@@ -38,3 +38,4 @@ pub mod Heard
 pub mod Audited
 pub mod Refusals
 pub mod Sessions
+pub mod Played

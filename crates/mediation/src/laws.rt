@@ -10,19 +10,25 @@ ghost use Rattle.hist_model.specs.Steps.{IsLegal};
 ghost use Rattle.hist_model.specs.Laws.{CallsAreLast, PidsDiffer, AnsweredOnce, CountIs};
 ghost use Rattle.hist_model.specs.Settlers.{InstallsOwn, ResumesOwn, ReturnsInstalled};
 ghost use Rattle.hist_model.specs.Orders.{InOrder};
-ghost use Rattle.hist_model.specs.Legal.{Legal};
+ghost use Rattle.hist_model.specs.Legal.{Legal, played};
 ghost use Rattle.hist_model.specs.declared.policy.Policy.{Policy};
 ghost use Rattle.hist_model.specs.declared.script.Script.{Script};
 ghost use Rattle.hist_model.specs.Mediated.{Mediated, Each, TakenByItsActor, NamesOwn, NeverBusy, ErrorsKnown, LostIfGone, HasCause};
 ghost use Rattle.mediation.specs.Journals.{actors, IsLegalByPlace};
 ghost use Rattle.mediation.specs.Facts.{CallIdsDiffer, NamesDiffer, HandlesOwn, SessionsSettle, StaysFinished};
 ghost use Rattle.mediation.specs.Frames.{Frame};
+ghost use Rattle.mediation.specs.Scheduled.{AllScheduled};
 
 /// Every legal history is mediated: each notification is answered at most once; each reply or descriptor reaches the
 /// waiting call that it was meant for, or nobody; each effect is what the policy grants on one copy of its call's arguments
 /// found valid afterwards; each answer has its cause; and a passed call runs without the broker's rights.
 pub fn legal_is_mediated()
     ensures { (P : Policy) (S : Script) (K : List Event) → Legal P S K → Mediated P S K }
+{}
+
+/// The history that a schedule of tasks and workers plays is legal, and so mediated.
+pub fn played_is_legal()
+    ensures { (P : Policy) (S : Script) → AllScheduled S.schedule → length (played P S) < 2 ^ 64 → Legal P S (played P S) }
 {}
 
 /// Two calls have different ids, whether listed or not.
