@@ -2,6 +2,7 @@
 use Rattle.std.specs.Prelude.{◌≡◌, ℕ, ◌<◌, ◌≤◌, ◌++◌, ◌∷◌, [], true, List, length, Option, Some, None, Result, Ok, Err, ◌⊎◌}
 use Rattle.hist_model.specs.FirstPath.{policy_of, script_of}
 use Rattle.hist_model.specs.Legal.{played}
+use Rattle.hist_model.specs.Mediated.{Mediated}
 use Rattle.hist_model.specs.Report.{report}
 use Rattle.hist_model.specs.ReportAudit.{judging_by}
 use Rattle.hist_model.specs.Words.{Form, Play, form}
@@ -22,10 +23,11 @@ use Rattle.broker_app.specs.declared.status.Status.TheVariants.{Done, Usage, Rea
 abbrev pub report_of : Policy → Script → List ℕ
 report_of P S = report (judging_by P.rules) (played P S)
 
--- these are the policy and the script of the named files, where the files tell their bytes
+-- these are the policy and the script of the named files, where the files tell their bytes, and what they play is mediated
 pub record AreRead (files : FileState) (policy script : List ℕ) (P : Policy) (S : Script) : Type 0 where
   pub policy_is : files.tells ≡ true → policy_in files policy ≡ Some P
   pub script_is : files.tells ≡ true → script_in files script ≡ Some S
+  pub mediated : Mediated P S (played P S)
 
 -- the sink took nothing
 abbrev pub TookNothing : SinkState → SinkState → Type 0

@@ -2,6 +2,8 @@
 
 ghost use Rattle.std.specs.Prelude.{◌≡◌, ◌++◌, true, Some, None, IfOk, IfErr, Err};
 ghost use Rattle.hist_model.specs.Legal.{played};
+ghost use Rattle.hist_model.specs.Mediated.{Mediated};
+ghost use Rattle.hist_model.specs.declared.policy.Policy.{Policy};
 ghost use Rattle.hist_model.specs.Report.{report};
 ghost use Rattle.hist_model.specs.ReportJournal.{journal};
 ghost use Rattle.hist_model.specs.ReportCalls.{calls};
@@ -61,10 +63,12 @@ fn read_policy<F: Files>(alloc: Global, files: &mut F, name: &str) -> Result<Pol
 }
 
 /// Reads the script of this name.
+#[tactic(auto, using(crate::proofs::Mediates::built_is_mediated))]
 fn read_script<F: Files>(alloc: Global, files: &mut F, name: &str) -> Result<Script, Status>
     ensures same { SameFiles (F.state files.old) (F.state files.new) }
     ensures read { IfOk result (λ s. (F.state files.old).tells ≡ true → script_in (F.state files.old) name.now ≡ Some s) }
     ensures playable { IfOk result IsPlayable }
+    ensures mediated { IfOk result (λ s. (P : Policy) → Mediated P s (played P s)) }
     ensures refused { IfErr result (λ s. ScriptRefused (F.state files.old) (F.state files.new) name.now s) }
     ensures absent { (F.state files.old).sound ≡ true → (F.state files.old).bytes name.now ≡ None → result ≡ Err (ReadFault ScriptFile) }
 {
