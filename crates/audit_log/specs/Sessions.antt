@@ -1,7 +1,9 @@
 -- What is kept of a session while its steps are gone through.
 use Rattle.std.specs.Prelude.{Bool, true, false, ◌&&◌, ◌||◌, if◌then◌else◌, List, None}
 use Rattle.std.specs.List.{list_any}
-use Rattle.hist_model.specs.ReportAudit.{is_gone, is_good_check, is_let_go, is_lost, is_sent, is_shut, is_spent, back_in, or_back, sent_back, checked_twice}
+use Rattle.hist_model.specs.Orders.{is_good_check}
+use Rattle.hist_model.specs.Sessions.{is_letgo}
+use Rattle.hist_model.specs.ReportAudit.{is_gone, misses_call, is_sent, is_shut, is_spent, back_in, or_back, sent_back, checked_twice}
 use Rattle.hist_model.specs.declared.event.What.{What}
 use Rattle.audit_log.specs.declared.session.Facts.{Facts}
 
@@ -18,20 +20,20 @@ facts_of own = record {
   checked_twice = checked_twice own;
   spent = list_any is_spent own;
   sent = list_any is_sent own;
-  lost = list_any is_lost own;
+  lost = list_any misses_call own;
   back = sent_back own;
 }
 
 -- with one more step
 abbrev pub facts_with : Facts → What → Facts
 facts_with f a = record {
-  shut = is_let_go a;
+  shut = is_letgo a;
   gone = is_gone a || f.gone;
   checked = is_good_check a || f.checked;
   checked_twice = (is_good_check a && f.checked) || f.checked_twice;
   spent = is_spent a || f.spent;
   sent = is_sent a || f.sent;
-  lost = is_lost a || f.lost;
+  lost = misses_call a || f.lost;
   back = or_back (back_in a) f.back;
 }
 

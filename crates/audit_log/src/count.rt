@@ -1,9 +1,10 @@
 //! Counts of events, and of what sessions came to.
 
 ghost use Rattle.std.specs.Prelude.{◌≡◌, count_by, reverse};
-ghost use Rattle.hist_model.specs.ReportCalls.{enters};
+ghost use Rattle.hist_model.specs.Calls.{notifies};
+ghost use Rattle.hist_model.specs.Memory.{enters};
 ghost use Rattle.hist_model.specs.ReportAudit.{begins};
-ghost use Rattle.hist_model.specs.Report.{denies, faults, grants, injects, is_answer, is_gone_session, is_listed, loses, passes};
+ghost use Rattle.hist_model.specs.Report.{denies, faults, grants, injects, is_answer, is_gone_session, loses, passes};
 
 use hist_model::event::{Actor, Entered, Event, What};
 use hist_model::report::{Arrival, Audit, Finding};
@@ -23,8 +24,8 @@ pub(crate) fn entered(events: &[Event]) -> usize
 }
 
 /// Whether the step enters a call that is listed.
-fn is_listed(what: &What) -> bool
-    ensures { result ≡ is_listed what.now }
+fn notifies(what: &What) -> bool
+    ensures { result ≡ notifies what.now }
 {
     matches!(
         what,
@@ -37,9 +38,9 @@ fn is_listed(what: &What) -> bool
 
 /// How many calls were listed.
 pub(crate) fn notified(events: &[Event]) -> usize
-    ensures { result ≡ count_by (λ e. is_listed e.what) (reverse events.now) }
+    ensures { result ≡ count_by (λ e. notifies e.what) (reverse events.now) }
 {
-    events.iter().filter(|event| is_listed(&event.what)).count()
+    events.iter().filter(|event| notifies(&event.what)).count()
 }
 
 /// Whether the step answers a call: a send that was taken, or an installation that gave a number.

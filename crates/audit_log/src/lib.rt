@@ -4,7 +4,7 @@
 //! line, one write for each; after any error the sink took a prefix of that part.
 //!
 //! Below stand the plain types and the definitions (`hist_model`) and the sinks (`io_edge`). Above stands the program, which
-//! writes the whole report of what it played, or its summary alone.
+//! writes the report of what it played.
 #![tactic(auto)]
 
 pub mod audit;

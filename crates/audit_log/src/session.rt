@@ -2,7 +2,9 @@
 
 ghost use Rattle.std.specs.Prelude.{◌≡◌, ◌<◌, ◌&&◌, IfSome, length, not, reverse};
 ghost use Rattle.hist_model.specs.Look.{is_worker};
-ghost use Rattle.hist_model.specs.ReportAudit.{call_with_id, installed, installed_at, is_gone, is_good_check, is_let_go, is_lost, is_notified, is_pending, is_sent, is_spent, back_in, number_given, number_step, session_at, skips};
+ghost use Rattle.hist_model.specs.Orders.{is_good_check};
+ghost use Rattle.hist_model.specs.Sessions.{is_letgo, skips};
+ghost use Rattle.hist_model.specs.ReportAudit.{call_with_id, installed, installed_at, is_gone, misses_call, is_notified, is_pending, is_sent, is_spent, back_in, number_given, number_step, session_at};
 ghost use Rattle.audit_log.specs.Sessions.{facts_after, facts_joined, facts_of, facts_with, no_facts};
 
 use crate::outcome::{outcome_step, same_task, task_numbers};
@@ -32,8 +34,8 @@ pub(crate) struct Facts {
 }
 
 /// Whether the step lets go of what was opened for a notification.
-pub fn is_let_go(what: &What) -> bool
-    ensures { result ≡ is_let_go what.now }
+pub fn is_letgo(what: &What) -> bool
+    ensures { result ≡ is_letgo what.now }
 {
     matches!(what, What::LetGo)
 }
@@ -84,8 +86,8 @@ fn is_spent(what: &What) -> bool
 }
 
 /// Whether the step reached no listed call.
-fn is_lost(what: &What) -> bool
-    ensures { result ≡ is_lost what.now }
+fn misses_call(what: &What) -> bool
+    ensures { result ≡ misses_call what.now }
 {
     match what {
         What::AddfdPut {
@@ -137,13 +139,13 @@ impl Facts {
     {
         let good = is_good_check(what);
         Facts {
-            shut: is_let_go(what),
+            shut: is_letgo(what),
             gone: is_gone(what) | self.gone,
             checked: good | self.checked,
             checked_twice: (good & self.checked) | self.checked_twice,
             spent: is_spent(what) | self.spent,
             sent: is_sent(what) | self.sent,
-            lost: is_lost(what) | self.lost,
+            lost: misses_call(what) | self.lost,
             back: back_in(what).or(self.back),
         }
     }

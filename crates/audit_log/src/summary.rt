@@ -1,8 +1,9 @@
 //! The summary: one line of counts.
 
 ghost use Rattle.std.specs.Prelude.{◌≡◌, ◌++◌, IfOk, OnOk, count_by, decimal, length, reverse};
-ghost use Rattle.hist_model.specs.ReportCalls.{enters};
-ghost use Rattle.hist_model.specs.Report.{audits, audits_by, counts_text, findings_text, is_answer, is_listed, summary};
+ghost use Rattle.hist_model.specs.Calls.{notifies};
+ghost use Rattle.hist_model.specs.Memory.{enters};
+ghost use Rattle.hist_model.specs.Report.{audits, audits_by, counts_text, findings_text, is_answer, summary};
 ghost use Rattle.audit_log.specs.Written.{Wrote};
 
 use crate::audit::audit_of;
@@ -92,7 +93,7 @@ fn push_audit<J: Judge>(
 fn push_counts(line: &mut Line, events: &[Event]) -> Result<(), NoMemory>
     ensures { OnOk result (line.new ≡ line.old ++ counts_text (length events.now)
         (count_by (λ e. enters e.what) (reverse events.now))
-        (count_by (λ e. is_listed e.what) (reverse events.now))
+        (count_by (λ e. notifies e.what) (reverse events.now))
         (count_by (λ e. is_answer e.what) (reverse events.now))) }
 {
     line.push("summary")?;

@@ -1,4 +1,14 @@
-//! The top call of the program.
+//! The top call of the program: from words and two files to a report, an exit status and a line on standard error.
+//!
+//! `broker::broker` reads the words (`words`), the policy and the script (`inputs`), plays, and writes the report to its
+//! output, one write a line. `status` has the exit statuses and their lines.
+//!
+//! It works over the traits of `io_edge`, so its contract tells for any files and outputs what each answer means: with
+//! status 0 the output took the report of the history that the policy and the script play, and that history is mediated;
+//! each other status has its cause. `specs/Answers.antt` states it.
+//!
+//! Below stand the play (`plain_play`), the report (`audit_log`, `policy_judge`) and the law (`mediation`). Above stands
+//! `main`, which hands the machine's files and outputs over.
 #![tactic(auto)]
 
 pub mod broker;

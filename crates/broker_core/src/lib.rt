@@ -1,4 +1,14 @@
-//! The machine of a worker.
+//! A worker of the broker: what it remembers of its notification, and what it does next (seccomp_unotify(2)).
+//!
+//! A worker receives a notification, opens its caller's memory and base, checks that the id is still valid, reads one
+//! copy of the arguments, judges the request by the policy, checks the id again, and only then acts and answers. It
+//! makes no call itself: `Worker::next` says which deed is due, and `Worker::took` takes note of what the kernel answered.
+//!
+//! Its model is the list of the session's own steps, the newest first (`specs/Remembered.antt`): `next` is the deed that
+//! `Sessions` of `hist_model` gives after these steps, and nothing else of the history is seen.
+//!
+//! Below stand the copy of the arguments (`arg_capture`), the requests and figures (`emu_request`, `emu_sysinfo`) and the
+//! decision (`policy_eval`). Above stands `plain_play`, which lets workers step in turn with tasks.
 #![tactic(auto)]
 
 pub mod deed;

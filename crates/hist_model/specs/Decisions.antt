@@ -3,6 +3,7 @@
 use Rattle.std.specs.Prelude.{ℕ, ◌+◌, Bool, true, false, ◌&&◌, not, if◌then◌else◌, ◌==◌, List, [], ◌∷◌, ◌++◌, map, Option, Some, None, option_map, slice_get, ℤ, pos, bit_and, bytes_eq, nat_eq, codes, decimal}
 use Rattle.std.specs.Ordering.{int_eq}
 use Rattle.std.specs.List.{list_any, list_all, slice_split, starts_with}
+use Rattle.hist_model.specs.Paths.{is_dot_dot}
 use Rattle.hist_model.specs.Requests.{call_of_request, granted, kind_of, major_of, minor_of}
 use Rattle.hist_model.specs.declared.policy.Calls.{Calls}
 use Rattle.hist_model.specs.declared.policy.Calls.TheVariants.{Named, Other as OtherCalls}
@@ -31,10 +32,6 @@ path_of (Mount source target fstype options via flags shift) = Some target
 path_of (SetXattr path name value flags) = Some path
 path_of (OpenAt dirfd path flags) = Some path
 path_of _ = None
-
--- the component is `..`
-abbrev pub is_dot_dot : List ℕ → Bool
-is_dot_dot component = bytes_eq component (46 ∷ 46 ∷ [])
 
 -- the path has a component `..` between its slashes
 abbrev pub has_dot_dot : List ℕ → Bool

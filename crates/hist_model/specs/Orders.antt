@@ -4,10 +4,12 @@ use Rattle.hist_model.specs.Sessions.{is_read, number_of}
 use Rattle.hist_model.specs.declared.event.What.{What}
 use Rattle.hist_model.specs.declared.event.What.TheVariants.{OpenMem, OpenBase, Check, Act, Plant, AddfdPut, Send}
 
+-- the step found the notification valid
 abbrev pub is_good_check : What → Bool
 is_good_check (Check x (Ok u)) = true
 is_good_check _ = false
 
+-- the step opens the caller's memory or its base
 abbrev pub is_opening : What → Bool
 is_opening (OpenMem p a) = true
 is_opening (OpenBase p d a) = true

@@ -2,7 +2,9 @@
 -- Of a list that no rules allow, each part tells what its definition makes of it.
 use Rattle.std.specs.Prelude.{ℕ, Bool, true, false, List, [], ◌∷◌, ◌++◌, length, Ok, codes, decimal, count_by}
 use Rattle.hist_model.specs.ReportJournal.{journal}
-use Rattle.hist_model.specs.ReportCalls.{calls, enters}
+use Rattle.hist_model.specs.Calls.{notifies}
+use Rattle.hist_model.specs.Memory.{enters}
+use Rattle.hist_model.specs.ReportCalls.{calls}
 use Rattle.hist_model.specs.ReportAudit.{Judging, audit, audit_of}
 use Rattle.hist_model.specs.declared.event.Actor.{Actor}
 use Rattle.hist_model.specs.declared.event.Actor.TheVariants.{Worker}
@@ -15,11 +17,6 @@ use Rattle.hist_model.specs.declared.report.Finding.TheVariants.{Gone, Fault, Sp
 use Rattle.hist_model.specs.declared.report.Arrival.{Arrival}
 use Rattle.hist_model.specs.declared.report.Arrival.TheVariants.{Lost}
 use Rattle.hist_model.specs.declared.report.Audit.{Audit}
-
--- the step enters a call that is listed
-abbrev pub is_listed : What → Bool
-is_listed (Enter nr args (Notify id)) = true
-is_listed _ = false
 
 -- the step answers a call: a send that was taken, or an installation that gave a number
 abbrev pub is_answer : What → Bool
@@ -82,7 +79,7 @@ findings_text found =
 -- the summary's line
 abbrev pub summary : Judging → List Event → List ℕ
 summary J H =
-    counts_text (length H) (count_by (λ e. enters e.what) H) (count_by (λ e. is_listed e.what) H) (count_by (λ e. is_answer e.what) H)
+    counts_text (length H) (count_by (λ e. enters e.what) H) (count_by (λ e. notifies e.what) H) (count_by (λ e. is_answer e.what) H)
     ++ findings_text (audits J H H)
 
 -- the whole report

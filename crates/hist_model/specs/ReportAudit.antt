@@ -3,6 +3,9 @@ use Rattle.std.specs.Prelude.{ℕ, Bool, true, false, ◌&&◌, ◌||◌, not, i
 use Rattle.std.specs.List.{list_any}
 use Rattle.sys_abi.specs.declared.wire.Notif.{Notif}
 use Rattle.hist_model.specs.Look.{Name, is_task, is_worker, task_name, event_at}
+use Rattle.hist_model.specs.Calls.{caller}
+use Rattle.hist_model.specs.Sessions.{skips, is_letgo}
+use Rattle.hist_model.specs.Orders.{is_good_check}
 use Rattle.hist_model.specs.Copies.{Progress, Wants, Complete, Faulty as Broken, plan, progress, heard}
 use Rattle.hist_model.specs.Requests.{request}
 use Rattle.hist_model.specs.Decisions.{decide, rule_name}
@@ -57,19 +60,10 @@ judging_by rules = record {
   name = rule_name rules;
 }
 
-abbrev pub skips : What → Bool
-skips Skip = true
-skips _ = false
-
--- the step lets go of what was opened for a notification
-abbrev pub is_let_go : What → Bool
-is_let_go LetGo = true
-is_let_go _ = false
-
 -- a session that hasn't begun, or that let go
 abbrev pub is_shut : List What → Bool
 is_shut [] = true
-is_shut (a ∷ own) = is_let_go a
+is_shut (a ∷ own) = is_letgo a
 
 -- one more step of a session; none before its first, and none after it let go
 abbrev pub joined : List What → What → List What
@@ -93,23 +87,18 @@ is_gone (OpenBase pid dirfd (Err e)) = e == 3
 is_gone (Check id (Err e)) = e == 2
 is_gone _ = false
 
--- the step found the notification valid
-abbrev pub is_good_check : What → Bool
-is_good_check (Check id (Ok u)) = true
-is_good_check _ = false
-
 -- the step was refused since its rule's times were spent
 abbrev pub is_spent : What → Bool
 is_spent (Act request cap (Err e)) = e == 122
 is_spent (Plant addr bytes cap (Err e)) = e == 122
 is_spent _ = false
 
--- the step reached no listed call
-abbrev pub is_lost : What → Bool
-is_lost (AddfdPut asked (Err e)) = e == 2
-is_lost (AddfdTake (Err e)) = e == 2
-is_lost (Send id back (Err e)) = e == 2
-is_lost _ = false
+-- the step should have reached a call, and its call is no longer listed
+abbrev pub misses_call : What → Bool
+misses_call (AddfdPut asked (Err e)) = e == 2
+misses_call (AddfdTake (Err e)) = e == 2
+misses_call (Send id back (Err e)) = e == 2
+misses_call _ = false
 
 -- the step sent an answer that was taken
 abbrev pub is_sent : What → Bool
@@ -169,14 +158,10 @@ unfoldable pub installed : Name → ℕ → List Event → Option ℕ
 installed n c [] = None
 installed n c (e ∷ K) = number_step (length K == c) (is_task e.who n && is_pending (outcome n c K)) e.what (installed n c K)
 
-abbrev pub actor_name : Option Event → Name
-actor_name (Some e) = task_name e.who
-actor_name None = []
-
 -- in the history H, the number that was installed for the call that was fetched after K
 abbrev pub installed_at : List Event → List Event → Option ℕ → Option ℕ
 installed_at H K None = None
-installed_at H K (Some c) = installed (actor_name (event_at K c)) c H
+installed_at H K (Some c) = installed (caller K c) c H
 
 abbrev pub finding_of_verdict : ℕ → Verdict → Finding
 finding_of_verdict i Grant = Granted i
@@ -218,7 +203,7 @@ arrival_of false true = Lost
 arrival_of false false = Unsent
 
 abbrev pub arrival : List What → Option ℕ → Arrival
-arrival own number = arrival_of (list_any is_sent own || is_some number) (list_any is_lost own)
+arrival own number = arrival_of (list_any is_sent own || is_some number) (list_any misses_call own)
 
 -- what a session with these steps came to, for whose call this number was installed
 abbrev pub audit_by : Judging → Notif → List What → Option ℕ → Audit

@@ -1,6 +1,7 @@
 -- The calls of a report: one line for each call that a task entered, with what came of it.
 use Rattle.std.specs.Prelude.{ℕ, Bool, true, false, if◌then◌else◌, ◌==◌, min, List, [], ◌∷◌, ◌++◌, length, Option, Some, None, Ok, Err, ℤ, pos, codes, decimal, count_by}
 use Rattle.std.specs.Fmt.{signed_decimal}
+use Rattle.hist_model.specs.Memory.{enters}
 use Rattle.hist_model.specs.Look.{Name, name_eq, is_task, task_name, or_else}
 use Rattle.hist_model.specs.ReportWords.{errno_text, call_text, actor_text}
 use Rattle.hist_model.specs.ReportJournal.{lines_of, title}
@@ -14,11 +15,6 @@ use Rattle.hist_model.specs.declared.event.Back.TheVariants.{Value, Fail}
 use Rattle.hist_model.specs.declared.event.Delivered.TheVariants.{End, Restart, Eintr}
 use Rattle.hist_model.specs.declared.report.Outcome.{Outcome}
 use Rattle.hist_model.specs.declared.report.Outcome.TheVariants.{Open, Returned, Failed, Restarted, Ended}
-
--- the step enters a call
-abbrev pub enters : What → Bool
-enters (Enter nr args verdict) = true
-enters _ = false
 
 -- what the filters alone make of a call (seccomp(2))
 abbrev pub outcome_of_verdict : Entered → Outcome

@@ -13,7 +13,7 @@ use Rattle.hist_model.specs.Copies.{Complete, plan, progress, heard}
 use Rattle.hist_model.specs.Requests.{request}
 use Rattle.hist_model.specs.Decisions.{decide}
 use Rattle.hist_model.specs.Legal.{copied, decision, system_of, rules_of}
-use Rattle.hist_model.specs.ReportAudit.{Judging, checked_twice, session_at, joined, is_gone, is_spent, reads, finding, finding_of, judging_by, judged_as, is_good_check as is_found_valid, skips as is_skipped}
+use Rattle.hist_model.specs.ReportAudit.{Judging, checked_twice, session_at, joined, is_gone, is_spent, reads, finding, finding_of, judging_by, judged_as}
 use Rattle.hist_model.specs.Mediated.{AuditNames}
 use Rattle.hist_model.specs.declared.event.Event.{Event}
 use Rattle.hist_model.specs.declared.event.Actor.{Actor}
@@ -39,10 +39,6 @@ use Rattle.mediation.proofs.Ordered.{ordered, used-two}
 use Rattle.mediation.proofs.InHand.{by-session}
 use Rattle.mediation.proofs.Heard.{reads-are, fit-reads, all-heard}
 
-skipped-same : (what : What) → is_skipped what ≡ skips what
-skipped-same Skip = refl
-skipped-same what = refl
-
 -- one more step of an open session
 joined-open : (own : List What) (a : What) (n : Notif) → notif_of own ≡ Some n → any_of is_letgo own ≡ false → joined own a ≡ a ∷ own
 joined-open [] a n h g = cc
@@ -57,16 +53,13 @@ at-more : (e : Event) (K : List Event) (w r : ℕ) → r < length K → is_worke
 unfolding session_at
 at-more e K w r l h g =
     let n : (length K ≡ r → ⊥) = omega arith in
-    let s : is_skipped e.what ≡ false = skipped-same e.what ∙ g in
-    rw (ne_eqb (length K) r n, h, s)
+    rw (ne_eqb (length K) r n, h, g)
 
 at-same : (e : Event) (K : List Event) (w r : ℕ) → r < length K → (is_worker e.who w && not (skips e.what)) ≡ false → session_at w r (e ∷ K) ≡ session_at w r K
 unfolding session_at
 at-same e K w r l h =
     let n : (length K ≡ r → ⊥) = omega arith in
-    let s = skipped-same e.what in
-    let q : (is_worker e.who w && not (is_skipped e.what)) ≡ false = rw s h in
-    rw (ne_eqb (length K) r n, q)
+    rw (ne_eqb (length K) r n, h)
 
 -- the receive with which the open session began
 pub record Began (K : List Event) (w : ℕ) : Type 0 where
@@ -248,24 +241,19 @@ none-gone : (own : List What) → any_of gives_up own ≡ false → list_any is_
 none-gone [] h = refl
 none-gone (a ∷ own) h = let p = or_parts (gives_up a) (any_of gives_up own) h in rw (gone-gives_up a p.0) (none-gone own p.1)
 
-valid-same : (a : What) → is_found_valid a ≡ is_good_check a
-valid-same (Check x (Ok u)) = refl
-valid-same (Check x (Err e)) = refl
-valid-same a = refl
-
-some-valid : (own : List What) → 1 ≤ number_of is_good_check own → list_any is_found_valid own ≡ true
+some-valid : (own : List What) → 1 ≤ number_of is_good_check own → list_any is_good_check own ≡ true
 some-valid [] h = absurd (omega arith)
 some-valid (a ∷ own) h = elim (cases_Bool (is_good_check a)) [
-  | inl q ↦ rw (valid-same a, q)
-  | inr q ↦ or_right (is_found_valid a) (list_any is_found_valid own) (some-valid own (rw q at h))
+  | inl q ↦ rw q
+  | inr q ↦ or_right (is_good_check a) (list_any is_good_check own) (some-valid own (rw q at h))
 ]
 
 -- two good checks are a good check after a good one
 twice-valid : (own : List What) → 2 ≤ number_of is_good_check own → checked_twice own ≡ true
 twice-valid [] h = absurd (omega arith)
 twice-valid (a ∷ own) h = elim (cases_Bool (is_good_check a)) [
-  | inl q ↦ let s = some-valid own (omega (arith, rest own (rw q at h))) in rw (valid-same a, q, s)
-  | inr q ↦ or_right (is_found_valid a && list_any is_found_valid own) (checked_twice own) (twice-valid own (rw q at h))
+  | inl q ↦ let s = some-valid own (omega (arith, rest own (rw q at h))) in rw (q, s)
+  | inr q ↦ or_right (is_good_check a && list_any is_good_check own) (checked_twice own) (twice-valid own (rw q at h))
 ]
   where
     rest : (own : List What) → 2 ≤ suc (number_of is_good_check own) → 1 ≤ number_of is_good_check own

@@ -20,7 +20,7 @@ use crate::copies::copy;
 use crate::files::Files;
 use crate::memory::all_mapped;
 use crate::outcomes::{answer, effect};
-use emu_request::request;
+use emu_request::{base_dirfd, request};
 use hist_model::event::{Event, What};
 use hist_model::request::{Node, NodeRef, Request, TreeOp};
 use hist_model::script::Script;
@@ -31,7 +31,6 @@ use path_walk::resolution::{Walk, resolve};
 use std::alloc::Global;
 use sys_abi::errno::Errno;
 use sys_abi::memory::NoMemory;
-use sys_abi::wire::AT_FDCWD;
 
 /// What a native call does.
 #[derive(Debug, Drop)]
@@ -54,18 +53,6 @@ fn low_32(argument: u64) -> u32
     ensures { result ≡ argument % 2 ^ 32 }
 {
     (argument % 0x1_0000_0000) as u32
-}
-
-/// The descriptor from which a call's relative paths go: AT_FDCWD for one without a descriptor, and none for one without paths.
-#[tactic(auto, unfolding(hist_model::specs::Requests::base_dirfd))]
-pub fn base_dirfd(nr: i32, args: &[u64; 6]) -> Option<i32>
-    ensures { result ≡ base_dirfd nr args.now }
-{
-    match nr {
-        133 | 165 | 188 => Some(AT_FDCWD),
-        257 | 259 => Some(low_32(args[0]).cast_signed()),
-        _ => None,
-    }
 }
 
 /// The operation makes a device.

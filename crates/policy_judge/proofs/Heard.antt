@@ -6,7 +6,8 @@ use Rattle.std.proofs.lemmas.Bool.Decides.{nat_tests}
 use Rattle.std.proofs.lemmas.List.{length-reverse, length-take}
 use Rattle.hist_model.specs.Look.{is_worker}
 use Rattle.hist_model.specs.Copies.{progress, wanted, fits_piece, heard, with_heard}
-use Rattle.hist_model.specs.ReportAudit.{session_at, session_step, is_shut, skips, reads}
+use Rattle.hist_model.specs.Sessions.{skips}
+use Rattle.hist_model.specs.ReportAudit.{session_at, session_step, is_shut, reads}
 use Rattle.hist_model.specs.declared.copy.Part.{Part}
 use Rattle.hist_model.specs.declared.event.Event.{Event}
 use Rattle.hist_model.specs.declared.event.What.{What}

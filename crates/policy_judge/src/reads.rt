@@ -9,7 +9,7 @@ ghost use Rattle.arg_capture.specs.Captures.{continued, Follows};
 ghost use Rattle.policy_judge.specs.Steps.{joins};
 
 use arg_capture::{Capture, Fault, Plan};
-use audit_log::session::{is_let_go, is_own};
+use audit_log::session::{is_letgo, is_own};
 use hist_model::event::{Event, What};
 use hist_model::text::Text;
 use std::alloc::Global;
@@ -79,7 +79,7 @@ pub(crate) fn read_in_session(
         let event = &events[place];
         if joins(place == first, is_own(event, worker), shut) {
             hear(&mut capture, &event.what)?;
-            shut = is_let_go(&event.what);
+            shut = is_letgo(&event.what);
         }
     }
     Ok(capture)

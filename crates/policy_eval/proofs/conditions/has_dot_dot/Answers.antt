@@ -1,7 +1,7 @@
 use Rattle.std.proofs.Common.{rules, tests, ◌==◌}
 use Rattle.std.proofs.lemmas.Iterator.Search.{any_from_yields_List}
 use Rattle.std.proofs.lemmas.Iterator.Splits.{YieldsList-from_slice_split}
-use Rattle.hist_model.specs.Decisions.{is_dot_dot}
+use Rattle.hist_model.specs.Paths.{is_dot_dot}
 use Rattle.policy_eval.proofs.conditions.has_dot_dot.Goals as goal
 
 -- src/conditions.rt:126:1
