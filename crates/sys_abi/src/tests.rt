@@ -5,7 +5,10 @@ use crate::device::{makedev, split_dev};
 use crate::errno::Errno;
 use crate::flags::{MountFlags, XattrFlags};
 use crate::memory::{NoMemory, OrNoMemory};
-use crate::wire::{AUDIT_ARCH_X86_64, Addfd, Notif, O_CLOEXEC, Resp, SeccompData, Sysinfo};
+use crate::wire::{
+    AUDIT_ARCH_X86_64, Addfd, Notif, O_CLOEXEC, Resp, SECCOMP_ADDFD_FLAG_SEND,
+    SECCOMP_ADDFD_FLAG_SETFD, SeccompData, Sysinfo,
+};
 use bitflags::Flags;
 use std::fmt::Write;
 use std::process::Abort;
@@ -105,7 +108,7 @@ fn refusals_show_their_cause(rt: HostRuntime) {
     assert_eq!(rt; text.as_str(), "no memory, 7, no memory");
 }
 
-/// A call of mknodat with a relative path, and its bytes by `linux/seccomp.h`.
+/// A call of mknodat with a relative path.
 const MKNODAT_CALL: SeccompData = SeccompData {
     nr: 259,
     arch: AUDIT_ARCH_X86_64,
@@ -113,159 +116,124 @@ const MKNODAT_CALL: SeccompData = SeccompData {
     args: [0xffffffffffffff9c, 0x10000, 0o020666, 259, 0, u64::MAX],
 };
 
-const MKNODAT_BYTES: [u8; 64] = [
-    0x03, 0x01, 0, 0, 0x3e, 0, 0, 0xc0, 0x05, 0x04, 0x03, 0x02, 0x01, 0x7f, 0, 0, 0x9c, 0xff, 0xff,
-    0xff, 0xff, 0xff, 0xff, 0xff, 0, 0, 1, 0, 0, 0, 0, 0, 0xb6, 0x21, 0, 0, 0, 0, 0, 0, 0x03, 0x01,
-    0, 0, 0, 0, 0, 0, 0, 0, 0, 0, 0, 0, 0, 0, 0xff, 0xff, 0xff, 0xff, 0xff, 0xff, 0xff, 0xff,
-];
+/// No call, at its extremes.
+const LEAST_CALL: SeccompData = SeccompData {
+    nr: i32::MIN,
+    arch: u32::MAX,
+    ip: 0,
+    args: [1, 2, 3, 4, 5, 6],
+};
 
 #[test]
 fn calls_lie_as_in_seccomp_data(rt: HostRuntime) {
-    check_call(&rt, MKNODAT_CALL, MKNODAT_BYTES);
-    let mut least = SeccompData {
-        nr: -1,
-        arch: 0,
-        ip: 0,
-        args: [0; 6],
-    };
-    let mut bytes = [0; 64];
-    bytes[0..4].copy_from_slice(&[0xff, 0xff, 0xff, 0xff]);
-    check_call(&rt, least, bytes);
-    least.nr = i32::MIN;
-    bytes[0..4].copy_from_slice(&[0, 0, 0, 0x80]);
-    check_call(&rt, least, bytes);
+    check_call(
+        &rt,
+        MKNODAT_CALL,
+        b"\x03\x01\0\0\x3e\0\0\xc0\x05\x04\x03\x02\x01\x7f\0\0\
+        \x9c\xff\xff\xff\xff\xff\xff\xff\0\0\x01\0\0\0\0\0\
+        \xb6\x21\0\0\0\0\0\0\x03\x01\0\0\0\0\0\0\
+        \0\0\0\0\0\0\0\0\xff\xff\xff\xff\xff\xff\xff\xff",
+    );
+    check_call(
+        &rt,
+        LEAST_CALL,
+        b"\0\0\0\x80\xff\xff\xff\xff\0\0\0\0\0\0\0\0\
+        \x01\0\0\0\0\0\0\0\x02\0\0\0\0\0\0\0\
+        \x03\0\0\0\0\0\0\0\x04\0\0\0\0\0\0\0\
+        \x05\0\0\0\0\0\0\0\x06\0\0\0\0\0\0\0",
+    );
 }
 
-fn check_call(rt: &impl Abort, call: SeccompData, bytes: [u8; 64]) {
-    assert_eq!(rt; &call.to_bytes()[..], &bytes[..]);
-    assert_eq!(rt; SeccompData::from_bytes(&bytes), call);
+fn check_call(rt: &impl Abort, call: SeccompData, bytes: &[u8; 64]) {
+    assert_eq!(rt; call.to_bytes().as_slice(), bytes.as_slice());
+    assert_eq!(rt; SeccompData::from_bytes(bytes), call);
 }
 
 #[test]
 fn notifications_lie_as_in_seccomp_notif(rt: HostRuntime) {
-    let heads = [
-        (
-            0x1122334455667788,
-            4242,
-            0,
-            [
-                0x88, 0x77, 0x66, 0x55, 0x44, 0x33, 0x22, 0x11, 0x92, 0x10, 0, 0, 0, 0, 0, 0,
-            ],
-        ),
-        (
-            u64::MAX,
-            1,
-            0x80000000,
-            [
-                0xff, 0xff, 0xff, 0xff, 0xff, 0xff, 0xff, 0xff, 1, 0, 0, 0, 0, 0, 0, 0x80,
-            ],
-        ),
-    ];
-    for (id, pid, flags, head) in heads {
-        let notif = Notif {
-            id,
-            pid,
-            flags,
-            call: MKNODAT_CALL,
-        };
-        let mut bytes = [0; 80];
-        bytes[0..16].copy_from_slice(&head);
-        bytes[16..80].copy_from_slice(&MKNODAT_BYTES);
-        assert_eq!(rt; &notif.to_bytes()[..], &bytes[..]);
-        assert_eq!(rt; Notif::from_bytes(&bytes), notif);
-    }
-}
-
-#[derive(Clone, Copy)]
-struct Answer {
-    resp: Resp,
-    bytes: [u8; 24],
+    let notif = Notif {
+        id: 0x1122334455667788,
+        pid: 4242,
+        flags: 0x80000000,
+        call: LEAST_CALL,
+    };
+    let bytes = b"\x88\x77\x66\x55\x44\x33\x22\x11\x92\x10\0\0\0\0\0\x80\
+        \0\0\0\x80\xff\xff\xff\xff\0\0\0\0\0\0\0\0\
+        \x01\0\0\0\0\0\0\0\x02\0\0\0\0\0\0\0\
+        \x03\0\0\0\0\0\0\0\x04\0\0\0\0\0\0\0\
+        \x05\0\0\0\0\0\0\0\x06\0\0\0\0\0\0\0";
+    assert_eq!(rt; notif.to_bytes().as_slice(), bytes.as_slice());
+    assert_eq!(rt; Notif::from_bytes(bytes), notif);
 }
 
 #[test]
 fn answers_lie_as_in_seccomp_notif_resp(rt: HostRuntime) {
-    let answers = [
-        Answer {
-            resp: Resp {
-                id: 0x0102030405060708,
-                val: 0,
-                error: -17,
-                flags: 0,
-            },
-            bytes: [
-                8, 7, 6, 5, 4, 3, 2, 1, 0, 0, 0, 0, 0, 0, 0, 0, 0xef, 0xff, 0xff, 0xff, 0, 0, 0, 0,
-            ],
+    check_resp(
+        &rt,
+        Resp {
+            id: 0x0102030405060708,
+            val: 0,
+            error: -17,
+            flags: 0,
         },
-        Answer {
-            resp: Resp {
-                id: u64::MAX,
-                val: -2,
-                error: i32::MAX,
-                flags: 1,
-            },
-            bytes: [
-                0xff, 0xff, 0xff, 0xff, 0xff, 0xff, 0xff, 0xff, 0xfe, 0xff, 0xff, 0xff, 0xff, 0xff,
-                0xff, 0xff, 0xff, 0xff, 0xff, 0x7f, 1, 0, 0, 0,
-            ],
+        b"\x08\x07\x06\x05\x04\x03\x02\x01\0\0\0\0\0\0\0\0\xef\xff\xff\xff\0\0\0\0",
+    );
+    check_resp(
+        &rt,
+        Resp {
+            id: u64::MAX,
+            val: -2,
+            error: i32::MAX,
+            flags: 1,
         },
-        Answer {
-            resp: Resp {
-                id: 0,
-                val: i64::MIN,
-                error: i32::MIN,
-                flags: u32::MAX,
-            },
-            bytes: [
-                0, 0, 0, 0, 0, 0, 0, 0, 0, 0, 0, 0, 0, 0, 0, 0x80, 0, 0, 0, 0x80, 0xff, 0xff, 0xff,
-                0xff,
-            ],
+        b"\xff\xff\xff\xff\xff\xff\xff\xff\xfe\xff\xff\xff\xff\xff\xff\xff\xff\xff\xff\x7f\x01\0\0\0",
+    );
+    check_resp(
+        &rt,
+        Resp {
+            id: 0,
+            val: i64::MIN,
+            error: i32::MIN,
+            flags: u32::MAX,
         },
-    ];
-    for answer in answers {
-        assert_eq!(rt; &answer.resp.to_bytes()[..], &answer.bytes[..]);
-        assert_eq!(rt; Resp::from_bytes(&answer.bytes), answer.resp);
-    }
+        b"\0\0\0\0\0\0\0\0\0\0\0\0\0\0\0\x80\0\0\0\x80\xff\xff\xff\xff",
+    );
 }
 
-#[derive(Clone, Copy)]
-struct Injection {
-    addfd: Addfd,
-    bytes: [u8; 24],
+fn check_resp(rt: &impl Abort, resp: Resp, bytes: &[u8; 24]) {
+    assert_eq!(rt; resp.to_bytes().as_slice(), bytes.as_slice());
+    assert_eq!(rt; Resp::from_bytes(bytes), resp);
 }
 
 #[test]
 fn injections_lie_as_in_seccomp_notif_addfd(rt: HostRuntime) {
-    let injections = [
-        Injection {
-            addfd: Addfd {
-                id: 7,
-                flags: 3,
-                srcfd: 5,
-                newfd: 0x12345678,
-                newfd_flags: O_CLOEXEC,
-            },
-            bytes: [
-                7, 0, 0, 0, 0, 0, 0, 0, 3, 0, 0, 0, 5, 0, 0, 0, 0x78, 0x56, 0x34, 0x12, 0, 0, 8, 0,
-            ],
+    check_addfd(
+        &rt,
+        Addfd {
+            id: 7,
+            flags: SECCOMP_ADDFD_FLAG_SETFD,
+            srcfd: 5,
+            newfd: 0x12345678,
+            newfd_flags: O_CLOEXEC,
         },
-        Injection {
-            addfd: Addfd {
-                id: 0x8000000000000000,
-                flags: 0,
-                srcfd: u32::MAX,
-                newfd: 0,
-                newfd_flags: 0,
-            },
-            bytes: [
-                0, 0, 0, 0, 0, 0, 0, 0x80, 0, 0, 0, 0, 0xff, 0xff, 0xff, 0xff, 0, 0, 0, 0, 0, 0, 0,
-                0,
-            ],
+        b"\x07\0\0\0\0\0\0\0\x01\0\0\0\x05\0\0\0\x78\x56\x34\x12\0\0\x08\0",
+    );
+    check_addfd(
+        &rt,
+        Addfd {
+            id: 0x8000000000000000,
+            flags: SECCOMP_ADDFD_FLAG_SEND,
+            srcfd: u32::MAX,
+            newfd: 0,
+            newfd_flags: 0,
         },
-    ];
-    for injection in injections {
-        assert_eq!(rt; &injection.addfd.to_bytes()[..], &injection.bytes[..]);
-        assert_eq!(rt; Addfd::from_bytes(&injection.bytes), injection.addfd);
-    }
+        b"\0\0\0\0\0\0\0\x80\x02\0\0\0\xff\xff\xff\xff\0\0\0\0\0\0\0\0",
+    );
+}
+
+fn check_addfd(rt: &impl Abort, addfd: Addfd, bytes: &[u8; 24]) {
+    assert_eq!(rt; addfd.to_bytes().as_slice(), bytes.as_slice());
+    assert_eq!(rt; Addfd::from_bytes(bytes), addfd);
 }
 
 #[test]
@@ -279,28 +247,19 @@ fn figures_lie_as_in_sysinfo(rt: HostRuntime) {
         bufferram: 0x0808,
         totalswap: 0x0909,
         freeswap: u64::MAX,
-        procs: 0xb0a,
+        procs: 0x0b0a,
         totalhigh: 0x0c0c,
         freehigh: 0x0d0d,
         mem_unit: 0x0e0f1011,
     };
-    let words = [
-        [1, 1, 0, 0, 0, 0, 0, 0],
-        [2, 2, 0, 0, 0, 0, 0, 0],
-        [3, 3, 0, 0, 0, 0, 0, 0],
-        [4, 4, 0, 0, 0, 0, 0, 0],
-        [5, 5, 0, 0, 0, 0, 0, 0],
-        [6, 6, 0, 0, 0, 0, 0, 0],
-        [7, 7, 0, 0, 0, 0, 0, 0],
-        [8, 8, 0, 0, 0, 0, 0, 0],
-        [9, 9, 0, 0, 0, 0, 0, 0],
-        [0xff, 0xff, 0xff, 0xff, 0xff, 0xff, 0xff, 0xff],
-        [0x0a, 0x0b, 0, 0, 0, 0, 0, 0],
-        [0x0c, 0x0c, 0, 0, 0, 0, 0, 0],
-        [0x0d, 0x0d, 0, 0, 0, 0, 0, 0],
-        [0x11, 0x10, 0x0f, 0x0e, 0, 0, 0, 0],
-    ];
-    assert_eq!(rt; &told.to_bytes()[..], words.as_flattened());
+    let bytes = b"\x01\x01\0\0\0\0\0\0\x02\x02\0\0\0\0\0\0\
+        \x03\x03\0\0\0\0\0\0\x04\x04\0\0\0\0\0\0\
+        \x05\x05\0\0\0\0\0\0\x06\x06\0\0\0\0\0\0\
+        \x07\x07\0\0\0\0\0\0\x08\x08\0\0\0\0\0\0\
+        \x09\x09\0\0\0\0\0\0\xff\xff\xff\xff\xff\xff\xff\xff\
+        \x0a\x0b\0\0\0\0\0\0\x0c\x0c\0\0\0\0\0\0\
+        \x0d\x0d\0\0\0\0\0\0\x11\x10\x0f\x0e\0\0\0\0";
+    assert_eq!(rt; told.to_bytes().as_slice(), bytes.as_slice());
 }
 
 #[test]
