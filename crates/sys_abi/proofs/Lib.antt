@@ -1,2 +1,4 @@
 pub mod CallLemmas
+pub mod Fields
+pub mod Structures
 pub mod Tables

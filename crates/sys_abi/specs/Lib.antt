@@ -2,3 +2,4 @@ pub mod Calls
 pub mod Devices
 pub mod Errnos
 pub mod Names
+pub mod Wire

@@ -14,6 +14,7 @@
 pub mod calls;
 pub mod device;
 pub mod errno;
+pub mod flags;
 pub mod memory;
 mod names;
 #[cfg(test)]
