@@ -3,6 +3,8 @@
 ghost use Rattle.std.specs.Prelude.{◌≡◌, ◌<◌, ◌≤◌, ◌-◌, ℕ, List, [], ◌∷◌, length, IfSome, IfNone, Some, OnOk, ◌==◌};
 
 use crate::event::Event;
+use crate::policy::Policy;
+use crate::script::Script;
 use std::alloc::Global;
 use std::marker::Model;
 use sys_abi::memory::NoMemory;
@@ -89,11 +91,22 @@ impl History {
     }
 }
 
-/// A state that keeps a history.
+/// What a state was set up with, and never changes: the policy, the container's script, and, where not all may work, the
+/// number of the last worker that may. Clauses speak of it; no value of it is made.
+pub struct Setup {
+    pub policy: Policy,
+    pub script: Script,
+    pub limit: Option<u8>,
+}
+
+/// A state that keeps a history, and was set up with a policy, a script and a limit of workers or none.
 pub trait Journalled {
     ghost use Rattle.hist_model.specs.Histories.{Seen};
+    ghost use Rattle.hist_model.specs.declared.history.Setup.{Setup};
 
     ghost history: { Self → Seen };
+
+    ghost setup: { Self → Setup };
 
     /// The history that it keeps.
     fn journal(&self) -> &History

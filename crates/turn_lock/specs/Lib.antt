@@ -1,0 +1,4 @@
+pub mod Lists
+pub mod Facts
+pub mod Rule
+pub mod Turns
