@@ -9,8 +9,8 @@ use Rattle.atomic_table.specs.Table.{State, Me, Splits, Joins, Final}
 use Rattle.atomic_table.specs.Table as Table
 use Rattle.atomic_table.proofs.Lists.{set_else, at_snoc, at_longer}
 use Rattle.turn_lock.specs.declared.view.View.{View}
-use Rattle.turn_lock.specs.declared.view.Stage.{Stage}
-use Rattle.turn_lock.specs.declared.view.Stage.TheVariants.{Idle}
+use Rattle.turn_lock.specs.Stages.{Stage}
+use Rattle.turn_lock.specs.Stages.{Idle}
 use Rattle.atomic_table.specs.Seated.{TableId}
 use Rattle.hist_model.specs.declared.event.Event.{Event}
 use Rattle.hist_model.specs.declared.history.Setup.{Setup}

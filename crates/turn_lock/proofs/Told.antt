@@ -3,7 +3,7 @@ use Rattle.std.proofs.Common.{◌≡◌, ◌≢◌, ℕ, ◌≤◌, List, [], �
 use mathlib.Core.Option.{none}
 use Rattle.atomic_table.specs.Table.{Me, Step, step, rest}
 use Rattle.turn_lock.specs.declared.view.View.{View}
-use Rattle.turn_lock.specs.declared.view.Stage.TheVariants.{Idle, Waiting, Playing}
+use Rattle.turn_lock.specs.Stages.{Idle, Waiting, Playing}
 use Rattle.hist_model.specs.declared.event.Event.{Event}
 use Rattle.hist_model.specs.declared.history.Setup.{Setup}
 use Rattle.hist_model.specs.Histories.{Seen}

@@ -1,3 +1,4 @@
+pub mod Stages
 pub mod Lists
 pub mod Facts
 pub mod Rule

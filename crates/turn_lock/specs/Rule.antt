@@ -9,8 +9,8 @@ use Rattle.hist_model.specs.declared.event.Event.{Event}
 use Rattle.hist_model.specs.declared.history.Setup.{Setup}
 use Rattle.hist_model.specs.Histories.{Seen}
 use Rattle.turn_lock.specs.declared.view.View.{View}
-use Rattle.turn_lock.specs.declared.view.Stage.{Stage}
-use Rattle.turn_lock.specs.declared.view.Stage.TheVariants.{Idle, Waiting, Playing}
+use Rattle.turn_lock.specs.Stages.{Stage}
+use Rattle.turn_lock.specs.Stages.{Idle, Waiting, Playing}
 use Rattle.turn_lock.specs.Lists.{Begins, longer, shorter, times, OnceFrom}
 
 -- f of each view, added up

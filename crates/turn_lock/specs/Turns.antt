@@ -6,7 +6,7 @@ use Rattle.hist_model.specs.declared.event.Event.{Event}
 use Rattle.hist_model.specs.declared.history.Setup.{Setup}
 use Rattle.hist_model.specs.Histories.{Seen}
 use Rattle.turn_lock.specs.declared.view.View.{View}
-use Rattle.turn_lock.specs.declared.view.Stage.TheVariants.{Idle, Waiting, Playing}
+use Rattle.turn_lock.specs.Stages.{Idle, Waiting, Playing}
 use Rattle.turn_lock.specs.Lists.{Begins, places_of, times}
 use Rattle.turn_lock.specs.Facts.{LockFacts, PassFacts}
 use Rattle.turn_lock.specs.Rule.{spent}

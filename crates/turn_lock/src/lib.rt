@@ -12,6 +12,8 @@
 #![tactic(auto)]
 
 mod lock;
+#[cfg(test)]
+mod tests;
 mod turn;
 mod view;
 

@@ -120,16 +120,13 @@ impl<S: Journalled> TurnLock<S> {
         ensures first { pass.new ≡ split_from pass.old }
         ensures other { result ≡ split_off pass.old }
     {
+        let shared = &self.table.shared;
         let mut seat: LockSeat<S> = mem::replace(&mut pass.badge, Badge::blank()).into_seat();
-        let badge = self
-            .table
-            .shared
-            .split_seat::<SplitPass>(&mut seat)
-            .into_badge();
+        let other = shared.split_seat::<SplitPass>(&mut seat);
         pass.badge = seat.into_badge();
         Pass {
             count: pass.count,
-            badge,
+            badge: other.into_badge(),
         }
     }
 
@@ -139,12 +136,11 @@ impl<S: Journalled> TurnLock<S> {
         requires first { (pass.old.first ≡ true) × (0 < pass.old.out) }
         ensures { Joined pass.old other pass.new }
     {
+        let shared = &self.table.shared;
         let Pass { count, badge } = other;
         let mut seat: LockSeat<S> = mem::replace(&mut pass.badge, Badge::blank()).into_seat();
-        self.table
-            .shared
-            .join_seat::<JoinPass>(&mut seat, badge.into_seat());
-        self.table.shared.load::<ReadLength>(&mut seat, 0);
+        shared.join_seat::<JoinPass>(&mut seat, badge.into_seat());
+        shared.load::<ReadLength>(&mut seat, 0);
         pass.badge = seat.into_badge();
         if pass.count < count {
             pass.count = count;

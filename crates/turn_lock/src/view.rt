@@ -1,39 +1,40 @@
-//! What a pass knows, and what each step on the lock's table tells it. No value of these types is made: they are for the proofs.
+//! What a pass knows, and what each step on the lock's table tells it. No value of these types is made.
+
+ghost use Rattle.std.specs.Prelude.{ℕ, Bool, List};
+ghost use Rattle.hist_model.specs.declared.event.Event.{Event};
+ghost use Rattle.hist_model.specs.declared.history.Setup.{Setup};
+ghost use Rattle.turn_lock.specs.Stages.{Stage};
 
 use atomic_table::{Join, Play, Seat, Split, Table, TableRule};
-use hist_model::event::Event;
-use hist_model::history::{Journalled, Setup};
+use hist_model::history::Journalled;
 use std::alloc::Global;
-use std::marker::PhantomData;
+use std::marker::{Model, PhantomData};
 use std::snapshot::Snapshot;
 
-/// Where a pass is in its turn. A ticket is a number without a bound.
-pub enum Stage {
-    /// Between two turns.
-    Idle,
-    /// It has this ticket, and waits until it is served.
-    Waiting(u64),
-    /// Its ticket is served.
-    Playing(u64),
-}
-
-/// What a pass knows. Clauses read an array as a list of any length.
+/// What a pass knows. It has no bytes, and no value of it is made.
 pub struct View {
     /// 1, or 0 once the pass was joined to another.
-    pub living: u64,
+    pub ghost living: { ℕ },
     /// Whether it is the first pass.
-    pub first: bool,
+    pub ghost first: { Bool },
     /// Of the first pass: how many others are out.
-    pub out: u64,
+    pub ghost out: { ℕ },
     /// What the lock's state was set up with.
-    pub setup: Setup,
+    pub ghost setup: { Setup },
     /// The history that it has seen, the newest first.
-    pub seen: [Event; 0],
+    pub ghost seen: { List Event },
     /// The shorter history of its last join.
-    pub joined: [Event; 0],
+    pub ghost joined: { List Event },
     /// The places of the events that its own turns appended.
-    pub places: [u64; 0],
-    pub stage: Stage,
+    pub ghost places: { List ℕ },
+    /// Where it is in its turn.
+    pub ghost stage: { Stage },
+}
+
+impl Model for View {
+    ghost use Rattle.std.specs.Borrow.{ftrue};
+
+    ghost also_owns = { λ _. ftrue };
 }
 
 /// The rule of a lock's table, by the state that the lock was made with.

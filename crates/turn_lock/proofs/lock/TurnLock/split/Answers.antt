@@ -4,8 +4,8 @@ use Rattle.turn_lock.proofs.Passes.{splits}
 use Rattle.turn_lock.proofs.Told.{at_rest}
 use Rattle.turn_lock.proofs.lock.TurnLock.split.Goals as goal
 
-pub split_seat-requires : goal.split_seat-requires
-split_seat-requires g c =
+pub split_seat-other-requires : goal.split_seat-other-requires
+split_seat-other-requires g c =
     let r = at_rest _ _ c.into_seat-seat.result.me.0 _ c.pass.view_is c.pass.invariant.0 (ap (λ b. b.views) (sym c.replace.ensures.value) ∙ c.into_seat-seat.ensures.2) in (
       search rules,
       search rules,
