@@ -1,4 +1,7 @@
 pub mod Runs
 pub mod Faults
+pub mod Firsts
+pub mod Highest
+pub mod Returns
 pub mod Precedence
 pub mod Notifies

@@ -3,6 +3,7 @@ use hist_model::event::Entered;
 use hist_model::script::FilterLine;
 use hist_model::text::Sequence;
 use std::alloc::Global;
+use std::process::Abort;
 use sys_abi::wire::SeccompData;
 
 fn insn(code: u16, k: u32, jt: u8, jf: u8) -> Insn {
@@ -156,6 +157,111 @@ fn a_filter_runs(rt: HostRuntime) {
     }
 }
 
+/// The answer of a filter of these instructions, which is accepted.
+fn answer<R: Abort>(rt: &R, insns: Vec<Insn>) -> u32 {
+    let filter = Filter::check(insns).ok().expect(rt, "accepted");
+    run(&filter, &call(-1, 0xc000003e))
+}
+
+/// What an instruction makes of an accumulator.
+#[derive(Clone, Copy)]
+struct Arithmetic {
+    from: u32,
+    code: u16,
+    k: u32,
+    to: u32,
+}
+
+const fn makes(from: u32, code: u16, k: u32, to: u32) -> Arithmetic {
+    Arithmetic { from, code, k, to }
+}
+
+#[test]
+fn arithmetic_wraps_at_32_bits(rt: HostRuntime) {
+    let alloc = rt.alloc();
+    for want in [
+        makes(7, 0x20, 60, 0x88776655),
+        makes(7, 0x00, 0xffffffff, 0xffffffff),
+        makes(0xffffffff, 0x04, 2, 1),
+        makes(0, 0x14, 1, 0xffffffff),
+        makes(0x80000000, 0x44, 1, 0x80000001),
+        makes(0xffffffff, 0x54, 0x80000000, 0x80000000),
+        makes(0xffffffff, 0xa4, 0x7fffffff, 0x80000000),
+        makes(0x80000001, 0x64, 0, 0x80000001),
+        makes(3, 0x64, 31, 0x80000000),
+        makes(0x80000001, 0x74, 0, 0x80000001),
+        makes(0xffffffff, 0x74, 31, 1),
+        makes(0, 0x84, 0, 0),
+        makes(1, 0x84, 0, 0xffffffff),
+        makes(0x80000000, 0x84, 0, 0x80000000),
+    ] {
+        let insns = [
+            insn(0x00, want.from, 0, 0),
+            insn(want.code, want.k, 0, 0),
+            insn(0x15, want.to, 1, 0),
+            insn(0x06, 1, 0, 0),
+            insn(0x06, 2, 0, 0),
+        ];
+        let insns = Vec::from_array(alloc, insns).expect(&rt, "memory");
+        assert_eq!(rt; answer(&rt, insns), 2, "{} on {}", want.code, want.from);
+    }
+}
+
+#[test]
+fn comparisons_are_unsigned(rt: HostRuntime) {
+    let alloc = rt.alloc();
+    // An accumulator, a jump by a test of it, and whether the test holds.
+    for (from, code, k, holds) in [
+        (0x80000000, 0x15, 0x80000000, true),
+        (0x80000000, 0x15, 0x7fffffff, false),
+        (0x80000000, 0x25, 0x7fffffff, true),
+        (0x7fffffff, 0x25, 0x80000000, false),
+        (0x80000000, 0x25, 0x80000000, false),
+        (0x80000000, 0x35, 0x80000000, true),
+        (0x80000000, 0x35, 0x7fffffff, true),
+        (0x7fffffff, 0x35, 0x80000000, false),
+        (0xffffffff, 0x45, 0x80000000, true),
+        (0x7fffffff, 0x45, 0x80000000, false),
+    ] {
+        let insns = [
+            insn(0x00, from, 0, 0),
+            insn(code, k, 1, 2),
+            insn(0x06, 0, 0, 0),
+            insn(0x06, 1, 0, 0),
+            insn(0x06, 2, 0, 0),
+        ];
+        let insns = Vec::from_array(alloc, insns).expect(&rt, "memory");
+        let answered = if holds { 1 } else { 2 };
+        assert_eq!(rt; answer(&rt, insns), answered, "{code} on {from}");
+    }
+}
+
+#[test]
+fn a_jump_reaches_the_last_instruction(rt: HostRuntime) {
+    let insns = [
+        insn(0x05, 2, 0, 0),
+        insn(0x06, 0, 0, 0),
+        insn(0x06, 1, 0, 0),
+        insn(0x06, 0x7fff0000, 0, 0),
+    ];
+    let insns = Vec::from_array(rt.alloc(), insns).expect(&rt, "memory");
+    assert_eq!(rt; answer(&rt, insns), 0x7fff0000);
+}
+
+#[test]
+fn a_filter_of_4096_instructions_runs(rt: HostRuntime) {
+    let mut insns = vec![in rt.alloc(); insn(0x04, 1, 0, 0); 4093].expect(&rt, "memory");
+    for last in [
+        insn(0x15, 4093, 1, 0),
+        insn(0x06, 0, 0, 0),
+        insn(0x06, 0x7fff0000, 0, 0),
+    ] {
+        insns.push(last).expect(&rt, "memory");
+    }
+    assert_eq!(rt; insns.len(), 4096);
+    assert_eq!(rt; answer(&rt, insns), 0x7fff0000);
+}
+
 #[test]
 fn the_notifying_filter_answers(rt: HostRuntime) {
     let filter = notify_on(rt.alloc(), &[133, 99]).expect(&rt, "memory");
@@ -168,6 +274,14 @@ fn the_notifying_filter_answers(rt: HostRuntime) {
     ] {
         assert_eq!(rt; run(&filter, &call(nr, arch)), answer, "at {nr}");
     }
+    let mut calls = [39; 64];
+    calls[63] = -1;
+    let filter = notify_on(rt.alloc(), &calls).expect(&rt, "memory");
+    assert_eq!(rt; run(&filter, &call(-1, 0xc000003e)), 0x7fc00000);
+    assert_eq!(rt; run(&filter, &call(133, 0xc000003e)), 0x7fff0000);
+    let none = notify_on(rt.alloc(), &[]).expect(&rt, "memory");
+    assert_eq!(rt; run(&none, &call(133, 0xc000003e)), 0x7fff0000);
+    assert_eq!(rt; run(&none, &call(133, 0x40000003)), 0x80000000);
 }
 
 #[test]
