@@ -5,3 +5,4 @@ pub mod Highest
 pub mod Returns
 pub mod Precedence
 pub mod Notifies
+pub mod TextCases
