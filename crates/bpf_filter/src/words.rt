@@ -26,7 +26,7 @@ const INSTRUCTIONS: [Form; 16] = [
     ("ret", 0x06, 1),
 ];
 
-/// The words of settings, of programs and of the schedule.
+/// The words of settings, of programs and of the schedule, and the one that ends a block.
 const OTHERS: [&'static str; 34] = [
     "pidmax", "pidbase", "firstid", "rlimit", "dir", "reg", "fifo", "sock", "link", "chr", "blk",
     "attr", "root", "broker", "map", "cgroup", "figures", "notify", "filter", "killable", "prog",
