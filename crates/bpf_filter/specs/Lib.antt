@@ -1,1 +1,5 @@
+pub mod Accepted
 pub mod Choices
+pub mod Precedence
+pub mod Text
+pub mod Words

@@ -1,7 +1,8 @@
 //! Filters that were accepted.
 
-ghost use Rattle.std.specs.Prelude.{◌≡◌, ◌≤◌, length, MatchResult, IfOk, None, Some};
+ghost use Rattle.std.specs.Prelude.{◌≡◌, ◌≤◌, ◌==◌, length, true, false, MatchResult, IfOk, None, Some};
 ghost use Rattle.hist_model.specs.Filters as definitions;
+ghost use Rattle.bpf_filter.specs.Accepted.{IsAccepted, IsFirstFault, has_return};
 
 use crate::checks::first_fault;
 use crate::machine::run_insns;
@@ -33,8 +34,10 @@ impl Model for Filter {
 
 impl Filter {
     /// The filter of these instructions, or their first fault.
+    #[tactic(auto, using(crate::proofs::Firsts::accepted, crate::proofs::Firsts::first_found))]
     pub fn check(insns: Vec<Insn>) -> Result<Filter, BadFilter>
         ensures cases { MatchResult result (λ f. definitions.first_fault insns.items ≡ None) (λ e. definitions.first_fault insns.items ≡ Some e) }
+        ensures first { MatchResult result (λ f. IsAccepted insns.items) (λ e. IsFirstFault insns.items e) }
         ensures same { IfOk result (λ f. f ≡ insns.items) }
     {
         match first_fault(&insns) {
@@ -53,9 +56,12 @@ impl Filter {
     }
 }
 
-/// The answer of a filter to a call.
+/// The answer of a filter to a call, which is that of one of its returns, and never SECCOMP_RET_TRAP. No memory is taken.
+#[tactic(auto, using(crate::proofs::Returns::run_returns, crate::proofs::Returns::run_never_traps))]
 pub fn run(filter: &Filter, call: &SeccompData) -> u32
-    ensures { result ≡ definitions.run filter.now call.now }
+    ensures answered { result ≡ definitions.run filter.now call.now }
+    ensures returned { has_return filter.now result ≡ true }
+    ensures never_traps { (definitions.action result == 0x00030000) ≡ false }
 {
     run_insns(&filter.insns, call)
 }

@@ -1,0 +1,207 @@
+-- Lemmas on how a line is read.
+use Rattle.std.proofs.Common.{◌≡◌, ◌≢◌, ℕ, zero, suc, ◌+◌, ◌<◌, ◌≤◌, List, [], ◌∷◌, ◌++◌, length, take, drop, Bool, true, false, Result, Ok, Err, refl, inl, inr, ap, sym, subst, ◌∙◌, arith, append-nil, append_assoc, length-drop}
+use Rattle.std.specs.Prelude.{◌==◌}
+use Rattle.std.specs.List.{prefix_len}
+use Rattle.std.proofs.lemmas.Bool.{cases_Bool}
+use Rattle.lex_core.specs.Lexical.{Within, is_blank, is_bare, tokens, bare, quoted, after, ended, begun, with_byte}
+use Rattle.lex_core.specs.Lines.{is_skipped}
+use Rattle.lex_core.specs.Steps.{past_blanks, with_bytes, with_tokens, BeginsToken, EndsToken, Refuses}
+use Rattle.lex_core.specs.declared.line.Token.{Token}
+use Rattle.lex_core.specs.declared.line.Token.TheVariants.{Bare, Quoted}
+use Rattle.lex_core.specs.declared.reason.Reason.{Reason}
+use Rattle.sys_abi.specs.declared.memory.OrNoMemory.{OrNoMemory}
+use Rattle.sys_abi.specs.declared.memory.OrNoMemory.TheVariants.{Refused, NoMemory}
+use Rattle.std.proofs.lemmas.Bool.Decides.{nat_tests}
+
+past-blank : (b : ℕ) (bs : List ℕ) → is_blank b ≡ true → past_blanks (b ∷ bs) ≡ past_blanks bs
+unfolding past_blanks
+past-blank b bs h = rw h refl
+
+past-other : (b : ℕ) (bs : List ℕ) → is_blank b ≡ false → past_blanks (b ∷ bs) ≡ b ∷ bs
+unfolding past_blanks
+past-other b bs h = rw h refl
+
+past-end : past_blanks [] ≡ []
+unfolding past_blanks
+past-end = refl
+
+tokens-blank : (b : ℕ) (bs : List ℕ) → is_blank b ≡ true → tokens (b ∷ bs) ≡ tokens bs
+unfolding tokens
+tokens-blank b bs h = rw h refl
+
+-- blanks before the first token are of no account
+pub tokens_past : (line : List ℕ) → tokens (past_blanks line) ≡ tokens line
+tokens_past [] = ap tokens past-end
+tokens_past (b ∷ bs) = elim (cases_Bool (is_blank b)) [
+  | inl h ↦ ap tokens (past-blank b bs h) ∙ tokens_past bs ∙ sym (tokens-blank b bs h)
+  | inr h ↦ ap tokens (past-other b bs h)
+]
+
+pub past_shorter : (line : List ℕ) → length (past_blanks line) ≤ length line
+past_shorter [] = rw past-end (omega arith)
+past_shorter (b ∷ bs) = elim (cases_Bool (is_blank b)) [
+  | inl h ↦ let ih = past_shorter bs in rw (past-blank b bs h) (omega arith)
+  | inr h ↦ rw (past-other b bs h) (omega arith)
+]
+
+pub begins_past : (line : List ℕ) → 0 < length (past_blanks line) → BeginsToken (past_blanks line)
+begins_past [] l = let k : 0 < 0 = rw past-end at l in absurd (omega arith)
+begins_past (b ∷ bs) l = elim (cases_Bool (is_blank b)) [
+  | inl h ↦ let k : 0 < length (past_blanks bs) = rw (past-blank b bs h) at l in rw (past-blank b bs h) (begins_past bs k)
+  | inr h ↦ rw (past-other b bs h) h
+]
+
+skipped-blank : (b : ℕ) (bs : List ℕ) → is_blank b ≡ true → is_skipped (b ∷ bs) ≡ is_skipped bs
+unfolding is_skipped
+skipped-blank b bs h = rw h refl
+
+skipped-other : (b : ℕ) (bs : List ℕ) → is_blank b ≡ false → is_skipped (b ∷ bs) ≡ (b == 35)
+unfolding is_skipped
+skipped-other b bs h = rw h refl
+
+skipped-end : is_skipped [] ≡ true
+unfolding is_skipped
+skipped-end = refl
+
+-- a line with this byte behind its blanks
+pub skips_byte : (line : List ℕ) (b : ℕ) (rest : List ℕ) → past_blanks line ≡ b ∷ rest → is_skipped line ≡ (b == 35)
+skips_byte [] b rest e = let k : [] ≡ b ∷ rest = sym past-end ∙ e in absurd (cc)
+skips_byte (c ∷ cs) b rest e = elim (cases_Bool (is_blank c)) [
+  | inl h ↦ skipped-blank c cs h ∙ skips_byte cs b rest (sym (past-blank c cs h) ∙ e)
+  | inr h ↦ let k : c ∷ cs ≡ b ∷ rest = sym (past-other c cs h) ∙ e in let q : c ≡ b = cc in skipped-other c cs h ∙ ap (λ d. d == 35) q
+]
+
+-- a line without any
+pub skips_blanks : (line : List ℕ) → length (past_blanks line) ≡ 0 → is_skipped line ≡ true
+skips_blanks [] e = skipped-end
+skips_blanks (c ∷ cs) e = elim (cases_Bool (is_blank c)) [
+  | inl h ↦ skipped-blank c cs h ∙ skips_blanks cs (ap length (sym (past-blank c cs h)) ∙ e)
+  | inr h ↦ let k : length (c ∷ cs) ≡ 0 = ap length (sym (past-other c cs h)) ∙ e in absurd (omega arith)
+]
+
+-- ---- a bare token
+
+take-next : (n b : ℕ) (bytes : List ℕ) → take (1 + n) (b ∷ bytes) ≡ b ∷ take n bytes
+take-next n b bytes = let e : 1 + n ≡ suc n = omega arith in rw e refl
+
+drop-next : (n b : ℕ) (bytes : List ℕ) → drop (1 + n) (b ∷ bytes) ≡ drop n bytes
+drop-next n b bytes = let e : 1 + n ≡ suc n = omega arith in rw e refl
+
+with_byte-bytes : (b : ℕ) (front : List ℕ) (left : Within) → with_byte b (with_bytes front left) ≡ with_bytes (b ∷ front) left
+with_byte-bytes b front (Ok left) = refl
+with_byte-bytes b front (Err reason) = refl
+
+with_bytes-none : (left : Within) → with_bytes [] left ≡ left
+with_bytes-none (Ok left) = refl
+with_bytes-none (Err reason) = refl
+
+bare-more : (b : ℕ) (bs : List ℕ) → is_bare b ≡ true → bare (b ∷ bs) ≡ with_byte b (bare bs)
+unfolding tokens
+bare-more b bs h = rw h refl
+
+bare-ends : (b : ℕ) (bs : List ℕ) → is_bare b ≡ false → bare (b ∷ bs) ≡ ended (after (b ∷ bs))
+unfolding tokens
+bare-ends b bs h = elim (cases_Bool (is_blank b)) [
+  | inl k ↦ rw (h, k) refl
+  | inr k ↦ rw (h, k) refl
+]
+
+bare-end : bare [] ≡ ended (after [])
+unfolding tokens
+bare-end = refl
+
+-- a bare token has the bytes up to the first that can't stand in it
+pub bare_taken : (text : List ℕ) → bare text ≡ with_bytes (take (prefix_len is_bare text) text) (ended (after (drop (prefix_len is_bare text) text)))
+bare_taken [] = bare-end ∙ sym (with_bytes-none _)
+bare_taken (b ∷ bs) = elim (cases_Bool (is_bare b)) [
+  | inl h ↦ rw h (rw (take-next, drop-next) (bare-more b bs h ∙ ap (with_byte b) (bare_taken bs) ∙ with_byte-bytes b _ _))
+  | inr h ↦ rw h (bare-ends b bs h ∙ sym (with_bytes-none _))
+]
+
+pub prefix_within : (p : ℕ → Bool) (xs : List ℕ) → prefix_len p xs ≤ length xs
+prefix_within p [] = omega arith
+prefix_within p (x ∷ xs) = elim (cases_Bool (p x)) [
+  | inl h ↦ let ih = prefix_within p xs in rw h (omega arith)
+  | inr h ↦ rw h (omega arith)
+]
+
+pub bare_refused : (e : OrNoMemory Reason) (text rest : List ℕ) → rest ≡ drop (prefix_len is_bare text) text → Refuses e (after rest) → Refuses e (bare text)
+bare_refused NoMemory text rest q h = tt
+bare_refused (Refused reason) text rest q h =
+    let k : after (drop (prefix_len is_bare text) text) ≡ Err reason = ap after (sym q) ∙ h in
+    bare_taken text ∙ ap (λ r. with_bytes (take (prefix_len is_bare text) text) (ended r)) k
+
+-- what ends a token doesn't begin one
+pub token_is_some : (n : ℕ) (text : List ℕ) → BeginsToken text → EndsToken (drop n text) → n ≤ length text → length (drop n text) < length text
+token_is_some n [] begins ends l = absurd begins
+token_is_some zero (b ∷ bs) begins ends l = let k : true ≡ false = sym ends ∙ begins in absurd (cc)
+token_is_some (suc n) (b ∷ bs) begins ends l = omega (arith, length-drop n bs)
+
+tokens_of_quoted : (inner : List ℕ) → tokens (34 ∷ inner) ≡ begun Quoted (quoted inner)
+unfolding tokens
+tokens_of_quoted inner = refl
+
+tokens_quoted : (text inner : List ℕ) (b : ℕ) → text ≡ b ∷ inner → b ≡ 34 → tokens text ≡ begun Quoted (quoted inner)
+tokens_quoted text inner b e q = ap tokens (e ∙ ap (λ c. c ∷ inner) q) ∙ tokens_of_quoted inner
+
+tokens-bare : (b : ℕ) (bs : List ℕ) → is_blank b ≡ false → (b == 34) ≡ false → tokens (b ∷ bs) ≡ begun Bare (bare (b ∷ bs))
+unfolding tokens
+tokens-bare b bs h q = elim (cases_Bool (is_bare b)) [
+  | inl k ↦ rw (h, k) refl
+  | inr k ↦ rw (h, k, q) refl
+]
+
+tokens_bare : (text inner : List ℕ) (b : ℕ) → text ≡ b ∷ inner → BeginsToken text → b ≢ 34 → tokens text ≡ begun Bare (bare text)
+tokens_bare text inner b e h q =
+    let k : is_blank b ≡ false = let P : List ℕ → Type 0 = BeginsToken in subst P e h in
+    ap tokens e ∙ tokens-bare b inner k (grind (arith, nat_tests)) ∙ ap (λ t. begun Bare (bare t)) (sym e)
+
+begun_ended : (kind : List ℕ → Token) (bytes : List ℕ) (later : Result (List Token) Reason) → begun kind (with_bytes bytes (ended later)) ≡ with_tokens (kind bytes ∷ []) later
+begun_ended kind bytes (Ok more) = ap (λ bs. Ok (kind bs ∷ more)) (append-nil bytes)
+begun_ended kind bytes (Err reason) = refl
+
+begun_refused : (e : OrNoMemory Reason) (kind : List ℕ → Token) (left : Within) (reading : Result (List Token) Reason) → reading ≡ begun kind left → Refuses e left → Refuses e reading
+begun_refused NoMemory kind left reading q h = tt
+begun_refused (Refused reason) kind left reading q h = q ∙ ap (begun kind) h
+
+pub quoted_read : (text inner bytes : List ℕ) (b : ℕ) (later : Result (List Token) Reason) → text ≡ b ∷ inner → b ≡ 34 → quoted inner ≡ with_bytes bytes (ended later) → tokens text ≡ with_tokens (Quoted bytes ∷ []) later
+quoted_read text inner bytes b later e q h = tokens_quoted text inner b e q ∙ ap (begun Quoted) h ∙ begun_ended Quoted bytes later
+
+pub quoted_refused : (text inner : List ℕ) (b : ℕ) (e : OrNoMemory Reason) → text ≡ b ∷ inner → b ≡ 34 → Refuses e (quoted inner) → Refuses e (tokens text)
+quoted_refused text inner b e i q h = begun_refused e Quoted (quoted inner) (tokens text) (tokens_quoted text inner b i q) h
+
+pub bare_read : (text inner bytes : List ℕ) (b : ℕ) (later : Result (List Token) Reason) → text ≡ b ∷ inner → BeginsToken text → b ≢ 34 → bare text ≡ with_bytes bytes (ended later) → tokens text ≡ with_tokens (Bare bytes ∷ []) later
+bare_read text inner bytes b later e t q h = tokens_bare text inner b e t q ∙ ap (begun Bare) h ∙ begun_ended Bare bytes later
+
+pub word_refused : (text inner : List ℕ) (b : ℕ) (e : OrNoMemory Reason) → text ≡ b ∷ inner → BeginsToken text → b ≢ 34 → Refuses e (bare text) → Refuses e (tokens text)
+word_refused text inner b e i t q h = begun_refused e Bare (bare text) (tokens text) (tokens_bare text inner b i t q) h
+
+-- ---- one token after another
+
+with_tokens-tokens : (front more : List Token) (later : Result (List Token) Reason) → with_tokens front (with_tokens more later) ≡ with_tokens (front ++ more) later
+with_tokens-tokens front more (Ok rest) = ap Ok (sym (append_assoc front more rest))
+with_tokens-tokens front more (Err reason) = refl
+
+pub token_added : (line rest more : List ℕ) (front : List Token) (token : Token) → tokens line ≡ with_tokens front (tokens rest) → tokens rest ≡ with_tokens (token ∷ []) (tokens more)
+    → tokens line ≡ with_tokens (front ++ token ∷ []) (tokens (past_blanks more))
+token_added line rest more front token e h =
+    e ∙ ap (with_tokens front) h ∙ with_tokens-tokens front (token ∷ []) (tokens more) ∙ ap (with_tokens (front ++ token ∷ [])) (sym (tokens_past more))
+
+pub tokens_refused : (line rest : List ℕ) (front : List Token) (e : OrNoMemory Reason) → tokens line ≡ with_tokens front (tokens rest) → Refuses e (tokens rest) → Refuses e (tokens line)
+tokens_refused line rest front NoMemory q h = tt
+tokens_refused line rest front (Refused reason) q h = q ∙ ap (with_tokens front) h
+
+pub tokens_begin : (line : List ℕ) → tokens line ≡ with_tokens [] (tokens (past_blanks line))
+tokens_begin line = sym (tokens_past line) ∙ sym (none (tokens (past_blanks line)))
+  where
+    none : (later : Result (List Token) Reason) → with_tokens [] later ≡ later
+    none (Ok rest) = refl
+    none (Err reason) = refl
+
+tokens-end : tokens [] ≡ Ok []
+unfolding tokens
+tokens-end = refl
+
+pub tokens_end : (line rest : List ℕ) (front : List Token) → tokens line ≡ with_tokens front (tokens rest) → length rest ≡ 0 → tokens line ≡ Ok front
+tokens_end line [] front e l = e ∙ ap (with_tokens front) tokens-end ∙ ap Ok (append-nil front)
+tokens_end line (b ∷ bs) front e l = absurd (omega arith)

@@ -1,0 +1,5 @@
+pub mod Lexical
+pub mod Steps
+pub mod Given
+pub mod Lines
+pub mod Numbers
