@@ -20,6 +20,7 @@ pub mod Waiting
 pub mod Fresh
 pub mod Settlers
 pub mod Determined
+pub mod Journal
 pub mod Replies
 pub mod InHand
 pub mod Arrivals

@@ -1,8 +1,8 @@
 -- The history that a schedule plays is legal.
-use Rattle.std.proofs.Common.{◌≡◌, ℕ, zero, suc, ◌+◌, ◌<◌, ◌≤◌, ◌^◌, Bool, true, false, nat_le, List, [], ◌∷◌, length, refl, arith}
+use Rattle.std.proofs.Common.{◌≡◌, ℕ, zero, suc, ◌<◌, ◌≤◌, ◌^◌, true, false, List, [], ◌∷◌, length, refl, arith}
 use Rattle.hist_model.specs.Calls.{closes}
 use Rattle.hist_model.specs.Look.{ev}
-use Rattle.hist_model.specs.Steps.{IsStep, IsLegal, is_start, is_actor, step, start}
+use Rattle.hist_model.specs.Steps.{IsStep, IsLegal, is_start, is_actor, step}
 use Rattle.hist_model.specs.Mediated.{takes}
 use Rattle.hist_model.specs.Legal.{Legal, played, started, system_of, rules_of, with_step, with_steps, with_schedule}
 use Rattle.hist_model.specs.declared.event.Actor.{Actor}

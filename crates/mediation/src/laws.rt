@@ -14,7 +14,7 @@ ghost use Rattle.hist_model.specs.Legal.{Legal, played};
 ghost use Rattle.hist_model.specs.declared.policy.Policy.{Policy};
 ghost use Rattle.hist_model.specs.declared.script.Script.{Script};
 ghost use Rattle.hist_model.specs.Mediated.{Mediated, Each, TakenByItsActor, NamesOwn, NeverBusy, ErrorsKnown, LostIfGone, HasCause};
-ghost use Rattle.mediation.specs.Journals.{actors, IsLegalByPlace};
+ghost use Rattle.mediation.specs.Journals.{actors, IsLegalByPlace, FixedByJournal, SharesJournal};
 ghost use Rattle.mediation.specs.Facts.{CallIdsDiffer, NamesDiffer, HandlesOwn, SessionsSettle, StaysFinished};
 ghost use Rattle.mediation.specs.Frames.{Frame};
 ghost use Rattle.mediation.specs.Scheduled.{AllScheduled};
@@ -60,6 +60,14 @@ pub fn count_is()
 /// Two legal histories with the same actors are one.
 pub fn fixed_by_actors()
     ensures { (S : System) (R : Rules) (K L : List Event) → IsLegal S R K → IsLegal S R L → actors K ≡ actors L → K ≡ L }
+{}
+
+/// Two legal histories of one policy and script with the same journal are one: what a report prints tells the whole history.
+/// The names of tasks have numbers below 2^64, as every name of a program has. Without that it isn't so, since a number is
+/// written with at most 64 digits.
+pub fn fixed_by_journal()
+    ensures same { (P : Policy) (S : Script) → FixedByJournal P S }
+    ensures only_so { (S : System) (R : Rules) → SharesJournal S R }
 {}
 
 /// Legality reads the same by the places of a list that begins with the oldest event.
