@@ -14,10 +14,9 @@ use Rattle.hist_model.specs.declared.event.Actor.TheVariants.{Start, Task, Worke
 use Rattle.hist_model.specs.declared.event.What.{What}
 use Rattle.hist_model.specs.declared.event.What.TheVariants.{Deliver}
 use Rattle.hist_model.proofs.Look.{name_eq-true}
-use Rattle.mediation.proofs.Rows.{Row}
-use Rattle.mediation.proofs.Own.{row-of, listed-below, listed-older, waits-here}
+use Rattle.mediation.proofs.Rows.{Row, row-of}
+use Rattle.mediation.proofs.Own.{listed-below, listed-older, waits-here}
 use Rattle.mediation.proofs.Phases.{refetch}
-use Rattle.mediation.proofs.Replies.{row-or-start}
 
 -- a settled call is left by its return alone
 leaves-settled : (S : System) (R : Rules) (K : List Event) (c : ℕ) (a : Actor) (what : What) → IsLegal S R K → settled K c ≡ true → listed K c ≡ true → Row S R K a what
@@ -29,19 +28,13 @@ leaves-settled S R K c (Task n) (Deliver sig effect) legal s l r u =
   where
     go : (b : Bool) → (false || (true && b)) ≡ true → b ≡ true
     go b h = grind arith
-leaves-settled S R K c (Worker v) (Deliver sig effect) legal s l r u = absurd r
-leaves-settled S R K c Start (Deliver sig effect) legal s l r u = cc
-leaves-settled S R K c Listener (Deliver sig effect) legal s l r u = cc
-leaves-settled S R K c a what legal s l r u = u
+leaves-settled S R K c a what legal s l r u = grind arith
 
 pub arrives : (S : System) (R : Rules) (K : List Event) (e : Event) → IsLegal S R K → length K < 2 ^ 64 → IsStep S R K e → Arrives K e
 arrives S R K e legal room r c s l g =
     let b : c < length K = listed-below K c l in
     let u : unlists e (caller K c) ≡ true = left (unlists e (caller K c)) (rw (listed-older e K c b, l) at g) in
-    elim (row-or-start S R K e r) [
-      | inl q ↦ absurd (both_ways (unlists e (caller K c)) (ap (λ (d : Event). unlists d (caller K c)) q) u)
-      | inr q ↦ leaves-settled S R K c e.who e.what legal s l q.1 u
-    ]
+    leaves-settled S R K c e.who e.what legal s l (row-of S R K e r) u
   where
     left : (b : Bool) → (true && not b) ≡ false → b ≡ true
     left b h = grind arith
@@ -61,14 +54,10 @@ once-kind S R K e c legal room r ih =
       | inr q ↦ unfold fetches_of fetched in rw q (omega (arith, ih.0), λ x. omega (arith, ih.1 x))
     ]
 
-once-step : (S : System) (R : Rules) (K : List Event) (e : Event) (c : ℕ) → IsLegal S R K → length K < 2 ^ 64 → IsStep S R K e → FetchedOnce K c → FetchedOnce (e ∷ K) c
-once-step S R [] e c legal room r ih = rw r (unfold FetchedOnce fetches_of fetched listed in (omega arith, λ _. refl))
-once-step S R (f ∷ K) e c legal room r ih = once-kind S R (f ∷ K) e c legal room (row-of S R (f ∷ K) e r (omega arith)) ih
-
 fetched-once : (S : System) (R : Rules) (K : List Event) → IsLegal S R K → length K < 2 ^ 64 → (c : ℕ) → FetchedOnce K c
 unfolding FetchedOnce fetches_of
 fetched-once S R [] legal room = λ c. (omega arith, λ _. refl)
-fetched-once S R (e ∷ K) legal room = λ c. once-step S R K e c legal.1 (omega arith) legal.0 (fetched-once S R K legal.1 (omega arith) c)
+fetched-once S R (e ∷ K) legal room = λ c. once-kind S R K e c legal.1 (omega arith) (row-of S R K e legal.0) (fetched-once S R K legal.1 (omega arith) c)
 
 pub one-session : (S : System) (R : Rules) (K : List Event) → IsLegal S R K → length K < 2 ^ 64 → OneSession K
 unfolding FetchedOnce

@@ -15,8 +15,8 @@ use Rattle.hist_model.specs.declared.event.What.{What}
 use Rattle.hist_model.specs.declared.event.What.TheVariants.{Recv}
 use Rattle.sys_abi.specs.declared.wire.Notif.{Notif}
 use Rattle.hist_model.proofs.Look.{event_at-here, event_at-older, below_or_last, oldest-some}
-use Rattle.mediation.proofs.Rows.{Row}
-use Rattle.mediation.proofs.Own.{listed-below, row-of}
+use Rattle.mediation.proofs.Rows.{Row, row-of}
+use Rattle.mediation.proofs.Own.{listed-below}
 use Rattle.mediation.proofs.Ids.{ids_differ, listed-is_call}
 
 count_below-same : (p q : ℕ → Bool) (n : ℕ) → ((c : ℕ) → c < n → p c ≡ q c) → count_below p n ≡ count_below q n
@@ -106,10 +106,7 @@ fetch-one S R K e d legal b q l f =
 
 -- what a receive tells
 pub receiving : (S : System) (R : Rules) (K : List Event) (a : Actor) (r : Result Notif ℕ) → Row S R K a (Recv r) → (count K == 0 ≡ false) × (r ≡ recv_answer K (oldest_unfetched K))
-receiving S R K (Worker v) r h = (h.1, h.2)
-receiving S R K (Task n) r h = absurd h
-receiving S R K Start r h = cc
-receiving S R K Listener r h = cc
+receiving S R K a r h = grind arith
 
 pub fetching : (K : List Event) (n : Notif) (o : Option ℕ) → oldest_unfetched K ≡ o → Ok n ≡ recv_answer K o → (d : ℕ) × (n ≡ notif K d) × (listed K d ≡ true) × (fetched K d ≡ false) × (o ≡ Some d)
 unfolding oldest_unfetched
@@ -152,14 +149,10 @@ counted-kind S R K a w r legal b ih =
     let v = ih.sum in
     record { room = omega arith; sum = omega arith }
 
-counted-step : (S : System) (R : Rules) (K : List Event) (e : Event) → IsStep S R K e → IsLegal S R K → length K < 2 ^ 64 → Counted K → Counted (e ∷ K)
-counted-step S R [] e r legal b ih = rw r (record { room = unfold calls recvs in omega arith; sum = unfold calls recvs empty_recvs count_below fetched event_at in refl })
-counted-step S R (f ∷ K) e r legal b ih = counted-kind S R (f ∷ K) e.who e.what (row-of S R (f ∷ K) e r (omega arith)) legal b ih
-
 pub counted : (S : System) (R : Rules) (K : List Event) → IsLegal S R K → length K < 2 ^ 64 → Counted K
 unfolding calls recvs empty_recvs count_below
 counted S R [] legal b = record { room = omega arith; sum = refl }
-counted S R (e ∷ K) legal b = counted-step S R K e legal.0 legal.1 (omega arith) (counted S R K legal.1 (omega arith))
+counted S R (e ∷ K) legal b = counted-kind S R K e.who e.what (row-of S R K e legal.0) legal.1 (omega arith) (counted S R K legal.1 (omega arith))
 
 pub count_is : (S : System) (R : Rules) (K : List Event) → IsLegal S R K → length K < 2 ^ 64 → CountIs K
 count_is S R K legal b =

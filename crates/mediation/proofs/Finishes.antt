@@ -1,5 +1,5 @@
 -- Finished stays finished.
-use Rattle.std.proofs.Common.{◌≡◌, ◌⊎◌, inl, inr, ℕ, ◌<◌, Bool, true, false, ◌&&◌, ◌||◌, not, List, [], ◌∷◌, ◌++◌, length, Some, None, refl, sym, ◌∙◌, arith}
+use Rattle.std.proofs.Common.{◌≡◌, ◌⊎◌, inl, inr, ℕ, ◌<◌, Bool, true, false, ◌&&◌, ◌||◌, not, List, [], ◌∷◌, ◌++◌, length, Some, None, refl, sym, ap, ◌∙◌, arith}
 use Rattle.std.specs.Prelude.{if◌then◌else◌, ◌==◌, Ok, Err}
 use Rattle.std.proofs.lemmas.Bool.{and_parts, both_ways}
 use Rattle.hist_model.specs.Look.{Name, name_eq, is_task, is_worker}
@@ -16,8 +16,7 @@ use Rattle.hist_model.specs.declared.event.What.{What}
 use Rattle.hist_model.specs.declared.event.What.TheVariants.{Spawn, Poke, Handler, Enter, Native, Install, Resume, Signal, Deliver, Reap, Exit, Recv, OpenMem, OpenBase, Check, Read, Act, Plant, AddfdPut, AddfdTake, Send, LetGo, Skip}
 use Rattle.sys_abi.specs.declared.wire.Notif.{Notif}
 use Rattle.mediation.specs.Facts.{StaysFinished}
-use Rattle.mediation.proofs.Rows.{Row, TaskRow, WorkerRow}
-use Rattle.mediation.proofs.Own.{row-of}
+use Rattle.mediation.proofs.Rows.{Row, TaskRow, WorkerRow, row-of}
 use Rattle.mediation.proofs.Deeds.{AtWork, deed-is}
 use Rattle.mediation.proofs.Count.{fetching}
 use Rattle.mediation.proofs.Work.{works, at-work}
@@ -93,11 +92,10 @@ module _ (S : System) (R : Rules) (K : List Event) (f : Finished K) where
   worker-idles w (Send x b y) r = absurd (works-no w (Send x b y) r refl)
   worker-idles w _ r = absurd r
 
-  row-idles : (a : Actor) (what : What) → Row S R K a what → closes what ≡ false → idles what ≡ true
-  row-idles Start what r c = rw r
-  row-idles Listener what r c = absurd (both_ways (closes what) c (rw r))
-  row-idles (Task n) what r c = task-idles n what r
-  row-idles (Worker w) what r c = worker-idles w what r
+  row-idles : (a : Actor) (what : What) → Row S R K a what → (K ≡ [] → ⊥) → closes what ≡ false → idles what ≡ true
+  row-idles (Task n) what r l c = task-idles n what r
+  row-idles (Worker w) what r l c = worker-idles w what r
+  row-idles a what r l c = grind arith
 
 -- what an idle step leaves
 idle-listed : (e : Event) (K : List Event) (c : ℕ) → idles e.what ≡ true → listed K c ≡ false → listed (e ∷ K) c ≡ false
@@ -146,12 +144,12 @@ stays e K h f = record {
   sessions = λ w. idle-session e K w h (f.sessions w);
 }
 
-longer : (L K : List Event) → 0 < length K → 0 < length (L ++ K)
-longer [] K h = h
-longer (e ∷ L) K h = omega arith
+filled : (L K : List Event) → 0 < length K → L ++ K ≡ [] → ⊥
+filled [] K l q = omega (arith, ap length q)
+filled (e ∷ L) K l q = cc
 
 pub stays-finished : (S : System) (R : Rules) → StaysFinished S R
 stays-finished S R K [] l legal f n = f
 stays-finished S R K (e ∷ L) l legal f n =
     let ih = stays-finished S R K L l legal.1 f n.1 in
-    stays e (L ++ K) (row-idles S R (L ++ K) ih e.who e.what (row-of S R (L ++ K) e legal.0 (longer L K l)) n.0) ih
+    stays e (L ++ K) (row-idles S R (L ++ K) ih e.who e.what (row-of S R (L ++ K) e legal.0) (filled L K l) n.0) ih

@@ -14,9 +14,7 @@ use Rattle.hist_model.specs.declared.event.What.{What}
 use Rattle.hist_model.specs.declared.event.What.TheVariants.{Spawn}
 use Rattle.hist_model.proofs.Look.{name_eq-true, name_eq-refl, event_at-here, event_at-older, event_at-above, below_or_last}
 use Rattle.mediation.specs.Facts.{spawns, spawned, NamesDiffer}
-use Rattle.mediation.proofs.Rows.{Row}
-use Rattle.mediation.proofs.Own.{row-of}
-use Rattle.mediation.proofs.Replies.{row-or-start}
+use Rattle.mediation.proofs.Rows.{Row, row-of}
 
 made-spawns : (w : What) (n : Name) → (makes w && name_eq (child_of w) n) ≡ true → spawns w n ≡ true
 made-spawns (Spawn m (Ok a)) n h = h
@@ -56,23 +54,14 @@ numbered-kind S R K (Task m) (Spawn c x) n k z r h =
     let q = name_eq-true c (n ++ k ∷ []) h in
     let s = snoc-same n m k (steps_of is_spawn K m + 1) (sym q ∙ r.3) in
     rw (s.0, name_eq-refl m) (omega (arith, s.1))
-numbered-kind S R K (Worker v) (Spawn c x) n k z r h = absurd r
-numbered-kind S R K Start (Spawn c x) n k z r h = cc
-numbered-kind S R K Listener (Spawn c x) n k z r h = cc
-numbered-kind S R K a w n k z r h = cc
+numbered-kind S R K Start (Spawn c x) n k z r h = absurd (z (sym ((snoc-same [] n 0 k (sym r.1 ∙ name_eq-true c (n ++ k ∷ []) h)).0)))
+numbered-kind S R K a w n k z r h = grind arith
 
 numbered-step : (S : System) (R : Rules) (K : List Event) (e : Event) → IsStep S R K e → ChildrenNumbered K → ChildrenNumbered (e ∷ K)
 unfolding spawned steps_of
-numbered-step S R [] e r ih n k z h = absurd (first (name_eq-true (0 ∷ []) (n ++ k ∷ []) (rw r at (or-false (spawns e.what (n ++ k ∷ [])) h))))
-  where
-    or-false : (b : Bool) → (b || false) ≡ true → b ≡ true
-    or-false b h = grind arith
-
-    first : 0 ∷ [] ≡ n ++ k ∷ [] → ⊥
-    first q = z (sym ((snoc-same [] n 0 k q).0))
-numbered-step S R (f ∷ K) e r ih n k z h =
-    elim (or_cases (spawns e.what (n ++ k ∷ [])) (spawned (f ∷ K) (n ++ k ∷ [])) h) [
-      | inl q ↦ numbered-kind S R (f ∷ K) e.who e.what n k z (row-of S R (f ∷ K) e r (omega arith)) q
+numbered-step S R K e r ih n k z h =
+    elim (or_cases (spawns e.what (n ++ k ∷ [])) (spawned K (n ++ k ∷ [])) h) [
+      | inl q ↦ numbered-kind S R K e.who e.what n k z (row-of S R K e r) q
       | inr q ↦ let x = ih n k z q in omega arith
     ]
 
@@ -88,19 +77,14 @@ child-fresh S R K n legal z = false_from_ne_true (spawned K (n ++ (steps_of is_s
 -- nobody's name is empty
 spawns-named : (S : System) (R : Rules) (K : List Event) (a : Actor) (w : What) → Row S R K a w → spawns w [] ≡ true → ⊥
 spawns-named S R K (Task m) (Spawn c x) r h = snoc-not-nil m (steps_of is_spawn K m + 1) (sym r.3 ∙ name_eq-true c [] h)
-spawns-named S R K (Worker v) (Spawn c x) r h = absurd r
-spawns-named S R K Start (Spawn c x) r h = cc
-spawns-named S R K Listener (Spawn c x) r h = cc
-spawns-named S R K a w r h = cc
+spawns-named S R K Start (Spawn c x) r h = let q = name_eq-true c [] h in cc
+spawns-named S R K a w r h = grind arith
 
 all-named-step : (S : System) (R : Rules) (K : List Event) (e : Event) → IsStep S R K e → (spawned K [] ≡ true → ⊥) → spawned (e ∷ K) [] ≡ true → ⊥
 unfolding spawned
 all-named-step S R K e r ih h =
     elim (or_cases (spawns e.what []) (spawned K []) h) [
-      | inl q ↦ elim (row-or-start S R K e r) [
-        | inl z ↦ both_ways (spawns e.what []) (ap (λ (d : Event). spawns d.what []) z) q
-        | inr z ↦ spawns-named S R K e.who e.what z.1 q
-      ]
+      | inl q ↦ spawns-named S R K e.who e.what (row-of S R K e r) q
       | inr q ↦ ih q
     ]
 
@@ -125,25 +109,19 @@ placed-spawned (e ∷ K) t n m q =
           or_left (spawns e.what n) (spawned K n) (made-spawns e.what n (rw (k, p) (name_eq-refl n)))
     ]
 
--- the name of a new task is new
-new-name : (S : System) (R : Rules) (K : List Event) (a : Actor) (w : What) → IsLegal S R K → Row S R K a w → makes w ≡ true → spawned K (child_of w) ≡ false
-new-name S R K (Task m) (Spawn c (Ok x)) legal r h = rw r.3 (child-fresh S R K m legal (λ q. all-named S R K legal (rw q at (made-spawned K m (and_parts (is_made K m) _ r.0).0))))
-new-name S R K (Worker v) (Spawn c (Ok x)) legal r h = absurd r
-new-name S R K Start (Spawn c (Ok x)) legal r h = cc
-new-name S R K Listener (Spawn c (Ok x)) legal r h = cc
-new-name S R K a w legal r h = cc
-
 nothing-spawned : (n : Name) → spawned [] n ≡ false
 unfolding spawned
 nothing-spawned n = refl
 
-new-event : (S : System) (R : Rules) (K : List Event) (e : Event) → IsLegal S R K → IsStep S R K e → makes e.what ≡ true → spawned K (child_of e.what) ≡ false
-new-event S R [] e legal r m = nothing-spawned (child_of e.what)
-new-event S R (f ∷ K) e legal r m = new-name S R (f ∷ K) e.who e.what legal (row-of S R (f ∷ K) e r (omega arith)) m
+-- the name of a new task is new
+new-name : (S : System) (R : Rules) (K : List Event) (a : Actor) (w : What) → IsLegal S R K → Row S R K a w → makes w ≡ true → spawned K (child_of w) ≡ false
+new-name S R K (Task m) (Spawn c (Ok x)) legal r h = rw r.3 (child-fresh S R K m legal (λ q. all-named S R K legal (rw q at (made-spawned K m (and_parts (is_made K m) _ r.0).0))))
+new-name S R K Start (Spawn c (Ok x)) legal r h = rw r.0 (nothing-spawned c)
+new-name S R K a w legal r h = grind arith
 
 -- a task that stands below has another name than the new one
 older-differs : (S : System) (R : Rules) (K : List Event) (e : Event) (t : ℕ) → IsLegal S R K → IsStep S R K e → makes e.what ≡ true → makes_in (event_at K t) ≡ true → name_of K t ≡ child_of e.what → ⊥
-older-differs S R K e t legal r m k q = both (spawned K (child_of e.what)) (new-event S R K e legal r m) (placed-spawned K t (child_of e.what) k q)
+older-differs S R K e t legal r m k q = both (spawned K (child_of e.what)) (new-name S R K e.who e.what legal (row-of S R K e r) m) (placed-spawned K t (child_of e.what) k q)
   where
     both : (b : Bool) → b ≡ false → b ≡ true → ⊥
     both b g h = cc

@@ -20,7 +20,7 @@ use Rattle.hist_model.specs.declared.request.Request.TheVariants.{Sysinfo}
 use Rattle.hist_model.specs.declared.script.Figures.{Figures}
 use Rattle.hist_model.specs.declared.script.Script.{Script}
 use Rattle.sys_abi.specs.declared.wire.Notif.{Notif}
-use Rattle.mediation.proofs.Rows.{WorkerRow}
+use Rattle.mediation.proofs.Rows.{WorkerRow, row-of}
 use Rattle.mediation.proofs.Deeds.{AtWork, HasOpened, HasCopied, deed-is}
 use Rattle.mediation.proofs.Work.{hand, hand-notif, in-hand}
 use Rattle.mediation.proofs.Sequence.{is-own}
@@ -30,7 +30,6 @@ use Rattle.mediation.proofs.Opened.{own-memory}
 use Rattle.mediation.proofs.Waited.{waited}
 use Rattle.mediation.proofs.Bases.{base-is}
 use Rattle.mediation.proofs.Spent.{Capped, spent-within}
-use Rattle.mediation.proofs.Replies.{by-worker}
 
 -- at a use of a copy
 uses-copy : (S : System) (R : Rules) (K : List Event) (w : ℕ) (n : Notif) → IsLegal S R K → length K < 2 ^ 64 → AtWork (session K w) n → HasOpened R (session K w) n → HasCopied R (session K w) n → R.fault n (reads_of (session K w)) ≡ None
@@ -55,7 +54,7 @@ uses-copy S R K w n legal room work ready copy sound =
 pub act-is-granted : (P : Policy) (S : Script) (K : List Event) (e : Event) → IsLegal (system_of S) (rules_of P S.figures) K → length K < 2 ^ 64 → IsStep (system_of S) (rules_of P S.figures) K e → ActIsGranted P S K e
 act-is-granted P S K e legal room r w q cap a who what =
     let R = rules_of P S.figures in
-    let row : WorkerRow (system_of S) R K w (Act q cap a) = rw what at (by-worker (system_of S) R K e w r who) in
+    let row : WorkerRow (system_of S) R K w (Act q cap a) = rw what at (rw who at (row-of (system_of S) R K e r)) in
     let t = deed-is R (session K w) (ActD q cap) row.0 in
     let m = uses-copy (system_of S) R K w t.0 legal room t.1 t.2 t.3 t.6 in
     (m.0, t.0, m.1, t.4, t.5, base-is S R K w m.0 t.0 legal room m.1.of_call t.1.notif_is t.3.checked t.1.no_end)
@@ -63,7 +62,7 @@ act-is-granted P S K e legal room r w q cap a who what =
 pub plant-is-granted : (P : Policy) (S : Script) (K : List Event) (e : Event) → IsLegal (system_of S) (rules_of P S.figures) K → length K < 2 ^ 64 → IsStep (system_of S) (rules_of P S.figures) K e → PlantIsGranted P S K e
 plant-is-granted P S K e legal room r w x b cap a who what =
     let R = rules_of P S.figures in
-    let row : WorkerRow (system_of S) R K w (Plant x b cap a) = rw what at (by-worker (system_of S) R K e w r who) in
+    let row : WorkerRow (system_of S) R K w (Plant x b cap a) = rw what at (rw who at (row-of (system_of S) R K e r)) in
     let t = deed-is R (session K w) (PlantD x b cap) row.0 in
     let m = uses-copy (system_of S) R K w t.0 legal room t.1 t.2 t.3 t.6 in
     (m.0, t.0, m.1, t.4, t.5)
@@ -71,14 +70,14 @@ plant-is-granted P S K e legal room r w x b cap a who what =
 pub put-is-injected : (P : Policy) (S : Script) (K : List Event) (e : Event) → IsLegal (system_of S) (rules_of P S.figures) K → length K < 2 ^ 64 → IsStep (system_of S) (rules_of P S.figures) K e → PutIsInjected P S K e
 put-is-injected P S K e legal room r w q a who what =
     let R = rules_of P S.figures in
-    let row : WorkerRow (system_of S) R K w (AddfdPut q a) = rw what at (by-worker (system_of S) R K e w r who) in
+    let row : WorkerRow (system_of S) R K w (AddfdPut q a) = rw what at (rw who at (row-of (system_of S) R K e r)) in
     let t = deed-is R (session K w) (Put q) row.0 in
     let m = uses-copy (system_of S) R K w t.0 legal room t.1 t.2 t.3 t.4.sound in
     (m.0, t.0, m.1, (t.4.src, t.4.place, t.4.flags, t.4.decided, t.4.is), t.5)
 
 pub reads-are-own : (S : System) (R : Rules) (K : List Event) (e : Event) → IsLegal S R K → length K < 2 ^ 64 → IsStep S R K e → ReadsOwn K e
 reads-are-own S R K e legal room r w x l a who what =
-    let row : WorkerRow S R K w (Read x l a) = rw what at (by-worker S R K e w r who) in
+    let row : WorkerRow S R K w (Read x l a) = rw what at (rw who at (row-of S R K e r)) in
     let t = deed-is R (session K w) (ReadD x l) row.0 in
     let j = in-hand K w (session_call K w) t.0 t.1 (hand S R K legal w) in
     (j.0, j.1, own-memory S R K w j.0 legal room j.1 t.2.mem t.3 t.1.no_end)

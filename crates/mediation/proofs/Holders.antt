@@ -13,8 +13,7 @@ use Rattle.hist_model.specs.declared.event.Actor.TheVariants.{Start, Task, Worke
 use Rattle.hist_model.specs.declared.event.What.{What}
 use Rattle.hist_model.specs.declared.event.What.TheVariants.{Reap}
 use Rattle.hist_model.proofs.Look.{name_eq-true, newest-some, newest-found, oldest-some}
-use Rattle.mediation.proofs.Rows.{Row}
-use Rattle.mediation.proofs.Own.{row-of}
+use Rattle.mediation.proofs.Rows.{Row, row-of}
 use Rattle.mediation.proofs.Pids.{pids_differ, ended-more}
 use Rattle.mediation.proofs.Places.{place-is}
 
@@ -32,21 +31,14 @@ reaps-ended : (S : System) (R : Rules) (K : List Event) (a : Actor) (w : What) (
 reaps-ended S R K (Task n) (Reap (Ok c)) m r h =
     let q = name_eq-true c m h in
     rw q at (waits-ended K n c (oldest (is_child K n) (length K)) (oldest (is_ended_child K n) (length K)) refl r.2)
-reaps-ended S R K (Worker v) (Reap (Ok c)) m r h = absurd r
-reaps-ended S R K Start (Reap (Ok c)) m r h = cc
-reaps-ended S R K Listener (Reap (Ok c)) m r h = cc
-reaps-ended S R K a w m r h = cc
+reaps-ended S R K a w m r h = grind arith
 
 waited-step : (S : System) (R : Rules) (K : List Event) (e : Event) (m : Name) → IsStep S R K e → (was_waited_for K m ≡ true → ended K m ≡ true) → was_waited_for (e ∷ K) m ≡ true → ended (e ∷ K) m ≡ true
 unfolding was_waited_for
-waited-step S R [] e m r ih h = let q : reaps e.what m ≡ false = ap (λ (d : Event). reaps d.what m) r in absurd (no (reaps e.what m) q h)
-  where
-    no : (b : Bool) → b ≡ false → (b || false) ≡ true → ⊥
-    no b q h = grind arith
-waited-step S R (f ∷ K) e m r ih h =
-    elim (or_cases (reaps e.what m) (was_waited_for (f ∷ K) m) h) [
-      | inl q ↦ ended-more e (f ∷ K) m (reaps-ended S R (f ∷ K) e.who e.what m (row-of S R (f ∷ K) e r (omega arith)) q)
-      | inr q ↦ ended-more e (f ∷ K) m (ih q)
+waited-step S R K e m r ih h =
+    elim (or_cases (reaps e.what m) (was_waited_for K m) h) [
+      | inl q ↦ ended-more e K m (reaps-ended S R K e.who e.what m (row-of S R K e r) q)
+      | inr q ↦ ended-more e K m (ih q)
     ]
 
 pub waited-ended : (S : System) (R : Rules) (K : List Event) → IsLegal S R K → (m : Name) → was_waited_for K m ≡ true → ended K m ≡ true

@@ -7,8 +7,9 @@ use Rattle.hist_model.specs.Systems.{System}
 use Rattle.hist_model.specs.Steps.{IsStep, IsLegal}
 use Rattle.hist_model.specs.Laws.{IdsDiffer}
 use Rattle.hist_model.specs.declared.event.Event.{Event}
+use Rattle.mediation.proofs.Rows.{row-of}
 use Rattle.hist_model.proofs.Look.{event_at-here, event_at-older, event_at-above, below_or_last}
-use Rattle.mediation.proofs.Own.{listed-below, listed-here, listed-older, entering, row-of, call-after}
+use Rattle.mediation.proofs.Own.{listed-below, listed-here, listed-older, entering}
 
 -- numbers less than a turn apart differ modulo the turn
 mod-differ : (f r s : ℕ) → r < s → s < 2 ^ 64 → (f + r) % 2 ^ 64 ≡ (f + s) % 2 ^ 64 → ⊥
@@ -49,7 +50,7 @@ numbered-step S R K e r ih c h =
       | inl l ↦ let t = ih c (rw event_at-older at h) in let m = calls-more e K in (t.0, omega arith, rw event_at-older t.2)
       | inr q ↦
           let n : notifies e.what ≡ true = rw event_at-here at (rw q at h) in
-          let t = entering S R K e.who e.what (row-of S R K e r (call-after S R K e r n)) n in
+          let t = entering S R K e.who e.what (row-of S R K e r) n in
           (calls K, calls-here e K n, rw (q, event_at-here) t.id_is)
     ]
 
@@ -61,32 +62,9 @@ numbered S R (e ∷ K) legal = numbered-step S R K e legal.0 (numbered S R K leg
 new-id : (S : System) (R : Rules) (K : List Event) (e : Event) (c : ℕ) → IsStep S R K e → IsLegal S R K → length K < 2 ^ 64 → notifies e.what ≡ true → is_call K c ≡ true → id K c ≡ notify_id e.what → ⊥
 unfolding Numbered
 new-id S R K e c r legal b n h q =
-    let t = entering S R K e.who e.what (row-of S R K e r (call-after S R K e r n)) n in
+    let t = entering S R K e.who e.what (row-of S R K e r) n in
     let o = numbered S R K legal c h in
     mod-differ S.firstid o.0 (calls K) o.1 (omega (arith, calls-le-length K)) (sym o.2 ∙ (q ∙ t.id_is))
-
-ids-step : (S : System) (R : Rules) (K : List Event) (e : Event) → IsStep S R K e → IsLegal S R K → length K < 2 ^ 64 → IdsDiffer K → IdsDiffer (e ∷ K)
-ids-step S R K e r legal b ih c d h g q =
-    elim (below_or_last c (length K) (listed-below (e ∷ K) c h)) [
-      | inl l ↦ elim (below_or_last d (length K) (listed-below (e ∷ K) d g)) [
-        | inl m ↦ ih c d (old c l h) (old d m g) (rw (event_at-older e K c l, event_at-older e K d m) at q)
-        | inr m ↦ absurd (new-id S R K e c r legal b (here d m g) (listed-is_call K c (old c l h)) (rw (event_at-older e K c l, m, event_at-here) at q))
-      ]
-      | inr l ↦ elim (below_or_last d (length K) (listed-below (e ∷ K) d g)) [
-        | inl m ↦ absurd (new-id S R K e d r legal b (here c l h) (listed-is_call K d (old d m g)) (sym (rw (event_at-older e K d m, l, event_at-here) at q)))
-        | inr m ↦ l ∙ sym m
-      ]
-    ]
-  where
-    old : (x : ℕ) → x < length K → listed (e ∷ K) x ≡ true → listed K x ≡ true
-    old x l h = (and_parts (listed K x) (not (unlists e (caller K x))) (rw listed-older at h)).0
-
-    here : (x : ℕ) → x ≡ length K → listed (e ∷ K) x ≡ true → notifies e.what ≡ true
-    here x l h = rw listed-here at (rw l at h)
-
-pub ids_differ : (S : System) (R : Rules) (K : List Event) → IsLegal S R K → length K < 2 ^ 64 → IdsDiffer K
-ids_differ S R [] legal b = λ c d h. absurd (omega (arith, listed-below [] c h))
-ids_differ S R (e ∷ K) legal b = ids-step S R K e legal.0 legal.1 (omega arith) (ids_differ S R K legal.1 (omega arith))
 
 -- two calls have different ids
 pub call-ids : (S : System) (R : Rules) (K : List Event) → IsLegal S R K → length K < 2 ^ 64 → (c d : ℕ) → is_call K c ≡ true → is_call K d ≡ true → id K c ≡ id K d → c ≡ d
@@ -102,3 +80,6 @@ call-ids S R (e ∷ K) legal b = λ c d h g q.
         | inr m ↦ l ∙ sym m
       ]
     ]
+
+pub ids_differ : (S : System) (R : Rules) (K : List Event) → IsLegal S R K → length K < 2 ^ 64 → IdsDiffer K
+ids_differ S R K legal b c d h g q = call-ids S R K legal b c d (listed-is_call K c h) (listed-is_call K d g) q

@@ -13,8 +13,8 @@ use Rattle.hist_model.specs.declared.event.Actor.{Actor}
 use Rattle.hist_model.specs.declared.event.Actor.TheVariants.{Start, Task, Worker, Listener}
 use Rattle.hist_model.specs.declared.event.What.{What}
 use Rattle.hist_model.specs.declared.event.What.TheVariants.{Send, Install}
-use Rattle.mediation.proofs.Rows.{Row}
-use Rattle.mediation.proofs.Own.{row-of, waits-in}
+use Rattle.mediation.proofs.Rows.{Row, row-of}
+use Rattle.mediation.proofs.Own.{waits-in}
 use Rattle.hist_model.proofs.Look.{name_eq-true}
 
 no-both : (u : Unit {0}) → ◌≡◌ {A = Result (Unit {0}) ℕ} (Ok u) (Err 115) → ⊥
@@ -31,10 +31,7 @@ sent-waiting K c (Some d) u q h =
 
 pub answers-waiting : (S : System) (R : Rules) (K : List Event) (a : Actor) (w : What) (c : ℕ) → Row S R K a w → answers K w c ≡ true → waiting K c ≡ true
 answers-waiting S R K (Worker v) (Send x b (Ok u)) c r h = sent-waiting K c (named K x) u r.1 h
-answers-waiting S R K (Task n) (Send x b (Ok u)) c r h = absurd r
-answers-waiting S R K Start (Send x b (Ok u)) c r h = cc
-answers-waiting S R K Listener (Send x b (Ok u)) c r h = cc
-answers-waiting S R K a w c r h = cc
+answers-waiting S R K a w c r h = grind arith
 
 -- an install belongs to the call in which its task waits, which is not settled
 pub installs-open : (S : System) (R : Rules) (K : List Event) (a : Actor) (w : What) (c : ℕ) → IsLegal S R K → Row S R K a w → is_install w ≡ true → is_task a (caller K c) ≡ true → listed K c ≡ true → settled K c ≡ false
@@ -42,8 +39,7 @@ installs-open S R K (Task n) (Install ans) c legal r h g l =
     let m = name_eq-true n (caller K c) g in
     let s = waits-in S R K n c r.1.0 legal r.1.1 l (sym m) in
     rw s at r.1.2
-installs-open S R K (Task n) w c legal r h g l = cc
-installs-open S R K a w c legal r h g l = cc
+installs-open S R K a w c legal r h g l = grind arith
 
 pub settles-once : (S : System) (R : Rules) (K : List Event) (e : Event) (c : ℕ) → IsLegal S R K → Row S R K e.who e.what → settles K e c ≡ true → settled K c ≡ false
 settles-once S R K e c legal r h =
@@ -67,16 +63,10 @@ once-kind S R K e legal r c ih =
       | inr q ↦ unfold answers_to settled in rw q (omega (arith, ih.0), λ x. omega (arith, ih.1 x))
     ]
 
-pub once-step : (S : System) (R : Rules) (K : List Event) (e : Event) → IsLegal S R K → IsStep S R K e → (c : ℕ)
-    → (answers_to K c ≤ 1) × (settled K c ≡ false → answers_to K c ≡ 0)
-    → (answers_to (e ∷ K) c ≤ 1) × (settled (e ∷ K) c ≡ false → answers_to (e ∷ K) c ≡ 0)
-once-step S R [] e legal r c ih = rw r (unfold answers_to settled listed in (omega arith, λ _. refl))
-once-step S R (f ∷ K) e legal r c ih = once-kind S R (f ∷ K) e legal (row-of S R (f ∷ K) e r (omega arith)) c ih
-
 both : (S : System) (R : Rules) (K : List Event) → IsLegal S R K → (c : ℕ) → (answers_to K c ≤ 1) × (settled K c ≡ false → answers_to K c ≡ 0)
 unfolding answers_to
 both S R [] legal = λ c. (omega arith, λ _. refl)
-both S R (e ∷ K) legal = λ c. once-step S R K e legal.1 legal.0 c (both S R K legal.1 c)
+both S R (e ∷ K) legal = λ c. once-kind S R K e legal.1 (row-of S R K e legal.0) c (both S R K legal.1 c)
 
 pub answered_once : (S : System) (R : Rules) (K : List Event) → IsLegal S R K → AnsweredOnce K
 answered_once S R K legal = λ c. (both S R K legal c).0

@@ -18,7 +18,7 @@ use Rattle.hist_model.specs.declared.event.What.TheVariants.{Native, Install, Sp
 use Rattle.hist_model.specs.declared.event.Entered.{Entered}
 use Rattle.hist_model.specs.declared.event.Entered.TheVariants.{Notify}
 use Rattle.hist_model.proofs.Look.{event_at-here, event_at-older, below_or_last, name_eq-true, name_eq-refl, newest-found, newest-some}
-use Rattle.mediation.proofs.Rows.{Row, TaskRow, step-row}
+use Rattle.mediation.proofs.Rows.{Row, TaskRow, row-of}
 
 -- a listed call stands below
 pub listed-below : (K : List Event) (c : ℕ) → listed K c ≡ true → c < length K
@@ -102,20 +102,7 @@ entering S R K (Task n) (Enter nr args v) r h =
     let x = (S.firstid + calls K) % 2 ^ 64 in
     let f = id-with nr args (S.verdict nr args) x (subst (λ u. notifies (Enter nr args u) ≡ true) r.2 h) in
     record { name = n; actor = refl; lives = r.0; outside = r.1; id_is = ap (λ u. notify_id (Enter nr args u)) r.2 ∙ f.0; not_end = ap (λ u. ends (Enter nr args u)) r.2 ∙ f.1; not_passive = refl; no_task = refl }
-entering S R K (Worker v) (Enter nr args u) r h = absurd r
-entering S R K Start (Enter nr args u) r h = cc
-entering S R K Listener (Enter nr args u) r h = cc
-entering S R K a w r h = cc
-
--- the row of a step after some event
-pub row-of : (S : System) (R : Rules) (K : List Event) (e : Event) → IsStep S R K e → 0 < length K → Row S R K e.who e.what
-row-of S R [] e r l = absurd (omega arith)
-row-of S R (f ∷ K) e r l = rw (← r.2) at (step-row S R (f ∷ K) e.who)
-
--- the first event is no call
-pub call-after : (S : System) (R : Rules) (K : List Event) (e : Event) → IsStep S R K e → notifies e.what ≡ true → 0 < length K
-call-after S R [] e r h = let q = ap (λ (d : Event). notifies d.what) r in cc
-call-after S R (f ∷ K) e r h = omega arith
+entering S R K a w r h = grind arith
 
 old-kept : (S : System) (R : Rules) (K : List Event) (e : Event) (c : ℕ) → Row S R K e.who e.what → listed K c ≡ true → unlists e (caller K c) ≡ false
     → alive K (caller K c) ≡ true → last_own K (caller K c) ≡ Some c
@@ -148,10 +135,10 @@ calls-step S R K e r ih c h =
     elim (below_or_last c (length K) (listed-below (e ∷ K) c h)) [
       | inl l ↦
           let p = and_parts (listed K c) (not (unlists e (caller K c))) (rw listed-older at h) in
-          rw caller-older (old-kept S R K e c (row-of S R K e r (omega arith)) p.0 (not-true (unlists e (caller K c)) p.1) (ih c p.0).0 (ih c p.0).1)
+          rw caller-older (old-kept S R K e c (row-of S R K e r) p.0 (not-true (unlists e (caller K c)) p.1) (ih c p.0).0 (ih c p.0).1)
       | inr q ↦
           let n : notifies e.what ≡ true = rw listed-here at (rw q at h) in
-          rw (q, event_at-here) (new-last S R K e (row-of S R K e r (call-after S R K e r n)) n)
+          rw (q, event_at-here) (new-last S R K e (row-of S R K e r) n)
     ]
 
 pub calls_are_last : (S : System) (R : Rules) (K : List Event) → IsLegal S R K → CallsAreLast K

@@ -16,8 +16,7 @@ use Rattle.hist_model.specs.declared.event.What.TheVariants.{Recv, AddfdPut, Sen
 use Rattle.sys_abi.specs.declared.wire.Notif.{Notif}
 use Rattle.sys_abi.specs.declared.wire.Addfd.{Addfd}
 use Rattle.hist_model.proofs.Look.{event_at-older}
-use Rattle.mediation.proofs.Rows.{Row, WorkerRow}
-use Rattle.mediation.proofs.Own.{row-of}
+use Rattle.mediation.proofs.Rows.{Row, WorkerRow, row-of}
 use Rattle.mediation.proofs.Ids.{ids_differ}
 use Rattle.mediation.proofs.Count.{receiving, fetching}
 use Rattle.mediation.proofs.Deeds.{AtWork, deed-is}
@@ -205,18 +204,14 @@ no-call w c h = cc
 
 pub hand-fetcher : (S : System) (R : Rules) (K : List Event) → IsLegal S R K → length K < 2 ^ 64 → (w c : ℕ) → session_call K w ≡ Some c → fetcher K c ≡ Some w
 hand-fetcher S R [] legal room = λ w c h. absurd (no-call w c h)
-hand-fetcher S R (e ∷ []) legal room = λ w c h. absurd (start-none w c h)
-  where
-    start-none : (w c : ℕ) → session_call (e ∷ []) w ≡ Some c → ⊥
-    start-none w c h = let q : is_worker e.who w ≡ false = ap (λ (d : Event). is_worker d.who w) legal.0 in no-call w c (sym (call-same e [] w q) ∙ h)
-hand-fetcher S R (e ∷ f ∷ K) legal room = λ w c h.
-    let row = row-of S R (f ∷ K) e legal.0 (omega arith) in
+hand-fetcher S R (e ∷ K) legal room = λ w c h.
+    let row = row-of S R K e legal.0 in
     elim (cases_Bool (is_worker e.who w)) [
-      | inl q ↦ elim (hand-fetcher-kind S R (f ∷ K) e.who e.what w c legal.1 (omega arith) row q refl (sym (call-more e (f ∷ K) w q) ∙ h)) [
-        | inl p ↦ let x = hand-fetcher S R (f ∷ K) legal.1 (omega arith) w c p in fetcher-stays S R (f ∷ K) e w c legal.1 (omega arith) row (fetcher-fetched (f ∷ K) c w x) x
-        | inr p ↦ fetcher-now e (f ∷ K) c p.0 ∙ p.1
+      | inl q ↦ elim (hand-fetcher-kind S R K e.who e.what w c legal.1 (omega arith) row q refl (sym (call-more e K w q) ∙ h)) [
+        | inl p ↦ let x = hand-fetcher S R K legal.1 (omega arith) w c p in fetcher-stays S R K e w c legal.1 (omega arith) row (fetcher-fetched K c w x) x
+        | inr p ↦ fetcher-now e K c p.0 ∙ p.1
       ]
-      | inr q ↦ let x = hand-fetcher S R (f ∷ K) legal.1 (omega arith) w c (sym (call-same e (f ∷ K) w q) ∙ h) in fetcher-stays S R (f ∷ K) e w c legal.1 (omega arith) row (fetcher-fetched (f ∷ K) c w x) x
+      | inr q ↦ let x = hand-fetcher S R K legal.1 (omega arith) w c (sym (call-same e K w q) ∙ h) in fetcher-stays S R K e w c legal.1 (omega arith) row (fetcher-fetched K c w x) x
     ]
 
 -- a worker answers and asks only for the call that it has in hand

@@ -15,7 +15,7 @@ use Rattle.hist_model.specs.declared.event.What.{What}
 use Rattle.hist_model.specs.declared.event.What.TheVariants.{Spawn}
 use Rattle.hist_model.specs.declared.event.SpawnKind.{SpawnKind}
 use Rattle.hist_model.proofs.Look.{event_at-here, event_at-older, event_at-above, below_or_last, newest-found}
-use Rattle.mediation.proofs.Rows.{Row, step-row}
+use Rattle.mediation.proofs.Rows.{Row, row-of}
 
 pub ended-more : (e : Event) (K : List Event) (n : Name) → ended K n ≡ true → ended (e ∷ K) n ≡ true
 unfolding ended
@@ -69,25 +69,18 @@ unfolding holder
 free-held K p t e h = newest-found (holds K p) (length K) t (holds-below K p t h) h e
 
 -- a step that gives a number gives a free one
-given-is-next : (S : System) (R : Rules) (K : List Event) (a : Actor) (w : What) (p : ℕ) → Row S R K a w → given w ≡ Some p → next_pid S.pidbase S.pidmax K ≡ Some p
-given-is-next S R K (Task n) (Spawn m a) p r g = from-answer (next_pid S.pidbase S.pidmax K) r.2.0 (rw r.2.1 at g)
+given-free : (S : System) (R : Rules) (K : List Event) (a : Actor) (w : What) (p : ℕ) → Row S R K a w → given w ≡ Some p → holder K p ≡ None
+unfolding holder newest
+given-free S R K (Task n) (Spawn m a) p r g = next-none S.pidbase S.pidmax K p (from-answer (next_pid S.pidbase S.pidmax K) r.2.0 (rw r.2.1 at g))
   where
     from-answer : (o : Option ℕ) (kind : SpawnKind) → given (Spawn m (spawn_answer o kind)) ≡ Some p → o ≡ Some p
-    from-answer None kind g = cc
-    from-answer (Some q) kind g = g
-given-is-next S R K (Worker v) (Spawn m a) p r g = absurd r
-given-is-next S R K Start (Spawn m a) p r g = cc
-given-is-next S R K Listener (Spawn m a) p r g = cc
-given-is-next S R K a w p r g = cc
-
-new-free : (S : System) (R : Rules) (K : List Event) (e : Event) (p : ℕ) → IsStep S R K e → given e.what ≡ Some p → holder K p ≡ None
-unfolding holder newest
-new-free S R [] e p r g = refl
-new-free S R (f ∷ K) e p r g = next-none S.pidbase S.pidmax (f ∷ K) p (given-is-next S R (f ∷ K) e.who e.what p (rw (← r.2) at (step-row S R (f ∷ K) e.who)) g)
+    from-answer o kind g = grind arith
+given-free S R K Start (Spawn m a) p r g = rw r.0
+given-free S R K a w p r g = grind arith
 
 -- the new task's number is nobody else's
 new-differs : (S : System) (R : Rules) (K : List Event) (e : Event) (p t : ℕ) → IsStep S R K e → holds (e ∷ K) p t ≡ true → holds (e ∷ K) p (length K) ≡ true → t < length K → ⊥
-new-differs S R K e p t r h g l = free-held K p t (new-free S R K e p r (holds-here e K p g)) (holds-less e K p t l h)
+new-differs S R K e p t r h g l = free-held K p t (given-free S R K e.who e.what p (row-of S R K e r) (holds-here e K p g)) (holds-less e K p t l h)
 
 pids-step : (S : System) (R : Rules) (K : List Event) (e : Event) → IsStep S R K e → PidsDiffer K → PidsDiffer (e ∷ K)
 pids-step S R K e r ih p t u h g =

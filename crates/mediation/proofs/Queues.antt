@@ -96,10 +96,7 @@ put-ok S K q c u false (Some d) h g = rw (eqb-true d c h) at (go d (waiting K d)
 
 pub puts-waiting : (S : System) (R : Rules) (K : List Event) (a : Actor) (w : What) (c : ℕ) → Row S R K a w → puts_to K w c ≡ true → waiting K c ≡ true
 puts-waiting S R K (Worker v) (AddfdPut q (Ok u)) c r h = put-ok S K q c u (not (S.source q.srcfd)) (named K q.id) h r.1
-puts-waiting S R K (Task n) (AddfdPut q (Ok u)) c r h = absurd r
-puts-waiting S R K Start (AddfdPut q (Ok u)) c r h = cc
-puts-waiting S R K Listener (AddfdPut q (Ok u)) c r h = cc
-puts-waiting S R K a w c r h = cc
+puts-waiting S R K a w c r h = grind arith
 
 -- an install belongs to the first request of its task's call
 pub record Installing (S : System) (K : List Event) (a : Actor) (w : What) (c : ℕ) : Type 0 where
@@ -118,8 +115,7 @@ installing S R K (Task n) (Install x) c legal r h g l =
     let m = name_eq-true n (caller K c) g in
     let s = waits-in S R K n c r.1.0 legal r.1.1 l (sym m) in
     install-first S K (Task n) x c (queue K c) refl (rw s at r.1.1) (rw s at r.1.3)
-installing S R K (Task n) w c legal r h g l = cc
-installing S R K a w c legal r h g l = cc
+installing S R K a w c legal r h g l = grind arith
 
 -- each request in a queue was put for that call
 unfoldable pub Asks : List Event → ℕ → List ℕ → Type 0

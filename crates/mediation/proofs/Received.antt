@@ -14,10 +14,9 @@ use Rattle.hist_model.specs.declared.event.What.{What}
 use Rattle.hist_model.specs.declared.event.What.TheVariants.{Recv}
 use Rattle.sys_abi.specs.declared.wire.Notif.{Notif}
 use Rattle.hist_model.proofs.Look.{event_at-older, oldest-none}
-use Rattle.mediation.proofs.Rows.{Row}
+use Rattle.mediation.proofs.Rows.{Row, row-of}
 use Rattle.mediation.proofs.Own.{listed-older}
 use Rattle.mediation.proofs.Count.{receiving, count_is}
-use Rattle.mediation.proofs.Replies.{row-or-start}
 
 count_below-le : (p q : ℕ → Bool) (n : ℕ) → ((c : ℕ) → c < n → p c ≡ true → q c ≡ true) → count_below p n ≤ count_below q n
 unfolding count_below
@@ -87,10 +86,7 @@ pub receives-step : (S : System) (R : Rules) (K : List Event) (e : Event) → Is
 receives-step S R K e legal room r ih =
     let m = left-more e K in
     elim (cases_Bool (gets_nothing e.what)) [
-      | inl q ↦ elim (row-or-start S R K e r) [
-        | inl z ↦ absurd (both_ways (gets_nothing e.what) (ap (λ (d : Event). gets_nothing d.what) z) q)
-        | inr z ↦ let s = room-for S R K e.who e.what legal room z.1 q in rw (empty-more e K q) (omega arith)
-      ]
+      | inl q ↦ let s = room-for S R K e.who e.what legal room (row-of S R K e r) q in rw (empty-more e K q) (omega arith)
       | inr q ↦ rw (empty-same e K q) (omega arith)
     ]
 

@@ -51,7 +51,7 @@ after-legal S R [] f K m c legal = legal
 after-legal S R (a ∷ more) f K m c legal =
     let p = and_parts (moves a) (all_move more) m in
     let q = moves-actor a p.0 in
-    let r = row-closes S R (f ∷ K) a (step S R (f ∷ K) a) p.0 (step-row S R (f ∷ K) a) in
+    let r = row-closes S R (f ∷ K) a (step S R (f ∷ K) a) p.0 (step-row S R (f ∷ K) a q.0) in
     after-legal S R more (ev a (step S R (f ∷ K) a)) (f ∷ K) p.1 r ((c, q.0, refl, q.1), legal)
 
 played-legal : (S : System) (R : Rules) (actors : List Actor) → all_move actors ≡ true → IsLegal S R (played S R actors)

@@ -9,7 +9,6 @@ use Rattle.hist_model.specs.Systems.{System, Slot, Number, Full, Over}
 use Rattle.hist_model.specs.Steps.{IsStep, IsLegal, session_call, start, is_start, send_answer, put_answer, check_answer, take_step, install_of, install_at, install_step, installed, installs_request, request_of, request_listed, call_at, slot_answer}
 use Rattle.hist_model.specs.Settlers.{InstallsOwn, ResumesOwn, ReturnsInstalled}
 use Rattle.hist_model.specs.Mediated.{HasCause, NeverBusy, is_busy, ErrorsKnown, is_known_error, TakenByItsActor, takes, Each, NamesOwn, is_accepted, LostIfGone, is_lost}
-use Rattle.mediation.proofs.Own.{row-of}
 use Rattle.mediation.proofs.Settlers.{installs-own, resumes-own, returns-installed}
 use Rattle.mediation.proofs.Names.{named-is, names-own}
 use Rattle.sys_abi.specs.declared.wire.Addfd.{Addfd}
@@ -20,7 +19,7 @@ use Rattle.hist_model.specs.declared.event.Actor.TheVariants.{Worker, Start, Tas
 use Rattle.hist_model.specs.declared.event.What.{What}
 use Rattle.hist_model.specs.declared.event.Back.{Back}
 use Rattle.hist_model.specs.declared.event.What.TheVariants.{Spawn, Poke, Handler, Enter, Native, Install, Resume, Signal, Deliver, Reap, Exit, Recv, OpenMem, OpenBase, Check, Read, Act, Plant, AddfdPut, AddfdTake, Send, LetGo, Skip}
-use Rattle.mediation.proofs.Rows.{Row, WorkerRow, TaskRow}
+use Rattle.mediation.proofs.Rows.{Row, WorkerRow, TaskRow, row-of}
 use Rattle.mediation.proofs.Deeds.{deed-is, AtWork}
 use Rattle.mediation.proofs.Work.{InSession, hand, hand-notif, worker-row, in-hand, works, at-work}
 use Rattle.mediation.proofs.Sequence.{is-own}
@@ -34,50 +33,12 @@ pub each : (S : System) (R : Rules) (P : List Event → Event → Type 0) → ((
 each S R P f [] legal room = tt
 each S R P f (e ∷ K) legal room = (f K e legal.1 (omega arith) legal.0, each S R P f K legal.1 (omega arith))
 
--- the first event, or a step of its actor
-pub row-or-start : (S : System) (R : Rules) (K : List Event) (e : Event) → IsStep S R K e → (e ≡ start S) ⊎ ((is_start e.who ≡ false) × Row S R K e.who e.what)
-row-or-start S R [] e r = inl r
-row-or-start S R (f ∷ K) e r = inr (r.1, row-of S R (f ∷ K) e r (omega arith))
-
 -- the kinds of an actor's steps
-takes-row : (S : System) (R : Rules) (K : List Event) (a : Actor) (what : What) → is_start a ≡ false → Row S R K a what → takes a what ≡ true
-takes-row S R K Start what n r = cc
-takes-row S R K Listener what n r = rw r
-takes-row S R K (Task m) (Spawn n a) q r = refl
-takes-row S R K (Task m) (Poke x b) q r = refl
-takes-row S R K (Task m) (Handler s mode) q r = refl
-takes-row S R K (Task m) (Enter nr args v) q r = refl
-takes-row S R K (Task m) (Native a) q r = refl
-takes-row S R K (Task m) (Install a) q r = refl
-takes-row S R K (Task m) (Resume b) q r = refl
-takes-row S R K (Task m) (Signal p s a) q r = refl
-takes-row S R K (Task m) (Deliver s effect) q r = refl
-takes-row S R K (Task m) (Reap a) q r = refl
-takes-row S R K (Task m) Exit q r = refl
-takes-row S R K (Task m) Skip q r = refl
-takes-row S R K (Task m) _ q r = absurd r
-takes-row S R K (Worker w) (Recv a) q r = refl
-takes-row S R K (Worker w) (OpenMem p a) q r = refl
-takes-row S R K (Worker w) (OpenBase p d a) q r = refl
-takes-row S R K (Worker w) (Check x a) q r = refl
-takes-row S R K (Worker w) (Read x l a) q r = refl
-takes-row S R K (Worker w) (Act x cap a) q r = refl
-takes-row S R K (Worker w) (Plant x b cap a) q r = refl
-takes-row S R K (Worker w) (AddfdPut x a) q r = refl
-takes-row S R K (Worker w) (AddfdTake a) q r = refl
-takes-row S R K (Worker w) (Send x b a) q r = refl
-takes-row S R K (Worker w) LetGo q r = refl
-takes-row S R K (Worker w) Skip q r = refl
-takes-row S R K (Worker w) _ q r = absurd r
+takes-row : (S : System) (R : Rules) (K : List Event) (a : Actor) (what : What) → Row S R K a what → takes a what ≡ true
+takes-row S R K a what r = grind arith
 
 pub taken-by-its-actor : (S : System) (R : Rules) (K : List Event) (e : Event) → IsLegal S R K → length K < 2 ^ 64 → IsStep S R K e → TakenByItsActor K e
-taken-by-its-actor S R K e legal room r = elim (row-or-start S R K e r) [
-  | inl q ↦ rw q
-  | inr q ↦ takes-row S R K e.who e.what q.0 q.1
-]
-
-pub by-worker : (S : System) (R : Rules) (K : List Event) (e : Event) (w : ℕ) → IsStep S R K e → e.who ≡ Worker w → WorkerRow S R K w e.what
-by-worker S R K e w r q = worker-row S R K e w r (rw q (eq-eqb w w refl))
+taken-by-its-actor S R K e legal room r = takes-row S R K e.who e.what (row-of S R K e r)
 
 -- what an accepted step names
 sent-some : (K : List Event) (o : Option ℕ) (u : Unit {0}) → ◌≡◌ {A = Result (Unit {0}) ℕ} (Ok u) (send_answer K o) → (c : ℕ) × (o ≡ Some c)
@@ -108,19 +69,10 @@ names-row S R K (Worker w) (AddfdPut q (Ok u)) legal room r h =
   where
     or-here : (b : Bool) → b ≡ true → (b || false) ≡ true
     or-here b h = grind arith
-names-row S R K (Task n) (Send x b (Ok u)) legal room r h = absurd r
-names-row S R K (Task n) (AddfdPut q (Ok u)) legal room r h = absurd r
-names-row S R K Start (Send x b (Ok u)) legal room r h = cc
-names-row S R K Start (AddfdPut q (Ok u)) legal room r h = cc
-names-row S R K Listener (Send x b (Ok u)) legal room r h = cc
-names-row S R K Listener (AddfdPut q (Ok u)) legal room r h = cc
-names-row S R K a what legal room r h = cc
+names-row S R K a what legal room r h = grind arith
 
 pub names-own-call : (S : System) (R : Rules) (K : List Event) (e : Event) → IsLegal S R K → length K < 2 ^ 64 → IsStep S R K e → NamesOwn K e
-names-own-call S R K e legal room r h = elim (row-or-start S R K e r) [
-  | inl q ↦ absurd (both_ways (is_accepted e.what) (ap (λ (d : Event). is_accepted d.what) q) h)
-  | inr q ↦ names-row S R K e.who e.what legal room q.1 h
-]
+names-own-call S R K e legal room r h = names-row S R K e.who e.what legal room (row-of S R K e r) h
 
 module _ (S : System) (R : Rules) (K : List Event) (a : Actor) (w c : ℕ) (legal : IsLegal S R K) (room : length K < 2 ^ 64) (is_mine : is_worker a w ≡ true) (l : listed K c ≡ true) (h : AtCall K c w) (i : InSession K w c) where
   not-lost : (what : What) → WorkerRow S R K w what → is_lost what ≡ true → ⊥
@@ -147,14 +99,14 @@ lost-works what h = cc
 
 pub lost-if-gone : (S : System) (R : Rules) (K : List Event) (e : Event) → IsLegal S R K → length K < 2 ^ 64 → IsStep S R K e → LostIfGone K e
 lost-if-gone S R K e legal room r w q z =
-    let row = by-worker S R K e w r q in
+    let row : WorkerRow S R K w e.what = rw q at (row-of S R K e r) in
     let g = at-work S R K w e.what row (lost-works e.what z) in
     let j = in-hand K w (session_call K w) g.0 g.1 (hand S R K legal w) in
     (j.0, j.1, false_from_ne_true (listed K j.0) (λ l. not-lost S R K e.who w j.0 legal room (rw q (eq-eqb w w refl)) l (at-call S R K w j.0 legal room j.1 l) j.2 e.what row z))
 
 pub has-cause : (S : System) (R : Rules) (K : List Event) (e : Event) → IsLegal S R K → length K < 2 ^ 64 → IsStep S R K e → HasCause R K e
 has-cause S R K e legal room r w x b y who what =
-    let row : WorkerRow S R K w (Send x b y) = rw what at (by-worker S R K e w r who) in
+    let row : WorkerRow S R K w (Send x b y) = rw what at (rw who at (row-of S R K e r)) in
     let t = deed-is R (session K w) (Answer x b) row.0 in
     let j = in-hand K w (session_call K w) t.0 t.1 (hand S R K legal w) in
     (j.0, t.0, j.1, t.1.notif_is, hand-notif K w j.0 j.2 t.0 j.3, t.4, used-two R (session K w) t.0 t.1 t.3 (ordered R (session K w) (is-own S R K legal w)), t.5)
@@ -191,10 +143,7 @@ install-error S R K (Task n) (Install y) x r h = go (queue K r.1.0) r.1.3 h
     go : (rs : List ℕ) → Install y ≡ install_step S K r.1.0 rs → ◌≡◌ {A = Option (Result ℕ ℕ)} (Some y) (Some (Err x)) → ((x == 9) || ((x == 24) || (x == 2))) ≡ true
     go [] q h = cc
     go (p ∷ rs) q h = slot (S.slot K r.1.0 p) (answer y _ q) h
-install-error S R K (Worker v) (Install y) x r h = absurd r
-install-error S R K Start (Install y) x r h = cc
-install-error S R K Listener (Install y) x r h = cc
-install-error S R K a what x r h = cc
+install-error S R K a what x r h = grind arith
 
 install-known-step : (S : System) (R : Rules) (K : List Event) (e : Event) (p x : ℕ) → Row S R K e.who e.what → (install_of K p ≡ Some (Err x) → ((x == 9) || ((x == 24) || (x == 2))) ≡ true) → install_of (e ∷ K) p ≡ Some (Err x) → ((x == 9) || ((x == 24) || (x == 2))) ≡ true
 unfolding install_of
@@ -207,14 +156,9 @@ no-install-of : (p x : ℕ) → install_of [] p ≡ Some (Err x) → ⊥
 unfolding install_of
 no-install-of p x h = cc
 
-first-install-of : (e : Event) (p x : ℕ) → install_of (e ∷ []) p ≡ Some (Err x) → ⊥
-unfolding install_of call_at
-first-install-of e p x h = cc
-
 install-known : (S : System) (R : Rules) (K : List Event) → IsLegal S R K → (p x : ℕ) → install_of K p ≡ Some (Err x) → ((x == 9) || ((x == 24) || (x == 2))) ≡ true
 install-known S R [] legal = λ p x h. absurd (no-install-of p x h)
-install-known S R (e ∷ []) legal = λ p x h. absurd (first-install-of e p x h)
-install-known S R (e ∷ f ∷ K) legal = λ p x. install-known-step S R (f ∷ K) e p x (row-of S R (f ∷ K) e legal.0 (omega arith)) (install-known S R (f ∷ K) legal.1 p x)
+install-known S R (e ∷ K) legal = λ p x. install-known-step S R K e p x (row-of S R K e legal.0) (install-known S R K legal.1 p x)
 
 err-same : (x y : ℕ) → ◌≡◌ {A = Result (Unit {0}) ℕ} (Err x) (Err y) → x ≡ y
 err-same x y h = cc
@@ -315,7 +259,7 @@ pub errors-known : (S : System) (R : Rules) (K : List Event) (e : Event) → IsL
 errors-known S R K e legal room r = go e.who refl
   where
     go : (a : Actor) → e.who ≡ a → is_known_error e.what ≡ true
-    go (Worker w) q = worker-known S R K w legal room e.what (by-worker S R K e w r q)
+    go (Worker w) q = worker-known S R K w legal room e.what (rw q at (row-of S R K e r))
     go (Task n) q = others-known (Task n) e.what (rw q at (taken-by-its-actor S R K e legal room r)) (λ w h. cc)
     go Start q = others-known Start e.what (rw q at (taken-by-its-actor S R K e legal room r)) (λ w h. cc)
     go Listener q = others-known Listener e.what (rw q at (taken-by-its-actor S R K e legal room r)) (λ w h. cc)
@@ -328,18 +272,11 @@ known-not-busy what h = refl
 pub never-busy : (S : System) (R : Rules) (K : List Event) (e : Event) → IsLegal S R K → length K < 2 ^ 64 → IsStep S R K e → NeverBusy K e
 never-busy S R K e legal room r = known-not-busy e.what (errors-known S R K e legal room r)
 
-pub by-task : (S : System) (R : Rules) (K : List Event) (e : Event) (n : Name) → IsStep S R K e → e.who ≡ Task n → TaskRow S K n e.what
-by-task S R [] e n r q = let h = ap (λ (d : Event). d.who) r in absurd (no (sym h ∙ q))
-  where
-    no : Start ≡ Task n → ⊥
-    no h = cc
-by-task S R (f ∷ K) e n r q = rw q at (row-of S R (f ∷ K) e r (omega arith))
-
 pub installs-are-own : (S : System) (R : Rules) (K : List Event) (e : Event) → IsLegal S R K → length K < 2 ^ 64 → IsStep S R K e → InstallsOwn K e
-installs-are-own S R K e legal room r n x who what = installs-own S R K n x legal room (rw what at (by-task S R K e n r who))
+installs-are-own S R K e legal room r n x who what = installs-own S R K n x legal room (rw (who, what) at (row-of S R K e r))
 
 pub resumes-are-own : (S : System) (R : Rules) (K : List Event) (e : Event) → IsLegal S R K → length K < 2 ^ 64 → IsStep S R K e → ResumesOwn K e
-resumes-are-own S R K e legal room r n b who what = resumes-own S R K n b legal room (rw what at (by-task S R K e n r who))
+resumes-are-own S R K e legal room r n b who what = resumes-own S R K n b legal room (rw (who, what) at (row-of S R K e r))
 
 pub resumes-installed : (S : System) (R : Rules) (K : List Event) (e : Event) → IsLegal S R K → length K < 2 ^ 64 → IsStep S R K e → ReturnsInstalled K e
-resumes-installed S R K e legal room r n b who what = returns-installed S R K n b legal room (rw what at (by-task S R K e n r who))
+resumes-installed S R K e legal room r n b who what = returns-installed S R K n b legal room (rw (who, what) at (row-of S R K e r))

@@ -7,11 +7,11 @@ use Rattle.hist_model.specs.Calls.{calls, settled, named, count, queue}
 use Rattle.hist_model.specs.Signals.{next_signal, call_of, effect_in_call, effect_outside}
 use Rattle.hist_model.specs.Sessions.{session, deed, Rules, Deed, Fetch, Open, OpenB, Ask, ReadD, ActD, PlantD, Put, Take, Answer, Let}
 use Rattle.hist_model.specs.Systems.{System}
-use Rattle.hist_model.specs.Steps.{step, task_step, living_step, worker_step, deed_step, instr_step, deliver_or, wait_step, reply, spawn_answer, found, is_child, is_ended_child, next_instr, recv_answer, oldest_unfetched, lives, check_answer, send_answer, with_id, owes_native, install_step, base_answer, read_answer, put_answer, mem, take_step, next_child, is_spent, install_at, request_of, request_listed}
+use Rattle.hist_model.specs.Steps.{step, task_step, living_step, worker_step, deed_step, instr_step, deliver_or, wait_step, reply, spawn_answer, found, is_child, is_ended_child, next_instr, recv_answer, oldest_unfetched, lives, check_answer, send_answer, with_id, owes_native, install_step, base_answer, read_answer, put_answer, mem, take_step, next_child, is_spent, is_start, IsStep, install_at, request_of, request_listed}
 use Rattle.hist_model.specs.declared.event.Event.{Event}
 use Rattle.hist_model.specs.declared.script.Instr.{Instr}
 use Rattle.hist_model.specs.declared.script.Instr.TheVariants.{Poke as IPoke, Fill as IFill, Call as ICall, Spawn as ISpawn, Thread as IThread, Kill as IKill, Handler as IHandler, Wait as IWait, Exit as IExit}
-use Rattle.hist_model.specs.declared.event.SpawnKind.TheVariants.{Copied, Shared}
+use Rattle.hist_model.specs.declared.event.SpawnKind.TheVariants.{New, Copied, Shared}
 use Rattle.hist_model.specs.declared.event.Actor.{Actor}
 use Rattle.hist_model.specs.declared.event.Actor.TheVariants.{Start, Task, Worker, Listener}
 use Rattle.hist_model.specs.declared.event.What.{What}
@@ -51,11 +51,14 @@ WorkerRow S R K w LetGo = deed R (session K w) ≡ Let
 WorkerRow S R K w Skip = Unit {0}
 WorkerRow S R K w _ = ⊥
 
+-- the start is the first event, and nothing else
 abbrev pub Row : System → Rules → List Event → Actor → What → Type 0
-Row S R K Start a = a ≡ Skip
+Row S R K Start (Spawn m a) = (K ≡ []) × (m ≡ 0 ∷ []) × (a ≡ Ok (S.pidbase + 1, New))
+Row S R K Start _ = ⊥
 Row S R K (Task n) a = TaskRow S K n a
 Row S R K (Worker w) a = WorkerRow S R K w a
-Row S R K Listener a = a ≡ Close
+Row S R K Listener Close = Unit {0}
+Row S R K Listener _ = ⊥
 
 module _ (S : System) (K : List Event) (n : Name) (living : alive K n ≡ true) where
   deliver_row : (r : Option ℕ) (effect : ℕ → Delivered) (other : What) → next_signal S.killable K n ≡ r → ((c : ℕ) → call_of K n ≡ Some c → settled K c ≡ false) → (r ≡ None → TaskRow S K n other) → TaskRow S K n (deliver_or r effect other)
@@ -136,9 +139,14 @@ module _ (S : System) (R : Rules) (K : List Event) (w : ℕ) where
   worker_row Let q = q
 
 -- the step of an actor is one of its rows
-pub step-row : (S : System) (R : Rules) (K : List Event) (a : Actor) → Row S R K a (step S R K a)
+pub step-row : (S : System) (R : Rules) (K : List Event) (a : Actor) → is_start a ≡ false → Row S R K a (step S R K a)
 unfolding step task_step worker_step
-step-row S R K Start = refl
-step-row S R K (Task n) = task_row S K n (alive K n) refl
-step-row S R K (Worker w) = worker_row S R K w (deed R (session K w)) refl
-step-row S R K Listener = refl
+step-row S R K Start h = cc
+step-row S R K (Task n) h = task_row S K n (alive K n) refl
+step-row S R K (Worker w) h = worker_row S R K w (deed R (session K w)) refl
+step-row S R K Listener h = tt
+
+-- and so is each event of a legal history
+pub row-of : (S : System) (R : Rules) (K : List Event) (e : Event) → IsStep S R K e → Row S R K e.who e.what
+row-of S R [] e r = rw r (refl, refl, refl)
+row-of S R (f ∷ K) e r = rw (← r.2) at (step-row S R (f ∷ K) e.who r.1)

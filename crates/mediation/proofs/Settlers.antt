@@ -20,10 +20,9 @@ use Rattle.hist_model.specs.declared.event.Back.{Back}
 use Rattle.hist_model.specs.declared.event.Back.TheVariants.{Value}
 use Rattle.hist_model.proofs.Look.{event_at-here, event_at-older, event_at-below, newest-some, name_eq-true}
 use Rattle.mediation.proofs.Before.{before-older, before-newest}
-use Rattle.mediation.proofs.Rows.{Row, TaskRow, WorkerRow}
+use Rattle.mediation.proofs.Rows.{Row, TaskRow, WorkerRow, row-of}
 use Rattle.mediation.proofs.Deeds.{deed-is}
 use Rattle.mediation.proofs.Once.{installs-open, settles-once}
-use Rattle.mediation.proofs.Own.{row-of}
 use Rattle.mediation.proofs.Queues.{installing, install-first, put-call, call-at-older, call-at-here, call-at-above}
 use Rattle.mediation.proofs.Sequence.{is_put}
 use Rattle.mediation.proofs.Phases.{hand-fetcher, fetcher-fetched, fetcher-stays, install-same, install-now, install-new}
@@ -76,10 +75,7 @@ put-is-put K what c h = cc
 
 puts-send : (S : System) (R : Rules) (K : List Event) (a : Actor) (what : What) → Row S R K a what → is_put what ≡ true → has_send what ≡ true
 puts-send S R K (Worker w) (AddfdPut q x) r h = put-sends S R K w q x r
-puts-send S R K (Task n) (AddfdPut q x) r h = absurd r
-puts-send S R K Start (AddfdPut q x) r h = cc
-puts-send S R K Listener (AddfdPut q x) r h = cc
-puts-send S R K a what r h = cc
+puts-send S R K a what r h = grind arith
 
 -- a new request is its session's
 put-own : (S : System) (R : Rules) (K : List Event) (e : Event) (c : ℕ) → IsLegal S R K → length K < 2 ^ 64 → Row S R K e.who e.what → puts_to K e.what c ≡ true → (w : ℕ) × IsRequestOf (e ∷ K) c (length K) w
@@ -112,30 +108,9 @@ none-of : (c : ℕ) → AllOf [] c (queue [] c)
 unfolding queue AllOf
 none-of c = tt
 
--- the first event does nothing to any call
-first-calm : (S : System) (R : Rules) (e : Event) (c : ℕ) → IsStep S R [] e → (puts_to [] e.what c ≡ false) × (installs_for [] e c ≡ false) × (answers [] e.what c ≡ false)
-first-calm S R e c r = (ap (λ (d : Event). puts_to [] d.what c) r, ap (λ (d : Event). installs_for [] d c) r, ap (λ (d : Event). answers [] d.what c) r)
-
-first-of : (S : System) (R : Rules) (e : Event) (c : ℕ) → IsStep S R [] e → AllOf (e ∷ []) c (queue (e ∷ []) c)
-first-of S R e c r =
-    let k = first-calm S R e c r in
-    rw (queue-other e [] c k.0 k.1) (empty c)
-  where
-    empty : (c : ℕ) → AllOf (e ∷ []) c (queue [] c)
-    empty c = unfold queue AllOf in tt
-
 nothing-settled : (c : ℕ) → settled [] c ≡ true → ⊥
 unfolding settled
 nothing-settled c h = cc
-
-start-settles : (S : System) (R : Rules) (e : Event) (c : ℕ) → IsStep S R [] e → settled (e ∷ []) c ≡ true → ⊥
-unfolding settled
-start-settles S R e c r h =
-    let k = first-calm S R e c r in
-    no (answers [] e.what c) (installs_for [] e c) (gave e.what && first_sends [] (queue [] c)) k.2 k.1 h
-  where
-    no : (a i g : Bool) → a ≡ false → i ≡ false → ((a || (i && g)) || false) ≡ true → ⊥
-    no a i g p q h = grind arith
 
 reply-now : (e : Event) (K : List Event) (c : ℕ) → settles K e c ≡ true → reply (e ∷ K) c ≡ back_of e.what
 unfolding reply
@@ -161,8 +136,7 @@ all-kind S R K e c legal room row h =
 
 all-of : (S : System) (R : Rules) (K : List Event) → IsLegal S R K → length K < 2 ^ 64 → (c : ℕ) → AllOf K c (queue K c)
 all-of S R [] legal room = λ c. none-of c
-all-of S R (e ∷ []) legal room = λ c. first-of S R e c legal.0
-all-of S R (e ∷ f ∷ K) legal room = λ c. all-kind S R (f ∷ K) e c legal.1 (omega arith) (row-of S R (f ∷ K) e legal.0 (omega arith)) (all-of S R (f ∷ K) legal.1 (omega arith) c)
+all-of S R (e ∷ K) legal room = λ c. all-kind S R K e c legal.1 (omega arith) (row-of S R K e legal.0) (all-of S R K legal.1 (omega arith) c)
 
 pub first-own : (S : System) (R : Rules) (K : List Event) (c r : ℕ) (rs : List ℕ) → IsLegal S R K → length K < 2 ^ 64 → queue K c ≡ r ∷ rs → (w : ℕ) × IsRequestOf K c r w
 unfolding AllOf
@@ -254,8 +228,7 @@ settled-kind S R K e c legal room row ih h =
 
 pub settled-by : (S : System) (R : Rules) (K : List Event) → IsLegal S R K → length K < 2 ^ 64 → (c : ℕ) → settled K c ≡ true → Settled K c
 settled-by S R [] legal room = λ c h. absurd (nothing-settled c h)
-settled-by S R (e ∷ []) legal room = λ c h. absurd (start-settles S R e c legal.0 h)
-settled-by S R (e ∷ f ∷ K) legal room = λ c. settled-kind S R (f ∷ K) e c legal.1 (omega arith) (row-of S R (f ∷ K) e legal.0 (omega arith)) (settled-by S R (f ∷ K) legal.1 (omega arith) c)
+settled-by S R (e ∷ K) legal room = λ c. settled-kind S R K e c legal.1 (omega arith) (row-of S R K e legal.0) (settled-by S R K legal.1 (omega arith) c)
 
 pub resumes-own : (S : System) (R : Rules) (K : List Event) (n : Name) (b : Back) → IsLegal S R K → length K < 2 ^ 64 → TaskRow S K n (Resume b) → (c w : ℕ) × (listed K c ≡ true) × (caller K c ≡ n) × (fetcher K c ≡ Some w) × Source K c w b
 unfolding Settled
@@ -324,24 +297,12 @@ gave-step S R K e c r m legal room row ih q h =
     no-place : (c : ℕ) → None ≡ Some c → ⊥
     no-place c h = cc
 
-first-asks-nothing : (S : System) (R : Rules) (e : Event) (r : ℕ) → IsStep S R [] e → call_at (e ∷ []) r ≡ None
-unfolding call_at
-first-asks-nothing S R e r h = rw (ap (λ (d : Event). asked_call [] d.what) h) (both (r == 0))
-  where
-    both : (b : Bool) → ◌≡◌ {A = Option ℕ} (if b then None else None) None
-    both true = refl
-    both false = refl
-
 pub gave-number : (S : System) (R : Rules) (K : List Event) → IsLegal S R K → length K < 2 ^ 64 → (c r m : ℕ) → call_at K r ≡ Some c → install_of K r ≡ Some (Ok m) → Gave K c m
 gave-number S R [] legal room = λ c r m q h. absurd (none-some c (sym (call-at-above [] r (omega arith)) ∙ q))
   where
     none-some : (c : ℕ) → None ≡ Some c → ⊥
     none-some c h = cc
-gave-number S R (e ∷ []) legal room = λ c r m q h. absurd (none-some c (sym (first-asks-nothing S R e r legal.0) ∙ q))
-  where
-    none-some : (c : ℕ) → None ≡ Some c → ⊥
-    none-some c h = cc
-gave-number S R (e ∷ f ∷ K) legal room = λ c r m. gave-step S R (f ∷ K) e c r m legal.1 (omega arith) (row-of S R (f ∷ K) e legal.0 (omega arith)) (gave-number S R (f ∷ K) legal.1 (omega arith) c r m)
+gave-number S R (e ∷ K) legal room = λ c r m. gave-step S R K e c r m legal.1 (omega arith) (row-of S R K e legal.0) (gave-number S R K legal.1 (omega arith) c r m)
 
 -- a resume of such a call returns the number
 pub returns-installed : (S : System) (R : Rules) (K : List Event) (n : Name) (b : Back) → IsLegal S R K → length K < 2 ^ 64 → TaskRow S K n (Resume b) → (c r m : ℕ) → call_of K n ≡ Some c → call_at K r ≡ Some c → install_of K r ≡ Some (Ok m) → b ≡ Value (pos m)

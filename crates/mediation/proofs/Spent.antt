@@ -13,9 +13,8 @@ use Rattle.hist_model.specs.declared.event.What.TheVariants.{Act, Plant}
 use Rattle.hist_model.specs.declared.policy.Cap.{Cap}
 use Rattle.hist_model.specs.declared.request.Request.{Request}
 use Rattle.sys_abi.specs.declared.wire.Notif.{Notif}
-use Rattle.mediation.proofs.Rows.{Row}
+use Rattle.mediation.proofs.Rows.{Row, row-of}
 use Rattle.mediation.proofs.Deeds.{deed-is}
-use Rattle.mediation.proofs.Replies.{row-or-start}
 
 -- the caps of the rules' decisions have these times at most
 pub record Capped (R : Rules) (limit : ℕ → ℕ) : Type 0 where
@@ -43,12 +42,6 @@ spends-left S R limit K (Worker w) (Act q (Some cap) (Ok u)) i k r h =
 spends-left S R limit K (Worker w) (Plant x b (Some cap) (Ok u)) i k r h =
     let t = deed-is R (session K w) _ r.0 in
     below-limit limit K cap i h (left-times K cap u (if S.writable x then Ok tt else Err 14) r.1) (k.plants t.0 (reads_of (session K w)) x b cap t.4)
-spends-left S R limit K (Task n) (Act q (Some cap) (Ok u)) i k r h = absurd r
-spends-left S R limit K (Task n) (Plant x b (Some cap) (Ok u)) i k r h = absurd r
-spends-left S R limit K Start (Act q (Some cap) (Ok u)) i k r h = cc
-spends-left S R limit K Start (Plant x b (Some cap) (Ok u)) i k r h = cc
-spends-left S R limit K Listener (Act q (Some cap) (Ok u)) i k r h = cc
-spends-left S R limit K Listener (Plant x b (Some cap) (Ok u)) i k r h = cc
 spends-left S R limit K a (Act q None x) i k r h = absurd (no-cap x h)
   where
     no-cap : (x : Result (Unit {0}) ℕ) → spends (Act q None x) i ≡ true → ⊥
@@ -59,16 +52,13 @@ spends-left S R limit K a (Plant x b None y) i k r h = absurd (no-cap y h)
     no-cap : (y : Result (Unit {0}) ℕ) → spends (Plant x b None y) i ≡ true → ⊥
     no-cap (Ok u) h = cc
     no-cap (Err e) h = cc
-spends-left S R limit K a what i k r h = cc
+spends-left S R limit K a what i k r h = grind arith
 
 spent-step : (S : System) (R : Rules) (limit : ℕ → ℕ) (K : List Event) (e : Event) (i : ℕ) → Capped R limit → IsStep S R K e → times_spent K i ≤ limit i → times_spent (e ∷ K) i ≤ limit i
 unfolding times_spent
 spent-step S R limit K e i k r ih =
     elim (cases_Bool (spends e.what i)) [
-      | inl q ↦ elim (row-or-start S R K e r) [
-        | inl z ↦ absurd (both_ways (spends e.what i) (ap (λ (d : Event). spends d.what i) z) q)
-        | inr z ↦ let m = spends-left S R limit K e.who e.what i k z.1 q in rw q m
-      ]
+      | inl q ↦ let m = spends-left S R limit K e.who e.what i k (row-of S R K e r) q in rw q m
       | inr q ↦ rw q (omega (arith, ih))
     ]
 

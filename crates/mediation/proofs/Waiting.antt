@@ -15,8 +15,8 @@ use Rattle.hist_model.specs.declared.event.What.{What}
 use Rattle.hist_model.specs.declared.event.What.TheVariants.{Recv, AddfdPut, Send, Install}
 use Rattle.sys_abi.specs.declared.wire.Notif.{Notif}
 use Rattle.hist_model.proofs.Look.{below_or_last}
-use Rattle.mediation.proofs.Rows.{Row}
-use Rattle.mediation.proofs.Own.{row-of, listed-below, listed-here}
+use Rattle.mediation.proofs.Rows.{Row, row-of}
+use Rattle.mediation.proofs.Own.{listed-below, listed-here}
 use Rattle.mediation.proofs.Ids.{ids_differ}
 use Rattle.mediation.proofs.Count.{fetching, fetched-same}
 use Rattle.mediation.proofs.Once.{answers-waiting, installs-open}
@@ -33,15 +33,7 @@ some-nat x y h = cc
 -- only a worker asks and answers
 pub actor-acts : (S : System) (R : Rules) (K : List Event) (a : Actor) (what : What) (c : ℕ) → IsLegal S R K → length K < 2 ^ 64 → Row S R K a what → (puts_to K what c || answers K what c) ≡ true → (v : ℕ) × (a ≡ Worker v) × (session_call K v ≡ Some c)
 actor-acts S R K (Worker v) what c legal room r h = (v, refl, acts-own S R K v c what legal room r h)
-actor-acts S R K (Task n) (AddfdPut q y) c legal room r h = absurd r
-actor-acts S R K (Task n) (Send x b y) c legal room r h = absurd r
-actor-acts S R K (Task n) what c legal room r h = cc
-actor-acts S R K Start (AddfdPut q y) c legal room r h = cc
-actor-acts S R K Start (Send x b y) c legal room r h = cc
-actor-acts S R K Start what c legal room r h = cc
-actor-acts S R K Listener (AddfdPut q y) c legal room r h = cc
-actor-acts S R K Listener (Send x b y) c legal room r h = cc
-actor-acts S R K Listener what c legal room r h = cc
+actor-acts S R K a what c legal room r h = grind arith
 
 install-no_put : (K : List Event) (w : What) (c : ℕ) → is_install w ≡ true → puts_to K w c ≡ false
 install-no_put K (Install x) c h = refl
@@ -130,10 +122,7 @@ module _ (S : System) (R : Rules) (K : List Event) (e : Event) (c : ℕ) (legal 
             over = rw s (λ z. cc);
             stage = rw s (λ z. calm-clean e' K c m k);
           })
-      go (Task n) (Recv (Ok x)) r q m = absurd r
-      go Start (Recv (Ok x)) r q m = cc
-      go Listener (Recv (Ok x)) r q m = cc
-      go a what r q m = cc
+      go a what r q m = grind arith
 
   old-phase : IsStep S R K e → (o : Option ℕ) → fetcher K c ≡ o → Phase K c o → Phase (e ∷ K) c (fetcher (e ∷ K) c)
   old-phase r (Some w) q p =
@@ -159,22 +148,14 @@ new-phase e K =
 abbrev pub Phases : List Event → Type 0
 Phases K = (c : ℕ) → listed K c ≡ true → Phase K c (fetcher K c)
 
-first-none : (S : System) (R : Rules) (e : Event) (c : ℕ) → IsStep S R [] e → listed (e ∷ []) c ≡ true → ⊥
-first-none S R e c r h =
-    let l = listed-below (e ∷ []) c h in
-    let z : c ≡ 0 = omega arith in
-    let n : notifies e.what ≡ false = ap (λ (d : Event). notifies d.what) r in
-    both_ways (notifies e.what) n (sym (listed-here e []) ∙ rw z at h)
-
 pub phases : (S : System) (R : Rules) (K : List Event) → IsLegal S R K → length K < 2 ^ 64 → Phases K
 phases S R [] legal room = λ c h. absurd (omega (arith, listed-below [] c h))
-phases S R (e ∷ []) legal room = λ c h. absurd (first-none S R e c legal.0 h)
-phases S R (e ∷ f ∷ K) legal room = λ c h.
-    elim (below_or_last c (length (f ∷ K)) (listed-below (e ∷ f ∷ K) c h)) [
+phases S R (e ∷ K) legal room = λ c h.
+    elim (below_or_last c (length K) (listed-below (e ∷ K) c h)) [
       | inl l ↦
-          let was = listed-was e (f ∷ K) c l h in
-          old-phase S R (f ∷ K) e c legal.1 (omega arith) (row-of S R (f ∷ K) e legal.0 (omega arith)) was legal.0 (fetcher (f ∷ K) c) refl (phases S R (f ∷ K) legal.1 (omega arith) c was)
-      | inr q ↦ rw q (new-phase e (f ∷ K))
+          let was = listed-was e K c l h in
+          old-phase S R K e c legal.1 (omega arith) (row-of S R K e legal.0) was legal.0 (fetcher K c) refl (phases S R K legal.1 (omega arith) c was)
+      | inr q ↦ rw q (new-phase e K)
     ]
 
 -- a worker with a listed call in hand

@@ -15,8 +15,8 @@ use Rattle.hist_model.specs.declared.event.What.{What}
 use Rattle.hist_model.specs.declared.event.What.TheVariants.{Recv, OpenMem, OpenBase, Check, Read, Act, Plant, AddfdPut, AddfdTake, Send, LetGo, Skip}
 use Rattle.sys_abi.specs.declared.wire.Notif.{Notif}
 use Rattle.hist_model.proofs.Look.{event_at-older}
-use Rattle.mediation.proofs.Rows.{Row, WorkerRow}
-use Rattle.mediation.proofs.Own.{row-of, calls_are_last, listed-below}
+use Rattle.mediation.proofs.Rows.{Row, WorkerRow, row-of}
+use Rattle.mediation.proofs.Own.{calls_are_last, listed-below}
 use Rattle.mediation.proofs.Ids.{listed-is_call, is_call-below}
 use Rattle.mediation.proofs.Count.{fetching, fetched-now, fetched-more}
 use Rattle.mediation.proofs.Deeds.{AtWork, deed-is}
@@ -24,17 +24,11 @@ use Rattle.mediation.proofs.Places.{place-stays, place-is, made-place, makes-pid
 
 -- the row of a worker's step
 pub worker-row : (S : System) (R : Rules) (K : List Event) (e : Event) (w : ℕ) → IsStep S R K e → is_worker e.who w ≡ true → WorkerRow S R K w e.what
-worker-row S R [] e w r h = let q = ap (λ (d : Event). is_worker d.who w) r in absurd (no q h)
+worker-row S R K e w r h = go e.who e.what (row-of S R K e r) h
   where
-    no : {b : Bool} → b ≡ false → b ≡ true → ⊥
-    no p q = cc
-worker-row S R (f ∷ K) e w r h = go e.who e.what (row-of S R (f ∷ K) e r (omega arith)) h
-  where
-    go : (a : Actor) (what : What) → Row S R (f ∷ K) a what → is_worker a w ≡ true → WorkerRow S R (f ∷ K) w what
-    go (Worker v) what r h = let q = eqb-true v w h in rw q at r
-    go Start what r h = cc
-    go (Task n) what r h = cc
-    go Listener what r h = cc
+    go : (a : Actor) (what : What) → Row S R K a what → is_worker a w ≡ true → WorkerRow S R K w what
+    go (Worker v) what r h = rw (eqb-true v w h) at r
+    go a what r h = cc
 
 pub session-same : (e : Event) (K : List Event) (w : ℕ) → (is_worker e.who w && not (skips e.what)) ≡ false → session (e ∷ K) w ≡ session K w
 unfolding session
