@@ -43,10 +43,7 @@ module _ (S : System) (R : Rules) (K : List Event) (a : Actor) (w c : ℕ) (lega
   own = session K w
 
   notif-same : (n : Notif) → notif_of (session K w) ≡ Some n → n ≡ i.n
-  notif-same n q = go n i.n (sym q ∙ i.notif_is)
-    where
-      go : (x y : Notif) → Some x ≡ Some y → x ≡ y
-      go x y h = cc
+  notif-same n q = grind arith
 
   -- the session's id names its call
   names : (x : ℕ) (n : Notif) → AtWork (session K w) n → x ≡ n.id → named K x ≡ Some c
@@ -124,20 +121,11 @@ module _ (S : System) (R : Rules) (K : List Event) (a : Actor) (w c : ℕ) (lega
       go (Err y) q n k = cc
 
   take-none : (first_some put_in (session K w) ≡ None) → first_some take_in (session K w) ≡ None
-  take-none q = go (first_some take_in (session K w)) refl
-    where
-      no : (u : Unit {0}) → ◌≡◌ {A = Option (Result (Unit {0}) ℕ)} None (Some (Ok u)) → ⊥
-      no u h = cc
-
-      go : (o : Option (Result ℕ ℕ)) → first_some take_in (session K w) ≡ o → first_some take_in (session K w) ≡ None
-      go None z = z
-      go (Some t) z = let f = take-after_put R (session K w) t (is-own S R K legal w) z in absurd (no f.0 (sym q ∙ f.1))
+  take-none q = grind (arith, take-after_put, is-own)
 
   -- the steps of a session, with the session written out
   grew : (what : What) (n : Notif) → AtWork (session K w) n → works what ≡ true → (session (ev a what ∷ K) w ≡ what ∷ session K w) × (session_call (ev a what ∷ K) w ≡ Some c)
-  grew what n work k =
-      let kp = works-keep K what k in
-      (session-more (ev a what) K w is_mine kp.no_skip ∙ grown (session K w) what n work.notif_is kp.no_start, call-more (ev a what) K w is_mine ∙ (kp.call (session_call K w) ∙ h.in_hand))
+  grew what n work k = grind (arith, works-keep, session-more, grown, call-more)
 
   mine-put : (q : Addfd) (y : Result (Unit {0}) ℕ) → WorkerRow S R K w (AddfdPut q y) → AtCall (ev a (AddfdPut q y) ∷ K) c w
   mine-put q y r =

@@ -40,14 +40,11 @@ use Rattle.mediation.proofs.InHand.{by-session}
 use Rattle.mediation.proofs.Heard.{reads-are, fit-reads, all-heard}
 
 skipped-same : (what : What) → is_skipped what ≡ skips what
-skipped-same Skip = refl
-skipped-same what = refl
+skipped-same what = grind arith
 
 -- one more step of an open session
 joined-open : (own : List What) (a : What) (n : Notif) → notif_of own ≡ Some n → any_of is_letgo own ≡ false → joined own a ≡ a ∷ own
-joined-open [] a n h g = cc
-joined-open (LetGo ∷ own) a n h g = cc
-joined-open (b ∷ own) a n h g = refl
+joined-open own a n h g = grind arith
 
 at-here : (e : Event) (K : List Event) (w : ℕ) → session_at w (length K) (e ∷ K) ≡ e.what ∷ []
 unfolding session_at
@@ -55,18 +52,11 @@ at-here e K w = rw (eq-eqb (length K) (length K) refl)
 
 at-more : (e : Event) (K : List Event) (w r : ℕ) → r < length K → is_worker e.who w ≡ true → skips e.what ≡ false → session_at w r (e ∷ K) ≡ joined (session_at w r K) e.what
 unfolding session_at
-at-more e K w r l h g =
-    let n : (length K ≡ r → ⊥) = omega arith in
-    let s : is_skipped e.what ≡ false = skipped-same e.what ∙ g in
-    rw (ne_eqb (length K) r n, h, s)
+at-more e K w r l h g = grind arith
 
 at-same : (e : Event) (K : List Event) (w r : ℕ) → r < length K → (is_worker e.who w && not (skips e.what)) ≡ false → session_at w r (e ∷ K) ≡ session_at w r K
 unfolding session_at
-at-same e K w r l h =
-    let n : (length K ≡ r → ⊥) = omega arith in
-    let s = skipped-same e.what in
-    let q : (is_worker e.who w && not (is_skipped e.what)) ≡ false = rw s h in
-    rw (ne_eqb (length K) r n, q)
+at-same e K w r l h = grind arith
 
 -- the receive with which the open session began
 pub record Began (K : List Event) (w : ℕ) : Type 0 where
@@ -77,13 +67,7 @@ pub record Began (K : List Event) (w : ℕ) : Type 0 where
   pub same : session_at w place K ≡ session K w
 
 worker-event : (a : Actor) (w : ℕ) (what : What) → is_worker a w ≡ true → ev a what ≡ ev (Worker w) what
-worker-event (Worker v) w what h = rw (eqb v w h)
-  where
-    eqb : (v w : ℕ) → (v == w) ≡ true → v ≡ w
-    eqb v w h = grind arith
-worker-event Start w what h = cc
-worker-event (Task n) w what h = cc
-worker-event Listener w what h = cc
+worker-event a w what h = grind arith
 
 module _ (S : System) (R : Rules) where
   abbrev BeganOf : List Event → ℕ → ℕ → Type 0
@@ -113,9 +97,7 @@ module _ (S : System) (R : Rules) where
 
   still-began : (K : List Event) (e : Event) (w c : ℕ) → IsStep S R K e → IsLegal S R K → length (e ∷ K) < 2 ^ 64 → (is_worker e.who w && not (skips e.what)) ≡ false
       → (i : InSession K w c) → session_call K w ≡ Some c → session (e ∷ K) w ≡ session K w → Began K w → Began (e ∷ K) w
-  still-began K e w c r legal room q i s own b =
-      let l = event_at-below K b.place _ b.receive in
-      record { place = b.place; n = b.n; receive = rw event_at-older b.receive; notif_is = rw own b.notif_is; same = at-same e K w b.place l q ∙ (b.same ∙ sym own) }
+  still-began K e w c r legal room q i s own b = grind (arith, event_at-below, event_at-older, at-same)
 
   began : (K : List Event) → IsLegal S R K → length K < 2 ^ 64 → (w c : ℕ) → session_call K w ≡ Some c → Began K w
   began = by-session S R BeganOf (record { fetch = fetch-began; work = work-began; still = still-began })
@@ -239,19 +221,14 @@ module _ (S : System) (R : Rules) where
 
 -- what the audit makes of it
 gone-gives_up : (a : What) → gives_up a ≡ false → is_gone a ≡ false
-gone-gives_up (OpenMem p (Err e)) h = cc
-gone-gives_up (OpenBase p d (Err e)) h = h
-gone-gives_up (Check x (Err e)) h = cc
-gone-gives_up a h = refl
+gone-gives_up a h = grind arith
 
 none-gone : (own : List What) → any_of gives_up own ≡ false → list_any is_gone own ≡ false
 none-gone [] h = refl
 none-gone (a ∷ own) h = let p = or_parts (gives_up a) (any_of gives_up own) h in rw (gone-gives_up a p.0) (none-gone own p.1)
 
 valid-same : (a : What) → is_found_valid a ≡ is_good_check a
-valid-same (Check x (Ok u)) = refl
-valid-same (Check x (Err e)) = refl
-valid-same a = refl
+valid-same a = grind arith
 
 some-valid : (own : List What) → 1 ≤ number_of is_good_check own → list_any is_found_valid own ≡ true
 some-valid [] h = absurd (omega arith)
@@ -273,10 +250,7 @@ twice-valid (a ∷ own) h = elim (cases_Bool (is_good_check a)) [
 
 names-rule : (P : Policy) (n : Notif) (x : ℕ) (b : Back) (a : Result (Unit {0}) ℕ) (own : List What) (texts : List (List ℕ)) → any_of gives_up own ≡ false → number_of is_good_check own ≡ 2 → copied n (reads_of own) ≡ Complete texts → heard (plan n.call.nr n.call.args) [] (reads own) ≡ reads own
     → finding (judging_by P.rules) n (Send x b a ∷ own) ≡ finding_of (judged_as (decide P.rules (request n.call.nr n.call.args texts))) (list_any is_spent own)
-names-rule P n x b a own texts g two c v =
-    let q : progress (plan n.call.nr n.call.args) (reads own) ≡ Complete texts = rw (reads-are own) c in
-    let k : checked_twice own ≡ true = twice-valid own (omega arith) in
-    rw (append-nil (reads own), v, none-gone own g, k, q)
+names-rule P n x b a own texts g two c v = grind (arith, reads-are, twice-valid, append-nil, none-gone)
 
 -- letting go adds nothing
 lets-go-finding : (J : Judging) (n : Notif) (own : List What) → finding J n (LetGo ∷ own) ≡ finding J n own
@@ -290,10 +264,7 @@ spent-effect (a ∷ own) h = spent-effect own h
 
 -- a decision that acts is a grant
 acting-grants : (P : Policy) (F : Figures) (q : Request) (i : ℕ) (v : Verdict) → is_acting (decision P F q i v) ≡ true → v ≡ Grant
-acting-grants P F q i Grant h = refl
-acting-grants P F q i (Deny e) h = cc
-acting-grants P F q i Pass h = cc
-acting-grants P F q i (Inject src at) h = cc
+acting-grants P F q i v h = grind arith
 
 pub audit-names : (P : Policy) (F : Figures) (T : Script) (H : List Event) → IsLegal (system_of T) (rules_of P F) H → length H < 2 ^ 64 → AuditNames P H
 audit-names P F T H legal room s w x b a n texts h m c =

@@ -36,17 +36,10 @@ pub files_base : Script → List Event → ℕ → Option ℕ
 files_base S K w = (files S K).base w
 
 native-base : (F : Files) (g : ℕ) (s : NativeStep) (w : ℕ) → (after_native F g s).base w ≡ F.base w
-native-base F g (Changes U) w = refl
-native-base F g (Fails e) w = refl
-native-base F g (Gives n) w = refl
-native-base F g (Opens n x) w = refl
-native-base F g (Closes n) w = refl
-native-base F g Writes w = refl
+native-base F g s w = grind arith
 
 spawn-base : (K : List Event) (F : Files) (a : Actor) (k : SpawnKind) (w : ℕ) → (after_spawn K F a k).base w ≡ F.base w
-spawn-base K F a New w = refl
-spawn-base K F a Copied w = refl
-spawn-base K F a Shared w = refl
+spawn-base K F a k w = grind arith
 
 -- the step opens or drops a base
 abbrev moves : What → Bool
@@ -56,25 +49,11 @@ moves _ = false
 
 -- two workers
 another : (v w : ℕ) → ((v == w) && true) ≡ false → (w == v) ≡ false
-another v w h = ne_eqb w v (λ q. both_ways (v == w) (no-and (v == w) h) (eq-eqb v w (sym q)))
-  where
-    no-and : (b : Bool) → (b && true) ≡ false → b ≡ false
-    no-and b h = grind arith
+another v w h = grind arith
 
 -- another's step, or one that is no opening of a base and no letting go
 after-base : (S : Script) (K : List Event) (F : Files) (a : Actor) (what : What) (w : ℕ) → (is_worker a w && moves what) ≡ false → (files_after S K F a what).base w ≡ F.base w
-after-base S K F a (Spawn n (Ok made)) w h = spawn-base K F a made.1 w
-after-base S K F a (Spawn n (Err e)) w h = refl
-after-base S K F a (Native (Ok n)) w h = native-base F (own_group K a) _ w
-after-base S K F a (Native (Err e)) w h = refl
-after-base S K F a (Install (Ok m)) w h = refl
-after-base S K F a (Install (Err e)) w h = refl
-after-base S K F (Worker v) (Act q cap (Ok u)) w h = refl
-after-base S K F (Worker v) (Act q cap (Err e)) w h = refl
-after-base S K F (Worker v) (OpenBase p d (Ok u)) w h = rw (another v w h)
-after-base S K F (Worker v) (OpenBase p d (Err e)) w h = refl
-after-base S K F (Worker v) LetGo w h = rw (another v w h)
-after-base S K F a what w h = refl
+after-base S K F a what w h = grind (arith, spawn-base, native-base, another)
 
 files-same : (S : Script) (e : Event) (K : List Event) (w : ℕ) → (is_worker e.who w && moves e.what) ≡ false → files_base S (e ∷ K) w ≡ files_base S K w
 unfolding files_base files
@@ -83,24 +62,15 @@ files-same S e K w h = after-base S K (files S K) e.who e.what w h
 -- a worker's own steps
 files-opens : (S : Script) (K : List Event) (a : Actor) (w p : ℕ) (d : ℤ) (u : Unit {0}) → is_worker a w ≡ true → files_base S (ev a (OpenBase p d (Ok u)) ∷ K) w ≡ base_of S (files S K) (place_or (opened K (holder K p))) d
 unfolding files_base files
-files-opens S K (Worker v) w p d u h = let q = eqb-true v w h in rw (q, eq-eqb w w refl)
-files-opens S K Start w p d u h = cc
-files-opens S K (Task n) w p d u h = cc
-files-opens S K Listener w p d u h = cc
+files-opens S K a w p d u h = grind arith
 
 files-drops : (S : Script) (K : List Event) (a : Actor) (w : ℕ) → is_worker a w ≡ true → files_base S (ev a LetGo ∷ K) w ≡ None
 unfolding files_base files
-files-drops S K (Worker v) w h = let q = eqb-true v w h in rw (q, eq-eqb w w refl)
-files-drops S K Start w h = cc
-files-drops S K (Task n) w h = cc
-files-drops S K Listener w h = cc
+files-drops S K a w h = grind arith
 
 -- what the base's group becomes
 base-after-same : (K : List Event) (what : What) (m : Option ℕ) → moves what ≡ false → base_after K what m ≡ m
-base-after-same K (OpenBase p d (Ok u)) m h = cc
-base-after-same K LetGo m h = cc
-base-after-same K (OpenBase p d (Err e)) m h = refl
-base-after-same K what m h = refl
+base-after-same K what m h = grind arith
 
 base-stays : (e : Event) (K : List Event) (w : ℕ) → (is_worker e.who w && moves e.what) ≡ false → base (e ∷ K) w ≡ base K w
 base-stays e K w h = elim (cases_Bool (is_worker e.who w)) [
@@ -113,21 +83,12 @@ base-stays e K w h = elim (cases_Bool (is_worker e.who w)) [
 
 -- an opening that was answered ok found a living task
 opening-found : (S : System) (K : List Event) (o : Option ℕ) (d : ℤ) (u : Unit {0}) → ◌≡◌ {A = Result (Unit {0}) ℕ} (Ok u) (base_answer S K o d) → (t : ℕ) × (o ≡ Some t)
-opening-found S K None d u h = cc
-opening-found S K (Some t) d u h = (t, refl)
+opening-found S K o d u h = grind arith
 
 -- a worker without a base's group has no base
 module _ (S : Script) (R : Rules) where
   none-mine : (K : List Event) (a : Actor) (w : ℕ) (what : What) → is_worker a w ≡ true → WorkerRow (system_of S) R K w what → moves what ≡ true → base_after K what (base K w) ≡ None → files_base S (ev a what ∷ K) w ≡ None
-  none-mine K a w (OpenBase p d (Ok u)) q row m h =
-      let f = opening-found (system_of S) K (holder K p) d u row.1 in
-      absurd (no (holder K p) f.0 f.1 h)
-    where
-      no : (o : Option ℕ) (t : ℕ) → o ≡ Some t → opened K o ≡ None → ⊥
-      no None t q h = cc
-      no (Some v) t q h = cc
-  none-mine K a w LetGo q row m h = files-drops S K a w q
-  none-mine K a w what q row m h = cc
+  none-mine K a w what q row m h = grind (arith, opening-found, files-drops)
 
   none-step : (K : List Event) (e : Event) (w : ℕ) → IsStep (system_of S) R K e → (base K w ≡ None → files_base S K w ≡ None) → base (e ∷ K) w ≡ None → files_base S (e ∷ K) w ≡ None
   none-step K e w r ih h =
@@ -175,10 +136,7 @@ module _ (S : Script) (R : Rules) where
 
   fetch-found : (K : List Event) (a : Actor) (w c : ℕ) (n : Notif) → IsStep (system_of S) R K (ev a (Recv (Ok n))) → IsLegal (system_of S) R K → length (ev a (Recv (Ok n)) ∷ K) < 2 ^ 64 → is_worker a w ≡ true
       → WorkerRow (system_of S) R K w (Recv (Ok n)) → oldest_unfetched K ≡ Some c → Idle K w → HasFound (ev a (Recv (Ok n)) ∷ K) w c
-  fetch-found K a w c n r legal room q row o idle g h = absurd (no g (sym (base-more (ev a (Recv (Ok n))) K w q ∙ idle.base_none) ∙ h))
-    where
-      no : (g : ℕ) → None ≡ Some g → ⊥
-      no g h = cc
+  fetch-found K a w c n r legal room q row o idle g h = grind (arith, base-more)
 
   -- the opening of a base
   opens-found : (K : List Event) (a : Actor) (w c p : ℕ) (d : ℤ) (u : Unit {0}) → is_worker a w ≡ true → WorkerRow (system_of S) R K w (OpenBase p d (Ok u)) → session_call K w ≡ Some c
@@ -207,14 +165,7 @@ module _ (S : Script) (R : Rules) where
 
   -- a step of a session that moves no base
   other-found : (K : List Event) (a : Actor) (w c : ℕ) (what : What) → works what ≡ true → moves what ≡ false → session (ev a what ∷ K) w ≡ what ∷ session K w → HasFound K w c → is_worker a w ≡ true → HasFound (ev a what ∷ K) w c
-  other-found K a w c what v m own ih q g h =
-      let e = ev a what in
-      let k = works-keep K what v in
-      let still = moved (is_worker a w) (moves what) m in
-      found-later e K w c g still (rw (own, k.no_notif)) (ih g (sym (base-stays e K w still) ∙ h))
-    where
-      moved : (a b : Bool) → b ≡ false → (a && b) ≡ false
-      moved a b h = grind arith
+  other-found K a w c what v m own ih q g h = grind (arith, works-keep, found-later, base-stays)
 
   work-found : (K : List Event) (a : Actor) (w c : ℕ) (what : What) → IsStep (system_of S) R K (ev a what) → IsLegal (system_of S) R K → length (ev a what ∷ K) < 2 ^ 64 → is_worker a w ≡ true
       → WorkerRow (system_of S) R K w what → works what ≡ true → (i : InSession K w c) → session_call K w ≡ Some c → session (ev a what ∷ K) w ≡ what ∷ session K w → HasFound K w c → HasFound (ev a what ∷ K) w c
@@ -231,8 +182,7 @@ module _ (S : Script) (R : Rules) where
   work-found K a w c what r legal room q row v i s own ih = λ g h. cc
 
   skip-moves : (what : What) → skips what ≡ true → moves what ≡ false
-  skip-moves Skip h = refl
-  skip-moves what h = cc
+  skip-moves what h = grind arith
 
   still-found : (K : List Event) (e : Event) (w c : ℕ) → IsStep (system_of S) R K e → IsLegal (system_of S) R K → length (e ∷ K) < 2 ^ 64 → (is_worker e.who w && not (skips e.what)) ≡ false
       → (i : InSession K w c) → session_call K w ≡ Some c → session (e ∷ K) w ≡ session K w → HasFound K w c → HasFound (e ∷ K) w c

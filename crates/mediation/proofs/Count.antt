@@ -60,10 +60,7 @@ fetched-below (e ∷ K) c h = elim (cases_Bool (fetched K c)) [
 
 pub fetched-new : (e : Event) (K : List Event) → fetched (e ∷ K) (length K) ≡ false
 unfolding fetched
-fetched-new e K =
-    let f : fetched K (length K) ≡ false = false_from_ne_true (fetched K (length K)) (λ h. omega (arith, fetched-below K (length K) h)) in
-    let l : listed K (length K) ≡ false = false_from_ne_true (listed K (length K)) (λ h. omega (arith, listed-below K (length K) h)) in
-    grind arith
+fetched-new e K = grind (arith, fetched-below, listed-below)
 
 pub fetched-same : (e : Event) (K : List Event) (c : ℕ) → (fetches e.what (id K c) && listed K c) ≡ false → fetched (e ∷ K) c ≡ fetched K c
 unfolding fetched
@@ -110,11 +107,7 @@ receiving S R K a r h = grind arith
 
 pub fetching : (K : List Event) (n : Notif) (o : Option ℕ) → oldest_unfetched K ≡ o → Ok n ≡ recv_answer K o → (d : ℕ) × (n ≡ notif K d) × (listed K d ≡ true) × (fetched K d ≡ false) × (o ≡ Some d)
 unfolding oldest_unfetched
-fetching K n None q h = cc
-fetching K n (Some d) q h =
-    let s = oldest-some (λ c. listed K c && not (fetched K c)) (length K) d q in
-    let p = and_parts (listed K d) (not (fetched K d)) s.0 in
-    (d, cc, p.0, not-true (fetched K d) p.1, refl)
+fetching K n o q h = grind (arith, oldest-some)
 
 pub record Counted (K : List Event) : Type 0 where
   pub room : recvs K ≤ calls K

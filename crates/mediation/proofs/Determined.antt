@@ -13,8 +13,7 @@ same-event : (d e : Event) → d.who ≡ e.who → d.what ≡ e.what → d ≡ e
 same-event d e p q = λ i. record { who = p i; what = q i }
 
 pub same-step : (S : System) (R : Rules) (K : List Event) (d e : Event) → IsStep S R K d → IsStep S R K e → d.who ≡ e.who → d ≡ e
-same-step S R [] d e p q h = p ∙ sym q
-same-step S R (f ∷ K) d e p q h = same-event d e h (p.2 ∙ (ap (step S R (f ∷ K)) h ∙ sym q.2))
+same-step S R K d e p q h = grind arith
 
 heads : (a b : Actor) (xs ys : List Actor) → a ∷ xs ≡ b ∷ ys → (a ≡ b) × (xs ≡ ys)
 heads a b xs ys h = (cc, cc)

@@ -29,42 +29,17 @@ idles _ = false
 
 -- a session that is not open is none, or has let go
 not-open : (own : List What) → is_open_session own ≡ false → (notif_of own ≡ None) ⊎ (any_of is_letgo own ≡ true)
-not-open [] h = inl refl
-not-open (a ∷ own) h = inr (negated (any_of is_letgo (a ∷ own)) h)
-  where
-    negated : (b : Bool) → not b ≡ false → b ≡ true
-    negated b h = grind arith
+not-open own h = grind arith
 
 no-work : (own : List What) (n : Notif) → AtWork own n → (notif_of own ≡ None) ⊎ (any_of is_letgo own ≡ true) → ⊥
-no-work own n k (inl q) = none n (sym q ∙ k.notif_is)
-  where
-    none : (n : Notif) → None ≡ Some n → ⊥
-    none n h = cc
-no-work own n k (inr q) = both_ways (any_of is_letgo own) k.no_letgo q
+no-work own n k h = grind arith
 
 module _ (S : System) (R : Rules) (K : List Event) (f : Finished K) where
   no-life : (n : Name) → alive K n ≡ true → ⊥
-  no-life n h =
-      let p = and_parts (is_made K n) (not (ended K n)) h in
-      both (ended K n) p.1 (f.tasks n p.0)
-    where
-      both : (b : Bool) → not b ≡ true → b ≡ true → ⊥
-      both b g h = grind arith
+  no-life n h = grind arith
 
   task-idles : (n : Name) (what : What) → TaskRow S K n what → idles what ≡ true
-  task-idles n Skip r = refl
-  task-idles n (Spawn m a) r = absurd (no-life n r.0)
-  task-idles n (Poke a b) r = absurd (no-life n r.0)
-  task-idles n (Handler s m) r = absurd (no-life n r.0)
-  task-idles n (Enter nr args v) r = absurd (no-life n r.0)
-  task-idles n (Native a) r = absurd (no-life n r.0)
-  task-idles n (Install a) r = absurd (no-life n r.0)
-  task-idles n (Resume b) r = absurd (no-life n r.0)
-  task-idles n (Signal p s a) r = absurd (no-life n r.0)
-  task-idles n (Deliver s effect) r = absurd (no-life n r.0)
-  task-idles n (Reap a) r = absurd (no-life n r.0)
-  task-idles n Exit r = absurd (no-life n r.0)
-  task-idles n _ r = absurd r
+  task-idles n what r = grind arith
 
   works-no : (w : ℕ) (what : What) → WorkerRow S R K w what → works what ≡ true → ⊥
   works-no w what r h = let g = at-work S R K w what r h in no-work (session K w) g.0 g.1 (not-open (session K w) (f.sessions w))
@@ -93,56 +68,30 @@ module _ (S : System) (R : Rules) (K : List Event) (f : Finished K) where
   worker-idles w _ r = absurd r
 
   row-idles : (a : Actor) (what : What) → Row S R K a what → (K ≡ [] → ⊥) → closes what ≡ false → idles what ≡ true
-  row-idles (Task n) what r l c = task-idles n what r
-  row-idles (Worker w) what r l c = worker-idles w what r
-  row-idles a what r l c = grind arith
+  row-idles a what r l c = grind (arith, task-idles, worker-idles)
 
 -- what an idle step leaves
 idle-listed : (e : Event) (K : List Event) (c : ℕ) → idles e.what ≡ true → listed K c ≡ false → listed (e ∷ K) c ≡ false
 unfolding listed
-idle-listed e K c h l = go e.what h (c == length K)
-  where
-    go : (what : What) → idles what ≡ true → (b : Bool) → (if b then notifies what else (listed K c && not (closes what || (leaves what && is_task e.who (caller K c))))) ≡ false
-    go Skip h true = refl
-    go Skip h false = rw l
-    go (Recv (Err x)) h true = refl
-    go (Recv (Err x)) h false = rw l
-    go what h b = cc
+idle-listed e K c h l = grind arith
 
 idle-made : (e : Event) (K : List Event) (n : Name) → idles e.what ≡ true → is_made (e ∷ K) n ≡ is_made K n
 unfolding is_made
-idle-made e K n h = go e.what h
-  where
-    go : (what : What) → idles what ≡ true → ((makes what && name_eq (child_of what) n) || is_made K n) ≡ is_made K n
-    go Skip h = refl
-    go (Recv (Err x)) h = refl
-    go what h = cc
+idle-made e K n h = grind arith
 
 idle-ended : (e : Event) (K : List Event) (n : Name) → ended K n ≡ true → ended (e ∷ K) n ≡ true
 unfolding ended
 idle-ended e K n h = grind arith
 
 joined-closed : (own : List What) (x : ℕ) → is_open_session own ≡ false → is_open_session (joined (Recv (Err x)) own) ≡ false
-joined-closed [] x h = refl
-joined-closed (a ∷ own) x h = h
+joined-closed own x h = grind arith
 
 idle-session : (e : Event) (K : List Event) (w : ℕ) → idles e.what ≡ true → is_open_session (session K w) ≡ false → is_open_session (session (e ∷ K) w) ≡ false
 unfolding session
-idle-session e K w h o = go e.what h (is_worker e.who w)
-  where
-    go : (what : What) → idles what ≡ true → (b : Bool) → is_open_session (if b && not (skips what) then joined what (session K w) else session K w) ≡ false
-    go Skip h true = o
-    go Skip h false = o
-    go (Recv (Err x)) h true = joined-closed (session K w) x o
-    go (Recv (Err x)) h false = o
-    go what h b = cc
+idle-session e K w h o = grind arith
 
 stays : (e : Event) (K : List Event) → idles e.what ≡ true → Finished K → Finished (e ∷ K)
-stays e K h f = record {
-  tasks = λ n m. idle-ended e K n (f.tasks n (sym (idle-made e K n h) ∙ m));
-  calls = λ c. idle-listed e K c h (f.calls c);
-  sessions = λ w. idle-session e K w h (f.sessions w);
-}
+stays e K h f = grind (arith, idle-ended, idle-made, idle-listed, idle-session)
 
 filled : (L K : List Event) → 0 < length K → L ++ K ≡ [] → ⊥
 filled [] K l q = omega (arith, ap length q)

@@ -17,8 +17,7 @@ use Rattle.mediation.specs.Facts.{spawns, spawned, NamesDiffer}
 use Rattle.mediation.proofs.Rows.{Row, row-of}
 
 made-spawns : (w : What) (n : Name) → (makes w && name_eq (child_of w) n) ≡ true → spawns w n ≡ true
-made-spawns (Spawn m (Ok a)) n h = h
-made-spawns w n h = cc
+made-spawns w n h = grind arith
 
 pub made-spawned : (K : List Event) (n : Name) → is_made K n ≡ true → spawned K n ≡ true
 unfolding is_made spawned
@@ -76,9 +75,7 @@ child-fresh S R K n legal z = false_from_ne_true (spawned K (n ++ (steps_of is_s
 
 -- nobody's name is empty
 spawns-named : (S : System) (R : Rules) (K : List Event) (a : Actor) (w : What) → Row S R K a w → spawns w [] ≡ true → ⊥
-spawns-named S R K (Task m) (Spawn c x) r h = snoc-not-nil m (steps_of is_spawn K m + 1) (sym r.3 ∙ name_eq-true c [] h)
-spawns-named S R K Start (Spawn c x) r h = let q = name_eq-true c [] h in cc
-spawns-named S R K a w r h = grind arith
+spawns-named S R K a w r h = grind (arith, snoc-not-nil, name_eq-true)
 
 all-named-step : (S : System) (R : Rules) (K : List Event) (e : Event) → IsStep S R K e → (spawned K [] ≡ true → ⊥) → spawned (e ∷ K) [] ≡ true → ⊥
 unfolding spawned

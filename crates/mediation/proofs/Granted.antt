@@ -92,12 +92,7 @@ limit-of P i = times-in (cap_of P.rules i)
 
 -- the cap that a rule's decision carries is the rule's own
 own-times : (times : Option ℕ) (i : ℕ) (cap : Cap) → option_map (λ n. record { rule = i; times = n }) times ≡ Some cap → cap.rule ≡ i
-own-times None i cap h = cc
-own-times (Some n) i cap h = sym (ap cap-rule h)
-  where
-    cap-rule : Option Cap → ℕ
-    cap-rule (Some c) = c.rule
-    cap-rule None = i
+own-times times i cap h = grind arith
 
 own-cap : (P : Policy) (i : ℕ) (cap : Cap) → cap_of P.rules i ≡ Some cap → cap.times ≤ limit-of P cap.rule
 unfolding limit-of times-in
@@ -119,23 +114,15 @@ Within P d = (cap : Cap) → act-cap d ≡ Some cap → cap.times ≤ limit-of P
 
 grant-within : (P : Policy) (F : Figures) (i : ℕ) (q : Request) → Within P (grant_decision P F i q)
 unfolding Within act-cap
-grant-within P F i (Sysinfo x) cap h = own-cap P i cap h
-grant-within P F i q cap h = own-cap P i cap h
+grant-within P F i q cap h = grind (arith, own-cap)
 
 decision-within : (P : Policy) (F : Figures) (q : Request) (i : ℕ) (v : Verdict) → Within P (decision P F q i v)
 unfolding Within act-cap
-decision-within P F q i Grant cap h = grant-within P F i q cap h
-decision-within P F q i (Deny e) cap h = cc
-decision-within P F q i Pass cap h = cc
-decision-within P F q i (Inject src at) cap h = cc
+decision-within P F q i v cap h = grind (arith, grant-within)
 
 judged-within : (P : Policy) (F : Figures) (n : Notif) (p : Progress) → Within P (judged P F n p)
 unfolding Within act-cap
-judged-within P F n (Complete texts) cap h =
-    let q = request n.call.nr n.call.args texts in
-    decision-within P F q (decide P.rules q).0 (decide P.rules q).1 cap h
-judged-within P F n (Wants a l) cap h = cc
-judged-within P F n (Faulty e) cap h = cc
+judged-within P F n p cap h = grind (arith, decision-within)
 
 policy-capped : (P : Policy) (F : Figures) → Capped (rules_of P F) (limit-of P)
 unfolding Within act-cap

@@ -111,10 +111,7 @@ module _ (S : System) (R : Rules) (K : List Event) (a : Actor) (w c : ℕ) (lega
       later n (inr x) = inr (or_right (opens_base what) (any_of opens_base (session K w)) x)
 
   notif-same : (n : Notif) → notif_of (session K w) ≡ Some n → i.n ≡ n
-  notif-same n q = go i.n n (sym i.notif_is ∙ q)
-    where
-      go : (x y : Notif) → Some x ≡ Some y → x ≡ y
-      go x y h = cc
+  notif-same n q = grind arith
 
   -- the number leads to the call's task while the call is listed
   opens-own : (n : Notif) (p g : ℕ) → AtWork (session K w) n → p ≡ n.pid → listed K c ≡ true → opened K (holder K p) ≡ Some g → g ≡ group K i.t
@@ -216,15 +213,7 @@ module _ (S : System) (R : Rules) (K : List Event) (a : Actor) (w c : ℕ) (lega
 
 -- a new session has opened nothing
 steady-new : (S : System) (R : Rules) (K : List Event) (a : Actor) (w : ℕ) (n : Notif) → is_worker a w ≡ true → mem K w ≡ None → base K w ≡ None → (c : ℕ) → Steady R (ev a (Recv (Ok n)) ∷ K) w c
-steady-new S R K a w n h x y c =
-    let e = ev a (Recv (Ok n)) in
-    let q : session (e ∷ K) w ≡ Recv (Ok n) ∷ [] = session-more e K w h refl ∙ started (session K w) (Recv (Ok n)) refl in
-    record {
-      opens_first = rw q (λ z. cc);
-      base_first = rw q (λ m z k. cc);
-      mem_is = rw (mem-more e K w h, x) (λ t g z l k. cc);
-      base_is = rw (base-more e K w h, y) (λ t g z l k. cc);
-    }
+steady-new S R K a w n h x y c = grind (arith, session-more, started, mem-more, base-more)
 
 -- a step that leaves the session as it is
 steady-skip : (R : Rules) (K : List Event) (a : Actor) (w c : ℕ) → is_worker a w ≡ true → InSession K w c → Steady R K w c → Steady R (ev a Skip ∷ K) w c

@@ -36,8 +36,7 @@ FitReads (a ∷ own) = FitsRead a × FitReads own
 -- ---- the reads of a legal history's sessions
 
 read-fits : (S : Script) (K : List Event) (m : Option ℕ) (x l : ℕ) → 1 ≤ l → fits_piece (Some (x, l)) (read_answer (system_of S) K m x l) ≡ true
-read-fits S K None x l h = refl
-read-fits S K (Some m) x l h = bytes_fit S K m x l h
+read-fits S K m x l h = grind (arith, bytes_fit)
 
 step-fits : (P : Policy) (F : Figures) (S : Script) (K : List Event) (w : ℕ) (what : What) → WorkerRow (system_of S) (rules_of P F) K w what → FitsRead what
 step-fits P F S K w (Read x l a) row =
@@ -49,8 +48,7 @@ step-fits P F S K w (Read x l a) row =
 step-fits P F S K w what row = tt
 
 joined-fits : (a : What) (own : List What) → FitsRead a → FitReads own → FitReads (joined a own)
-joined-fits a [] h k = elim (cases_Bool (starts a)) [ inl q ↦ rw q (h, tt) | inr q ↦ rw q tt ]
-joined-fits a (b ∷ own) h k = elim (cases_Bool (starts a)) [ inl q ↦ rw q (h, tt) | inr q ↦ rw q (h, k) ]
+joined-fits a own h k = grind arith
 
 fits-step : (P : Policy) (F : Figures) (S : Script) (K : List Event) (e : Event) (w : ℕ) → IsStep (system_of S) (rules_of P F) K e → FitReads (session K w) → FitReads (session (e ∷ K) w)
 fits-step P F S K e w r h =
@@ -85,16 +83,14 @@ heard-none parts = refl
 
 -- a step that begins no session leaves its notification
 notif-before : (a : What) (own : List What) → starts a ≡ false → notif_of (a ∷ own) ≡ notif_of own
-notif-before (Recv (Ok m)) own h = cc
-notif-before a own h = refl
+notif-before a own h = grind arith
 
 same : (a b : Notif) → Some a ≡ Some b → a ≡ b
 same a b h = cc
 
 -- a session that begins has read nothing
 first-heard : (parts : List Part) (a : What) → starts a ≡ true → heard parts [] (reads (a ∷ [])) ≡ reads (a ∷ [])
-first-heard parts (Recv (Ok m)) s = heard-none parts
-first-heard parts a s = cc
+first-heard parts a s = grind (arith, heard-none)
 
 -- the reads of a session are heard one and all
 pub all-heard : (P : Policy) (F : Figures) (n : Notif) (own : List What) → IsOwn (rules_of P F) own → notif_of own ≡ Some n → FitReads own → heard (plan n.call.nr n.call.args) [] (reads own) ≡ reads own

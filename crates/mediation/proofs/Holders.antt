@@ -19,13 +19,7 @@ use Rattle.mediation.proofs.Places.{place-is}
 
 -- a wait reaps an ended task
 waits-ended : (K : List Event) (n m : Name) (c o : Option ℕ) → oldest (is_ended_child K n) (length K) ≡ o → Reap (Ok m) ≡ wait_step K c o → ended K m ≡ true
-waits-ended K n m None o h q = cc
-waits-ended K n m (Some c) None h q = cc
-waits-ended K n m (Some c) (Some t) h q =
-    let s = oldest-some (is_ended_child K n) (length K) t h in
-    let e : ended K (name_of K t) ≡ true = grind arith in
-    let i : m ≡ name_of K t = cc in
-    rw i e
+waits-ended K n m c o h q = grind (arith, oldest-some)
 
 reaps-ended : (S : System) (R : Rules) (K : List Event) (a : Actor) (w : What) (m : Name) → Row S R K a w → reaps w m ≡ true → ended K m ≡ true
 reaps-ended S R K (Task n) (Reap (Ok c)) m r h =
@@ -35,11 +29,7 @@ reaps-ended S R K a w m r h = grind arith
 
 waited-step : (S : System) (R : Rules) (K : List Event) (e : Event) (m : Name) → IsStep S R K e → (was_waited_for K m ≡ true → ended K m ≡ true) → was_waited_for (e ∷ K) m ≡ true → ended (e ∷ K) m ≡ true
 unfolding was_waited_for
-waited-step S R K e m r ih h =
-    elim (or_cases (reaps e.what m) (was_waited_for K m) h) [
-      | inl q ↦ ended-more e K m (reaps-ended S R K e.who e.what m (row-of S R K e r) q)
-      | inr q ↦ ended-more e K m (ih q)
-    ]
+waited-step S R K e m r ih h = grind (arith, ended-more, reaps-ended, row-of)
 
 pub waited-ended : (S : System) (R : Rules) (K : List Event) → IsLegal S R K → (m : Name) → was_waited_for K m ≡ true → ended K m ≡ true
 unfolding was_waited_for
@@ -48,13 +38,7 @@ waited-ended S R (e ∷ K) legal = λ m. waited-step S R K e m legal.0 (waited-e
 
 pub alive-unreaped : (S : System) (R : Rules) (K : List Event) (m : Name) → IsLegal S R K → alive K m ≡ true → reaped K m ≡ false
 unfolding reaped
-alive-unreaped S R K m legal h =
-    let e : ended K m ≡ false = grind arith in
-    let w : was_waited_for K m ≡ false = false_from_ne_true (was_waited_for K m) (λ q. both (ended K m) e (waited-ended S R K legal m q)) in
-    grind arith
-  where
-    both : (b : Bool) → b ≡ false → b ≡ true → ⊥
-    both b g h = cc
+alive-unreaped S R K m legal h = grind (arith, waited-ended)
 
 -- a living task holds its number
 pub living-holder : (S : System) (R : Rules) (K : List Event) (m : Name) (t p : ℕ) → IsLegal S R K → alive K m ≡ true → task_place K m ≡ Some t → pid_of K t ≡ Some p → holder K p ≡ Some t

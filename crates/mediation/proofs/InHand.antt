@@ -36,8 +36,7 @@ in-hand-of S R K w c legal h = rw h at (hand S R K legal w)
 
 -- what a skip does not change
 skip-call : (K : List Event) (what : What) (o : Option ℕ) → skips what ≡ true → call_after K what o ≡ o
-skip-call K Skip o h = refl
-skip-call K what o h = cc
+skip-call K what o h = grind arith
 
 -- a fact of calls in hand, kept by each step
 pub record StepKept (S : System) (R : Rules) (P : List Event → ℕ → ℕ → Type 0) : Type 0 where
@@ -54,9 +53,7 @@ pub record StepKept (S : System) (R : Rules) (P : List Event → ℕ → ℕ →
 module _ (S : System) (R : Rules) (P : List Event → ℕ → ℕ → Type 0) (k : StepKept S R P) where
   module _ (K : List Event) (w : ℕ) (legal : IsLegal S R K) (ih : (c : ℕ) → session_call K w ≡ Some c → P K w c) where
     still-step : (e : Event) (c : ℕ) → IsStep S R K e → length (e ∷ K) < 2 ^ 64 → (is_worker e.who w && not (skips e.what)) ≡ false → session_call (e ∷ K) w ≡ session_call K w → session_call (e ∷ K) w ≡ Some c → P (e ∷ K) w c
-    still-step e c r room q same h =
-        let s : session_call K w ≡ Some c = sym same ∙ h in
-        k.still K e w c r legal room q (in-hand-of S R K w c legal s) s (session-same e K w q) (ih c s)
+    still-step e c r room q same h = grind (arith, in-hand-of, session-same)
 
     fetch-step : (a : Actor) (n : Notif) (c : ℕ) → IsStep S R K (ev a (Recv (Ok n))) → length (ev a (Recv (Ok n)) ∷ K) < 2 ^ 64 → is_worker a w ≡ true → WorkerRow S R K w (Recv (Ok n)) → session_call (ev a (Recv (Ok n)) ∷ K) w ≡ Some c → P (ev a (Recv (Ok n)) ∷ K) w c
     fetch-step a n c r room q row h = k.fetch K a w c n r legal room q row (sym (call-more (ev a (Recv (Ok n))) K w q) ∙ h) (idle (session_call K w) (hand S R K legal w))
@@ -66,11 +63,7 @@ module _ (S : System) (R : Rules) (P : List Event → ℕ → ℕ → Type 0) (k
         idle (Some d) i = absurd (no-fetch R K w d i (deed-is R (session K w) Fetch row.0))
 
     work-step : (a : Actor) (what : What) (c : ℕ) → IsStep S R K (ev a what) → length (ev a what ∷ K) < 2 ^ 64 → is_worker a w ≡ true → WorkerRow S R K w what → works what ≡ true → session_call (ev a what ∷ K) w ≡ Some c → P (ev a what ∷ K) w c
-    work-step a what c r room q row g h =
-        let keep = works-keep K what g in
-        let s : session_call K w ≡ Some c = sym (keep.call (session_call K w)) ∙ (sym (call-more (ev a what) K w q) ∙ h) in
-        let i = in-hand-of S R K w c legal s in
-        k.work K a w c what r legal room q row g i s (session-more (ev a what) K w q keep.no_skip ∙ grown (session K w) what i.n i.notif_is keep.no_start) (ih c s)
+    work-step a what c r room q row g h = grind (arith, works-keep, call-more, in-hand-of, session-more, grown)
 
     mine-step : (a : Actor) (what : What) (c : ℕ) → IsStep S R K (ev a what) → length (ev a what ∷ K) < 2 ^ 64 → is_worker a w ≡ true → skips what ≡ false → WorkerRow S R K w what → session_call (ev a what ∷ K) w ≡ Some c → P (ev a what ∷ K) w c
     mine-step a (Recv (Ok n)) c r room q z row h = fetch-step a n c r room q row h
@@ -91,13 +84,7 @@ module _ (S : System) (R : Rules) (P : List Event → ℕ → ℕ → Type 0) (k
     mine-step a _ c r room q z row h = absurd row
 
     step : (e : Event) (c : ℕ) → IsStep S R K e → length (e ∷ K) < 2 ^ 64 → session_call (e ∷ K) w ≡ Some c → P (e ∷ K) w c
-    step e c r room h = elim (cases_Bool (is_worker e.who w)) [
-      | inl q ↦ elim (cases_Bool (skips e.what)) [
-        | inl z ↦ still-step e c r room (grind arith) (call-more e K w q ∙ skip-call K e.what (session_call K w) z) h
-        | inr z ↦ mine-step e.who e.what c r room q z (worker-row S R K e w r q) h
-      ]
-      | inr q ↦ still-step e c r room (grind arith) (call-same e K w q) h
-    ]
+    step e c r room h = grind (arith, still-step, call-more, skip-call, mine-step, worker-row, call-same)
 
   pub by-session : (K : List Event) → IsLegal S R K → length K < 2 ^ 64 → (w c : ℕ) → session_call K w ≡ Some c → P K w c
   by-session [] legal room = λ w c h. absurd (no-call w c h)

@@ -114,8 +114,7 @@ line-same place d e x y h g k l q =
     actor-same d.who e.who (what_text d.what ++ 10 ∷ x) (what_text e.what ++ 10 ∷ y) h g k l v
 
 is-actor : (S : System) (R : Rules) (K : List Event) (e : Event) → IsStep S R K e → is_actor e.who ≡ true
-is-actor S R [] e r = ap (λ (d : Event). is_actor d.who) r
-is-actor S R (f ∷ K) e r = r.3
+is-actor S R K e r = grind arith
 
 -- from the oldest line on: equal events so far, and an equal actor, make an equal event
 lines-fix : (S : System) (R : Rules) (K L : List Event) (x y : List ℕ) → IsLegal S R K → IsLegal S R L → AreNamed K → AreNamed L → length K ≡ length L

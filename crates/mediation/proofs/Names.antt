@@ -1,5 +1,5 @@
 -- What a session names is its own call or nothing.
-use Rattle.std.proofs.Common.{◌≡◌, ℕ, ◌<◌, ◌^◌, true, ◌&&◌, List, length, Some, ◌∙◌}
+use Rattle.std.proofs.Common.{◌≡◌, ℕ, ◌<◌, ◌^◌, true, ◌&&◌, List, length, Some, ◌∙◌, arith}
 use Rattle.std.specs.Prelude.{◌==◌}
 use Rattle.std.proofs.lemmas.Bool.{and_parts, and_from, eqb-true, eq-eqb}
 use Rattle.hist_model.specs.Calls.{listed, id, named}
@@ -14,10 +14,7 @@ use Rattle.mediation.proofs.Work.{InSession}
 
 pub named-is : (K : List Event) (x d : ℕ) → named K x ≡ Some d → (listed K d ≡ true) × (id K d ≡ x)
 unfolding named
-named-is K x d q =
-    let s = oldest-some (λ c. listed K c && (id K c == x)) (length K) d q in
-    let p = and_parts (listed K d) (id K d == x) s.0 in
-    (p.0, eqb-true (id K d) x p.1)
+named-is K x d q = grind (arith, oldest-some)
 
 -- of a call in hand
 pub names-own : (S : System) (R : Rules) (K : List Event) (w c d : ℕ) → IsLegal S R K → length K < 2 ^ 64 → (i : InSession K w c) → named K i.n.id ≡ Some d → d ≡ c

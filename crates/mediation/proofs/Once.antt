@@ -22,15 +22,9 @@ no-both u q = cc
 
 -- an answer goes to a waiting call
 sent-waiting : (K : List Event) (c : ℕ) (d : Option ℕ) (u : Unit {0}) → Ok u ≡ send_answer K d → is_place d c ≡ true → waiting K c ≡ true
-sent-waiting K c None u q h = cc
-sent-waiting K c (Some d) u q h =
-    elim (cases_Bool (waiting K d)) [
-      | inl w ↦ rw (eqb-true d c h) at w
-      | inr w ↦ absurd (no-both u (rw w at q))
-    ]
+sent-waiting K c d u q h = grind arith
 
 pub answers-waiting : (S : System) (R : Rules) (K : List Event) (a : Actor) (w : What) (c : ℕ) → Row S R K a w → answers K w c ≡ true → waiting K c ≡ true
-answers-waiting S R K (Worker v) (Send x b (Ok u)) c r h = sent-waiting K c (named K x) u r.1 h
 answers-waiting S R K a w c r h = grind arith
 
 -- an install belongs to the call in which its task waits, which is not settled

@@ -44,14 +44,7 @@ same m n h = cc
 -- a step that is no check, no opening, no read and no use
 plain : (R : Rules) (own : List What) (a : What) → checks a ≡ false → is_read a ≡ false → (any_of opens own ≡ true → any_of opens (a ∷ own) ≡ true) → (any_of opens_base own ≡ true → any_of opens_base (a ∷ own) ≡ true)
     → ((n : Notif) → notif_of (a ∷ own) ≡ Some n → notif_of own ≡ Some n) → Checked R own → InOrder (a ∷ own) → Checked R (a ∷ own)
-plain R own a c r o b m ih order =
-    record {
-      most = rw c ih.most;
-      complete = rw (c, r) (λ n h e. ih.complete n (m n h) e);
-      opened = λ h. o (ih.opened (rw c at h));
-      based = λ n h e. elim (ih.based n (m n h) (rw c at e)) [ inl x ↦ inl x | inr x ↦ inr (b x) ];
-      order = order;
-    }
+plain R own a c r o b m ih order = grind arith
 
 pub used-two : (R : Rules) (own : List What) (n : Notif) → AtWork own n → HasCopied R own n → Checked R own → number_of is_good_check own ≡ 2
 used-two R own n work c ih =

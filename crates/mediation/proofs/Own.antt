@@ -47,19 +47,7 @@ waits-in_some K c h e = newest-found (λ d. listed K d && name_eq (caller K d) (
 
 -- while its call stays listed, a task only installs or skips
 pub stays-passive : (S : System) (K : List Event) (n : Name) (w : What) → TaskRow S K n w → (call_of K n ≡ None → ⊥) → leaves w ≡ false → (is_passive w ≡ true) × (ends w ≡ false)
-stays-passive S K n (Spawn m a) r h g = absurd (h r.1)
-stays-passive S K n (Poke a b) r h g = absurd (h r.1)
-stays-passive S K n (Handler s m) r h g = absurd (h r.1)
-stays-passive S K n (Enter nr args v) r h g = absurd (h r.1)
-stays-passive S K n (Native a) r h g = absurd (h r.1)
-stays-passive S K n (Install a) r h g = (refl, refl)
-stays-passive S K n (Resume b) r h g = cc
-stays-passive S K n (Signal p s a) r h g = absurd (h r.1)
-stays-passive S K n (Deliver s effect) r h g = cc
-stays-passive S K n (Reap a) r h g = absurd (h r.1)
-stays-passive S K n Exit r h g = absurd (h r.1)
-stays-passive S K n Skip r h g = (refl, refl)
-stays-passive S K n _ r h g = absurd r
+stays-passive S K n w r h g = grind arith
 
 alive-other : (e : Event) (K : List Event) (n : Name) → (ends e.what && is_task e.who n) ≡ false → alive K n ≡ true → alive (e ∷ K) n ≡ true
 unfolding ended is_made
@@ -83,8 +71,7 @@ idle S R K e n r h g = go e.who e.what r g
     go Listener w r g = inl refl
 
 id-with : (nr : ℤ) (args : List ℕ) (v : Entered) (x : ℕ) → notifies (Enter nr args (with_id v x)) ≡ true → (notify_id (Enter nr args (with_id v x)) ≡ x) × (ends (Enter nr args (with_id v x)) ≡ false)
-id-with nr args (Notify old) x h = (refl, refl)
-id-with nr args v x h = cc
+id-with nr args v x h = grind arith
 
 -- what the step of a call tells
 pub record Entering (S : System) (R : Rules) (K : List Event) (a : Actor) (w : What) : Type 0 where
@@ -98,10 +85,6 @@ pub record Entering (S : System) (R : Rules) (K : List Event) (a : Actor) (w : W
   pub no_task : makes w ≡ false
 
 pub entering : (S : System) (R : Rules) (K : List Event) (a : Actor) (w : What) → Row S R K a w → notifies w ≡ true → Entering S R K a w
-entering S R K (Task n) (Enter nr args v) r h =
-    let x = (S.firstid + calls K) % 2 ^ 64 in
-    let f = id-with nr args (S.verdict nr args) x (subst (λ u. notifies (Enter nr args u) ≡ true) r.2 h) in
-    record { name = n; actor = refl; lives = r.0; outside = r.1; id_is = ap (λ u. notify_id (Enter nr args u)) r.2 ∙ f.0; not_end = ap (λ u. ends (Enter nr args u)) r.2 ∙ f.1; not_passive = refl; no_task = refl }
 entering S R K a w r h = grind arith
 
 old-kept : (S : System) (R : Rules) (K : List Event) (e : Event) (c : ℕ) → Row S R K e.who e.what → listed K c ≡ true → unlists e (caller K c) ≡ false
@@ -122,13 +105,7 @@ is_task-of a n q = rw q (name_eq-refl n)
 new-last : (S : System) (R : Rules) (K : List Event) (e : Event) → Row S R K e.who e.what → notifies e.what ≡ true
     → (alive (e ∷ K) (task_name e.who) ≡ true) × (last_own (e ∷ K) (task_name e.who) ≡ Some (length K))
 unfolding last_own
-new-last S R K e r h =
-    let t = entering S R K e.who e.what r h in
-    let s : task_name e.who ≡ t.name = ap task_name t.actor in
-    let i : is_task e.who t.name ≡ true = is_task-of e.who t.name t.actor in
-    let x = t.not_end in
-    let y = t.not_passive in
-    rw s (alive-other e K t.name (grind arith) t.lives, rw (i, y))
+new-last S R K e r h = grind (arith, entering, is_task-of, alive-other)
 
 calls-step : (S : System) (R : Rules) (K : List Event) (e : Event) → IsStep S R K e → CallsAreLast K → CallsAreLast (e ∷ K)
 calls-step S R K e r ih c h =
@@ -158,8 +135,4 @@ waits-in S R K n c d legal q h g =
 
 -- the task of a listed call waits in it
 pub waits-here : (S : System) (R : Rules) (K : List Event) (c : ℕ) → IsLegal S R K → listed K c ≡ true → call_of K (caller K c) ≡ Some c
-waits-here S R K c legal l = go (call_of K (caller K c)) refl
-  where
-    go : (o : Option ℕ) → call_of K (caller K c) ≡ o → call_of K (caller K c) ≡ Some c
-    go None q = absurd (waits-in_some K c l q)
-    go (Some d) q = q ∙ ap Some (waits-in S R K (caller K c) c d legal q l refl)
+waits-here S R K c legal l = grind (arith, waits-in_some, waits-in)

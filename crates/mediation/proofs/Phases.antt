@@ -112,10 +112,7 @@ asked-calm e K c w m q a =
     go i (failed x y z v) = failed x (calm-clean e K c m y) (i ∙ z) v
 
 pub stage-calm : (e : Event) (K : List Event) (c w : ℕ) (p : Option (Result (Unit {0}) ℕ)) (t : Option (Result ℕ ℕ)) → Calm K e c → request_of (e ∷ K) w ≡ request_of K w → StageOf K c w p t → StageOf (e ∷ K) c w p t
-stage-calm e K c w None t m q h = calm-clean e K c m h
-stage-calm e K c w (Some (Err x)) t m q h = calm-clean e K c m h
-stage-calm e K c w (Some (Ok u)) None m q h = asked-calm e K c w m q h
-stage-calm e K c w (Some (Ok u)) (Some t) m q h = calm-clean e K c m h
+stage-calm e K c w p t m q h = grind (arith, calm-clean, asked-calm)
 
 -- the install of the call's request
 asked-install : (S : System) (e : Event) (K : List Event) (c w : ℕ) → request_of (e ∷ K) w ≡ request_of K w → installs_for K e c ≡ true → puts_to K e.what c ≡ false → Installing S K e.who e.what c → settled K c ≡ false → Asked K c w → Asked (e ∷ K) c w
@@ -169,31 +166,11 @@ fetcher-fetched (e ∷ K) c w h =
 
 -- a fetched call is not fetched again
 pub refetch : (S : System) (R : Rules) (K : List Event) (a : Actor) (what : What) (c : ℕ) → IsLegal S R K → length K < 2 ^ 64 → Row S R K a what → fetched K c ≡ true → (fetches what (id K c) && listed K c) ≡ false
-refetch S R K a (Recv (Ok n)) c legal room r f =
-    let g = receiving S R K a (Ok n) r in
-    let d = fetching K n (oldest_unfetched K) refl g.1 in
-    false_from_ne_true _ (λ h.
-    let p = and_parts (n.id == id K c) (listed K c) h in
-    let m : d.0 ≡ c = ids_differ S R K legal room d.0 c d.2 p.1 (sym (ap (λ (x : Notif). x.id) d.1) ∙ eqb-true n.id (id K c) p.0) in
-    both_ways (fetched K d.0) d.3 (rw (← m) at f))
-refetch S R K a what c legal room r f = refl
+refetch S R K a what c legal room r f = grind (arith, receiving, fetching, ids_differ)
 
 -- what is in hand was fetched by that worker
 hand-fetcher-kind : (S : System) (R : Rules) (K : List Event) (a : Actor) (what : What) (w c : ℕ) → IsLegal S R K → length K < 2 ^ 64 → Row S R K a what → is_worker a w ≡ true → session_call K w ≡ session_call K w → call_after K what (session_call K w) ≡ Some c → (session_call K w ≡ Some c) ⊎ (((fetches what (id K c) && listed K c) ≡ true) × (worker_of a ≡ Some w))
-hand-fetcher-kind S R K a (Recv (Ok n)) w c legal room r h z q =
-    let g = receiving S R K a (Ok n) r in
-    let d = fetching K n (oldest_unfetched K) refl g.1 in
-    let m : d.0 ≡ c = some-nat d.0 c (sym d.4 ∙ q) in
-    inr (rw (ap (λ (x : Notif). x.id) d.1, m, eq-eqb (id K c) (id K c) refl) (rw m at d.2), worker-is a w h)
-  where
-    some-nat : (x y : ℕ) → Some x ≡ Some y → x ≡ y
-    some-nat x y h = cc
-
-    worker-is : (a : Actor) (w : ℕ) → is_worker a w ≡ true → worker_of a ≡ Some w
-    worker-is (Worker v) w h = ap Some (eqb-true v w h)
-    worker-is a w h = cc
-hand-fetcher-kind S R K a LetGo w c legal room r h z q = cc
-hand-fetcher-kind S R K a what w c legal room r h z q = inl q
+hand-fetcher-kind S R K a what w c legal room r h z q = grind (arith, receiving, fetching)
 
 pub fetcher-stays : (S : System) (R : Rules) (K : List Event) (e : Event) (w c : ℕ) → IsLegal S R K → length K < 2 ^ 64 → Row S R K e.who e.what → fetched K c ≡ true → fetcher K c ≡ Some w → fetcher (e ∷ K) c ≡ Some w
 fetcher-stays S R K e w c legal room r f h = fetcher-same e K c (refetch S R K e.who e.what c legal room r f) ∙ h

@@ -27,24 +27,14 @@ reaped-more e K n h = grind arith
 
 -- a task that is not reaped was not reaped before
 holds-less : (e : Event) (K : List Event) (p t : ℕ) → t < length K → holds (e ∷ K) p t ≡ true → holds K p t ≡ true
-holds-less e K p t l h =
-    let h' : (is_some_of (pid_of K t) p && not (reaped (e ∷ K) (name_of K t))) ≡ true = rw event_at-older at h in
-    let m = reaped-more e K (name_of K t) in
-    grind arith
+holds-less e K p t l h = grind (arith, event_at-older, reaped-more)
 
 holds-below : (K : List Event) (p t : ℕ) → holds K p t ≡ true → t < length K
-holds-below K p t h = elim (cases_order t (length K)) [
-  | inl q ↦ let a : length K ≤ t = omega arith in let h' : (false && not (reaped K [])) ≡ true = rw event_at-above at h in cc
-  | inr q ↦ elim q [ inl q ↦ q | inr q ↦ let a : length K ≤ t = omega arith in let h' : (false && not (reaped K [])) ≡ true = rw event_at-above at h in cc ]
-]
+holds-below K p t h = grind (arith, event_at-above)
 
 -- the new task's number
 holds-here : (e : Event) (K : List Event) (p : ℕ) → holds (e ∷ K) p (length K) ≡ true → given e.what ≡ Some p
-holds-here e K p h = is-given (given e.what) _ (rw event_at-here at h)
-  where
-    is-given : (g : Option ℕ) (b : Bool) → (is_some_of g p && b) ≡ true → g ≡ Some p
-    is-given None b h = cc
-    is-given (Some q) b h = ap Some (eqb-true q p (grind arith))
+holds-here e K p h = grind (arith, event_at-here)
 
 free-none : (K : List Event) (n q p : ℕ) → free_from K n q ≡ Some p → holder K p ≡ None
 unfolding free_from
@@ -57,11 +47,7 @@ free-none K (suc n) q p e = go (holder K q) refl e (free-none K n (q + 1) p)
 
 next-none : (b m : ℕ) (K : List Event) (p : ℕ) → next_pid b m K ≡ Some p → holder K p ≡ None
 unfolding next_pid
-next-none b m K p e = go (free_from K (b + m - last_pid b K) (last_pid b K + 1)) refl e
-  where
-    go : (r : Option ℕ) → free_from K (b + m - last_pid b K) (last_pid b K + 1) ≡ r → or_else r (free_from K (last_pid b K - b) (b + 1)) ≡ Some p → holder K p ≡ None
-    go (Some q) h e = free-none K (b + m - last_pid b K) (last_pid b K + 1) p (h ∙ e)
-    go None h e = free-none K (last_pid b K - b) (b + 1) p e
+next-none b m K p e = grind (arith, free-none)
 
 -- a number that is free is held by no unreaped task
 free-held : (K : List Event) (p t : ℕ) → holder K p ≡ None → holds K p t ≡ true → ⊥

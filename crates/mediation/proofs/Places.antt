@@ -18,10 +18,7 @@ place-stays e K n t q =
 
 pub place-is : (K : List Event) (n : Name) (t : ℕ) → task_place K n ≡ Some t → (makes_in (event_at K t) ≡ true) × (name_eq (name_of K t) n ≡ true) × (t < length K)
 unfolding task_place
-place-is K n t q =
-    let s = oldest-some (λ u. makes_in (event_at K u) && name_eq (name_of K u) n) (length K) t q in
-    let p = and_parts (makes_in (event_at K t)) (name_eq (name_of K t) n) s.0 in
-    (p.0, p.1, s.1)
+place-is K n t q = grind (arith, oldest-some)
 
 made-somewhere : (K : List Event) (n : Name) → is_made K n ≡ true → (t : ℕ) × (t < length K) × ((makes_in (event_at K t) && name_eq (name_of K t) n) ≡ true)
 unfolding is_made
@@ -37,12 +34,10 @@ unfolding task_place
 made-place K n h = let m = made-somewhere K n h in oldest-found (λ u. makes_in (event_at K u) && name_eq (name_of K u) n) (length K) m.0 m.1 m.2
 
 makes-given : (w : What) → makes w ≡ true → given w ≡ Some (pid_or (given w))
-makes-given (Spawn n (Ok a)) h = refl
-makes-given w h = cc
+makes-given w h = grind arith
 
 pub makes-pid : (o : Option Event) → makes_in o ≡ true → given_in o ≡ Some (pid_or (given_in o))
-makes-pid None h = cc
-makes-pid (Some e) h = makes-given e.what h
+makes-pid o h = grind arith
 
 pub group-older : (e : Event) (K : List Event) (t : ℕ) → t < length K → group (e ∷ K) t ≡ group K t
 unfolding group

@@ -17,23 +17,13 @@ use Rattle.mediation.specs.Scheduled.{IsScheduled, AllScheduled}
 use Rattle.mediation.proofs.Replies.{taken-by-its-actor}
 
 not-start : (a : Actor) → IsScheduled a → is_start a ≡ false
-not-start (Task n) s = refl
-not-start (Worker w) s = refl
-not-start Start s = absurd s
-not-start Listener s = absurd s
+not-start a s = grind arith
 
 may-step : (a : Actor) → IsScheduled a → is_actor a ≡ true
-may-step (Task n) s = refl
-may-step (Worker w) s = grind (arith)
-may-step Start s = absurd s
-may-step Listener s = absurd s
+may-step a s = grind arith
 
 never-closes : (a : Actor) (what : What) → IsScheduled a → takes a what ≡ true → closes what ≡ false
-never-closes (Task n) Close s t = cc
-never-closes (Worker w) Close s t = cc
-never-closes Start Close s t = absurd s
-never-closes Listener Close s t = absurd s
-never-closes a _ s t = refl
+never-closes a what s t = grind arith
 
 -- a history that goes on: its newest event isn't the close of the listener
 abbrev IsOpen : List Event → Type 0
@@ -88,10 +78,7 @@ module _ (P : Policy) (S : Script) where
   begins = record { legal = (refl, tt); unclosed = refl }
 
   ends : (K : List Event) → Goes K → IsLegal (system_of S) (rules_of P S.figures) (with_step P S Listener K)
-  ends [] g = absurd g.unclosed
-  ends (f ∷ K) g = ((g.unclosed, refl, refl, refl), g.legal)
+  ends K g = grind arith
 
   pub played-is-legal : AllScheduled S.schedule → length (played P S) < 2 ^ 64 → Legal P S (played P S)
-  played-is-legal s room =
-      let K = with_schedule P S S.schedule (started S) in
-      (ends K (schedule S.schedule (started S) s (omega arith) begins), room)
+  played-is-legal s room = grind (arith, schedule, ends, begins)

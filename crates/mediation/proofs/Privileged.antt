@@ -1,5 +1,5 @@
 -- A native call changes no device, no mount, and no attribute but the user's own.
-use Rattle.std.proofs.Common.{◌≡◌, inl, inr, ℕ, Bool, true, false, List, [], ◌∷◌, Option, Some, None, is_some, refl}
+use Rattle.std.proofs.Common.{◌≡◌, inl, inr, ℕ, Bool, true, false, List, [], ◌∷◌, Option, Some, None, is_some, refl, arith}
 use Rattle.std.specs.Prelude.{if◌then◌else◌, ◌==◌, ◌%◌, ◌^◌, Result, Ok, Err, filter, nat_eq, codes, bytes_eq}
 use Rattle.std.specs.List.{starts_with}
 use Rattle.std.proofs.lemmas.Bool.{cases_Bool, and_parts}
@@ -47,26 +47,13 @@ either T false x y p q = q
 
 -- a node that is no device
 made-keeps : (T : Tree) (k : Node) (p : Place) → is_device_node k ≡ false → Keeping T (make_natively false (made T k p))
-made-keeps T k (Refused e) h = tt
-made-keeps T k (At n) h = tt
-made-keeps T k (New dir name) h = go (is_some (entry T dir name))
-  where
-    go : (b : Bool) → Keeping T (make_natively false (if b then Err 17 else Ok (with_node T dir name k)))
-    go true = tt
-    go false = record { devices = rw h; mounts = refl; attributes = refl }
+made-keeps T k p h = grind arith
 
 device-keeps : (T : Tree) (r : Result Tree ℕ) → Keeping T (make_natively true r)
-device-keeps T (Ok U) = tt
-device-keeps T (Err e) = tt
+device-keeps T r = grind arith
 
 node-keeps : (T : Tree) (root : ℕ) (base : Option ℕ) (path : List ℕ) (dev : ℕ) (k : Kind) → Keeping T (make_natively (is_device (making path dev k)) (perform T root base (making path dev k)))
-node-keeps T root base path dev kind.Reg = made-keeps T node.Reg (reaches T root base path Create) refl
-node-keeps T root base path dev kind.Chr = device-keeps T (perform T root base (making path dev kind.Chr))
-node-keeps T root base path dev kind.Blk = device-keeps T (perform T root base (making path dev kind.Blk))
-node-keeps T root base path dev kind.Fifo = made-keeps T node.Fifo (reaches T root base path Create) refl
-node-keeps T root base path dev kind.Sock = made-keeps T node.Sock (reaches T root base path Create) refl
-node-keeps T root base path dev kind.Dir = tt
-node-keeps T root base path dev kind.Bad = tt
+node-keeps T root base path dev k = grind arith
 
 -- an attribute of the user's own
 user_own : List ℕ → Bool
@@ -87,32 +74,19 @@ replaced-keeps (r ∷ rs) on name value h =
 
 put-keeps : (T : Tree) (on : ℕ) (name value : List ℕ) (old : Option (List ℕ)) → user_own name ≡ true → filter is_others_row (attr_put T.attrs on name value old) ≡ filter is_others_row T.attrs
 unfolding user_own
-put-keeps T on name value None h = rw h
-put-keeps T on name value (Some v) h = replaced-keeps T.attrs on name value h
+put-keeps T on name value old h = grind (arith, replaced-keeps)
 
 attr-keeps : (T : Tree) (on : ℕ) (name value : List ℕ) → user_own name ≡ true → KeepsPrivileged T (with_attr T on name value)
 attr-keeps T on name value h = record { devices = refl; mounts = refl; attributes = put-keeps T on name value (attr T on name) h }
 
 set-keeps : (T : Tree) (on : ℕ) (name value : List ℕ) (flags : ℕ) (old : Option (List ℕ)) → user_own name ≡ true → Keeping T (changed (attr_set T on name value flags old))
-set-keeps T on name value flags (Some v) h = go (creates_attr flags)
-  where
-    go : (b : Bool) → Keeping T (changed (if b then Err 17 else Ok (with_attr T on name value)))
-    go true = tt
-    go false = attr-keeps T on name value h
-set-keeps T on name value flags None h = go (replaces_attr flags)
-  where
-    go : (b : Bool) → Keeping T (changed (if b then Err 61 else Ok (with_attr T on name value)))
-    go true = tt
-    go false = attr-keeps T on name value h
+set-keeps T on name value flags old h = grind (arith, attr-keeps)
 
 attributed-keeps : (T : Tree) (name value : List ℕ) (flags : ℕ) (p : Place) → user_own name ≡ true → Keeping T (changed (attributed T name value flags p))
-attributed-keeps T name value flags (Refused e) h = tt
-attributed-keeps T name value flags (New dir last) h = tt
-attributed-keeps T name value flags (At n) h = set-keeps T n name value flags (attr T n name) h
+attributed-keeps T name value flags p h = grind (arith, set-keeps)
 
 not-own : (T : Tree) (r : Result Tree ℕ) → Keeping T (set_natively false false r)
-not-own T (Ok U) = tt
-not-own T (Err e) = tt
+not-own T r = grind arith
 
 xattr-keeps : (T : Tree) (root : ℕ) (base : Option ℕ) (path name value : List ℕ) (flags : ℕ) (known own : Bool) → are_attr_flags flags ≡ known → user_own name ≡ own
     → Keeping T (set_natively (is_refused (if known then SetAttr path name value flags else Fail 22)) own (perform T root base (if known then SetAttr path name value flags else Fail 22)))
@@ -121,25 +95,17 @@ xattr-keeps T root base path name value flags true true h g = rw h (attributed-k
 xattr-keeps T root base path name value flags true false h g = not-own T (perform T root base (SetAttr path name value flags))
 
 opened-keeps : (T : Tree) (free : Option ℕ) (p : Place) → Keeping T (opened_place free p)
-opened-keeps T (Some n) (At x) = tt
-opened-keeps T None (At x) = tt
-opened-keeps T free (New dir name) = tt
-opened-keeps T free (Refused e) = tt
+opened-keeps T free p = grind arith
 
 request-keeps : (S : Script) (F : Files) (g : ℕ) (base : Option ℕ) (q : Request) → Keeping F.tree (request_natively S F g base q)
 unfolding user_own
-request-keeps S F g base (Mknod d path mode dev) = node-keeps F.tree (root S) base path dev (kind_of mode)
-request-keeps S F g base (SetXattr path name value flags) = xattr-keeps F.tree (root S) base path name value flags (are_attr_flags flags) (user_own name) refl refl
-request-keeps S F g base (OpenAt d path flags) = opened-keeps F.tree (lowest_free F g S.rlimit) (reaches F.tree (root S) base path Follow)
-request-keeps S F g base _ = tt
+request-keeps S F g base q = grind (arith, node-keeps, xattr-keeps, user_own, opened-keeps)
 
 copied-keeps : (S : Script) (F : Files) (g : ℕ) (call : What) (r : Result (List (List ℕ)) ℕ) → Keeping F.tree (copied_natively S F g call r)
-copied-keeps S F g call (Err e) = tt
-copied-keeps S F g call (Ok texts) = request-keeps S F g (base_for S F g (base_dirfd (number_entered call) (entered call))) (request (number_entered call) (entered call) texts)
+copied-keeps S F g call r = grind (arith, request-keeps)
 
 close-keeps : (T : Tree) (n : ℕ) (o : Option Obj) → Keeping T (close_natively n o)
-close-keeps T n None = tt
-close-keeps T n (Some x) = tt
+close-keeps T n o = grind arith
 
 call-keeps : (S : Script) (K : List Event) (F : Files) (n : Name) (g : ℕ) (call : What) → Keeping F.tree (call_natively S K F n g call)
 call-keeps S K F n g call =
@@ -151,17 +117,10 @@ call-keeps S K F n g call =
     either F.tree (has_base (base_dirfd nr (entered call))) _ (Fails 38) (copied-keeps S F g call (copy_of (mapped_byte S K g) (plan nr (entered call)))) tt)))
 
 native-tree : (F : Files) (g : ℕ) (s : NativeStep) → Keeping F.tree s → KeepsPrivileged F.tree (after_native F g s).tree
-native-tree F g (Changes U) h = h
-native-tree F g (Fails e) h = keeps-same F.tree
-native-tree F g (Gives n) h = keeps-same F.tree
-native-tree F g (Opens n x) h = keeps-same F.tree
-native-tree F g (Closes n) h = keeps-same F.tree
-native-tree F g Writes h = keeps-same F.tree
+native-tree F g s h = grind arith
 
 spawn-tree : (K : List Event) (F : Files) (a : Actor) (k : SpawnKind) → KeepsPrivileged F.tree (after_spawn K F a k).tree
-spawn-tree K F a NewGroup = keeps-same F.tree
-spawn-tree K F a Copied = keeps-same F.tree
-spawn-tree K F a Shared = keeps-same F.tree
+spawn-tree K F a k = grind arith
 
 after-keeps : (S : Script) (K : List Event) (F : Files) (a : Actor) (what : What) → is_effect what ≡ false → KeepsPrivileged F.tree (files_after S K F a what).tree
 after-keeps S K F a (Spawn n (Ok made)) h = spawn-tree K F a made.1

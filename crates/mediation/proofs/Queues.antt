@@ -50,29 +50,17 @@ clean-waiting K c l f k = rw (l, f, k.unsettled, k.empty)
 -- a place that is named is a place below
 named-below : (K : List Event) (x c : ℕ) → is_place (named K x) c ≡ true → c < length K
 unfolding named
-named-below K x c h = go (oldest (λ d. listed K d && (id K d == x)) (length K)) refl h
-  where
-    go : (o : Option ℕ) → oldest (λ d. listed K d && (id K d == x)) (length K) ≡ o → is_place o c ≡ true → c < length K
-    go None q h = cc
-    go (Some d) q h = let s = oldest-some (λ d. listed K d && (id K d == x)) (length K) d q in omega (arith, eqb-true d c h)
+named-below K x c h = grind (arith, oldest-some)
 
 pub put-below : (K : List Event) (w : What) (c : ℕ) → puts_to K w c ≡ true → c < length K
-put-below K (AddfdPut q (Ok u)) c h = named-below K q.id c h
-put-below K w c h = cc
+put-below K w c h = grind (arith, named-below)
 
 pub answer-below : (K : List Event) (w : What) (c : ℕ) → answers K w c ≡ true → c < length K
-answer-below K (Send x b (Ok u)) c h = named-below K x c h
-answer-below K w c h = cc
+answer-below K w c h = grind (arith, named-below)
 
 -- nothing happens to a place that is still to come
 pub calm-above : (K : List Event) (e : Event) (c : ℕ) → length K ≤ c → Calm K e c
-calm-above K e c h = record {
-  no_put = false_from_ne_true (puts_to K e.what c) (λ q. omega (arith, put-below K e.what c q));
-  no_install = false_from_ne_true (installs_for K e c) (λ q.
-      let p = (and_parts (is_install e.what) (is_task e.who (caller K c) && listed K c) q).1 in
-      omega (arith, listed-below K c (and_parts (is_task e.who (caller K c)) (listed K c) p).1));
-  no_answer = false_from_ne_true (answers K e.what c) (λ q. omega (arith, answer-below K e.what c q));
-}
+calm-above K e c h = grind (arith, put-below, listed-below, answer-below)
 
 pub clean-above : (K : List Event) (c : ℕ) → length K ≤ c → Clean K c
 clean-above [] c h = record { empty = unfold queue in refl; unsettled = unfold settled in refl }
@@ -95,7 +83,6 @@ put-ok S K q c u false (Some d) h g = rw (eqb-true d c h) at (go d (waiting K d)
         no u h = cc
 
 pub puts-waiting : (S : System) (R : Rules) (K : List Event) (a : Actor) (w : What) (c : ℕ) → Row S R K a w → puts_to K w c ≡ true → waiting K c ≡ true
-puts-waiting S R K (Worker v) (AddfdPut q (Ok u)) c r h = put-ok S K q c u (not (S.source q.srcfd)) (named K q.id) h r.1
 puts-waiting S R K a w c r h = grind arith
 
 -- an install belongs to the first request of its task's call
@@ -107,8 +94,7 @@ pub record Installing (S : System) (K : List Event) (a : Actor) (w : What) (c : 
   pub call_is : call_of K (task_name a) ≡ Some c
 
 pub install-first : (S : System) (K : List Event) (a : Actor) (x : Result ℕ ℕ) (c : ℕ) (rs : List ℕ) → queue K c ≡ rs → call_of K (task_name a) ≡ Some c → Install x ≡ install_step S K c rs → Installing S K a (Install x) c
-install-first S K a x c [] q k h = cc
-install-first S K a x c (r ∷ rs) q k h = record { first = r; rest = rs; queue_is = q; what_is = h; call_is = k }
+install-first S K a x c rs q k h = grind arith
 
 pub installing : (S : System) (R : Rules) (K : List Event) (a : Actor) (w : What) (c : ℕ) → IsLegal S R K → Row S R K a w → is_install w ≡ true → is_task a (caller K c) ≡ true → listed K c ≡ true → Installing S K a w c
 installing S R K (Task n) (Install x) c legal r h g l =
@@ -145,8 +131,7 @@ asks-later e K c (r ∷ rs) h = let l : r < length K = h.0 in (omega arith, call
 
 asks-rest : (K : List Event) (c : ℕ) (rs : List ℕ) → Asks K c rs → Asks K c (rest_of rs)
 unfolding Asks
-asks-rest K c [] h = tt
-asks-rest K c (r ∷ rs) h = h.2
+asks-rest K c rs h = grind arith
 
 asks-push : (K : List Event) (c r : ℕ) (rs : List ℕ) → Asks K c rs → r < length K → call_at K r ≡ Some c → Asks K c (rs ++ r ∷ [])
 unfolding Asks
@@ -154,12 +139,7 @@ asks-push K c r [] h l q = (l, q, tt)
 asks-push K c r (x ∷ rs) h l q = (h.0, h.1, asks-push K c r rs h.2 l q)
 
 pub put-call : (K : List Event) (w : What) (c : ℕ) → puts_to K w c ≡ true → asked_call K w ≡ Some c
-put-call K (AddfdPut q (Ok u)) c h = go (named K q.id) h
-  where
-    go : (o : Option ℕ) → is_place o c ≡ true → o ≡ Some c
-    go None h = cc
-    go (Some d) h = ap Some (eqb-true d c h)
-put-call K w c h = cc
+put-call K w c h = grind arith
 
 pub queue-asks : (K : List Event) (c : ℕ) → Asks K c (queue K c)
 unfolding queue

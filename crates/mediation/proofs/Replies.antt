@@ -42,8 +42,7 @@ taken-by-its-actor S R K e legal room r = takes-row S R K e.who e.what (row-of S
 
 -- what an accepted step names
 sent-some : (K : List Event) (o : Option ℕ) (u : Unit {0}) → ◌≡◌ {A = Result (Unit {0}) ℕ} (Ok u) (send_answer K o) → (c : ℕ) × (o ≡ Some c)
-sent-some K None u h = cc
-sent-some K (Some c) u h = (c, refl)
+sent-some K o u h = grind arith
 
 put-some : (S : System) (K : List Event) (q : Addfd) (o : Option ℕ) (b : Bool) (u : Unit {0}) → ◌≡◌ {A = Result (Unit {0}) ℕ} (Ok u) (if b then Err 9 else put_answer S K q o) → (c : ℕ) × (o ≡ Some c)
 put-some S K q o true u h = absurd (no u h)
@@ -89,13 +88,7 @@ module _ (S : System) (R : Rules) (K : List Event) (a : Actor) (w c : ℕ) (lega
   not-lost what r q = cc
 
 lost-works : (what : What) → is_lost what ≡ true → works what ≡ true
-lost-works (OpenMem p (Err x)) h = refl
-lost-works (OpenBase p d (Err x)) h = refl
-lost-works (Check x (Err y)) h = refl
-lost-works (AddfdPut q (Err x)) h = refl
-lost-works (AddfdTake (Err x)) h = refl
-lost-works (Send x b (Err y)) h = refl
-lost-works what h = cc
+lost-works what h = grind arith
 
 pub lost-if-gone : (S : System) (R : Rules) (K : List Event) (e : Event) → IsLegal S R K → length K < 2 ^ 64 → IsStep S R K e → LostIfGone K e
 lost-if-gone S R K e legal room r w q z =
@@ -124,33 +117,11 @@ names-nothing S R K w c legal room i g = go (named K i.n.id) refl
 
 -- the error of an install
 install-error : (S : System) (R : Rules) (K : List Event) (a : Actor) (what : What) (x : ℕ) → Row S R K a what → installed what ≡ Some (Err x) → ((x == 9) || ((x == 24) || (x == 2))) ≡ true
-install-error S R K (Task n) (Install y) x r h = go (queue K r.1.0) r.1.3 h
-  where
-    slot : (s : Slot) → y ≡ slot_answer s → ◌≡◌ {A = Option (Result ℕ ℕ)} (Some y) (Some (Err x)) → ((x == 9) || ((x == 24) || (x == 2))) ≡ true
-    slot (Number k) q h = let z : Some (Ok k) ≡ Some (Err x) = ap Some (sym q) ∙ h in cc
-    slot Full q h = let z : 9 ≡ x = errs 9 (ap Some (sym q) ∙ h) in rw (← z)
-      where
-        errs : (k : ℕ) → ◌≡◌ {A = Option (Result ℕ ℕ)} (Some (Err k)) (Some (Err x)) → k ≡ x
-        errs k h = cc
-    slot Over q h = let z : 24 ≡ x = errs 24 (ap Some (sym q) ∙ h) in rw (← z)
-      where
-        errs : (k : ℕ) → ◌≡◌ {A = Option (Result ℕ ℕ)} (Some (Err k)) (Some (Err x)) → k ≡ x
-        errs k h = cc
-
-    answer : (y z : Result ℕ ℕ) → Install y ≡ Install z → y ≡ z
-    answer y z h = cc
-
-    go : (rs : List ℕ) → Install y ≡ install_step S K r.1.0 rs → ◌≡◌ {A = Option (Result ℕ ℕ)} (Some y) (Some (Err x)) → ((x == 9) || ((x == 24) || (x == 2))) ≡ true
-    go [] q h = cc
-    go (p ∷ rs) q h = slot (S.slot K r.1.0 p) (answer y _ q) h
 install-error S R K a what x r h = grind arith
 
 install-known-step : (S : System) (R : Rules) (K : List Event) (e : Event) (p x : ℕ) → Row S R K e.who e.what → (install_of K p ≡ Some (Err x) → ((x == 9) || ((x == 24) || (x == 2))) ≡ true) → install_of (e ∷ K) p ≡ Some (Err x) → ((x == 9) || ((x == 24) || (x == 2))) ≡ true
 unfolding install_of
-install-known-step S R K e p x row ih h = elim (cases_Bool (installs_request K e (call_at K p) p)) [
-  | inl q ↦ install-error S R K e.who e.what x row (rw q at h)
-  | inr q ↦ ih (rw q at h)
-]
+install-known-step S R K e p x row ih h = grind (arith, install-error)
 
 no-install-of : (p x : ℕ) → install_of [] p ≡ Some (Err x) → ⊥
 unfolding install_of
@@ -169,10 +140,7 @@ module _ (S : System) (R : Rules) (K : List Event) (w : ℕ) (legal : IsLegal S 
   mine = eq-eqb w w refl
 
   id-same : (c : ℕ) (i : InSession K w c) (n : Notif) → AtWork (session K w) n → n ≡ i.n
-  id-same c i n k = same n i.n (sym k.notif_is ∙ i.notif_is)
-    where
-      same : (x y : Notif) → Some x ≡ Some y → x ≡ y
-      same x y h = cc
+  id-same c i n k = grind arith
 
   send-known : (x : ℕ) (b : Back) (e : ℕ) → WorkerRow S R K w (Send x b (Err e)) → (e == 2) ≡ true
   send-known x b e r =
@@ -213,47 +181,17 @@ module _ (S : System) (R : Rules) (K : List Event) (w : ℕ) (legal : IsLegal S 
       gone false h = rw (err-same e 9 h)
 
   take-known : (e : ℕ) → WorkerRow S R K w (AddfdTake (Err e)) → ((e == 9) || ((e == 24) || (e == 2))) ≡ true
-  take-known e r = go (request_of K w) (request_listed K (request_of K w)) r.1
-    where
-      taken : (y z : Result ℕ ℕ) → AddfdTake y ≡ AddfdTake z → y ≡ z
-      taken y z q = cc
-
-      err : (k : ℕ) → ◌≡◌ {A = Result ℕ ℕ} (Err e) (Err k) → e ≡ k
-      err k h = cc
-
-      step : (o : Option (Result ℕ ℕ)) (b : Bool) → ((x : ℕ) → o ≡ Some (Err x) → ((x == 9) || ((x == 24) || (x == 2))) ≡ true) → AddfdTake (Err e) ≡ take_step o b → ((e == 9) || ((e == 24) || (e == 2))) ≡ true
-      step (Some (Ok k)) b f h = cc
-      step (Some (Err k)) b f h = f e (ap Some (sym (taken (Err e) (Err k) h)))
-      step None true f h = cc
-      step None false f h = rw (err 2 (taken (Err e) (Err 2) h))
-
-      go : (o : Option ℕ) (b : Bool) → AddfdTake (Err e) ≡ take_step (install_at K o) b → ((e == 9) || ((e == 24) || (e == 2))) ≡ true
-      go (Some p) b h = step (install_of K p) b (λ x. install-known S R K legal p x) h
-      go None b h = step None b (λ x z. cc) h
+  take-known e r = grind (arith, install-known)
 
   check-known : (o : Option ℕ) (e : ℕ) → ◌≡◌ {A = Result (Unit {0}) ℕ} (Err e) (check_answer K o) → (e == 2) ≡ true
-  check-known None e h = rw (err-same e 2 h)
-  check-known (Some c) e h = go (waiting K c) h
-    where
-      go : (b : Bool) → ◌≡◌ {A = Result (Unit {0}) ℕ} (Err e) (if b then Ok tt else Err 2) → (e == 2) ≡ true
-      go true h = cc
-      go false h = rw (err-same e 2 h)
+  check-known o e h = grind arith
 
   worker-known : (what : What) → WorkerRow S R K w what → is_known_error what ≡ true
-  worker-known (Check x (Err e)) r = check-known (named K x) e r.1
-  worker-known (Send x b (Err e)) r = send-known x b e r
-  worker-known (AddfdPut q (Err e)) r = put-known q e r
-  worker-known (AddfdTake (Err e)) r = take-known e r
-  worker-known what r = refl
+  worker-known what r = grind (arith, check-known, send-known, put-known, take-known)
 
 -- a step of another actor has none of these errors
 others-known : (a : Actor) (what : What) → takes a what ≡ true → ((w : ℕ) → a ≡ Worker w → ⊥) → is_known_error what ≡ true
-others-known (Worker w) what h n = absurd (n w refl)
-others-known a (Check x (Err e)) h n = cc
-others-known a (Send x b (Err e)) h n = cc
-others-known a (AddfdPut q (Err e)) h n = cc
-others-known a (AddfdTake (Err e)) h n = cc
-others-known a what h n = refl
+others-known a what h n = grind arith
 
 pub errors-known : (S : System) (R : Rules) (K : List Event) (e : Event) → IsLegal S R K → length K < 2 ^ 64 → IsStep S R K e → ErrorsKnown K e
 errors-known S R K e legal room r = go e.who refl
@@ -265,9 +203,7 @@ errors-known S R K e legal room r = go e.who refl
     go Listener q = others-known Listener e.what (rw q at (taken-by-its-actor S R K e legal room r)) (λ w h. cc)
 
 known-not-busy : (what : What) → is_known_error what ≡ true → is_busy what ≡ false
-known-not-busy (Send x b (Err e)) h = rw (eqb-true e 2 h)
-known-not-busy (AddfdPut q (Err e)) h = elim (or_cases (e == 9) (e == 2) h) [ inl z ↦ rw (eqb-true e 9 z) | inr z ↦ rw (eqb-true e 2 z) ]
-known-not-busy what h = refl
+known-not-busy what h = grind arith
 
 pub never-busy : (S : System) (R : Rules) (K : List Event) (e : Event) → IsLegal S R K → length K < 2 ^ 64 → IsStep S R K e → NeverBusy K e
 never-busy S R K e legal room r = known-not-busy e.what (errors-known S R K e legal room r)

@@ -1,5 +1,5 @@
 -- What the step of an actor can be, kind by kind, and what it then tells.
-use Rattle.std.proofs.Common.{◌≡◌, ℕ, ◌+◌, ◌%◌, ◌^◌, Bool, true, false, not, List, [], ◌∷◌, length, Option, Some, None, refl, sym, ◌∙◌}
+use Rattle.std.proofs.Common.{◌≡◌, ℕ, ◌+◌, ◌%◌, ◌^◌, Bool, true, false, not, List, [], ◌∷◌, length, Option, Some, None, refl, sym, ◌∙◌, arith}
 use Rattle.std.specs.Prelude.{if◌then◌else◌, ◌==◌, Result, Ok, Err}
 use Rattle.hist_model.specs.Look.{Name, oldest}
 use Rattle.hist_model.specs.Tasks.{alive, next_pid, holder, mode}
@@ -62,42 +62,23 @@ Row S R K Listener _ = ⊥
 
 module _ (S : System) (K : List Event) (n : Name) (living : alive K n ≡ true) where
   deliver_row : (r : Option ℕ) (effect : ℕ → Delivered) (other : What) → next_signal S.killable K n ≡ r → ((c : ℕ) → call_of K n ≡ Some c → settled K c ≡ false) → (r ≡ None → TaskRow S K n other) → TaskRow S K n (deliver_or r effect other)
-  deliver_row (Some s) effect other q u h = (living, q, u)
-  deliver_row None effect other q u h = h refl
+  deliver_row r effect other q u h = grind arith
 
   -- the call in which the task waits is not settled
   one_open : (c d : ℕ) → call_of K n ≡ Some c → settled K c ≡ false → call_of K n ≡ Some d → settled K d ≡ false
-  one_open c d q h g = let s : c ≡ d = some-place c d (sym q ∙ g) in rw s at h
-    where
-      some-place : (x y : ℕ) → Some x ≡ Some y → x ≡ y
-      some-place x y h = cc
+  one_open c d q h g = grind arith
 
   none_open : (c : ℕ) → call_of K n ≡ None → call_of K n ≡ Some c → settled K c ≡ false
-  none_open c q h = absurd (none-some c (sym q ∙ h))
-    where
-      none-some : (x : ℕ) → None ≡ Some x → ⊥
-      none-some x h = cc
+  none_open c q h = grind arith
 
   wait_row : (child ended : Option ℕ) → call_of K n ≡ None → oldest (is_child K n) (length K) ≡ child → oldest (is_ended_child K n) (length K) ≡ ended → TaskRow S K n (wait_step K child ended)
-  wait_row None ended q h g = (living, q, rw h)
-  wait_row (Some child) None q h g = tt
-  wait_row (Some child) (Some t) q h g = (living, q, rw (h, g))
+  wait_row child ended q h g = grind arith
 
   instr_row : (i : Option Instr) → call_of K n ≡ None → TaskRow S K n (instr_step S K n i)
-  instr_row None q = (living, q)
-  instr_row (Some (IPoke a b)) q = (living, q)
-  instr_row (Some (IFill a len b)) q = (living, q)
-  instr_row (Some (ICall nr args)) q = (living, q, refl)
-  instr_row (Some (ISpawn p)) q = (living, q, (Copied, refl), refl)
-  instr_row (Some (IThread p)) q = (living, q, (Shared, refl), refl)
-  instr_row (Some (IKill whom s)) q = (living, q, refl)
-  instr_row (Some (IHandler s m)) q = (living, q)
-  instr_row (Some IExit) q = (living, q)
-  instr_row (Some IWait) q = wait_row (oldest (is_child K n) (length K)) (oldest (is_ended_child K n) (length K)) q refl refl
+  instr_row i q = grind (arith, wait_row)
 
   install_row : (c : ℕ) → call_of K n ≡ Some c → settled K c ≡ false → (rs : List ℕ) → queue K c ≡ rs → TaskRow S K n (install_step S K c rs)
-  install_row c q h [] g = tt
-  install_row c q h (r ∷ rs) g = (living, (c, q, h, rw g))
+  install_row c q h rs g = grind arith
 
   resume_row : (c : ℕ) → call_of K n ≡ Some c → (b : Bool) → settled K c ≡ b → TaskRow S K n (if b then Resume (reply K c) else deliver_or (next_signal S.killable K n) (λ s. effect_in_call s (mode K n s)) (install_step S K c (queue K c)))
   resume_row c q true h = (living, (c, q, h, refl))
@@ -108,8 +89,7 @@ module _ (S : System) (K : List Event) (n : Name) (living : alive K n ≡ true) 
   outside_row q false h = deliver_row (next_signal S.killable K n) (λ s. effect_outside s (mode K n s)) (instr_step S K n (next_instr S K n)) refl (λ c g. none_open c q g) (λ _. instr_row (next_instr S K n) q)
 
   living_row : (r : Option ℕ) → call_of K n ≡ r → TaskRow S K n (living_step S K n r)
-  living_row (Some c) q = resume_row c q (settled K c) refl
-  living_row None q = outside_row q (owes_native K n) refl
+  living_row r q = grind (arith, resume_row, outside_row)
 
 task_row : (S : System) (K : List Event) (n : Name) (b : Bool) → alive K n ≡ b → TaskRow S K n (if b then living_step S K n (call_of K n) else Skip)
 task_row S K n true h = living_row S K n h (call_of K n) refl
@@ -121,30 +101,15 @@ module _ (S : System) (R : Rules) (K : List Event) (w : ℕ) where
   fetch_row q false h = (q, h, refl)
 
   take_row : deed R (session K w) ≡ Take → (i : Option (Result ℕ ℕ)) (b : Bool) → install_at K (request_of K w) ≡ i → request_listed K (request_of K w) ≡ b → WorkerRow S R K w (take_step i b)
-  take_row q (Some a) b h g = (q, rw h)
-  take_row q None true h g = tt
-  take_row q None false h g = (q, rw (h, g))
+  take_row q i b h g = grind arith
 
   worker_row : (d : Deed) → deed R (session K w) ≡ d → WorkerRow S R K w (deed_step S K w d)
-  worker_row Fetch q = fetch_row q (count K == 0) refl
-  worker_row (Open p) q = (q, refl)
-  worker_row (OpenB p d) q = (q, refl)
-  worker_row (Ask x) q = (q, refl)
-  worker_row (ReadD a n) q = (q, refl)
-  worker_row (ActD a cap) q = (q, refl)
-  worker_row (PlantD a b cap) q = (q, refl)
-  worker_row (Put a) q = (q, refl)
-  worker_row Take q = take_row q (install_at K (request_of K w)) (request_listed K (request_of K w)) refl refl
-  worker_row (Answer x b) q = (q, refl)
-  worker_row Let q = q
+  worker_row d q = grind (arith, fetch_row, take_row)
 
 -- the step of an actor is one of its rows
 pub step-row : (S : System) (R : Rules) (K : List Event) (a : Actor) → is_start a ≡ false → Row S R K a (step S R K a)
 unfolding step task_step worker_step
-step-row S R K Start h = cc
-step-row S R K (Task n) h = task_row S K n (alive K n) refl
-step-row S R K (Worker w) h = worker_row S R K w (deed R (session K w)) refl
-step-row S R K Listener h = tt
+step-row S R K a h = grind (arith, task_row, worker_row)
 
 -- and so is each event of a legal history
 pub row-of : (S : System) (R : Rules) (K : List Event) (e : Event) → IsStep S R K e → Row S R K e.who e.what

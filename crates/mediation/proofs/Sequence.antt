@@ -36,19 +36,7 @@ IsOwn R (a ∷ []) = starts a ≡ true
 IsOwn R (a ∷ b ∷ own) = Suits R (b ∷ own) a × (starts a ≡ false) × IsOwn R (b ∷ own)
 
 suits : (S : System) (R : Rules) (K : List Event) (w : ℕ) (a : What) → WorkerRow S R K w a → skips a ≡ false → Suits R (session K w) a
-suits S R K w (Recv a) r h = r.0
-suits S R K w (OpenMem p a) r h = r.0
-suits S R K w (OpenBase p d a) r h = r.0
-suits S R K w (Check x a) r h = r.0
-suits S R K w (Read x l a) r h = r.0
-suits S R K w (Act q cap a) r h = r.0
-suits S R K w (Plant x b cap a) r h = r.0
-suits S R K w (AddfdPut q a) r h = r.0
-suits S R K w (AddfdTake a) r h = r.0
-suits S R K w (Send x b a) r h = r.0
-suits S R K w LetGo r h = r
-suits S R K w Skip r h = cc
-suits S R K w _ r h = absurd r
+suits S R K w a r h = grind arith
 
 joined-own : (R : Rules) (own : List What) (a : What) (b : Bool) → starts a ≡ b → IsOwn R own → Suits R own a → IsOwn R (joined a own)
 joined-own R own a true h i s = rw (started own a h) h
@@ -82,8 +70,7 @@ some-notif : (a b : Notif) → Some a ≡ Some b → a ≡ b
 some-notif a b h = cc
 
 no-start : (a : What) → starts a ≡ false → fetched_by a ≡ None
-no-start (Recv (Ok m)) h = cc
-no-start a h = refl
+no-start a h = grind arith
 
 -- the copy's uses of one kind: where each finds the decision of a form, the decision stays so for the rest of the session
 module _ (R : Rules) (D : Decision → Type 0) (uses : What → Bool)
@@ -145,8 +132,7 @@ put-found R own (AddfdPut q y) s h =
 put-found R own a s h = cc
 
 put-apart : (a : What) → is_put a ≡ true → (is_read a ≡ false) × (checks a ≡ false) × (starts a ≡ false)
-put-apart (AddfdPut q y) h = (refl, refl, refl)
-put-apart a h = cc
+put-apart a h = grind arith
 
 put-any : (own : List What) (x : Result (Unit {0}) ℕ) → first_some put_in own ≡ Some x → any_of is_put own ≡ true
 put-any [] x h = cc
@@ -175,9 +161,7 @@ effect-found R own (Plant x b cap y) s h =
 effect-found R own a s h = cc
 
 effect-apart : (a : What) → is_effect a ≡ true → (is_read a ≡ false) × (checks a ≡ false) × (starts a ≡ false)
-effect-apart (Act q cap y) h = (refl, refl, refl)
-effect-apart (Plant x b cap y) h = (refl, refl, refl)
-effect-apart a h = cc
+effect-apart a h = grind arith
 
 pub effect-fixed : (R : Rules) (own : List What) (n : Notif) → IsOwn R own → notif_of own ≡ Some n → any_of is_effect own ≡ true → Fixed R IsGrant own n
 effect-fixed R own n i h e = use-fixed R IsGrant is_effect (effect-found R) effect-apart own n i h e

@@ -29,15 +29,7 @@ use Rattle.mediation.proofs.Phases.{hand-fetcher, fetcher-fetched, fetcher-stays
 use Rattle.mediation.proofs.Waiting.{actor-acts}
 
 request-later : (S : System) (R : Rules) (K : List Event) (e : Event) (c r w : ℕ) → IsLegal S R K → length K < 2 ^ 64 → Row S R K e.who e.what → IsRequestOf K c r w → IsRequestOf (e ∷ K) c r w
-request-later S R K e c r w legal room row i =
-    let l : r < length K = i.below in
-    record {
-      below = omega arith;
-      for_call = call-at-older e K r l ∙ i.for_call;
-      sends = rw event_at-older i.sends;
-      put_by = rw event_at-older i.put_by;
-      session_of = fetcher-stays S R K e w c legal room row (fetcher-fetched K c w i.session_of) i.session_of;
-    }
+request-later S R K e c r w legal room row i = grind (arith, call-at-older, event_at-older, fetcher-stays, fetcher-fetched)
 
 -- each of a call's requests is its session's
 AllOf : List Event → ℕ → List ℕ → Type 0
@@ -51,8 +43,7 @@ all-later S R K e c (r ∷ rs) legal room row h = ((h.0.0, request-later S R K e
 
 all-rest : (K : List Event) (c : ℕ) (rs : List ℕ) → AllOf K c rs → AllOf K c (rest_of rs)
 unfolding AllOf
-all-rest K c [] h = tt
-all-rest K c (r ∷ rs) h = h.1
+all-rest K c rs h = grind arith
 
 all-push : (K : List Event) (c r w : ℕ) (rs : List ℕ) → AllOf K c rs → IsRequestOf K c r w → AllOf K c (rs ++ r ∷ [])
 unfolding AllOf
@@ -70,12 +61,10 @@ put-sends S R K w q a r =
     sends-of src (Some at) fl x = refl
 
 put-is-put : (K : List Event) (what : What) (c : ℕ) → puts_to K what c ≡ true → is_put what ≡ true
-put-is-put K (AddfdPut q a) c h = refl
-put-is-put K what c h = cc
+put-is-put K what c h = grind arith
 
 puts-send : (S : System) (R : Rules) (K : List Event) (a : Actor) (what : What) → Row S R K a what → is_put what ≡ true → has_send what ≡ true
-puts-send S R K (Worker w) (AddfdPut q x) r h = put-sends S R K w q x r
-puts-send S R K a what r h = grind arith
+puts-send S R K a what r h = grind (arith, put-sends)
 
 -- a new request is its session's
 put-own : (S : System) (R : Rules) (K : List Event) (e : Event) (c : ℕ) → IsLegal S R K → length K < 2 ^ 64 → Row S R K e.who e.what → puts_to K e.what c ≡ true → (w : ℕ) × IsRequestOf (e ∷ K) c (length K) w
@@ -125,14 +114,7 @@ unfolding settled
 settled-was e K c h g = grind arith
 
 all-kind : (S : System) (R : Rules) (K : List Event) (e : Event) (c : ℕ) → IsLegal S R K → length K < 2 ^ 64 → Row S R K e.who e.what → AllOf K c (queue K c) → AllOf (e ∷ K) c (queue (e ∷ K) c)
-all-kind S R K e c legal room row h =
-    elim (cases_Bool (puts_to K e.what c)) [
-      | inl q ↦ let p = put-own S R K e c legal room row q in rw (queue-put e K c q) (all-push (e ∷ K) c (length K) p.0 (queue K c) (all-later S R K e c (queue K c) legal room row h) p.1)
-      | inr q ↦ elim (cases_Bool (installs_for K e c)) [
-        | inl p ↦ rw (queue-install e K c q p) (all-later S R K e c (rest_of (queue K c)) legal room row (all-rest K c (queue K c) h))
-        | inr p ↦ rw (queue-other e K c q p) (all-later S R K e c (queue K c) legal room row h)
-      ]
-    ]
+all-kind S R K e c legal room row h = grind (arith, put-own, queue-put, all-push, all-later, queue-install, all-rest, queue-other)
 
 all-of : (S : System) (R : Rules) (K : List Event) → IsLegal S R K → length K < 2 ^ 64 → (c : ℕ) → AllOf K c (queue K c)
 all-of S R [] legal room = λ c. none-of c
@@ -152,10 +134,7 @@ installed-same e K c r q p = rw (q, p)
 
 waits-in-call : (K : List Event) (n : Name) (c : ℕ) → call_of K n ≡ Some c → (listed K c ≡ true) × (caller K c ≡ n)
 unfolding call_of
-waits-in-call K n c q =
-    let s = newest-some (λ d. listed K d && name_eq (caller K d) n) (length K) c q in
-    let p = and_parts (listed K c) (name_eq (caller K c) n) s.0 in
-    (p.0, name_eq-true (caller K c) n p.1)
+waits-in-call K n c q = grind (arith, newest-some, name_eq-true)
 
 first-is : (rs : List ℕ) (r : ℕ) (more : List ℕ) → rs ≡ r ∷ more → is_first rs r ≡ true
 first-is rs r more q = rw q (eq-eqb r r refl)
@@ -170,10 +149,7 @@ installs-own S R K n x legal room r =
 
 -- a settled call gets no more installs
 no-install : (S : System) (R : Rules) (K : List Event) (e : Event) (c : ℕ) → IsLegal S R K → Row S R K e.who e.what → settled K c ≡ true → installs_for K e c ≡ false
-no-install S R K e c legal row h = false_from_ne_true (installs_for K e c) (λ f.
-    let p = and_parts (is_install e.what) (is_task e.who (caller K c) && listed K c) f in
-    let q = and_parts (is_task e.who (caller K c)) (listed K c) p.1 in
-    both_ways (settled K c) (installs-open S R K e.who e.what c legal row p.0 q.0 q.1) h)
+no-install S R K e c legal row h = grind (arith, installs-open)
 
 source-later : (S : System) (R : Rules) (K : List Event) (e : Event) (c w : ℕ) (b : Back) → IsLegal S R K → length K < 2 ^ 64 → Row S R K e.who e.what → settled K c ≡ true → Source K c w b → Source (e ∷ K) c w b
 source-later S R K e c w b legal room row s (sent p x b' u d q h g a) = let l = event_at-below K p d q in sent p x b' u d (rw event_at-older q) h g (rw (before-older e K p (omega arith)) a)
@@ -307,10 +283,4 @@ gave-number S R (e ∷ K) legal room = λ c r m. gave-step S R K e c r m legal.1
 -- a resume of such a call returns the number
 pub returns-installed : (S : System) (R : Rules) (K : List Event) (n : Name) (b : Back) → IsLegal S R K → length K < 2 ^ 64 → TaskRow S K n (Resume b) → (c r m : ℕ) → call_of K n ≡ Some c → call_at K r ≡ Some c → install_of K r ≡ Some (Ok m) → b ≡ Value (pos m)
 unfolding Gave
-returns-installed S R K n b legal room row c r m k q h =
-    let g = gave-number S R K legal room c r m q h in
-    let s : row.1.0 ≡ c = some-same row.1.0 c (sym row.1.1 ∙ k) in
-    row.1.3 ∙ (ap (reply K) s ∙ g.1)
-  where
-    some-same : (x y : ℕ) → Some x ≡ Some y → x ≡ y
-    some-same x y h = cc
+returns-installed S R K n b legal room row c r m k q h = grind (arith, gave-number)

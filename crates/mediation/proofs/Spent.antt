@@ -23,14 +23,7 @@ pub record Capped (R : Rules) (limit : ℕ → ℕ) : Type 0 where
 
 -- an effect that was done had times left
 left-times : (K : List Event) (cap : Cap) (u : Unit {0}) (other : Result (Unit {0}) ℕ) → ◌≡◌ {A = Result (Unit {0}) ℕ} (Ok u) (if is_spent K (Some cap) then Err 122 else other) → times_spent K cap.rule < cap.times
-left-times K cap u other h = go (nat_le cap.times (times_spent K cap.rule)) refl h
-  where
-    go : (b : Bool) → nat_le cap.times (times_spent K cap.rule) ≡ b → ◌≡◌ {A = Result (Unit {0}) ℕ} (Ok u) (if b then Err 122 else other) → times_spent K cap.rule < cap.times
-    go true q h = absurd (no u h)
-      where
-        no : (u : Unit {0}) → ◌≡◌ {A = Result (Unit {0}) ℕ} (Ok u) (Err 122) → ⊥
-        no u h = cc
-    go false q h = leb-false cap.times (times_spent K cap.rule) q
+left-times K cap u other h = grind arith
 
 below-limit : (limit : ℕ → ℕ) (K : List Event) (cap : Cap) (i : ℕ) → (cap.rule == i) ≡ true → times_spent K cap.rule < cap.times → cap.times ≤ limit cap.rule → times_spent K i + 1 ≤ limit i
 below-limit limit K cap i q l m = let s = eqb-true cap.rule i q in rw (← s) (omega arith)

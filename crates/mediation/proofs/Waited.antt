@@ -30,12 +30,10 @@ use Rattle.mediation.proofs.Waiting.{at-call}
 use Rattle.mediation.proofs.InHand.{by-session, in-hand-of}
 
 no-put : (a : What) → is_put a ≡ false → put_in a ≡ None
-no-put (AddfdPut q x) h = cc
-no-put a h = refl
+no-put a h = grind arith
 
 put-uses : (a : What) → is_put a ≡ true → (uses_copy a ≡ true) × (is_good_check a ≡ false)
-put-uses (AddfdPut q x) h = (refl, refl)
-put-uses a h = cc
+put-uses a h = grind arith
 
 number-more : (a : What) (own : List What) → number_of is_good_check own ≤ number_of is_good_check (a ∷ own)
 number-more a own = elim (cases_Bool (is_good_check a)) [ inl q ↦ rw q (omega arith) | inr q ↦ rw q (omega arith) ]
@@ -54,8 +52,7 @@ put-late (a ∷ own) o h =
     ]
 
 good-checks : (a : What) → is_good_check a ≡ true → checks a ≡ true
-good-checks (Check x (Ok u)) h = refl
-good-checks a h = cc
+good-checks a h = grind arith
 
 good-least : (own : List What) → number_of is_good_check own ≤ number_of checks own
 good-least [] = omega arith
@@ -179,8 +176,7 @@ module _ (S : System) (R : Rules) where
           at-most v = subst (λ x. number_of is_good_check x ≤ 2) own (few-good (session (ev a what ∷ K) w) (ordered R (session (ev a what ∷ K) w) (is-own S R (ev a what ∷ K) (r, legal) w)).most)
 
   skip-checks : (what : What) → skips what ≡ true → checks what ≡ false
-  skip-checks Skip h = refl
-  skip-checks what h = cc
+  skip-checks what h = grind arith
 
   still-kept : (K : List Event) (e : Event) (w c : ℕ) → IsStep S R K e → IsLegal S R K → length (e ∷ K) < 2 ^ 64 → (is_worker e.who w && not (skips e.what)) ≡ false
       → (i : InSession K w c) → session_call (e ∷ K) w ≡ Some c → session (e ∷ K) w ≡ session K w → Open K w c → Open (e ∷ K) w c

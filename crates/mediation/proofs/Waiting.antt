@@ -32,32 +32,21 @@ some-nat x y h = cc
 
 -- only a worker asks and answers
 pub actor-acts : (S : System) (R : Rules) (K : List Event) (a : Actor) (what : What) (c : ℕ) → IsLegal S R K → length K < 2 ^ 64 → Row S R K a what → (puts_to K what c || answers K what c) ≡ true → (v : ℕ) × (a ≡ Worker v) × (session_call K v ≡ Some c)
-actor-acts S R K (Worker v) what c legal room r h = (v, refl, acts-own S R K v c what legal room r h)
-actor-acts S R K a what c legal room r h = grind arith
+actor-acts S R K a what c legal room r h = grind (arith, acts-own)
 
 install-no_put : (K : List Event) (w : What) (c : ℕ) → is_install w ≡ true → puts_to K w c ≡ false
-install-no_put K (Install x) c h = refl
-install-no_put K w c h = cc
+install-no_put K w c h = grind arith
 
 module _ (S : System) (R : Rules) (K : List Event) (e : Event) (c : ℕ) (legal : IsLegal S R K) (room : length K < 2 ^ 64) (row : Row S R K e.who e.what) (l : listed K c ≡ true) where
   -- an install for the call
   parts : installs_for K e c ≡ true → (is_install e.what ≡ true) × (is_task e.who (caller K c) ≡ true)
-  parts f =
-      let p = and_parts (is_install e.what) (is_task e.who (caller K c) && listed K c) f in
-      (p.0, (and_parts (is_task e.who (caller K c)) (listed K c) p.1).0)
+  parts f = grind arith
 
   for-call : installs_for K e c ≡ true → Installing S K e.who e.what c
   for-call f = let p = parts f in installing S R K e.who e.what c legal row p.0 p.1 l
 
   unfetched-calm : fetched K c ≡ false → Clean K c → Calm K e c
-  unfetched-calm f k = record {
-    no_put = false_from_ne_true (puts_to K e.what c) (λ q. let w = puts-waiting S R K e.who e.what c row q in both_ways (fetched K c) f (grind arith));
-    no_install = false_from_ne_true (installs_for K e c) (λ q. let i = for-call q in no i.first i.rest (sym k.empty ∙ i.queue_is));
-    no_answer = false_from_ne_true (answers K e.what c) (λ q. let w = answers-waiting S R K e.who e.what c row q in both_ways (fetched K c) f (grind arith));
-  }
-    where
-      no : (r : ℕ) (rs : List ℕ) → [] ≡ r ∷ rs → ⊥
-      no r rs h = cc
+  unfetched-calm f k = grind (arith, puts-waiting, for-call, answers-waiting)
 
   other-phase : (w : ℕ) → is_worker e.who w ≡ false → AtCall K c w → AtCall (e ∷ K) c w
   other-phase w o h =
@@ -102,8 +91,7 @@ module _ (S : System) (R : Rules) (K : List Event) (e : Event) (c : ℕ) (legal 
   mine-old r w o h = mine-phase S R K e.who w c legal room o l h (rw h.in_hand at (hand S R K legal w)) e.what (worker-row S R K e w r o)
 
   held-phase : (IsStep S R K e) → (w : ℕ) → fetched K c ≡ true → AtCall K c w ⊎ ((settled K c ≡ true) × (session_call K w ≡ Some c → ⊥)) → AtCall (e ∷ K) c w ⊎ ((settled (e ∷ K) c ≡ true) × (session_call (e ∷ K) w ≡ Some c → ⊥))
-  held-phase r w f (inr s) = inr (settled-more e K c s.0, stays-gone S R K e w c legal room row f s.1)
-  held-phase r w f (inl h) = elim (cases_Bool (is_worker e.who w)) [ inl o ↦ mine-old r w o h | inr o ↦ inl (other-phase w o h) ]
+  held-phase r w f h = grind (arith, settled-more, stays-gone, mine-old, other-phase)
 
   -- the call is fetched now
   now-phase : fetched K c ≡ false → Clean K c → (fetches e.what (id K c) && listed K c) ≡ true → Phase (e ∷ K) c (worker_of e.who)
@@ -136,14 +124,7 @@ module _ (S : System) (R : Rules) (K : List Event) (e : Event) (c : ℕ) (legal 
 
 -- a new call
 new-phase : (e : Event) (K : List Event) → Phase (e ∷ K) (length K) (fetcher (e ∷ K) (length K))
-new-phase e K =
-    let f = fetched-new e K in
-    let k = calm-clean e K (length K) (calm-above K e (length K) (omega arith)) (clean-above K (length K) (omega arith)) in
-    go (fetcher (e ∷ K) (length K)) refl f k
-  where
-    go : (o : Option ℕ) → fetcher (e ∷ K) (length K) ≡ o → fetched (e ∷ K) (length K) ≡ false → Clean (e ∷ K) (length K) → Phase (e ∷ K) (length K) o
-    go None q f k = (f, k)
-    go (Some w) q f k = absurd (both_ways (fetched (e ∷ K) (length K)) f (fetcher-fetched (e ∷ K) (length K) w q))
+new-phase e K = grind (arith, fetched-new, calm-clean, calm-above, clean-above, fetcher-fetched)
 
 abbrev pub Phases : List Event → Type 0
 Phases K = (c : ℕ) → listed K c ≡ true → Phase K c (fetcher K c)

@@ -24,11 +24,7 @@ use Rattle.mediation.proofs.Places.{place-stays, place-is, made-place, makes-pid
 
 -- the row of a worker's step
 pub worker-row : (S : System) (R : Rules) (K : List Event) (e : Event) (w : ℕ) → IsStep S R K e → is_worker e.who w ≡ true → WorkerRow S R K w e.what
-worker-row S R K e w r h = go e.who e.what (row-of S R K e r) h
-  where
-    go : (a : Actor) (what : What) → Row S R K a what → is_worker a w ≡ true → WorkerRow S R K w what
-    go (Worker v) what r h = rw (eqb-true v w h) at r
-    go a what r h = cc
+worker-row S R K e w r h = grind (arith, row-of)
 
 pub session-same : (e : Event) (K : List Event) (w : ℕ) → (is_worker e.who w && not (skips e.what)) ≡ false → session (e ∷ K) w ≡ session K w
 unfolding session
@@ -39,8 +35,7 @@ unfolding session
 session-more e K w h g = rw (h, g)
 
 pub grown : (own : List What) (a : What) (n : Notif) → notif_of own ≡ Some n → starts a ≡ false → joined a own ≡ a ∷ own
-grown [] a n h g = cc
-grown (b ∷ own) a n h g = rw g
+grown own a n h g = grind arith
 
 pub call-same : (e : Event) (K : List Event) (w : ℕ) → is_worker e.who w ≡ false → session_call (e ∷ K) w ≡ session_call K w
 unfolding session_call
@@ -149,8 +144,7 @@ hand-other e K w None h i =
     record { none = rw s i.none; mem_none = mem-same e K w h ∙ i.mem_none; base_none = base-same e K w h ∙ i.base_none }
 
 pub started : (own : List What) (a : What) → starts a ≡ true → joined a own ≡ a ∷ []
-started [] a h = rw h
-started (b ∷ own) a h = rw h
+started own a h = grind arith
 
 -- a step in the session keeps the call in hand
 pub record Kept (K : List Event) (what : What) : Type 0 where
@@ -161,16 +155,7 @@ pub record Kept (K : List Event) (what : What) : Type 0 where
   pub no_notif : fetched_by what ≡ None
 
 pub works-keep : (K : List Event) (what : What) → works what ≡ true → Kept K what
-works-keep K (OpenMem p a) h = record { call = λ c. refl; no_start = refl; no_skip = refl; no_letgo = refl; no_notif = refl }
-works-keep K (OpenBase p d a) h = record { call = λ c. refl; no_start = refl; no_skip = refl; no_letgo = refl; no_notif = refl }
-works-keep K (Check x a) h = record { call = λ c. refl; no_start = refl; no_skip = refl; no_letgo = refl; no_notif = refl }
-works-keep K (Read x l a) h = record { call = λ c. refl; no_start = refl; no_skip = refl; no_letgo = refl; no_notif = refl }
-works-keep K (Act q cap a) h = record { call = λ c. refl; no_start = refl; no_skip = refl; no_letgo = refl; no_notif = refl }
-works-keep K (Plant x b cap a) h = record { call = λ c. refl; no_start = refl; no_skip = refl; no_letgo = refl; no_notif = refl }
-works-keep K (AddfdPut q a) h = record { call = λ c. refl; no_start = refl; no_skip = refl; no_letgo = refl; no_notif = refl }
-works-keep K (AddfdTake a) h = record { call = λ c. refl; no_start = refl; no_skip = refl; no_letgo = refl; no_notif = refl }
-works-keep K (Send x b a) h = record { call = λ c. refl; no_start = refl; no_skip = refl; no_letgo = refl; no_notif = refl }
-works-keep K what h = cc
+works-keep K what h = grind arith
 
 -- the notification of a session is its call's
 pub hand-notif : (K : List Event) (w c : ℕ) (i : InSession K w c) (n : Notif) → i.n ≡ n → n ≡ notif K c
@@ -211,10 +196,7 @@ module _ (S : System) (R : Rules) (K : List Event) (a : Actor) (w : ℕ) (legal 
       go None i = record { none = rw s i.none; mem_none = mem-more (ev a Skip) K w is_mine ∙ i.mem_none; base_none = base-more (ev a Skip) K w is_mine ∙ i.base_none }
 
   mine-letgo : WorkerRow S R K w LetGo → Hand (ev a LetGo ∷ K) w (session_call (ev a LetGo ∷ K) w)
-  mine-letgo r =
-      let t = deed-is R (session K w) _ r in
-      let s : session (ev a LetGo ∷ K) w ≡ LetGo ∷ session K w = session-more (ev a LetGo) K w is_mine refl ∙ grown (session K w) LetGo t.0 t.1 refl in
-      rw (call-more (ev a LetGo) K w is_mine) (record { none = inr (rw s); mem_none = mem-more (ev a LetGo) K w is_mine; base_none = base-more (ev a LetGo) K w is_mine })
+  mine-letgo r = grind (arith, deed-is, session-more, grown, call-more, mem-more, base-more)
 
   mine-fetch : (n : Notif) → WorkerRow S R K w (Recv (Ok n)) → Hand (ev a (Recv (Ok n)) ∷ K) w (session_call (ev a (Recv (Ok n)) ∷ K) w)
   mine-fetch n r =
