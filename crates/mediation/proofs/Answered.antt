@@ -66,15 +66,7 @@ module _ (S : System) (R : Rules) (K : List Event) (a : Actor) (w c : ℕ) (lega
 
   -- one more step that does nothing to the call
   quiet : (what : What) → (n : Notif) → AtWork (session K w) n → works what ≡ true → Calm K (ev a what) c → gives_up what ≡ false → put_in what ≡ None → take_in what ≡ None → request_after (length K) what (request_of K w) ≡ request_of K w → AtCall (ev a what ∷ K) c w
-  quiet what n work k m g p t q =
-      let e = ev a what in
-      let kp = works-keep K what k in
-      let s : session (e ∷ K) w ≡ what ∷ session K w = session-more e K w is_mine kp.no_skip ∙ grown (session K w) what n work.notif_is kp.no_start in
-      record {
-        in_hand = call-more e K w is_mine ∙ (kp.call (session_call K w) ∙ h.in_hand);
-        over = λ z. settled-more e K c (h.over (rw (s, g) at z));
-        stage = rw (s, g, p, t) (λ z. stage-calm e K c w (first_some put_in (session K w)) (first_some take_in (session K w)) m (request-more e K w is_mine ∙ q) (h.stage z));
-      }
+  quiet what n work k m g p t q = grind (arith, works-keep, session-more, grown, call-more, settled-more, stage-calm, request-more)
 
   calm-open : (p : ℕ) (x : Result (Unit {0}) ℕ) → Calm K (ev a (OpenMem p x)) c
   calm-open p x = record { no_put = refl; no_install = refl; no_answer = refl }

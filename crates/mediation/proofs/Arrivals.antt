@@ -31,13 +31,7 @@ leaves-settled S R K c (Task n) (Deliver sig effect) legal s l r u =
 leaves-settled S R K c a what legal s l r u = grind arith
 
 pub arrives : (S : System) (R : Rules) (K : List Event) (e : Event) → IsLegal S R K → length K < 2 ^ 64 → IsStep S R K e → Arrives K e
-arrives S R K e legal room r c s l g =
-    let b : c < length K = listed-below K c l in
-    let u : unlists e (caller K c) ≡ true = left (unlists e (caller K c)) (rw (listed-older e K c b, l) at g) in
-    leaves-settled S R K c e.who e.what legal s l (row-of S R K e r) u
-  where
-    left : (b : Bool) → (true && not b) ≡ false → b ≡ true
-    left b h = grind arith
+arrives S R K e legal room r c s l g = grind (arith, listed-below, listed-older, leaves-settled, row-of)
 
 -- a call is fetched once
 FetchedOnce : List Event → ℕ → Type 0

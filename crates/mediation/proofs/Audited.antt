@@ -137,24 +137,7 @@ module _ (S : System) (R : Rules) where
       go _ row z = absurd row
 
   ends-later : (K : List Event) (e : Event) (w r : ℕ) (own : List What) (n : Notif) → IsStep S R K e → r < length K → notif_of own ≡ Some n → any_of is_letgo own ≡ false → any_of gives_up own ≡ true → Ends K w r own → Ends (e ∷ K) w r own
-  ends-later K e w r own n step l h g u ends =
-      elim (cases_Bool (is_worker e.who w && not (skips e.what))) [
-        | inl q ↦
-            let p = and_parts (is_worker e.who w) (not (skips e.what)) q in
-            let z : skips e.what ≡ false = grind arith in
-            mine p.0 z ends
-        | inr q ↦ still q ends
-      ]
-    where
-      mine : is_worker e.who w ≡ true → skips e.what ≡ false → Ends K w r own → Ends (e ∷ K) w r own
-      mine v z (answered a s) =
-          let m = lets-go K w own e.what n s h g u (worker-row S R K e w step v) z in
-          over (at-more e K w r l v z ∙ (ap (λ x. joined x e.what) a ∙ (joined-open own e.what n h g ∙ ap (λ x. x ∷ own) m)))
-      mine v z (over a) = over (at-more e K w r l v z ∙ ap (λ x. joined x e.what) a)
-
-      still : (is_worker e.who w && not (skips e.what)) ≡ false → Ends K w r own → Ends (e ∷ K) w r own
-      still q (answered a s) = answered (at-same e K w r l q ∙ a) (session-same e K w q ∙ s)
-      still q (over a) = over (at-same e K w r l q ∙ a)
+  ends-later K e w r own n step l h g u ends = grind (arith, lets-go, worker-row, at-more, joined-open, at-same, session-same)
 
   -- the session of an answer
   record Sent (H : List Event) (s w x : ℕ) (b : Back) (a : Result (Unit {0}) ℕ) : Type 0 where
@@ -207,10 +190,7 @@ module _ (S : System) (R : Rules) where
       }
 
   sent : (H : List Event) → IsLegal S R H → length H < 2 ^ 64 → (s w x : ℕ) (b : Back) (a : Result (Unit {0}) ℕ) → event_at H s ≡ Some (ev (Worker w) (Send x b a)) → Sent H s w x b a
-  sent [] legal room = λ s w x b a h. absurd (none-some (ev (Worker w) (Send x b a)) (sym (event_at-above [] s (omega arith)) ∙ h))
-    where
-      none-some : (e : Event) → None ≡ Some e → ⊥
-      none-some e h = cc
+  sent [] legal room = λ s w x b a h. grind (arith, event_at-above)
   sent (e ∷ K) legal room = λ s w x b a h. elim (below_or_last s (length K) (event_at-below (e ∷ K) s (ev (Worker w) (Send x b a)) h)) [
     | inl l ↦ sent-later K e s w x b a legal.0 l (sent K legal.1 (omega arith) s w x b a (sym (event_at-older e K s l) ∙ h))
     | inr q ↦ rw q (sent-now K e w x b a legal.1 (omega arith) legal.0 (same-event e (ev (Worker w) (Send x b a)) (sym (event_at-here e K) ∙ rw q at h)))

@@ -73,13 +73,7 @@ base-after-same : (K : List Event) (what : What) (m : Option ℕ) → moves what
 base-after-same K what m h = grind arith
 
 base-stays : (e : Event) (K : List Event) (w : ℕ) → (is_worker e.who w && moves e.what) ≡ false → base (e ∷ K) w ≡ base K w
-base-stays e K w h = elim (cases_Bool (is_worker e.who w)) [
-  | inl q ↦ base-more e K w q ∙ base-after-same K e.what (base K w) (right (is_worker e.who w) (moves e.what) q h)
-  | inr q ↦ base-same e K w q
-]
-  where
-    right : (a b : Bool) → a ≡ true → (a && b) ≡ false → b ≡ false
-    right a b q h = grind arith
+base-stays e K w h = grind (arith, base-more, base-after-same, base-same)
 
 -- an opening that was answered ok found a living task
 opening-found : (S : System) (K : List Event) (o : Option ℕ) (d : ℤ) (u : Unit {0}) → ◌≡◌ {A = Result (Unit {0}) ℕ} (Ok u) (base_answer S K o d) → (t : ℕ) × (o ≡ Some t)
@@ -91,14 +85,7 @@ module _ (S : Script) (R : Rules) where
   none-mine K a w what q row m h = grind (arith, opening-found, files-drops)
 
   none-step : (K : List Event) (e : Event) (w : ℕ) → IsStep (system_of S) R K e → (base K w ≡ None → files_base S K w ≡ None) → base (e ∷ K) w ≡ None → files_base S (e ∷ K) w ≡ None
-  none-step K e w r ih h =
-      elim (cases_Bool (is_worker e.who w && moves e.what)) [
-        | inl q ↦
-            let m : moves e.what ≡ true = grind arith in
-            let v : is_worker e.who w ≡ true = grind arith in
-            none-mine K e.who w e.what v (worker-row (system_of S) R K e w r v) m (sym (base-more e K w v) ∙ h)
-        | inr q ↦ files-same S e K w q ∙ ih (sym (base-stays e K w q) ∙ h)
-      ]
+  none-step K e w r ih h = grind (arith, none-mine, worker-row, base-more, files-same, base-stays)
 
   pub no-base : (K : List Event) → IsLegal (system_of S) R K → (w : ℕ) → base K w ≡ None → files_base S K w ≡ None
   unfolding files_base files
@@ -120,19 +107,7 @@ module _ (S : Script) (R : Rules) where
   HasFound K w c = (g : ℕ) → base K w ≡ Some g → Found K w c g
 
   found-later : (e : Event) (K : List Event) (w c g : ℕ) → (is_worker e.who w && moves e.what) ≡ false → notif_of (session (e ∷ K) w) ≡ notif_of (session K w) → Found K w c g → Found (e ∷ K) w c g
-  found-later e K w c g q s f =
-      let l = event_at-below K f.place _ f.opening in
-      let b : before (e ∷ K) f.place ≡ before K f.place = before-older e K f.place (omega arith) in
-      record {
-        n = f.n;
-        dirfd = f.dirfd;
-        place = f.place;
-        notif_is = s ∙ f.notif_is;
-        names = f.names;
-        opening = rw event_at-older f.opening;
-        in_session = rw b f.in_session;
-        is_base = rw b (files-same S e K w q ∙ f.is_base);
-      }
+  found-later e K w c g q s f = grind (arith, event_at-below, before-older, event_at-older, files-same)
 
   fetch-found : (K : List Event) (a : Actor) (w c : ℕ) (n : Notif) → IsStep (system_of S) R K (ev a (Recv (Ok n))) → IsLegal (system_of S) R K → length (ev a (Recv (Ok n)) ∷ K) < 2 ^ 64 → is_worker a w ≡ true
       → WorkerRow (system_of S) R K w (Recv (Ok n)) → oldest_unfetched K ≡ Some c → Idle K w → HasFound (ev a (Recv (Ok n)) ∷ K) w c

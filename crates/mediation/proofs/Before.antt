@@ -27,19 +27,13 @@ before-newest e K = rw (before-older e K (length K) (omega arith)) (before-all K
 pub length-before : (K : List Event) (c : ℕ) → length (before K c) ≤ length K
 unfolding before
 length-before [] c = omega arith
-length-before (e ∷ K) c = elim (cases_Bool (nat_le (length (e ∷ K)) c)) [
-  | inl q ↦ rw q (omega arith)
-  | inr q ↦ rw q (omega (arith, length-before K c))
-]
+length-before (e ∷ K) c = grind (arith, length-before K c)
 
 -- what stands before a place of a legal history is legal
 pub legal-before : (S : System) (R : Rules) (K : List Event) (c : ℕ) → IsLegal S R K → IsLegal S R (before K c)
 unfolding before
 legal-before S R [] c legal = tt
-legal-before S R (e ∷ K) c legal = elim (cases_Bool (nat_le (length (e ∷ K)) c)) [
-  | inl q ↦ rw q legal
-  | inr q ↦ rw q (legal-before S R K c legal.1)
-]
+legal-before S R (e ∷ K) c legal = grind (arith, legal-before S R K c legal.1)
 
 pub fetched-before : (K : List Event) (p c : ℕ) → fetched (before K p) c ≡ true → fetched K c ≡ true
 unfolding before

@@ -118,29 +118,9 @@ same-unfetched e K h = count_below-same (unfetched (e ∷ K)) (unfetched K) (len
 
 counted-kind : (S : System) (R : Rules) (K : List Event) (a : Actor) (w : What) → Row S R K a w → IsLegal S R K → length K < 2 ^ 64 → Counted K → Counted (ev a w ∷ K)
 unfolding calls recvs empty_recvs
-counted-kind S R K a (Recv (Ok n)) r legal b ih =
-    let g = receiving S R K a (Ok n) r in
-    let f = fetching K n (oldest_unfetched K) refl g.1 in
-    let x = fetch-one S R K (ev a (Recv (Ok n))) f.0 legal b (ap (λ m. Recv (Ok m)) f.1) f.2 f.3 in
-    let y = unfetched-step (ev a (Recv (Ok n))) K in
-    let z : count K ≡ 0 → ⊥ = eqb-false (count K) 0 g.0 in
-    let u = ih.room in
-    let v = ih.sum in
-    record { room = omega arith; sum = omega arith }
-counted-kind S R K a (Recv (Err err)) r legal b ih =
-    let g = receiving S R K a (Err err) r in
-    let x = same-unfetched (ev a (Recv (Err err))) K (λ c. refl) in
-    let y = unfetched-step (ev a (Recv (Err err))) K in
-    let z : count K ≡ 0 → ⊥ = eqb-false (count K) 0 g.0 in
-    let u = ih.room in
-    let v = ih.sum in
-    record { room = omega arith; sum = omega arith }
-counted-kind S R K a w r legal b ih =
-    let x = same-unfetched (ev a w) K (λ c. refl) in
-    let y = unfetched-step (ev a w) K in
-    let u = ih.room in
-    let v = ih.sum in
-    record { room = omega arith; sum = omega arith }
+counted-kind S R K a (Recv (Ok n)) r legal b ih = grind (arith, receiving, fetching, fetch-one, unfetched-step)
+counted-kind S R K a (Recv (Err err)) r legal b ih = grind (arith, receiving, same-unfetched, unfetched-step)
+counted-kind S R K a w r legal b ih = grind (arith, same-unfetched, unfetched-step)
 
 pub counted : (S : System) (R : Rules) (K : List Event) → IsLegal S R K → length K < 2 ^ 64 → Counted K
 unfolding calls recvs empty_recvs count_below

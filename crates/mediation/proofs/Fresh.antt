@@ -49,10 +49,7 @@ unfolding steps_of
 steps-more e K n = omega arith
 
 numbered-kind : (S : System) (R : Rules) (K : List Event) (a : Actor) (w : What) (n : Name) (k : ℕ) → (n ≡ [] → ⊥) → Row S R K a w → spawns w (n ++ k ∷ []) ≡ true → k ≤ steps_of is_spawn K n + (if is_task a n then is_spawn w else 0)
-numbered-kind S R K (Task m) (Spawn c x) n k z r h =
-    let q = name_eq-true c (n ++ k ∷ []) h in
-    let s = snoc-same n m k (steps_of is_spawn K m + 1) (sym q ∙ r.3) in
-    rw (s.0, name_eq-refl m) (omega (arith, s.1))
+numbered-kind S R K (Task m) (Spawn c x) n k z r h = grind (arith, name_eq-true, snoc-same, name_eq-refl)
 numbered-kind S R K Start (Spawn c x) n k z r h = absurd (z (sym ((snoc-same [] n 0 k (sym r.1 ∙ name_eq-true c (n ++ k ∷ []) h)).0)))
 numbered-kind S R K a w n k z r h = grind arith
 
@@ -79,11 +76,7 @@ spawns-named S R K a w r h = grind (arith, snoc-not-nil, name_eq-true)
 
 all-named-step : (S : System) (R : Rules) (K : List Event) (e : Event) → IsStep S R K e → (spawned K [] ≡ true → ⊥) → spawned (e ∷ K) [] ≡ true → ⊥
 unfolding spawned
-all-named-step S R K e r ih h =
-    elim (or_cases (spawns e.what []) (spawned K []) h) [
-      | inl q ↦ spawns-named S R K e.who e.what (row-of S R K e r) q
-      | inr q ↦ ih q
-    ]
+all-named-step S R K e r ih h = grind (arith, spawns-named, row-of)
 
 all-named : (S : System) (R : Rules) (K : List Event) → IsLegal S R K → spawned K [] ≡ true → ⊥
 unfolding spawned
@@ -118,10 +111,7 @@ new-name S R K a w legal r h = grind arith
 
 -- a task that stands below has another name than the new one
 older-differs : (S : System) (R : Rules) (K : List Event) (e : Event) (t : ℕ) → IsLegal S R K → IsStep S R K e → makes e.what ≡ true → makes_in (event_at K t) ≡ true → name_of K t ≡ child_of e.what → ⊥
-older-differs S R K e t legal r m k q = both (spawned K (child_of e.what)) (new-name S R K e.who e.what legal (row-of S R K e r) m) (placed-spawned K t (child_of e.what) k q)
-  where
-    both : (b : Bool) → b ≡ false → b ≡ true → ⊥
-    both b g h = cc
+older-differs S R K e t legal r m k q = grind (arith, new-name, row-of, placed-spawned)
 
 names-step : (S : System) (R : Rules) (K : List Event) (e : Event) → IsLegal S R K → IsStep S R K e → NamesDiffer K → NamesDiffer (e ∷ K)
 names-step S R K e legal r ih t u m k q =

@@ -96,12 +96,7 @@ own-times times i cap h = grind arith
 
 own-cap : (P : Policy) (i : ℕ) (cap : Cap) → cap_of P.rules i ≡ Some cap → cap.times ≤ limit-of P cap.rule
 unfolding limit-of times-in
-own-cap P i cap h =
-    let m = own-times (times_of (slice_get P.rules i)) i cap h in
-    at-most (cap_of P.rules cap.rule) cap (ap (cap_of P.rules) m ∙ h)
-  where
-    at-most : (o : Option Cap) (c : Cap) → o ≡ Some c → c.times ≤ times-in o
-    at-most o c q = rw q (omega arith)
+own-cap P i cap h = grind (arith, own-times, times-in)
 
 act-cap : Decision → Option Cap
 act-cap (Acts q cap) = cap

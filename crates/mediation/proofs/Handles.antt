@@ -123,12 +123,7 @@ module _ (S : System) (R : Rules) (K : List Event) (a : Actor) (w c : ℕ) (lega
       some-same g (group K i.t) (sym h ∙ rw (z, y))
 
   quiet : (what : What) → checks what ≡ false → is_good_check what ≡ false → ((m : Option ℕ) → mem_after K what m ≡ m) → ((m : Option ℕ) → base_after K what m ≡ m) → Owes what
-  quiet what x p y z = record {
-    opens_before = λ h. absurd (both_ways (checks what) x h);
-    base_before = λ n q h. absurd (both_ways (checks what) x h);
-    mem_then = rw (y (mem K w), p) (λ g l k. s.mem_is i.t g i.task_is l k);
-    base_then = rw (z (base K w), p) (λ g l k. s.base_is i.t g i.task_is l k);
-  }
+  quiet what x p y z = grind (arith)
 
   open-owes : (p : ℕ) (u : Unit {0}) → WorkerRow S R K w (OpenMem p (Ok u)) → Owes (OpenMem p (Ok u))
   open-owes p u r =

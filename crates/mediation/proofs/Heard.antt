@@ -51,14 +51,7 @@ joined-fits : (a : What) (own : List What) → FitsRead a → FitReads own → F
 joined-fits a own h k = grind arith
 
 fits-step : (P : Policy) (F : Figures) (S : Script) (K : List Event) (e : Event) (w : ℕ) → IsStep (system_of S) (rules_of P F) K e → FitReads (session K w) → FitReads (session (e ∷ K) w)
-fits-step P F S K e w r h =
-    elim (cases_Bool (is_worker e.who w && not (skips e.what))) [
-      | inl q ↦
-          let p = and_parts (is_worker e.who w) (not (skips e.what)) q in
-          let k : skips e.what ≡ false = grind arith in
-          rw (session-more e K w p.0 k) (joined-fits e.what (session K w) (step-fits P F S K w e.what (worker-row (system_of S) (rules_of P F) K e w r p.0)) h)
-      | inr q ↦ rw (session-same e K w q) h
-    ]
+fits-step P F S K e w r h = grind (arith, session-more, joined-fits, step-fits, worker-row, session-same)
 
 pub fit-reads : (P : Policy) (F : Figures) (S : Script) (K : List Event) → IsLegal (system_of S) (rules_of P F) K → (w : ℕ) → FitReads (session K w)
 unfolding session

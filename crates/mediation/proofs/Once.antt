@@ -36,15 +36,7 @@ installs-open S R K (Task n) (Install ans) c legal r h g l =
 installs-open S R K a w c legal r h g l = grind arith
 
 pub settles-once : (S : System) (R : Rules) (K : List Event) (e : Event) (c : ℕ) → IsLegal S R K → Row S R K e.who e.what → settles K e c ≡ true → settled K c ≡ false
-settles-once S R K e c legal r h =
-    elim (or_cases (answers K e.what c) (installs_for K e c && (gave e.what && first_sends K (queue K c))) h) [
-      | inl q ↦ let w = answers-waiting S R K e.who e.what c r q in grind arith
-      | inr q ↦
-          let p = and_parts (installs_for K e c) (gave e.what && first_sends K (queue K c)) q in
-          let i = and_parts (is_install e.what) (is_task e.who (caller K c) && listed K c) p.0 in
-          let j = and_parts (is_task e.who (caller K c)) (listed K c) i.1 in
-          installs-open S R K e.who e.what c legal r i.0 j.0 j.1
-    ]
+settles-once S R K e c legal r h = grind (arith, answers-waiting, installs-open)
 
 once-kind : (S : System) (R : Rules) (K : List Event) (e : Event) → IsLegal S R K → Row S R K e.who e.what → (c : ℕ)
     → (answers_to K c ≤ 1) × (settled K c ≡ false → answers_to K c ≡ 0)

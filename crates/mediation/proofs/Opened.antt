@@ -55,9 +55,7 @@ module _ (S : System) (R : Rules) where
 
   mem-work : (K : List Event) (a : Actor) (w c : ℕ) (what : What) → IsStep S R K (ev a what) → IsLegal S R K → length (ev a what ∷ K) < 2 ^ 64 → is_worker a w ≡ true
       → WorkerRow S R K w what → works what ≡ true → (i : InSession K w c) → session_call K w ≡ Some c → session (ev a what ∷ K) w ≡ what ∷ session K w → MemoryOpened K w c → MemoryOpened (ev a what ∷ K) w c
-  mem-work K a w c what r legal room q row v i s own ih h g =
-      let p = or_parts (gives_up what) (any_of gives_up (session K w)) (rw own at g) in
-      rw (mem-more (ev a what) K w q) (work-mem K w what row v ih (rw own at h) p.0 p.1)
+  mem-work K a w c what r legal room q row v i s own ih h g = grind (arith, mem-more, work-mem)
 
   mem-still : (K : List Event) (e : Event) (w c : ℕ) → IsStep S R K e → IsLegal S R K → length (e ∷ K) < 2 ^ 64 → (is_worker e.who w && not (skips e.what)) ≡ false
       → (i : InSession K w c) → session_call K w ≡ Some c → session (e ∷ K) w ≡ session K w → MemoryOpened K w c → MemoryOpened (e ∷ K) w c

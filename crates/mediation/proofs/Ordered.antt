@@ -56,11 +56,7 @@ used-two R own n work c ih =
 
 pub ordered : (R : Rules) (own : List What) → IsOwn R own → Checked R own
 ordered R [] i = record { most = omega arith; complete = λ n h. cc; opened = λ h. absurd (omega arith); based = λ n h. cc; order = tt }
-ordered R (a ∷ []) i = first a i
-  where
-    first : (a : What) → starts a ≡ true → Checked R (a ∷ [])
-    first (Recv (Ok m)) h = record { most = omega arith; complete = λ n h e. absurd (omega arith); opened = λ h. absurd (omega arith); based = λ n h e. absurd (omega arith); order = (λ h. cc, λ h. cc, λ h. cc, tt) }
-    first a h = cc
+ordered R (a ∷ []) i = grind (arith)
 ordered R (Check x y ∷ b ∷ own) i =
     let t = deed-is R (b ∷ own) _ i.0 in
     let ih = ordered R (b ∷ own) i.2 in
@@ -124,10 +120,5 @@ ordered R (Send x v y ∷ b ∷ own) i =
     let t = deed-is R (b ∷ own) _ i.0 in
     let ih = ordered R (b ∷ own) i.2 in
     plain R (b ∷ own) (Send x v y) refl refl (λ h. h) (λ h. h) (λ n h. h) ih (λ h. cc, λ h. cc, λ h. used-two R (b ∷ own) t.0 t.1 t.3 ih, ih.order)
-ordered R (Recv (Ok m) ∷ b ∷ own) i = absurd (no i.1)
-  where
-    no : true ≡ false → ⊥
-    no q = cc
-ordered R (a ∷ b ∷ own) i =
-    let ih = ordered R (b ∷ own) i.2 in
-    plain R (b ∷ own) a refl refl (λ h. h) (λ h. h) (λ n h. h) ih (λ h. cc, λ h. cc, λ h. cc, ih.order)
+ordered R (Recv (Ok m) ∷ b ∷ own) i = grind (arith)
+ordered R (a ∷ b ∷ own) i = grind (arith, plain, ordered R (b ∷ own) i.2)

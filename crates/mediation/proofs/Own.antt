@@ -90,14 +90,7 @@ entering S R K a w r h = grind arith
 old-kept : (S : System) (R : Rules) (K : List Event) (e : Event) (c : ℕ) → Row S R K e.who e.what → listed K c ≡ true → unlists e (caller K c) ≡ false
     → alive K (caller K c) ≡ true → last_own K (caller K c) ≡ Some c
     → (alive (e ∷ K) (caller K c) ≡ true) × (last_own (e ∷ K) (caller K c) ≡ Some c)
-old-kept S R K e c r h u a l =
-    elim (idle S R K e (caller K c) r (waits-in_some K c h) u) [
-      | inl q ↦ (alive-other e K (caller K c) (grind arith) a, last-other e K (caller K c) (grind arith) ∙ l)
-      | inr q ↦
-          let x = q.1 in
-          let y = q.0 in
-          (alive-other e K (caller K c) (grind arith) a, last-other e K (caller K c) (grind arith) ∙ l)
-    ]
+old-kept S R K e c r h u a l = grind (arith, idle, waits-in_some, alive-other, last-other)
 
 is_task-of : (a : Actor) (n : Name) → a ≡ Task n → is_task a n ≡ true
 is_task-of a n q = rw q (name_eq-refl n)

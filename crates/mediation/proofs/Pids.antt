@@ -39,11 +39,7 @@ holds-here e K p h = grind (arith, event_at-here)
 free-none : (K : List Event) (n q p : ℕ) → free_from K n q ≡ Some p → holder K p ≡ None
 unfolding free_from
 free-none K zero q p e = cc
-free-none K (suc n) q p e = go (holder K q) refl e (free-none K n (q + 1) p)
-  where
-    go : (r : Option ℕ) → holder K q ≡ r → (if is_none r then Some q else free_from K n (q + 1)) ≡ Some p → (free_from K n (q + 1) ≡ Some p → holder K p ≡ None) → holder K p ≡ None
-    go None h e ih = let s : q ≡ p = cc in rw (← s) h
-    go (Some t) h e ih = ih e
+free-none K (suc n) q p e = grind (arith, free-none K n (q + 1) p)
 
 next-none : (b m : ℕ) (K : List Event) (p : ℕ) → next_pid b m K ≡ Some p → holder K p ≡ None
 unfolding next_pid
@@ -57,10 +53,7 @@ free-held K p t e h = newest-found (holds K p) (length K) t (holds-below K p t h
 -- a step that gives a number gives a free one
 given-free : (S : System) (R : Rules) (K : List Event) (a : Actor) (w : What) (p : ℕ) → Row S R K a w → given w ≡ Some p → holder K p ≡ None
 unfolding holder newest
-given-free S R K (Task n) (Spawn m a) p r g = next-none S.pidbase S.pidmax K p (from-answer (next_pid S.pidbase S.pidmax K) r.2.0 (rw r.2.1 at g))
-  where
-    from-answer : (o : Option ℕ) (kind : SpawnKind) → given (Spawn m (spawn_answer o kind)) ≡ Some p → o ≡ Some p
-    from-answer o kind g = grind arith
+given-free S R K (Task n) (Spawn m a) p r g = grind (arith, next-none)
 given-free S R K Start (Spawn m a) p r g = rw r.0
 given-free S R K a w p r g = grind arith
 
@@ -69,17 +62,7 @@ new-differs : (S : System) (R : Rules) (K : List Event) (e : Event) (p t : ℕ) 
 new-differs S R K e p t r h g l = free-held K p t (given-free S R K e.who e.what p (row-of S R K e r) (holds-here e K p g)) (holds-less e K p t l h)
 
 pids-step : (S : System) (R : Rules) (K : List Event) (e : Event) → IsStep S R K e → PidsDiffer K → PidsDiffer (e ∷ K)
-pids-step S R K e r ih p t u h g =
-    elim (below_or_last t (length K) (holds-below (e ∷ K) p t h)) [
-      | inl l ↦ elim (below_or_last u (length K) (holds-below (e ∷ K) p u g)) [
-        | inl m ↦ ih p t u (holds-less e K p t l h) (holds-less e K p u m g)
-        | inr m ↦ absurd (new-differs S R K e p t r h (rw m at g) l)
-      ]
-      | inr l ↦ elim (below_or_last u (length K) (holds-below (e ∷ K) p u g)) [
-        | inl m ↦ absurd (new-differs S R K e p u r g (rw l at h) m)
-        | inr m ↦ l ∙ sym m
-      ]
-    ]
+pids-step S R K e r ih p t u h g = grind (arith, below_or_last, holds-below, holds-less, new-differs)
 
 pub pids_differ : (S : System) (R : Rules) (K : List Event) → IsLegal S R K → PidsDiffer K
 pids_differ S R [] legal = λ p t u h g. absurd (omega (arith, holds-below [] p t h))

@@ -55,10 +55,7 @@ module _ (P : Policy) (S : Script) where
   longer-schedule : (steps : List Step) (K : List Event) → length K ≤ length (with_schedule P S steps K)
   unfolding with_schedule
   longer-schedule [] K = omega arith
-  longer-schedule (s ∷ more) K =
-      let here = longer-steps s.who s.count K in
-      let rest = longer-schedule more (with_steps P S s.who s.count K) in
-      omega arith
+  longer-schedule (s ∷ more) K = grind (arith, longer-steps, longer-schedule more (with_steps P S s.who s.count K))
 
   steps : (a : Actor) (n : ℕ) (K : List Event) → IsScheduled a → length (with_steps P S a n K) < 2 ^ 64 → Goes K → Goes (with_steps P S a n K)
   unfolding with_steps

@@ -68,19 +68,9 @@ clean-above (e ∷ K) c h = let l : length K ≤ c = omega arith in calm-clean e
 
 -- a request goes to a waiting call
 put-ok : (S : System) (K : List Event) (q : Addfd) (c : ℕ) (u : Unit {0}) (b : Bool) (o : Option ℕ) → is_place o c ≡ true → ◌≡◌ {A = Result (Unit {0}) ℕ} (Ok u) (if b then Err 9 else put_answer S K q o) → waiting K c ≡ true
-put-ok S K q c u true o h g = absurd (no u g)
-  where
-    no : (u : Unit {0}) → ◌≡◌ {A = Result (Unit {0}) ℕ} (Ok u) (Err 9) → ⊥
-    no u h = cc
+put-ok S K q c u true o h g = grind (arith)
 put-ok S K q c u false None h g = cc
-put-ok S K q c u false (Some d) h g = rw (eqb-true d c h) at (go d (waiting K d) (if has_send_flag q && not (is_empty (queue K d)) then Err 16 else Ok tt) refl g)
-  where
-    go : (d : ℕ) (x : Bool) (r : Result (Unit {0}) ℕ) → waiting K d ≡ x → ◌≡◌ {A = Result (Unit {0}) ℕ} (Ok u) (if not x then Err 115 else r) → waiting K d ≡ true
-    go d true r p g = p
-    go d false r p g = absurd (no u g)
-      where
-        no : (u : Unit {0}) → ◌≡◌ {A = Result (Unit {0}) ℕ} (Ok u) (Err 115) → ⊥
-        no u h = cc
+put-ok S K q c u false (Some d) h g = grind (arith)
 
 pub puts-waiting : (S : System) (R : Rules) (K : List Event) (a : Actor) (w : What) (c : ℕ) → Row S R K a w → puts_to K w c ≡ true → waiting K c ≡ true
 puts-waiting S R K a w c r h = grind arith
@@ -144,14 +134,7 @@ put-call K w c h = grind arith
 pub queue-asks : (K : List Event) (c : ℕ) → Asks K c (queue K c)
 unfolding queue
 queue-asks [] c = unfold Asks in tt
-queue-asks (e ∷ K) c =
-    elim (cases_Bool (puts_to K e.what c)) [
-      | inl q ↦ rw q (asks-push (e ∷ K) c (length K) (queue K c) (asks-later e K c (queue K c) (queue-asks K c)) (omega arith) (call-at-here e K ∙ put-call K e.what c q))
-      | inr q ↦ rw q (elim (cases_Bool (installs_for K e c)) [
-        | inl p ↦ rw p (asks-later e K c (rest_of (queue K c)) (asks-rest K c (queue K c) (queue-asks K c)))
-        | inr p ↦ rw p (asks-later e K c (queue K c) (queue-asks K c))
-      ])
-    ]
+queue-asks (e ∷ K) c = grind (arith, asks-push, asks-later, call-at-here, put-call, asks-rest, queue-asks K c)
 
 -- the first request of a queue was put for its call
 pub first-asks : (K : List Event) (c r : ℕ) (rs : List ℕ) → queue K c ≡ rs → is_first rs r ≡ true → call_at K r ≡ Some c

@@ -21,12 +21,7 @@ use Rattle.mediation.proofs.Count.{receiving, count_is}
 count_below-le : (p q : ℕ → Bool) (n : ℕ) → ((c : ℕ) → c < n → p c ≡ true → q c ≡ true) → count_below p n ≤ count_below q n
 unfolding count_below
 count_below-le p q zero h = omega arith
-count_below-le p q (suc n) h =
-    let ih = count_below-le p q n (λ c l. h c (omega arith)) in
-    elim (cases_Bool (p n)) [
-      | inl s ↦ let t = h n (omega arith) s in rw (s, t) (omega arith)
-      | inr s ↦ rw s (omega arith)
-    ]
+count_below-le p q (suc n) h = grind (arith, count_below-le p q n (λ c l. h c (omega arith)))
 
 count_below-none : (p : ℕ → Bool) (n : ℕ) → ((c : ℕ) → c < n → p c ≡ false) → count_below p n ≡ 0
 unfolding count_below
@@ -43,13 +38,7 @@ left K c = is_call K c && (not (listed K c) && not (fetched K c))
 
 left-later : (e : Event) (K : List Event) (c : ℕ) → c < length K → left K c ≡ true → left (e ∷ K) c ≡ true
 unfolding fetched
-left-later e K c l h =
-    let a = event_at-older e K c l in
-    let b = listed-older e K c l in
-    rw (a, b) (kept (is_call K c) (listed K c) (fetched K c) (unlists e (caller K c)) (fetches e.what (id K c)) h)
-  where
-    kept : (a b c u f : Bool) → (a && (not b && not c)) ≡ true → (a && (not (b && not u) && not ((f && b) || c))) ≡ true
-    kept a b c u f h = grind arith
+left-later e K c l h = grind (arith, event_at-older, listed-older)
 
 left-more : (e : Event) (K : List Event) → left_unfetched K ≤ left_unfetched (e ∷ K)
 left-more e K =
@@ -76,12 +65,7 @@ room-for : (S : System) (R : Rules) (K : List Event) (a : Actor) (what : What) �
 room-for S R K a what legal room r h = grind (arith, receiving, none-listed, nothing-found, count_is)
 
 pub receives-step : (S : System) (R : Rules) (K : List Event) (e : Event) → IsLegal S R K → length K < 2 ^ 64 → IsStep S R K e → empty_recvs K ≤ left_unfetched K → ReceivesFor K e
-receives-step S R K e legal room r ih =
-    let m = left-more e K in
-    elim (cases_Bool (gets_nothing e.what)) [
-      | inl q ↦ let s = room-for S R K e.who e.what legal room (row-of S R K e r) q in rw (empty-more e K q) (omega arith)
-      | inr q ↦ rw (empty-same e K q) (omega arith)
-    ]
+receives-step S R K e legal room r ih = grind (arith, left-more, room-for, row-of, empty-more, empty-same)
 
 pub receives-are-for : (S : System) (R : Rules) (K : List Event) → IsLegal S R K → length K < 2 ^ 64 → empty_recvs K ≤ left_unfetched K
 unfolding empty_recvs count_below

@@ -45,10 +45,7 @@ sent-some : (K : List Event) (o : Option ℕ) (u : Unit {0}) → ◌≡◌ {A = 
 sent-some K o u h = grind arith
 
 put-some : (S : System) (K : List Event) (q : Addfd) (o : Option ℕ) (b : Bool) (u : Unit {0}) → ◌≡◌ {A = Result (Unit {0}) ℕ} (Ok u) (if b then Err 9 else put_answer S K q o) → (c : ℕ) × (o ≡ Some c)
-put-some S K q o true u h = absurd (no u h)
-  where
-    no : (u : Unit {0}) → ◌≡◌ {A = Result (Unit {0}) ℕ} (Ok u) (Err 9) → ⊥
-    no u h = cc
+put-some S K q o true u h = grind (arith)
 put-some S K q None false u h = cc
 put-some S K q (Some c) false u h = (c, refl)
 
@@ -194,13 +191,7 @@ others-known : (a : Actor) (what : What) → takes a what ≡ true → ((w : ℕ
 others-known a what h n = grind arith
 
 pub errors-known : (S : System) (R : Rules) (K : List Event) (e : Event) → IsLegal S R K → length K < 2 ^ 64 → IsStep S R K e → ErrorsKnown K e
-errors-known S R K e legal room r = go e.who refl
-  where
-    go : (a : Actor) → e.who ≡ a → is_known_error e.what ≡ true
-    go (Worker w) q = worker-known S R K w legal room e.what (rw q at (row-of S R K e r))
-    go (Task n) q = others-known (Task n) e.what (rw q at (taken-by-its-actor S R K e legal room r)) (λ w h. cc)
-    go Start q = others-known Start e.what (rw q at (taken-by-its-actor S R K e legal room r)) (λ w h. cc)
-    go Listener q = others-known Listener e.what (rw q at (taken-by-its-actor S R K e legal room r)) (λ w h. cc)
+errors-known S R K e legal room r = grind (arith, worker-known, row-of, others-known, taken-by-its-actor)
 
 known-not-busy : (what : What) → is_known_error what ≡ true → is_busy what ≡ false
 known-not-busy what h = grind arith

@@ -44,14 +44,7 @@ joined-own R [] a false h i s = rw h tt
 joined-own R (b ∷ own) a false h i s = rw h (s, h, i)
 
 own-step : (S : System) (R : Rules) (K : List Event) (e : Event) (w : ℕ) → IsStep S R K e → IsOwn R (session K w) → IsOwn R (session (e ∷ K) w)
-own-step S R K e w r i =
-    elim (cases_Bool (is_worker e.who w && not (skips e.what))) [
-      | inl q ↦
-          let p = and_parts (is_worker e.who w) (not (skips e.what)) q in
-          let k : skips e.what ≡ false = grind arith in
-          rw (session-more e K w p.0 k) (joined-own R (session K w) e.what (starts e.what) refl i (suits S R K w e.what (worker-row S R K e w r p.0) k))
-      | inr q ↦ rw (session-same e K w q) i
-    ]
+own-step S R K e w r i = grind (arith, session-more, joined-own, suits, worker-row, session-same)
 
 pub is-own : (S : System) (R : Rules) (K : List Event) → IsLegal S R K → (w : ℕ) → IsOwn R (session K w)
 unfolding session
@@ -169,11 +162,7 @@ effect-fixed R own n i h e = use-fixed R IsGrant is_effect (effect-found R) effe
 -- a take comes after a good put
 pub take-after_put : (R : Rules) (own : List What) (t : Result ℕ ℕ) → IsOwn R own → first_some take_in own ≡ Some t → (u : Unit {0}) × (first_some put_in own ≡ Some (Ok u))
 take-after_put R [] t i h = cc
-take-after_put R (a ∷ []) t i h = first a i h
-  where
-    first : (a : What) → starts a ≡ true → first_some take_in (a ∷ []) ≡ Some t → (u : Unit {0}) × (first_some put_in (a ∷ []) ≡ Some (Ok u))
-    first (Recv (Ok m)) s h = cc
-    first a s h = cc
+take-after_put R (a ∷ []) t i h = grind (arith)
 take-after_put R (AddfdTake y ∷ b ∷ own) t i h = let v = deed-is R (b ∷ own) _ i.0 in (v.4.0, v.4.1)
 take-after_put R (AddfdPut q y ∷ b ∷ own) t i h =
     let v = deed-is R (b ∷ own) _ i.0 in

@@ -274,10 +274,7 @@ gave-step S R K e c r m legal room row ih q h =
     no-place c h = cc
 
 pub gave-number : (S : System) (R : Rules) (K : List Event) → IsLegal S R K → length K < 2 ^ 64 → (c r m : ℕ) → call_at K r ≡ Some c → install_of K r ≡ Some (Ok m) → Gave K c m
-gave-number S R [] legal room = λ c r m q h. absurd (none-some c (sym (call-at-above [] r (omega arith)) ∙ q))
-  where
-    none-some : (c : ℕ) → None ≡ Some c → ⊥
-    none-some c h = cc
+gave-number S R [] legal room = λ c r m q h. grind (arith, call-at-above)
 gave-number S R (e ∷ K) legal room = λ c r m. gave-step S R K e c r m legal.1 (omega arith) (row-of S R K e legal.0) (gave-number S R K legal.1 (omega arith) c r m)
 
 -- a resume of such a call returns the number

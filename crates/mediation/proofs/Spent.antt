@@ -35,25 +35,13 @@ spends-left S R limit K (Worker w) (Act q (Some cap) (Ok u)) i k r h =
 spends-left S R limit K (Worker w) (Plant x b (Some cap) (Ok u)) i k r h =
     let t = deed-is R (session K w) _ r.0 in
     below-limit limit K cap i h (left-times K cap u (if S.writable x then Ok tt else Err 14) r.1) (k.plants t.0 (reads_of (session K w)) x b cap t.4)
-spends-left S R limit K a (Act q None x) i k r h = absurd (no-cap x h)
-  where
-    no-cap : (x : Result (Unit {0}) ℕ) → spends (Act q None x) i ≡ true → ⊥
-    no-cap (Ok u) h = cc
-    no-cap (Err e) h = cc
-spends-left S R limit K a (Plant x b None y) i k r h = absurd (no-cap y h)
-  where
-    no-cap : (y : Result (Unit {0}) ℕ) → spends (Plant x b None y) i ≡ true → ⊥
-    no-cap (Ok u) h = cc
-    no-cap (Err e) h = cc
+spends-left S R limit K a (Act q None x) i k r h = grind (arith)
+spends-left S R limit K a (Plant x b None y) i k r h = grind (arith)
 spends-left S R limit K a what i k r h = grind arith
 
 spent-step : (S : System) (R : Rules) (limit : ℕ → ℕ) (K : List Event) (e : Event) (i : ℕ) → Capped R limit → IsStep S R K e → times_spent K i ≤ limit i → times_spent (e ∷ K) i ≤ limit i
 unfolding times_spent
-spent-step S R limit K e i k r ih =
-    elim (cases_Bool (spends e.what i)) [
-      | inl q ↦ let m = spends-left S R limit K e.who e.what i k (row-of S R K e r) q in rw q m
-      | inr q ↦ rw q (omega (arith, ih))
-    ]
+spent-step S R limit K e i k r ih = grind (arith, spends-left, row-of)
 
 pub spent-within : (S : System) (R : Rules) (limit : ℕ → ℕ) → Capped R limit → (K : List Event) → IsLegal S R K → (i : ℕ) → times_spent K i ≤ limit i
 unfolding times_spent

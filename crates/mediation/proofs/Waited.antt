@@ -41,27 +41,14 @@ number-more a own = elim (cases_Bool (is_good_check a)) [ inl q ↦ rw q (omega 
 -- before the second good check nothing is asked for
 put-late : (own : List What) → InOrder own → number_of is_good_check own ≤ 1 → first_some put_in own ≡ None
 put-late [] o h = refl
-put-late (a ∷ own) o h =
-    elim (cases_Bool (is_put a)) [
-      | inl q ↦
-          let p = put-uses a q in
-          let two = o.2 p.0 in
-          let g : number_of is_good_check own ≤ 1 = rw p.1 at h in
-          absurd (omega arith)
-      | inr q ↦ rw (no-put a q) (put-late own o.3 (omega (arith, number-more a own)))
-    ]
+put-late (a ∷ own) o h = grind (arith, is_put, put-uses, no-put, number-more, put-late own o.3 (omega (arith, number-more a own)))
 
 good-checks : (a : What) → is_good_check a ≡ true → checks a ≡ true
 good-checks a h = grind arith
 
 good-least : (own : List What) → number_of is_good_check own ≤ number_of checks own
 good-least [] = omega arith
-good-least (a ∷ own) =
-    let ih = good-least own in
-    elim (cases_Bool (is_good_check a)) [
-      | inl q ↦ rw (q, good-checks a q) (omega arith)
-      | inr q ↦ elim (cases_Bool (checks a)) [ inl p ↦ rw (q, p) (omega arith) | inr p ↦ rw (q, p) ih ]
-    ]
+good-least (a ∷ own) = grind (arith, good-checks, good-least own)
 
 few-good : (own : List What) → number_of checks own ≤ 2 → number_of is_good_check own ≤ 2
 few-good own m = let k = good-least own in omega arith

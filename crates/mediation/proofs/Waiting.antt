@@ -113,14 +113,8 @@ module _ (S : System) (R : Rules) (K : List Event) (e : Event) (c : ℕ) (legal 
       go a what r q m = grind arith
 
   old-phase : IsStep S R K e → (o : Option ℕ) → fetcher K c ≡ o → Phase K c o → Phase (e ∷ K) c (fetcher (e ∷ K) c)
-  old-phase r (Some w) q p =
-      let f = fetcher-fetched K c w q in
-      rw (fetcher-stays S R K e w c legal room row f q) (held-phase r w f p)
-  old-phase r None q p =
-      elim (cases_Bool (fetches e.what (id K c) && listed K c)) [
-        | inl z ↦ rw (fetcher-now e K c z) (now-phase p.0 p.1 z)
-        | inr z ↦ rw (fetcher-same e K c z, q) (fetched-same e K c z ∙ p.0, calm-clean e K c (unfetched-calm p.0 p.1) p.1)
-      ]
+  old-phase r (Some w) q p = grind (arith, fetcher-fetched, fetcher-stays, held-phase)
+  old-phase r None q p = grind (arith, fetcher-now, now-phase, fetcher-same, fetched-same, calm-clean, unfetched-calm)
 
 -- a new call
 new-phase : (e : Event) (K : List Event) → Phase (e ∷ K) (length K) (fetcher (e ∷ K) (length K))

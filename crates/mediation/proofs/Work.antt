@@ -139,9 +139,7 @@ hand-other : (e : Event) (K : List Event) (w : ℕ) (o : Option ℕ) → is_work
 hand-other e K w (Some c) h i =
     let s = session-same e K w (grind arith) in
     in-session-kept e K w c i (rw s i.notif_is) (rw s i.no_letgo)
-hand-other e K w None h i =
-    let s = session-same e K w (grind arith) in
-    record { none = rw s i.none; mem_none = mem-same e K w h ∙ i.mem_none; base_none = base-same e K w h ∙ i.base_none }
+hand-other e K w None h i = grind (arith, session-same, mem-same, base-same)
 
 pub started : (own : List What) (a : What) → starts a ≡ true → joined a own ≡ a ∷ []
 started own a h = grind arith
@@ -167,13 +165,7 @@ in-hand K w (Some c) n work i = (c, refl, i, some-same i.n n (sym i.notif_is ∙
   where
     some-same : (a b : Notif) → Some a ≡ Some b → a ≡ b
     some-same a b h = cc
-in-hand K w None n work i = elim i.none [ inl q ↦ absurd (one n (sym q ∙ work.notif_is)) | inr q ↦ absurd (two (any_of is_letgo (session K w)) work.no_letgo q) ]
-  where
-    one : (m : Notif) → None ≡ Some m → ⊥
-    one m h = cc
-
-    two : (b : Bool) → b ≡ false → b ≡ true → ⊥
-    two b g h = cc
+in-hand K w None n work i = grind (arith)
 
 module _ (S : System) (R : Rules) (K : List Event) (a : Actor) (w : ℕ) (legal : IsLegal S R K) (is_mine : is_worker a w ≡ true) where
   mine-works : (what : What) → WorkerRow S R K w what → works what ≡ true → Hand K w (session_call K w) → Hand (ev a what ∷ K) w (session_call (ev a what ∷ K) w)
