@@ -118,9 +118,7 @@ same-unfetched e K h = count_below-same (unfetched (e ∷ K)) (unfetched K) (len
 
 counted-kind : (S : System) (R : Rules) (K : List Event) (a : Actor) (w : What) → Row S R K a w → IsLegal S R K → length K < 2 ^ 64 → Counted K → Counted (ev a w ∷ K)
 unfolding calls recvs empty_recvs
-counted-kind S R K a (Recv (Ok n)) r legal b ih = grind (arith, receiving, fetching, fetch-one, unfetched-step)
-counted-kind S R K a (Recv (Err err)) r legal b ih = grind (arith, receiving, same-unfetched, unfetched-step)
-counted-kind S R K a w r legal b ih = grind (arith, same-unfetched, unfetched-step)
+counted-kind S R K a w r legal b ih = grind (arith, receiving, fetching, fetch-one, unfetched-step, same-unfetched)
 
 pub counted : (S : System) (R : Rules) (K : List Event) → IsLegal S R K → length K < 2 ^ 64 → Counted K
 unfolding calls recvs empty_recvs count_below

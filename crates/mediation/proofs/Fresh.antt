@@ -105,9 +105,7 @@ nothing-spawned n = refl
 
 -- the name of a new task is new
 new-name : (S : System) (R : Rules) (K : List Event) (a : Actor) (w : What) → IsLegal S R K → Row S R K a w → makes w ≡ true → spawned K (child_of w) ≡ false
-new-name S R K (Task m) (Spawn c (Ok x)) legal r h = rw r.3 (child-fresh S R K m legal (λ q. all-named S R K legal (rw q at (made-spawned K m (and_parts (is_made K m) _ r.0).0))))
-new-name S R K Start (Spawn c (Ok x)) legal r h = rw r.0 (nothing-spawned c)
-new-name S R K a w legal r h = grind arith
+new-name S R K a w legal r h = grind (arith, child-fresh, all-named, made-spawned, nothing-spawned)
 
 -- a task that stands below has another name than the new one
 older-differs : (S : System) (R : Rules) (K : List Event) (e : Event) (t : ℕ) → IsLegal S R K → IsStep S R K e → makes e.what ≡ true → makes_in (event_at K t) ≡ true → name_of K t ≡ child_of e.what → ⊥

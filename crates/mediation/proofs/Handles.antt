@@ -269,20 +269,7 @@ module _ (S : System) (R : Rules) (K : List Event) (a : Actor) (w : ℕ) (legal 
   skipped (Some c) i s = steady-skip R K a w c is_mine i s
 
   steady-mine : (what : What) → WorkerRow S R K w what → Hand K w (session_call K w) → SteadyFor R K w (session_call K w) → SteadyFor R (ev a what ∷ K) w (session_call (ev a what ∷ K) w)
-  steady-mine (Recv (Ok n)) r i s = steady-fetch n r i
-  steady-mine (Recv (Err x)) r i s = steady-idle (Recv (Err x)) (steady-empty x r) i s
-  steady-mine LetGo r i s = steady-idle LetGo (λ o h z. tt) i s
-  steady-mine Skip r i s = steady-idle Skip skipped i s
-  steady-mine (OpenMem p x) r i s = steady-works (OpenMem p x) r refl i s
-  steady-mine (OpenBase p d x) r i s = steady-works (OpenBase p d x) r refl i s
-  steady-mine (Check x y) r i s = steady-works (Check x y) r refl i s
-  steady-mine (Read x l y) r i s = steady-works (Read x l y) r refl i s
-  steady-mine (Act q cap x) r i s = steady-works (Act q cap x) r refl i s
-  steady-mine (Plant x b cap y) r i s = steady-works (Plant x b cap y) r refl i s
-  steady-mine (AddfdPut q x) r i s = steady-works (AddfdPut q x) r refl i s
-  steady-mine (AddfdTake x) r i s = steady-works (AddfdTake x) r refl i s
-  steady-mine (Send x b y) r i s = steady-works (Send x b y) r refl i s
-  steady-mine _ r i s = absurd r
+  steady-mine what r i s = grind (arith, steady-fetch, steady-idle, steady-empty, skipped, steady-works)
 
 steady-others : (R : Rules) (e : Event) (K : List Event) (w : ℕ) (o : Option ℕ) → is_worker e.who w ≡ false → Hand K w o → SteadyFor R K w o → SteadyFor R (e ∷ K) w o
 steady-others R e K w None h i s = tt

@@ -53,9 +53,7 @@ free-held K p t e h = newest-found (holds K p) (length K) t (holds-below K p t h
 -- a step that gives a number gives a free one
 given-free : (S : System) (R : Rules) (K : List Event) (a : Actor) (w : What) (p : ℕ) → Row S R K a w → given w ≡ Some p → holder K p ≡ None
 unfolding holder newest
-given-free S R K (Task n) (Spawn m a) p r g = grind (arith, next-none)
-given-free S R K Start (Spawn m a) p r g = rw r.0
-given-free S R K a w p r g = grind arith
+given-free S R K a w p r g = grind (arith, next-none)
 
 -- the new task's number is nobody else's
 new-differs : (S : System) (R : Rules) (K : List Event) (e : Event) (p t : ℕ) → IsStep S R K e → holds (e ∷ K) p t ≡ true → holds (e ∷ K) p (length K) ≡ true → t < length K → ⊥

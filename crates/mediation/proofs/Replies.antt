@@ -72,17 +72,7 @@ names-own-call S R K e legal room r h = names-row S R K e.who e.what legal room 
 
 module _ (S : System) (R : Rules) (K : List Event) (a : Actor) (w c : ℕ) (legal : IsLegal S R K) (room : length K < 2 ^ 64) (is_mine : is_worker a w ≡ true) (l : listed K c ≡ true) (h : AtCall K c w) (i : InSession K w c) where
   not-lost : (what : What) → WorkerRow S R K w what → is_lost what ≡ true → ⊥
-  not-lost (OpenMem p (Err x)) r q = let z = open-is S R K a w c legal room is_mine l h i p (Err x) r in cc
-  not-lost (OpenBase p d (Err x)) r q = absurd (base-is S R K a w c legal room is_mine l h i p d (Err x) r (ap Err (eqb-true x 3 q)))
-  not-lost (Check x (Err y)) r q = let z = check-is S R K a w c legal room is_mine l h i x (Err y) r in cc
-  not-lost (AddfdPut q' (Err x)) r q = go (put-is S R K a w c legal room is_mine l h i q' (Err x) r)
-    where
-      go : ◌⊎◌ (◌≡◌ {A = Result (Unit {0}) ℕ} (Err x) (Ok tt)) (◌≡◌ {A = Result (Unit {0}) ℕ} (Err x) (Err 9)) → ⊥
-      go (inl z) = cc
-      go (inr z) = let m : x ≡ 9 = cc in let e : x ≡ 2 = eqb-true x 2 q in omega arith
-  not-lost (AddfdTake (Err x)) r q = take-is S R K a w c legal room is_mine l h i (Err x) r (ap Err (eqb-true x 2 q))
-  not-lost (Send x b (Err y)) r q = let z = send-is S R K a w c legal room is_mine l h i x b (Err y) r in cc
-  not-lost what r q = cc
+  not-lost what r q = grind (arith, open-is, base-is, check-is, put-is, take-is, send-is)
 
 lost-works : (what : What) → is_lost what ≡ true → works what ≡ true
 lost-works what h = grind arith
