@@ -38,9 +38,6 @@ files_base S K w = (files S K).base w
 native-base : (F : Files) (g : ℕ) (s : NativeStep) (w : ℕ) → (after_native F g s).base w ≡ F.base w
 native-base F g s w = grind arith
 
-spawn-base : (K : List Event) (F : Files) (a : Actor) (k : SpawnKind) (w : ℕ) → (after_spawn K F a k).base w ≡ F.base w
-spawn-base K F a k w = grind arith
-
 -- the step opens or drops a base
 abbrev moves : What → Bool
 moves (OpenBase p d (Ok u)) = true
@@ -53,7 +50,7 @@ another v w h = grind arith
 
 -- another's step, or one that is no opening of a base and no letting go
 after-base : (S : Script) (K : List Event) (F : Files) (a : Actor) (what : What) (w : ℕ) → (is_worker a w && moves what) ≡ false → (files_after S K F a what).base w ≡ F.base w
-after-base S K F a what w h = grind (arith, spawn-base, native-base, another)
+after-base S K F a what w h = grind (arith, native-base, another)
 
 files-same : (S : Script) (e : Event) (K : List Event) (w : ℕ) → (is_worker e.who w && moves e.what) ≡ false → files_base S (e ∷ K) w ≡ files_base S K w
 unfolding files_base files
@@ -64,16 +61,8 @@ files-opens : (S : Script) (K : List Event) (a : Actor) (w p : ℕ) (d : ℤ) (u
 unfolding files_base files
 files-opens S K a w p d u h = grind arith
 
-files-drops : (S : Script) (K : List Event) (a : Actor) (w : ℕ) → is_worker a w ≡ true → files_base S (ev a LetGo ∷ K) w ≡ None
-unfolding files_base files
-files-drops S K a w h = grind arith
-
--- what the base's group becomes
-base-after-same : (K : List Event) (what : What) (m : Option ℕ) → moves what ≡ false → base_after K what m ≡ m
-base-after-same K what m h = grind arith
-
 base-stays : (e : Event) (K : List Event) (w : ℕ) → (is_worker e.who w && moves e.what) ≡ false → base (e ∷ K) w ≡ base K w
-base-stays e K w h = grind (arith, base-more, base-after-same, base-same)
+base-stays e K w h = grind (arith, base-more, base-same)
 
 -- an opening that was answered ok found a living task
 opening-found : (S : System) (K : List Event) (o : Option ℕ) (d : ℤ) (u : Unit {0}) → ◌≡◌ {A = Result (Unit {0}) ℕ} (Ok u) (base_answer S K o d) → (t : ℕ) × (o ≡ Some t)
@@ -82,7 +71,8 @@ opening-found S K o d u h = grind arith
 -- a worker without a base's group has no base
 module _ (S : Script) (R : Rules) where
   none-mine : (K : List Event) (a : Actor) (w : ℕ) (what : What) → is_worker a w ≡ true → WorkerRow (system_of S) R K w what → moves what ≡ true → base_after K what (base K w) ≡ None → files_base S (ev a what ∷ K) w ≡ None
-  none-mine K a w what q row m h = grind (arith, opening-found, files-drops)
+  unfolding files_base files
+  none-mine K a w what q row m h = grind (arith, opening-found)
 
   none-step : (K : List Event) (e : Event) (w : ℕ) → IsStep (system_of S) R K e → (base K w ≡ None → files_base S K w ≡ None) → base (e ∷ K) w ≡ None → files_base S (e ∷ K) w ≡ None
   none-step K e w r ih h = grind (arith, none-mine, worker-row, base-more, files-same, base-stays)

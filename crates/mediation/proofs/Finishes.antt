@@ -38,9 +38,6 @@ module _ (S : System) (R : Rules) (K : List Event) (f : Finished K) where
   no-life : (n : Name) → alive K n ≡ true → ⊥
   no-life n h = grind arith
 
-  task-idles : (n : Name) (what : What) → TaskRow S K n what → idles what ≡ true
-  task-idles n what r = grind arith
-
   works-no : (w : ℕ) (what : What) → WorkerRow S R K w what → works what ≡ true → ⊥
   works-no w what r h = let g = at-work S R K w what r h in no-work (session K w) g.0 g.1 (not-open (session K w) (f.sessions w))
 
@@ -68,12 +65,7 @@ module _ (S : System) (R : Rules) (K : List Event) (f : Finished K) where
   worker-idles w _ r = absurd r
 
   row-idles : (a : Actor) (what : What) → Row S R K a what → (K ≡ [] → ⊥) → closes what ≡ false → idles what ≡ true
-  row-idles a what r l c = grind (arith, task-idles, worker-idles)
-
--- what an idle step leaves
-idle-listed : (e : Event) (K : List Event) (c : ℕ) → idles e.what ≡ true → listed K c ≡ false → listed (e ∷ K) c ≡ false
-unfolding listed
-idle-listed e K c h l = grind arith
+  row-idles a what r l c = grind (arith, worker-idles)
 
 idle-made : (e : Event) (K : List Event) (n : Name) → idles e.what ≡ true → is_made (e ∷ K) n ≡ is_made K n
 unfolding is_made
@@ -91,7 +83,8 @@ unfolding session
 idle-session e K w h o = grind arith
 
 stays : (e : Event) (K : List Event) → idles e.what ≡ true → Finished K → Finished (e ∷ K)
-stays e K h f = grind (arith, idle-ended, idle-made, idle-listed, idle-session)
+unfolding listed
+stays e K h f = grind (arith, idle-ended, idle-made, idle-session)
 
 filled : (L K : List Event) → 0 < length K → L ++ K ≡ [] → ⊥
 filled [] K l q = omega (arith, ap length q)

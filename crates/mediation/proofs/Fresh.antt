@@ -70,13 +70,9 @@ children-numbered S R (e ∷ K) legal = numbered-step S R K e legal.0 (children-
 pub child-fresh : (S : System) (R : Rules) (K : List Event) (n : Name) → IsLegal S R K → (n ≡ [] → ⊥) → spawned K (n ++ (steps_of is_spawn K n + 1) ∷ []) ≡ false
 child-fresh S R K n legal z = false_from_ne_true (spawned K (n ++ (steps_of is_spawn K n + 1) ∷ [])) (λ h. let x = children-numbered S R K legal n (steps_of is_spawn K n + 1) z h in absurd (omega arith))
 
--- nobody's name is empty
-spawns-named : (S : System) (R : Rules) (K : List Event) (a : Actor) (w : What) → Row S R K a w → spawns w [] ≡ true → ⊥
-spawns-named S R K a w r h = grind (arith, snoc-not-nil, name_eq-true)
-
 all-named-step : (S : System) (R : Rules) (K : List Event) (e : Event) → IsStep S R K e → (spawned K [] ≡ true → ⊥) → spawned (e ∷ K) [] ≡ true → ⊥
 unfolding spawned
-all-named-step S R K e r ih h = grind (arith, spawns-named, row-of)
+all-named-step S R K e r ih h = grind (arith, row-of, snoc-not-nil, name_eq-true)
 
 all-named : (S : System) (R : Rules) (K : List Event) → IsLegal S R K → spawned K [] ≡ true → ⊥
 unfolding spawned

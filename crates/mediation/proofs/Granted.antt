@@ -90,13 +90,9 @@ times-in (Some cap) = cap.times
 limit-of : Policy → ℕ → ℕ
 limit-of P i = times-in (cap_of P.rules i)
 
--- the cap that a rule's decision carries is the rule's own
-own-times : (times : Option ℕ) (i : ℕ) (cap : Cap) → option_map (λ n. record { rule = i; times = n }) times ≡ Some cap → cap.rule ≡ i
-own-times times i cap h = grind arith
-
 own-cap : (P : Policy) (i : ℕ) (cap : Cap) → cap_of P.rules i ≡ Some cap → cap.times ≤ limit-of P cap.rule
 unfolding limit-of times-in
-own-cap P i cap h = grind (arith, own-times, times-in)
+own-cap P i cap h = grind (arith, times-in)
 
 act-cap : Decision → Option Cap
 act-cap (Acts q cap) = cap
@@ -107,13 +103,9 @@ act-cap _ = None
 Within : Policy → Decision → Type 0
 Within P d = (cap : Cap) → act-cap d ≡ Some cap → cap.times ≤ limit-of P cap.rule
 
-grant-within : (P : Policy) (F : Figures) (i : ℕ) (q : Request) → Within P (grant_decision P F i q)
-unfolding Within act-cap
-grant-within P F i q cap h = grind (arith, own-cap)
-
 decision-within : (P : Policy) (F : Figures) (q : Request) (i : ℕ) (v : Verdict) → Within P (decision P F q i v)
 unfolding Within act-cap
-decision-within P F q i v cap h = grind (arith, grant-within)
+decision-within P F q i v cap h = grind (arith, own-cap)
 
 judged-within : (P : Policy) (F : Figures) (n : Notif) (p : Progress) → Within P (judged P F n p)
 unfolding Within act-cap

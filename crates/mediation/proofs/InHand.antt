@@ -34,10 +34,6 @@ no-fetch R K w c i (inr q) = both_ways (any_of is_letgo (session K w)) i.no_letg
 pub in-hand-of : (S : System) (R : Rules) (K : List Event) (w c : ℕ) → IsLegal S R K → session_call K w ≡ Some c → InSession K w c
 in-hand-of S R K w c legal h = rw h at (hand S R K legal w)
 
--- what a skip does not change
-skip-call : (K : List Event) (what : What) (o : Option ℕ) → skips what ≡ true → call_after K what o ≡ o
-skip-call K what o h = grind arith
-
 -- a fact of calls in hand, kept by each step
 pub record StepKept (S : System) (R : Rules) (P : List Event → ℕ → ℕ → Type 0) : Type 0 where
   -- the worker's receive
@@ -84,7 +80,7 @@ module _ (S : System) (R : Rules) (P : List Event → ℕ → ℕ → Type 0) (k
     mine-step a _ c r room q z row h = absurd row
 
     step : (e : Event) (c : ℕ) → IsStep S R K e → length (e ∷ K) < 2 ^ 64 → session_call (e ∷ K) w ≡ Some c → P (e ∷ K) w c
-    step e c r room h = grind (arith, still-step, call-more, skip-call, mine-step, worker-row, call-same)
+    step e c r room h = grind (arith, still-step, call-more, mine-step, worker-row, call-same)
 
   pub by-session : (K : List Event) → IsLegal S R K → length K < 2 ^ 64 → (w c : ℕ) → session_call K w ≡ Some c → P K w c
   by-session [] legal room = λ w c h. absurd (no-call w c h)

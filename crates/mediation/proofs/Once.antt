@@ -24,9 +24,6 @@ no-both u q = cc
 sent-waiting : (K : List Event) (c : ℕ) (d : Option ℕ) (u : Unit {0}) → Ok u ≡ send_answer K d → is_place d c ≡ true → waiting K c ≡ true
 sent-waiting K c d u q h = grind arith
 
-pub answers-waiting : (S : System) (R : Rules) (K : List Event) (a : Actor) (w : What) (c : ℕ) → Row S R K a w → answers K w c ≡ true → waiting K c ≡ true
-answers-waiting S R K a w c r h = grind arith
-
 -- an install belongs to the call in which its task waits, which is not settled
 pub installs-open : (S : System) (R : Rules) (K : List Event) (a : Actor) (w : What) (c : ℕ) → IsLegal S R K → Row S R K a w → is_install w ≡ true → is_task a (caller K c) ≡ true → listed K c ≡ true → settled K c ≡ false
 installs-open S R K (Task n) (Install ans) c legal r h g l =
@@ -36,7 +33,7 @@ installs-open S R K (Task n) (Install ans) c legal r h g l =
 installs-open S R K a w c legal r h g l = grind arith
 
 pub settles-once : (S : System) (R : Rules) (K : List Event) (e : Event) (c : ℕ) → IsLegal S R K → Row S R K e.who e.what → settles K e c ≡ true → settled K c ≡ false
-settles-once S R K e c legal r h = grind (arith, answers-waiting, installs-open)
+settles-once S R K e c legal r h = grind (arith, installs-open)
 
 once-kind : (S : System) (R : Rules) (K : List Event) (e : Event) → IsLegal S R K → Row S R K e.who e.what → (c : ℕ)
     → (answers_to K c ≤ 1) × (settled K c ≡ false → answers_to K c ≡ 0)

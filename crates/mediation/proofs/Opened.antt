@@ -42,24 +42,18 @@ opened-living : (K : List Event) (o : Option ℕ) (u : Unit {0}) → ◌≡◌ {
 opened-living K None u h = cc
 opened-living K (Some t) u h = (group K t, refl)
 
-skip-mem : (K : List Event) (what : What) (m : Option ℕ) → skips what ≡ true → mem_after K what m ≡ m
-skip-mem K what m h = grind arith
-
 module _ (S : System) (R : Rules) where
   mem-fetch : (K : List Event) (a : Actor) (w c : ℕ) (n : Notif) → IsStep S R K (ev a (Recv (Ok n))) → IsLegal S R K → length (ev a (Recv (Ok n)) ∷ K) < 2 ^ 64 → is_worker a w ≡ true
       → WorkerRow S R K w (Recv (Ok n)) → oldest_unfetched K ≡ Some c → Idle K w → MemoryOpened (ev a (Recv (Ok n)) ∷ K) w c
   mem-fetch K a w c n r legal room q row o idle h g = grind (arith, session-more, started)
 
-  work-mem : (K : List Event) (w : ℕ) (what : What) → WorkerRow S R K w what → works what ≡ true → MemoryOpened K w 0 → (opens what || any_of opens (session K w)) ≡ true → gives_up what ≡ false → any_of gives_up (session K w) ≡ false → (g : ℕ) × (mem_after K what (mem K w) ≡ Some g)
-  work-mem K w what row v ih h g k = grind (arith, opened-living)
-
   mem-work : (K : List Event) (a : Actor) (w c : ℕ) (what : What) → IsStep S R K (ev a what) → IsLegal S R K → length (ev a what ∷ K) < 2 ^ 64 → is_worker a w ≡ true
       → WorkerRow S R K w what → works what ≡ true → (i : InSession K w c) → session_call K w ≡ Some c → session (ev a what ∷ K) w ≡ what ∷ session K w → MemoryOpened K w c → MemoryOpened (ev a what ∷ K) w c
-  mem-work K a w c what r legal room q row v i s own ih h g = grind (arith, mem-more, work-mem)
+  mem-work K a w c what r legal room q row v i s own ih h g = grind (arith, mem-more, opened-living)
 
   mem-still : (K : List Event) (e : Event) (w c : ℕ) → IsStep S R K e → IsLegal S R K → length (e ∷ K) < 2 ^ 64 → (is_worker e.who w && not (skips e.what)) ≡ false
       → (i : InSession K w c) → session_call K w ≡ Some c → session (e ∷ K) w ≡ session K w → MemoryOpened K w c → MemoryOpened (e ∷ K) w c
-  mem-still K e w c r legal room q i s own ih h g = grind (arith, mem-more, skip-mem, mem-same)
+  mem-still K e w c r legal room q i s own ih h g = grind (arith, mem-more, mem-same)
 
   pub has-memory : (K : List Event) → IsLegal S R K → length K < 2 ^ 64 → (w c : ℕ) → session_call K w ≡ Some c → MemoryOpened K w c
   has-memory = by-session S R MemoryOpened (record { fetch = mem-fetch; work = mem-work; still = mem-still })

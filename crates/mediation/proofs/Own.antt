@@ -49,10 +49,6 @@ waits-in_some K c h e = newest-found (λ d. listed K d && name_eq (caller K d) (
 pub stays-passive : (S : System) (K : List Event) (n : Name) (w : What) → TaskRow S K n w → (call_of K n ≡ None → ⊥) → leaves w ≡ false → (is_passive w ≡ true) × (ends w ≡ false)
 stays-passive S K n w r h g = grind arith
 
-alive-other : (e : Event) (K : List Event) (n : Name) → (ends e.what && is_task e.who n) ≡ false → alive K n ≡ true → alive (e ∷ K) n ≡ true
-unfolding ended is_made
-alive-other e K n h g = grind arith
-
 last-other : (e : Event) (K : List Event) (n : Name) → (is_task e.who n && not (is_passive e.what)) ≡ false → last_own (e ∷ K) n ≡ last_own K n
 unfolding last_own
 last-other e K n h = rw h
@@ -90,15 +86,16 @@ entering S R K a w r h = grind arith
 old-kept : (S : System) (R : Rules) (K : List Event) (e : Event) (c : ℕ) → Row S R K e.who e.what → listed K c ≡ true → unlists e (caller K c) ≡ false
     → alive K (caller K c) ≡ true → last_own K (caller K c) ≡ Some c
     → (alive (e ∷ K) (caller K c) ≡ true) × (last_own (e ∷ K) (caller K c) ≡ Some c)
-old-kept S R K e c r h u a l = grind (arith, idle, waits-in_some, alive-other, last-other)
+unfolding ended is_made
+old-kept S R K e c r h u a l = grind (arith, idle, waits-in_some, last-other)
 
 is_task-of : (a : Actor) (n : Name) → a ≡ Task n → is_task a n ≡ true
 is_task-of a n q = rw q (name_eq-refl n)
 
 new-last : (S : System) (R : Rules) (K : List Event) (e : Event) → Row S R K e.who e.what → notifies e.what ≡ true
     → (alive (e ∷ K) (task_name e.who) ≡ true) × (last_own (e ∷ K) (task_name e.who) ≡ Some (length K))
-unfolding last_own
-new-last S R K e r h = grind (arith, entering, is_task-of, alive-other)
+unfolding last_own ended is_made
+new-last S R K e r h = grind (arith, entering, is_task-of)
 
 calls-step : (S : System) (R : Rules) (K : List Event) (e : Event) → IsStep S R K e → CallsAreLast K → CallsAreLast (e ∷ K)
 calls-step S R K e r ih c h =

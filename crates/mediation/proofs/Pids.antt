@@ -21,13 +21,10 @@ pub ended-more : (e : Event) (K : List Event) (n : Name) → ended K n ≡ true 
 unfolding ended
 ended-more e K n h = or_right (ends e.what && is_task e.who n) (ended K n) h
 
-pub reaped-more : (e : Event) (K : List Event) (n : Name) → reaped K n ≡ true → reaped (e ∷ K) n ≡ true
-unfolding reaped ended was_waited_for
-reaped-more e K n h = grind arith
-
 -- a task that is not reaped was not reaped before
 holds-less : (e : Event) (K : List Event) (p t : ℕ) → t < length K → holds (e ∷ K) p t ≡ true → holds K p t ≡ true
-holds-less e K p t l h = grind (arith, event_at-older, reaped-more)
+unfolding reaped ended was_waited_for
+holds-less e K p t l h = grind (arith, event_at-older)
 
 holds-below : (K : List Event) (p t : ℕ) → holds K p t ≡ true → t < length K
 holds-below K p t h = grind (arith, event_at-above)
@@ -41,10 +38,6 @@ unfolding free_from
 free-none K zero q p e = cc
 free-none K (suc n) q p e = grind (arith, free-none K n (q + 1) p)
 
-next-none : (b m : ℕ) (K : List Event) (p : ℕ) → next_pid b m K ≡ Some p → holder K p ≡ None
-unfolding next_pid
-next-none b m K p e = grind (arith, free-none)
-
 -- a number that is free is held by no unreaped task
 free-held : (K : List Event) (p t : ℕ) → holder K p ≡ None → holds K p t ≡ true → ⊥
 unfolding holder
@@ -52,8 +45,8 @@ free-held K p t e h = newest-found (holds K p) (length K) t (holds-below K p t h
 
 -- a step that gives a number gives a free one
 given-free : (S : System) (R : Rules) (K : List Event) (a : Actor) (w : What) (p : ℕ) → Row S R K a w → given w ≡ Some p → holder K p ≡ None
-unfolding holder newest
-given-free S R K a w p r g = grind (arith, next-none)
+unfolding holder newest next_pid
+given-free S R K a w p r g = grind (arith, free-none)
 
 -- the new task's number is nobody else's
 new-differs : (S : System) (R : Rules) (K : List Event) (e : Event) (p t : ℕ) → IsStep S R K e → holds (e ∷ K) p t ≡ true → holds (e ∷ K) p (length K) ≡ true → t < length K → ⊥

@@ -52,9 +52,6 @@ made-keeps T k p h = grind arith
 device-keeps : (T : Tree) (r : Result Tree ℕ) → Keeping T (make_natively true r)
 device-keeps T r = grind arith
 
-node-keeps : (T : Tree) (root : ℕ) (base : Option ℕ) (path : List ℕ) (dev : ℕ) (k : Kind) → Keeping T (make_natively (is_device (making path dev k)) (perform T root base (making path dev k)))
-node-keeps T root base path dev k = grind arith
-
 -- an attribute of the user's own
 user_own : List ℕ → Bool
 user_own name = starts_with nat_eq name (codes "user.")
@@ -79,11 +76,8 @@ put-keeps T on name value old h = grind (arith, replaced-keeps)
 attr-keeps : (T : Tree) (on : ℕ) (name value : List ℕ) → user_own name ≡ true → KeepsPrivileged T (with_attr T on name value)
 attr-keeps T on name value h = record { devices = refl; mounts = refl; attributes = put-keeps T on name value (attr T on name) h }
 
-set-keeps : (T : Tree) (on : ℕ) (name value : List ℕ) (flags : ℕ) (old : Option (List ℕ)) → user_own name ≡ true → Keeping T (changed (attr_set T on name value flags old))
-set-keeps T on name value flags old h = grind (arith, attr-keeps)
-
 attributed-keeps : (T : Tree) (name value : List ℕ) (flags : ℕ) (p : Place) → user_own name ≡ true → Keeping T (changed (attributed T name value flags p))
-attributed-keeps T name value flags p h = grind (arith, set-keeps)
+attributed-keeps T name value flags p h = grind (arith, attr-keeps)
 
 not-own : (T : Tree) (r : Result Tree ℕ) → Keeping T (set_natively false false r)
 not-own T r = grind arith
@@ -99,7 +93,7 @@ opened-keeps T free p = grind arith
 
 request-keeps : (S : Script) (F : Files) (g : ℕ) (base : Option ℕ) (q : Request) → Keeping F.tree (request_natively S F g base q)
 unfolding user_own
-request-keeps S F g base q = grind (arith, node-keeps, xattr-keeps, user_own, opened-keeps)
+request-keeps S F g base q = grind (arith, xattr-keeps, user_own, opened-keeps)
 
 copied-keeps : (S : Script) (F : Files) (g : ℕ) (call : What) (r : Result (List (List ℕ)) ℕ) → Keeping F.tree (copied_natively S F g call r)
 copied-keeps S F g call r = grind (arith, request-keeps)

@@ -47,16 +47,13 @@ settled-more e K c h = or_right (settles K e c) (settled K c) h
 pub clean-waiting : (K : List Event) (c : ℕ) → listed K c ≡ true → fetched K c ≡ true → Clean K c → waiting K c ≡ true
 clean-waiting K c l f k = rw (l, f, k.unsettled, k.empty)
 
--- a place that is named is a place below
-named-below : (K : List Event) (x c : ℕ) → is_place (named K x) c ≡ true → c < length K
-unfolding named
-named-below K x c h = grind (arith, oldest-some)
-
 pub put-below : (K : List Event) (w : What) (c : ℕ) → puts_to K w c ≡ true → c < length K
-put-below K w c h = grind (arith, named-below)
+unfolding named
+put-below K w c h = grind (arith, oldest-some)
 
 pub answer-below : (K : List Event) (w : What) (c : ℕ) → answers K w c ≡ true → c < length K
-answer-below K w c h = grind (arith, named-below)
+unfolding named
+answer-below K w c h = grind (arith, oldest-some)
 
 -- nothing happens to a place that is still to come
 pub calm-above : (K : List Event) (e : Event) (c : ℕ) → length K ≤ c → Calm K e c

@@ -50,9 +50,6 @@ none-listed : (K : List Event) → oldest_unfetched K ≡ None → count_below (
 unfolding oldest_unfetched
 none-listed K q = count_below-none (λ c. listed K c && not (fetched K c)) (length K) (λ c l. oldest-none (λ c. listed K c && not (fetched K c)) (length K) c q l)
 
-nothing-found : (K : List Event) (o : Option ℕ) (x : ℕ) → ◌≡◌ {A = Result Notif ℕ} (Err x) (recv_answer K o) → o ≡ None
-nothing-found K o x h = grind arith
-
 empty-more : (e : Event) (K : List Event) → gets_nothing e.what ≡ true → empty_recvs (e ∷ K) ≡ empty_recvs K + 1
 unfolding empty_recvs
 empty-more e K h = rw h
@@ -62,7 +59,7 @@ unfolding empty_recvs
 empty-same e K h = rw h (omega arith)
 
 room-for : (S : System) (R : Rules) (K : List Event) (a : Actor) (what : What) → IsLegal S R K → length K < 2 ^ 64 → Row S R K a what → gets_nothing what ≡ true → empty_recvs K + 1 ≤ left_unfetched K
-room-for S R K a what legal room r h = grind (arith, receiving, none-listed, nothing-found, count_is)
+room-for S R K a what legal room r h = grind (arith, receiving, none-listed, count_is)
 
 pub receives-step : (S : System) (R : Rules) (K : List Event) (e : Event) → IsLegal S R K → length K < 2 ^ 64 → IsStep S R K e → empty_recvs K ≤ left_unfetched K → ReceivesFor K e
 receives-step S R K e legal room r ih = grind (arith, left-more, room-for, row-of, empty-more, empty-same)

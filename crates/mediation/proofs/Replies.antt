@@ -102,13 +102,9 @@ names-nothing S R K w c legal room i g = go (named K i.n.id) refl
         let l = (named-is K i.n.id d q).0 in
         absurd (both_ways (listed K c) g (rw m at l))
 
--- the error of an install
-install-error : (S : System) (R : Rules) (K : List Event) (a : Actor) (what : What) (x : ℕ) → Row S R K a what → installed what ≡ Some (Err x) → ((x == 9) || ((x == 24) || (x == 2))) ≡ true
-install-error S R K a what x r h = grind arith
-
 install-known-step : (S : System) (R : Rules) (K : List Event) (e : Event) (p x : ℕ) → Row S R K e.who e.what → (install_of K p ≡ Some (Err x) → ((x == 9) || ((x == 24) || (x == 2))) ≡ true) → install_of (e ∷ K) p ≡ Some (Err x) → ((x == 9) || ((x == 24) || (x == 2))) ≡ true
 unfolding install_of
-install-known-step S R K e p x row ih h = grind (arith, install-error)
+install-known-step S R K e p x row ih h = grind arith
 
 no-install-of : (p x : ℕ) → install_of [] p ≡ Some (Err x) → ⊥
 unfolding install_of
@@ -167,21 +163,14 @@ module _ (S : System) (R : Rules) (K : List Event) (w : ℕ) (legal : IsLegal S 
       gone true h = rw (err-same e 2 h)
       gone false h = rw (err-same e 9 h)
 
-  take-known : (e : ℕ) → WorkerRow S R K w (AddfdTake (Err e)) → ((e == 9) || ((e == 24) || (e == 2))) ≡ true
-  take-known e r = grind (arith, install-known)
-
   check-known : (o : Option ℕ) (e : ℕ) → ◌≡◌ {A = Result (Unit {0}) ℕ} (Err e) (check_answer K o) → (e == 2) ≡ true
   check-known o e h = grind arith
 
   worker-known : (what : What) → WorkerRow S R K w what → is_known_error what ≡ true
-  worker-known what r = grind (arith, check-known, send-known, put-known, take-known)
-
--- a step of another actor has none of these errors
-others-known : (a : Actor) (what : What) → takes a what ≡ true → ((w : ℕ) → a ≡ Worker w → ⊥) → is_known_error what ≡ true
-others-known a what h n = grind arith
+  worker-known what r = grind (arith, check-known, send-known, put-known, install-known)
 
 pub errors-known : (S : System) (R : Rules) (K : List Event) (e : Event) → IsLegal S R K → length K < 2 ^ 64 → IsStep S R K e → ErrorsKnown K e
-errors-known S R K e legal room r = grind (arith, worker-known, row-of, others-known, taken-by-its-actor)
+errors-known S R K e legal room r = grind (arith, worker-known, row-of, taken-by-its-actor)
 
 known-not-busy : (what : What) → is_known_error what ≡ true → is_busy what ≡ false
 known-not-busy what h = grind arith

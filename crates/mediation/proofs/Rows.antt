@@ -71,11 +71,8 @@ module _ (S : System) (K : List Event) (n : Name) (living : alive K n ≡ true) 
   none_open : (c : ℕ) → call_of K n ≡ None → call_of K n ≡ Some c → settled K c ≡ false
   none_open c q h = grind arith
 
-  wait_row : (child ended : Option ℕ) → call_of K n ≡ None → oldest (is_child K n) (length K) ≡ child → oldest (is_ended_child K n) (length K) ≡ ended → TaskRow S K n (wait_step K child ended)
-  wait_row child ended q h g = grind arith
-
   instr_row : (i : Option Instr) → call_of K n ≡ None → TaskRow S K n (instr_step S K n i)
-  instr_row i q = grind (arith, wait_row)
+  instr_row i q = grind arith
 
   install_row : (c : ℕ) → call_of K n ≡ Some c → settled K c ≡ false → (rs : List ℕ) → queue K c ≡ rs → TaskRow S K n (install_step S K c rs)
   install_row c q h rs g = grind arith
@@ -100,11 +97,8 @@ module _ (S : System) (R : Rules) (K : List Event) (w : ℕ) where
   fetch_row q true h = tt
   fetch_row q false h = (q, h, refl)
 
-  take_row : deed R (session K w) ≡ Take → (i : Option (Result ℕ ℕ)) (b : Bool) → install_at K (request_of K w) ≡ i → request_listed K (request_of K w) ≡ b → WorkerRow S R K w (take_step i b)
-  take_row q i b h g = grind arith
-
   worker_row : (d : Deed) → deed R (session K w) ≡ d → WorkerRow S R K w (deed_step S K w d)
-  worker_row d q = grind (arith, fetch_row, take_row)
+  worker_row d q = grind (arith, fetch_row)
 
 -- the step of an actor is one of its rows
 pub step-row : (S : System) (R : Rules) (K : List Event) (a : Actor) → is_start a ≡ false → Row S R K a (step S R K a)

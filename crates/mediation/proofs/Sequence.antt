@@ -35,16 +35,13 @@ IsOwn R [] = Unit {0}
 IsOwn R (a ∷ []) = starts a ≡ true
 IsOwn R (a ∷ b ∷ own) = Suits R (b ∷ own) a × (starts a ≡ false) × IsOwn R (b ∷ own)
 
-suits : (S : System) (R : Rules) (K : List Event) (w : ℕ) (a : What) → WorkerRow S R K w a → skips a ≡ false → Suits R (session K w) a
-suits S R K w a r h = grind arith
-
 joined-own : (R : Rules) (own : List What) (a : What) (b : Bool) → starts a ≡ b → IsOwn R own → Suits R own a → IsOwn R (joined a own)
 joined-own R own a true h i s = rw (started own a h) h
 joined-own R [] a false h i s = rw h tt
 joined-own R (b ∷ own) a false h i s = rw h (s, h, i)
 
 own-step : (S : System) (R : Rules) (K : List Event) (e : Event) (w : ℕ) → IsStep S R K e → IsOwn R (session K w) → IsOwn R (session (e ∷ K) w)
-own-step S R K e w r i = grind (arith, session-more, joined-own, suits, worker-row, session-same)
+own-step S R K e w r i = grind (arith, session-more, joined-own, worker-row, session-same)
 
 pub is-own : (S : System) (R : Rules) (K : List Event) → IsLegal S R K → (w : ℕ) → IsOwn R (session K w)
 unfolding session

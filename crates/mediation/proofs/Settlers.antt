@@ -41,10 +41,6 @@ unfolding AllOf
 all-later S R K e c [] legal room row h = tt
 all-later S R K e c (r ∷ rs) legal room row h = ((h.0.0, request-later S R K e c r h.0.0 legal room row h.0.1), all-later S R K e c rs legal room row h.1)
 
-all-rest : (K : List Event) (c : ℕ) (rs : List ℕ) → AllOf K c rs → AllOf K c (rest_of rs)
-unfolding AllOf
-all-rest K c rs h = grind arith
-
 all-push : (K : List Event) (c r w : ℕ) (rs : List ℕ) → AllOf K c rs → IsRequestOf K c r w → AllOf K c (rs ++ r ∷ [])
 unfolding AllOf
 all-push K c r w [] h i = ((w, i), tt)
@@ -114,7 +110,8 @@ unfolding settled
 settled-was e K c h g = grind arith
 
 all-kind : (S : System) (R : Rules) (K : List Event) (e : Event) (c : ℕ) → IsLegal S R K → length K < 2 ^ 64 → Row S R K e.who e.what → AllOf K c (queue K c) → AllOf (e ∷ K) c (queue (e ∷ K) c)
-all-kind S R K e c legal room row h = grind (arith, put-own, queue-put, all-push, all-later, queue-install, all-rest, queue-other)
+unfolding AllOf
+all-kind S R K e c legal room row h = grind (arith, put-own, queue-put, all-push, all-later, queue-install, queue-other)
 
 all-of : (S : System) (R : Rules) (K : List Event) → IsLegal S R K → length K < 2 ^ 64 → (c : ℕ) → AllOf K c (queue K c)
 all-of S R [] legal room = λ c. none-of c
