@@ -70,12 +70,9 @@ opening-found S K o d u h = grind arith
 
 -- a worker without a base's group has no base
 module _ (S : Script) (R : Rules) where
-  none-mine : (K : List Event) (a : Actor) (w : ℕ) (what : What) → is_worker a w ≡ true → WorkerRow (system_of S) R K w what → moves what ≡ true → base_after K what (base K w) ≡ None → files_base S (ev a what ∷ K) w ≡ None
-  unfolding files_base files
-  none-mine K a w what q row m h = grind (arith, opening-found)
-
   none-step : (K : List Event) (e : Event) (w : ℕ) → IsStep (system_of S) R K e → (base K w ≡ None → files_base S K w ≡ None) → base (e ∷ K) w ≡ None → files_base S (e ∷ K) w ≡ None
-  none-step K e w r ih h = grind (arith, none-mine, worker-row, base-more, files-same, base-stays)
+  unfolding files_base files
+  none-step K e w r ih h = grind (arith, worker-row, base-more, files-same, base-stays, opening-found)
 
   pub no-base : (K : List Event) → IsLegal (system_of S) R K → (w : ℕ) → base K w ≡ None → files_base S K w ≡ None
   unfolding files_base files

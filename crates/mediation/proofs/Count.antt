@@ -101,10 +101,6 @@ fetch-one S R K e d legal b q l f =
             let p = and_parts (fetches e.what (id K c)) (listed K c) h in
             n (ids_differ S R K legal b c d p.1 l (sym (eqb-true (id K d) (id K c) (rw same_id at p.0)))))
 
--- what a receive tells
-pub receiving : (S : System) (R : Rules) (K : List Event) (a : Actor) (r : Result Notif ℕ) → Row S R K a (Recv r) → (count K == 0 ≡ false) × (r ≡ recv_answer K (oldest_unfetched K))
-receiving S R K a r h = grind arith
-
 pub fetching : (K : List Event) (n : Notif) (o : Option ℕ) → oldest_unfetched K ≡ o → Ok n ≡ recv_answer K o → (d : ℕ) × (n ≡ notif K d) × (listed K d ≡ true) × (fetched K d ≡ false) × (o ≡ Some d)
 unfolding oldest_unfetched
 fetching K n o q h = grind (arith, oldest-some)
@@ -118,7 +114,7 @@ same-unfetched e K h = count_below-same (unfetched (e ∷ K)) (unfetched K) (len
 
 counted-kind : (S : System) (R : Rules) (K : List Event) (a : Actor) (w : What) → Row S R K a w → IsLegal S R K → length K < 2 ^ 64 → Counted K → Counted (ev a w ∷ K)
 unfolding calls recvs empty_recvs
-counted-kind S R K a w r legal b ih = grind (arith, receiving, fetching, fetch-one, unfetched-step, same-unfetched)
+counted-kind S R K a w r legal b ih = grind (arith, fetching, fetch-one, unfetched-step, same-unfetched)
 
 pub counted : (S : System) (R : Rules) (K : List Event) → IsLegal S R K → length K < 2 ^ 64 → Counted K
 unfolding calls recvs empty_recvs count_below

@@ -67,14 +67,6 @@ module _ (S : System) (R : Rules) (K : List Event) (f : Finished K) where
   row-idles : (a : Actor) (what : What) → Row S R K a what → (K ≡ [] → ⊥) → closes what ≡ false → idles what ≡ true
   row-idles a what r l c = grind (arith, worker-idles)
 
-idle-made : (e : Event) (K : List Event) (n : Name) → idles e.what ≡ true → is_made (e ∷ K) n ≡ is_made K n
-unfolding is_made
-idle-made e K n h = grind arith
-
-idle-ended : (e : Event) (K : List Event) (n : Name) → ended K n ≡ true → ended (e ∷ K) n ≡ true
-unfolding ended
-idle-ended e K n h = grind arith
-
 joined-closed : (own : List What) (x : ℕ) → is_open_session own ≡ false → is_open_session (joined (Recv (Err x)) own) ≡ false
 joined-closed own x h = grind arith
 
@@ -83,8 +75,8 @@ unfolding session
 idle-session e K w h o = grind arith
 
 stays : (e : Event) (K : List Event) → idles e.what ≡ true → Finished K → Finished (e ∷ K)
-unfolding listed
-stays e K h f = grind (arith, idle-ended, idle-made, idle-session)
+unfolding listed is_made ended
+stays e K h f = grind (arith, idle-session)
 
 filled : (L K : List Event) → 0 < length K → L ++ K ≡ [] → ⊥
 filled [] K l q = omega (arith, ap length q)

@@ -90,10 +90,6 @@ times-in (Some cap) = cap.times
 limit-of : Policy → ℕ → ℕ
 limit-of P i = times-in (cap_of P.rules i)
 
-own-cap : (P : Policy) (i : ℕ) (cap : Cap) → cap_of P.rules i ≡ Some cap → cap.times ≤ limit-of P cap.rule
-unfolding limit-of times-in
-own-cap P i cap h = grind (arith, times-in)
-
 act-cap : Decision → Option Cap
 act-cap (Acts q cap) = cap
 act-cap (Plants a b cap) = cap
@@ -103,13 +99,9 @@ act-cap _ = None
 Within : Policy → Decision → Type 0
 Within P d = (cap : Cap) → act-cap d ≡ Some cap → cap.times ≤ limit-of P cap.rule
 
-decision-within : (P : Policy) (F : Figures) (q : Request) (i : ℕ) (v : Verdict) → Within P (decision P F q i v)
-unfolding Within act-cap
-decision-within P F q i v cap h = grind (arith, own-cap)
-
 judged-within : (P : Policy) (F : Figures) (n : Notif) (p : Progress) → Within P (judged P F n p)
-unfolding Within act-cap
-judged-within P F n p cap h = grind (arith, decision-within)
+unfolding Within act-cap limit-of times-in
+judged-within P F n p cap h = grind (arith, times-in)
 
 policy-capped : (P : Policy) (F : Figures) → Capped (rules_of P F) (limit-of P)
 unfolding Within act-cap

@@ -48,9 +48,6 @@ pub record StepKept (S : System) (R : Rules) (P : List Event → ℕ → ℕ →
 
 module _ (S : System) (R : Rules) (P : List Event → ℕ → ℕ → Type 0) (k : StepKept S R P) where
   module _ (K : List Event) (w : ℕ) (legal : IsLegal S R K) (ih : (c : ℕ) → session_call K w ≡ Some c → P K w c) where
-    still-step : (e : Event) (c : ℕ) → IsStep S R K e → length (e ∷ K) < 2 ^ 64 → (is_worker e.who w && not (skips e.what)) ≡ false → session_call (e ∷ K) w ≡ session_call K w → session_call (e ∷ K) w ≡ Some c → P (e ∷ K) w c
-    still-step e c r room q same h = grind (arith, in-hand-of, session-same)
-
     fetch-step : (a : Actor) (n : Notif) (c : ℕ) → IsStep S R K (ev a (Recv (Ok n))) → length (ev a (Recv (Ok n)) ∷ K) < 2 ^ 64 → is_worker a w ≡ true → WorkerRow S R K w (Recv (Ok n)) → session_call (ev a (Recv (Ok n)) ∷ K) w ≡ Some c → P (ev a (Recv (Ok n)) ∷ K) w c
     fetch-step a n c r room q row h = k.fetch K a w c n r legal room q row (sym (call-more (ev a (Recv (Ok n))) K w q) ∙ h) (idle (session_call K w) (hand S R K legal w))
       where
@@ -80,7 +77,7 @@ module _ (S : System) (R : Rules) (P : List Event → ℕ → ℕ → Type 0) (k
     mine-step a _ c r room q z row h = absurd row
 
     step : (e : Event) (c : ℕ) → IsStep S R K e → length (e ∷ K) < 2 ^ 64 → session_call (e ∷ K) w ≡ Some c → P (e ∷ K) w c
-    step e c r room h = grind (arith, still-step, call-more, mine-step, worker-row, call-same)
+    step e c r room h = grind (arith, call-more, mine-step, worker-row, call-same, in-hand-of, session-same)
 
   pub by-session : (K : List Event) → IsLegal S R K → length K < 2 ^ 64 → (w c : ℕ) → session_call K w ≡ Some c → P K w c
   by-session [] legal room = λ w c h. absurd (no-call w c h)

@@ -18,7 +18,7 @@ use Rattle.sys_abi.specs.declared.wire.Addfd.{Addfd}
 use Rattle.hist_model.proofs.Look.{event_at-older}
 use Rattle.mediation.proofs.Rows.{Row, WorkerRow, row-of}
 use Rattle.mediation.proofs.Ids.{ids_differ}
-use Rattle.mediation.proofs.Count.{receiving, fetching}
+use Rattle.mediation.proofs.Count.{fetching}
 use Rattle.mediation.proofs.Deeds.{AtWork, deed-is}
 use Rattle.mediation.proofs.Names.{names-own}
 use Rattle.mediation.proofs.Work.{hand, in-hand, call-same, call-more}
@@ -166,11 +166,11 @@ fetcher-fetched (e ∷ K) c w h =
 
 -- a fetched call is not fetched again
 pub refetch : (S : System) (R : Rules) (K : List Event) (a : Actor) (what : What) (c : ℕ) → IsLegal S R K → length K < 2 ^ 64 → Row S R K a what → fetched K c ≡ true → (fetches what (id K c) && listed K c) ≡ false
-refetch S R K a what c legal room r f = grind (arith, receiving, fetching, ids_differ)
+refetch S R K a what c legal room r f = grind (arith, fetching, ids_differ)
 
 -- what is in hand was fetched by that worker
 hand-fetcher-kind : (S : System) (R : Rules) (K : List Event) (a : Actor) (what : What) (w c : ℕ) → IsLegal S R K → length K < 2 ^ 64 → Row S R K a what → is_worker a w ≡ true → session_call K w ≡ session_call K w → call_after K what (session_call K w) ≡ Some c → (session_call K w ≡ Some c) ⊎ (((fetches what (id K c) && listed K c) ≡ true) × (worker_of a ≡ Some w))
-hand-fetcher-kind S R K a what w c legal room r h z q = grind (arith, receiving, fetching)
+hand-fetcher-kind S R K a what w c legal room r h z q = grind (arith, fetching)
 
 pub fetcher-stays : (S : System) (R : Rules) (K : List Event) (e : Event) (w c : ℕ) → IsLegal S R K → length K < 2 ^ 64 → Row S R K e.who e.what → fetched K c ≡ true → fetcher K c ≡ Some w → fetcher (e ∷ K) c ≡ Some w
 fetcher-stays S R K e w c legal room r f h = fetcher-same e K c (refetch S R K e.who e.what c legal room r f) ∙ h

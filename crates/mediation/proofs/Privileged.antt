@@ -88,15 +88,9 @@ xattr-keeps T root base path name value flags false own h g = tt
 xattr-keeps T root base path name value flags true true h g = rw h (attributed-keeps T name value flags (reaches T root base path Follow) g)
 xattr-keeps T root base path name value flags true false h g = not-own T (perform T root base (SetAttr path name value flags))
 
-opened-keeps : (T : Tree) (free : Option ℕ) (p : Place) → Keeping T (opened_place free p)
-opened-keeps T free p = grind arith
-
-request-keeps : (S : Script) (F : Files) (g : ℕ) (base : Option ℕ) (q : Request) → Keeping F.tree (request_natively S F g base q)
-unfolding user_own
-request-keeps S F g base q = grind (arith, xattr-keeps, user_own, opened-keeps)
-
 copied-keeps : (S : Script) (F : Files) (g : ℕ) (call : What) (r : Result (List (List ℕ)) ℕ) → Keeping F.tree (copied_natively S F g call r)
-copied-keeps S F g call r = grind (arith, request-keeps)
+unfolding user_own
+copied-keeps S F g call r = grind (arith, xattr-keeps, user_own)
 
 close-keeps : (T : Tree) (n : ℕ) (o : Option Obj) → Keeping T (close_natively n o)
 close-keeps T n o = grind arith

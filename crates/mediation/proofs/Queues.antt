@@ -47,17 +47,10 @@ settled-more e K c h = or_right (settles K e c) (settled K c) h
 pub clean-waiting : (K : List Event) (c : ℕ) → listed K c ≡ true → fetched K c ≡ true → Clean K c → waiting K c ≡ true
 clean-waiting K c l f k = rw (l, f, k.unsettled, k.empty)
 
-pub put-below : (K : List Event) (w : What) (c : ℕ) → puts_to K w c ≡ true → c < length K
-unfolding named
-put-below K w c h = grind (arith, oldest-some)
-
-pub answer-below : (K : List Event) (w : What) (c : ℕ) → answers K w c ≡ true → c < length K
-unfolding named
-answer-below K w c h = grind (arith, oldest-some)
-
 -- nothing happens to a place that is still to come
 pub calm-above : (K : List Event) (e : Event) (c : ℕ) → length K ≤ c → Calm K e c
-calm-above K e c h = grind (arith, put-below, listed-below, answer-below)
+unfolding named
+calm-above K e c h = grind (arith, listed-below, oldest-some)
 
 pub clean-above : (K : List Event) (c : ℕ) → length K ≤ c → Clean K c
 clean-above [] c h = record { empty = unfold queue in refl; unsettled = unfold settled in refl }
@@ -68,9 +61,6 @@ put-ok : (S : System) (K : List Event) (q : Addfd) (c : ℕ) (u : Unit {0}) (b :
 put-ok S K q c u true o h g = grind (arith)
 put-ok S K q c u false None h g = cc
 put-ok S K q c u false (Some d) h g = grind (arith)
-
-pub puts-waiting : (S : System) (R : Rules) (K : List Event) (a : Actor) (w : What) (c : ℕ) → Row S R K a w → puts_to K w c ≡ true → waiting K c ≡ true
-puts-waiting S R K a w c r h = grind arith
 
 -- an install belongs to the first request of its task's call
 pub record Installing (S : System) (K : List Event) (a : Actor) (w : What) (c : ℕ) : Type 0 where

@@ -16,7 +16,7 @@ use Rattle.sys_abi.specs.declared.wire.Notif.{Notif}
 use Rattle.hist_model.proofs.Look.{event_at-older, oldest-none}
 use Rattle.mediation.proofs.Rows.{Row, row-of}
 use Rattle.mediation.proofs.Own.{listed-older}
-use Rattle.mediation.proofs.Count.{receiving, count_is}
+use Rattle.mediation.proofs.Count.{count_is}
 
 count_below-le : (p q : ℕ → Bool) (n : ℕ) → ((c : ℕ) → c < n → p c ≡ true → q c ≡ true) → count_below p n ≤ count_below q n
 unfolding count_below
@@ -58,11 +58,8 @@ empty-same : (e : Event) (K : List Event) → gets_nothing e.what ≡ false → 
 unfolding empty_recvs
 empty-same e K h = rw h (omega arith)
 
-room-for : (S : System) (R : Rules) (K : List Event) (a : Actor) (what : What) → IsLegal S R K → length K < 2 ^ 64 → Row S R K a what → gets_nothing what ≡ true → empty_recvs K + 1 ≤ left_unfetched K
-room-for S R K a what legal room r h = grind (arith, receiving, none-listed, count_is)
-
 pub receives-step : (S : System) (R : Rules) (K : List Event) (e : Event) → IsLegal S R K → length K < 2 ^ 64 → IsStep S R K e → empty_recvs K ≤ left_unfetched K → ReceivesFor K e
-receives-step S R K e legal room r ih = grind (arith, left-more, room-for, row-of, empty-more, empty-same)
+receives-step S R K e legal room r ih = grind (arith, left-more, row-of, empty-more, empty-same, none-listed, count_is)
 
 pub receives-are-for : (S : System) (R : Rules) (K : List Event) → IsLegal S R K → length K < 2 ^ 64 → empty_recvs K ≤ left_unfetched K
 unfolding empty_recvs count_below

@@ -163,14 +163,8 @@ module _ (S : System) (R : Rules) (K : List Event) (w : ℕ) (legal : IsLegal S 
       gone true h = rw (err-same e 2 h)
       gone false h = rw (err-same e 9 h)
 
-  check-known : (o : Option ℕ) (e : ℕ) → ◌≡◌ {A = Result (Unit {0}) ℕ} (Err e) (check_answer K o) → (e == 2) ≡ true
-  check-known o e h = grind arith
-
-  worker-known : (what : What) → WorkerRow S R K w what → is_known_error what ≡ true
-  worker-known what r = grind (arith, check-known, send-known, put-known, install-known)
-
 pub errors-known : (S : System) (R : Rules) (K : List Event) (e : Event) → IsLegal S R K → length K < 2 ^ 64 → IsStep S R K e → ErrorsKnown K e
-errors-known S R K e legal room r = grind (arith, worker-known, row-of, taken-by-its-actor)
+errors-known S R K e legal room r = grind (arith, row-of, taken-by-its-actor, send-known, put-known, install-known)
 
 known-not-busy : (what : What) → is_known_error what ≡ true → is_busy what ≡ false
 known-not-busy what h = grind arith

@@ -97,13 +97,10 @@ module _ (S : System) (R : Rules) (K : List Event) (w : ℕ) where
   fetch_row q true h = tt
   fetch_row q false h = (q, h, refl)
 
-  worker_row : (d : Deed) → deed R (session K w) ≡ d → WorkerRow S R K w (deed_step S K w d)
-  worker_row d q = grind (arith, fetch_row)
-
 -- the step of an actor is one of its rows
 pub step-row : (S : System) (R : Rules) (K : List Event) (a : Actor) → is_start a ≡ false → Row S R K a (step S R K a)
 unfolding step task_step worker_step
-step-row S R K a h = grind (arith, task_row, worker_row)
+step-row S R K a h = grind (arith, task_row, fetch_row)
 
 -- and so is each event of a legal history
 pub row-of : (S : System) (R : Rules) (K : List Event) (e : Event) → IsStep S R K e → Row S R K e.who e.what

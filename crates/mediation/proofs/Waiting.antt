@@ -21,7 +21,7 @@ use Rattle.mediation.proofs.Ids.{ids_differ}
 use Rattle.mediation.proofs.Count.{fetching, fetched-same}
 use Rattle.mediation.proofs.Once.{installs-open}
 use Rattle.mediation.proofs.Work.{hand, worker-row, session-same, session-more, started, call-same, call-more}
-use Rattle.mediation.proofs.Queues.{Clean, Calm, calm-clean, calm-above, clean-above, settled-more, puts-waiting, Installing, installing}
+use Rattle.mediation.proofs.Queues.{Clean, Calm, calm-clean, calm-above, clean-above, settled-more, Installing, installing}
 use Rattle.mediation.proofs.Phases.{stays-gone, StageOf, AtCall, Phase, stage-calm, stage-install, hand-fetcher, acts-own, request-same, fetcher-same, fetcher-now, fetcher-fetched, fetcher-stays}
 use Rattle.mediation.proofs.Count.{fetched-new}
 use Rattle.mediation.proofs.Answered.{mine-phase}
@@ -46,7 +46,7 @@ module _ (S : System) (R : Rules) (K : List Event) (e : Event) (c : ℕ) (legal 
   for-call f = let p = parts f in installing S R K e.who e.what c legal row p.0 p.1 l
 
   unfetched-calm : fetched K c ≡ false → Clean K c → Calm K e c
-  unfetched-calm f k = grind (arith, puts-waiting, for-call)
+  unfetched-calm f k = grind (arith, for-call)
 
   other-phase : (w : ℕ) → is_worker e.who w ≡ false → AtCall K c w → AtCall (e ∷ K) c w
   other-phase w o h =
