@@ -72,7 +72,13 @@ names-own-call S R K e legal room r h = names-row S R K e.who e.what legal room 
 
 module _ (S : System) (R : Rules) (K : List Event) (a : Actor) (w c : ℕ) (legal : IsLegal S R K) (room : length K < 2 ^ 64) (is_mine : is_worker a w ≡ true) (l : listed K c ≡ true) (h : AtCall K c w) (i : InSession K w c) where
   not-lost : (what : What) → WorkerRow S R K w what → is_lost what ≡ true → ⊥
-  not-lost what r q = grind (arith, open-is, base-is, check-is, put-is, take-is, send-is)
+  not-lost (OpenMem p x) r q = let z = open-is S R K a w c legal room is_mine l h i p x r in grind arith
+  not-lost (OpenBase p d x) r q = let z = base-is S R K a w c legal room is_mine l h i p d x r in grind arith
+  not-lost (Check x y) r q = let z = check-is S R K a w c legal room is_mine l h i x y r in grind arith
+  not-lost (AddfdPut q' x) r q = let z = put-is S R K a w c legal room is_mine l h i q' x r in grind arith
+  not-lost (AddfdTake x) r q = let z = take-is S R K a w c legal room is_mine l h i x r in grind arith
+  not-lost (Send x b y) r q = let z = (send-is S R K a w c legal room is_mine l h i x b y r).0 in grind arith
+  not-lost what r q = cc
 
 lost-works : (what : What) → is_lost what ≡ true → works what ≡ true
 lost-works what h = grind arith
@@ -130,7 +136,7 @@ module _ (S : System) (R : Rules) (K : List Event) (w : ℕ) (legal : IsLegal S 
       let t = deed-is R (session K w) (Answer x b) r.0 in
       let j = in-hand K w (session_call K w) t.0 t.1 (hand S R K legal w) in
       elim (cases_Bool (listed K j.0)) [
-        | inl l ↦ none (send-is S R K (Worker w) w j.0 legal room mine l (at-call S R K w j.0 legal room j.1 l) j.2 x b (Err e) r)
+        | inl l ↦ none (send-is S R K (Worker w) w j.0 legal room mine l (at-call S R K w j.0 legal room j.1 l) j.2 x b (Err e) r).0
         | inr g ↦
             let q : x ≡ j.2.n.id = t.4 ∙ ap (λ (z : Notif). z.id) (id-same j.0 j.2 t.0 t.1) in
             let m = err-same e 2 (rw (q, names-nothing S R K w j.0 legal room j.2 g) at r.1) in
