@@ -26,7 +26,7 @@ use Rattle.hist_model.proofs.Look.{event_at-here, event_at-older, event_at-below
 use Rattle.mediation.proofs.Before.{before-older, before-newest}
 use Rattle.mediation.proofs.Rows.{WorkerRow}
 use Rattle.mediation.proofs.Deeds.{deed-is}
-use Rattle.mediation.proofs.Work.{InSession, Idle, works, works-keep, worker-row, base-same, base-more}
+use Rattle.mediation.proofs.Work.{InSession, Idle, works, works-keep, worker-row, base-still, base-more}
 use Rattle.mediation.proofs.Handles.{Steady, steady}
 use Rattle.mediation.proofs.Opened.{good-check}
 use Rattle.mediation.proofs.InHand.{by-session, in-hand-of}
@@ -62,7 +62,7 @@ unfolding files_base files
 files-opens S K a w p d u h = grind arith
 
 base-stays : (e : Event) (K : List Event) (w : ℕ) → (is_worker e.who w && moves e.what) ≡ false → base (e ∷ K) w ≡ base K w
-base-stays e K w h = grind (arith, base-more, base-same)
+base-stays e K w h = grind (arith, base-more, base-still)
 
 -- an opening that was answered ok found a living task
 opening-found : (S : System) (K : List Event) (o : Option ℕ) (d : ℤ) (u : Unit {0}) → ◌≡◌ {A = Result (Unit {0}) ℕ} (Ok u) (base_answer S K o d) → (t : ℕ) × (o ≡ Some t)
@@ -182,7 +182,7 @@ module _ (S : Script) (R : Rules) where
       found-is x q f d h =
           let v = same f.n n (sym f.notif_is ∙ m) in
           let z : f.dirfd ≡ d = some-dir f.dirfd d (sym f.names ∙ (ap R.dirfd v ∙ h)) in
-          let t : Steady R K w c = rw s at (steady (system_of S) R K legal room w) in
+          let t : Steady R K w c = steady (system_of S) R K legal room w c s in
           let y = t.base_is i.t x i.task_is (inr (good-check (session K w) k g)) q in
           record {
             place = f.place;

@@ -13,22 +13,11 @@ use Rattle.hist_model.specs.declared.event.What.TheVariants.{Recv, OpenMem, Open
 use Rattle.sys_abi.specs.declared.wire.Notif.{Notif}
 use Rattle.mediation.proofs.Rows.{WorkerRow}
 use Rattle.mediation.proofs.Deeds.{deed-is}
-use Rattle.mediation.proofs.Work.{InSession, Idle, Hand, hand, worker-row, works, works-keep, session-same, session-more, grown, call-same, call-more}
-
-none-some : (c : ℕ) → None ≡ Some c → ⊥
-none-some c h = cc
+use Rattle.mediation.proofs.Work.{InSession, Idle, Hand, hand, worker-row, works, works-keep, session-same, session-more, grown, call-same, call-more, no-fetch, call-still}
 
 no-call : (w c : ℕ) → session_call [] w ≡ Some c → ⊥
 unfolding session_call
 no-call w c h = cc
-
--- a worker with a call in hand fetches nothing
-pub no-fetch : (R : Rules) (K : List Event) (w c : ℕ) → InSession K w c → (notif_of (session K w) ≡ None) ⊎ (any_of is_letgo (session K w) ≡ true) → ⊥
-no-fetch R K w c i (inl q) = one i.n (sym q ∙ i.notif_is)
-  where
-    one : (m : Notif) → None ≡ Some m → ⊥
-    one m h = cc
-no-fetch R K w c i (inr q) = both_ways (any_of is_letgo (session K w)) i.no_letgo q
 
 -- the call in hand
 pub in-hand-of : (S : System) (R : Rules) (K : List Event) (w c : ℕ) → IsLegal S R K → session_call K w ≡ Some c → InSession K w c
@@ -53,7 +42,7 @@ module _ (S : System) (R : Rules) (P : List Event → ℕ → ℕ → Type 0) (k
       where
         idle : (o : Option ℕ) → Hand K w o → Idle K w
         idle None i = i
-        idle (Some d) i = absurd (no-fetch R K w d i (deed-is R (session K w) Fetch row.0))
+        idle (Some d) i = absurd (no-fetch K w d i (deed-is R (session K w) Fetch row.0))
 
     work-step : (a : Actor) (what : What) (c : ℕ) → IsStep S R K (ev a what) → length (ev a what ∷ K) < 2 ^ 64 → is_worker a w ≡ true → WorkerRow S R K w what → works what ≡ true → session_call (ev a what ∷ K) w ≡ Some c → P (ev a what ∷ K) w c
     work-step a what c r room q row g h = grind (arith, works-keep, call-more, in-hand-of, session-more, grown)
@@ -62,22 +51,12 @@ module _ (S : System) (R : Rules) (P : List Event → ℕ → ℕ → Type 0) (k
     mine-step a (Recv (Ok n)) c r room q z row h = fetch-step a n c r room q row h
     mine-step a (Recv (Err x)) c r room q z row h =
         let s : session_call K w ≡ Some c = sym (call-more (ev a (Recv (Err x))) K w q) ∙ h in
-        absurd (no-fetch R K w c (in-hand-of S R K w c legal s) (deed-is R (session K w) Fetch row.0))
-    mine-step a LetGo c r room q z row h = absurd (none-some c (sym (call-more (ev a LetGo) K w q) ∙ h))
-    mine-step a Skip c r room q z row h = cc
-    mine-step a (OpenMem p x) c r room q z row h = work-step a (OpenMem p x) c r room q row refl h
-    mine-step a (OpenBase p d x) c r room q z row h = work-step a (OpenBase p d x) c r room q row refl h
-    mine-step a (Check x y) c r room q z row h = work-step a (Check x y) c r room q row refl h
-    mine-step a (Read x l y) c r room q z row h = work-step a (Read x l y) c r room q row refl h
-    mine-step a (Act x cap y) c r room q z row h = work-step a (Act x cap y) c r room q row refl h
-    mine-step a (Plant x b cap y) c r room q z row h = work-step a (Plant x b cap y) c r room q row refl h
-    mine-step a (AddfdPut x y) c r room q z row h = work-step a (AddfdPut x y) c r room q row refl h
-    mine-step a (AddfdTake x) c r room q z row h = work-step a (AddfdTake x) c r room q row refl h
-    mine-step a (Send x b y) c r room q z row h = work-step a (Send x b y) c r room q row refl h
-    mine-step a _ c r room q z row h = absurd row
+        absurd (no-fetch K w c (in-hand-of S R K w c legal s) (deed-is R (session K w) Fetch row.0))
+    mine-step a LetGo c r room q z row h = cc (call-more (ev a LetGo) K w q, h)
+    mine-step a what c r room q z row h = work-step a what c r room q row (grind arith) h
 
     step : (e : Event) (c : ℕ) → IsStep S R K e → length (e ∷ K) < 2 ^ 64 → session_call (e ∷ K) w ≡ Some c → P (e ∷ K) w c
-    step e c r room h = grind (arith, call-more, mine-step, worker-row, call-same, in-hand-of, session-same)
+    step e c r room h = grind (arith, mine-step, worker-row, call-still, in-hand-of, session-same)
 
   pub by-session : (K : List Event) → IsLegal S R K → length K < 2 ^ 64 → (w c : ℕ) → session_call K w ≡ Some c → P K w c
   by-session [] legal room = λ w c h. absurd (no-call w c h)

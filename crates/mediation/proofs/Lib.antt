@@ -9,6 +9,7 @@ pub mod Count
 pub mod Places
 pub mod Holders
 pub mod Work
+pub mod InHand
 pub mod Names
 pub mod Handles
 pub mod Sequence
@@ -22,7 +23,6 @@ pub mod Settlers
 pub mod Determined
 pub mod Journal
 pub mod Replies
-pub mod InHand
 pub mod Arrivals
 pub mod Received
 pub mod Waited

@@ -15,7 +15,7 @@ use Rattle.hist_model.specs.declared.event.What.{What}
 use Rattle.hist_model.specs.declared.event.What.TheVariants.{Recv, OpenMem, OpenBase, Check, Read, Act, Plant, AddfdPut, AddfdTake, Send, Skip}
 use Rattle.sys_abi.specs.declared.wire.Notif.{Notif}
 use Rattle.mediation.proofs.Rows.{WorkerRow}
-use Rattle.mediation.proofs.Work.{InSession, Idle, works, session-more, started, mem-same, mem-more}
+use Rattle.mediation.proofs.Work.{InSession, Idle, works, session-more, started, mem-still as still-mem, mem-more}
 use Rattle.mediation.proofs.Handles.{Steady, steady}
 use Rattle.mediation.proofs.InHand.{by-session, in-hand-of}
 
@@ -53,7 +53,7 @@ module _ (S : System) (R : Rules) where
 
   mem-still : (K : List Event) (e : Event) (w c : ℕ) → IsStep S R K e → IsLegal S R K → length (e ∷ K) < 2 ^ 64 → (is_worker e.who w && not (skips e.what)) ≡ false
       → (i : InSession K w c) → session_call K w ≡ Some c → session (e ∷ K) w ≡ session K w → MemoryOpened K w c → MemoryOpened (e ∷ K) w c
-  mem-still K e w c r legal room q i s own ih h g = grind (arith, mem-more, mem-same)
+  mem-still K e w c r legal room q i s own ih h g = grind (arith, still-mem)
 
   pub has-memory : (K : List Event) → IsLegal S R K → length K < 2 ^ 64 → (w c : ℕ) → session_call K w ≡ Some c → MemoryOpened K w c
   has-memory = by-session S R MemoryOpened (record { fetch = mem-fetch; work = mem-work; still = mem-still })
@@ -63,6 +63,6 @@ module _ (S : System) (R : Rules) where
   own-memory K w c legal room s o k g =
       let i = in-hand-of S R K w c legal s in
       let m = has-memory K legal room w c s o g in
-      let t : Steady R K w c = rw s at (steady S R K legal room w) in
+      let t : Steady R K w c = steady S R K legal room w c s in
       let v = t.mem_is i.t m.0 i.task_is (inr (good-check (session K w) k g)) m.1 in
       (group K i.t, m.1 ∙ ap Some v, ap (opened K) i.task_is)

@@ -114,7 +114,7 @@ module _ (S : System) (R : Rules) where
   ]
     where
       good : (what : What) → WorkerRow S R K w what → is_good_check what ≡ true → listed K c ≡ true
-      good (Check x (Ok u)) row z = (and_parts (listed K c) _ (check-listed S R K a w c legal room q i (rw s at (steady S R K legal room w)) x u row)).0
+      good (Check x (Ok u)) row z = (and_parts (listed K c) _ (check-listed S R K w c x u legal room i row)).0
       good what row z = cc
 
   work-kept : (K : List Event) (a : Actor) (w c : ℕ) (what : What) → IsStep S R K (ev a what) → IsLegal S R K → length (ev a what ∷ K) < 2 ^ 64 → is_worker a w ≡ true
@@ -136,7 +136,7 @@ module _ (S : System) (R : Rules) where
       checked : (what : What) → IsStep S R K (ev a what) → WorkerRow S R K w what → session_call (ev a what ∷ K) w ≡ Some c → session (ev a what ∷ K) w ≡ what ∷ session K w → any_of gives_up (session (ev a what ∷ K) w) ≡ false
           → checks what ≡ true → gives_up what ≡ false → number_of is_good_check (what ∷ session K w) ≤ 2 → waiting (ev a what ∷ K) c ≡ true
       checked (Check x (Ok u)) r row s' own g z y n =
-          let v = check-listed S R K a w c legal (omega arith) q i (rw s at (steady S R K legal (omega arith) w)) x u row in
+          let v = check-listed S R K w c x u legal (omega arith) i row in
           let l : listed (ev a (Check x (Ok u)) ∷ K) c ≡ true = listed-older (ev a (Check x (Ok u))) K c b ∙ still (listed K c) (and_parts (listed K c) _ v).0 in
           let late = put-late (session K w) (in-order K w legal) (omega arith) in
           waits-now (ev a (Check x (Ok u)) ∷ K) w c (r, legal) room s' l g (rw own late)

@@ -118,28 +118,30 @@ in-session-kept e K w c i h g =
       pid_is = rw event_at-older i.pid_is;
     }
 
-pub mem-same : (e : Event) (K : List Event) (w : ℕ) → is_worker e.who w ≡ false → mem (e ∷ K) w ≡ mem K w
+pub mem-still : (e : Event) (K : List Event) (w : ℕ) → (is_worker e.who w && not (skips e.what)) ≡ false → mem (e ∷ K) w ≡ mem K w
 unfolding mem
-mem-same e K w h = rw h
+mem-still e K w h = grind arith
 
 pub mem-more : (e : Event) (K : List Event) (w : ℕ) → is_worker e.who w ≡ true → mem (e ∷ K) w ≡ mem_after K e.what (mem K w)
 unfolding mem
 mem-more e K w h = rw h
 
-pub base-same : (e : Event) (K : List Event) (w : ℕ) → is_worker e.who w ≡ false → base (e ∷ K) w ≡ base K w
+pub base-still : (e : Event) (K : List Event) (w : ℕ) → (is_worker e.who w && not (skips e.what)) ≡ false → base (e ∷ K) w ≡ base K w
 unfolding base
-base-same e K w h = rw h
+base-still e K w h = grind arith
 
 pub base-more : (e : Event) (K : List Event) (w : ℕ) → is_worker e.who w ≡ true → base (e ∷ K) w ≡ base_after K e.what (base K w)
 unfolding base
 base-more e K w h = rw h
 
--- another's step
-hand-other : (e : Event) (K : List Event) (w : ℕ) (o : Option ℕ) → is_worker e.who w ≡ false → Hand K w o → Hand (e ∷ K) w o
-hand-other e K w (Some c) h i =
-    let s = session-same e K w (grind arith) in
-    in-session-kept e K w c i (rw s i.notif_is) (rw s i.no_letgo)
-hand-other e K w None h i = grind (arith, session-same, mem-same, base-same)
+pub call-still : (e : Event) (K : List Event) (w : ℕ) → (is_worker e.who w && not (skips e.what)) ≡ false → session_call (e ∷ K) w ≡ session_call K w
+unfolding session_call
+call-still e K w h = grind arith
+
+-- another's step, or a skip
+hand-still : (e : Event) (K : List Event) (w : ℕ) (o : Option ℕ) → (is_worker e.who w && not (skips e.what)) ≡ false → Hand K w o → Hand (e ∷ K) w o
+hand-still e K w (Some c) h i = let s = session-same e K w h in in-session-kept e K w c i (rw s i.notif_is) (rw s i.no_letgo)
+hand-still e K w None h i = grind (arith, session-same, mem-still, base-still)
 
 pub started : (own : List What) (a : What) → starts a ≡ true → joined a own ≡ a ∷ []
 started own a h = grind arith
@@ -159,12 +161,13 @@ works-keep K what h = grind arith
 pub hand-notif : (K : List Event) (w c : ℕ) (i : InSession K w c) (n : Notif) → i.n ≡ n → n ≡ notif K c
 hand-notif K w c i n q = sym q ∙ i.whole_is
 
+-- a worker with a call in hand fetches nothing
+pub no-fetch : (K : List Event) (w c : ℕ) → InSession K w c → (notif_of (session K w) ≡ None) ⊎ (any_of is_letgo (session K w) ≡ true) → ⊥
+no-fetch K w c i h = grind arith
+
 -- a worker with a session at work has a call in hand
 pub in-hand : (K : List Event) (w : ℕ) (o : Option ℕ) (n : Notif) → AtWork (session K w) n → Hand K w o → (c : ℕ) × (o ≡ Some c) × (i : InSession K w c) × (i.n ≡ n)
-in-hand K w (Some c) n work i = (c, refl, i, some-same i.n n (sym i.notif_is ∙ work.notif_is))
-  where
-    some-same : (a b : Notif) → Some a ≡ Some b → a ≡ b
-    some-same a b h = cc
+in-hand K w (Some c) n work i = (c, refl, i, cc (i.notif_is, work.notif_is))
 in-hand K w None n work i = grind (arith)
 
 module _ (S : System) (R : Rules) (K : List Event) (a : Actor) (w : ℕ) (legal : IsLegal S R K) (is_mine : is_worker a w ≡ true) where
@@ -176,16 +179,6 @@ module _ (S : System) (R : Rules) (K : List Event) (a : Actor) (w : ℕ) (legal 
       let s : session (ev a what ∷ K) w ≡ what ∷ session K w = session-more (ev a what) K w is_mine k.no_skip ∙ grown (session K w) what g.0 g.1.notif_is k.no_start in
       let c : session_call (ev a what ∷ K) w ≡ Some j.0 = call-more (ev a what) K w is_mine ∙ (k.call (session_call K w) ∙ j.1) in
       rw c (in-session-kept (ev a what) K w j.0 j.2 (rw (s, k.no_notif) j.2.notif_is) (rw (s, k.no_letgo) j.2.no_letgo))
-
-  mine-skip : Hand K w (session_call K w) → Hand (ev a Skip ∷ K) w (session_call (ev a Skip ∷ K) w)
-  mine-skip i = rw (call-more (ev a Skip) K w is_mine) (go (session_call K w) i)
-    where
-      s : session (ev a Skip ∷ K) w ≡ session K w
-      s = session-same (ev a Skip) K w (grind arith)
-
-      go : (o : Option ℕ) → Hand K w o → Hand (ev a Skip ∷ K) w o
-      go (Some c) i = in-session-kept (ev a Skip) K w c i (rw s i.notif_is) (rw s i.no_letgo)
-      go None i = record { none = rw s i.none; mem_none = mem-more (ev a Skip) K w is_mine ∙ i.mem_none; base_none = base-more (ev a Skip) K w is_mine ∙ i.base_none }
 
   mine-letgo : WorkerRow S R K w LetGo → Hand (ev a LetGo ∷ K) w (session_call (ev a LetGo ∷ K) w)
   mine-letgo r = grind (arith, deed-is, session-more, grown, call-more, mem-more, base-more)
@@ -222,48 +215,24 @@ module _ (S : System) (R : Rules) (K : List Event) (a : Actor) (w : ℕ) (legal 
       t : (notif_of (session K w) ≡ None) ⊎ (any_of is_letgo (session K w) ≡ true)
       t = deed-is R (session K w) Fetch r.0
 
-      s : session (ev a (Recv (Err x)) ∷ K) w ≡ joined (Recv (Err x)) (session K w)
-      s = session-more (ev a (Recv (Err x))) K w is_mine refl
-
       stays : (own : List What) → (notif_of own ≡ None) ⊎ (any_of is_letgo own ≡ true) → (notif_of (joined (Recv (Err x)) own) ≡ None) ⊎ (any_of is_letgo (joined (Recv (Err x)) own) ≡ true)
-      stays [] h = h
-      stays (b ∷ own) h = h
-
-      no : (c : ℕ) → InSession K w c → (notif_of (session K w) ≡ None) ⊎ (any_of is_letgo (session K w) ≡ true) → ⊥
-      no c i (inl q) = one i.n (sym q ∙ i.notif_is)
-        where
-          one : (m : Notif) → None ≡ Some m → ⊥
-          one m h = cc
-      no c i (inr q) = two (any_of is_letgo (session K w)) i.no_letgo q
-        where
-          two : (b : Bool) → b ≡ false → b ≡ true → ⊥
-          two b g h = cc
+      stays own h = grind arith
 
       go : (o : Option ℕ) → Hand K w o → Hand (ev a (Recv (Err x)) ∷ K) w o
-      go (Some c) i = absurd (no c i t)
-      go None i = record { none = rw s (stays (session K w) t); mem_none = mem-more (ev a (Recv (Err x))) K w is_mine ∙ i.mem_none; base_none = base-more (ev a (Recv (Err x))) K w is_mine ∙ i.base_none }
+      go (Some c) i = absurd (no-fetch K w c i t)
+      go None i = record { none = rw (session-more (ev a (Recv (Err x))) K w is_mine refl) (stays (session K w) t); mem_none = mem-more (ev a (Recv (Err x))) K w is_mine ∙ i.mem_none; base_none = base-more (ev a (Recv (Err x))) K w is_mine ∙ i.base_none }
 
-  mine-step : (what : What) → WorkerRow S R K w what → Hand K w (session_call K w) → Hand (ev a what ∷ K) w (session_call (ev a what ∷ K) w)
-  mine-step (Recv (Ok n)) r i = mine-fetch n r
-  mine-step (Recv (Err x)) r i = mine-empty x r i
-  mine-step LetGo r i = mine-letgo r
-  mine-step Skip r i = mine-skip i
-  mine-step (OpenMem p x) r i = mine-works (OpenMem p x) r refl i
-  mine-step (OpenBase p d x) r i = mine-works (OpenBase p d x) r refl i
-  mine-step (Check x y) r i = mine-works (Check x y) r refl i
-  mine-step (Read x l y) r i = mine-works (Read x l y) r refl i
-  mine-step (Act q cap x) r i = mine-works (Act q cap x) r refl i
-  mine-step (Plant x b cap y) r i = mine-works (Plant x b cap y) r refl i
-  mine-step (AddfdPut q x) r i = mine-works (AddfdPut q x) r refl i
-  mine-step (AddfdTake x) r i = mine-works (AddfdTake x) r refl i
-  mine-step (Send x b y) r i = mine-works (Send x b y) r refl i
-  mine-step _ r i = absurd r
+  mine-step : (what : What) → WorkerRow S R K w what → skips what ≡ false → Hand K w (session_call K w) → Hand (ev a what ∷ K) w (session_call (ev a what ∷ K) w)
+  mine-step (Recv (Ok n)) r h i = mine-fetch n r
+  mine-step (Recv (Err x)) r h i = mine-empty x r i
+  mine-step LetGo r h i = mine-letgo r
+  mine-step what r h i = mine-works what r (grind arith) i
 
 pub hand-step : (S : System) (R : Rules) (K : List Event) (e : Event) (w : ℕ) → IsLegal S R K → IsStep S R K e → Hand K w (session_call K w) → Hand (e ∷ K) w (session_call (e ∷ K) w)
 hand-step S R K e w legal r i =
-    elim (cases_Bool (is_worker e.who w)) [
-      | inl q ↦ mine-step S R K e.who w legal q e.what (worker-row S R K e w r q) i
-      | inr q ↦ rw call-same (hand-other e K w (session_call K w) q i)
+    elim (cases_Bool (is_worker e.who w && not (skips e.what))) [
+      | inl q ↦ let m : is_worker e.who w ≡ true = grind arith in mine-step S R K e.who w legal m e.what (worker-row S R K e w r m) (grind arith) i
+      | inr q ↦ rw (call-still e K w q) (hand-still e K w (session_call K w) q i)
     ]
 
 -- what each worker has in hand
