@@ -5,10 +5,10 @@ use Rattle.std.proofs.lemmas.Bool.{eq-eqb, or_parts}
 use Rattle.hist_model.specs.Look.{ev, is_worker}
 use Rattle.hist_model.specs.Tasks.{holder, ended, name_of}
 use Rattle.hist_model.specs.Calls.{listed, caller, named, settled, queue, has_send_flag}
-use Rattle.hist_model.specs.Sessions.{checks, number_of, deed, Rules, Fetch, Let, Decision, Denies, Passes, Acts, Plants, Injects, reads_of, session, notif_of, any_of, gives_up, addfd_of, first_some, put_in, take_in, is_letgo}
+use Rattle.hist_model.specs.Sessions.{checks, number_of, Rules, Fetch, Let, reads_of, session, any_of, gives_up, first_some, put_in, take_in}
 use Rattle.hist_model.specs.Systems.{System}
 use Rattle.hist_model.specs.Steps.{IsLegal, session_call, install_of, request_of, request_after, take_step, group}
-use Rattle.hist_model.specs.Causes.{Cause, faulty, denied, passed, done, not_put, not_taken, is_acting}
+use Rattle.hist_model.specs.Causes.{Cause, faulty, denied, passed, done, not_put, not_taken}
 use Rattle.hist_model.specs.declared.event.Event.{Event}
 use Rattle.hist_model.specs.declared.event.Actor.{Actor}
 use Rattle.hist_model.specs.declared.event.Back.{Back}

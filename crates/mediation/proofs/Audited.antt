@@ -1,15 +1,15 @@
 -- The audit of a session that answered names the rule that decided.
 use Rattle.std.proofs.Common.{◌≡◌, ◌⊎◌, inl, inr, ℕ, suc, ◌<◌, ◌≤◌, ◌^◌, true, false, ◌&&◌, not, List, [], ◌∷◌, length, Some, None, refl, sym, ap, subst, ◌∙◌, arith}
-use Rattle.std.specs.Prelude.{◌==◌, Result, Ok, Err}
+use Rattle.std.specs.Prelude.{Result, Ok}
 use Rattle.std.specs.List.{list_any}
-use Rattle.std.proofs.lemmas.Bool.{cases_Bool, and_parts, or_parts, eq-eqb, ne_eqb, both_ways, or_right}
+use Rattle.std.proofs.lemmas.Bool.{cases_Bool, or_parts, eq-eqb, both_ways, or_right}
 use Rattle.std.proofs.lemmas.List.{append-nil}
 use Rattle.hist_model.specs.Look.{ev, before, event_at, is_worker}
 use Rattle.hist_model.specs.Sessions.{Rules, Fetch, Answer, session, skips, starts, any_of, is_letgo, gives_up, notif_of, reads_of, number_of}
 use Rattle.hist_model.specs.Systems.{System}
-use Rattle.hist_model.specs.Steps.{IsStep, IsLegal, session_call, oldest_unfetched}
+use Rattle.hist_model.specs.Steps.{IsStep, IsLegal, session_call}
 use Rattle.hist_model.specs.Orders.{is_good_check}
-use Rattle.hist_model.specs.Copies.{Complete, plan, progress, heard}
+use Rattle.hist_model.specs.Copies.{Complete, plan, heard}
 use Rattle.hist_model.specs.Requests.{request}
 use Rattle.hist_model.specs.Decisions.{decide}
 use Rattle.hist_model.specs.Legal.{copied, decision, system_of, rules_of}
@@ -17,14 +17,14 @@ use Rattle.hist_model.specs.ReportAudit.{Judging, checked_twice, session_at, joi
 use Rattle.hist_model.specs.Mediated.{AuditNames}
 use Rattle.hist_model.specs.declared.event.Event.{Event}
 use Rattle.hist_model.specs.declared.event.Actor.{Actor}
-use Rattle.hist_model.specs.declared.event.Actor.TheVariants.{Start, Task, Worker, Listener}
+use Rattle.hist_model.specs.declared.event.Actor.TheVariants.{Worker}
 use Rattle.hist_model.specs.declared.event.Back.{Back}
 use Rattle.hist_model.specs.declared.event.What.{What}
 use Rattle.hist_model.specs.declared.event.What.TheVariants.{Recv, OpenMem, OpenBase, Check, Read, Act, Plant, AddfdPut, AddfdTake, Send, LetGo, Skip}
 use Rattle.hist_model.specs.Causes.{is_acting}
 use Rattle.hist_model.specs.declared.policy.Policy.{Policy}
 use Rattle.hist_model.specs.declared.policy.Verdict.{Verdict}
-use Rattle.hist_model.specs.declared.policy.Verdict.TheVariants.{Grant, Deny, Pass, Inject}
+use Rattle.hist_model.specs.declared.policy.Verdict.TheVariants.{Grant}
 use Rattle.hist_model.specs.declared.request.Request.{Request}
 use Rattle.hist_model.specs.declared.script.Figures.{Figures}
 use Rattle.hist_model.specs.declared.script.Script.{Script}
@@ -33,10 +33,10 @@ use Rattle.hist_model.proofs.Look.{event_at-here, event_at-older, event_at-below
 use Rattle.mediation.proofs.Before.{before-all, before-older, before-newest, legal-before}
 use Rattle.mediation.proofs.Rows.{WorkerRow}
 use Rattle.mediation.proofs.Deeds.{AtWork, deed-is}
-use Rattle.mediation.proofs.Work.{InSession, Idle, hand, in-hand, works, works-keep, at-work, worker-row, session-same, session-more, started, grown}
+use Rattle.mediation.proofs.Work.{hand, in-hand, works, works-keep, at-work, worker-row, session-same, session-more, started, grown}
 use Rattle.mediation.proofs.Sequence.{IsOwn, is-own, is_effect, effect-fixed}
 use Rattle.mediation.proofs.Ordered.{ordered, used-two}
-use Rattle.mediation.proofs.InHand.{by-session}
+use Rattle.mediation.proofs.InHand.{by-session, FetchKept, WorkKept, StillKept}
 use Rattle.mediation.proofs.Heard.{reads-are, fit-reads, all-heard}
 
 skipped-same : (what : What) → is_skipped what ≡ skips what
@@ -73,15 +73,13 @@ module _ (S : System) (R : Rules) where
   abbrev BeganOf : List Event → ℕ → ℕ → Type 0
   BeganOf K w c = Began K w
 
-  fetch-began : (K : List Event) (a : Actor) (w c : ℕ) (n : Notif) → IsStep S R K (ev a (Recv (Ok n))) → IsLegal S R K → length (ev a (Recv (Ok n)) ∷ K) < 2 ^ 64 → is_worker a w ≡ true
-      → WorkerRow S R K w (Recv (Ok n)) → oldest_unfetched K ≡ Some c → Idle K w → Began (ev a (Recv (Ok n)) ∷ K) w
+  fetch-began : FetchKept S R BeganOf
   fetch-began K a w c n r legal room q row o idle =
       let e = ev a (Recv (Ok n)) in
       let own : session (e ∷ K) w ≡ Recv (Ok n) ∷ [] = session-more e K w q refl ∙ started (session K w) (Recv (Ok n)) refl in
       record { place = length K; n = n; receive = event_at-here e K ∙ ap Some (worker-event a w (Recv (Ok n)) q); notif_is = rw own; same = at-here e K w ∙ sym own }
 
-  work-began : (K : List Event) (a : Actor) (w c : ℕ) (what : What) → IsStep S R K (ev a what) → IsLegal S R K → length (ev a what ∷ K) < 2 ^ 64 → is_worker a w ≡ true
-      → WorkerRow S R K w what → works what ≡ true → (i : InSession K w c) → session_call K w ≡ Some c → session (ev a what ∷ K) w ≡ what ∷ session K w → Began K w → Began (ev a what ∷ K) w
+  work-began : WorkKept S R BeganOf
   work-began K a w c what r legal room q row v i s own b =
       let e = ev a what in
       let l = event_at-below K b.place _ b.receive in
@@ -95,8 +93,7 @@ module _ (S : System) (R : Rules) where
         same = at-more e K w b.place l q k.no_skip ∙ (ap (λ x. joined x what) b.same ∙ (joins ∙ sym own));
       }
 
-  still-began : (K : List Event) (e : Event) (w c : ℕ) → IsStep S R K e → IsLegal S R K → length (e ∷ K) < 2 ^ 64 → (is_worker e.who w && not (skips e.what)) ≡ false
-      → (i : InSession K w c) → session_call K w ≡ Some c → session (e ∷ K) w ≡ session K w → Began K w → Began (e ∷ K) w
+  still-began : StillKept S R BeganOf
   still-began K e w c r legal room q i s own b = grind (arith, event_at-below, event_at-older, at-same)
 
   began : (K : List Event) → IsLegal S R K → length K < 2 ^ 64 → (w c : ℕ) → session_call K w ≡ Some c → Began K w

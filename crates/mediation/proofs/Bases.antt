@@ -1,24 +1,21 @@
 -- The base from which a session's effect goes is one that the session opened, in a slot of its call's task's group.
-use Rattle.std.proofs.Common.{◌≡◌, inl, inr, ℕ, ◌<◌, ◌^◌, Bool, true, false, ◌&&◌, not, List, [], ◌∷◌, length, Option, Some, None, refl, sym, ap, ◌∙◌, arith}
+use Rattle.std.proofs.Common.{◌≡◌, inl, inr, ℕ, ◌<◌, ◌^◌, Bool, true, false, ◌&&◌, List, [], ◌∷◌, length, Option, Some, None, refl, sym, ap, ◌∙◌, arith}
 use Rattle.std.specs.Prelude.{◌==◌, Result, Ok, Err, ℤ}
-use Rattle.std.proofs.lemmas.Bool.{cases_Bool, eqb-true, ne_eqb, eq-eqb, both_ways}
+use Rattle.std.proofs.lemmas.Bool.{cases_Bool, eqb-true}
 use Rattle.hist_model.specs.Look.{ev, before, event_at, is_worker}
 use Rattle.hist_model.specs.Tasks.{holder}
 use Rattle.hist_model.specs.Sessions.{Rules, session, skips, any_of, gives_up, checks, notif_of}
 use Rattle.hist_model.specs.Systems.{System}
-use Rattle.hist_model.specs.Steps.{IsStep, IsLegal, session_call, base, base_after, base_answer, opened, place_or, oldest_unfetched}
+use Rattle.hist_model.specs.Steps.{IsStep, IsLegal, session_call, base, base_answer, opened, place_or}
 use Rattle.hist_model.specs.Natives.{Files, base_of}
-use Rattle.hist_model.specs.Files.{files, files_after, after_native, after_spawn}
-use Rattle.hist_model.specs.Natives.{NativeStep, Fails, Gives, Changes, Opens, Closes, Writes}
-use Rattle.hist_model.specs.Memory.{own_group}
+use Rattle.hist_model.specs.Files.{files, files_after, after_native}
+use Rattle.hist_model.specs.Natives.{NativeStep}
 use Rattle.hist_model.specs.Mediated.{OpenedBase, BaseIs}
 use Rattle.hist_model.specs.declared.event.Event.{Event}
 use Rattle.hist_model.specs.declared.event.Actor.{Actor}
 use Rattle.hist_model.specs.declared.event.Actor.TheVariants.{Start, Task, Worker, Listener}
 use Rattle.hist_model.specs.declared.event.What.{What}
-use Rattle.hist_model.specs.declared.event.What.TheVariants.{Spawn, Native, Install, Recv, OpenMem, OpenBase, Check, Read, Act, Plant, AddfdPut, AddfdTake, Send, LetGo, Skip}
-use Rattle.hist_model.specs.declared.event.SpawnKind.{SpawnKind}
-use Rattle.hist_model.specs.declared.event.SpawnKind.TheVariants.{New, Copied, Shared}
+use Rattle.hist_model.specs.declared.event.What.TheVariants.{OpenMem, OpenBase, Check, Read, Act, Plant, AddfdPut, AddfdTake, Send, LetGo}
 use Rattle.hist_model.specs.declared.script.Script.{Script}
 use Rattle.hist_model.specs.Legal.{system_of}
 use Rattle.sys_abi.specs.declared.wire.Notif.{Notif}
@@ -26,10 +23,10 @@ use Rattle.hist_model.proofs.Look.{event_at-here, event_at-older, event_at-below
 use Rattle.mediation.proofs.Before.{before-older, before-newest}
 use Rattle.mediation.proofs.Rows.{WorkerRow}
 use Rattle.mediation.proofs.Deeds.{deed-is}
-use Rattle.mediation.proofs.Work.{InSession, Idle, works, works-keep, worker-row, base-still, base-more}
+use Rattle.mediation.proofs.Work.{InSession, works, works-keep, worker-row, base-still, base-more}
 use Rattle.mediation.proofs.Handles.{Steady, steady}
 use Rattle.mediation.proofs.Opened.{good-check}
-use Rattle.mediation.proofs.InHand.{by-session, in-hand-of}
+use Rattle.mediation.proofs.InHand.{by-session, in-hand-of, FetchKept, WorkKept, StillKept}
 
 -- the base that the files have for a worker
 pub files_base : Script → List Event → ℕ → Option ℕ
@@ -96,8 +93,7 @@ module _ (S : Script) (R : Rules) where
   found-later : (e : Event) (K : List Event) (w c g : ℕ) → (is_worker e.who w && moves e.what) ≡ false → notif_of (session (e ∷ K) w) ≡ notif_of (session K w) → Found K w c g → Found (e ∷ K) w c g
   found-later e K w c g q s f = grind (arith, event_at-below, before-older, event_at-older, files-same)
 
-  fetch-found : (K : List Event) (a : Actor) (w c : ℕ) (n : Notif) → IsStep (system_of S) R K (ev a (Recv (Ok n))) → IsLegal (system_of S) R K → length (ev a (Recv (Ok n)) ∷ K) < 2 ^ 64 → is_worker a w ≡ true
-      → WorkerRow (system_of S) R K w (Recv (Ok n)) → oldest_unfetched K ≡ Some c → Idle K w → HasFound (ev a (Recv (Ok n)) ∷ K) w c
+  fetch-found : FetchKept (system_of S) R HasFound
   fetch-found K a w c n r legal room q row o idle g h = grind (arith, base-more)
 
   -- the opening of a base
@@ -129,8 +125,7 @@ module _ (S : Script) (R : Rules) where
   other-found : (K : List Event) (a : Actor) (w c : ℕ) (what : What) → works what ≡ true → moves what ≡ false → session (ev a what ∷ K) w ≡ what ∷ session K w → HasFound K w c → is_worker a w ≡ true → HasFound (ev a what ∷ K) w c
   other-found K a w c what v m own ih q g h = grind (arith, works-keep, found-later, base-stays)
 
-  work-found : (K : List Event) (a : Actor) (w c : ℕ) (what : What) → IsStep (system_of S) R K (ev a what) → IsLegal (system_of S) R K → length (ev a what ∷ K) < 2 ^ 64 → is_worker a w ≡ true
-      → WorkerRow (system_of S) R K w what → works what ≡ true → (i : InSession K w c) → session_call K w ≡ Some c → session (ev a what ∷ K) w ≡ what ∷ session K w → HasFound K w c → HasFound (ev a what ∷ K) w c
+  work-found : WorkKept (system_of S) R HasFound
   work-found K a w c (OpenBase p d (Ok u)) r legal room q row v i s own ih = opens-found K a w c p d u q row s own
   work-found K a w c (OpenBase p d (Err x)) r legal room q row v i s own ih = other-found K a w c (OpenBase p d (Err x)) refl refl own ih q
   work-found K a w c (OpenMem p x) r legal room q row v i s own ih = other-found K a w c (OpenMem p x) refl refl own ih q
@@ -146,8 +141,7 @@ module _ (S : Script) (R : Rules) where
   skip-moves : (what : What) → skips what ≡ true → moves what ≡ false
   skip-moves what h = grind arith
 
-  still-found : (K : List Event) (e : Event) (w c : ℕ) → IsStep (system_of S) R K e → IsLegal (system_of S) R K → length (e ∷ K) < 2 ^ 64 → (is_worker e.who w && not (skips e.what)) ≡ false
-      → (i : InSession K w c) → session_call K w ≡ Some c → session (e ∷ K) w ≡ session K w → HasFound K w c → HasFound (e ∷ K) w c
+  still-found : StillKept (system_of S) R HasFound
   still-found K e w c r legal room q i s own ih g h =
       found-later e K w c g no-move (ap notif_of own) (ih g (sym (base-stays e K w no-move) ∙ h))
     where

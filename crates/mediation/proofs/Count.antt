@@ -1,16 +1,15 @@
 -- What the request count is.
-use Rattle.std.proofs.Common.{◌≡◌, inl, inr, ℕ, zero, suc, ◌+◌, ◌<◌, ◌≤◌, ◌^◌, Bool, true, false, ◌&&◌, not, List, [], ◌∷◌, length, Option, Some, None, refl, sym, ap, ◌∙◌, arith}
-use Rattle.std.specs.Prelude.{if◌then◌else◌, ◌==◌, Result, Ok, Err}
-use Rattle.std.proofs.lemmas.Bool.{cases_Bool, and_parts, eqb-true, eqb-false, eq-eqb, not-true, false_from_ne_true}
-use Rattle.hist_model.specs.Look.{ev, event_at}
+use Rattle.std.proofs.Common.{◌≡◌, inl, inr, ℕ, zero, suc, ◌+◌, ◌<◌, ◌≤◌, ◌^◌, Bool, true, false, ◌&&◌, not, List, [], ◌∷◌, length, Option, Some, refl, sym, ◌∙◌, arith}
+use Rattle.std.specs.Prelude.{if◌then◌else◌, ◌==◌, Ok}
+use Rattle.std.proofs.lemmas.Bool.{cases_Bool, and_parts, eqb-true, eq-eqb, false_from_ne_true}
+use Rattle.hist_model.specs.Look.{ev}
 use Rattle.hist_model.specs.Calls.{listed, fetched, fetches, calls, recvs, count, id, is_call, notifies}
 use Rattle.hist_model.specs.Sessions.{Rules}
 use Rattle.hist_model.specs.Systems.{System}
-use Rattle.hist_model.specs.Steps.{IsStep, IsLegal, recv_answer, oldest_unfetched, notif}
+use Rattle.hist_model.specs.Steps.{IsLegal, recv_answer, oldest_unfetched, notif}
 use Rattle.hist_model.specs.Laws.{count_below, empty_recvs, CountIs}
 use Rattle.hist_model.specs.declared.event.Event.{Event}
 use Rattle.hist_model.specs.declared.event.Actor.{Actor}
-use Rattle.hist_model.specs.declared.event.Actor.TheVariants.{Start, Task, Worker, Listener}
 use Rattle.hist_model.specs.declared.event.What.{What}
 use Rattle.hist_model.specs.declared.event.What.TheVariants.{Recv}
 use Rattle.sys_abi.specs.declared.wire.Notif.{Notif}

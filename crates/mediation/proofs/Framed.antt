@@ -1,15 +1,14 @@
 -- The frame law.
-use Rattle.std.proofs.Common.{◌≡◌, inl, inr, ℕ, zero, suc, ◌+◌, ◌-◌, ◌<◌, ◌≤◌, Bool, true, false, ◌&&◌, List, [], ◌∷◌, length, Option, Some, None, refl, sym, ◌∙◌, arith}
-use Rattle.std.specs.Prelude.{if◌then◌else◌, ◌==◌}
-use Rattle.std.proofs.lemmas.Bool.{cases_Bool, eqb-true, false_from_ne_true}
+use Rattle.std.proofs.Common.{◌≡◌, ℕ, zero, suc, ◌+◌, ◌-◌, ◌<◌, ◌≤◌, Bool, false, List, [], ◌∷◌, length, Some, None, refl, arith}
+use Rattle.std.specs.Prelude.{if◌then◌else◌}
+use Rattle.std.proofs.lemmas.Bool.{false_from_ne_true}
 use Rattle.hist_model.specs.Look.{Name, newest, oldest, or_else}
-use Rattle.hist_model.specs.Tasks.{ended, ends, was_waited_for, reaped, reaps, holds, holder, free_from, next_pid, last_pid, given, name_of}
-use Rattle.hist_model.specs.Calls.{listed, named, id, fetched, fetches, settled, answered, some_sends, queue, answers, puts_to, is_install, calls, recvs, receives, count, notifies, leaves, closes}
+use Rattle.hist_model.specs.Tasks.{ended, ends, was_waited_for, reaped, reaps, holder, free_from, next_pid, last_pid, given}
+use Rattle.hist_model.specs.Calls.{listed, named, fetched, settled, answered, some_sends, queue, answers, puts_to, is_install, calls, recvs, count, notifies, leaves, closes}
 use Rattle.hist_model.specs.Sessions.{session}
 use Rattle.mediation.specs.Frames.{changes_tasks, changes_list, changes_fetched, changes_count, changes_answered, Frame}
 use Rattle.hist_model.specs.declared.event.Event.{Event}
 use Rattle.hist_model.specs.declared.event.What.{What}
-use Rattle.hist_model.specs.declared.event.What.TheVariants.{Spawn, Enter, Deliver, Reap, Exit, Resume, Close, Recv, AddfdPut, Install, Send}
 use Rattle.hist_model.proofs.Look.{event_at-here, event_at-older, oldest-same}
 use Rattle.mediation.proofs.Own.{listed-below, listed-here}
 use Rattle.mediation.proofs.Queues.{Asks, queue-asks}

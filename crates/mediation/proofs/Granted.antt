@@ -1,22 +1,16 @@
 -- Each effect is what the policy grants on the one copy of its session, and each request for a descriptor what it injects.
-use Rattle.std.proofs.Common.{◌≡◌, inr, ℕ, ◌<◌, ◌≤◌, ◌^◌, List, length, Option, Some, None, option_map, sym, ap, ◌∙◌, arith}
-use Rattle.std.specs.Prelude.{slice_get}
+use Rattle.std.proofs.Common.{◌≡◌, inr, ℕ, ◌<◌, ◌≤◌, ◌^◌, List, length, Option, Some, None, ap, arith}
 use Rattle.hist_model.specs.Sessions.{Rules, Decision, Acts, Plants, ActD, PlantD, ReadD, Put, session, reads_of}
 use Rattle.hist_model.specs.Systems.{System}
 use Rattle.hist_model.specs.Steps.{IsStep, IsLegal, session_call}
-use Rattle.hist_model.specs.Decisions.{decide, cap_of, times_of}
-use Rattle.hist_model.specs.Requests.{request}
-use Rattle.hist_model.specs.Copies.{Progress, Wants, Complete, Faulty}
-use Rattle.hist_model.specs.Legal.{system_of, rules_of, judged, decision, grant_decision, copied}
+use Rattle.hist_model.specs.Decisions.{cap_of}
+use Rattle.hist_model.specs.Copies.{Progress}
+use Rattle.hist_model.specs.Legal.{system_of, rules_of, judged, copied}
 use Rattle.hist_model.specs.Mediated.{IsMediated, ActIsGranted, PlantIsGranted, PutIsInjected, ReadsOwn, TimesKept}
 use Rattle.hist_model.specs.declared.event.Event.{Event}
 use Rattle.hist_model.specs.declared.event.What.TheVariants.{Act, Plant, AddfdPut, Read}
 use Rattle.hist_model.specs.declared.policy.Policy.{Policy}
 use Rattle.hist_model.specs.declared.policy.Cap.{Cap}
-use Rattle.hist_model.specs.declared.policy.Verdict.{Verdict}
-use Rattle.hist_model.specs.declared.policy.Verdict.TheVariants.{Grant, Deny, Pass, Inject}
-use Rattle.hist_model.specs.declared.request.Request.{Request}
-use Rattle.hist_model.specs.declared.request.Request.TheVariants.{Sysinfo}
 use Rattle.hist_model.specs.declared.script.Figures.{Figures}
 use Rattle.hist_model.specs.declared.script.Script.{Script}
 use Rattle.sys_abi.specs.declared.wire.Notif.{Notif}

@@ -1,18 +1,18 @@
 -- What a session has opened is its call's task's.
-use Rattle.std.proofs.Common.{◌≡◌, ◌⊎◌, inl, inr, ℕ, ◌<◌, ◌^◌, Bool, true, false, ◌&&◌, not, List, [], ◌∷◌, length, Option, Some, None, refl, sym, ap, ◌∙◌, arith}
-use Rattle.std.specs.Prelude.{if◌then◌else◌, Result, Ok, Err, ℤ}
-use Rattle.std.proofs.lemmas.Bool.{cases_Bool, and_parts, or_cases, or_left, or_right, both_ways}
+use Rattle.std.proofs.Common.{◌≡◌, ◌⊎◌, inl, inr, ℕ, ◌<◌, ◌^◌, true, false, ◌&&◌, not, List, [], ◌∷◌, length, Option, Some, None, refl, arith}
+use Rattle.std.specs.Prelude.{Result, Ok, Err, ℤ}
+use Rattle.std.proofs.lemmas.Bool.{and_parts}
 use Rattle.hist_model.specs.Look.{ev, is_worker}
 use Rattle.hist_model.specs.Tasks.{holder}
 use Rattle.hist_model.specs.Calls.{listed, waiting, caller, named, unlists}
-use Rattle.hist_model.specs.Sessions.{Rules, skips, Fetch, Open, OpenB, Ask, session, notif_of, any_of, is_letgo, opens, opens_base, checks}
+use Rattle.hist_model.specs.Sessions.{Rules, skips, Open, OpenB, Ask, session, notif_of, any_of, opens, opens_base, checks}
 use Rattle.hist_model.specs.Systems.{System}
 use Rattle.hist_model.specs.Orders.{is_good_check}
-use Rattle.hist_model.specs.Steps.{IsStep, IsLegal, session_call, call_after, mem, mem_after, base, base_after, opened, group, task_place, check_answer}
+use Rattle.hist_model.specs.Steps.{IsLegal, session_call, mem, mem_after, base, base_after, opened, group, task_place, check_answer}
 use Rattle.hist_model.specs.declared.event.Event.{Event}
 use Rattle.hist_model.specs.declared.event.Actor.{Actor}
 use Rattle.hist_model.specs.declared.event.What.{What}
-use Rattle.hist_model.specs.declared.event.What.TheVariants.{Recv, OpenMem, OpenBase, Check, Read, Act, Plant, AddfdPut, AddfdTake, Send, LetGo, Skip}
+use Rattle.hist_model.specs.declared.event.What.TheVariants.{Recv, OpenMem, OpenBase, Check}
 use Rattle.sys_abi.specs.declared.wire.Notif.{Notif}
 use Rattle.hist_model.proofs.Look.{event_at-older}
 use Rattle.mediation.proofs.Rows.{WorkerRow}

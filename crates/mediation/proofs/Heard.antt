@@ -1,18 +1,16 @@
 -- What a session reads answers the piece that was wanted, so all of it is heard.
-use Rattle.std.proofs.Common.{◌≡◌, inl, inr, ℕ, ◌≤◌, true, false, ◌&&◌, not, List, [], ◌∷◌, ◌++◌, reverse, Option, Some, None, refl, sym, ap, ◌∙◌, arith}
-use Rattle.std.specs.Prelude.{Result, Ok}
-use Rattle.std.proofs.lemmas.Bool.{cases_Bool, and_parts}
+use Rattle.std.proofs.Common.{◌≡◌, ℕ, ◌≤◌, true, false, List, [], ◌∷◌, ◌++◌, reverse, Option, Some, refl, sym, ap, ◌∙◌, arith}
+use Rattle.std.specs.Prelude.{Result}
 use Rattle.std.proofs.lemmas.List.{reverse-append, append-nil}
-use Rattle.hist_model.specs.Look.{is_worker}
 use Rattle.hist_model.specs.Copies.{plan, progress, wanted, fits_piece, heard, with_heard}
 use Rattle.hist_model.specs.Legal.{copied, read_answers, system_of, rules_of}
 use Rattle.hist_model.specs.ReportAudit.{reads}
-use Rattle.hist_model.specs.Sessions.{session, skips, starts, joined, notif_of, reads_of}
+use Rattle.hist_model.specs.Sessions.{session, starts, joined, notif_of, reads_of}
 use Rattle.hist_model.specs.Steps.{IsStep, IsLegal, mem, read_answer}
 use Rattle.hist_model.specs.declared.copy.Part.{Part}
 use Rattle.hist_model.specs.declared.event.Event.{Event}
 use Rattle.hist_model.specs.declared.event.What.{What}
-use Rattle.hist_model.specs.declared.event.What.TheVariants.{Recv, Read}
+use Rattle.hist_model.specs.declared.event.What.TheVariants.{Read}
 use Rattle.hist_model.specs.declared.policy.Policy.{Policy}
 use Rattle.hist_model.specs.declared.script.Figures.{Figures}
 use Rattle.hist_model.specs.declared.script.Script.{Script}

@@ -1,19 +1,18 @@
 -- What holds of a call in a worker's hand, by induction on the steps since it was fetched.
-use Rattle.std.proofs.Common.{◌≡◌, ◌⊎◌, inl, inr, ℕ, ◌<◌, ◌^◌, true, false, ◌&&◌, not, List, [], ◌∷◌, length, Option, Some, None, refl, sym, ◌∙◌, arith}
+use Rattle.std.proofs.Common.{◌≡◌, ℕ, ◌<◌, ◌^◌, true, false, ◌&&◌, not, List, [], ◌∷◌, length, Option, Some, None, sym, ◌∙◌, arith}
 use Rattle.std.specs.Prelude.{Ok, Err}
-use Rattle.std.proofs.lemmas.Bool.{cases_Bool, both_ways}
 use Rattle.hist_model.specs.Look.{ev, is_worker}
-use Rattle.hist_model.specs.Sessions.{Rules, Fetch, session, skips, notif_of, any_of, is_letgo}
+use Rattle.hist_model.specs.Sessions.{Rules, Fetch, session, skips}
 use Rattle.hist_model.specs.Systems.{System}
-use Rattle.hist_model.specs.Steps.{IsStep, IsLegal, session_call, call_after, oldest_unfetched}
+use Rattle.hist_model.specs.Steps.{IsStep, IsLegal, session_call, oldest_unfetched}
 use Rattle.hist_model.specs.declared.event.Event.{Event}
 use Rattle.hist_model.specs.declared.event.Actor.{Actor}
 use Rattle.hist_model.specs.declared.event.What.{What}
-use Rattle.hist_model.specs.declared.event.What.TheVariants.{Recv, OpenMem, OpenBase, Check, Read, Act, Plant, AddfdPut, AddfdTake, Send, LetGo, Skip}
+use Rattle.hist_model.specs.declared.event.What.TheVariants.{Recv, LetGo}
 use Rattle.sys_abi.specs.declared.wire.Notif.{Notif}
 use Rattle.mediation.proofs.Rows.{WorkerRow}
 use Rattle.mediation.proofs.Deeds.{deed-is}
-use Rattle.mediation.proofs.Work.{InSession, Idle, Hand, hand, worker-row, works, works-keep, session-same, session-more, grown, call-same, call-more, no-fetch, call-still}
+use Rattle.mediation.proofs.Work.{InSession, Idle, Hand, hand, worker-row, works, works-keep, session-same, session-more, grown, call-more, no-fetch, call-still}
 
 no-call : (w c : ℕ) → session_call [] w ≡ Some c → ⊥
 unfolding session_call
@@ -23,17 +22,26 @@ no-call w c h = cc
 pub in-hand-of : (S : System) (R : Rules) (K : List Event) (w c : ℕ) → IsLegal S R K → session_call K w ≡ Some c → InSession K w c
 in-hand-of S R K w c legal h = rw h at (hand S R K legal w)
 
--- a fact of calls in hand, kept by each step
+-- a fact of calls in hand is there after the worker's receive
+abbrev pub FetchKept : System → Rules → (List Event → ℕ → ℕ → Type 0) → Type 0
+FetchKept S R P = (K : List Event) (a : Actor) (w c : ℕ) (n : Notif) → IsStep S R K (ev a (Recv (Ok n))) → IsLegal S R K → length (ev a (Recv (Ok n)) ∷ K) < 2 ^ 64 → is_worker a w ≡ true
+    → WorkerRow S R K w (Recv (Ok n)) → oldest_unfetched K ≡ Some c → Idle K w → P (ev a (Recv (Ok n)) ∷ K) w c
+
+-- a step of the session keeps it
+abbrev pub WorkKept : System → Rules → (List Event → ℕ → ℕ → Type 0) → Type 0
+WorkKept S R P = (K : List Event) (a : Actor) (w c : ℕ) (what : What) → IsStep S R K (ev a what) → IsLegal S R K → length (ev a what ∷ K) < 2 ^ 64 → is_worker a w ≡ true
+    → WorkerRow S R K w what → works what ≡ true → (i : InSession K w c) → session_call K w ≡ Some c → session (ev a what ∷ K) w ≡ what ∷ session K w → P K w c → P (ev a what ∷ K) w c
+
+-- a step of another, or a skip, keeps it
+abbrev pub StillKept : System → Rules → (List Event → ℕ → ℕ → Type 0) → Type 0
+StillKept S R P = (K : List Event) (e : Event) (w c : ℕ) → IsStep S R K e → IsLegal S R K → length (e ∷ K) < 2 ^ 64 → (is_worker e.who w && not (skips e.what)) ≡ false
+    → (i : InSession K w c) → session_call K w ≡ Some c → session (e ∷ K) w ≡ session K w → P K w c → P (e ∷ K) w c
+
+-- and each step does
 pub record StepKept (S : System) (R : Rules) (P : List Event → ℕ → ℕ → Type 0) : Type 0 where
-  -- the worker's receive
-  pub fetch : (K : List Event) (a : Actor) (w c : ℕ) (n : Notif) → IsStep S R K (ev a (Recv (Ok n))) → IsLegal S R K → length (ev a (Recv (Ok n)) ∷ K) < 2 ^ 64 → is_worker a w ≡ true
-      → WorkerRow S R K w (Recv (Ok n)) → oldest_unfetched K ≡ Some c → Idle K w → P (ev a (Recv (Ok n)) ∷ K) w c
-  -- a step of the session
-  pub work : (K : List Event) (a : Actor) (w c : ℕ) (what : What) → IsStep S R K (ev a what) → IsLegal S R K → length (ev a what ∷ K) < 2 ^ 64 → is_worker a w ≡ true
-      → WorkerRow S R K w what → works what ≡ true → (i : InSession K w c) → session_call K w ≡ Some c → session (ev a what ∷ K) w ≡ what ∷ session K w → P K w c → P (ev a what ∷ K) w c
-  -- a step of another, or a skip
-  pub still : (K : List Event) (e : Event) (w c : ℕ) → IsStep S R K e → IsLegal S R K → length (e ∷ K) < 2 ^ 64 → (is_worker e.who w && not (skips e.what)) ≡ false
-      → (i : InSession K w c) → session_call K w ≡ Some c → session (e ∷ K) w ≡ session K w → P K w c → P (e ∷ K) w c
+  pub fetch : FetchKept S R P
+  pub work : WorkKept S R P
+  pub still : StillKept S R P
 
 module _ (S : System) (R : Rules) (P : List Event → ℕ → ℕ → Type 0) (k : StepKept S R P) where
   module _ (K : List Event) (w : ℕ) (legal : IsLegal S R K) (ih : (c : ℕ) → session_call K w ≡ Some c → P K w c) where

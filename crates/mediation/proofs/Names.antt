@@ -1,7 +1,7 @@
 -- What a session names is its own call or nothing.
 use Rattle.std.proofs.Common.{◌≡◌, ℕ, ◌<◌, ◌^◌, true, ◌&&◌, List, length, Some, ◌∙◌, arith}
 use Rattle.std.specs.Prelude.{◌==◌}
-use Rattle.std.proofs.lemmas.Bool.{and_parts, and_from, eqb-true, eq-eqb}
+use Rattle.std.proofs.lemmas.Bool.{and_from, eq-eqb}
 use Rattle.hist_model.specs.Calls.{listed, id, named}
 use Rattle.hist_model.specs.Sessions.{Rules}
 use Rattle.hist_model.specs.Systems.{System}

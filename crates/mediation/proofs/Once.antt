@@ -1,18 +1,18 @@
 -- A call is answered at most once.
-use Rattle.std.proofs.Common.{◌≡◌, inl, inr, ℕ, ◌≤◌, true, false, ◌&&◌, List, [], ◌∷◌, Option, Some, None, refl, sym, arith}
+use Rattle.std.proofs.Common.{◌≡◌, inl, inr, ℕ, ◌≤◌, true, false, List, [], ◌∷◌, Option, refl, sym, arith}
 use Rattle.std.specs.Prelude.{Result, Ok, Err}
-use Rattle.std.proofs.lemmas.Bool.{cases_Bool, and_parts, or_cases, eqb-true}
+use Rattle.std.proofs.lemmas.Bool.{cases_Bool}
 use Rattle.hist_model.specs.Look.{is_place, is_task}
-use Rattle.hist_model.specs.Calls.{listed, named, answers, settled, settles, waiting, installs_for, is_install, gave, first_sends, queue, caller}
+use Rattle.hist_model.specs.Calls.{listed, settled, settles, waiting, is_install, caller}
 use Rattle.hist_model.specs.Sessions.{Rules}
 use Rattle.hist_model.specs.Systems.{System}
-use Rattle.hist_model.specs.Steps.{IsStep, IsLegal, send_answer}
+use Rattle.hist_model.specs.Steps.{IsLegal, send_answer}
 use Rattle.hist_model.specs.Laws.{answers_to, AnsweredOnce}
 use Rattle.hist_model.specs.declared.event.Event.{Event}
 use Rattle.hist_model.specs.declared.event.Actor.{Actor}
-use Rattle.hist_model.specs.declared.event.Actor.TheVariants.{Start, Task, Worker, Listener}
+use Rattle.hist_model.specs.declared.event.Actor.TheVariants.{Task}
 use Rattle.hist_model.specs.declared.event.What.{What}
-use Rattle.hist_model.specs.declared.event.What.TheVariants.{Send, Install}
+use Rattle.hist_model.specs.declared.event.What.TheVariants.{Install}
 use Rattle.mediation.proofs.Rows.{Row, row-of}
 use Rattle.mediation.proofs.Own.{waits-in}
 use Rattle.hist_model.proofs.Look.{name_eq-true}

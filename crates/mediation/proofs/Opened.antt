@@ -1,23 +1,18 @@
 -- A session that has opened its memory has one, and it is its call's task's.
-use Rattle.std.proofs.Common.{◌≡◌, inl, inr, ℕ, ◌<◌, ◌^◌, true, false, ◌&&◌, ◌||◌, not, List, [], ◌∷◌, length, Option, Some, None, refl, ap, ◌∙◌, arith}
+use Rattle.std.proofs.Common.{◌≡◌, inl, inr, ℕ, ◌<◌, ◌^◌, true, false, List, [], ◌∷◌, length, Option, Some, None, refl, ap, ◌∙◌, arith}
 use Rattle.std.specs.Prelude.{if◌then◌else◌, Result, Ok, Err}
-use Rattle.std.proofs.lemmas.Bool.{cases_Bool, or_cases, or_parts, or_left, or_right}
-use Rattle.hist_model.specs.Look.{ev, is_worker}
-use Rattle.hist_model.specs.Tasks.{holder}
-use Rattle.hist_model.specs.Sessions.{Rules, session, skips, any_of, gives_up, opens, checks}
+use Rattle.std.proofs.lemmas.Bool.{or_cases, or_parts, or_left, or_right}
+use Rattle.hist_model.specs.Sessions.{Rules, session, any_of, gives_up, opens, checks}
 use Rattle.hist_model.specs.Systems.{System}
 use Rattle.hist_model.specs.Orders.{is_good_check}
-use Rattle.hist_model.specs.Steps.{IsStep, IsLegal, session_call, mem, mem_after, opened, group, lives, oldest_unfetched}
+use Rattle.hist_model.specs.Steps.{IsLegal, session_call, mem, opened, group, lives}
 use Rattle.hist_model.specs.Mediated.{HasMemory}
 use Rattle.hist_model.specs.declared.event.Event.{Event}
-use Rattle.hist_model.specs.declared.event.Actor.{Actor}
 use Rattle.hist_model.specs.declared.event.What.{What}
-use Rattle.hist_model.specs.declared.event.What.TheVariants.{Recv, OpenMem, OpenBase, Check, Read, Act, Plant, AddfdPut, AddfdTake, Send, Skip}
-use Rattle.sys_abi.specs.declared.wire.Notif.{Notif}
-use Rattle.mediation.proofs.Rows.{WorkerRow}
-use Rattle.mediation.proofs.Work.{InSession, Idle, works, session-more, started, mem-still as still-mem, mem-more}
+use Rattle.hist_model.specs.declared.event.What.TheVariants.{Check}
+use Rattle.mediation.proofs.Work.{session-more, started, mem-still as still-mem, mem-more}
 use Rattle.mediation.proofs.Handles.{Steady, steady}
-use Rattle.mediation.proofs.InHand.{by-session, in-hand-of}
+use Rattle.mediation.proofs.InHand.{by-session, in-hand-of, FetchKept, WorkKept, StillKept}
 
 -- a check that did not end the session was good
 pub good-check : (own : List What) → any_of checks own ≡ true → any_of gives_up own ≡ false → any_of is_good_check own ≡ true
@@ -43,16 +38,13 @@ opened-living K None u h = cc
 opened-living K (Some t) u h = (group K t, refl)
 
 module _ (S : System) (R : Rules) where
-  mem-fetch : (K : List Event) (a : Actor) (w c : ℕ) (n : Notif) → IsStep S R K (ev a (Recv (Ok n))) → IsLegal S R K → length (ev a (Recv (Ok n)) ∷ K) < 2 ^ 64 → is_worker a w ≡ true
-      → WorkerRow S R K w (Recv (Ok n)) → oldest_unfetched K ≡ Some c → Idle K w → MemoryOpened (ev a (Recv (Ok n)) ∷ K) w c
+  mem-fetch : FetchKept S R MemoryOpened
   mem-fetch K a w c n r legal room q row o idle h g = grind (arith, session-more, started)
 
-  mem-work : (K : List Event) (a : Actor) (w c : ℕ) (what : What) → IsStep S R K (ev a what) → IsLegal S R K → length (ev a what ∷ K) < 2 ^ 64 → is_worker a w ≡ true
-      → WorkerRow S R K w what → works what ≡ true → (i : InSession K w c) → session_call K w ≡ Some c → session (ev a what ∷ K) w ≡ what ∷ session K w → MemoryOpened K w c → MemoryOpened (ev a what ∷ K) w c
+  mem-work : WorkKept S R MemoryOpened
   mem-work K a w c what r legal room q row v i s own ih h g = grind (arith, mem-more, opened-living)
 
-  mem-still : (K : List Event) (e : Event) (w c : ℕ) → IsStep S R K e → IsLegal S R K → length (e ∷ K) < 2 ^ 64 → (is_worker e.who w && not (skips e.what)) ≡ false
-      → (i : InSession K w c) → session_call K w ≡ Some c → session (e ∷ K) w ≡ session K w → MemoryOpened K w c → MemoryOpened (e ∷ K) w c
+  mem-still : StillKept S R MemoryOpened
   mem-still K e w c r legal room q i s own ih h g = grind (arith, still-mem)
 
   pub has-memory : (K : List Event) → IsLegal S R K → length K < 2 ^ 64 → (w c : ℕ) → session_call K w ≡ Some c → MemoryOpened K w c

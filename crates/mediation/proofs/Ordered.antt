@@ -2,7 +2,7 @@
 use Rattle.std.proofs.Common.{◌≡◌, ◌⊎◌, inl, inr, ℕ, ◌<◌, ◌≤◌, true, false, List, [], ◌∷◌, Some, None, refl, sym, ◌∙◌, arith}
 use Rattle.std.specs.Prelude.{Ok, Err, ℤ}
 use Rattle.std.proofs.lemmas.Bool.{cases_Bool, or_parts, eqb-true, eqb-false, both_ways}
-use Rattle.hist_model.specs.Sessions.{Rules, starts, notif_of, any_of, number_of, checks, opens, opens_base, gives_up, is_read, reads_of}
+use Rattle.hist_model.specs.Sessions.{Rules, notif_of, any_of, number_of, checks, opens, opens_base, gives_up, is_read, reads_of}
 use Rattle.hist_model.specs.Orders.{InOrder, is_good_check}
 use Rattle.hist_model.specs.declared.event.What.{What}
 use Rattle.hist_model.specs.declared.event.What.TheVariants.{Recv, OpenMem, OpenBase, Check, Read, Act, Plant, AddfdPut, Send}

@@ -1,5 +1,5 @@
 -- A listed call's task lives, and its last own event is that call.
-use Rattle.std.proofs.Common.{◌≡◌, ◌⊎◌, inl, inr, ℕ, ◌+◌, ◌<◌, true, false, ◌&&◌, ◌||◌, not, ◌%◌, ◌^◌, List, [], ◌∷◌, length, Option, Some, None, refl, ap, ◌∙◌, subst, arith}
+use Rattle.std.proofs.Common.{◌≡◌, ◌⊎◌, inl, inr, ℕ, ◌+◌, ◌<◌, true, false, ◌&&◌, ◌||◌, not, ◌%◌, ◌^◌, List, [], ◌∷◌, length, Some, None, refl, arith}
 use Rattle.std.specs.Prelude.{◌==◌, ℤ}
 use Rattle.std.proofs.lemmas.Bool.{cases_Bool, eqb-true, not-true, and_parts, and_from, ne_eqb, eq-eqb}
 use Rattle.hist_model.specs.Look.{Name, name_eq, is_task, task_name}
@@ -14,9 +14,8 @@ use Rattle.hist_model.specs.declared.event.Event.{Event}
 use Rattle.hist_model.specs.declared.event.Actor.{Actor}
 use Rattle.hist_model.specs.declared.event.Actor.TheVariants.{Start, Task, Worker, Listener}
 use Rattle.hist_model.specs.declared.event.What.{What}
-use Rattle.hist_model.specs.declared.event.What.TheVariants.{Native, Install, Spawn, Poke, Handler, Enter, Resume, Deliver, Exit, Signal, Reap, Skip}
+use Rattle.hist_model.specs.declared.event.What.TheVariants.{Enter}
 use Rattle.hist_model.specs.declared.event.Entered.{Entered}
-use Rattle.hist_model.specs.declared.event.Entered.TheVariants.{Notify}
 use Rattle.hist_model.proofs.Look.{event_at-here, event_at-older, below_or_last, name_eq-true, name_eq-refl, newest-found, newest-some}
 use Rattle.mediation.proofs.Rows.{Row, TaskRow, row-of}
 

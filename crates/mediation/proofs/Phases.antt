@@ -1,18 +1,17 @@
 -- How far a listed call is: not fetched, in hand, or answered.
 use Rattle.std.proofs.Common.{◌≡◌, ◌⊎◌, inl, inr, ℕ, ◌<◌, ◌≤◌, ◌^◌, Bool, true, false, ◌&&◌, ◌||◌, List, [], ◌∷◌, length, Option, Some, None, refl, sym, ap, ◌∙◌, arith}
 use Rattle.std.specs.Prelude.{◌==◌, Result, Ok, Err}
-use Rattle.std.proofs.lemmas.Bool.{cases_Bool, and_parts, or_right, or_left, eqb-true, eq-eqb, false_from_ne_true, both_ways}
+use Rattle.std.proofs.lemmas.Bool.{cases_Bool, or_right, or_left, eqb-true, eq-eqb, both_ways}
 use Rattle.hist_model.specs.Look.{is_place, is_worker}
 use Rattle.hist_model.specs.Calls.{listed, fetched, fetches, id, named, answers, settled, puts_to, installs_for, queue, is_send}
 use Rattle.hist_model.specs.Sessions.{Rules, session, any_of, gives_up, addfd_of, first_some, put_in, take_in}
 use Rattle.hist_model.specs.Systems.{System, Slot, Number, Full, Over}
-use Rattle.hist_model.specs.Steps.{IsLegal, session_call, call_after, call_at, install_of, installed, request_of, request_after, slot_answer, oldest_unfetched}
+use Rattle.hist_model.specs.Steps.{IsLegal, session_call, call_after, call_at, install_of, installed, request_of, request_after, slot_answer}
 use Rattle.hist_model.specs.Laws.{fetcher, worker_of}
 use Rattle.hist_model.specs.declared.event.Event.{Event}
 use Rattle.hist_model.specs.declared.event.Actor.{Actor}
-use Rattle.hist_model.specs.declared.event.Actor.TheVariants.{Worker}
 use Rattle.hist_model.specs.declared.event.What.{What}
-use Rattle.hist_model.specs.declared.event.What.TheVariants.{Recv, AddfdPut, Send, LetGo, Install}
+use Rattle.hist_model.specs.declared.event.What.TheVariants.{AddfdPut, Send, Install}
 use Rattle.sys_abi.specs.declared.wire.Notif.{Notif}
 use Rattle.sys_abi.specs.declared.wire.Addfd.{Addfd}
 use Rattle.hist_model.proofs.Look.{event_at-older}

@@ -1,19 +1,15 @@
 -- Unreaped tasks have different process numbers.
-use Rattle.std.proofs.Common.{◌≡◌, inl, inr, ℕ, zero, suc, ◌+◌, ◌-◌, ◌<◌, ◌≤◌, Bool, true, false, ◌&&◌, not, List, [], ◌∷◌, length, Option, Some, None, refl, sym, ap, ◌∙◌, arith}
-use Rattle.std.specs.Prelude.{if◌then◌else◌}
-use Rattle.std.proofs.lemmas.Bool.{cases_order, eqb-true, or_right}
-use Rattle.hist_model.specs.Look.{Name, newest, is_task, or_else}
-use Rattle.hist_model.specs.Tasks.{ended, was_waited_for, reaped, ends, holds, holder, pid_of, name_of, given, is_some_of, free_from, next_pid, last_pid, is_none}
+use Rattle.std.proofs.Common.{◌≡◌, ℕ, zero, suc, ◌+◌, ◌<◌, true, ◌&&◌, List, [], ◌∷◌, length, Some, None, arith}
+use Rattle.std.proofs.lemmas.Bool.{or_right}
+use Rattle.hist_model.specs.Look.{Name, newest, is_task}
+use Rattle.hist_model.specs.Tasks.{ended, was_waited_for, reaped, ends, holds, holder, given, free_from, next_pid}
 use Rattle.hist_model.specs.Sessions.{Rules}
 use Rattle.hist_model.specs.Systems.{System}
-use Rattle.hist_model.specs.Steps.{IsStep, IsLegal, spawn_answer}
+use Rattle.hist_model.specs.Steps.{IsStep, IsLegal}
 use Rattle.hist_model.specs.Laws.{PidsDiffer}
 use Rattle.hist_model.specs.declared.event.Event.{Event}
 use Rattle.hist_model.specs.declared.event.Actor.{Actor}
-use Rattle.hist_model.specs.declared.event.Actor.TheVariants.{Start, Task, Worker, Listener}
 use Rattle.hist_model.specs.declared.event.What.{What}
-use Rattle.hist_model.specs.declared.event.What.TheVariants.{Spawn}
-use Rattle.hist_model.specs.declared.event.SpawnKind.{SpawnKind}
 use Rattle.hist_model.proofs.Look.{event_at-here, event_at-older, event_at-above, below_or_last, newest-found}
 use Rattle.mediation.proofs.Rows.{Row, row-of}
 

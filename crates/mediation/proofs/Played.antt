@@ -6,10 +6,9 @@ use Rattle.hist_model.specs.Steps.{IsStep, IsLegal, is_start, is_actor, step}
 use Rattle.hist_model.specs.Mediated.{takes}
 use Rattle.hist_model.specs.Legal.{Legal, played, started, system_of, rules_of, with_step, with_steps, with_schedule}
 use Rattle.hist_model.specs.declared.event.Actor.{Actor}
-use Rattle.hist_model.specs.declared.event.Actor.TheVariants.{Start, Task, Worker, Listener}
+use Rattle.hist_model.specs.declared.event.Actor.TheVariants.{Listener}
 use Rattle.hist_model.specs.declared.event.Event.{Event}
 use Rattle.hist_model.specs.declared.event.What.{What}
-use Rattle.hist_model.specs.declared.event.What.TheVariants.{Close}
 use Rattle.hist_model.specs.declared.policy.Policy.{Policy}
 use Rattle.hist_model.specs.declared.script.Script.{Script}
 use Rattle.hist_model.specs.declared.script.Step.{Step}

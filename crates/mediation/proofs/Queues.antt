@@ -1,18 +1,18 @@
 -- What changes a call's requests and its answer.
-use Rattle.std.proofs.Common.{◌≡◌, inl, inr, ℕ, ◌<◌, ◌≤◌, Bool, true, false, ◌&&◌, not, List, [], ◌∷◌, ◌++◌, length, Option, Some, None, refl, sym, ap, ◌∙◌, arith}
-use Rattle.std.specs.Prelude.{if◌then◌else◌, ◌==◌, Result, Ok, Err}
-use Rattle.std.proofs.lemmas.Bool.{cases_Bool, and_parts, or_right, eqb-true, ne_eqb, eq-eqb, false_from_ne_true}
-use Rattle.hist_model.specs.Look.{is_place, is_task, oldest, task_name}
-use Rattle.hist_model.specs.Calls.{listed, fetched, caller, id, named, answers, settled, settles, waiting, puts_to, installs_for, is_install, queue, rest_of, has_send_flag}
+use Rattle.std.proofs.Common.{◌≡◌, ℕ, ◌<◌, ◌≤◌, Bool, true, false, List, [], ◌∷◌, ◌++◌, length, Option, Some, None, refl, sym, ◌∙◌, arith}
+use Rattle.std.specs.Prelude.{if◌then◌else◌, Result, Ok, Err}
+use Rattle.std.proofs.lemmas.Bool.{or_right, eqb-true, ne_eqb, eq-eqb}
+use Rattle.hist_model.specs.Look.{is_place, is_task, task_name}
+use Rattle.hist_model.specs.Calls.{listed, fetched, caller, named, answers, settled, settles, waiting, puts_to, installs_for, is_install, queue, rest_of}
 use Rattle.hist_model.specs.Signals.{call_of}
 use Rattle.hist_model.specs.Sessions.{Rules}
 use Rattle.hist_model.specs.Systems.{System}
-use Rattle.hist_model.specs.Steps.{IsLegal, call_at, asked_call, is_first, install_step, slot_answer, put_answer, is_empty}
+use Rattle.hist_model.specs.Steps.{IsLegal, call_at, asked_call, is_first, install_step, slot_answer, put_answer}
 use Rattle.hist_model.specs.declared.event.Event.{Event}
 use Rattle.hist_model.specs.declared.event.Actor.{Actor}
-use Rattle.hist_model.specs.declared.event.Actor.TheVariants.{Start, Task, Worker, Listener}
+use Rattle.hist_model.specs.declared.event.Actor.TheVariants.{Task}
 use Rattle.hist_model.specs.declared.event.What.{What}
-use Rattle.hist_model.specs.declared.event.What.TheVariants.{AddfdPut, Install, Send}
+use Rattle.hist_model.specs.declared.event.What.TheVariants.{Install}
 use Rattle.sys_abi.specs.declared.wire.Addfd.{Addfd}
 use Rattle.hist_model.proofs.Look.{oldest-some, name_eq-true}
 use Rattle.mediation.proofs.Rows.{Row}

@@ -1,20 +1,14 @@
 -- The receives that found nothing are for calls that left the list unfetched.
-use Rattle.std.proofs.Common.{◌≡◌, inl, inr, ℕ, zero, suc, ◌+◌, ◌<◌, ◌≤◌, ◌^◌, Bool, true, false, ◌&&◌, ◌||◌, not, List, [], ◌∷◌, length, Option, Some, None, refl, ap, arith}
-use Rattle.std.specs.Prelude.{Result, Err}
-use Rattle.std.proofs.lemmas.Bool.{cases_Bool, eqb-false, both_ways}
-use Rattle.hist_model.specs.Calls.{listed, fetched, is_call, count, caller, unlists, fetches, id}
+use Rattle.std.proofs.Common.{◌≡◌, ℕ, zero, suc, ◌+◌, ◌<◌, ◌≤◌, ◌^◌, Bool, true, false, ◌&&◌, not, List, [], ◌∷◌, length, None, refl, arith}
+use Rattle.hist_model.specs.Calls.{listed, fetched, is_call}
 use Rattle.hist_model.specs.Sessions.{Rules}
 use Rattle.hist_model.specs.Systems.{System}
-use Rattle.hist_model.specs.Steps.{IsStep, IsLegal, recv_answer, oldest_unfetched}
+use Rattle.hist_model.specs.Steps.{IsStep, IsLegal, oldest_unfetched}
 use Rattle.hist_model.specs.Laws.{count_below, empty_recvs, gets_nothing}
 use Rattle.hist_model.specs.Mediated.{left_unfetched, ReceivesFor}
 use Rattle.hist_model.specs.declared.event.Event.{Event}
-use Rattle.hist_model.specs.declared.event.Actor.{Actor}
-use Rattle.hist_model.specs.declared.event.What.{What}
-use Rattle.hist_model.specs.declared.event.What.TheVariants.{Recv}
-use Rattle.sys_abi.specs.declared.wire.Notif.{Notif}
 use Rattle.hist_model.proofs.Look.{event_at-older, oldest-none}
-use Rattle.mediation.proofs.Rows.{Row, row-of}
+use Rattle.mediation.proofs.Rows.{row-of}
 use Rattle.mediation.proofs.Own.{listed-older}
 use Rattle.mediation.proofs.Count.{count_is}
 

@@ -1,6 +1,6 @@
 -- The small histories that wrong kernels and brokers would make are not legal.
-use Rattle.std.proofs.Common.{◌≡◌, ℕ, ◌<◌, ◌&&◌, Bool, true, false, List, [], ◌∷◌, length, None, refl, ap, ◌∙◌, arith}
-use Rattle.std.specs.Prelude.{Ok, Err, pos, nat_le, ◌==◌}
+use Rattle.std.proofs.Common.{◌≡◌, ℕ, ◌<◌, ◌&&◌, Bool, true, false, List, [], ◌∷◌, length, refl, arith}
+use Rattle.std.specs.Prelude.{Ok, pos, nat_le, ◌==◌}
 use Rattle.std.proofs.lemmas.Bool.{and_parts, eqb-false}
 use Rattle.hist_model.specs.Look.{ev, event_at, newest, oldest}
 use Rattle.hist_model.specs.Tasks.{ended, was_waited_for, reaped, holder, free_from, last_pid, next_pid, is_made, mode, pending}
@@ -10,14 +10,13 @@ use Rattle.hist_model.specs.Sessions.{Rules, session, deed}
 use Rattle.hist_model.specs.Systems.{System}
 use Rattle.hist_model.specs.Steps.{IsLegal, is_start, is_actor, start, step, task_step, worker_step, steps_of, reply, oldest_unfetched, task_place, group, mem, base, session_call, install_of, call_at, request_of, owes_native, times_spent}
 use Rattle.hist_model.specs.declared.event.Actor.{Actor}
-use Rattle.hist_model.specs.declared.event.Actor.TheVariants.{Start, Task, Worker, Listener}
+use Rattle.hist_model.specs.declared.event.Actor.TheVariants.{Task, Worker}
 use Rattle.hist_model.specs.declared.event.Event.{Event}
 use Rattle.hist_model.specs.declared.event.What.{What}
-use Rattle.hist_model.specs.declared.event.What.TheVariants.{Recv, OpenMem, Check, Read, Act, Install, AddfdPut, Send, LetGo, Exit, Close}
-use Rattle.hist_model.specs.declared.event.Back.TheVariants.{Value}
+use Rattle.hist_model.specs.declared.event.What.TheVariants.{Recv, AddfdPut}
 use Rattle.sys_abi.specs.declared.wire.Addfd.{Addfd}
 use Rattle.sys_abi.specs.declared.wire.Notif.{Notif}
-use Rattle.mediation.specs.Refused.{after, played, Refuses, one_call, reused, interrupted, two_calls, granting, injecting, asked, parent, worker, read_once, checked_twice, answered, renumbered, put_and_interrupted, both_called, newest_notif, without_send, EarlyEffect, LateOpening, SecondReading, SecondAnswer, ValidByNumber, LateInstallation, WithoutSend, NewestFirst}
+use Rattle.mediation.specs.Refused.{after, played, Refuses, EarlyEffect, LateOpening, SecondReading, SecondAnswer, ValidByNumber, LateInstallation, WithoutSend, NewestFirst}
 use Rattle.mediation.proofs.Rows.{Row, step-row}
 
 -- tasks and workers

@@ -1,12 +1,12 @@
 -- Answers: whose they are, what causes them, and when they tell that a call is gone.
-use Rattle.std.proofs.Common.{◌≡◌, Bool, ◌⊎◌, inl, inr, ℕ, ◌<◌, ◌^◌, true, false, List, [], ◌∷◌, length, refl, ap, arith, ◌||◌, not, ◌∙◌, sym, None, Some, Option}
+use Rattle.std.proofs.Common.{◌≡◌, Bool, ◌⊎◌, inl, inr, ℕ, ◌<◌, ◌^◌, true, false, List, [], ◌∷◌, length, refl, ap, arith, ◌||◌, not, ◌∙◌, None, Some, Option}
 use Rattle.std.specs.Prelude.{Result, Ok, Err, ◌==◌, if◌then◌else◌}
-use Rattle.std.proofs.lemmas.Bool.{or_cases, eqb-true, eq-eqb, false_from_ne_true, cases_Bool, both_ways}
-use Rattle.hist_model.specs.Look.{is_worker, Name, is_place}
-use Rattle.hist_model.specs.Calls.{listed, named, waiting, queue, puts_to, answers}
+use Rattle.std.proofs.lemmas.Bool.{eq-eqb, false_from_ne_true, cases_Bool, both_ways}
+use Rattle.hist_model.specs.Look.{is_worker, is_place}
+use Rattle.hist_model.specs.Calls.{listed, named, puts_to, answers}
 use Rattle.hist_model.specs.Sessions.{Rules, session, Answer, Put, addfd_of}
-use Rattle.hist_model.specs.Systems.{System, Slot, Number, Full, Over}
-use Rattle.hist_model.specs.Steps.{IsStep, IsLegal, session_call, start, is_start, send_answer, put_answer, check_answer, take_step, install_of, install_at, install_step, installed, installs_request, request_of, request_listed, call_at, slot_answer}
+use Rattle.hist_model.specs.Systems.{System}
+use Rattle.hist_model.specs.Steps.{IsStep, IsLegal, session_call, send_answer, put_answer, install_of}
 use Rattle.hist_model.specs.Settlers.{InstallsOwn, ResumesOwn, ReturnsInstalled}
 use Rattle.hist_model.specs.Mediated.{HasCause, NeverBusy, is_busy, ErrorsKnown, is_known_error, TakenByItsActor, takes, Each, NamesOwn, is_accepted, LostIfGone, is_lost}
 use Rattle.mediation.proofs.Settlers.{installs-own, resumes-own, returns-installed}
@@ -15,13 +15,13 @@ use Rattle.sys_abi.specs.declared.wire.Addfd.{Addfd}
 use Rattle.sys_abi.specs.declared.wire.Notif.{Notif}
 use Rattle.hist_model.specs.declared.event.Event.{Event}
 use Rattle.hist_model.specs.declared.event.Actor.{Actor}
-use Rattle.hist_model.specs.declared.event.Actor.TheVariants.{Worker, Start, Task, Listener}
+use Rattle.hist_model.specs.declared.event.Actor.TheVariants.{Worker}
 use Rattle.hist_model.specs.declared.event.What.{What}
 use Rattle.hist_model.specs.declared.event.Back.{Back}
-use Rattle.hist_model.specs.declared.event.What.TheVariants.{Spawn, Poke, Handler, Enter, Native, Install, Resume, Signal, Deliver, Reap, Exit, Recv, OpenMem, OpenBase, Check, Read, Act, Plant, AddfdPut, AddfdTake, Send, LetGo, Skip}
-use Rattle.mediation.proofs.Rows.{Row, WorkerRow, TaskRow, row-of}
+use Rattle.hist_model.specs.declared.event.What.TheVariants.{OpenMem, OpenBase, Check, AddfdPut, AddfdTake, Send}
+use Rattle.mediation.proofs.Rows.{Row, WorkerRow, row-of}
 use Rattle.mediation.proofs.Deeds.{deed-is, AtWork}
-use Rattle.mediation.proofs.Work.{InSession, hand, hand-notif, worker-row, in-hand, works, at-work}
+use Rattle.mediation.proofs.Work.{InSession, hand, hand-notif, in-hand, works, at-work}
 use Rattle.mediation.proofs.Sequence.{is-own}
 use Rattle.mediation.proofs.Phases.{AtCall, acts-own}
 use Rattle.mediation.proofs.Answered.{check-is, send-is, put-is, take-is, open-is, base-is}

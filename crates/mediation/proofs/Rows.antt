@@ -1,17 +1,16 @@
 -- What the step of an actor can be, kind by kind, and what it then tells.
-use Rattle.std.proofs.Common.{◌≡◌, ℕ, ◌+◌, ◌%◌, ◌^◌, Bool, true, false, not, List, [], ◌∷◌, length, Option, Some, None, refl, sym, ◌∙◌, arith}
-use Rattle.std.specs.Prelude.{if◌then◌else◌, ◌==◌, Result, Ok, Err}
+use Rattle.std.proofs.Common.{◌≡◌, ℕ, ◌+◌, ◌%◌, ◌^◌, Bool, true, false, not, List, [], ◌∷◌, length, Option, Some, None, refl, arith}
+use Rattle.std.specs.Prelude.{if◌then◌else◌, ◌==◌, Ok, Err}
 use Rattle.hist_model.specs.Look.{Name, oldest}
 use Rattle.hist_model.specs.Tasks.{alive, next_pid, holder, mode}
 use Rattle.hist_model.specs.Calls.{calls, settled, named, count, queue}
 use Rattle.hist_model.specs.Signals.{next_signal, call_of, effect_in_call, effect_outside}
-use Rattle.hist_model.specs.Sessions.{session, deed, Rules, Deed, Fetch, Open, OpenB, Ask, ReadD, ActD, PlantD, Put, Take, Answer, Let}
+use Rattle.hist_model.specs.Sessions.{session, deed, Rules, Fetch, Open, OpenB, Ask, ReadD, ActD, PlantD, Put, Take, Answer, Let}
 use Rattle.hist_model.specs.Systems.{System}
-use Rattle.hist_model.specs.Steps.{step, task_step, living_step, worker_step, deed_step, instr_step, deliver_or, wait_step, reply, spawn_answer, found, is_child, is_ended_child, next_instr, recv_answer, oldest_unfetched, lives, check_answer, send_answer, with_id, owes_native, install_step, base_answer, read_answer, put_answer, mem, take_step, next_child, is_spent, is_start, IsStep, install_at, request_of, request_listed}
+use Rattle.hist_model.specs.Steps.{step, task_step, living_step, worker_step, instr_step, deliver_or, wait_step, reply, spawn_answer, found, is_child, is_ended_child, next_instr, recv_answer, oldest_unfetched, lives, check_answer, send_answer, with_id, owes_native, install_step, base_answer, read_answer, put_answer, mem, take_step, next_child, is_spent, is_start, IsStep, install_at, request_of, request_listed}
 use Rattle.hist_model.specs.declared.event.Event.{Event}
 use Rattle.hist_model.specs.declared.script.Instr.{Instr}
-use Rattle.hist_model.specs.declared.script.Instr.TheVariants.{Poke as IPoke, Fill as IFill, Call as ICall, Spawn as ISpawn, Thread as IThread, Kill as IKill, Handler as IHandler, Wait as IWait, Exit as IExit}
-use Rattle.hist_model.specs.declared.event.SpawnKind.TheVariants.{New, Copied, Shared}
+use Rattle.hist_model.specs.declared.event.SpawnKind.TheVariants.{New}
 use Rattle.hist_model.specs.declared.event.Actor.{Actor}
 use Rattle.hist_model.specs.declared.event.Actor.TheVariants.{Start, Task, Worker, Listener}
 use Rattle.hist_model.specs.declared.event.What.{What}

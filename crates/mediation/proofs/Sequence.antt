@@ -1,17 +1,15 @@
 -- A session by itself: each of its steps is the deed after those before it.
-use Rattle.std.proofs.Common.{◌≡◌, inl, inr, ℕ, Bool, true, false, ◌&&◌, ◌||◌, not, List, [], ◌∷◌, Option, Some, None, refl, sym, ap, ◌∙◌, arith}
+use Rattle.std.proofs.Common.{◌≡◌, inl, inr, ℕ, Bool, true, false, ◌||◌, List, [], ◌∷◌, Option, Some, None, refl, sym, ap, ◌∙◌, arith}
 use Rattle.std.specs.Prelude.{◌==◌, Result, Ok}
-use Rattle.std.proofs.lemmas.Bool.{cases_Bool, and_parts}
-use Rattle.hist_model.specs.Look.{is_worker}
-use Rattle.hist_model.specs.Sessions.{Rules, Fetch, Open, OpenB, Ask, ReadD, ActD, PlantD, Put, Take, Answer, Let, Decision, Injects, fetched_by, deed, session, skips, starts, joined, notif_of, any_of, is_read, reads_of, first_some, put_in, take_in, checks, number_of}
+use Rattle.std.proofs.lemmas.Bool.{cases_Bool}
+use Rattle.hist_model.specs.Sessions.{Rules, Fetch, Open, OpenB, Ask, ReadD, ActD, PlantD, Put, Take, Answer, Let, Decision, Injects, fetched_by, deed, session, starts, joined, notif_of, any_of, is_read, reads_of, first_some, put_in, take_in, checks, number_of}
 use Rattle.hist_model.specs.Systems.{System}
 use Rattle.hist_model.specs.Causes.{is_acting}
 use Rattle.hist_model.specs.Steps.{IsStep, IsLegal}
 use Rattle.hist_model.specs.declared.event.Event.{Event}
 use Rattle.hist_model.specs.declared.event.What.{What}
-use Rattle.hist_model.specs.declared.event.What.TheVariants.{Recv, OpenMem, OpenBase, Check, Read, Act, Plant, AddfdPut, AddfdTake, Send, LetGo, Skip}
+use Rattle.hist_model.specs.declared.event.What.TheVariants.{Recv, OpenMem, OpenBase, Check, Read, Act, Plant, AddfdPut, AddfdTake, Send, LetGo}
 use Rattle.sys_abi.specs.declared.wire.Notif.{Notif}
-use Rattle.mediation.proofs.Rows.{WorkerRow}
 use Rattle.mediation.proofs.Deeds.{deed-is}
 use Rattle.mediation.proofs.Work.{worker-row, session-same, session-more, started}
 

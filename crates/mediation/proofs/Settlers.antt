@@ -1,18 +1,18 @@
 -- Installs and resumes are of the call's own session.
-use Rattle.std.proofs.Common.{◌≡◌, inl, inr, ℕ, ◌<◌, ◌^◌, Bool, true, false, ◌&&◌, ◌||◌, List, [], ◌∷◌, ◌++◌, length, Option, Some, None, refl, sym, ap, ◌∙◌, subst, arith}
-use Rattle.std.specs.Prelude.{if◌then◌else◌, ◌==◌, Result, Ok, pos}
+use Rattle.std.proofs.Common.{◌≡◌, inl, inr, ℕ, ◌<◌, ◌^◌, true, false, ◌&&◌, List, [], ◌∷◌, ◌++◌, length, Option, Some, None, refl, sym, ap, ◌∙◌, subst, arith}
+use Rattle.std.specs.Prelude.{Result, Ok, pos}
 use Rattle.std.proofs.lemmas.Bool.{cases_Bool, and_parts, or_cases, or_left, or_right, eq-eqb, eqb-true, cases_order, false_from_ne_true, both_ways}
-use Rattle.hist_model.specs.Look.{Name, name_eq, is_task}
+use Rattle.hist_model.specs.Look.{Name, is_task}
 use Rattle.hist_model.specs.Calls.{listed, caller, answers, puts_to, installs_for, is_install, gave, first_sends, queue, rest_of, settled, settles, has_send, has_send_flag, is_send}
 use Rattle.hist_model.specs.Signals.{call_of}
 use Rattle.hist_model.specs.Sessions.{Rules, session, addfd_of}
 use Rattle.hist_model.specs.Systems.{System}
-use Rattle.hist_model.specs.Steps.{IsStep, IsLegal, reply, back_of, call_at, install_of, installed, is_first, asked_call}
+use Rattle.hist_model.specs.Steps.{IsLegal, reply, back_of, call_at, install_of, installed, is_first}
 use Rattle.hist_model.specs.Laws.{fetcher, worker_of}
 use Rattle.hist_model.specs.Settlers.{IsRequestOf, IsInstallOf, Source, sent, installed_for}
 use Rattle.hist_model.specs.declared.event.Event.{Event}
 use Rattle.hist_model.specs.declared.event.Actor.{Actor}
-use Rattle.hist_model.specs.declared.event.Actor.TheVariants.{Start, Task, Worker, Listener}
+use Rattle.hist_model.specs.declared.event.Actor.TheVariants.{Task}
 use Rattle.hist_model.specs.declared.event.What.{What}
 use Rattle.hist_model.specs.declared.event.What.TheVariants.{Install, Resume, Send, AddfdPut}
 use Rattle.sys_abi.specs.declared.wire.Addfd.{Addfd}
