@@ -190,11 +190,8 @@ module _ (S : System) (R : Rules) where
   sent [] legal room = λ s w x b a h. grind (arith, event_at-above)
   sent (e ∷ K) legal room = λ s w x b a h. elim (below_or_last s (length K) (event_at-below (e ∷ K) s (ev (Worker w) (Send x b a)) h)) [
     | inl l ↦ sent-later K e s w x b a legal.0 l (sent K legal.1 (omega arith) s w x b a (sym (event_at-older e K s l) ∙ h))
-    | inr q ↦ rw q (sent-now K e w x b a legal.1 (omega arith) legal.0 (same-event e (ev (Worker w) (Send x b a)) (sym (event_at-here e K) ∙ rw q at h)))
+    | inr q ↦ rw q (sent-now K e w x b a legal.1 (omega arith) legal.0 (cc (sym (event_at-here e K) ∙ rw q at h)))
   ]
-    where
-      same-event : (d f : Event) → Some d ≡ Some f → d ≡ f
-      same-event d f h = cc
 
 -- what the audit makes of it
 gone-gives_up : (a : What) → gives_up a ≡ false → is_gone a ≡ false

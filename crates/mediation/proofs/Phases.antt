@@ -140,10 +140,7 @@ asked-install S e K c w q f np i op a =
     go : Done K c a.r → Done (e ∷ K) c a.r
     go (queued x y z) = slot (S.slot K c i.first) i.what_is x y (install-now e K c a.r [] a.for_call f x)
     go (gave_number n x y) = absurd (both_ways (settled K c) op x)
-    go (failed x y z v) = absurd (no i.first i.rest (sym y.empty ∙ i.queue_is))
-      where
-        no : (r : ℕ) (rs : List ℕ) → [] ≡ r ∷ rs → ⊥
-        no r rs h = cc
+    go (failed x y z v) = absurd (cc (sym y.empty ∙ i.queue_is))
 
 no-more : (r : ℕ) (rs : List ℕ) → [] ≡ r ∷ rs → ⊥
 no-more r rs h = cc

@@ -136,15 +136,12 @@ module _ (S : System) (R : Rules) (K : List Event) (w : ℕ) (legal : IsLegal S 
       let t = deed-is R (session K w) (Answer x b) r.0 in
       let j = in-hand K w (session_call K w) t.0 t.1 (hand S R K legal w) in
       elim (cases_Bool (listed K j.0)) [
-        | inl l ↦ none (send-is S R K (Worker w) w j.0 legal room mine l (at-call S R K w j.0 legal room j.1 l) j.2 x b (Err e) r).0
+        | inl l ↦ cc (send-is S R K (Worker w) w j.0 legal room mine l (at-call S R K w j.0 legal room j.1 l) j.2 x b (Err e) r).0
         | inr g ↦
             let q : x ≡ j.2.n.id = t.4 ∙ ap (λ (z : Notif). z.id) (id-same j.0 j.2 t.0 t.1) in
             let m = err-same e 2 (rw (q, names-nothing S R K w j.0 legal room j.2 g) at r.1) in
             rw m
       ]
-    where
-      none : ◌≡◌ {A = Result (Unit {0}) ℕ} (Err e) (Ok tt) → (e == 2) ≡ true
-      none h = cc
 
   put-known : (q : Addfd) (e : ℕ) → WorkerRow S R K w (AddfdPut q (Err e)) → ((e == 9) || (e == 2)) ≡ true
   put-known q e r =

@@ -73,16 +73,10 @@ module _ (R : Rules) (D : Decision → Type 0) (uses : What → Bool)
       let t = deed-is R own _ s in
       let m : t.0 ≡ n = some-notif t.0 n (sym t.1.notif_is ∙ h) in
       let g : R.next_piece n (reads_of own) ≡ Some (y, l) = rw m at t.4 in
-      absurd (no (y, l) (sym f.copied ∙ g))
-    where
-      no : (v : ℕ × ℕ) → None ≡ Some v → ⊥
-      no v h = cc
+      absurd (cc (sym f.copied ∙ g))
   fixed-later own n (Check y z) s h f =
       let t = deed-is R own _ s in
-      elim t.4 [ inl q ↦ absurd (differ (any_of checks own) q f.checked) | inr q ↦ absurd (differ (number_of checks own == 1) f.twice q.0) ]
-    where
-      differ : (v : Bool) → v ≡ false → v ≡ true → ⊥
-      differ v g k = cc
+      elim t.4 [ inl q ↦ absurd (cc (q, f.checked)) | inr q ↦ absurd (cc (f.twice, q.0)) ]
   fixed-later own n a s h f = later own n a refl refl f
 
   pub use-fixed : (own : List What) (n : Notif) → IsOwn R own → notif_of own ≡ Some n → any_of uses own ≡ true → Fixed R D own n
@@ -162,8 +156,5 @@ take-after_put R (AddfdTake y ∷ b ∷ own) t i h = let v = deed-is R (b ∷ ow
 take-after_put R (AddfdPut q y ∷ b ∷ own) t i h =
     let v = deed-is R (b ∷ own) _ i.0 in
     let f = take-after_put R (b ∷ own) t i.2 h in
-    absurd (no f.0 (sym v.5 ∙ f.1))
-  where
-    no : (u : Unit {0}) → ◌≡◌ {A = Option (Result (Unit {0}) ℕ)} None (Some (Ok u)) → ⊥
-    no u h = cc
+    absurd (cc (sym v.5 ∙ f.1))
 take-after_put R (a ∷ b ∷ own) t i h = take-after_put R (b ∷ own) t i.2 h

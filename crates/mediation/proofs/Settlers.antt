@@ -231,10 +231,7 @@ gave-kind S R K e c r m legal room row q ih h =
     ]
   where
     number : (what : What) → installed what ≡ Some (Ok m) → what ≡ Install (Ok m)
-    number (Install x) k = ap Install (some-same x (Ok m) k)
-      where
-        some-same : (x y : Result ℕ ℕ) → Some x ≡ Some y → x ≡ y
-        some-same x y k = cc
+    number (Install x) k = ap Install (cc k)
     number what k = cc
 
     first-send : (rs : List ℕ) → is_first rs r ≡ true → first_sends K rs ≡ is_send K r
@@ -257,18 +254,12 @@ gave-kind S R K e c r m legal room row q ih h =
 gave-step : (S : System) (R : Rules) (K : List Event) (e : Event) (c r m : ℕ) → IsLegal S R K → length K < 2 ^ 64 → Row S R K e.who e.what → (call_at K r ≡ Some c → install_of K r ≡ Some (Ok m) → Gave K c m) → call_at (e ∷ K) r ≡ Some c → install_of (e ∷ K) r ≡ Some (Ok m) → Gave (e ∷ K) c m
 gave-step S R K e c r m legal room row ih q h =
     elim (cases_order r (length K)) [
-      | inl z ↦ absurd (none-some m (sym (install-new e K) ∙ rw z at h))
+      | inl z ↦ absurd (cc (sym (install-new e K) ∙ rw z at h))
       | inr z ↦ elim z [
         | inl l ↦ let p : call_at K r ≡ Some c = sym (call-at-older e K r l) ∙ q in gave-kind S R K e c r m legal room row p (ih p) h
-        | inr l ↦ absurd (no-place c (sym (call-at-above (e ∷ K) r (omega arith)) ∙ q))
+        | inr l ↦ absurd (cc (sym (call-at-above (e ∷ K) r (omega arith)) ∙ q))
       ]
     ]
-  where
-    none-some : (m : ℕ) → ◌≡◌ {A = Option (Result ℕ ℕ)} None (Some (Ok m)) → ⊥
-    none-some m h = cc
-
-    no-place : (c : ℕ) → None ≡ Some c → ⊥
-    no-place c h = cc
 
 pub gave-number : (S : System) (R : Rules) (K : List Event) → IsLegal S R K → length K < 2 ^ 64 → (c r m : ℕ) → call_at K r ≡ Some c → install_of K r ≡ Some (Ok m) → Gave K c m
 gave-number S R [] legal room = λ c r m q h. grind (arith, call-at-above)
