@@ -1,22 +1,9 @@
 -- Each step keeps how far a listed call is.
-use Rattle.std.proofs.Common.{◌≡◌, ◌⊎◌, inl, inr, ℕ, ◌<◌, ◌^◌, Bool, true, false, ◌&&◌, ◌||◌, not, List, ◌∷◌, length, Option, Some, None, refl, sym, ap, ◌∙◌, arith}
-use Rattle.std.specs.Prelude.{if◌then◌else◌, ◌==◌, Result, Ok, Err, ℤ}
-use Rattle.std.proofs.lemmas.Bool.{eq-eqb, or_parts}
-use Rattle.hist_model.specs.Look.{ev, is_worker}
-use Rattle.hist_model.specs.Tasks.{holder, ended, name_of}
-use Rattle.hist_model.specs.Calls.{listed, caller, named, settled, queue, has_send_flag}
-use Rattle.hist_model.specs.Sessions.{checks, number_of, Rules, Fetch, Let, reads_of, session, any_of, gives_up, first_some, put_in, take_in}
-use Rattle.hist_model.specs.Systems.{System}
-use Rattle.hist_model.specs.Steps.{IsLegal, session_call, install_of, request_of, request_after, take_step, group}
-use Rattle.hist_model.specs.Causes.{Cause, faulty, denied, passed, done, not_put, not_taken}
-use Rattle.hist_model.specs.declared.event.Event.{Event}
-use Rattle.hist_model.specs.declared.event.Actor.{Actor}
-use Rattle.hist_model.specs.declared.event.Back.{Back}
-use Rattle.hist_model.specs.declared.event.What.{What}
-use Rattle.hist_model.specs.declared.event.What.TheVariants.{Recv, OpenMem, OpenBase, Check, Read, Act, Plant, AddfdPut, AddfdTake, Send, LetGo, Skip}
-use Rattle.sys_abi.specs.declared.wire.Notif.{Notif}
-use Rattle.sys_abi.specs.declared.wire.Addfd.{Addfd}
-use Rattle.hist_model.proofs.Look.{event_at-here, name_eq-true}
+use Rattle.mediation.proofs.Common.{◌≡◌, ◌⊎◌, inl, inr, ℕ, ◌<◌, ◌^◌, Bool, true, false, ◌&&◌, ◌||◌, not, List, ◌∷◌, length, Option, Some, None, refl, sym, ap, ◌∙◌, arith, if◌then◌else◌, ◌==◌, Result}
+use Rattle.mediation.proofs.Common.{Ok, Err, ℤ, eq-eqb, or_parts, ev, is_worker, holder, ended, name_of, listed, caller, named, settled, queue, has_send_flag, checks, number_of, Rules, Fetch, Let}
+use Rattle.mediation.proofs.Common.{reads_of, session, any_of, gives_up, first_some, put_in, take_in, System, IsLegal, session_call, install_of, request_of, request_after, take_step, group, Cause}
+use Rattle.mediation.proofs.Common.{faulty, denied, passed, done, not_put, not_taken, Event, Actor, Back, What, Recv, OpenMem, OpenBase, Check, Read, Act, Plant, AddfdPut, AddfdTake, Send, LetGo}
+use Rattle.mediation.proofs.Common.{Skip, Notif, Addfd, event_at-here, name_eq-true}
 use Rattle.mediation.proofs.Rows.{WorkerRow}
 use Rattle.mediation.proofs.Own.{calls_are_last}
 use Rattle.mediation.proofs.Deeds.{AtWork, deed-is}

@@ -1,19 +1,8 @@
 -- A call has one session, and what was accepted for it arrives.
-use Rattle.std.proofs.Common.{◌≡◌, inl, inr, ℕ, ◌≤◌, ◌<◌, ◌^◌, Bool, true, false, ◌&&◌, ◌||◌, List, [], ◌∷◌, length, Some, refl, arith}
-use Rattle.std.proofs.lemmas.Bool.{cases_Bool, false_from_ne_true, both_ways}
-use Rattle.hist_model.specs.Look.{name_eq, is_task}
-use Rattle.hist_model.specs.Calls.{listed, caller, fetched, fetches, id, settled, closes, leaves}
-use Rattle.hist_model.specs.Signals.{call_of}
-use Rattle.hist_model.specs.Sessions.{Rules}
-use Rattle.hist_model.specs.Systems.{System}
-use Rattle.hist_model.specs.Steps.{IsStep, IsLegal}
-use Rattle.hist_model.specs.Mediated.{fetches_of, OneSession, Arrives, returns}
-use Rattle.hist_model.specs.declared.event.Event.{Event}
-use Rattle.hist_model.specs.declared.event.Actor.{Actor}
-use Rattle.hist_model.specs.declared.event.Actor.TheVariants.{Task}
-use Rattle.hist_model.specs.declared.event.What.{What}
-use Rattle.hist_model.specs.declared.event.What.TheVariants.{Deliver}
-use Rattle.hist_model.proofs.Look.{name_eq-true}
+use Rattle.mediation.proofs.Common.{◌≡◌, inl, inr, ℕ, ◌≤◌, ◌<◌, ◌^◌, Bool, true, false, ◌&&◌, ◌||◌, List, [], ◌∷◌, length, Some, refl, arith, cases_Bool, false_from_ne_true, both_ways, name_eq}
+use Rattle.mediation.proofs.Common.{is_task, listed, caller, fetched, fetches, id, settled, closes, leaves, call_of, Rules, System, IsStep, IsLegal, Arrives, Event, Actor, Task, What, Deliver}
+use Rattle.mediation.proofs.Common.{name_eq-true}
+use Rattle.hist_model.specs.Mediated.{fetches_of, OneSession, returns}
 use Rattle.mediation.proofs.Rows.{Row, row-of}
 use Rattle.mediation.proofs.Own.{listed-below, listed-older, waits-here}
 use Rattle.mediation.proofs.Phases.{refetch}

@@ -1,35 +1,18 @@
 -- The audit of a session that answered names the rule that decided.
-use Rattle.std.proofs.Common.{◌≡◌, ◌⊎◌, inl, inr, ℕ, suc, ◌<◌, ◌≤◌, ◌^◌, true, false, ◌&&◌, not, List, [], ◌∷◌, length, Some, None, refl, sym, ap, subst, ◌∙◌, arith}
-use Rattle.std.specs.Prelude.{Result, Ok}
+use Rattle.mediation.proofs.Common.{◌≡◌, ◌⊎◌, inl, inr, ℕ, suc, ◌<◌, ◌≤◌, ◌^◌, true, false, ◌&&◌, not, List, [], ◌∷◌, length, Some, None, refl, sym, ap, subst, ◌∙◌, arith, Result, Ok, cases_Bool}
+use Rattle.mediation.proofs.Common.{or_parts, eq-eqb, both_ways, or_right, append-nil, ev, before, event_at, is_worker, Rules, Fetch, Answer, session, skips, starts, any_of, is_letgo, gives_up}
+use Rattle.mediation.proofs.Common.{notif_of, reads_of, number_of, System, IsStep, IsLegal, session_call, is_good_check, plan, heard, copied, system_of, rules_of, reads, Event, Actor, Worker, Back}
+use Rattle.mediation.proofs.Common.{What, Recv, OpenMem, OpenBase, Check, Read, Act, Plant, AddfdPut, AddfdTake, Send, LetGo, Skip, is_acting, Policy, Request, Figures, Script, Notif, event_at-here}
+use Rattle.mediation.proofs.Common.{event_at-older, event_at-below, event_at-above, below_or_last}
 use Rattle.std.specs.List.{list_any}
-use Rattle.std.proofs.lemmas.Bool.{cases_Bool, or_parts, eq-eqb, both_ways, or_right}
-use Rattle.std.proofs.lemmas.List.{append-nil}
-use Rattle.hist_model.specs.Look.{ev, before, event_at, is_worker}
-use Rattle.hist_model.specs.Sessions.{Rules, Fetch, Answer, session, skips, starts, any_of, is_letgo, gives_up, notif_of, reads_of, number_of}
-use Rattle.hist_model.specs.Systems.{System}
-use Rattle.hist_model.specs.Steps.{IsStep, IsLegal, session_call}
-use Rattle.hist_model.specs.Orders.{is_good_check}
-use Rattle.hist_model.specs.Copies.{Complete, plan, heard}
+use Rattle.hist_model.specs.Copies.{Complete}
 use Rattle.hist_model.specs.Requests.{request}
 use Rattle.hist_model.specs.Decisions.{decide}
-use Rattle.hist_model.specs.Legal.{copied, decision, system_of, rules_of}
-use Rattle.hist_model.specs.ReportAudit.{Judging, checked_twice, session_at, joined, is_gone, is_spent, reads, finding, finding_of, judging_by, judged_as, is_good_check as is_found_valid, skips as is_skipped}
+use Rattle.hist_model.specs.Legal.{decision}
+use Rattle.hist_model.specs.ReportAudit.{Judging, checked_twice, session_at, joined, is_gone, is_spent, finding, finding_of, judging_by, judged_as, is_good_check as is_found_valid, skips as is_skipped}
 use Rattle.hist_model.specs.Mediated.{AuditNames}
-use Rattle.hist_model.specs.declared.event.Event.{Event}
-use Rattle.hist_model.specs.declared.event.Actor.{Actor}
-use Rattle.hist_model.specs.declared.event.Actor.TheVariants.{Worker}
-use Rattle.hist_model.specs.declared.event.Back.{Back}
-use Rattle.hist_model.specs.declared.event.What.{What}
-use Rattle.hist_model.specs.declared.event.What.TheVariants.{Recv, OpenMem, OpenBase, Check, Read, Act, Plant, AddfdPut, AddfdTake, Send, LetGo, Skip}
-use Rattle.hist_model.specs.Causes.{is_acting}
-use Rattle.hist_model.specs.declared.policy.Policy.{Policy}
 use Rattle.hist_model.specs.declared.policy.Verdict.{Verdict}
 use Rattle.hist_model.specs.declared.policy.Verdict.TheVariants.{Grant}
-use Rattle.hist_model.specs.declared.request.Request.{Request}
-use Rattle.hist_model.specs.declared.script.Figures.{Figures}
-use Rattle.hist_model.specs.declared.script.Script.{Script}
-use Rattle.sys_abi.specs.declared.wire.Notif.{Notif}
-use Rattle.hist_model.proofs.Look.{event_at-here, event_at-older, event_at-below, event_at-above, below_or_last}
 use Rattle.mediation.proofs.Before.{before-all, before-older, before-newest, legal-before}
 use Rattle.mediation.proofs.Rows.{WorkerRow}
 use Rattle.mediation.proofs.Deeds.{AtWork, deed-is}

@@ -1,25 +1,10 @@
 -- The base from which a session's effect goes is one that the session opened, in a slot of its call's task's group.
-use Rattle.std.proofs.Common.{◌≡◌, inl, inr, ℕ, ◌<◌, ◌^◌, Bool, true, false, ◌&&◌, List, [], ◌∷◌, length, Option, Some, None, refl, sym, ap, ◌∙◌, arith}
-use Rattle.std.specs.Prelude.{◌==◌, Result, Ok, Err, ℤ}
-use Rattle.std.proofs.lemmas.Bool.{cases_Bool, eqb-true}
-use Rattle.hist_model.specs.Look.{ev, before, event_at, is_worker}
-use Rattle.hist_model.specs.Tasks.{holder}
-use Rattle.hist_model.specs.Sessions.{Rules, session, skips, any_of, gives_up, checks, notif_of}
-use Rattle.hist_model.specs.Systems.{System}
-use Rattle.hist_model.specs.Steps.{IsStep, IsLegal, session_call, base, base_answer, opened, place_or}
-use Rattle.hist_model.specs.Natives.{Files, base_of}
-use Rattle.hist_model.specs.Files.{files, files_after, after_native}
-use Rattle.hist_model.specs.Natives.{NativeStep}
+use Rattle.mediation.proofs.Common.{◌≡◌, inl, inr, ℕ, ◌<◌, ◌^◌, Bool, true, false, ◌&&◌, List, [], ◌∷◌, length, Option, Some, None, refl, sym, ap, ◌∙◌, arith, ◌==◌, Result, Ok, Err, ℤ, cases_Bool}
+use Rattle.mediation.proofs.Common.{eqb-true, ev, before, event_at, is_worker, holder, Rules, session, skips, any_of, gives_up, checks, notif_of, System, IsStep, IsLegal, session_call, base}
+use Rattle.mediation.proofs.Common.{base_answer, opened, place_or, Files, files, files_after, after_native, NativeStep, Event, Actor, Start, Task, Worker, Listener, What, OpenMem, OpenBase, Check}
+use Rattle.mediation.proofs.Common.{Read, Act, Plant, AddfdPut, AddfdTake, Send, LetGo, Script, system_of, Notif, event_at-here, event_at-older, event_at-below}
+use Rattle.hist_model.specs.Natives.{base_of}
 use Rattle.hist_model.specs.Mediated.{OpenedBase, BaseIs}
-use Rattle.hist_model.specs.declared.event.Event.{Event}
-use Rattle.hist_model.specs.declared.event.Actor.{Actor}
-use Rattle.hist_model.specs.declared.event.Actor.TheVariants.{Start, Task, Worker, Listener}
-use Rattle.hist_model.specs.declared.event.What.{What}
-use Rattle.hist_model.specs.declared.event.What.TheVariants.{OpenMem, OpenBase, Check, Read, Act, Plant, AddfdPut, AddfdTake, Send, LetGo}
-use Rattle.hist_model.specs.declared.script.Script.{Script}
-use Rattle.hist_model.specs.Legal.{system_of}
-use Rattle.sys_abi.specs.declared.wire.Notif.{Notif}
-use Rattle.hist_model.proofs.Look.{event_at-here, event_at-older, event_at-below}
 use Rattle.mediation.proofs.Before.{before-older, before-newest}
 use Rattle.mediation.proofs.Rows.{WorkerRow}
 use Rattle.mediation.proofs.Deeds.{deed-is}

@@ -1,14 +1,7 @@
 -- The events before a place.
-use Rattle.std.proofs.Common.{◌≡◌, ℕ, ◌<◌, ◌≤◌, List, [], ◌∷◌, length, inl, inr, true, refl, arith}
-use Rattle.std.specs.Prelude.{nat_le}
-use Rattle.std.proofs.lemmas.Bool.{le-leb, lt-leb, cases_Bool}
-use Rattle.hist_model.specs.Look.{before}
-use Rattle.hist_model.specs.Calls.{fetched}
-use Rattle.hist_model.specs.Sessions.{Rules}
-use Rattle.hist_model.specs.Systems.{System}
-use Rattle.hist_model.specs.Steps.{IsLegal}
+use Rattle.mediation.proofs.Common.{◌≡◌, ℕ, ◌<◌, ◌≤◌, List, [], ◌∷◌, length, inl, inr, true, refl, arith, nat_le, cases_Bool, before, fetched, Rules, System, IsLegal, Event}
+use Rattle.std.proofs.lemmas.Bool.{le-leb, lt-leb}
 use Rattle.mediation.proofs.Count.{fetched-more}
-use Rattle.hist_model.specs.declared.event.Event.{Event}
 
 -- from its length on, the whole list
 pub before-all : (K : List Event) (c : ℕ) → length K ≤ c → before K c ≡ K

@@ -1,19 +1,8 @@
 -- What the request count is.
-use Rattle.std.proofs.Common.{◌≡◌, inl, inr, ℕ, zero, suc, ◌+◌, ◌<◌, ◌≤◌, ◌^◌, Bool, true, false, ◌&&◌, not, List, [], ◌∷◌, length, Option, Some, refl, sym, ◌∙◌, arith}
-use Rattle.std.specs.Prelude.{if◌then◌else◌, ◌==◌, Ok}
-use Rattle.std.proofs.lemmas.Bool.{cases_Bool, and_parts, eqb-true, eq-eqb, false_from_ne_true}
-use Rattle.hist_model.specs.Look.{ev}
-use Rattle.hist_model.specs.Calls.{listed, fetched, fetches, calls, recvs, count, id, is_call, notifies}
-use Rattle.hist_model.specs.Sessions.{Rules}
-use Rattle.hist_model.specs.Systems.{System}
-use Rattle.hist_model.specs.Steps.{IsLegal, recv_answer, oldest_unfetched, notif}
-use Rattle.hist_model.specs.Laws.{count_below, empty_recvs, CountIs}
-use Rattle.hist_model.specs.declared.event.Event.{Event}
-use Rattle.hist_model.specs.declared.event.Actor.{Actor}
-use Rattle.hist_model.specs.declared.event.What.{What}
-use Rattle.hist_model.specs.declared.event.What.TheVariants.{Recv}
-use Rattle.sys_abi.specs.declared.wire.Notif.{Notif}
-use Rattle.hist_model.proofs.Look.{event_at-here, event_at-older, below_or_last, oldest-some}
+use Rattle.mediation.proofs.Common.{◌≡◌, inl, inr, ℕ, zero, suc, ◌+◌, ◌<◌, ◌≤◌, ◌^◌, Bool, true, false, ◌&&◌, not, List, [], ◌∷◌, length, Option, Some, refl, sym, ◌∙◌, arith, if◌then◌else◌, ◌==◌, Ok}
+use Rattle.mediation.proofs.Common.{cases_Bool, and_parts, eqb-true, eq-eqb, false_from_ne_true, ev, listed, fetched, fetches, calls, recvs, count, id, is_call, notifies, Rules, System, IsLegal}
+use Rattle.mediation.proofs.Common.{recv_answer, oldest_unfetched, notif, count_below, empty_recvs, Event, Actor, What, Recv, Notif, event_at-here, event_at-older, below_or_last, oldest-some}
+use Rattle.hist_model.specs.Laws.{CountIs}
 use Rattle.mediation.proofs.Rows.{Row, row-of}
 use Rattle.mediation.proofs.Own.{listed-below}
 use Rattle.mediation.proofs.Ids.{ids_differ, listed-is_call}

@@ -1,11 +1,8 @@
 -- What a worker's next deed tells of its session so far.
-use Rattle.std.proofs.Common.{◌≡◌, ◌⊎◌, inl, inr, ℕ, Bool, true, false, not, List, Option, Some, None, refl, ap, subst, arith}
-use Rattle.std.specs.Prelude.{if◌then◌else◌, ◌==◌, Result, Ok, Err, ℤ}
-use Rattle.hist_model.specs.Sessions.{Rules, Deed, Fetch, Open, OpenB, Ask, ReadD, ActD, PlantD, Put, Take, Answer, Let, Decision, Denies, Passes, Acts, Plants, Injects, addfd_of, reads_of, deed, deed_for, based_deed, checked_deed, copied_deed, judged_deed, decided_deed, after_act, inject_deed, notif_of, any_of, number_of, is_letgo, gives_up, opens, opens_base, checks, first_some, outcome_in, put_in, take_in}
-use Rattle.hist_model.specs.Causes.{is_acting, Cause, faulty, denied, passed, done, not_put, not_taken}
-use Rattle.hist_model.specs.declared.event.What.{What}
-use Rattle.sys_abi.specs.declared.wire.Notif.{Notif}
-use Rattle.sys_abi.specs.declared.wire.Addfd.{Addfd}
+use Rattle.mediation.proofs.Common.{◌≡◌, ◌⊎◌, inl, inr, ℕ, Bool, true, false, not, List, Option, Some, None, refl, ap, subst, arith, if◌then◌else◌, ◌==◌, Result, Ok, Err, ℤ, Rules, Fetch, Open}
+use Rattle.mediation.proofs.Common.{OpenB, Ask, ReadD, ActD, PlantD, Put, Take, Answer, Let, Decision, Acts, Plants, Injects, addfd_of, reads_of, deed, notif_of, any_of, number_of, is_letgo}
+use Rattle.mediation.proofs.Common.{gives_up, opens, opens_base, checks, first_some, put_in, take_in, is_acting, Cause, faulty, denied, passed, done, not_put, not_taken, What, Notif, Addfd}
+use Rattle.hist_model.specs.Sessions.{Deed, Denies, Passes, deed_for, based_deed, checked_deed, copied_deed, judged_deed, decided_deed, after_act, inject_deed, outcome_in}
 
 -- the session is at work, for this notification
 pub record AtWork (own : List What) (n : Notif) : Type 0 where

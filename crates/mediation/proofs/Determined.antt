@@ -1,13 +1,10 @@
 -- A legal history is fixed by its actors, and legality reads the same by places.
-use Rattle.std.proofs.Common.{◌≡◌, ◌⊎◌, inl, inr, ℕ, zero, suc, ◌+◌, ◌<◌, ◌≤◌, List, [], ◌∷◌, length, reverse, take, get_or, add-one, refl, ap, ap₂, ◌∙◌, arith}
+use Rattle.mediation.proofs.Common.{◌≡◌, ◌⊎◌, inl, inr, ℕ, zero, suc, ◌+◌, ◌<◌, ◌≤◌, List, [], ◌∷◌, length, reverse, refl, ap, ap₂, ◌∙◌, arith, reverse-append, Rules, System, IsStep, IsLegal, Event}
+use Rattle.mediation.proofs.Common.{Actor}
+use Rattle.std.proofs.Common.{take, get_or, add-one}
 use Rattle.std.proofs.Math.Seq.{take-length}
-use Rattle.std.proofs.lemmas.List.{take_more, reverse-append}
-use Rattle.hist_model.specs.Sessions.{Rules}
-use Rattle.hist_model.specs.Systems.{System}
+use Rattle.std.proofs.lemmas.List.{take_more}
 use Rattle.mediation.specs.Journals.{actors, IsLegalByPlace}
-use Rattle.hist_model.specs.Steps.{IsStep, IsLegal}
-use Rattle.hist_model.specs.declared.event.Event.{Event}
-use Rattle.hist_model.specs.declared.event.Actor.{Actor}
 
 same-event : (d e : Event) → d.who ≡ e.who → d.what ≡ e.what → d ≡ e
 same-event d e p q = λ i. record { who = p i; what = q i }

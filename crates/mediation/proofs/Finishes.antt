@@ -1,19 +1,8 @@
 -- Finished stays finished.
-use Rattle.std.proofs.Common.{◌≡◌, ◌⊎◌, inl, inr, ℕ, ◌<◌, Bool, true, false, List, [], ◌∷◌, ◌++◌, length, Some, None, refl, sym, ap, ◌∙◌, arith}
-use Rattle.std.specs.Prelude.{Ok, Err}
-use Rattle.std.proofs.lemmas.Bool.{both_ways}
-use Rattle.hist_model.specs.Look.{Name}
-use Rattle.hist_model.specs.Tasks.{ended, is_made, alive}
-use Rattle.hist_model.specs.Calls.{listed, closes}
-use Rattle.hist_model.specs.Sessions.{Rules, session, joined, any_of, is_letgo, notif_of}
-use Rattle.hist_model.specs.Systems.{System}
-use Rattle.hist_model.specs.Steps.{oldest_unfetched}
+use Rattle.mediation.proofs.Common.{◌≡◌, ◌⊎◌, inl, inr, ℕ, ◌<◌, Bool, true, false, List, [], ◌∷◌, ◌++◌, length, Some, None, refl, sym, ap, ◌∙◌, arith, Ok, Err, both_ways, Name, ended, is_made, alive}
+use Rattle.mediation.proofs.Common.{listed, closes, Rules, session, joined, any_of, is_letgo, notif_of, System, oldest_unfetched, Event, Actor, What, Recv, OpenMem, OpenBase, Check, Read, Act, Plant}
+use Rattle.mediation.proofs.Common.{AddfdPut, AddfdTake, Send, LetGo, Skip, Notif}
 use Rattle.hist_model.specs.Legal.{Finished, is_open_session}
-use Rattle.hist_model.specs.declared.event.Event.{Event}
-use Rattle.hist_model.specs.declared.event.Actor.{Actor}
-use Rattle.hist_model.specs.declared.event.What.{What}
-use Rattle.hist_model.specs.declared.event.What.TheVariants.{Recv, OpenMem, OpenBase, Check, Read, Act, Plant, AddfdPut, AddfdTake, Send, LetGo, Skip}
-use Rattle.sys_abi.specs.declared.wire.Notif.{Notif}
 use Rattle.mediation.specs.Facts.{StaysFinished}
 use Rattle.mediation.proofs.Rows.{Row, WorkerRow, row-of}
 use Rattle.mediation.proofs.Deeds.{AtWork, deed-is}

@@ -1,15 +1,11 @@
 -- The frame law.
-use Rattle.std.proofs.Common.{◌≡◌, ℕ, zero, suc, ◌+◌, ◌-◌, ◌<◌, ◌≤◌, Bool, false, List, [], ◌∷◌, length, Some, None, refl, arith}
-use Rattle.std.specs.Prelude.{if◌then◌else◌}
-use Rattle.std.proofs.lemmas.Bool.{false_from_ne_true}
-use Rattle.hist_model.specs.Look.{Name, newest, oldest, or_else}
-use Rattle.hist_model.specs.Tasks.{ended, ends, was_waited_for, reaped, reaps, holder, free_from, next_pid, last_pid, given}
-use Rattle.hist_model.specs.Calls.{listed, named, fetched, settled, answered, some_sends, queue, answers, puts_to, is_install, calls, recvs, count, notifies, leaves, closes}
-use Rattle.hist_model.specs.Sessions.{session}
+use Rattle.mediation.proofs.Common.{◌≡◌, ℕ, zero, suc, ◌+◌, ◌<◌, ◌≤◌, Bool, false, List, [], ◌∷◌, length, Some, None, refl, arith, if◌then◌else◌, false_from_ne_true, Name, newest, oldest, ended}
+use Rattle.mediation.proofs.Common.{ends, was_waited_for, reaped, reaps, holder, free_from, next_pid, last_pid, given, listed, named, fetched, settled, queue, answers, puts_to, is_install, calls}
+use Rattle.mediation.proofs.Common.{recvs, count, notifies, leaves, closes, session, Event, What, event_at-here, event_at-older, oldest-same}
+use Rattle.std.proofs.Common.{◌-◌}
+use Rattle.hist_model.specs.Look.{or_else}
+use Rattle.hist_model.specs.Calls.{answered, some_sends}
 use Rattle.mediation.specs.Frames.{changes_tasks, changes_list, changes_fetched, changes_count, changes_answered, Frame}
-use Rattle.hist_model.specs.declared.event.Event.{Event}
-use Rattle.hist_model.specs.declared.event.What.{What}
-use Rattle.hist_model.proofs.Look.{event_at-here, event_at-older, oldest-same}
 use Rattle.mediation.proofs.Own.{listed-below, listed-here}
 use Rattle.mediation.proofs.Queues.{Asks, queue-asks}
 

@@ -1,18 +1,8 @@
 -- A child's name is new.
-use Rattle.std.proofs.Common.{◌≡◌, inl, inr, ℕ, ◌+◌, ◌<◌, ◌≤◌, true, false, ◌&&◌, List, [], ◌∷◌, ◌++◌, length, refl, sym, ◌∙◌, arith}
-use Rattle.std.specs.Prelude.{if◌then◌else◌}
-use Rattle.std.proofs.lemmas.Bool.{or_cases, or_left, or_right, false_from_ne_true}
-use Rattle.hist_model.specs.Look.{Name, name_eq, is_task, event_at}
-use Rattle.hist_model.specs.Tasks.{is_made, makes, child_of, name_of}
-use Rattle.hist_model.specs.Sessions.{Rules}
-use Rattle.hist_model.specs.Systems.{System}
-use Rattle.hist_model.specs.Steps.{IsStep, IsLegal, steps_of, is_spawn, makes_in}
-use Rattle.hist_model.specs.declared.event.Event.{Event}
-use Rattle.hist_model.specs.declared.event.Actor.{Actor}
-use Rattle.hist_model.specs.declared.event.Actor.TheVariants.{Start, Task}
-use Rattle.hist_model.specs.declared.event.What.{What}
-use Rattle.hist_model.specs.declared.event.What.TheVariants.{Spawn}
-use Rattle.hist_model.proofs.Look.{name_eq-true, name_eq-refl, event_at-here, event_at-older, event_at-above, below_or_last}
+use Rattle.mediation.proofs.Common.{◌≡◌, inl, inr, ℕ, ◌+◌, ◌<◌, ◌≤◌, true, false, ◌&&◌, List, [], ◌∷◌, ◌++◌, length, refl, sym, ◌∙◌, arith, if◌then◌else◌, or_cases, or_left, or_right}
+use Rattle.mediation.proofs.Common.{false_from_ne_true, Name, name_eq, is_task, event_at, is_made, makes, child_of, name_of, Rules, System, IsStep, IsLegal, steps_of, makes_in, Event, Actor, Start}
+use Rattle.mediation.proofs.Common.{Task, What, Spawn, name_eq-true, name_eq-refl, event_at-here, event_at-older, event_at-above, below_or_last}
+use Rattle.hist_model.specs.Steps.{is_spawn}
 use Rattle.mediation.specs.Facts.{spawns, spawned, NamesDiffer}
 use Rattle.mediation.proofs.Rows.{Row, row-of}
 

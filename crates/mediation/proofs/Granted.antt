@@ -1,19 +1,11 @@
 -- Each effect is what the policy grants on the one copy of its session, and each request for a descriptor what it injects.
-use Rattle.std.proofs.Common.{◌≡◌, inr, ℕ, ◌<◌, ◌≤◌, ◌^◌, List, length, Option, Some, None, ap, arith}
-use Rattle.hist_model.specs.Sessions.{Rules, Decision, Acts, Plants, ActD, PlantD, ReadD, Put, session, reads_of}
-use Rattle.hist_model.specs.Systems.{System}
-use Rattle.hist_model.specs.Steps.{IsStep, IsLegal, session_call}
+use Rattle.mediation.proofs.Common.{◌≡◌, inr, ℕ, ◌<◌, ◌≤◌, ◌^◌, List, length, Option, Some, None, ap, arith, Rules, Decision, Acts, Plants, ActD, PlantD, ReadD, Put, session, reads_of, System}
+use Rattle.mediation.proofs.Common.{IsStep, IsLegal, session_call, system_of, rules_of, copied, ActIsGranted, PlantIsGranted, PutIsInjected, ReadsOwn, Event, Act, Plant, AddfdPut, Read, Policy, Cap}
+use Rattle.mediation.proofs.Common.{Figures, Script, Notif}
 use Rattle.hist_model.specs.Decisions.{cap_of}
 use Rattle.hist_model.specs.Copies.{Progress}
-use Rattle.hist_model.specs.Legal.{system_of, rules_of, judged, copied}
-use Rattle.hist_model.specs.Mediated.{IsMediated, ActIsGranted, PlantIsGranted, PutIsInjected, ReadsOwn, TimesKept}
-use Rattle.hist_model.specs.declared.event.Event.{Event}
-use Rattle.hist_model.specs.declared.event.What.TheVariants.{Act, Plant, AddfdPut, Read}
-use Rattle.hist_model.specs.declared.policy.Policy.{Policy}
-use Rattle.hist_model.specs.declared.policy.Cap.{Cap}
-use Rattle.hist_model.specs.declared.script.Figures.{Figures}
-use Rattle.hist_model.specs.declared.script.Script.{Script}
-use Rattle.sys_abi.specs.declared.wire.Notif.{Notif}
+use Rattle.hist_model.specs.Legal.{judged}
+use Rattle.hist_model.specs.Mediated.{IsMediated, TimesKept}
 use Rattle.mediation.proofs.Rows.{WorkerRow, row-of}
 use Rattle.mediation.proofs.Deeds.{AtWork, HasOpened, HasCopied, deed-is}
 use Rattle.mediation.proofs.Work.{hand, hand-notif, in-hand}

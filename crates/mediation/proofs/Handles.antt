@@ -1,20 +1,8 @@
 -- What a session has opened is its call's task's.
-use Rattle.std.proofs.Common.{◌≡◌, ◌⊎◌, inl, inr, ℕ, ◌<◌, ◌^◌, true, false, ◌&&◌, not, List, [], ◌∷◌, length, Option, Some, None, refl, arith}
-use Rattle.std.specs.Prelude.{Result, Ok, Err, ℤ}
-use Rattle.std.proofs.lemmas.Bool.{and_parts}
-use Rattle.hist_model.specs.Look.{ev, is_worker}
-use Rattle.hist_model.specs.Tasks.{holder}
-use Rattle.hist_model.specs.Calls.{listed, waiting, caller, named, unlists}
-use Rattle.hist_model.specs.Sessions.{Rules, skips, Open, OpenB, Ask, session, notif_of, any_of, opens, opens_base, checks}
-use Rattle.hist_model.specs.Systems.{System}
-use Rattle.hist_model.specs.Orders.{is_good_check}
-use Rattle.hist_model.specs.Steps.{IsLegal, session_call, mem, mem_after, base, base_after, opened, group, task_place, check_answer}
-use Rattle.hist_model.specs.declared.event.Event.{Event}
-use Rattle.hist_model.specs.declared.event.Actor.{Actor}
-use Rattle.hist_model.specs.declared.event.What.{What}
-use Rattle.hist_model.specs.declared.event.What.TheVariants.{Recv, OpenMem, OpenBase, Check}
-use Rattle.sys_abi.specs.declared.wire.Notif.{Notif}
-use Rattle.hist_model.proofs.Look.{event_at-older}
+use Rattle.mediation.proofs.Common.{◌≡◌, ◌⊎◌, inl, inr, ℕ, ◌<◌, ◌^◌, true, false, ◌&&◌, not, List, [], ◌∷◌, length, Option, Some, None, refl, arith, Result, Ok, Err, ℤ, and_parts, ev, is_worker}
+use Rattle.mediation.proofs.Common.{holder, listed, waiting, caller, named, unlists, Rules, skips, Open, OpenB, Ask, session, notif_of, any_of, opens, opens_base, checks, System, is_good_check}
+use Rattle.mediation.proofs.Common.{IsLegal, session_call, mem, mem_after, base, base_after, opened, group, task_place, check_answer, Event, Actor, What, Recv, OpenMem, OpenBase, Check, Notif}
+use Rattle.mediation.proofs.Common.{event_at-older}
 use Rattle.mediation.proofs.Rows.{WorkerRow}
 use Rattle.mediation.proofs.Own.{calls_are_last, listed-older}
 use Rattle.mediation.proofs.Ids.{is_call-below}

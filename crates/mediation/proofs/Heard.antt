@@ -1,20 +1,9 @@
 -- What a session reads answers the piece that was wanted, so all of it is heard.
-use Rattle.std.proofs.Common.{◌≡◌, ℕ, ◌≤◌, true, false, List, [], ◌∷◌, ◌++◌, reverse, Option, Some, refl, sym, ap, ◌∙◌, arith}
-use Rattle.std.specs.Prelude.{Result}
-use Rattle.std.proofs.lemmas.List.{reverse-append, append-nil}
-use Rattle.hist_model.specs.Copies.{plan, progress, wanted, fits_piece, heard, with_heard}
-use Rattle.hist_model.specs.Legal.{copied, read_answers, system_of, rules_of}
-use Rattle.hist_model.specs.ReportAudit.{reads}
-use Rattle.hist_model.specs.Sessions.{session, starts, joined, notif_of, reads_of}
-use Rattle.hist_model.specs.Steps.{IsStep, IsLegal, mem, read_answer}
+use Rattle.mediation.proofs.Common.{◌≡◌, ℕ, ◌≤◌, true, false, List, [], ◌∷◌, ◌++◌, reverse, Option, Some, refl, sym, ap, ◌∙◌, arith, Result, reverse-append, append-nil, plan, heard, copied}
+use Rattle.mediation.proofs.Common.{system_of, rules_of, reads, session, starts, joined, notif_of, reads_of, IsStep, IsLegal, mem, read_answer, Event, What, Read, Policy, Figures, Script, Notif}
+use Rattle.hist_model.specs.Copies.{progress, wanted, fits_piece, with_heard}
+use Rattle.hist_model.specs.Legal.{read_answers}
 use Rattle.hist_model.specs.declared.copy.Part.{Part}
-use Rattle.hist_model.specs.declared.event.Event.{Event}
-use Rattle.hist_model.specs.declared.event.What.{What}
-use Rattle.hist_model.specs.declared.event.What.TheVariants.{Read}
-use Rattle.hist_model.specs.declared.policy.Policy.{Policy}
-use Rattle.hist_model.specs.declared.script.Figures.{Figures}
-use Rattle.hist_model.specs.declared.script.Script.{Script}
-use Rattle.sys_abi.specs.declared.wire.Notif.{Notif}
 use Rattle.hist_model.proofs.Pieces.{piece_wanted, wanted_some}
 use Rattle.hist_model.proofs.MappedBytes.{bytes_fit}
 use Rattle.mediation.proofs.Rows.{WorkerRow}

@@ -1,18 +1,7 @@
 -- Who holds a living task's number.
-use Rattle.std.proofs.Common.{◌≡◌, ℕ, ◌<◌, true, false, ◌&&◌, List, [], ◌∷◌, length, Option, Some, None, refl, ap, ◌∙◌, arith}
-use Rattle.std.specs.Prelude.{◌==◌, Ok}
-use Rattle.std.proofs.lemmas.Bool.{eq-eqb}
-use Rattle.hist_model.specs.Look.{Name, newest, oldest}
-use Rattle.hist_model.specs.Tasks.{ended, alive, was_waited_for, reaps, reaped, holds, holder, pid_of, name_of}
-use Rattle.hist_model.specs.Sessions.{Rules}
-use Rattle.hist_model.specs.Systems.{System}
-use Rattle.hist_model.specs.Steps.{IsStep, IsLegal, wait_step, is_ended_child, is_child, task_place}
-use Rattle.hist_model.specs.declared.event.Event.{Event}
-use Rattle.hist_model.specs.declared.event.Actor.{Actor}
-use Rattle.hist_model.specs.declared.event.Actor.TheVariants.{Task}
-use Rattle.hist_model.specs.declared.event.What.{What}
-use Rattle.hist_model.specs.declared.event.What.TheVariants.{Reap}
-use Rattle.hist_model.proofs.Look.{name_eq-true, newest-some, newest-found, oldest-some}
+use Rattle.mediation.proofs.Common.{◌≡◌, ℕ, ◌<◌, true, false, ◌&&◌, List, [], ◌∷◌, length, Option, Some, None, refl, ap, ◌∙◌, arith, ◌==◌, Ok, eq-eqb, Name, newest, oldest, ended, alive}
+use Rattle.mediation.proofs.Common.{was_waited_for, reaps, reaped, holds, holder, pid_of, name_of, Rules, System, IsStep, IsLegal, wait_step, is_ended_child, is_child, task_place, Event, Actor, Task}
+use Rattle.mediation.proofs.Common.{What, Reap, name_eq-true, newest-some, newest-found, oldest-some}
 use Rattle.mediation.proofs.Rows.{Row, row-of}
 use Rattle.mediation.proofs.Pids.{pids_differ, ended-more}
 use Rattle.mediation.proofs.Places.{place-is}

@@ -1,14 +1,8 @@
 -- Two listed calls have different ids.
-use Rattle.std.proofs.Common.{◌≡◌, inl, inr, ℕ, ◌+◌, ◌<◌, ◌≤◌, ◌%◌, ◌^◌, true, not, List, [], ◌∷◌, length, sym, ◌∙◌, arith}
-use Rattle.std.proofs.lemmas.Bool.{cases_Bool, and_parts}
-use Rattle.hist_model.specs.Calls.{listed, caller, calls, id, is_call, notifies, notify_id, unlists}
-use Rattle.hist_model.specs.Sessions.{Rules}
-use Rattle.hist_model.specs.Systems.{System}
-use Rattle.hist_model.specs.Steps.{IsStep, IsLegal}
+use Rattle.mediation.proofs.Common.{◌≡◌, inl, inr, ℕ, ◌+◌, ◌<◌, ◌≤◌, ◌%◌, ◌^◌, true, not, List, [], ◌∷◌, length, sym, ◌∙◌, arith, cases_Bool, and_parts, listed, caller, calls, id, is_call, notifies}
+use Rattle.mediation.proofs.Common.{notify_id, unlists, Rules, System, IsStep, IsLegal, Event, event_at-here, event_at-older, event_at-above, below_or_last}
 use Rattle.hist_model.specs.Laws.{IdsDiffer}
-use Rattle.hist_model.specs.declared.event.Event.{Event}
 use Rattle.mediation.proofs.Rows.{row-of}
-use Rattle.hist_model.proofs.Look.{event_at-here, event_at-older, event_at-above, below_or_last}
 use Rattle.mediation.proofs.Own.{listed-below, listed-here, listed-older, entering}
 
 -- numbers less than a turn apart differ modulo the turn

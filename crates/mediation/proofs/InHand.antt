@@ -1,15 +1,6 @@
 -- What holds of a call in a worker's hand, by induction on the steps since it was fetched.
-use Rattle.std.proofs.Common.{◌≡◌, ℕ, ◌<◌, ◌^◌, true, false, ◌&&◌, not, List, [], ◌∷◌, length, Option, Some, None, sym, ◌∙◌, arith}
-use Rattle.std.specs.Prelude.{Ok, Err}
-use Rattle.hist_model.specs.Look.{ev, is_worker}
-use Rattle.hist_model.specs.Sessions.{Rules, Fetch, session, skips}
-use Rattle.hist_model.specs.Systems.{System}
-use Rattle.hist_model.specs.Steps.{IsStep, IsLegal, session_call, oldest_unfetched}
-use Rattle.hist_model.specs.declared.event.Event.{Event}
-use Rattle.hist_model.specs.declared.event.Actor.{Actor}
-use Rattle.hist_model.specs.declared.event.What.{What}
-use Rattle.hist_model.specs.declared.event.What.TheVariants.{Recv, LetGo}
-use Rattle.sys_abi.specs.declared.wire.Notif.{Notif}
+use Rattle.mediation.proofs.Common.{◌≡◌, ℕ, ◌<◌, ◌^◌, true, false, ◌&&◌, not, List, [], ◌∷◌, length, Option, Some, None, sym, ◌∙◌, arith, Ok, Err, ev, is_worker, Rules, Fetch, session, skips, System}
+use Rattle.mediation.proofs.Common.{IsStep, IsLegal, session_call, oldest_unfetched, Event, Actor, What, Recv, LetGo, Notif}
 use Rattle.mediation.proofs.Rows.{WorkerRow}
 use Rattle.mediation.proofs.Deeds.{deed-is}
 use Rattle.mediation.proofs.Work.{InSession, Idle, Hand, hand, worker-row, works, works-keep, session-same, session-more, grown, call-more, no-fetch, call-still}

@@ -1,24 +1,13 @@
 -- A legal history is fixed by the text of its journal.
-use Rattle.std.proofs.Common.{◌≡◌, ℕ, ◌<◌, ◌≤◌, ◌^◌, true, List, [], ◌∷◌, ◌++◌, length, refl, sym, ap, ap₂, ◌∙◌, arith}
-use Rattle.std.specs.Prelude.{◌+◌, ◌%◌, ◌*◌, codes}
+use Rattle.mediation.proofs.Common.{◌≡◌, ℕ, ◌<◌, ◌≤◌, ◌^◌, true, List, [], ◌∷◌, ◌++◌, length, refl, sym, ap, ap₂, ◌∙◌, arith, codes, leb-true, eqb-false, Name, ev, is_made, Rules, System, IsStep}
+use Rattle.mediation.proofs.Common.{IsLegal, is_actor, start, step, task_step, Event, Actor, Start, Task, Worker, Listener, Skip, Policy, Script}
+use Rattle.std.specs.Prelude.{◌+◌, ◌%◌, ◌*◌}
 use Rattle.std.specs.Fmt.{decimal, digits}
 use Rattle.std.specs.List.{flat_map}
-use Rattle.std.proofs.lemmas.Bool.{leb-true, eqb-false}
 use Rattle.std.proofs.lemmas.List.{append_assoc, append_cancel_left}
 use Rattle.std.proofs.lemmas.Fmt.{decimal_injective, decimal_by_steps, decimal_nonempty}
-use Rattle.hist_model.specs.Look.{Name, ev}
-use Rattle.hist_model.specs.Tasks.{is_made}
-use Rattle.hist_model.specs.Sessions.{Rules}
-use Rattle.hist_model.specs.Systems.{System}
-use Rattle.hist_model.specs.Steps.{IsStep, IsLegal, is_actor, start, step, task_step}
 use Rattle.hist_model.specs.ReportWords.{name_text, actor_text}
 use Rattle.hist_model.specs.ReportJournal.{what_text, event_line, journal_line, lines_of, journal}
-use Rattle.hist_model.specs.declared.event.Event.{Event}
-use Rattle.hist_model.specs.declared.event.Actor.{Actor}
-use Rattle.hist_model.specs.declared.event.Actor.TheVariants.{Start, Task, Worker, Listener}
-use Rattle.hist_model.specs.declared.event.What.TheVariants.{Skip}
-use Rattle.hist_model.specs.declared.policy.Policy.{Policy}
-use Rattle.hist_model.specs.declared.script.Script.{Script}
 use Rattle.mediation.specs.Journals.{IsWritten, IsNamed, AreNamed, FixedByJournal, SharesJournal}
 use Rattle.mediation.proofs.Determined.{same-step}
 

@@ -1,12 +1,7 @@
 -- Every legal history is mediated.
-use Rattle.std.proofs.Common.{List, [], ◌∷◌}
-use Rattle.hist_model.specs.Sessions.{session}
-use Rattle.hist_model.specs.Legal.{Legal, system_of, rules_of}
-use Rattle.hist_model.specs.Settlers.{InstallsOwn, ResumesOwn, ReturnsInstalled}
-use Rattle.hist_model.specs.Mediated.{Mediated, Each, TakenByItsActor, NamesOwn, NeverBusy, ErrorsKnown, InstallsAlone, FailsAlone, Arrives, ActIsGranted, PlantIsGranted, PutIsInjected, ReadsOwn, HasCause, LostIfGone, ReceivesFor, ActsAlone}
-use Rattle.hist_model.specs.declared.event.Event.{Event}
-use Rattle.hist_model.specs.declared.policy.Policy.{Policy}
-use Rattle.hist_model.specs.declared.script.Script.{Script}
+use Rattle.mediation.proofs.Common.{List, [], ◌∷◌, session, Legal, system_of, rules_of, InstallsOwn, ResumesOwn, ReturnsInstalled, Each, TakenByItsActor, NamesOwn, NeverBusy, ErrorsKnown}
+use Rattle.mediation.proofs.Common.{InstallsAlone, FailsAlone, Arrives, ActIsGranted, PlantIsGranted, PutIsInjected, ReadsOwn, HasCause, LostIfGone, ReceivesFor, ActsAlone, Event, Policy, Script}
+use Rattle.hist_model.specs.Mediated.{Mediated}
 use Rattle.mediation.proofs.Once.{answered_once}
 use Rattle.mediation.proofs.Sequence.{is-own}
 use Rattle.mediation.proofs.Ordered.{ordered}

@@ -1,13 +1,5 @@
 -- What a session names is its own call or nothing.
-use Rattle.std.proofs.Common.{◌≡◌, ℕ, ◌<◌, ◌^◌, true, ◌&&◌, List, length, Some, ◌∙◌, arith}
-use Rattle.std.specs.Prelude.{◌==◌}
-use Rattle.std.proofs.lemmas.Bool.{and_from, eq-eqb}
-use Rattle.hist_model.specs.Calls.{listed, id, named}
-use Rattle.hist_model.specs.Sessions.{Rules}
-use Rattle.hist_model.specs.Systems.{System}
-use Rattle.hist_model.specs.Steps.{IsLegal}
-use Rattle.hist_model.specs.declared.event.Event.{Event}
-use Rattle.hist_model.proofs.Look.{oldest-some, oldest-found}
+use Rattle.mediation.proofs.Common.{◌≡◌, ℕ, ◌<◌, ◌^◌, true, ◌&&◌, List, length, Some, ◌∙◌, arith, ◌==◌, and_from, eq-eqb, listed, id, named, Rules, System, IsLegal, Event, oldest-some, oldest-found}
 use Rattle.mediation.proofs.Own.{listed-below}
 use Rattle.mediation.proofs.Ids.{call-ids, listed-is_call}
 use Rattle.mediation.proofs.Work.{InSession}

@@ -1,21 +1,9 @@
 -- A call is answered at most once.
-use Rattle.std.proofs.Common.{◌≡◌, inl, inr, ℕ, ◌≤◌, true, false, List, [], ◌∷◌, Option, refl, sym, arith}
-use Rattle.std.specs.Prelude.{Result, Ok, Err}
-use Rattle.std.proofs.lemmas.Bool.{cases_Bool}
-use Rattle.hist_model.specs.Look.{is_place, is_task}
-use Rattle.hist_model.specs.Calls.{listed, settled, settles, waiting, is_install, caller}
-use Rattle.hist_model.specs.Sessions.{Rules}
-use Rattle.hist_model.specs.Systems.{System}
-use Rattle.hist_model.specs.Steps.{IsLegal, send_answer}
+use Rattle.mediation.proofs.Common.{◌≡◌, inl, inr, ℕ, ◌≤◌, true, false, List, [], ◌∷◌, Option, refl, sym, arith, Result, Ok, Err, cases_Bool, is_place, is_task, listed, settled, settles, waiting}
+use Rattle.mediation.proofs.Common.{is_install, caller, Rules, System, IsLegal, send_answer, Event, Actor, Task, What, Install, name_eq-true}
 use Rattle.hist_model.specs.Laws.{answers_to, AnsweredOnce}
-use Rattle.hist_model.specs.declared.event.Event.{Event}
-use Rattle.hist_model.specs.declared.event.Actor.{Actor}
-use Rattle.hist_model.specs.declared.event.Actor.TheVariants.{Task}
-use Rattle.hist_model.specs.declared.event.What.{What}
-use Rattle.hist_model.specs.declared.event.What.TheVariants.{Install}
 use Rattle.mediation.proofs.Rows.{Row, row-of}
 use Rattle.mediation.proofs.Own.{waits-in}
-use Rattle.hist_model.proofs.Look.{name_eq-true}
 
 no-both : (u : Unit {0}) → ◌≡◌ {A = Result (Unit {0}) ℕ} (Ok u) (Err 115) → ⊥
 no-both u q = cc

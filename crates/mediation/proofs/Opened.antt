@@ -1,15 +1,7 @@
 -- A session that has opened its memory has one, and it is its call's task's.
-use Rattle.std.proofs.Common.{◌≡◌, inl, inr, ℕ, ◌<◌, ◌^◌, true, false, List, [], ◌∷◌, length, Option, Some, None, refl, ap, ◌∙◌, arith}
-use Rattle.std.specs.Prelude.{if◌then◌else◌, Result, Ok, Err}
-use Rattle.std.proofs.lemmas.Bool.{or_cases, or_parts, or_left, or_right}
-use Rattle.hist_model.specs.Sessions.{Rules, session, any_of, gives_up, opens, checks}
-use Rattle.hist_model.specs.Systems.{System}
-use Rattle.hist_model.specs.Orders.{is_good_check}
-use Rattle.hist_model.specs.Steps.{IsLegal, session_call, mem, opened, group, lives}
+use Rattle.mediation.proofs.Common.{◌≡◌, inl, inr, ℕ, ◌<◌, ◌^◌, true, false, List, [], ◌∷◌, length, Option, Some, None, refl, ap, ◌∙◌, arith, if◌then◌else◌, Result, Ok, Err, or_cases, or_parts}
+use Rattle.mediation.proofs.Common.{or_left, or_right, Rules, session, any_of, gives_up, opens, checks, System, is_good_check, IsLegal, session_call, mem, opened, group, lives, Event, What, Check}
 use Rattle.hist_model.specs.Mediated.{HasMemory}
-use Rattle.hist_model.specs.declared.event.Event.{Event}
-use Rattle.hist_model.specs.declared.event.What.{What}
-use Rattle.hist_model.specs.declared.event.What.TheVariants.{Check}
 use Rattle.mediation.proofs.Work.{session-more, started, mem-still as still-mem, mem-more}
 use Rattle.mediation.proofs.Handles.{Steady, steady}
 use Rattle.mediation.proofs.InHand.{by-session, in-hand-of, FetchKept, WorkKept, StillKept}

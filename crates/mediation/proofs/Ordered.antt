@@ -1,12 +1,7 @@
 -- The steps of a session stand in order.
-use Rattle.std.proofs.Common.{◌≡◌, ◌⊎◌, inl, inr, ℕ, ◌<◌, ◌≤◌, true, false, List, [], ◌∷◌, Some, None, refl, sym, ◌∙◌, arith}
-use Rattle.std.specs.Prelude.{Ok, Err, ℤ}
-use Rattle.std.proofs.lemmas.Bool.{cases_Bool, or_parts, eqb-true, eqb-false, both_ways}
-use Rattle.hist_model.specs.Sessions.{Rules, notif_of, any_of, number_of, checks, opens, opens_base, gives_up, is_read, reads_of}
-use Rattle.hist_model.specs.Orders.{InOrder, is_good_check}
-use Rattle.hist_model.specs.declared.event.What.{What}
-use Rattle.hist_model.specs.declared.event.What.TheVariants.{Recv, OpenMem, OpenBase, Check, Read, Act, Plant, AddfdPut, Send}
-use Rattle.sys_abi.specs.declared.wire.Notif.{Notif}
+use Rattle.mediation.proofs.Common.{◌≡◌, ◌⊎◌, inl, inr, ℕ, ◌<◌, ◌≤◌, true, false, List, [], ◌∷◌, Some, None, refl, sym, ◌∙◌, arith, Ok, Err, ℤ, cases_Bool, or_parts, eqb-true, eqb-false, both_ways}
+use Rattle.mediation.proofs.Common.{Rules, notif_of, any_of, number_of, checks, opens, opens_base, gives_up, is_read, reads_of, InOrder, is_good_check, What, Recv, OpenMem, OpenBase, Check, Read}
+use Rattle.mediation.proofs.Common.{Act, Plant, AddfdPut, Send, Notif}
 use Rattle.mediation.proofs.Deeds.{AtWork, HasCopied, deed-is}
 use Rattle.mediation.proofs.Sequence.{IsOwn}
 

@@ -1,22 +1,11 @@
 -- A listed call's task lives, and its last own event is that call.
-use Rattle.std.proofs.Common.{◌≡◌, ◌⊎◌, inl, inr, ℕ, ◌+◌, ◌<◌, true, false, ◌&&◌, ◌||◌, not, ◌%◌, ◌^◌, List, [], ◌∷◌, length, Some, None, refl, arith}
-use Rattle.std.specs.Prelude.{◌==◌, ℤ}
-use Rattle.std.proofs.lemmas.Bool.{cases_Bool, eqb-true, not-true, and_parts, and_from, ne_eqb, eq-eqb}
-use Rattle.hist_model.specs.Look.{Name, name_eq, is_task, task_name}
-use Rattle.hist_model.specs.Tasks.{ended, ends, is_made, alive, makes}
-use Rattle.hist_model.specs.Calls.{listed, caller, calls, notifies, notify_id, leaves, closes, unlists}
-use Rattle.hist_model.specs.Signals.{call_of}
-use Rattle.hist_model.specs.Sessions.{Rules}
-use Rattle.hist_model.specs.Systems.{System}
-use Rattle.hist_model.specs.Steps.{IsStep, IsLegal, with_id}
+use Rattle.mediation.proofs.Common.{◌≡◌, ◌⊎◌, inl, inr, ℕ, ◌+◌, ◌<◌, true, false, ◌&&◌, ◌||◌, not, ◌%◌, ◌^◌, List, [], ◌∷◌, length, Some, None, refl, arith, ◌==◌, ℤ, cases_Bool, eqb-true, and_parts}
+use Rattle.mediation.proofs.Common.{and_from, ne_eqb, eq-eqb, Name, name_eq, is_task, task_name, ended, ends, is_made, alive, makes, listed, caller, calls, notifies, notify_id, leaves, closes}
+use Rattle.mediation.proofs.Common.{unlists, call_of, Rules, System, IsStep, IsLegal, with_id, Event, Actor, Start, Task, Worker, Listener, What, Enter, event_at-here, event_at-older, below_or_last}
+use Rattle.mediation.proofs.Common.{name_eq-true, name_eq-refl, newest-found, newest-some}
+use Rattle.std.proofs.lemmas.Bool.{not-true}
 use Rattle.hist_model.specs.Laws.{last_own, is_passive, CallsAreLast}
-use Rattle.hist_model.specs.declared.event.Event.{Event}
-use Rattle.hist_model.specs.declared.event.Actor.{Actor}
-use Rattle.hist_model.specs.declared.event.Actor.TheVariants.{Start, Task, Worker, Listener}
-use Rattle.hist_model.specs.declared.event.What.{What}
-use Rattle.hist_model.specs.declared.event.What.TheVariants.{Enter}
 use Rattle.hist_model.specs.declared.event.Entered.{Entered}
-use Rattle.hist_model.proofs.Look.{event_at-here, event_at-older, below_or_last, name_eq-true, name_eq-refl, newest-found, newest-some}
 use Rattle.mediation.proofs.Rows.{Row, TaskRow, row-of}
 
 -- a listed call stands below

@@ -1,20 +1,9 @@
 -- How far a listed call is: not fetched, in hand, or answered.
-use Rattle.std.proofs.Common.{◌≡◌, ◌⊎◌, inl, inr, ℕ, ◌<◌, ◌≤◌, ◌^◌, Bool, true, false, ◌&&◌, ◌||◌, List, [], ◌∷◌, length, Option, Some, None, refl, sym, ap, ◌∙◌, arith}
-use Rattle.std.specs.Prelude.{◌==◌, Result, Ok, Err}
-use Rattle.std.proofs.lemmas.Bool.{cases_Bool, or_right, or_left, eqb-true, eq-eqb, both_ways}
-use Rattle.hist_model.specs.Look.{is_place, is_worker}
-use Rattle.hist_model.specs.Calls.{listed, fetched, fetches, id, named, answers, settled, puts_to, installs_for, queue, is_send}
-use Rattle.hist_model.specs.Sessions.{Rules, session, any_of, gives_up, addfd_of, first_some, put_in, take_in}
-use Rattle.hist_model.specs.Systems.{System, Slot, Number, Full, Over}
-use Rattle.hist_model.specs.Steps.{IsLegal, session_call, call_after, call_at, install_of, installed, request_of, request_after, slot_answer}
-use Rattle.hist_model.specs.Laws.{fetcher, worker_of}
-use Rattle.hist_model.specs.declared.event.Event.{Event}
-use Rattle.hist_model.specs.declared.event.Actor.{Actor}
-use Rattle.hist_model.specs.declared.event.What.{What}
-use Rattle.hist_model.specs.declared.event.What.TheVariants.{AddfdPut, Send, Install}
-use Rattle.sys_abi.specs.declared.wire.Notif.{Notif}
-use Rattle.sys_abi.specs.declared.wire.Addfd.{Addfd}
-use Rattle.hist_model.proofs.Look.{event_at-older}
+use Rattle.mediation.proofs.Common.{◌≡◌, ◌⊎◌, inl, inr, ℕ, ◌<◌, ◌≤◌, ◌^◌, Bool, true, false, ◌&&◌, ◌||◌, List, [], ◌∷◌, length, Option, Some, None, refl, sym, ap, ◌∙◌, arith, ◌==◌, Result, Ok, Err}
+use Rattle.mediation.proofs.Common.{cases_Bool, or_right, or_left, eqb-true, eq-eqb, both_ways, is_place, is_worker, listed, fetched, fetches, id, named, answers, settled, puts_to, installs_for}
+use Rattle.mediation.proofs.Common.{queue, is_send, Rules, session, any_of, gives_up, addfd_of, first_some, put_in, take_in, System, IsLegal, session_call, call_after, call_at, install_of, installed}
+use Rattle.mediation.proofs.Common.{request_of, request_after, slot_answer, fetcher, worker_of, Event, Actor, What, AddfdPut, Send, Install, Notif, Addfd, event_at-older}
+use Rattle.hist_model.specs.Systems.{Slot, Number, Full, Over}
 use Rattle.mediation.proofs.Rows.{Row, WorkerRow, row-of}
 use Rattle.mediation.proofs.Ids.{ids_differ}
 use Rattle.mediation.proofs.Count.{fetching}

@@ -1,16 +1,7 @@
 -- Unreaped tasks have different process numbers.
-use Rattle.std.proofs.Common.{◌≡◌, ℕ, zero, suc, ◌+◌, ◌<◌, true, ◌&&◌, List, [], ◌∷◌, length, Some, None, arith}
-use Rattle.std.proofs.lemmas.Bool.{or_right}
-use Rattle.hist_model.specs.Look.{Name, newest, is_task}
-use Rattle.hist_model.specs.Tasks.{ended, was_waited_for, reaped, ends, holds, holder, given, free_from, next_pid}
-use Rattle.hist_model.specs.Sessions.{Rules}
-use Rattle.hist_model.specs.Systems.{System}
-use Rattle.hist_model.specs.Steps.{IsStep, IsLegal}
+use Rattle.mediation.proofs.Common.{◌≡◌, ℕ, zero, suc, ◌+◌, ◌<◌, true, ◌&&◌, List, [], ◌∷◌, length, Some, None, arith, or_right, Name, newest, is_task, ended, was_waited_for, reaped, ends, holds}
+use Rattle.mediation.proofs.Common.{holder, given, free_from, next_pid, Rules, System, IsStep, IsLegal, Event, Actor, What, event_at-here, event_at-older, event_at-above, below_or_last, newest-found}
 use Rattle.hist_model.specs.Laws.{PidsDiffer}
-use Rattle.hist_model.specs.declared.event.Event.{Event}
-use Rattle.hist_model.specs.declared.event.Actor.{Actor}
-use Rattle.hist_model.specs.declared.event.What.{What}
-use Rattle.hist_model.proofs.Look.{event_at-here, event_at-older, event_at-above, below_or_last, newest-found}
 use Rattle.mediation.proofs.Rows.{Row, row-of}
 
 pub ended-more : (e : Event) (K : List Event) (n : Name) → ended K n ≡ true → ended (e ∷ K) n ≡ true

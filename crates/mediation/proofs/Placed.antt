@@ -1,9 +1,5 @@
 -- An installation puts the request's file where it says, and nothing elsewhere; one that failed puts nothing.
-use Rattle.std.proofs.Common.{List}
-use Rattle.hist_model.specs.Files.{files}
-use Rattle.hist_model.specs.Mediated.{InstallsAlone, FailsAlone}
-use Rattle.hist_model.specs.declared.event.Event.{Event}
-use Rattle.hist_model.specs.declared.script.Script.{Script}
+use Rattle.mediation.proofs.Common.{List, files, InstallsAlone, FailsAlone, Event, Script}
 
 pub installs-alone : (S : Script) (K : List Event) (e : Event) → InstallsAlone S K e
 unfolding files

@@ -1,12 +1,8 @@
 -- The places of tasks, and their groups, stay.
-use Rattle.std.proofs.Common.{◌≡◌, inl, inr, ℕ, ◌<◌, true, ◌&&◌, List, [], ◌∷◌, length, Option, Some, ◌∙◌, arith}
-use Rattle.std.proofs.lemmas.Bool.{or_cases, ne_eqb}
-use Rattle.hist_model.specs.Look.{Name, name_eq, event_at}
-use Rattle.hist_model.specs.Tasks.{is_made, makes, child_of, name_of, given, given_in}
-use Rattle.hist_model.specs.Steps.{task_place, makes_in, group, pid_or}
-use Rattle.hist_model.specs.declared.event.Event.{Event}
-use Rattle.hist_model.specs.declared.event.What.{What}
-use Rattle.hist_model.proofs.Look.{event_at-here, event_at-older, oldest-same, oldest-found, oldest-stays, oldest-some}
+use Rattle.mediation.proofs.Common.{◌≡◌, inl, inr, ℕ, ◌<◌, true, ◌&&◌, List, [], ◌∷◌, length, Option, Some, ◌∙◌, arith, or_cases, ne_eqb, Name, name_eq, event_at, is_made, makes, child_of, name_of}
+use Rattle.mediation.proofs.Common.{given, task_place, makes_in, group, pid_or, Event, What, event_at-here, event_at-older, oldest-same, oldest-found, oldest-some}
+use Rattle.hist_model.specs.Tasks.{given_in}
+use Rattle.hist_model.proofs.Look.{oldest-stays}
 
 pub place-stays : (e : Event) (K : List Event) (n : Name) (t : ℕ) → task_place K n ≡ Some t → task_place (e ∷ K) n ≡ Some t
 unfolding task_place

@@ -1,16 +1,7 @@
 -- The history that a schedule plays is legal.
-use Rattle.std.proofs.Common.{◌≡◌, ℕ, zero, suc, ◌<◌, ◌≤◌, ◌^◌, true, false, List, [], ◌∷◌, length, refl, arith}
-use Rattle.hist_model.specs.Calls.{closes}
-use Rattle.hist_model.specs.Look.{ev}
-use Rattle.hist_model.specs.Steps.{IsStep, IsLegal, is_start, is_actor, step}
-use Rattle.hist_model.specs.Mediated.{takes}
-use Rattle.hist_model.specs.Legal.{Legal, played, started, system_of, rules_of, with_step, with_steps, with_schedule}
-use Rattle.hist_model.specs.declared.event.Actor.{Actor}
-use Rattle.hist_model.specs.declared.event.Actor.TheVariants.{Listener}
-use Rattle.hist_model.specs.declared.event.Event.{Event}
-use Rattle.hist_model.specs.declared.event.What.{What}
-use Rattle.hist_model.specs.declared.policy.Policy.{Policy}
-use Rattle.hist_model.specs.declared.script.Script.{Script}
+use Rattle.mediation.proofs.Common.{◌≡◌, ℕ, zero, suc, ◌<◌, ◌≤◌, ◌^◌, true, false, List, [], ◌∷◌, length, refl, arith, closes, ev, IsStep, IsLegal, is_start, is_actor, step, takes, Legal, played}
+use Rattle.mediation.proofs.Common.{system_of, rules_of, Actor, Listener, Event, What, Policy, Script}
+use Rattle.hist_model.specs.Legal.{started, with_step, with_steps, with_schedule}
 use Rattle.hist_model.specs.declared.script.Step.{Step}
 use Rattle.mediation.specs.Scheduled.{IsScheduled, AllScheduled}
 use Rattle.mediation.proofs.Replies.{taken-by-its-actor}

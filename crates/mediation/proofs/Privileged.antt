@@ -1,31 +1,23 @@
 -- A native call changes no device, no mount, and no attribute but the user's own.
-use Rattle.std.proofs.Common.{◌≡◌, inl, inr, ℕ, Bool, true, false, List, [], ◌∷◌, Option, refl, arith}
-use Rattle.std.specs.Prelude.{if◌then◌else◌, ◌==◌, ◌%◌, ◌^◌, Result, Ok, Err, filter, nat_eq, codes, bytes_eq}
+use Rattle.mediation.proofs.Common.{◌≡◌, inl, inr, ℕ, Bool, true, false, List, [], ◌∷◌, Option, refl, arith, if◌then◌else◌, ◌==◌, Result, Ok, Err, codes, cases_Bool, and_parts, Name, task_name, plan}
+use Rattle.mediation.proofs.Common.{place_or, Files, NativeStep, files, files_after, after_native, ActsAlone, Event, Actor, Worker, What, Spawn, Native, Install, OpenBase, Act, LetGo, SpawnKind}
+use Rattle.mediation.proofs.Common.{Script, name_eq-true}
+use Rattle.std.specs.Prelude.{◌%◌, ◌^◌, filter, nat_eq, bytes_eq}
 use Rattle.std.specs.List.{starts_with}
-use Rattle.std.proofs.lemmas.Bool.{cases_Bool, and_parts}
-use Rattle.hist_model.specs.Look.{Name, task_name}
 use Rattle.hist_model.specs.Trees.{Tree, attr, with_attr, is_attr, attr_put, attr_replaced, are_attr_flags}
 use Rattle.hist_model.specs.Paths.{Place, Follow, reaches}
 use Rattle.hist_model.specs.Effects.{perform, made, attributed}
 use Rattle.hist_model.specs.Requests.{base_dirfd}
-use Rattle.hist_model.specs.Copies.{plan, copy_of}
+use Rattle.hist_model.specs.Copies.{copy_of}
 use Rattle.hist_model.specs.Memory.{is_number, argument, last_call, group_named, own_group, all_mapped, mapped_byte, sysinfo_size}
-use Rattle.hist_model.specs.Steps.{number_entered, entered, pid_named, place_or}
-use Rattle.hist_model.specs.Natives.{Files, root, NativeStep, Fails, Gives, Changes, Writes, native_step, call_natively, copied_natively, make_natively, set_natively, changed, is_refused, close_natively, has_base}
-use Rattle.hist_model.specs.Files.{files, files_after, after_native, after_spawn}
-use Rattle.hist_model.specs.Mediated.{KeepsPrivileged, ActsAlone, is_device_node, is_others_row, is_effect}
-use Rattle.hist_model.specs.declared.event.Event.{Event}
-use Rattle.hist_model.specs.declared.event.Actor.{Actor}
-use Rattle.hist_model.specs.declared.event.Actor.TheVariants.{Worker}
-use Rattle.hist_model.specs.declared.event.What.{What}
-use Rattle.hist_model.specs.declared.event.What.TheVariants.{Spawn, Native, Install, OpenBase, Act, LetGo}
-use Rattle.hist_model.specs.declared.event.SpawnKind.{SpawnKind}
+use Rattle.hist_model.specs.Steps.{number_entered, entered, pid_named}
+use Rattle.hist_model.specs.Natives.{root, Fails, Gives, Changes, Writes, native_step, call_natively, copied_natively, make_natively, set_natively, changed, is_refused, close_natively, has_base}
+use Rattle.hist_model.specs.Files.{after_spawn}
+use Rattle.hist_model.specs.Mediated.{KeepsPrivileged, is_device_node, is_others_row, is_effect}
 use Rattle.hist_model.specs.declared.request.Node.{Node}
 use Rattle.hist_model.specs.declared.request.Obj.{Obj}
 use Rattle.hist_model.specs.declared.request.TreeOp.TheVariants.{Fail, SetAttr}
-use Rattle.hist_model.specs.declared.script.Script.{Script}
 use Rattle.hist_model.specs.declared.tree.AttrRow.{AttrRow}
-use Rattle.hist_model.proofs.Look.{name_eq-true}
 
 pub keeps-same : (T : Tree) → KeepsPrivileged T T
 keeps-same T = record { devices = refl; mounts = refl; attributes = refl }

@@ -1,20 +1,9 @@
 -- What changes a call's requests and its answer.
-use Rattle.std.proofs.Common.{◌≡◌, ℕ, ◌<◌, ◌≤◌, Bool, true, false, List, [], ◌∷◌, ◌++◌, length, Option, Some, None, refl, sym, ◌∙◌, arith}
-use Rattle.std.specs.Prelude.{if◌then◌else◌, Result, Ok, Err}
-use Rattle.std.proofs.lemmas.Bool.{or_right, eqb-true, ne_eqb, eq-eqb}
-use Rattle.hist_model.specs.Look.{is_place, is_task, task_name}
-use Rattle.hist_model.specs.Calls.{listed, fetched, caller, named, answers, settled, settles, waiting, puts_to, installs_for, is_install, queue, rest_of}
-use Rattle.hist_model.specs.Signals.{call_of}
-use Rattle.hist_model.specs.Sessions.{Rules}
-use Rattle.hist_model.specs.Systems.{System}
-use Rattle.hist_model.specs.Steps.{IsLegal, call_at, asked_call, is_first, install_step, slot_answer, put_answer}
-use Rattle.hist_model.specs.declared.event.Event.{Event}
-use Rattle.hist_model.specs.declared.event.Actor.{Actor}
-use Rattle.hist_model.specs.declared.event.Actor.TheVariants.{Task}
-use Rattle.hist_model.specs.declared.event.What.{What}
-use Rattle.hist_model.specs.declared.event.What.TheVariants.{Install}
-use Rattle.sys_abi.specs.declared.wire.Addfd.{Addfd}
-use Rattle.hist_model.proofs.Look.{oldest-some, name_eq-true}
+use Rattle.mediation.proofs.Common.{◌≡◌, ℕ, ◌<◌, ◌≤◌, Bool, true, false, List, [], ◌∷◌, ◌++◌, length, Option, Some, None, refl, sym, ◌∙◌, arith, if◌then◌else◌, Result, Ok, Err, or_right, eqb-true}
+use Rattle.mediation.proofs.Common.{ne_eqb, eq-eqb, is_place, is_task, task_name, listed, fetched, caller, named, answers, settled, settles, waiting, puts_to, installs_for, is_install, queue}
+use Rattle.mediation.proofs.Common.{rest_of, call_of, Rules, System, IsLegal, call_at, is_first, install_step, slot_answer, put_answer, Event, Actor, Task, What, Install, Addfd, oldest-some}
+use Rattle.mediation.proofs.Common.{name_eq-true}
+use Rattle.hist_model.specs.Steps.{asked_call}
 use Rattle.mediation.proofs.Rows.{Row}
 use Rattle.mediation.proofs.Own.{waits-in, listed-below}
 

@@ -1,13 +1,9 @@
 -- The receives that found nothing are for calls that left the list unfetched.
-use Rattle.std.proofs.Common.{◌≡◌, ℕ, zero, suc, ◌+◌, ◌<◌, ◌≤◌, ◌^◌, Bool, true, false, ◌&&◌, not, List, [], ◌∷◌, length, None, refl, arith}
-use Rattle.hist_model.specs.Calls.{listed, fetched, is_call}
-use Rattle.hist_model.specs.Sessions.{Rules}
-use Rattle.hist_model.specs.Systems.{System}
-use Rattle.hist_model.specs.Steps.{IsStep, IsLegal, oldest_unfetched}
-use Rattle.hist_model.specs.Laws.{count_below, empty_recvs, gets_nothing}
-use Rattle.hist_model.specs.Mediated.{left_unfetched, ReceivesFor}
-use Rattle.hist_model.specs.declared.event.Event.{Event}
-use Rattle.hist_model.proofs.Look.{event_at-older, oldest-none}
+use Rattle.mediation.proofs.Common.{◌≡◌, ℕ, zero, suc, ◌+◌, ◌<◌, ◌≤◌, ◌^◌, Bool, true, false, ◌&&◌, not, List, [], ◌∷◌, length, None, refl, arith, listed, fetched, is_call, Rules, System, IsStep}
+use Rattle.mediation.proofs.Common.{IsLegal, oldest_unfetched, count_below, empty_recvs, ReceivesFor, Event, event_at-older}
+use Rattle.hist_model.specs.Laws.{gets_nothing}
+use Rattle.hist_model.specs.Mediated.{left_unfetched}
+use Rattle.hist_model.proofs.Look.{oldest-none}
 use Rattle.mediation.proofs.Rows.{row-of}
 use Rattle.mediation.proofs.Own.{listed-older}
 use Rattle.mediation.proofs.Count.{count_is}

@@ -1,21 +1,9 @@
 -- The small histories that wrong kernels and brokers would make are not legal.
-use Rattle.std.proofs.Common.{◌≡◌, ℕ, ◌<◌, ◌&&◌, Bool, true, false, List, [], ◌∷◌, length, refl, arith}
-use Rattle.std.specs.Prelude.{Ok, pos, nat_le, ◌==◌}
-use Rattle.std.proofs.lemmas.Bool.{and_parts, eqb-false}
-use Rattle.hist_model.specs.Look.{ev, event_at, newest, oldest}
-use Rattle.hist_model.specs.Tasks.{ended, was_waited_for, reaped, holder, free_from, last_pid, next_pid, is_made, mode, pending}
-use Rattle.hist_model.specs.Signals.{call_of, next_signal}
-use Rattle.hist_model.specs.Calls.{listed, fetched, named, settled, queue, calls, recvs, closes}
-use Rattle.hist_model.specs.Sessions.{Rules, session, deed}
-use Rattle.hist_model.specs.Systems.{System}
-use Rattle.hist_model.specs.Steps.{IsLegal, is_start, is_actor, start, step, task_step, worker_step, steps_of, reply, oldest_unfetched, task_place, group, mem, base, session_call, install_of, call_at, request_of, owes_native, times_spent}
-use Rattle.hist_model.specs.declared.event.Actor.{Actor}
-use Rattle.hist_model.specs.declared.event.Actor.TheVariants.{Task, Worker}
-use Rattle.hist_model.specs.declared.event.Event.{Event}
-use Rattle.hist_model.specs.declared.event.What.{What}
-use Rattle.hist_model.specs.declared.event.What.TheVariants.{Recv, AddfdPut}
-use Rattle.sys_abi.specs.declared.wire.Addfd.{Addfd}
-use Rattle.sys_abi.specs.declared.wire.Notif.{Notif}
+use Rattle.mediation.proofs.Common.{◌≡◌, ℕ, ◌<◌, ◌&&◌, Bool, true, false, List, [], ◌∷◌, length, refl, arith, Ok, pos, nat_le, ◌==◌, and_parts, eqb-false, ev, event_at, newest, oldest, ended}
+use Rattle.mediation.proofs.Common.{was_waited_for, reaped, holder, free_from, last_pid, next_pid, is_made, mode, call_of, next_signal, listed, fetched, named, settled, queue, calls, recvs, closes}
+use Rattle.mediation.proofs.Common.{Rules, session, deed, System, IsLegal, is_start, is_actor, start, step, task_step, worker_step, steps_of, reply, oldest_unfetched, task_place, group, mem, base}
+use Rattle.mediation.proofs.Common.{session_call, install_of, call_at, request_of, owes_native, times_spent, Actor, Task, Worker, Event, What, Recv, AddfdPut, Addfd, Notif}
+use Rattle.hist_model.specs.Tasks.{pending}
 use Rattle.mediation.specs.Refused.{after, played, Refuses, EarlyEffect, LateOpening, SecondReading, SecondAnswer, ValidByNumber, LateInstallation, WithoutSend, NewestFirst}
 use Rattle.mediation.proofs.Rows.{Row, step-row}
 

@@ -1,24 +1,11 @@
 -- Answers: whose they are, what causes them, and when they tell that a call is gone.
-use Rattle.std.proofs.Common.{◌≡◌, Bool, ◌⊎◌, inl, inr, ℕ, ◌<◌, ◌^◌, true, false, List, [], ◌∷◌, length, refl, ap, arith, ◌||◌, not, ◌∙◌, None, Some, Option}
-use Rattle.std.specs.Prelude.{Result, Ok, Err, ◌==◌, if◌then◌else◌}
-use Rattle.std.proofs.lemmas.Bool.{eq-eqb, false_from_ne_true, cases_Bool, both_ways}
-use Rattle.hist_model.specs.Look.{is_worker, is_place}
-use Rattle.hist_model.specs.Calls.{listed, named, puts_to, answers}
-use Rattle.hist_model.specs.Sessions.{Rules, session, Answer, Put, addfd_of}
-use Rattle.hist_model.specs.Systems.{System}
-use Rattle.hist_model.specs.Steps.{IsStep, IsLegal, session_call, send_answer, put_answer, install_of}
-use Rattle.hist_model.specs.Settlers.{InstallsOwn, ResumesOwn, ReturnsInstalled}
-use Rattle.hist_model.specs.Mediated.{HasCause, NeverBusy, is_busy, ErrorsKnown, is_known_error, TakenByItsActor, takes, Each, NamesOwn, is_accepted, LostIfGone, is_lost}
+use Rattle.mediation.proofs.Common.{◌≡◌, Bool, ◌⊎◌, inl, inr, ℕ, ◌<◌, ◌^◌, true, false, List, [], ◌∷◌, length, refl, ap, arith, ◌||◌, not, ◌∙◌, None, Some, Option, Result, Ok, Err, ◌==◌}
+use Rattle.mediation.proofs.Common.{if◌then◌else◌, eq-eqb, false_from_ne_true, cases_Bool, both_ways, is_worker, is_place, listed, named, puts_to, answers, Rules, session, Answer, Put, addfd_of}
+use Rattle.mediation.proofs.Common.{System, IsStep, IsLegal, session_call, send_answer, put_answer, install_of, InstallsOwn, ResumesOwn, ReturnsInstalled, HasCause, NeverBusy, ErrorsKnown}
+use Rattle.mediation.proofs.Common.{TakenByItsActor, takes, Each, NamesOwn, LostIfGone, Addfd, Notif, Event, Actor, Worker, What, Back, OpenMem, OpenBase, Check, AddfdPut, AddfdTake, Send}
+use Rattle.hist_model.specs.Mediated.{is_busy, is_known_error, is_accepted, is_lost}
 use Rattle.mediation.proofs.Settlers.{installs-own, resumes-own, returns-installed}
 use Rattle.mediation.proofs.Names.{named-is, names-own}
-use Rattle.sys_abi.specs.declared.wire.Addfd.{Addfd}
-use Rattle.sys_abi.specs.declared.wire.Notif.{Notif}
-use Rattle.hist_model.specs.declared.event.Event.{Event}
-use Rattle.hist_model.specs.declared.event.Actor.{Actor}
-use Rattle.hist_model.specs.declared.event.Actor.TheVariants.{Worker}
-use Rattle.hist_model.specs.declared.event.What.{What}
-use Rattle.hist_model.specs.declared.event.Back.{Back}
-use Rattle.hist_model.specs.declared.event.What.TheVariants.{OpenMem, OpenBase, Check, AddfdPut, AddfdTake, Send}
 use Rattle.mediation.proofs.Rows.{Row, WorkerRow, row-of}
 use Rattle.mediation.proofs.Deeds.{deed-is, AtWork}
 use Rattle.mediation.proofs.Work.{InSession, hand, hand-notif, in-hand, works, at-work}

@@ -1,21 +1,15 @@
 -- What the step of an actor can be, kind by kind, and what it then tells.
-use Rattle.std.proofs.Common.{◌≡◌, ℕ, ◌+◌, ◌%◌, ◌^◌, Bool, true, false, not, List, [], ◌∷◌, length, Option, Some, None, refl, arith}
-use Rattle.std.specs.Prelude.{if◌then◌else◌, ◌==◌, Ok, Err}
-use Rattle.hist_model.specs.Look.{Name, oldest}
-use Rattle.hist_model.specs.Tasks.{alive, next_pid, holder, mode}
-use Rattle.hist_model.specs.Calls.{calls, settled, named, count, queue}
-use Rattle.hist_model.specs.Signals.{next_signal, call_of, effect_in_call, effect_outside}
-use Rattle.hist_model.specs.Sessions.{session, deed, Rules, Fetch, Open, OpenB, Ask, ReadD, ActD, PlantD, Put, Take, Answer, Let}
-use Rattle.hist_model.specs.Systems.{System}
-use Rattle.hist_model.specs.Steps.{step, task_step, living_step, worker_step, instr_step, deliver_or, wait_step, reply, spawn_answer, found, is_child, is_ended_child, next_instr, recv_answer, oldest_unfetched, lives, check_answer, send_answer, with_id, owes_native, install_step, base_answer, read_answer, put_answer, mem, take_step, next_child, is_spent, is_start, IsStep, install_at, request_of, request_listed}
-use Rattle.hist_model.specs.declared.event.Event.{Event}
+use Rattle.mediation.proofs.Common.{◌≡◌, ℕ, ◌+◌, ◌%◌, ◌^◌, Bool, true, false, not, List, [], ◌∷◌, length, Option, Some, None, refl, arith, if◌then◌else◌, ◌==◌, Ok, Err, Name, oldest, alive, next_pid}
+use Rattle.mediation.proofs.Common.{holder, mode, calls, settled, named, count, queue, next_signal, call_of, session, deed, Rules, Fetch, Open, OpenB, Ask, ReadD, ActD, PlantD, Put, Take, Answer}
+use Rattle.mediation.proofs.Common.{Let, System, step, task_step, worker_step, wait_step, reply, is_child, is_ended_child, recv_answer, oldest_unfetched, lives, check_answer, send_answer, with_id}
+use Rattle.mediation.proofs.Common.{owes_native, install_step, base_answer, read_answer, put_answer, mem, take_step, is_spent, is_start, IsStep, request_of, Event, Actor, Start, Task, Worker}
+use Rattle.mediation.proofs.Common.{Listener, What, Spawn, Enter, Resume, Deliver, Reap, Recv, OpenMem, Check, Send, LetGo, Skip, Native, Install, OpenBase, Read, Act, Plant, AddfdPut, AddfdTake}
+use Rattle.mediation.proofs.Common.{SpawnKind}
+use Rattle.hist_model.specs.Signals.{effect_in_call, effect_outside}
+use Rattle.hist_model.specs.Steps.{living_step, instr_step, deliver_or, spawn_answer, found, next_instr, next_child, install_at, request_listed}
 use Rattle.hist_model.specs.declared.script.Instr.{Instr}
 use Rattle.hist_model.specs.declared.event.SpawnKind.TheVariants.{New}
-use Rattle.hist_model.specs.declared.event.Actor.{Actor}
-use Rattle.hist_model.specs.declared.event.Actor.TheVariants.{Start, Task, Worker, Listener}
-use Rattle.hist_model.specs.declared.event.What.{What}
-use Rattle.hist_model.specs.declared.event.What.TheVariants.{Spawn, Poke, Handler, Enter, Resume, Signal, Deliver, Reap, Exit, Recv, OpenMem, Check, Send, LetGo, Skip, Close, Native, Install, OpenBase, Read, Act, Plant, AddfdPut, AddfdTake}
-use Rattle.hist_model.specs.declared.event.SpawnKind.{SpawnKind}
+use Rattle.hist_model.specs.declared.event.What.TheVariants.{Poke, Handler, Signal, Exit, Close}
 use Rattle.hist_model.specs.declared.event.Delivered.{Delivered}
 
 -- a task's step tells this

@@ -1,15 +1,8 @@
 -- A session by itself: each of its steps is the deed after those before it.
-use Rattle.std.proofs.Common.{◌≡◌, inl, inr, ℕ, Bool, true, false, ◌||◌, List, [], ◌∷◌, Option, Some, None, refl, sym, ap, ◌∙◌, arith}
-use Rattle.std.specs.Prelude.{◌==◌, Result, Ok}
-use Rattle.std.proofs.lemmas.Bool.{cases_Bool}
-use Rattle.hist_model.specs.Sessions.{Rules, Fetch, Open, OpenB, Ask, ReadD, ActD, PlantD, Put, Take, Answer, Let, Decision, Injects, fetched_by, deed, session, starts, joined, notif_of, any_of, is_read, reads_of, first_some, put_in, take_in, checks, number_of}
-use Rattle.hist_model.specs.Systems.{System}
-use Rattle.hist_model.specs.Causes.{is_acting}
-use Rattle.hist_model.specs.Steps.{IsStep, IsLegal}
-use Rattle.hist_model.specs.declared.event.Event.{Event}
-use Rattle.hist_model.specs.declared.event.What.{What}
-use Rattle.hist_model.specs.declared.event.What.TheVariants.{Recv, OpenMem, OpenBase, Check, Read, Act, Plant, AddfdPut, AddfdTake, Send, LetGo}
-use Rattle.sys_abi.specs.declared.wire.Notif.{Notif}
+use Rattle.mediation.proofs.Common.{◌≡◌, inl, inr, ℕ, Bool, true, false, ◌||◌, List, [], ◌∷◌, Option, Some, None, refl, sym, ap, ◌∙◌, arith, ◌==◌, Result, Ok, cases_Bool, Rules, Fetch, Open, OpenB}
+use Rattle.mediation.proofs.Common.{Ask, ReadD, ActD, PlantD, Put, Take, Answer, Let, Decision, Injects, fetched_by, deed, session, starts, joined, notif_of, any_of, is_read, reads_of, first_some}
+use Rattle.mediation.proofs.Common.{put_in, take_in, checks, number_of, System, is_acting, IsStep, IsLegal, Event, What, Recv, OpenMem, OpenBase, Check, Read, Act, Plant, AddfdPut, AddfdTake, Send}
+use Rattle.mediation.proofs.Common.{LetGo, Notif}
 use Rattle.mediation.proofs.Deeds.{deed-is}
 use Rattle.mediation.proofs.Work.{worker-row, session-same, session-more, started}
 

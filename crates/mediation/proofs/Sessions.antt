@@ -1,9 +1,5 @@
 -- The facts of sessions: what they opened is their call's task's, and what they leave is settled.
-use Rattle.std.proofs.Common.{◌<◌, ◌^◌, List, length, arith}
-use Rattle.hist_model.specs.Sessions.{Rules}
-use Rattle.hist_model.specs.Systems.{System}
-use Rattle.hist_model.specs.Steps.{IsLegal}
-use Rattle.hist_model.specs.declared.event.Event.{Event}
+use Rattle.mediation.proofs.Common.{◌<◌, ◌^◌, List, length, arith, Rules, System, IsLegal, Event}
 use Rattle.mediation.specs.Facts.{HandlesOwn, SessionsSettle}
 use Rattle.mediation.proofs.Handles.{steady}
 use Rattle.mediation.proofs.Waiting.{phases, at-call}

@@ -1,24 +1,14 @@
 -- Installs and resumes are of the call's own session.
-use Rattle.std.proofs.Common.{◌≡◌, inl, inr, ℕ, ◌<◌, ◌^◌, true, false, ◌&&◌, List, [], ◌∷◌, ◌++◌, length, Option, Some, None, refl, sym, ap, ◌∙◌, subst, arith}
-use Rattle.std.specs.Prelude.{Result, Ok, pos}
-use Rattle.std.proofs.lemmas.Bool.{cases_Bool, and_parts, or_cases, or_left, or_right, eq-eqb, eqb-true, cases_order, false_from_ne_true, both_ways}
-use Rattle.hist_model.specs.Look.{Name, is_task}
-use Rattle.hist_model.specs.Calls.{listed, caller, answers, puts_to, installs_for, is_install, gave, first_sends, queue, rest_of, settled, settles, has_send, has_send_flag, is_send}
-use Rattle.hist_model.specs.Signals.{call_of}
-use Rattle.hist_model.specs.Sessions.{Rules, session, addfd_of}
-use Rattle.hist_model.specs.Systems.{System}
-use Rattle.hist_model.specs.Steps.{IsLegal, reply, back_of, call_at, install_of, installed, is_first}
-use Rattle.hist_model.specs.Laws.{fetcher, worker_of}
+use Rattle.mediation.proofs.Common.{◌≡◌, inl, inr, ℕ, ◌<◌, ◌^◌, true, false, ◌&&◌, List, [], ◌∷◌, ◌++◌, length, Option, Some, None, refl, sym, ap, ◌∙◌, subst, arith, Result, Ok, pos, cases_Bool}
+use Rattle.mediation.proofs.Common.{and_parts, or_cases, or_left, or_right, eq-eqb, eqb-true, false_from_ne_true, both_ways, Name, is_task, listed, caller, answers, puts_to, installs_for, is_install}
+use Rattle.mediation.proofs.Common.{queue, rest_of, settled, settles, has_send_flag, is_send, call_of, Rules, session, addfd_of, System, IsLegal, reply, call_at, install_of, installed, is_first}
+use Rattle.mediation.proofs.Common.{fetcher, worker_of, Event, Actor, Task, What, Install, Resume, Send, AddfdPut, Addfd, Back, event_at-here, event_at-older, event_at-below, newest-some}
+use Rattle.mediation.proofs.Common.{name_eq-true}
+use Rattle.std.proofs.lemmas.Bool.{cases_order}
+use Rattle.hist_model.specs.Calls.{gave, first_sends, has_send}
+use Rattle.hist_model.specs.Steps.{back_of}
 use Rattle.hist_model.specs.Settlers.{IsRequestOf, IsInstallOf, Source, sent, installed_for}
-use Rattle.hist_model.specs.declared.event.Event.{Event}
-use Rattle.hist_model.specs.declared.event.Actor.{Actor}
-use Rattle.hist_model.specs.declared.event.Actor.TheVariants.{Task}
-use Rattle.hist_model.specs.declared.event.What.{What}
-use Rattle.hist_model.specs.declared.event.What.TheVariants.{Install, Resume, Send, AddfdPut}
-use Rattle.sys_abi.specs.declared.wire.Addfd.{Addfd}
-use Rattle.hist_model.specs.declared.event.Back.{Back}
 use Rattle.hist_model.specs.declared.event.Back.TheVariants.{Value}
-use Rattle.hist_model.proofs.Look.{event_at-here, event_at-older, event_at-below, newest-some, name_eq-true}
 use Rattle.mediation.proofs.Before.{before-older, before-newest}
 use Rattle.mediation.proofs.Rows.{Row, TaskRow, WorkerRow, row-of}
 use Rattle.mediation.proofs.Deeds.{deed-is}

@@ -1,18 +1,7 @@
 -- A rule's effects are done no more often than its times allow.
-use Rattle.std.proofs.Common.{◌≡◌, ℕ, ◌+◌, ◌<◌, ◌≤◌, true, List, [], ◌∷◌, Some, None, arith}
-use Rattle.std.specs.Prelude.{if◌then◌else◌, ◌==◌, Result, Ok, Err}
-use Rattle.std.proofs.lemmas.Bool.{eqb-true}
-use Rattle.hist_model.specs.Sessions.{Rules, session, Acts, Plants, reads_of}
-use Rattle.hist_model.specs.Systems.{System}
-use Rattle.hist_model.specs.Steps.{IsStep, IsLegal, times_spent, spends, is_spent}
-use Rattle.hist_model.specs.declared.event.Event.{Event}
-use Rattle.hist_model.specs.declared.event.Actor.{Actor}
-use Rattle.hist_model.specs.declared.event.Actor.TheVariants.{Worker}
-use Rattle.hist_model.specs.declared.event.What.{What}
-use Rattle.hist_model.specs.declared.event.What.TheVariants.{Act, Plant}
-use Rattle.hist_model.specs.declared.policy.Cap.{Cap}
-use Rattle.hist_model.specs.declared.request.Request.{Request}
-use Rattle.sys_abi.specs.declared.wire.Notif.{Notif}
+use Rattle.mediation.proofs.Common.{◌≡◌, ℕ, ◌+◌, ◌<◌, ◌≤◌, true, List, [], ◌∷◌, Some, None, arith, if◌then◌else◌, ◌==◌, Result, Ok, Err, eqb-true, Rules, session, Acts, Plants, reads_of, System}
+use Rattle.mediation.proofs.Common.{IsStep, IsLegal, times_spent, is_spent, Event, Actor, Worker, What, Act, Plant, Cap, Request, Notif}
+use Rattle.hist_model.specs.Steps.{spends}
 use Rattle.mediation.proofs.Rows.{Row, row-of}
 use Rattle.mediation.proofs.Deeds.{deed-is}
 

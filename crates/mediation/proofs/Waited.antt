@@ -1,19 +1,9 @@
 -- A session's call waits up to the second good check.
-use Rattle.std.proofs.Common.{◌≡◌, ◌⊎◌, inl, inr, ℕ, ◌<◌, ◌≤◌, ◌^◌, true, false, ◌&&◌, List, [], ◌∷◌, length, Some, None, refl, ◌∙◌, arith}
-use Rattle.std.specs.Prelude.{nat_le, Ok}
-use Rattle.std.proofs.lemmas.Bool.{cases_Bool, and_parts, or_parts, leb-true, both_ways}
-use Rattle.hist_model.specs.Look.{ev, before, is_worker}
-use Rattle.hist_model.specs.Calls.{listed, fetched, waiting}
-use Rattle.hist_model.specs.Sessions.{Rules, session, any_of, gives_up, first_some, put_in, number_of, checks}
-use Rattle.hist_model.specs.Systems.{System}
-use Rattle.hist_model.specs.Steps.{IsStep, IsLegal, session_call, oldest_unfetched}
-use Rattle.hist_model.specs.Orders.{InOrder, is_good_check, uses_copy}
+use Rattle.mediation.proofs.Common.{◌≡◌, ◌⊎◌, inl, inr, ℕ, ◌<◌, ◌≤◌, ◌^◌, true, false, ◌&&◌, List, [], ◌∷◌, length, Some, None, refl, ◌∙◌, arith, nat_le, Ok, cases_Bool, and_parts, or_parts}
+use Rattle.mediation.proofs.Common.{leb-true, both_ways, ev, before, is_worker, listed, fetched, waiting, Rules, session, any_of, gives_up, first_some, put_in, number_of, checks, System, IsStep}
+use Rattle.mediation.proofs.Common.{IsLegal, session_call, oldest_unfetched, InOrder, is_good_check, Event, Actor, What, Recv, Check, below_or_last}
+use Rattle.hist_model.specs.Orders.{uses_copy}
 use Rattle.hist_model.specs.Mediated.{WaitedUntilChecked, is_until_checked}
-use Rattle.hist_model.specs.declared.event.Event.{Event}
-use Rattle.hist_model.specs.declared.event.Actor.{Actor}
-use Rattle.hist_model.specs.declared.event.What.{What}
-use Rattle.hist_model.specs.declared.event.What.TheVariants.{Recv, Check}
-use Rattle.hist_model.proofs.Look.{below_or_last}
 use Rattle.mediation.proofs.Before.{before-all, before-older, length-before, legal-before, fetched-before}
 use Rattle.mediation.proofs.Rows.{WorkerRow}
 use Rattle.mediation.proofs.Own.{listed-older}

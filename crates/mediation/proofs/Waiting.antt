@@ -1,20 +1,8 @@
 -- Each listed call is not fetched, in hand, or answered.
-use Rattle.std.proofs.Common.{◌≡◌, ◌⊎◌, inl, inr, ℕ, ◌<◌, ◌^◌, true, false, ◌&&◌, ◌||◌, List, [], ◌∷◌, length, Option, Some, None, refl, sym, ap, ◌∙◌, arith}
-use Rattle.std.specs.Prelude.{◌==◌, Result, Ok}
-use Rattle.std.proofs.lemmas.Bool.{cases_Bool, and_parts, eqb-true, eq-eqb, false_from_ne_true, both_ways}
-use Rattle.hist_model.specs.Look.{ev, is_task, is_worker}
-use Rattle.hist_model.specs.Calls.{listed, fetched, fetches, caller, id, answers, settled, puts_to, installs_for, is_install}
-use Rattle.hist_model.specs.Sessions.{Rules, session, first_some, put_in, take_in}
-use Rattle.hist_model.specs.Systems.{System}
-use Rattle.hist_model.specs.Steps.{IsStep, IsLegal, session_call, request_of, oldest_unfetched}
-use Rattle.hist_model.specs.Laws.{fetcher, worker_of}
-use Rattle.hist_model.specs.declared.event.Event.{Event}
-use Rattle.hist_model.specs.declared.event.Actor.{Actor}
-use Rattle.hist_model.specs.declared.event.Actor.TheVariants.{Worker}
-use Rattle.hist_model.specs.declared.event.What.{What}
-use Rattle.hist_model.specs.declared.event.What.TheVariants.{Recv}
-use Rattle.sys_abi.specs.declared.wire.Notif.{Notif}
-use Rattle.hist_model.proofs.Look.{below_or_last}
+use Rattle.mediation.proofs.Common.{◌≡◌, ◌⊎◌, inl, inr, ℕ, ◌<◌, ◌^◌, true, false, ◌&&◌, ◌||◌, List, [], ◌∷◌, length, Option, Some, None, refl, sym, ap, ◌∙◌, arith, ◌==◌, Result, Ok, cases_Bool}
+use Rattle.mediation.proofs.Common.{and_parts, eqb-true, eq-eqb, false_from_ne_true, both_ways, ev, is_task, is_worker, listed, fetched, fetches, caller, id, answers, settled, puts_to, installs_for}
+use Rattle.mediation.proofs.Common.{is_install, Rules, session, first_some, put_in, take_in, System, IsStep, IsLegal, session_call, request_of, oldest_unfetched, fetcher, worker_of, Event, Actor}
+use Rattle.mediation.proofs.Common.{Worker, What, Recv, Notif, below_or_last}
 use Rattle.mediation.proofs.Rows.{Row, row-of}
 use Rattle.mediation.proofs.Own.{listed-below}
 use Rattle.mediation.proofs.Ids.{ids_differ}

@@ -1,19 +1,9 @@
 -- A worker's open session, and its call.
-use Rattle.std.proofs.Common.{◌≡◌, ◌⊎◌, inl, inr, ℕ, ◌<◌, Bool, true, false, ◌&&◌, not, List, [], ◌∷◌, length, Option, Some, None, refl, sym, ap, ◌∙◌, arith}
-use Rattle.std.specs.Prelude.{Ok, Err}
-use Rattle.std.proofs.lemmas.Bool.{cases_Bool, and_parts, eq-eqb}
-use Rattle.hist_model.specs.Look.{ev, event_at, is_worker}
-use Rattle.hist_model.specs.Tasks.{is_made, pid_of, ended}
-use Rattle.hist_model.specs.Calls.{fetched, caller, id, is_call}
-use Rattle.hist_model.specs.Sessions.{Rules, Fetch, session, skips, starts, joined, notif_of, fetched_by, any_of, is_letgo}
-use Rattle.hist_model.specs.Systems.{System}
-use Rattle.hist_model.specs.Steps.{IsStep, IsLegal, session_call, call_after, mem, mem_after, base, base_after, oldest_unfetched, task_place, pid_at, pid_or, notif}
-use Rattle.hist_model.specs.declared.event.Event.{Event}
-use Rattle.hist_model.specs.declared.event.Actor.{Actor}
-use Rattle.hist_model.specs.declared.event.What.{What}
-use Rattle.hist_model.specs.declared.event.What.TheVariants.{Recv, OpenMem, OpenBase, Check, Read, Act, Plant, AddfdPut, AddfdTake, Send, LetGo}
-use Rattle.sys_abi.specs.declared.wire.Notif.{Notif}
-use Rattle.hist_model.proofs.Look.{event_at-older}
+use Rattle.mediation.proofs.Common.{◌≡◌, ◌⊎◌, inl, inr, ℕ, ◌<◌, Bool, true, false, ◌&&◌, not, List, [], ◌∷◌, length, Option, Some, None, refl, sym, ap, ◌∙◌, arith, Ok, Err, cases_Bool, and_parts}
+use Rattle.mediation.proofs.Common.{eq-eqb, ev, event_at, is_worker, is_made, pid_of, ended, fetched, caller, id, is_call, Rules, Fetch, session, skips, starts, joined, notif_of, fetched_by, any_of}
+use Rattle.mediation.proofs.Common.{is_letgo, System, IsStep, IsLegal, session_call, call_after, mem, mem_after, base, base_after, oldest_unfetched, task_place, pid_or, notif, Event, Actor, What}
+use Rattle.mediation.proofs.Common.{Recv, OpenMem, OpenBase, Check, Read, Act, Plant, AddfdPut, AddfdTake, Send, LetGo, Notif, event_at-older}
+use Rattle.hist_model.specs.Steps.{pid_at}
 use Rattle.mediation.proofs.Rows.{WorkerRow, row-of}
 use Rattle.mediation.proofs.Own.{calls_are_last, listed-below}
 use Rattle.mediation.proofs.Ids.{listed-is_call, is_call-below}
