@@ -101,10 +101,7 @@ module _ (S : Script) (R : Rules) where
       }
     where
       same-event : (a : Actor) (w p r : ℕ) (d : ℤ) (u : Unit {0}) → is_worker a w ≡ true → p ≡ r → ev a (OpenBase p d (Ok u)) ≡ ev (Worker w) (OpenBase r d (Ok tt))
-      same-event (Worker v) w p r d u h k = rw (eqb-true v w h, k)
-      same-event Start w p r d u h k = cc
-      same-event (Task n) w p r d u h k = cc
-      same-event Listener w p r d u h k = cc
+      same-event a w p r d u h k = grind arith
 
   -- a step of a session that moves no base
   other-found : (K : List Event) (a : Actor) (w c : ℕ) (what : What) → works what ≡ true → moves what ≡ false → session (ev a what ∷ K) w ≡ what ∷ session K w → HasFound K w c → is_worker a w ≡ true → HasFound (ev a what ∷ K) w c
@@ -112,29 +109,14 @@ module _ (S : Script) (R : Rules) where
 
   work-found : WorkKept (system_of S) R HasFound
   work-found K a w c (OpenBase p d (Ok u)) r legal room q row v i s own ih = opens-found K a w c p d u q row s own
-  work-found K a w c (OpenBase p d (Err x)) r legal room q row v i s own ih = other-found K a w c (OpenBase p d (Err x)) refl refl own ih q
-  work-found K a w c (OpenMem p x) r legal room q row v i s own ih = other-found K a w c (OpenMem p x) refl refl own ih q
-  work-found K a w c (Check x y) r legal room q row v i s own ih = other-found K a w c (Check x y) refl refl own ih q
-  work-found K a w c (Read x l y) r legal room q row v i s own ih = other-found K a w c (Read x l y) refl refl own ih q
-  work-found K a w c (Act x cap y) r legal room q row v i s own ih = other-found K a w c (Act x cap y) refl refl own ih q
-  work-found K a w c (Plant x b cap y) r legal room q row v i s own ih = other-found K a w c (Plant x b cap y) refl refl own ih q
-  work-found K a w c (AddfdPut x y) r legal room q row v i s own ih = other-found K a w c (AddfdPut x y) refl refl own ih q
-  work-found K a w c (AddfdTake x) r legal room q row v i s own ih = other-found K a w c (AddfdTake x) refl refl own ih q
-  work-found K a w c (Send x b y) r legal room q row v i s own ih = other-found K a w c (Send x b y) refl refl own ih q
-  work-found K a w c what r legal room q row v i s own ih = λ g h. cc
-
-  skip-moves : (what : What) → skips what ≡ true → moves what ≡ false
-  skip-moves what h = grind arith
+  work-found K a w c what r legal room q row v i s own ih = other-found K a w c what v (grind arith) own ih q
 
   still-found : StillKept (system_of S) R HasFound
   still-found K e w c r legal room q i s own ih g h =
       found-later e K w c g no-move (ap notif_of own) (ih g (sym (base-stays e K w no-move) ∙ h))
     where
       no-move : (is_worker e.who w && moves e.what) ≡ false
-      no-move = elim (cases_Bool (skips e.what)) [
-        | inl z ↦ let y = skip-moves e.what z in grind arith
-        | inr z ↦ grind arith
-      ]
+      no-move = grind arith
 
   has-found : (K : List Event) → IsLegal (system_of S) R K → length K < 2 ^ 64 → (w c : ℕ) → session_call K w ≡ Some c → HasFound K w c
   has-found = by-session (system_of S) R HasFound (record { fetch = fetch-found; work = work-found; still = still-found })
@@ -148,19 +130,10 @@ module _ (S : Script) (R : Rules) where
       i : InSession K w c
       i = in-hand-of (system_of S) R K w c legal s
 
-      same : (x y : Notif) → Some x ≡ Some y → x ≡ y
-      same x y h = cc
-
-      some-dir : (x y : ℤ) → Some x ≡ Some y → x ≡ y
-      some-dir x y h = cc
-
-      none-dir : (x : ℤ) → None ≡ Some x → ⊥
-      none-dir x h = cc
-
       found-is : (x : ℕ) → base K w ≡ Some x → (f : Found K w c x) → (d : ℤ) → R.dirfd n ≡ Some d → OpenedBase S K w c x n d
       found-is x q f d h =
-          let v = same f.n n (sym f.notif_is ∙ m) in
-          let z : f.dirfd ≡ d = some-dir f.dirfd d (sym f.names ∙ (ap R.dirfd v ∙ h)) in
+          let v : f.n ≡ n = cc (f.notif_is, m) in
+          let z : f.dirfd ≡ d = cc (f.names, v, h) in
           let t : Steady R K w c = steady (system_of S) R K legal room w c s in
           let y = t.base_is i.t x i.task_is (inr (good-check (session K w) k g)) q in
           record {
@@ -174,5 +147,5 @@ module _ (S : Script) (R : Rules) where
       go : (o : Option ℕ) → base K w ≡ o → (d : Option ℤ) → R.dirfd n ≡ d → BaseIs S K w c n d
       go None q None h = no-base K legal w q
       go None q (Some d) h = inl (no-base K legal w q)
-      go (Some x) q None h = let f = has-found K legal room w c s x q in absurd (none-dir f.dirfd (sym h ∙ (ap R.dirfd (sym (same f.n n (sym f.notif_is ∙ m))) ∙ f.names)))
+      go (Some x) q None h = let f = has-found K legal room w c s x q in let v : f.n ≡ n = cc (f.notif_is, m) in absurd (cc (f.names, v, h))
       go (Some x) q (Some d) h = inr (x, found-is x q (has-found K legal room w c s x q) d h)

@@ -40,11 +40,7 @@ all-push K c r w (x ∷ rs) h i = (h.0, all-push K c r w rs h.1 i)
 put-sends : (S : System) (R : Rules) (K : List Event) (w : ℕ) (q : Addfd) (a : Result (Unit {0}) ℕ) → WorkerRow S R K w (AddfdPut q a) → has_send_flag q ≡ true
 put-sends S R K w q a r =
     let t = deed-is R (session K w) _ r.0 in
-    ap has_send_flag t.4.is ∙ sends-of t.4.src t.4.place t.4.flags t.0.id
-  where
-    sends-of : (src : ℕ) (p : Option ℕ) (fl x : ℕ) → has_send_flag (addfd_of x src p fl) ≡ true
-    sends-of src None fl x = refl
-    sends-of src (Some at) fl x = refl
+    grind arith
 
 put-is-put : (K : List Event) (what : What) (c : ℕ) → puts_to K what c ≡ true → is_put what ≡ true
 put-is-put K what c h = grind arith
@@ -212,43 +208,32 @@ gave-kind S R K e c r m legal room row q ih h =
       | inl p ↦
           let f = and_parts (installs_for K e c) (is_first (queue K c) r) p in
           let w : e.what ≡ Install (Ok m) = number e.what (sym (installed-now e K c r q p) ∙ h) in
-          let s : settles K e c ≡ true = settling f.0 f.1 w in
+          let s : settles K e c ≡ true = settling (queue K c) refl f.0 f.1 w in
           (or_left (settles K e c) (settled K c) s, reply-now e K c s ∙ ap back_of w)
       | inr p ↦
           let z = ih (sym (installed-same e K c r q p) ∙ h) in
-          let n : settles K e c ≡ false = false_from_ne_true (settles K e c) (λ s. both_ways (settled K c) (settles-once S R K e c legal row s) z.0) in
+          let n : settles K e c ≡ false = false_from_ne_true (settles K e c) (λ s. cc (settles-once S R K e c legal row s, z.0)) in
           (or_right (settles K e c) (settled K c) z.0, reply-same e K c n ∙ z.1)
     ]
   where
     number : (what : What) → installed what ≡ Some (Ok m) → what ≡ Install (Ok m)
-    number (Install x) k = ap Install (cc k)
-    number what k = cc
+    number what k = grind arith
 
-    first-send : (rs : List ℕ) → is_first rs r ≡ true → first_sends K rs ≡ is_send K r
-    first-send [] k = cc
-    first-send (x ∷ rs) k = rw (eqb-true x r k)
-
-    settling : installs_for K e c ≡ true → is_first (queue K c) r ≡ true → e.what ≡ Install (Ok m) → settles K e c ≡ true
-    settling f g w =
-        let i = queue-of (queue K c) refl g in
-        let o = first-own S R K c r i.0 legal room i.1 in
-        let s : first_sends K (queue K c) ≡ true = first-send (queue K c) g ∙ o.1.sends in
-        let y : gave e.what ≡ true = ap gave w in
+    settling : (rs : List ℕ) → queue K c ≡ rs → installs_for K e c ≡ true → is_first rs r ≡ true → e.what ≡ Install (Ok m) → settles K e c ≡ true
+    settling [] z f g w = cc
+    settling (x ∷ rs) z f g w =
+        let s : is_send K x ≡ true = (first-own S R K c x rs legal room z).1.sends in
+        let y : first_sends K (queue K c) ≡ true = rw z s in
+        let v : gave e.what ≡ true = ap gave w in
         grind arith
-      where
-        queue-of : (rs : List ℕ) → queue K c ≡ rs → is_first rs r ≡ true → (more : List ℕ) × (queue K c ≡ r ∷ more)
-        queue-of [] k z = cc
-        queue-of (x ∷ rs) k z = (rs, rw (eqb-true x r z) at k)
 
 -- a request that is put now has no install yet
 gave-step : (S : System) (R : Rules) (K : List Event) (e : Event) (c r m : ℕ) → IsLegal S R K → length K < 2 ^ 64 → Row S R K e.who e.what → (call_at K r ≡ Some c → install_of K r ≡ Some (Ok m) → Gave K c m) → call_at (e ∷ K) r ≡ Some c → install_of (e ∷ K) r ≡ Some (Ok m) → Gave (e ∷ K) c m
 gave-step S R K e c r m legal room row ih q h =
     elim (cases_order r (length K)) [
-      | inl z ↦ absurd (cc (sym (install-new e K) ∙ rw z at h))
-      | inr z ↦ elim z [
-        | inl l ↦ let p : call_at K r ≡ Some c = sym (call-at-older e K r l) ∙ q in gave-kind S R K e c r m legal room row p (ih p) h
-        | inr l ↦ absurd (cc (sym (call-at-above (e ∷ K) r (omega arith)) ∙ q))
-      ]
+      | inl z ↦ absurd (cc (install-new e K, rw z at h))
+      | inr (inl l) ↦ let p : call_at K r ≡ Some c = sym (call-at-older e K r l) ∙ q in gave-kind S R K e c r m legal room row p (ih p) h
+      | inr (inr l) ↦ absurd (cc (call-at-above (e ∷ K) r (omega arith), q))
     ]
 
 pub gave-number : (S : System) (R : Rules) (K : List Event) → IsLegal S R K → length K < 2 ^ 64 → (c r m : ℕ) → call_at K r ≡ Some c → install_of K r ≡ Some (Ok m) → Gave K c m
