@@ -13,8 +13,8 @@ use Rattle.hist_model.specs.ReportAudit.{Judging, checked_twice, session_at, joi
 use Rattle.hist_model.specs.Mediated.{AuditNames}
 use Rattle.hist_model.specs.declared.policy.Verdict.{Verdict}
 use Rattle.hist_model.specs.declared.policy.Verdict.TheVariants.{Grant}
-use Rattle.mediation.proofs.Before.{before-all, before-older, before-newest, legal-before}
-use Rattle.mediation.proofs.Rows.{WorkerRow}
+use Rattle.mediation.proofs.Before.{length-to, before-all, before-older, before-newest, legal-before}
+use Rattle.mediation.proofs.Rows.{WorkerRow, row-of}
 use Rattle.mediation.proofs.Deeds.{AtWork, deed-is}
 use Rattle.mediation.proofs.Work.{hand, in-hand, works, works-keep, at-work, worker-row, session-same, session-more, started, grown}
 use Rattle.mediation.proofs.Sequence.{IsOwn, is-own, is_effect, effect-fixed}
@@ -89,32 +89,9 @@ module _ (S : System) (R : Rules) where
 
   -- after its answer a session only lets go
   lets-go : (K : List Event) (w : ℕ) (own : List What) (what : What) (n : Notif) → session K w ≡ own → notif_of own ≡ Some n → any_of is_letgo own ≡ false → any_of gives_up own ≡ true → WorkerRow S R K w what → skips what ≡ false → what ≡ LetGo
-  lets-go K w own what n q h g u row z = go what row z
-    where
-      no-work : (what : What) → WorkerRow S R K w what → works what ≡ true → ⊥
-      no-work what row v = let k = at-work S R K w what row v in both_ways (any_of gives_up (session K w)) k.1.no_end (rw q u)
-
-      none : (m : Notif) → None ≡ Some m → ⊥
-      none m h = cc
-
-      no-fetch : (notif_of (session K w) ≡ None) ⊎ (any_of is_letgo (session K w) ≡ true) → ⊥
-      no-fetch (inl x) = none n (sym x ∙ rw q h)
-      no-fetch (inr x) = both_ways (any_of is_letgo (session K w)) (rw q g) x
-
-      go : (what : What) → WorkerRow S R K w what → skips what ≡ false → what ≡ LetGo
-      go LetGo row z = refl
-      go Skip row z = cc
-      go (Recv x) row z = absurd (no-fetch (deed-is R (session K w) Fetch row.0))
-      go (OpenMem p x) row z = absurd (no-work (OpenMem p x) row refl)
-      go (OpenBase p d x) row z = absurd (no-work (OpenBase p d x) row refl)
-      go (Check x y) row z = absurd (no-work (Check x y) row refl)
-      go (Read x l y) row z = absurd (no-work (Read x l y) row refl)
-      go (Act x cap y) row z = absurd (no-work (Act x cap y) row refl)
-      go (Plant x b cap y) row z = absurd (no-work (Plant x b cap y) row refl)
-      go (AddfdPut x y) row z = absurd (no-work (AddfdPut x y) row refl)
-      go (AddfdTake x) row z = absurd (no-work (AddfdTake x) row refl)
-      go (Send x b y) row z = absurd (no-work (Send x b y) row refl)
-      go _ row z = absurd row
+  lets-go K w own LetGo n q h g u row z = refl
+  lets-go K w own (Recv x) n q h g u row z = let t = rw q at (deed-is R (session K w) Fetch row.0) in absurd (grind arith)
+  lets-go K w own what n q h g u row z = let k = at-work S R K w what row (grind arith) in absurd (cc (k.1.no_end, q, u))
 
   ends-later : (K : List Event) (e : Event) (w r : ℕ) (own : List What) (n : Notif) → IsStep S R K e → r < length K → notif_of own ≡ Some n → any_of is_letgo own ≡ false → any_of gives_up own ≡ true → Ends K w r own → Ends (e ∷ K) w r own
   ends-later K e w r own n step l h g u ends = grind (arith, lets-go, worker-row, at-more, joined-open, at-same, session-same)
@@ -128,33 +105,25 @@ module _ (S : System) (R : Rules) where
     pub two : number_of is_good_check (session (before H s) w) ≡ 2
     pub ends : Ends H w place (Send x b a ∷ session (before H s) w)
 
-  answer-row : (K : List Event) (e : Event) (w x : ℕ) (b : Back) (a : Result (Unit {0}) ℕ) → IsStep S R K e → e ≡ ev (Worker w) (Send x b a) → WorkerRow S R K w (Send x b a)
-  answer-row K e w x b a r q = subst (λ (d : Event). WorkerRow S R K w d.what) q (worker-row S R K e w r (subst (λ (d : Event). is_worker d.who w ≡ true) (sym q) (eq-eqb w w refl)))
-
-  sent-now : (K : List Event) (e : Event) (w x : ℕ) (b : Back) (a : Result (Unit {0}) ℕ) → IsLegal S R K → length K < 2 ^ 64 → IsStep S R K e → e ≡ ev (Worker w) (Send x b a) → Sent (e ∷ K) (length K) w x b a
-  sent-now K e w x b a legal room r q =
-      let row = answer-row K e w x b a r q in
-      let t = deed-is R (session K w) (Answer x b) row.0 in
+  sent-now : (K : List Event) (w x : ℕ) (b : Back) (a : Result (Unit {0}) ℕ) → IsLegal S R K → length K < 2 ^ 64 → IsStep S R K (ev (Worker w) (Send x b a)) → Sent (ev (Worker w) (Send x b a) ∷ K) (length K) w x b a
+  sent-now K w x b a legal room r =
+      let e = ev (Worker w) (Send x b a) in
+      let t = deed-is R (session K w) (Answer x b) (row-of S R K e r).0 in
       let j = in-hand K w (session_call K w) t.0 t.1 (hand S R K legal w) in
       let g = began K legal room w j.0 j.1 in
       let l = event_at-below K g.place _ g.receive in
-      let m : e.what ≡ Send x b a = ap (λ (d : Event). d.what) q in
-      let v : is_worker e.who w ≡ true = subst (λ (d : Event). is_worker d.who w ≡ true) (sym q) (eq-eqb w w refl) in
-      let z : skips e.what ≡ false = ap skips m in
-      let k : starts e.what ≡ false = ap starts m in
+      let m : is_worker (Worker w) w ≡ true = eq-eqb w w refl in
+      let v : g.n ≡ t.0 = cc (g.notif_is, t.1.notif_is) in
       record {
         place = g.place;
         n = g.n;
         receive = rw event_at-older g.receive;
-        work = rw (before-newest e K, same g.n t.0 (sym g.notif_is ∙ t.1.notif_is)) t.1;
+        work = rw (before-newest e K, v) t.1;
         two = rw (before-newest e K) (used-two R (session K w) t.0 t.1 t.3 (ordered R (session K w) (is-own S R K legal w)));
         ends = rw (before-newest e K) (answered
-            (at-more e K w g.place l v z ∙ (ap (λ y. joined y e.what) g.same ∙ (joined-open (session K w) e.what t.0 t.1.notif_is t.1.no_letgo ∙ ap (λ y. y ∷ session K w) m)))
-            (session-more e K w v z ∙ (grown (session K w) e.what t.0 t.1.notif_is k ∙ ap (λ y. y ∷ session K w) m)));
+            (at-more e K w g.place l m refl ∙ (ap (λ y. joined y (Send x b a)) g.same ∙ joined-open (session K w) (Send x b a) t.0 t.1.notif_is t.1.no_letgo))
+            (session-more e K w m refl ∙ grown (session K w) (Send x b a) t.0 t.1.notif_is refl));
       }
-    where
-      same : (x y : Notif) → Some x ≡ Some y → x ≡ y
-      same x y h = cc
 
   sent-later : (K : List Event) (e : Event) (s w x : ℕ) (b : Back) (a : Result (Unit {0}) ℕ) → IsStep S R K e → s < length K → Sent K s w x b a → Sent (e ∷ K) s w x b a
   sent-later K e s w x b a r l t =
@@ -173,37 +142,27 @@ module _ (S : System) (R : Rules) where
   sent [] legal room = λ s w x b a h. grind (arith, event_at-above)
   sent (e ∷ K) legal room = λ s w x b a h. elim (below_or_last s (length K) (event_at-below (e ∷ K) s (ev (Worker w) (Send x b a)) h)) [
     | inl l ↦ sent-later K e s w x b a legal.0 l (sent K legal.1 (omega arith) s w x b a (sym (event_at-older e K s l) ∙ h))
-    | inr q ↦ rw q (sent-now K e w x b a legal.1 (omega arith) legal.0 (cc (sym (event_at-here e K) ∙ rw q at h)))
+    | inr q ↦
+        let m : e ≡ ev (Worker w) (Send x b a) = cc (event_at-here e K, rw q at h) in
+        rw (q, m) (sent-now K w x b a legal.1 (omega arith) (rw m at legal.0))
   ]
 
 -- what the audit makes of it
-gone-gives_up : (a : What) → gives_up a ≡ false → is_gone a ≡ false
-gone-gives_up a h = grind arith
-
 none-gone : (own : List What) → any_of gives_up own ≡ false → list_any is_gone own ≡ false
 none-gone [] h = refl
-none-gone (a ∷ own) h = let p = or_parts (gives_up a) (any_of gives_up own) h in rw (gone-gives_up a p.0) (none-gone own p.1)
+none-gone (a ∷ own) h = let ih = none-gone own in grind arith
 
 valid-same : (a : What) → is_found_valid a ≡ is_good_check a
 valid-same a = grind arith
 
 some-valid : (own : List What) → 1 ≤ number_of is_good_check own → list_any is_found_valid own ≡ true
 some-valid [] h = absurd (omega arith)
-some-valid (a ∷ own) h = elim (cases_Bool (is_good_check a)) [
-  | inl q ↦ rw (valid-same a, q)
-  | inr q ↦ or_right (is_found_valid a) (list_any is_found_valid own) (some-valid own (rw q at h))
-]
+some-valid (a ∷ own) h = let ih = some-valid own in grind arith
 
 -- two good checks are a good check after a good one
 twice-valid : (own : List What) → 2 ≤ number_of is_good_check own → checked_twice own ≡ true
 twice-valid [] h = absurd (omega arith)
-twice-valid (a ∷ own) h = elim (cases_Bool (is_good_check a)) [
-  | inl q ↦ let s = some-valid own (omega (arith, rest own (rw q at h))) in rw (valid-same a, q, s)
-  | inr q ↦ or_right (is_found_valid a && list_any is_found_valid own) (checked_twice own) (twice-valid own (rw q at h))
-]
-  where
-    rest : (own : List What) → 2 ≤ suc (number_of is_good_check own) → 1 ≤ number_of is_good_check own
-    rest own h = omega arith
+twice-valid (a ∷ own) h = let ih = twice-valid own in let v = some-valid own in grind arith
 
 names-rule : (P : Policy) (n : Notif) (x : ℕ) (b : Back) (a : Result (Unit {0}) ℕ) (own : List What) (texts : List (List ℕ)) → any_of gives_up own ≡ false → number_of is_good_check own ≡ 2 → copied n (reads_of own) ≡ Complete texts → heard (plan n.call.nr n.call.args) [] (reads own) ≡ reads own
     → finding (judging_by P.rules) n (Send x b a ∷ own) ≡ finding_of (judged_as (decide P.rules (request n.call.nr n.call.args texts))) (list_any is_spent own)
@@ -215,9 +174,7 @@ lets-go-finding J n own = rw (append-nil (reads own))
 
 spent-effect : (own : List What) → list_any is_spent own ≡ true → any_of is_effect own ≡ true
 spent-effect [] h = cc
-spent-effect (Act q cap y ∷ own) h = refl
-spent-effect (Plant x b cap y ∷ own) h = refl
-spent-effect (a ∷ own) h = spent-effect own h
+spent-effect (a ∷ own) h = let ih = spent-effect own in grind arith
 
 -- a decision that acts is a grant
 acting-grants : (P : Policy) (F : Figures) (q : Request) (i : ℕ) (v : Verdict) → is_acting (decision P F q i v) ≡ true → v ≡ Grant
@@ -226,9 +183,9 @@ acting-grants P F q i v h = grind arith
 pub audit-names : (P : Policy) (F : Figures) (T : Script) (H : List Event) → IsLegal (system_of T) (rules_of P F) H → length H < 2 ^ 64 → AuditNames P H
 audit-names P F T H legal room s w x b a n texts h m c =
     let t = sent S (rules_of P F) H legal room s w x b a h in
-    let q = same t.n n (sym t.work.notif_is ∙ m) in
+    let q : t.n ≡ n = cc (t.work.notif_is, m) in
     let l = event_at-below H t.place _ t.receive in
-    let z : length (before H t.place) ≡ t.place = before-length H t.place (omega arith) in
+    let z : length (before H t.place) ≡ t.place = length-to H t.place (omega arith) in
     let i = legal-before S Q H s legal in
     let v = all-heard P F n (session (before H s) w) (is-own S Q (before H s) i w) m (fit-reads P F T (before H s) i w) in
     let r = names-rule P n x b a (session (before H s) w) texts t.work.no_end t.two c v in
@@ -244,16 +201,6 @@ audit-names P F T H legal room s w x b a n texts h m c =
     grants own i h k e =
         let f = effect-fixed Q own n i h (spent-effect own e) in
         acting-grants P F (request n.call.nr n.call.args texts) _ _ (rw k at f.decided)
-
-    same : (x y : Notif) → Some x ≡ Some y → x ≡ y
-    same x y h = cc
-
-    before-length : (K : List Event) (p : ℕ) → p ≤ length K → length (before K p) ≡ p
-    before-length [] p h = unfold before in omega arith
-    before-length (e ∷ K) p h = elim (below_or_last p (length (e ∷ K)) (omega arith)) [
-      | inl q ↦ rw (before-older e K p (omega arith)) (before-length K p (omega arith))
-      | inr q ↦ rw (before-all (e ∷ K) p (omega arith)) (sym q)
-    ]
 
     go : {r : ℕ} (p : ℕ) → p ≡ r → finding (judging_by P.rules) n (Send x b a ∷ session (before H s) w) ≡ finding_of (judged_as (decide P.rules (request n.call.nr n.call.args texts))) (list_any is_spent (session (before H s) w))
         → Ends S (rules_of P F) H w r (Send x b a ∷ session (before H s) w)

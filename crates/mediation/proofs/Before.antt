@@ -35,3 +35,8 @@ fetched-before (e ∷ K) p c h = elim (cases_Bool (nat_le (length (e ∷ K)) p))
   | inl q ↦ rw q at h
   | inr q ↦ fetched-more e K c (fetched-before K p c (rw q at h))
 ]
+
+pub length-to : (K : List Event) (p : ℕ) → p ≤ length K → length (before K p) ≡ p
+unfolding before
+length-to [] p h = omega arith
+length-to (e ∷ K) p h = let ih = length-to K p in grind arith
