@@ -118,18 +118,7 @@ module _ (S : System) (R : Rules) (K : List Event) (a : Actor) (w c : ℕ) (lega
   -- one more step of the session
   worked : (what : What) → WorkerRow S R K w what → works what ≡ true → (gives_up what ≡ true → settled (ev a what ∷ K) c ≡ true)
       → (gives_up what ≡ false → StageOf (ev a what ∷ K) c w (first_some put_in (what ∷ session K w)) (first_some take_in (what ∷ session K w))) → AtCall (ev a what ∷ K) c w
-  worked what r k o s =
-      let x = at-work S R K w what r k in
-      let g = works-keep K what k in
-      let q : session (ev a what ∷ K) w ≡ what ∷ session K w = session-more (ev a what) K w is_mine g.no_skip ∙ grown (session K w) what x.0 x.1.notif_is g.no_start in
-      record {
-        in_hand = call-more (ev a what) K w is_mine ∙ (g.call (session_call K w) ∙ h.in_hand);
-        over = rw q (λ z. o (or-left-only (gives_up what) (any_of gives_up (session K w)) z x.1.no_end));
-        stage = rw q (λ z. s (or_parts (gives_up what) (any_of gives_up (session K w)) z).0);
-      }
-    where
-      or-left-only : (u v : Bool) → (u || v) ≡ true → v ≡ false → u ≡ true
-      or-left-only u v z y = grind arith
+  worked what r k o s = grind (arith, at-work, works-keep, session-more, grown, call-more)
 
   calm : (what : What) → WorkerRow S R K w what → works what ≡ true → asks what ≡ false → gives_up what ≡ false → AtCall (ev a what ∷ K) c w
   calm what r k s g = worked what r k (λ z. cc) (λ _. rw (q.0, q.1) (stage-calm (ev a what) K c w (first_some put_in (session K w)) (first_some take_in (session K w)) (calm-kind K a what c k s) (request-more (ev a what) K w is_mine ∙ q.2) (h.stage (at-work S R K w what r k).1.no_end)))
