@@ -46,16 +46,16 @@ module _ (S : System) (R : Rules) (P : List Event → ℕ → ℕ → Type 0) (k
     work-step : (a : Actor) (what : What) (c : ℕ) → IsStep S R K (ev a what) → length (ev a what ∷ K) < 2 ^ 64 → is_worker a w ≡ true → WorkerRow S R K w what → works what ≡ true → session_call (ev a what ∷ K) w ≡ Some c → P (ev a what ∷ K) w c
     work-step a what c r room q row g h = grind (arith, works-keep, call-more, in-hand-of, session-more, grown)
 
-    mine-step : (a : Actor) (what : What) (c : ℕ) → IsStep S R K (ev a what) → length (ev a what ∷ K) < 2 ^ 64 → is_worker a w ≡ true → skips what ≡ false → WorkerRow S R K w what → session_call (ev a what ∷ K) w ≡ Some c → P (ev a what ∷ K) w c
-    mine-step a (Recv (Ok n)) c r room q z row h = fetch-step a n c r room q row h
-    mine-step a (Recv (Err x)) c r room q z row h =
+    session-step : (a : Actor) (what : What) (c : ℕ) → IsStep S R K (ev a what) → length (ev a what ∷ K) < 2 ^ 64 → is_worker a w ≡ true → skips what ≡ false → WorkerRow S R K w what → session_call (ev a what ∷ K) w ≡ Some c → P (ev a what ∷ K) w c
+    session-step a (Recv (Ok n)) c r room q z row h = fetch-step a n c r room q row h
+    session-step a (Recv (Err x)) c r room q z row h =
         let s : session_call K w ≡ Some c = sym (call-more (ev a (Recv (Err x))) K w q) ∙ h in
         absurd (no-fetch K w c (in-hand-of S R K w c legal s) (deed-is R (session K w) Fetch row.0))
-    mine-step a LetGo c r room q z row h = cc (call-more (ev a LetGo) K w q, h)
-    mine-step a what c r room q z row h = work-step a what c r room q row (grind arith) h
+    session-step a LetGo c r room q z row h = cc (call-more (ev a LetGo) K w q, h)
+    session-step a what c r room q z row h = work-step a what c r room q row (grind arith) h
 
     step : (e : Event) (c : ℕ) → IsStep S R K e → length (e ∷ K) < 2 ^ 64 → session_call (e ∷ K) w ≡ Some c → P (e ∷ K) w c
-    step e c r room h = grind (arith, mine-step, worker-row, call-still, in-hand-of, session-same)
+    step e c r room h = grind (arith, session-step, worker-row, call-still, in-hand-of, session-same)
 
   pub by-session : (K : List Event) → IsLegal S R K → length K < 2 ^ 64 → (w c : ℕ) → session_call K w ≡ Some c → P K w c
   by-session [] legal room = λ w c h. absurd (no-call w c h)

@@ -2,7 +2,7 @@
 use Rattle.mediation.proofs.Common.{◌≡◌, inl, inr, ℕ, ◌<◌, ◌^◌, true, false, List, [], ◌∷◌, length, Option, Some, None, refl, ap, ◌∙◌, arith, if◌then◌else◌, Result, Ok, Err, or_cases, or_parts}
 use Rattle.mediation.proofs.Common.{or_left, or_right, Rules, session, any_of, gives_up, opens, checks, System, is_good_check, IsLegal, session_call, mem, opened, group, lives, Event, What, Check}
 use Rattle.hist_model.specs.Mediated.{HasMemory}
-use Rattle.mediation.proofs.Work.{session-more, started, mem-still as still-mem, mem-more}
+use Rattle.mediation.proofs.Work.{session-more, started, mem-still, mem-more}
 use Rattle.mediation.proofs.Handles.{Steady, steady}
 use Rattle.mediation.proofs.InHand.{by-session, in-hand-of, FetchKept, WorkKept, StillKept}
 
@@ -36,11 +36,11 @@ module _ (S : System) (R : Rules) where
   mem-work : WorkKept S R MemoryOpened
   mem-work K a w c what r legal room q row v i s own ih h g = grind (arith, mem-more, opened-living)
 
-  mem-still : StillKept S R MemoryOpened
-  mem-still K e w c r legal room q i s own ih h g = grind (arith, still-mem)
+  mem-stays : StillKept S R MemoryOpened
+  mem-stays K e w c r legal room q i s own ih h g = grind (arith, mem-still)
 
   pub has-memory : (K : List Event) → IsLegal S R K → length K < 2 ^ 64 → (w c : ℕ) → session_call K w ≡ Some c → MemoryOpened K w c
-  has-memory = by-session S R MemoryOpened (record { fetch = mem-fetch; work = mem-work; still = mem-still })
+  has-memory = by-session S R MemoryOpened (record { fetch = mem-fetch; work = mem-work; still = mem-stays })
 
   -- after a good check the memory is the call's task's
   pub own-memory : (K : List Event) (w c : ℕ) → IsLegal S R K → length K < 2 ^ 64 → session_call K w ≡ Some c → any_of opens (session K w) ≡ true → any_of checks (session K w) ≡ true → any_of gives_up (session K w) ≡ false → HasMemory K w c
