@@ -1,39 +1,125 @@
 -- The audit of a session that answered names the rule that decided.
-use Rattle.mediation.proofs.Common.{◌≡◌, ◌⊎◌, inl, inr, ℕ, suc, ◌<◌, ◌≤◌, ◌^◌, true, false, ◌&&◌, not, List, [], ◌∷◌, length, Some, None, refl, sym, ap, subst, ◌∙◌, arith, Result, Ok, cases_Bool}
-use Rattle.mediation.proofs.Common.{or_parts, eq-eqb, both_ways, or_right, append-nil, ev, before, event_at, is_worker, Rules, Fetch, Answer, session, skips, starts, any_of, is_letgo, gives_up}
-use Rattle.mediation.proofs.Common.{notif_of, reads_of, number_of, System, IsStep, IsLegal, session_call, is_good_check, plan, heard, copied, system_of, rules_of, reads, Event, Actor, Worker, Back}
-use Rattle.mediation.proofs.Common.{What, Recv, OpenMem, OpenBase, Check, Read, Act, Plant, AddfdPut, AddfdTake, Send, LetGo, Skip, is_acting, Policy, Request, Figures, Script, Notif, event_at-here}
-use Rattle.mediation.proofs.Common.{event_at-older, event_at-below, event_at-above, below_or_last}
+use Rattle.mediation.proofs.Common.{◌≡◌, ℕ, ◌≤◌, true, false, List, [], ◌∷◌, ◌++◌, reverse, Option, Some, refl, sym, ap, ◌∙◌, arith, Result, reverse-append, append-nil, plan, heard, copied}
+use Rattle.mediation.proofs.Common.{system_of, rules_of, reads, session, starts, joined, notif_of, reads_of, IsStep, IsLegal, mem, read_answer, Event, What, Read, Policy, Figures, Script, Notif}
+use Rattle.mediation.proofs.Common.{◌⊎◌, inl, inr, suc, ◌<◌, ◌^◌, ◌&&◌, not, length, None, subst, Ok, cases_Bool, or_parts, eq-eqb, both_ways, or_right, ev, before, event_at, is_worker, Rules}
+use Rattle.mediation.proofs.Common.{Fetch, Answer, skips, any_of, is_letgo, gives_up, number_of, System, session_call, is_good_check, Actor, Worker, Back, Recv, OpenMem, OpenBase, Check, Act, Plant}
+use Rattle.mediation.proofs.Common.{AddfdPut, AddfdTake, Send, LetGo, Skip, is_acting, Request, event_at-here, event_at-older, event_at-below, event_at-above, below_or_last}
+use Rattle.hist_model.specs.Copies.{progress, wanted, fits_piece, with_heard, Complete}
+use Rattle.hist_model.specs.Legal.{read_answers, decision}
+use Rattle.hist_model.specs.declared.copy.Part.{Part}
+use Rattle.hist_model.proofs.Pieces.{piece_wanted, wanted_some}
+use Rattle.hist_model.proofs.MappedBytes.{bytes_fit}
 use Rattle.std.specs.List.{list_any}
-use Rattle.hist_model.specs.Copies.{Complete}
 use Rattle.hist_model.specs.Requests.{request}
 use Rattle.hist_model.specs.Decisions.{decide}
-use Rattle.hist_model.specs.Legal.{decision}
-use Rattle.hist_model.specs.ReportAudit.{Judging, checked_twice, session_at, joined, is_gone, is_spent, finding, finding_of, judging_by, judged_as, is_good_check as is_found_valid, skips as is_skipped}
+use Rattle.hist_model.specs.ReportAudit.{Judging, checked_twice, session_at, joined as extended, is_gone, is_spent, finding, finding_of, judging_by, judged_as, is_good_check as is_found_valid}
+use Rattle.hist_model.specs.ReportAudit.{skips as is_skipped}
 use Rattle.hist_model.specs.Mediated.{AuditNames}
 use Rattle.hist_model.specs.declared.policy.Verdict.{Verdict}
 use Rattle.hist_model.specs.declared.policy.Verdict.TheVariants.{Grant}
-use Rattle.mediation.proofs.Before.{length-to, before-all, before-older, before-newest, legal-before}
 use Rattle.mediation.proofs.Rows.{WorkerRow, row-of}
-use Rattle.mediation.proofs.Deeds.{AtWork, deed-is}
-use Rattle.mediation.proofs.Work.{hand, in-hand, works, works-keep, at-work, worker-row, session-same, session-more, started, grown}
-use Rattle.mediation.proofs.Sequence.{IsOwn, is-own, is_effect, effect-fixed}
-use Rattle.mediation.proofs.Ordered.{ordered, used-two}
-use Rattle.mediation.proofs.InHand.{by-session, FetchKept, WorkKept, StillKept}
-use Rattle.mediation.proofs.Heard.{reads-are, fit-reads, all-heard}
+use Rattle.mediation.proofs.Deeds.{deed-is, AtWork}
+use Rattle.mediation.proofs.Order.{IsOwn, is-own, is_effect, effect-fixed, ordered, used-two}
+use Rattle.mediation.proofs.Hands.{worker-row, session-same, session-more, hand, in-hand, works, works-keep, at-work, started, grown, by-session, FetchKept, WorkKept, StillKept}
+use Rattle.mediation.proofs.Calls.{length-to, before-all, before-older, before-newest, legal-before}
+
+-- ---- what a session reads answers the piece that was wanted, so all of it is heard
+
+-- a read's answer is one to the piece that it asks for
+abbrev pub FitsRead : What → Type 0
+FitsRead (Read x l a) = fits_piece (Some (x, l)) a ≡ true
+FitsRead _ = Unit {0}
+
+abbrev pub FitReads : List What → Type 0
+FitReads [] = Unit {0}
+FitReads (a ∷ own) = FitsRead a × FitReads own
+
+-- ---- the reads of a legal history's sessions
+
+read-fits : (S : Script) (K : List Event) (m : Option ℕ) (x l : ℕ) → 1 ≤ l → fits_piece (Some (x, l)) (read_answer (system_of S) K m x l) ≡ true
+read-fits S K m x l h = grind (arith, bytes_fit)
+
+step-fits : (P : Policy) (F : Figures) (S : Script) (K : List Event) (w : ℕ) (what : What) → WorkerRow (system_of S) (rules_of P F) K w what → FitsRead what
+step-fits P F S K w (Read x l a) row =
+    let t = deed-is (rules_of P F) (session K w) _ row.0 in
+    let n = t.0 in
+    let answers = reverse (read_answers (reads_of (session K w))) in
+    let g : 1 ≤ l = wanted_some (progress (plan n.call.nr n.call.args) answers) (x, l) (piece_wanted n.call.nr n.call.args answers) t.4 in
+    ap (fits_piece (Some (x, l))) row.1 ∙ read-fits S K (mem K w) x l g
+step-fits P F S K w what row = tt
+
+joined-fits : (a : What) (own : List What) → FitsRead a → FitReads own → FitReads (joined a own)
+joined-fits a own h k = grind arith
+
+fits-step : (P : Policy) (F : Figures) (S : Script) (K : List Event) (e : Event) (w : ℕ) → IsStep (system_of S) (rules_of P F) K e → FitReads (session K w) → FitReads (session (e ∷ K) w)
+fits-step P F S K e w r h = grind (arith, session-more, joined-fits, step-fits, worker-row, session-same)
+
+pub fit-reads : (P : Policy) (F : Figures) (S : Script) (K : List Event) → IsLegal (system_of S) (rules_of P F) K → (w : ℕ) → FitReads (session K w)
+unfolding session
+fit-reads P F S [] legal = λ w. tt
+fit-reads P F S (e ∷ K) legal = λ w. fits-step P F S K e w legal.0 (fit-reads P F S K legal.1 w)
+
+-- ---- what is heard of them
+
+pub reads-are : (own : List What) → reads own ≡ reverse (read_answers (reads_of own))
+reads-are [] = refl
+reads-are (Read x l a ∷ own) = ap (λ xs. xs ++ a ∷ []) (reads-are own) ∙ sym (reverse-append (a ∷ []) (read_answers (reads_of own)))
+reads-are (a ∷ own) = append-nil (reads own) ∙ reads-are own
+
+heard-more : (parts : List Part) (before answers : List (Result (List ℕ) ℕ)) (a : Result (List ℕ) ℕ) → heard parts before (answers ++ a ∷ []) ≡ with_heard parts (heard parts before answers) a
+unfolding heard
+heard-more parts before [] a = refl
+heard-more parts before (b ∷ answers) a = heard-more parts (with_heard parts before b) answers a
+
+heard-none : (parts : List Part) → heard parts [] [] ≡ []
+unfolding heard
+heard-none parts = refl
+
+-- a step that begins no session leaves its notification
+notif-before : (a : What) (own : List What) → starts a ≡ false → notif_of (a ∷ own) ≡ notif_of own
+notif-before a own h = grind arith
+
+same : (a b : Notif) → Some a ≡ Some b → a ≡ b
+same a b h = cc
+
+-- a session that begins has read nothing
+first-heard : (parts : List Part) (a : What) → starts a ≡ true → heard parts [] (reads (a ∷ [])) ≡ reads (a ∷ [])
+first-heard parts a s = grind (arith, heard-none)
+
+-- the reads of a session are heard one and all
+pub all-heard : (P : Policy) (F : Figures) (n : Notif) (own : List What) → IsOwn (rules_of P F) own → notif_of own ≡ Some n → FitReads own → heard (plan n.call.nr n.call.args) [] (reads own) ≡ reads own
+all-heard P F n [] i m f = cc
+all-heard P F n (a ∷ []) i m f = first-heard (plan n.call.nr n.call.args) a i
+all-heard P F n (Read x l y ∷ b ∷ own) i m f =
+    let parts = plan n.call.nr n.call.args in
+    let ih = all-heard P F n (b ∷ own) i.2 m f.1 in
+    let t = deed-is (rules_of P F) (b ∷ own) _ i.0 in
+    let q : t.0 ≡ n = same t.0 n (sym t.1.notif_is ∙ m) in
+    let g : wanted (copied n (reads_of (b ∷ own))) ≡ Some (x, l) = rw q at t.4 in
+    let k : wanted (progress parts (reads (b ∷ own))) ≡ Some (x, l) = ap (λ xs. wanted (progress parts xs)) (reads-are (b ∷ own)) ∙ g in
+    heard-more parts [] (reads (b ∷ own)) y ∙ (ap (λ xs. with_heard parts xs y) ih ∙ taken parts (reads (b ∷ own)) k)
+  where
+    taken : (parts : List Part) (answers : List (Result (List ℕ) ℕ)) → wanted (progress parts answers) ≡ Some (x, l) → with_heard parts answers y ≡ answers ++ y ∷ []
+    taken parts answers k = rw (k, f.0) refl
+all-heard P F n (a ∷ b ∷ own) i m f =
+    let q = sym (notif-before a (b ∷ own) i.1) ∙ m in
+    let e = append-nil (reads (b ∷ own)) in
+    ap (heard (plan n.call.nr n.call.args) []) e ∙ (all-heard P F n (b ∷ own) i.2 q f.1 ∙ sym e)
+
+-- ---- the audit of a session that answered names the rule that decided
 
 skipped-same : (what : What) → is_skipped what ≡ skips what
 skipped-same what = grind arith
 
 -- one more step of an open session
-joined-open : (own : List What) (a : What) (n : Notif) → notif_of own ≡ Some n → any_of is_letgo own ≡ false → joined own a ≡ a ∷ own
-joined-open own a n h g = grind arith
+extended-open : (own : List What) (a : What) (n : Notif) → notif_of own ≡ Some n → any_of is_letgo own ≡ false → extended own a ≡ a ∷ own
+extended-open own a n h g = grind arith
 
 at-here : (e : Event) (K : List Event) (w : ℕ) → session_at w (length K) (e ∷ K) ≡ e.what ∷ []
 unfolding session_at
 at-here e K w = rw (eq-eqb (length K) (length K) refl)
 
-at-more : (e : Event) (K : List Event) (w r : ℕ) → r < length K → is_worker e.who w ≡ true → skips e.what ≡ false → session_at w r (e ∷ K) ≡ joined (session_at w r K) e.what
+at-more : (e : Event) (K : List Event) (w r : ℕ) → r < length K → is_worker e.who w ≡ true → skips e.what ≡ false → session_at w r (e ∷ K) ≡ extended (session_at w r K) e.what
 unfolding session_at
 at-more e K w r l h g = grind arith
 
@@ -67,13 +153,13 @@ module _ (S : System) (R : Rules) where
       let e = ev a what in
       let l = event_at-below K b.place _ b.receive in
       let k = works-keep K what v in
-      let joins : joined (session K w) what ≡ what ∷ session K w = joined-open (session K w) what i.n i.notif_is i.no_letgo in
+      let joins : extended (session K w) what ≡ what ∷ session K w = extended-open (session K w) what i.n i.notif_is i.no_letgo in
       record {
         place = b.place;
         n = b.n;
         receive = rw event_at-older b.receive;
         notif_is = rw (own, k.no_notif) b.notif_is;
-        same = at-more e K w b.place l q k.no_skip ∙ (ap (λ x. joined x what) b.same ∙ (joins ∙ sym own));
+        same = at-more e K w b.place l q k.no_skip ∙ (ap (λ x. extended x what) b.same ∙ (joins ∙ sym own));
       }
 
   still-began : StillKept S R BeganOf
@@ -94,7 +180,7 @@ module _ (S : System) (R : Rules) where
   lets-go K w own what n q h g u row z = let k = at-work S R K w what row (grind arith) in absurd (cc (k.1.no_end, q, u))
 
   ends-later : (K : List Event) (e : Event) (w r : ℕ) (own : List What) (n : Notif) → IsStep S R K e → r < length K → notif_of own ≡ Some n → any_of is_letgo own ≡ false → any_of gives_up own ≡ true → Ends K w r own → Ends (e ∷ K) w r own
-  ends-later K e w r own n step l h g u ends = grind (arith, lets-go, worker-row, at-more, joined-open, at-same, session-same)
+  ends-later K e w r own n step l h g u ends = grind (arith, lets-go, worker-row, at-more, extended-open, at-same, session-same)
 
   -- the session of an answer
   record Sent (H : List Event) (s w x : ℕ) (b : Back) (a : Result (Unit {0}) ℕ) : Type 0 where
@@ -121,7 +207,7 @@ module _ (S : System) (R : Rules) where
         work = rw (before-newest e K, v) t.1;
         two = rw (before-newest e K) (used-two R (session K w) t.0 t.1 t.3 (ordered R (session K w) (is-own S R K legal w)));
         ends = rw (before-newest e K) (answered
-            (at-more e K w g.place l m refl ∙ (ap (λ y. joined y (Send x b a)) g.same ∙ joined-open (session K w) (Send x b a) t.0 t.1.notif_is t.1.no_letgo))
+            (at-more e K w g.place l m refl ∙ (ap (λ y. extended y (Send x b a)) g.same ∙ extended-open (session K w) (Send x b a) t.0 t.1.notif_is t.1.no_letgo))
             (session-more e K w m refl ∙ grown (session K w) (Send x b a) t.0 t.1.notif_is refl));
       }
 

@@ -1,13 +1,13 @@
 -- Finished stays finished.
-use Rattle.mediation.proofs.Common.{◌≡◌, ◌⊎◌, inl, inr, ℕ, ◌<◌, Bool, true, false, List, [], ◌∷◌, ◌++◌, length, Some, None, refl, sym, ap, ◌∙◌, arith, Ok, Err, both_ways, Name, ended, is_made, alive}
-use Rattle.mediation.proofs.Common.{listed, closes, Rules, session, joined, any_of, is_letgo, notif_of, System, oldest_unfetched, Event, Actor, What, Recv, OpenMem, OpenBase, Check, Read, Act, Plant}
-use Rattle.mediation.proofs.Common.{AddfdPut, AddfdTake, Send, LetGo, Skip, Notif}
+use Rattle.mediation.proofs.Common.{◌≡◌, ◌⊎◌, inl, inr, ℕ, ◌<◌, Bool, true, false, List, [], ◌∷◌, ◌++◌, length, Some, None, refl, sym, ap, ◌∙◌, arith, Ok, Err, both_ways, Name, ended, is_made}
+use Rattle.mediation.proofs.Common.{alive, listed, closes, Rules, session, joined, any_of, is_letgo, notif_of, System, oldest_unfetched, Event, Actor, What, Recv, OpenMem, OpenBase, Check, Read}
+use Rattle.mediation.proofs.Common.{Act, Plant, AddfdPut, AddfdTake, Send, LetGo, Skip, Notif}
 use Rattle.hist_model.specs.Legal.{Finished, is_open_session}
 use Rattle.mediation.specs.Facts.{StaysFinished}
 use Rattle.mediation.proofs.Rows.{Row, WorkerRow, row-of}
 use Rattle.mediation.proofs.Deeds.{AtWork, deed-is}
-use Rattle.mediation.proofs.Count.{fetching}
-use Rattle.mediation.proofs.Work.{works, at-work}
+use Rattle.mediation.proofs.Calls.{fetching}
+use Rattle.mediation.proofs.Hands.{works, at-work}
 
 -- the step does nothing: it was none, or it found nothing to receive
 abbrev pub idles : What → Bool

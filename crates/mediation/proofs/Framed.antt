@@ -6,8 +6,8 @@ use Rattle.std.proofs.Common.{◌-◌}
 use Rattle.hist_model.specs.Look.{or_else}
 use Rattle.hist_model.specs.Calls.{answered, some_sends}
 use Rattle.mediation.specs.Frames.{changes_tasks, changes_list, changes_fetched, changes_count, changes_answered, Frame}
-use Rattle.mediation.proofs.Own.{listed-below, listed-here}
-use Rattle.mediation.proofs.Queues.{Asks, queue-asks}
+use Rattle.mediation.proofs.Tasks.{listed-below, listed-here}
+use Rattle.mediation.proofs.Phases.{Asks, queue-asks}
 
 -- a kind that changes no task
 pub record NoTask (w : What) : Type 0 where

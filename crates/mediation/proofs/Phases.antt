@@ -1,17 +1,136 @@
 -- How far a listed call is: not fetched, in hand, or answered.
-use Rattle.mediation.proofs.Common.{◌≡◌, ◌⊎◌, inl, inr, ℕ, ◌<◌, ◌≤◌, ◌^◌, Bool, true, false, ◌&&◌, ◌||◌, List, [], ◌∷◌, length, Option, Some, None, refl, sym, ap, ◌∙◌, arith, ◌==◌, Result, Ok, Err}
-use Rattle.mediation.proofs.Common.{cases_Bool, or_right, or_left, eqb-true, eq-eqb, both_ways, is_place, is_worker, listed, fetched, fetches, id, named, answers, settled, puts_to, installs_for}
-use Rattle.mediation.proofs.Common.{queue, is_send, Rules, session, any_of, gives_up, addfd_of, first_some, put_in, take_in, System, IsLegal, session_call, call_after, call_at, install_of, installed}
-use Rattle.mediation.proofs.Common.{request_of, request_after, slot_answer, fetcher, worker_of, Event, Actor, What, AddfdPut, Send, Install, Notif, Addfd, event_at-older, oldest_unfetched, ev, Recv}
+use Rattle.mediation.proofs.Common.{◌≡◌, ℕ, ◌<◌, ◌≤◌, Bool, true, false, List, [], ◌∷◌, ◌++◌, length, Option, Some, None, refl, sym, ◌∙◌, arith, if◌then◌else◌, Result, Ok, Err, or_right, eqb-true}
+use Rattle.mediation.proofs.Common.{ne_eqb, eq-eqb, is_place, is_task, task_name, listed, fetched, caller, named, answers, settled, settles, waiting, puts_to, installs_for, is_install, queue}
+use Rattle.mediation.proofs.Common.{rest_of, call_of, Rules, System, IsLegal, call_at, is_first, install_step, slot_answer, put_answer, Event, Actor, Task, What, Install, Addfd, oldest-some}
+use Rattle.mediation.proofs.Common.{name_eq-true, ◌⊎◌, inl, inr, ◌^◌, ◌&&◌, ◌||◌, ap, ◌==◌, cases_Bool, or_left, both_ways, is_worker, fetches, id, is_send, session, any_of, gives_up, addfd_of}
+use Rattle.mediation.proofs.Common.{first_some, put_in, take_in, session_call, call_after, install_of, installed, request_of, request_after, fetcher, worker_of, AddfdPut, Send, Notif}
+use Rattle.mediation.proofs.Common.{event_at-older, oldest_unfetched, ev, Recv, not, ℤ, or_parts, holder, ended, name_of, has_send_flag, checks, number_of, Fetch, Let, reads_of, take_step, group}
+use Rattle.mediation.proofs.Common.{Cause, faulty, denied, passed, done, not_put, not_taken, Back, OpenMem, OpenBase, Check, Read, Act, Plant, AddfdTake, LetGo, Skip, event_at-here, and_parts}
+use Rattle.mediation.proofs.Common.{false_from_ne_true, IsStep, Worker, below_or_last}
+use Rattle.hist_model.specs.Steps.{asked_call}
 use Rattle.hist_model.specs.Systems.{Slot, Number, Full, Over}
 use Rattle.mediation.proofs.Rows.{Row, WorkerRow, row-of}
-use Rattle.mediation.proofs.Ids.{ids_differ}
-use Rattle.mediation.proofs.Count.{fetching}
+use Rattle.mediation.proofs.Tasks.{waits-in, listed-below, calls_are_last, place-is, living-holder}
+use Rattle.mediation.proofs.Calls.{ids_differ, fetching, fetched-same, installs-open, fetched-new}
 use Rattle.mediation.proofs.Deeds.{AtWork, deed-is}
-use Rattle.mediation.proofs.Names.{names-own}
-use Rattle.mediation.proofs.InHand.{by-session, FetchKept}
-use Rattle.mediation.proofs.Work.{hand, in-hand, call-same, call-more}
-use Rattle.mediation.proofs.Queues.{Clean, Calm, calm-queue, calm-settled, calm-clean, settled-more, Installing, call-at-older, call-at-above}
+use Rattle.mediation.proofs.Hands.{names-own, by-session, FetchKept, hand, in-hand, call-same, call-more, named-some, InSession, works, works-keep, at-work, session-same, session-more, grown}
+use Rattle.mediation.proofs.Hands.{worker-row, started}
+use Rattle.mediation.proofs.Order.{is-own, put-fixed, take-after_put, Fixed, IsInjection}
+use Rattle.mediation.proofs.Handles.{listed-was}
+
+-- ---- what changes a call's requests and its answer
+
+-- nothing is asked of the call, and it is not answered
+pub record Clean (K : List Event) (c : ℕ) : Type 0 where
+  pub empty : queue K c ≡ []
+  pub unsettled : settled K c ≡ false
+
+-- the event does nothing to the call
+pub record Calm (K : List Event) (e : Event) (c : ℕ) : Type 0 where
+  pub no_put : puts_to K e.what c ≡ false
+  pub no_install : installs_for K e c ≡ false
+  pub no_answer : answers K e.what c ≡ false
+
+pub calm-queue : (e : Event) (K : List Event) (c : ℕ) → Calm K e c → queue (e ∷ K) c ≡ queue K c
+unfolding queue
+calm-queue e K c m = rw (m.no_put, m.no_install)
+
+pub calm-settled : (e : Event) (K : List Event) (c : ℕ) → Calm K e c → settled (e ∷ K) c ≡ settled K c
+unfolding settled
+calm-settled e K c m = rw (m.no_answer, m.no_install)
+
+pub calm-clean : (e : Event) (K : List Event) (c : ℕ) → Calm K e c → Clean K c → Clean (e ∷ K) c
+calm-clean e K c m k = record { empty = calm-queue e K c m ∙ k.empty; unsettled = calm-settled e K c m ∙ k.unsettled }
+
+pub settled-more : (e : Event) (K : List Event) (c : ℕ) → settled K c ≡ true → settled (e ∷ K) c ≡ true
+unfolding settled
+settled-more e K c h = or_right (settles K e c) (settled K c) h
+
+pub clean-waiting : (K : List Event) (c : ℕ) → listed K c ≡ true → fetched K c ≡ true → Clean K c → waiting K c ≡ true
+clean-waiting K c l f k = rw (l, f, k.unsettled, k.empty)
+
+-- nothing happens to a place that is still to come
+pub calm-above : (K : List Event) (e : Event) (c : ℕ) → length K ≤ c → Calm K e c
+unfolding named
+calm-above K e c h = grind (arith, listed-below, oldest-some)
+
+pub clean-above : (K : List Event) (c : ℕ) → length K ≤ c → Clean K c
+clean-above [] c h = record { empty = unfold queue in refl; unsettled = unfold settled in refl }
+clean-above (e ∷ K) c h = let l : length K ≤ c = omega arith in calm-clean e K c (calm-above K e c l) (clean-above K c l)
+
+-- a request goes to a waiting call
+put-ok : (S : System) (K : List Event) (q : Addfd) (c : ℕ) (u : Unit {0}) (b : Bool) (o : Option ℕ) → is_place o c ≡ true → ◌≡◌ {A = Result (Unit {0}) ℕ} (Ok u) (if b then Err 9 else put_answer S K q o) → waiting K c ≡ true
+put-ok S K q c u true o h g = grind (arith)
+put-ok S K q c u false None h g = cc
+put-ok S K q c u false (Some d) h g = grind (arith)
+
+-- an install belongs to the first request of its task's call
+pub record Installing (S : System) (K : List Event) (a : Actor) (w : What) (c : ℕ) : Type 0 where
+  pub first : ℕ
+  pub rest : List ℕ
+  pub queue_is : queue K c ≡ first ∷ rest
+  pub what_is : w ≡ Install (slot_answer (S.slot K c first))
+  pub call_is : call_of K (task_name a) ≡ Some c
+
+pub install-first : (S : System) (K : List Event) (a : Actor) (x : Result ℕ ℕ) (c : ℕ) (rs : List ℕ) → queue K c ≡ rs → call_of K (task_name a) ≡ Some c → Install x ≡ install_step S K c rs → Installing S K a (Install x) c
+install-first S K a x c rs q k h = grind arith
+
+pub installing : (S : System) (R : Rules) (K : List Event) (a : Actor) (w : What) (c : ℕ) → IsLegal S R K → Row S R K a w → is_install w ≡ true → is_task a (caller K c) ≡ true → listed K c ≡ true → Installing S K a w c
+installing S R K (Task n) (Install x) c legal r h g l =
+    let m = name_eq-true n (caller K c) g in
+    let s = waits-in S R K n c r.1.0 legal r.1.1 l (sym m) in
+    install-first S K (Task n) x c (queue K c) refl (rw s at r.1.1) (rw s at r.1.3)
+installing S R K a w c legal r h g l = grind arith
+
+-- each request in a queue was put for that call
+unfoldable pub Asks : List Event → ℕ → List ℕ → Type 0
+Asks K c [] = Unit {0}
+Asks K c (r ∷ rs) = (r < length K) × (call_at K r ≡ Some c) × Asks K c rs
+
+call-older : (e : Event) (K : List Event) (r : ℕ) → r < length K → call_at (e ∷ K) r ≡ call_at K r
+unfolding call_at
+call-older e K r l = let n : (r ≡ length K → ⊥) = omega arith in rw (ne_eqb r (length K) n)
+
+pub call-at-older : (e : Event) (K : List Event) (r : ℕ) → r < length K → call_at (e ∷ K) r ≡ call_at K r
+call-at-older e K r l = call-older e K r l
+
+pub call-at-above : (K : List Event) (r : ℕ) → length K ≤ r → call_at K r ≡ None
+unfolding call_at
+call-at-above [] r h = refl
+call-at-above (e ∷ K) r h = let n : (r ≡ length K → ⊥) = omega arith in rw (ne_eqb r (length K) n) (call-at-above K r (omega arith))
+
+pub call-at-here : (e : Event) (K : List Event) → call_at (e ∷ K) (length K) ≡ asked_call K e.what
+unfolding call_at
+call-at-here e K = rw (eq-eqb (length K) (length K) refl)
+
+asks-later : (e : Event) (K : List Event) (c : ℕ) (rs : List ℕ) → Asks K c rs → Asks (e ∷ K) c rs
+unfolding Asks
+asks-later e K c [] h = tt
+asks-later e K c (r ∷ rs) h = let l : r < length K = h.0 in (omega arith, call-older e K r l ∙ h.1, asks-later e K c rs h.2)
+
+asks-rest : (K : List Event) (c : ℕ) (rs : List ℕ) → Asks K c rs → Asks K c (rest_of rs)
+unfolding Asks
+asks-rest K c rs h = grind arith
+
+asks-push : (K : List Event) (c r : ℕ) (rs : List ℕ) → Asks K c rs → r < length K → call_at K r ≡ Some c → Asks K c (rs ++ r ∷ [])
+unfolding Asks
+asks-push K c r [] h l q = (l, q, tt)
+asks-push K c r (x ∷ rs) h l q = (h.0, h.1, asks-push K c r rs h.2 l q)
+
+pub put-call : (K : List Event) (w : What) (c : ℕ) → puts_to K w c ≡ true → asked_call K w ≡ Some c
+put-call K w c h = grind arith
+
+pub queue-asks : (K : List Event) (c : ℕ) → Asks K c (queue K c)
+unfolding queue
+queue-asks [] c = unfold Asks in tt
+queue-asks (e ∷ K) c = grind (arith, asks-push, asks-later, call-at-here, put-call, asks-rest, queue-asks K c)
+
+-- the first request of a queue was put for its call
+pub first-asks : (K : List Event) (c r : ℕ) (rs : List ℕ) → queue K c ≡ rs → is_first rs r ≡ true → call_at K r ≡ Some c
+first-asks K c r [] q h = cc
+first-asks K c r (x ∷ rs) q h = unfold Asks in rw (eqb-true x r h) at ((rw q at (queue-asks K c)).1)
+
+-- ---- how far a listed call is: not fetched, in hand, or answered
 
 -- the request r of the worker, for the call: still queued, or installed with this answer
 pub data Done (K : List Event) (c r : ℕ) : Type 0 where
@@ -173,3 +292,286 @@ stays-gone S R K e w c legal room r f n h =
       ]
       | inr q ↦ n (sym (call-same e K w q) ∙ h)
     ]
+
+-- ---- each step keeps how far a listed call is
+
+-- the session asks for a descriptor, or answers
+abbrev asks : What → Bool
+asks (AddfdPut q a) = true
+asks (AddfdTake a) = true
+asks (Send x b a) = true
+asks _ = false
+
+calm-kind : (K : List Event) (a : Actor) (what : What) (c : ℕ) → works what ≡ true → asks what ≡ false → Calm K (ev a what) c
+calm-kind K a what c h g = grind arith
+
+module _ (S : System) (R : Rules) (K : List Event) (a : Actor) (w c : ℕ) (legal : IsLegal S R K) (room : length K < 2 ^ 64) (is_mine : is_worker a w ≡ true) (l : listed K c ≡ true) (h : AtCall K c w) (i : InSession K w c) where
+  -- the session's id names its call
+  names : (x : ℕ) (n : Notif) → AtWork (session K w) n → x ≡ n.id → named K x ≡ Some c
+  names x n work q =
+      let y : x ≡ i.n.id = grind arith in
+      let f = named-some K c i.n.id l (sym i.id_is) in
+      rw y (f.1 ∙ ap Some (names-own S R K w c f.0 legal room i f.1))
+
+  -- the session's number leads to the living task
+  holds-own : (p : ℕ) (n : Notif) → AtWork (session K w) n → p ≡ n.pid → (holder K p ≡ Some i.t) × (ended K (name_of K i.t) ≡ false)
+  holds-own p n work q =
+      let y : p ≡ i.n.pid = grind arith in
+      let x = (calls_are_last S R K legal c l).0 in
+      let z = living-holder S R K (caller K c) i.t i.n.pid legal x i.task_is i.pid_is in
+      let m = name_eq-true (name_of K i.t) (caller K c) (place-is K (caller K c) i.t i.task_is).1 in
+      (rw y z, rw m (grind arith))
+
+  -- what the answers are while the call is listed
+  pub open-is : (p : ℕ) (x : Result (Unit {0}) ℕ) → WorkerRow S R K w (OpenMem p x) → x ≡ Ok tt
+  open-is p x r = let t = deed-is R (session K w) _ r.0 in let o = holds-own p t.0 t.1 t.3 in rw (o.0, o.1) at r.1
+
+  pub base-is : (p : ℕ) (d : ℤ) (x : Result (Unit {0}) ℕ) → WorkerRow S R K w (OpenBase p d x) → (x ≡ Ok tt) ⊎ (x ≡ Err 9)
+  base-is p d x r =
+      let t = deed-is R (session K w) _ r.0 in
+      let o = holds-own p t.0 t.1 t.4 in
+      let v : x ≡ (if S.directory K (group K i.t) d then Ok tt else Err 9) = rw (o.0, o.1) at r.1 in
+      grind arith
+
+  -- at a check the session has put nothing
+  put-none : (n : Notif) → (any_of checks (session K w) ≡ false) ⊎ (((number_of checks (session K w) == 1) ≡ true) × (R.next_piece n (reads_of (session K w)) ≡ None)) → AtWork (session K w) n → first_some put_in (session K w) ≡ None
+  put-none n v work = go (first_some put_in (session K w)) refl
+    where
+      go : (o : Option (Result (Unit {0}) ℕ)) → first_some put_in (session K w) ≡ o → first_some put_in (session K w) ≡ None
+      go None q = q
+      go (Some x) q = let f = put-fixed R (session K w) n x (is-own S R K legal w) work.notif_is q in grind arith
+
+  pub check-is : (x : ℕ) (y : Result (Unit {0}) ℕ) → WorkerRow S R K w (Check x y) → y ≡ Ok tt
+  check-is x y r =
+      let t = deed-is R (session K w) _ r.0 in
+      let k : Clean K c = rw (put-none t.0 t.4 t.1) at (h.stage t.1.no_end) in
+      rw (names x t.0 t.1 t.3, clean-waiting K c l i.got k) at r.1
+
+  -- what a request is put for, and when
+  put-of : (q : Addfd) (y : Result (Unit {0}) ℕ) → WorkerRow S R K w (AddfdPut q y) → (named K q.id ≡ Some c) × (has_send_flag q ≡ true) × Clean K c × (first_some put_in (session K w) ≡ None)
+  put-of q y r =
+      let t = deed-is R (session K w) _ r.0 in
+      (names q.id t.0 t.1 (grind arith), grind arith, rw t.5 at (h.stage t.1.no_end), t.5)
+
+  pub put-is : (q : Addfd) (y : Result (Unit {0}) ℕ) → WorkerRow S R K w (AddfdPut q y) → (y ≡ Ok tt) ⊎ (y ≡ Err 9)
+  put-is q y r =
+      let t = put-of q y r in
+      let v : y ≡ (if not (S.source q.srcfd) then Err 9 else (if has_send_flag q && false then Err 16 else Ok tt)) = rw (t.0, clean-waiting K c l i.got t.2, t.2.empty) at r.1 in
+      grind arith
+
+  pub take-is : (y : Result ℕ ℕ) → WorkerRow S R K w (AddfdTake y) → ((k : ℕ) × (y ≡ Ok k) × (settled K c ≡ true)) ⊎ ((k : ℕ) × (y ≡ Err k) × ((k == 2) ≡ false) × Clean K c)
+  take-is y r =
+      let t = deed-is R (session K w) _ r.0 in
+      let d : Asked K c w = rw (t.4.1, t.5) at (h.stage t.1.no_end) in
+      go d.state (rw (d.mine, d.for_call, l) at r.1)
+    where
+      go : {x : ℕ} → Done K c x → AddfdTake y ≡ take_step (install_of K x) true → ((k : ℕ) × (y ≡ Ok k) × (settled K c ≡ true)) ⊎ ((k : ℕ) × (y ≡ Err k) × ((k == 2) ≡ false) × Clean K c)
+      go (queued u v z) q = let e : AddfdTake y ≡ Skip = rw z at q in cc
+      go (gave_number k u v) q = let e : AddfdTake y ≡ AddfdTake (Ok k) = rw v at q in inl (k, cc, u)
+      go (failed k u v z) q = let e : AddfdTake y ≡ AddfdTake (Err k) = rw v at q in inr (k, cc, z, u)
+
+  -- where an answer is due, the call is clean
+  answer-clean : (n : Notif) (b : Back) → AtWork (session K w) n → Cause R (session K w) n b → (p : Option (Result (Unit {0}) ℕ)) (t : Option (Result ℕ ℕ)) → first_some put_in (session K w) ≡ p → first_some take_in (session K w) ≡ t → StageOf K c w p t → Clean K c
+  answer-clean n b work z None t q v s = s
+  answer-clean n b work z (Some (Err x)) t q v s = s
+  answer-clean n b work z (Some (Ok u)) (Some t) q v s = s
+  answer-clean n b work z (Some (Ok u)) None q v s = absurd (due z)
+    where
+      f : Fixed R IsInjection (session K w) n
+      f = put-fixed R (session K w) n (Ok u) (is-own S R K legal w) work.notif_is q
+
+      due : {b : Back} → Cause R (session K w) n b → ⊥
+      due (faulty x g) = let y = f.sound in cc
+      due (denied x g k) = let y = f.decided.3 in cc
+      due (passed g k) = let y = f.decided.3 in cc
+      due (done x g k e) = let y = f.decided.3 in grind arith
+      due (not_put x src place flags g d k) = cc
+      due (not_taken y src place flags g d k) = cc
+
+  pub send-is : (x : ℕ) (b : Back) (y : Result (Unit {0}) ℕ) → WorkerRow S R K w (Send x b y) → (y ≡ Ok tt) × (named K x ≡ Some c)
+  send-is x b y r =
+      let t = deed-is R (session K w) _ r.0 in
+      let k = answer-clean t.0 b t.1 t.5 (first_some put_in (session K w)) (first_some take_in (session K w)) refl refl (h.stage t.1.no_end) in
+      let m = names x t.0 t.1 t.4 in
+      (rw (m, clean-waiting K c l i.got k) at r.1, m)
+
+  -- one more step of the session
+  worked : (what : What) → WorkerRow S R K w what → works what ≡ true → (gives_up what ≡ true → settled (ev a what ∷ K) c ≡ true)
+      → (gives_up what ≡ false → StageOf (ev a what ∷ K) c w (first_some put_in (what ∷ session K w)) (first_some take_in (what ∷ session K w))) → AtCall (ev a what ∷ K) c w
+  worked what r k o s = grind (arith, at-work, works-keep, session-more, grown, call-more)
+
+  calm : (what : What) → WorkerRow S R K w what → works what ≡ true → asks what ≡ false → gives_up what ≡ false → AtCall (ev a what ∷ K) c w
+  calm what r k s g = worked what r k (λ z. cc) (λ _. rw (q.0, q.1) (stage-calm (ev a what) K c w (first_some put_in (session K w)) (first_some take_in (session K w)) (calm-kind K a what c k s) (request-more (ev a what) K w is_mine ∙ q.2) (h.stage (at-work S R K w what r k).1.no_end)))
+    where
+      q : (put_in what ≡ None) × (take_in what ≡ None) × (request_after (length K) what (request_of K w) ≡ request_of K w)
+      q = (grind arith, grind arith, grind arith)
+
+  mine-put : (q : Addfd) (y : Result (Unit {0}) ℕ) → WorkerRow S R K w (AddfdPut q y) → (y ≡ Ok tt) ⊎ (y ≡ Err 9) → AtCall (ev a (AddfdPut q y) ∷ K) c w
+  mine-put q y r (inr z) = rw z (worked (AddfdPut q (Err 9)) (rw z at r) refl (λ x. cc) (λ _. calm-clean (ev a (AddfdPut q (Err 9))) K c (record { no_put = refl; no_install = refl; no_answer = refl }) (put-of q y r).2))
+  mine-put q y r (inl z) = rw z (worked (AddfdPut q (Ok tt)) (rw z at r) refl (λ x. cc) (λ _. rw untaken asked))
+    where
+      t : (named K q.id ≡ Some c) × (has_send_flag q ≡ true) × Clean K c × (first_some put_in (session K w) ≡ None)
+      t = put-of q y r
+
+      untaken : first_some take_in (session K w) ≡ None
+      untaken = let p = t.3 in grind (arith, take-after_put, is-own)
+
+      asked : Asked (ev a (AddfdPut q (Ok tt)) ∷ K) c w
+      asked =
+          let e = ev a (AddfdPut q (Ok tt)) in
+          record {
+            r = length K;
+            mine = request-more e K w is_mine;
+            below = omega arith;
+            sends = rw event_at-here t.1;
+            for_call = call-at-here e K ∙ t.0;
+            state = queued (unfold queue in rw (t.0, eq-eqb c c refl, t.2.empty)) (unfold settled in t.2.unsettled) (install-new e K);
+          }
+
+  mine-take : (y : Result ℕ ℕ) → WorkerRow S R K w (AddfdTake y) → AtCall (ev a (AddfdTake y) ∷ K) c w
+  mine-take y r = elim (take-is y r) [
+    | inl z ↦ worked (AddfdTake y) r refl (λ _. settled-more (ev a (AddfdTake y)) K c z.2) (λ x. absurd (cc (z.1, x)))
+    | inr z ↦ worked (AddfdTake y) r refl (λ x. absurd (cc (z.1, z.2, x))) (λ _. rw (deed-is R (session K w) _ r.0).4.1 (calm-clean (ev a (AddfdTake y)) K c (record { no_put = refl; no_install = refl; no_answer = refl }) z.3))
+  ]
+
+  mine-send : (x : ℕ) (b : Back) (y : Result (Unit {0}) ℕ) → WorkerRow S R K w (Send x b y) → AtCall (ev a (Send x b y) ∷ K) c w
+  mine-send x b y r = let z = send-is x b y r in worked (Send x b y) r refl (λ _. rw z.0 (unfold settled in rw (z.1, eq-eqb c c refl))) (λ u. cc)
+
+  mine-skip : AtCall (ev a Skip ∷ K) c w
+  mine-skip =
+      let e = ev a Skip in
+      let s : session (e ∷ K) w ≡ session K w = session-same e K w (grind arith) in
+      record {
+        in_hand = call-more e K w is_mine ∙ h.in_hand;
+        over = λ z. settled-more e K c (h.over (rw s at z));
+        stage = rw s (λ z. stage-calm e K c w (first_some put_in (session K w)) (first_some take_in (session K w)) (record { no_put = refl; no_install = refl; no_answer = refl }) (request-more e K w is_mine) (h.stage z));
+      }
+
+  pub mine-phase : (what : What) → WorkerRow S R K w what → AtCall (ev a what ∷ K) c w ⊎ ((settled (ev a what ∷ K) c ≡ true) × (session_call (ev a what ∷ K) w ≡ Some c → ⊥))
+  mine-phase (Recv x) r = let t = deed-is R (session K w) Fetch r.0 in absurd (grind arith)
+  mine-phase (OpenMem p x) r = inl (calm (OpenMem p x) r refl refl (rw (open-is p x r)))
+  mine-phase (OpenBase p d x) r = inl (calm (OpenBase p d x) r refl refl (let z = base-is p d x r in grind arith))
+  mine-phase (Check x y) r = inl (calm (Check x y) r refl refl (rw (check-is x y r)))
+  mine-phase (AddfdPut q y) r = inl (mine-put q y r (put-is q y r))
+  mine-phase (AddfdTake y) r = inl (mine-take y r)
+  mine-phase (Send x b y) r = inl (mine-send x b y r)
+  mine-phase LetGo r = inr (settled-more (ev a LetGo) K c (h.over (deed-is R (session K w) Let r).3), λ z. cc (call-more (ev a LetGo) K w is_mine, z))
+  mine-phase Skip r = inl mine-skip
+  mine-phase (Read x n y) r = inl (calm (Read x n y) r refl refl refl)
+  mine-phase (Act q cap x) r = inl (calm (Act q cap x) r refl refl refl)
+  mine-phase (Plant x b cap y) r = inl (calm (Plant x b cap y) r refl refl refl)
+  mine-phase _ r = absurd r
+
+-- ---- each listed call is not fetched, in hand, or answered
+
+some-nat : (x y : ℕ) → Some x ≡ Some y → x ≡ y
+some-nat x y h = cc
+
+-- only a worker asks and answers
+pub actor-acts : (S : System) (R : Rules) (K : List Event) (a : Actor) (what : What) (c : ℕ) → IsLegal S R K → length K < 2 ^ 64 → Row S R K a what → (puts_to K what c || answers K what c) ≡ true → (v : ℕ) × (a ≡ Worker v) × (session_call K v ≡ Some c)
+actor-acts S R K a what c legal room r h = grind (arith, acts-own)
+
+install-no_put : (K : List Event) (w : What) (c : ℕ) → is_install w ≡ true → puts_to K w c ≡ false
+install-no_put K w c h = grind arith
+
+module _ (S : System) (R : Rules) (K : List Event) (e : Event) (c : ℕ) (legal : IsLegal S R K) (room : length K < 2 ^ 64) (row : Row S R K e.who e.what) (l : listed K c ≡ true) where
+  -- an install for the call
+  parts : installs_for K e c ≡ true → (is_install e.what ≡ true) × (is_task e.who (caller K c) ≡ true)
+  parts f = grind arith
+
+  for-call : installs_for K e c ≡ true → Installing S K e.who e.what c
+  for-call f = let p = parts f in installing S R K e.who e.what c legal row p.0 p.1 l
+
+  unfetched-calm : fetched K c ≡ false → Clean K c → Calm K e c
+  unfetched-calm f k = grind (arith, for-call)
+
+  other-phase : (w : ℕ) → is_worker e.who w ≡ false → AtCall K c w → AtCall (e ∷ K) c w
+  other-phase w o h =
+      elim (cases_Bool (installs_for K e c)) [
+        | inl f ↦
+            let i = for-call f in
+            let p = parts f in
+            let op = installs-open S R K e.who e.what c legal row p.0 p.1 l in
+            kept (λ p t z. stage-install S e K c w p t q f (install-no_put K e.what c (parts f).0) i op z)
+        | inr f ↦
+            let m : Calm K e c = record {
+              no_put = false_from_ne_true (puts_to K e.what c) (λ z. nobody (grind arith));
+              no_install = f;
+              no_answer = false_from_ne_true (answers K e.what c) (λ z. nobody (grind arith));
+            } in
+            kept (λ p t z. stage-calm e K c w p t m q z)
+      ]
+    where
+      q : request_of (e ∷ K) w ≡ request_of K w
+      q = request-same e K w o
+
+      s : session (e ∷ K) w ≡ session K w
+      s = session-same e K w (grind arith)
+
+      kept : ((p : Option (Result (Unit {0}) ℕ)) (t : Option (Result ℕ ℕ)) → StageOf K c w p t → StageOf (e ∷ K) c w p t) → AtCall (e ∷ K) c w
+      kept f = record {
+        in_hand = call-same e K w o ∙ h.in_hand;
+        over = λ z. settled-more e K c (h.over (rw s at z));
+        stage = rw s (λ z. f (first_some put_in (session K w)) (first_some take_in (session K w)) (h.stage z));
+      }
+
+      nobody : (puts_to K e.what c || answers K e.what c) ≡ true → ⊥
+      nobody z =
+          let v = actor-acts S R K e.who e.what c legal room row z in
+          let x = hand-fetcher S R K legal room v.0 c v.2 in
+          let y = hand-fetcher S R K legal room w c h.in_hand in
+          let m : v.0 ≡ w = some-nat v.0 w (sym x ∙ y) in
+          both_ways (is_worker e.who w) o (rw (v.1, m) (eq-eqb w w refl))
+
+  -- the worker that has it in hand steps
+  mine-old : (IsStep S R K e) → (w : ℕ) → is_worker e.who w ≡ true → AtCall K c w → AtCall (e ∷ K) c w ⊎ ((settled (e ∷ K) c ≡ true) × (session_call (e ∷ K) w ≡ Some c → ⊥))
+  mine-old r w o h = mine-phase S R K e.who w c legal room o l h (rw h.in_hand at (hand S R K legal w)) e.what (worker-row S R K e w r o)
+
+  held-phase : (IsStep S R K e) → (w : ℕ) → fetched K c ≡ true → AtCall K c w ⊎ ((settled K c ≡ true) × (session_call K w ≡ Some c → ⊥)) → AtCall (e ∷ K) c w ⊎ ((settled (e ∷ K) c ≡ true) × (session_call (e ∷ K) w ≡ Some c → ⊥))
+  held-phase r w f h = grind (arith, settled-more, stays-gone, mine-old, other-phase)
+
+  -- the call is fetched now
+  now-phase : fetched K c ≡ false → Clean K c → (fetches e.what (id K c) && listed K c) ≡ true → Phase (e ∷ K) c (worker_of e.who)
+  now-phase f k q = go e.who e.what row q (unfetched-calm f k)
+    where
+      go : (a : Actor) (what : What) → Row S R K a what → (fetches what (id K c) && listed K c) ≡ true → Calm K (ev a what) c → Phase (ev a what ∷ K) c (worker_of a)
+      go (Worker v) (Recv (Ok n)) r q m =
+          let e' = ev (Worker v) (Recv (Ok n)) in
+          let d = fetching K n (oldest_unfetched K) refl r.2 in
+          let p = and_parts (n.id == id K c) (listed K c) q in
+          let same : d.0 ≡ c = ids_differ S R K legal room d.0 c d.2 l (sym (ap (λ (x : Notif). x.id) d.1) ∙ eqb-true n.id (id K c) p.0) in
+          let mine : is_worker (Worker v) v ≡ true = eq-eqb v v refl in
+          let s : session (e' ∷ K) v ≡ Recv (Ok n) ∷ [] = session-more e' K v mine refl ∙ started (session K v) (Recv (Ok n)) refl in
+          inl (record {
+            in_hand = call-more e' K v mine ∙ (d.4 ∙ ap Some same);
+            over = rw s (λ z. cc);
+            stage = rw s (λ z. calm-clean e' K c m k);
+          })
+      go a what r q m = grind arith
+
+  old-phase : IsStep S R K e → (o : Option ℕ) → fetcher K c ≡ o → Phase K c o → Phase (e ∷ K) c (fetcher (e ∷ K) c)
+  old-phase r (Some w) q p = grind (arith, fetcher-fetched, fetcher-stays, held-phase)
+  old-phase r None q p = grind (arith, fetcher-now, now-phase, fetcher-same, fetched-same, calm-clean, unfetched-calm)
+
+-- a new call
+new-phase : (e : Event) (K : List Event) → Phase (e ∷ K) (length K) (fetcher (e ∷ K) (length K))
+new-phase e K = grind (arith, fetched-new, calm-clean, calm-above, clean-above, fetcher-fetched)
+
+abbrev pub Phases : List Event → Type 0
+Phases K = (c : ℕ) → listed K c ≡ true → Phase K c (fetcher K c)
+
+pub phases : (S : System) (R : Rules) (K : List Event) → IsLegal S R K → length K < 2 ^ 64 → Phases K
+phases S R [] legal room = λ c h. absurd (omega (arith, listed-below [] c h))
+phases S R (e ∷ K) legal room = λ c h.
+    elim (below_or_last c (length K) (listed-below (e ∷ K) c h)) [
+      | inl l ↦
+          let was = listed-was e K c l h in
+          old-phase S R K e c legal.1 (omega arith) (row-of S R K e legal.0) was legal.0 (fetcher K c) refl (phases S R K legal.1 (omega arith) c was)
+      | inr q ↦ rw q (new-phase e K)
+    ]
+
+-- a worker with a listed call in hand
+pub at-call : (S : System) (R : Rules) (K : List Event) (w c : ℕ) → IsLegal S R K → length K < 2 ^ 64 → session_call K w ≡ Some c → listed K c ≡ true → AtCall K c w
+at-call S R K w c legal room h l =
+    let p = rw (hand-fetcher S R K legal room w c h) at (phases S R K legal room c l) in
+    elim p [ inl x ↦ x | inr x ↦ absurd (x.1 h) ]

@@ -1,19 +1,256 @@
--- Answers: whose they are, what causes them, and when they tell that a call is gone.
-use Rattle.mediation.proofs.Common.{◌≡◌, Bool, ◌⊎◌, inl, inr, ℕ, ◌<◌, ◌^◌, true, false, List, [], ◌∷◌, length, refl, ap, arith, ◌||◌, not, ◌∙◌, None, Some, Option, Result, Ok, Err, ◌==◌}
-use Rattle.mediation.proofs.Common.{if◌then◌else◌, eq-eqb, false_from_ne_true, cases_Bool, both_ways, is_worker, is_place, listed, named, puts_to, answers, Rules, session, Answer, Put, addfd_of}
-use Rattle.mediation.proofs.Common.{System, IsStep, IsLegal, session_call, send_answer, put_answer, install_of, InstallsOwn, ResumesOwn, ReturnsInstalled, HasCause, NeverBusy, ErrorsKnown}
-use Rattle.mediation.proofs.Common.{TakenByItsActor, takes, Each, NamesOwn, LostIfGone, Addfd, Notif, Event, Actor, Worker, What, Back, OpenMem, OpenBase, Check, AddfdPut, AddfdTake, Send}
-use Rattle.hist_model.specs.Mediated.{is_busy, is_known_error, is_accepted, is_lost}
-use Rattle.mediation.proofs.Settlers.{installs-own, resumes-own, returns-installed}
-use Rattle.mediation.proofs.Names.{named-is, names-own}
-use Rattle.mediation.proofs.Rows.{Row, WorkerRow, row-of}
+-- Answers, installations and returns: whose they are, what causes them, and that they arrive.
+use Rattle.mediation.proofs.Common.{◌≡◌, inl, inr, ℕ, ◌<◌, ◌^◌, true, false, ◌&&◌, List, [], ◌∷◌, ◌++◌, length, Option, Some, None, refl, sym, ap, ◌∙◌, subst, arith, Result, Ok, pos, cases_Bool}
+use Rattle.mediation.proofs.Common.{and_parts, or_cases, or_left, or_right, eq-eqb, eqb-true, false_from_ne_true, both_ways, Name, is_task, listed, caller, answers, puts_to, installs_for}
+use Rattle.mediation.proofs.Common.{is_install, queue, rest_of, settled, settles, has_send_flag, is_send, call_of, Rules, session, addfd_of, System, IsLegal, reply, call_at, install_of, installed}
+use Rattle.mediation.proofs.Common.{is_first, fetcher, worker_of, Event, Actor, Task, What, Install, Resume, Send, AddfdPut, Addfd, Back, event_at-here, event_at-older, event_at-below, newest-some}
+use Rattle.mediation.proofs.Common.{name_eq-true, Bool, ◌⊎◌, ◌||◌, not, Err, ◌==◌, if◌then◌else◌, is_worker, is_place, named, Answer, Put, IsStep, session_call, send_answer, put_answer, InstallsOwn}
+use Rattle.mediation.proofs.Common.{ResumesOwn, ReturnsInstalled, HasCause, NeverBusy, ErrorsKnown, TakenByItsActor, takes, Each, NamesOwn, LostIfGone, Notif, Worker, OpenMem, OpenBase, Check}
+use Rattle.mediation.proofs.Common.{AddfdTake, ◌≤◌, name_eq, fetched, fetches, id, closes, leaves, Arrives, Deliver}
+use Rattle.std.proofs.lemmas.Bool.{cases_order}
+use Rattle.hist_model.specs.Calls.{gave, first_sends, has_send}
+use Rattle.hist_model.specs.Steps.{back_of}
+use Rattle.hist_model.specs.Settlers.{IsRequestOf, IsInstallOf, Source, sent, installed_for}
+use Rattle.hist_model.specs.declared.event.Back.TheVariants.{Value}
+use Rattle.hist_model.specs.Mediated.{is_busy, is_known_error, is_accepted, is_lost, fetches_of, OneSession, returns}
+use Rattle.mediation.proofs.Calls.{before-older, before-newest, installs-open, settles-once}
+use Rattle.mediation.proofs.Rows.{Row, TaskRow, WorkerRow, row-of}
 use Rattle.mediation.proofs.Deeds.{deed-is, AtWork}
-use Rattle.mediation.proofs.Work.{InSession, hand, hand-notif, in-hand, works, at-work}
-use Rattle.mediation.proofs.Sequence.{is-own}
-use Rattle.mediation.proofs.Phases.{AtCall, acts-own}
-use Rattle.mediation.proofs.Answered.{check-is, send-is, put-is, take-is, open-is, base-is}
-use Rattle.mediation.proofs.Waiting.{at-call}
-use Rattle.mediation.proofs.Ordered.{ordered, used-two}
+use Rattle.mediation.proofs.Phases.{installing, install-first, put-call, call-at-older, call-at-here, call-at-above, hand-fetcher, fetcher-fetched, fetcher-stays, install-same, install-now}
+use Rattle.mediation.proofs.Phases.{install-new, actor-acts, AtCall, acts-own, check-is, send-is, put-is, take-is, open-is, base-is, at-call, refetch}
+use Rattle.mediation.proofs.Order.{is_put, is-own, ordered, used-two}
+use Rattle.mediation.proofs.Hands.{named-is, names-own, InSession, hand, hand-notif, in-hand, works, at-work}
+use Rattle.mediation.proofs.Tasks.{listed-below, listed-older, waits-here}
+
+-- ---- installs and resumes are of the call's own session
+
+request-later : (S : System) (R : Rules) (K : List Event) (e : Event) (c r w : ℕ) → IsLegal S R K → length K < 2 ^ 64 → Row S R K e.who e.what → IsRequestOf K c r w → IsRequestOf (e ∷ K) c r w
+request-later S R K e c r w legal room row i = grind (arith, call-at-older, event_at-older, fetcher-stays, fetcher-fetched)
+
+-- each of a call's requests is its session's
+AllOf : List Event → ℕ → List ℕ → Type 0
+AllOf K c [] = Unit {0}
+AllOf K c (r ∷ rs) = ((w : ℕ) × IsRequestOf K c r w) × AllOf K c rs
+
+all-later : (S : System) (R : Rules) (K : List Event) (e : Event) (c : ℕ) (rs : List ℕ) → IsLegal S R K → length K < 2 ^ 64 → Row S R K e.who e.what → AllOf K c rs → AllOf (e ∷ K) c rs
+unfolding AllOf
+all-later S R K e c [] legal room row h = tt
+all-later S R K e c (r ∷ rs) legal room row h = ((h.0.0, request-later S R K e c r h.0.0 legal room row h.0.1), all-later S R K e c rs legal room row h.1)
+
+all-push : (K : List Event) (c r w : ℕ) (rs : List ℕ) → AllOf K c rs → IsRequestOf K c r w → AllOf K c (rs ++ r ∷ [])
+unfolding AllOf
+all-push K c r w [] h i = ((w, i), tt)
+all-push K c r w (x ∷ rs) h i = (h.0, all-push K c r w rs h.1 i)
+
+-- each request of a worker has SEND
+put-sends : (S : System) (R : Rules) (K : List Event) (w : ℕ) (q : Addfd) (a : Result (Unit {0}) ℕ) → WorkerRow S R K w (AddfdPut q a) → has_send_flag q ≡ true
+put-sends S R K w q a r =
+    let t = deed-is R (session K w) _ r.0 in
+    grind arith
+
+put-is-put : (K : List Event) (what : What) (c : ℕ) → puts_to K what c ≡ true → is_put what ≡ true
+put-is-put K what c h = grind arith
+
+puts-send : (S : System) (R : Rules) (K : List Event) (a : Actor) (what : What) → Row S R K a what → is_put what ≡ true → has_send what ≡ true
+puts-send S R K a what r h = grind (arith, put-sends)
+
+-- a new request is its session's
+put-own : (S : System) (R : Rules) (K : List Event) (e : Event) (c : ℕ) → IsLegal S R K → length K < 2 ^ 64 → Row S R K e.who e.what → puts_to K e.what c ≡ true → (w : ℕ) × IsRequestOf (e ∷ K) c (length K) w
+put-own S R K e c legal room row h =
+    let v = actor-acts S R K e.who e.what c legal room row (or_left (puts_to K e.what c) (answers K e.what c) h) in
+    let f = hand-fetcher S R K legal room v.0 c v.2 in (
+      v.0,
+      record {
+        below = omega arith;
+        for_call = call-at-here e K ∙ put-call K e.what c h;
+        sends = rw event_at-here (puts-send S R K e.who e.what row (put-is-put K e.what c h));
+        put_by = rw event_at-here (ap worker_of v.1);
+        session_of = fetcher-stays S R K e v.0 c legal room row (fetcher-fetched K c v.0 f) f;
+      },
+    )
+
+queue-put : (e : Event) (K : List Event) (c : ℕ) → puts_to K e.what c ≡ true → queue (e ∷ K) c ≡ queue K c ++ length K ∷ []
+unfolding queue
+queue-put e K c h = rw h
+
+queue-install : (e : Event) (K : List Event) (c : ℕ) → puts_to K e.what c ≡ false → installs_for K e c ≡ true → queue (e ∷ K) c ≡ rest_of (queue K c)
+unfolding queue
+queue-install e K c h g = rw (h, g)
+
+queue-other : (e : Event) (K : List Event) (c : ℕ) → puts_to K e.what c ≡ false → installs_for K e c ≡ false → queue (e ∷ K) c ≡ queue K c
+unfolding queue
+queue-other e K c h g = rw (h, g)
+
+none-of : (c : ℕ) → AllOf [] c (queue [] c)
+unfolding queue AllOf
+none-of c = tt
+
+nothing-settled : (c : ℕ) → settled [] c ≡ true → ⊥
+unfolding settled
+nothing-settled c h = cc
+
+reply-now : (e : Event) (K : List Event) (c : ℕ) → settles K e c ≡ true → reply (e ∷ K) c ≡ back_of e.what
+unfolding reply
+reply-now e K c h = rw h
+
+reply-same : (e : Event) (K : List Event) (c : ℕ) → settles K e c ≡ false → reply (e ∷ K) c ≡ reply K c
+unfolding reply
+reply-same e K c h = rw h
+
+settled-was : (e : Event) (K : List Event) (c : ℕ) → settles K e c ≡ false → settled (e ∷ K) c ≡ true → settled K c ≡ true
+unfolding settled
+settled-was e K c h g = grind arith
+
+all-kind : (S : System) (R : Rules) (K : List Event) (e : Event) (c : ℕ) → IsLegal S R K → length K < 2 ^ 64 → Row S R K e.who e.what → AllOf K c (queue K c) → AllOf (e ∷ K) c (queue (e ∷ K) c)
+unfolding AllOf
+all-kind S R K e c legal room row h = grind (arith, put-own, queue-put, all-push, all-later, queue-install, queue-other)
+
+all-of : (S : System) (R : Rules) (K : List Event) → IsLegal S R K → length K < 2 ^ 64 → (c : ℕ) → AllOf K c (queue K c)
+all-of S R [] legal room = λ c. none-of c
+all-of S R (e ∷ K) legal room = λ c. all-kind S R K e c legal.1 (omega arith) (row-of S R K e legal.0) (all-of S R K legal.1 (omega arith) c)
+
+pub first-own : (S : System) (R : Rules) (K : List Event) (c r : ℕ) (rs : List ℕ) → IsLegal S R K → length K < 2 ^ 64 → queue K c ≡ r ∷ rs → (w : ℕ) × IsRequestOf K c r w
+unfolding AllOf
+first-own S R K c r rs legal room q = (rw q at (all-of S R K legal room c)).0
+
+installed-now : (e : Event) (K : List Event) (c r : ℕ) → call_at K r ≡ Some c → (installs_for K e c && is_first (queue K c) r) ≡ true → install_of (e ∷ K) r ≡ installed e.what
+unfolding install_of
+installed-now e K c r q p = rw (q, p)
+
+installed-same : (e : Event) (K : List Event) (c r : ℕ) → call_at K r ≡ Some c → (installs_for K e c && is_first (queue K c) r) ≡ false → install_of (e ∷ K) r ≡ install_of K r
+unfolding install_of
+installed-same e K c r q p = rw (q, p)
+
+waits-in-call : (K : List Event) (n : Name) (c : ℕ) → call_of K n ≡ Some c → (listed K c ≡ true) × (caller K c ≡ n)
+unfolding call_of
+waits-in-call K n c q = grind (arith, newest-some, name_eq-true)
+
+first-is : (rs : List ℕ) (r : ℕ) (more : List ℕ) → rs ≡ r ∷ more → is_first rs r ≡ true
+first-is rs r more q = rw q (eq-eqb r r refl)
+
+pub installs-own : (S : System) (R : Rules) (K : List Event) (n : Name) (x : Result ℕ ℕ) → IsLegal S R K → length K < 2 ^ 64 → TaskRow S K n (Install x) → (c r w : ℕ) × IsInstallOf K n c r w
+installs-own S R K n x legal room r =
+    let c = r.1.0 in
+    let l = waits-in-call K n c r.1.1 in
+    let i = install-first S K (Task n) x c (queue K c) refl r.1.1 r.1.3 in
+    let o = first-own S R K c i.first i.rest legal room i.queue_is in
+    (c, i.first, o.0, record { in_call = r.1.1; on_list = l.0; by_caller = l.1; is_next = first-is (queue K c) i.first i.rest i.queue_is; request = o.1 })
+
+-- a settled call gets no more installs
+no-install : (S : System) (R : Rules) (K : List Event) (e : Event) (c : ℕ) → IsLegal S R K → Row S R K e.who e.what → settled K c ≡ true → installs_for K e c ≡ false
+no-install S R K e c legal row h = grind (arith, installs-open)
+
+source-later : (S : System) (R : Rules) (K : List Event) (e : Event) (c w : ℕ) (b : Back) → IsLegal S R K → length K < 2 ^ 64 → Row S R K e.who e.what → settled K c ≡ true → Source K c w b → Source (e ∷ K) c w b
+source-later S R K e c w b legal room row s (sent p x b' u d q h g a) = let l = event_at-below K p d q in sent p x b' u d (rw event_at-older q) h g (rw (before-older e K p (omega arith)) a)
+source-later S R K e c w b legal room row s (installed_for r n h g) =
+    installed_for r n (request-later S R K e c r w legal room row h) (install-same e K c r h.for_call (no-install S R K e c legal row s) ∙ g)
+
+pub Settled : List Event → ℕ → Type 0
+Settled K c = (w : ℕ) × (fetcher K c ≡ Some w) × Source K c w (reply K c)
+
+settled-send : (S : System) (R : Rules) (K : List Event) (e : Event) (c : ℕ) → IsLegal S R K → length K < 2 ^ 64 → Row S R K e.who e.what → answers K e.what c ≡ true → (w : ℕ) × (fetcher K c ≡ Some w) × Source (e ∷ K) c w (back_of e.what)
+settled-send S R K e c legal room row h =
+    let v = actor-acts S R K e.who e.what c legal room row (or_right (puts_to K e.what c) (answers K e.what c) h) in
+    let f = hand-fetcher S R K legal room v.0 c v.2 in
+    let k = a-send e.what h in
+    (v.0, f, sent (length K) k.0 (back_of e.what) k.1 e (event_at-here e K) v.1 k.2 (rw (before-newest e K) h))
+  where
+    a-send : (what : What) → answers K what c ≡ true → (x : ℕ) × (u : Unit {0}) × (what ≡ Send x (back_of what) (Ok u))
+    a-send (Send x b (Ok u)) h = (x, u, refl)
+    a-send what h = cc
+
+settled-install : (S : System) (R : Rules) (K : List Event) (e : Event) (c : ℕ) → IsLegal S R K → length K < 2 ^ 64 → Row S R K e.who e.what → installs_for K e c ≡ true → gave e.what ≡ true → (w : ℕ) × (fetcher K c ≡ Some w) × Source (e ∷ K) c w (back_of e.what)
+settled-install S R K e c legal room row f g =
+    let p = and_parts (is_install e.what) (is_task e.who (caller K c) && listed K c) f in
+    let q = and_parts (is_task e.who (caller K c)) (listed K c) p.1 in
+    let i = installing S R K e.who e.what c legal row p.0 q.0 q.1 in
+    let o = first-own S R K c i.first i.rest legal room i.queue_is in
+    let k = number e.what g in
+    let h : install_of (e ∷ K) i.first ≡ Some (Ok k.0) = install-now e K c i.first i.rest o.1.for_call f i.queue_is ∙ ap installed k.1 in
+    (o.0, o.1.session_of, subst (Source (e ∷ K) c o.0) (sym k.2) (installed_for i.first k.0 (request-later S R K e c i.first o.0 legal room row o.1) h))
+  where
+    number : (what : What) → gave what ≡ true → (n : ℕ) × (what ≡ Install (Ok n)) × (back_of what ≡ Value (pos n))
+    number (Install (Ok n)) h = (n, refl, refl)
+    number what h = cc
+
+settled-kind : (S : System) (R : Rules) (K : List Event) (e : Event) (c : ℕ) → IsLegal S R K → length K < 2 ^ 64 → Row S R K e.who e.what → (settled K c ≡ true → Settled K c) → settled (e ∷ K) c ≡ true → Settled (e ∷ K) c
+unfolding Settled
+settled-kind S R K e c legal room row ih h =
+    elim (cases_Bool (settles K e c)) [
+      | inl q ↦ rw (reply-now e K c q) (kept (elim (or_cases (answers K e.what c) (installs_for K e c && (gave e.what && first_sends K (queue K c))) q) [
+        | inl a ↦ settled-send S R K e c legal room row a
+        | inr a ↦
+            let p = and_parts (installs_for K e c) (gave e.what && first_sends K (queue K c)) a in
+            settled-install S R K e c legal room row p.0 (and_parts (gave e.what) (first_sends K (queue K c)) p.1).0
+      ]))
+      | inr q ↦
+          let z = ih (settled-was e K c q h) in
+          rw (reply-same e K c q) (z.0, fetcher-stays S R K e z.0 c legal room row (fetcher-fetched K c z.0 z.1) z.1, source-later S R K e c z.0 (reply K c) legal room row (settled-was e K c q h) z.2)
+    ]
+  where
+    kept : {b : Back} → (w : ℕ) × (fetcher K c ≡ Some w) × Source (e ∷ K) c w b → (w : ℕ) × (fetcher (e ∷ K) c ≡ Some w) × Source (e ∷ K) c w b
+    kept z = (z.0, fetcher-stays S R K e z.0 c legal room row (fetcher-fetched K c z.0 z.1) z.1, z.2)
+
+pub settled-by : (S : System) (R : Rules) (K : List Event) → IsLegal S R K → length K < 2 ^ 64 → (c : ℕ) → settled K c ≡ true → Settled K c
+settled-by S R [] legal room = λ c h. absurd (nothing-settled c h)
+settled-by S R (e ∷ K) legal room = λ c. settled-kind S R K e c legal.1 (omega arith) (row-of S R K e legal.0) (settled-by S R K legal.1 (omega arith) c)
+
+pub resumes-own : (S : System) (R : Rules) (K : List Event) (n : Name) (b : Back) → IsLegal S R K → length K < 2 ^ 64 → TaskRow S K n (Resume b) → (c w : ℕ) × (listed K c ≡ true) × (caller K c ≡ n) × (fetcher K c ≡ Some w) × Source K c w b
+unfolding Settled
+resumes-own S R K n b legal room r =
+    let c = r.1.0 in
+    let l = waits-in-call K n c r.1.1 in
+    let z = settled-by S R K legal room c r.1.2 in
+    (c, z.0, l.0, l.1, z.1, rw r.1.3 z.2)
+
+-- a number that was installed for a call's request settles the call, and is its reply
+pub Gave : List Event → ℕ → ℕ → Type 0
+Gave K c m = (settled K c ≡ true) × (reply K c ≡ Value (pos m))
+
+gave-kind : (S : System) (R : Rules) (K : List Event) (e : Event) (c r m : ℕ) → IsLegal S R K → length K < 2 ^ 64 → Row S R K e.who e.what → call_at K r ≡ Some c → (install_of K r ≡ Some (Ok m) → Gave K c m) → install_of (e ∷ K) r ≡ Some (Ok m) → Gave (e ∷ K) c m
+unfolding Gave settled
+gave-kind S R K e c r m legal room row q ih h =
+    elim (cases_Bool (installs_for K e c && is_first (queue K c) r)) [
+      | inl p ↦
+          let f = and_parts (installs_for K e c) (is_first (queue K c) r) p in
+          let w : e.what ≡ Install (Ok m) = number e.what (sym (installed-now e K c r q p) ∙ h) in
+          let s : settles K e c ≡ true = settling (queue K c) refl f.0 f.1 w in
+          (or_left (settles K e c) (settled K c) s, reply-now e K c s ∙ ap back_of w)
+      | inr p ↦
+          let z = ih (sym (installed-same e K c r q p) ∙ h) in
+          let n : settles K e c ≡ false = false_from_ne_true (settles K e c) (λ s. cc (settles-once S R K e c legal row s, z.0)) in
+          (or_right (settles K e c) (settled K c) z.0, reply-same e K c n ∙ z.1)
+    ]
+  where
+    number : (what : What) → installed what ≡ Some (Ok m) → what ≡ Install (Ok m)
+    number what k = grind arith
+
+    settling : (rs : List ℕ) → queue K c ≡ rs → installs_for K e c ≡ true → is_first rs r ≡ true → e.what ≡ Install (Ok m) → settles K e c ≡ true
+    settling [] z f g w = cc
+    settling (x ∷ rs) z f g w =
+        let s : is_send K x ≡ true = (first-own S R K c x rs legal room z).1.sends in
+        let y : first_sends K (queue K c) ≡ true = rw z s in
+        let v : gave e.what ≡ true = ap gave w in
+        grind arith
+
+-- a request that is put now has no install yet
+gave-step : (S : System) (R : Rules) (K : List Event) (e : Event) (c r m : ℕ) → IsLegal S R K → length K < 2 ^ 64 → Row S R K e.who e.what → (call_at K r ≡ Some c → install_of K r ≡ Some (Ok m) → Gave K c m) → call_at (e ∷ K) r ≡ Some c → install_of (e ∷ K) r ≡ Some (Ok m) → Gave (e ∷ K) c m
+gave-step S R K e c r m legal room row ih q h =
+    elim (cases_order r (length K)) [
+      | inl z ↦ absurd (cc (install-new e K, rw z at h))
+      | inr (inl l) ↦ let p : call_at K r ≡ Some c = sym (call-at-older e K r l) ∙ q in gave-kind S R K e c r m legal room row p (ih p) h
+      | inr (inr l) ↦ absurd (cc (call-at-above (e ∷ K) r (omega arith), q))
+    ]
+
+pub gave-number : (S : System) (R : Rules) (K : List Event) → IsLegal S R K → length K < 2 ^ 64 → (c r m : ℕ) → call_at K r ≡ Some c → install_of K r ≡ Some (Ok m) → Gave K c m
+gave-number S R [] legal room = λ c r m q h. grind (arith, call-at-above)
+gave-number S R (e ∷ K) legal room = λ c r m. gave-step S R K e c r m legal.1 (omega arith) (row-of S R K e legal.0) (gave-number S R K legal.1 (omega arith) c r m)
+
+-- a resume of such a call returns the number
+pub returns-installed : (S : System) (R : Rules) (K : List Event) (n : Name) (b : Back) → IsLegal S R K → length K < 2 ^ 64 → TaskRow S K n (Resume b) → (c r m : ℕ) → call_of K n ≡ Some c → call_at K r ≡ Some c → install_of K r ≡ Some (Ok m) → b ≡ Value (pos m)
+unfolding Gave
+returns-installed S R K n b legal room row c r m k q h = grind (arith, gave-number)
+
+-- ---- answers: whose they are, what causes them, and when they tell that a call is gone
 
 pub each : (S : System) (R : Rules) (P : List Event → Event → Type 0) → ((K : List Event) (e : Event) → IsLegal S R K → length K < 2 ^ 64 → IsStep S R K e → P K e)
     → (K : List Event) → IsLegal S R K → length K < 2 ^ 64 → Each P K
@@ -170,3 +407,44 @@ resumes-are-own S R K e legal room r n b who what = resumes-own S R K n b legal 
 
 pub resumes-installed : (S : System) (R : Rules) (K : List Event) (e : Event) → IsLegal S R K → length K < 2 ^ 64 → IsStep S R K e → ReturnsInstalled K e
 resumes-installed S R K e legal room r n b who what = returns-installed S R K n b legal room (rw (who, what) at (row-of S R K e r))
+
+-- ---- a call has one session, and what was accepted for it arrives
+
+-- a settled call is left by its return alone
+leaves-settled : (S : System) (R : Rules) (K : List Event) (c : ℕ) (a : Actor) (what : What) → IsLegal S R K → settled K c ≡ true → listed K c ≡ true → Row S R K a what
+    → (closes what || (leaves what && is_task a (caller K c))) ≡ true → (closes what || (returns what && is_task a (caller K c))) ≡ true
+leaves-settled S R K c (Task n) (Deliver sig effect) legal s l r u =
+    let q = name_eq-true n (caller K c) (go (name_eq n (caller K c)) u) in
+    let w : call_of K n ≡ Some c = rw q (waits-here S R K c legal l) in
+    absurd (both_ways (settled K c) (r.2 c w) s)
+  where
+    go : (b : Bool) → (false || (true && b)) ≡ true → b ≡ true
+    go b h = grind arith
+leaves-settled S R K c a what legal s l r u = grind arith
+
+pub arrives : (S : System) (R : Rules) (K : List Event) (e : Event) → IsLegal S R K → length K < 2 ^ 64 → IsStep S R K e → Arrives K e
+arrives S R K e legal room r c s l g = grind (arith, listed-below, listed-older, leaves-settled, row-of)
+
+-- a call is fetched once
+FetchedOnce : List Event → ℕ → Type 0
+FetchedOnce K c = (fetches_of K c ≤ 1) × (fetched K c ≡ false → fetches_of K c ≡ 0)
+
+once-kind : (S : System) (R : Rules) (K : List Event) (e : Event) (c : ℕ) → IsLegal S R K → length K < 2 ^ 64 → Row S R K e.who e.what → FetchedOnce K c → FetchedOnce (e ∷ K) c
+unfolding FetchedOnce
+once-kind S R K e c legal room r ih =
+    elim (cases_Bool (fetches e.what (id K c) && listed K c)) [
+      | inl q ↦
+          let f : fetched K c ≡ false = false_from_ne_true (fetched K c) (λ h. both_ways (fetches e.what (id K c) && listed K c) (refetch S R K e.who e.what c legal room r h) q) in
+          let z = ih.1 f in
+          unfold fetches_of fetched in rw q (omega arith, λ x. cc)
+      | inr q ↦ unfold fetches_of fetched in rw q (omega (arith, ih.0), λ x. omega (arith, ih.1 x))
+    ]
+
+fetched-once : (S : System) (R : Rules) (K : List Event) → IsLegal S R K → length K < 2 ^ 64 → (c : ℕ) → FetchedOnce K c
+unfolding FetchedOnce fetches_of
+fetched-once S R [] legal room = λ c. (omega arith, λ _. refl)
+fetched-once S R (e ∷ K) legal room = λ c. once-kind S R K e c legal.1 (omega arith) (row-of S R K e legal.0) (fetched-once S R K legal.1 (omega arith) c)
+
+pub one-session : (S : System) (R : Rules) (K : List Event) → IsLegal S R K → length K < 2 ^ 64 → OneSession K
+unfolding FetchedOnce
+one-session S R K legal room = λ c. (fetched-once S R K legal room c).0

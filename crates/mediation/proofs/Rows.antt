@@ -1,10 +1,10 @@
 -- What the step of an actor can be, kind by kind, and what it then tells.
-use Rattle.mediation.proofs.Common.{◌≡◌, ℕ, ◌+◌, ◌%◌, ◌^◌, Bool, true, false, not, List, [], ◌∷◌, length, Option, Some, None, refl, arith, if◌then◌else◌, ◌==◌, Ok, Err, Name, oldest, alive, next_pid}
-use Rattle.mediation.proofs.Common.{holder, mode, calls, settled, named, count, queue, next_signal, call_of, session, deed, Rules, Fetch, Open, OpenB, Ask, ReadD, ActD, PlantD, Put, Take, Answer}
-use Rattle.mediation.proofs.Common.{Let, System, step, task_step, worker_step, wait_step, reply, is_child, is_ended_child, recv_answer, oldest_unfetched, lives, check_answer, send_answer, with_id}
-use Rattle.mediation.proofs.Common.{owes_native, install_step, base_answer, read_answer, put_answer, mem, take_step, is_spent, is_start, IsStep, request_of, Event, Actor, Start, Task, Worker}
-use Rattle.mediation.proofs.Common.{Listener, What, Spawn, Enter, Resume, Deliver, Reap, Recv, OpenMem, Check, Send, LetGo, Skip, Native, Install, OpenBase, Read, Act, Plant, AddfdPut, AddfdTake}
-use Rattle.mediation.proofs.Common.{SpawnKind}
+use Rattle.mediation.proofs.Common.{◌≡◌, ℕ, ◌+◌, ◌%◌, ◌^◌, Bool, true, false, not, List, [], ◌∷◌, length, Option, Some, None, refl, arith, if◌then◌else◌, ◌==◌, Ok, Err, Name, oldest, alive}
+use Rattle.mediation.proofs.Common.{next_pid, holder, mode, calls, settled, named, count, queue, next_signal, call_of, session, deed, Rules, Fetch, Open, OpenB, Ask, ReadD, ActD, PlantD, Put, Take}
+use Rattle.mediation.proofs.Common.{Answer, Let, System, step, task_step, worker_step, wait_step, reply, is_child, is_ended_child, recv_answer, oldest_unfetched, lives, check_answer, send_answer}
+use Rattle.mediation.proofs.Common.{with_id, owes_native, install_step, base_answer, read_answer, put_answer, mem, take_step, is_spent, is_start, IsStep, request_of, Event, Actor, Start, Task}
+use Rattle.mediation.proofs.Common.{Worker, Listener, What, Spawn, Enter, Resume, Deliver, Reap, Recv, OpenMem, Check, Send, LetGo, Skip, Native, Install, OpenBase, Read, Act, Plant, AddfdPut}
+use Rattle.mediation.proofs.Common.{AddfdTake, SpawnKind}
 use Rattle.hist_model.specs.Signals.{effect_in_call, effect_outside}
 use Rattle.hist_model.specs.Steps.{living_step, instr_step, deliver_or, spawn_answer, found, next_instr, next_child, install_at, request_listed}
 use Rattle.hist_model.specs.declared.script.Instr.{Instr}

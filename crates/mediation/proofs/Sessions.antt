@@ -2,8 +2,8 @@
 use Rattle.mediation.proofs.Common.{◌<◌, ◌^◌, List, length, arith, Rules, System, IsLegal, Event}
 use Rattle.mediation.specs.Facts.{HandlesOwn, SessionsSettle}
 use Rattle.mediation.proofs.Handles.{steady}
-use Rattle.mediation.proofs.Waiting.{phases, at-call}
-use Rattle.mediation.proofs.Waited.{waits-now}
+use Rattle.mediation.proofs.Phases.{phases, at-call}
+use Rattle.mediation.proofs.Effects.{waits-now}
 
 pub handles-own : (S : System) (R : Rules) (K : List Event) → IsLegal S R K → length K < 2 ^ 64 → HandlesOwn K
 handles-own S R K legal room w c t g s p l = grind (arith, steady)

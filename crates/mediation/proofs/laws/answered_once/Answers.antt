@@ -1,4 +1,4 @@
-use Rattle.mediation.proofs.Once as lemma
+use Rattle.mediation.proofs.Calls as lemma
 use Rattle.mediation.proofs.laws.answered_once.Goals as goal
 
 pub returns : goal.returns

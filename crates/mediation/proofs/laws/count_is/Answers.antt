@@ -1,4 +1,4 @@
-use Rattle.mediation.proofs.Count as lemma
+use Rattle.mediation.proofs.Calls as lemma
 use Rattle.mediation.proofs.laws.count_is.Goals as goal
 
 pub returns : goal.returns

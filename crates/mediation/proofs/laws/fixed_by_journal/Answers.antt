@@ -1,4 +1,4 @@
-use Rattle.mediation.proofs.Journal as lemma
+use Rattle.mediation.proofs.Journals as lemma
 use Rattle.mediation.proofs.laws.fixed_by_journal.Goals as goal
 
 pub returns : goal.returns

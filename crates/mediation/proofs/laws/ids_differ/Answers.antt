@@ -1,4 +1,4 @@
-use Rattle.mediation.proofs.Ids as lemma
+use Rattle.mediation.proofs.Calls as lemma
 use Rattle.mediation.proofs.laws.ids_differ.Goals as goal
 
 pub returns : goal.returns

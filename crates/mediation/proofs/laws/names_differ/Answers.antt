@@ -1,4 +1,4 @@
-use Rattle.mediation.proofs.Fresh as lemma
+use Rattle.mediation.proofs.Tasks as lemma
 use Rattle.mediation.proofs.laws.names_differ.Goals as goal
 
 pub returns : goal.returns

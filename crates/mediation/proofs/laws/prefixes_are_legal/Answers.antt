@@ -1,4 +1,4 @@
-use Rattle.mediation.proofs.Before as lemma
+use Rattle.mediation.proofs.Calls as lemma
 use Rattle.mediation.proofs.laws.prefixes_are_legal.Goals as goal
 
 pub returns : goal.returns

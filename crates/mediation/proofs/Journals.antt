@@ -1,15 +1,67 @@
--- A legal history is fixed by the text of its journal.
-use Rattle.mediation.proofs.Common.{◌≡◌, ℕ, ◌<◌, ◌≤◌, ◌^◌, true, List, [], ◌∷◌, ◌++◌, length, refl, sym, ap, ap₂, ◌∙◌, arith, codes, leb-true, eqb-false, Name, ev, is_made, Rules, System, IsStep}
-use Rattle.mediation.proofs.Common.{IsLegal, is_actor, start, step, task_step, Event, Actor, Start, Task, Worker, Listener, Skip, Policy, Script}
+-- A legal history is fixed by its actors, and by the text of its journal; legality reads the same by places.
+use Rattle.mediation.proofs.Common.{◌≡◌, ◌⊎◌, inl, inr, ℕ, zero, suc, ◌+◌, ◌<◌, ◌≤◌, List, [], ◌∷◌, length, reverse, refl, ap, ap₂, ◌∙◌, arith, reverse-append, Rules, System, IsStep, IsLegal, Event}
+use Rattle.mediation.proofs.Common.{Actor, ◌^◌, true, ◌++◌, sym, codes, leb-true, eqb-false, Name, ev, is_made, is_actor, start, step, task_step, Start, Task, Worker, Listener, Skip, Policy, Script}
+use Rattle.std.proofs.Common.{take, get_or, add-one}
+use Rattle.std.proofs.Math.Seq.{take-length}
+use Rattle.std.proofs.lemmas.List.{take_more, append_assoc, append_cancel_left}
 use Rattle.std.specs.Prelude.{◌+◌, ◌%◌, ◌*◌}
 use Rattle.std.specs.Fmt.{decimal, digits}
 use Rattle.std.specs.List.{flat_map}
-use Rattle.std.proofs.lemmas.List.{append_assoc, append_cancel_left}
 use Rattle.std.proofs.lemmas.Fmt.{decimal_injective, decimal_by_steps, decimal_nonempty}
 use Rattle.hist_model.specs.ReportWords.{name_text, actor_text}
 use Rattle.hist_model.specs.ReportJournal.{what_text, event_line, journal_line, lines_of, journal}
-use Rattle.mediation.specs.Journals.{IsWritten, IsNamed, AreNamed, FixedByJournal, SharesJournal}
-use Rattle.mediation.proofs.Determined.{same-step}
+use Rattle.mediation.specs.Journals.{actors, IsLegalByPlace, IsWritten, IsNamed, AreNamed, FixedByJournal, SharesJournal}
+
+-- ---- a legal history is fixed by its actors, and legality reads the same by places
+
+same-event : (d e : Event) → d.who ≡ e.who → d.what ≡ e.what → d ≡ e
+same-event d e p q = λ i. record { who = p i; what = q i }
+
+pub same-step : (S : System) (R : Rules) (K : List Event) (d e : Event) → IsStep S R K d → IsStep S R K e → d.who ≡ e.who → d ≡ e
+same-step S R K d e p q h = grind arith
+
+heads : (a b : Actor) (xs ys : List Actor) → a ∷ xs ≡ b ∷ ys → (a ≡ b) × (xs ≡ ys)
+heads a b xs ys h = (cc, cc)
+
+pub determined : (S : System) (R : Rules) (K L : List Event) → IsLegal S R K → IsLegal S R L → actors K ≡ actors L → K ≡ L
+determined S R [] [] p q h = refl
+determined S R [] (e ∷ L) p q h = cc
+determined S R (d ∷ K) [] p q h = cc
+determined S R (d ∷ K) (e ∷ L) p q h =
+    let t = heads d.who e.who (actors K) (actors L) h in
+    let r = determined S R K L p.1 q.1 t.1 in
+    let v : IsStep S R K e = rw (← r) at q.0 in
+    ap₂ (λ x xs. x ∷ xs) (same-step S R K d e p.0 v t.0) r
+
+past_more : (xs : List Event) (i : ℕ) (d : Event) → i < length xs → reverse (take (i + 1) xs) ≡ get_or xs i d ∷ reverse (take i xs)
+past_more xs i d h = ap reverse (take_more xs i d h) ∙ reverse-append (take i xs) (get_or xs i d ∷ [])
+
+by-place : (S : System) (R : Rules) (H : List Event) (d : Event) → IsLegalByPlace S R H → (n : ℕ) → n ≤ length H → IsLegal S R (reverse (take n H))
+by-place S R H d h zero l = tt
+by-place S R H d h (suc n) l =
+    let q : reverse (take (suc n) H) ≡ get_or H n d ∷ reverse (take n H) = rw add-one at (past_more H n d (omega arith)) in
+    rw q (h n d (omega arith), by-place S R H d h n (omega arith))
+
+pub legal-by-place : (S : System) (R : Rules) (H : List Event) (d : Event) → IsLegalByPlace S R H → IsLegal S R (reverse H)
+legal-by-place S R H d h = rw take-length at (by-place S R H d h (length H) (omega arith))
+
+places-of : (S : System) (R : Rules) (H : List Event) (n : ℕ) → n ≤ length H → IsLegal S R (reverse (take n H)) → (i : ℕ) (d : Event) → i < n → IsStep S R (reverse (take i H)) (get_or H i d)
+places-of S R H zero l legal i d h = absurd (omega arith)
+places-of S R H (suc n) l legal i d h =
+    let q : reverse (take (suc n) H) ≡ get_or H n d ∷ reverse (take n H) = rw add-one at (past_more H n d (omega arith)) in
+    let v : IsLegal S R (get_or H n d ∷ reverse (take n H)) = rw q at legal in
+    elim (last i n h) [
+      | inl m ↦ places-of S R H n (omega arith) v.1 i d m
+      | inr m ↦ rw m v.0
+    ]
+  where
+    last : (i n : ℕ) → i < suc n → (i < n) ⊎ (i ≡ n)
+    last i n h = grind arith
+
+pub place-of-legal : (S : System) (R : Rules) (H : List Event) → IsLegal S R (reverse H) → IsLegalByPlace S R H
+place-of-legal S R H legal i d h = places-of S R H (length H) (omega arith) (rw take-length legal) i d h
+
+-- ---- a legal history is fixed by the text of its journal
 
 -- digits, and what may follow them: all that separates words comes before the digits
 High : List ℕ → Type 0

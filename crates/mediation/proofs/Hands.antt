@@ -1,15 +1,16 @@
--- A worker's open session, and its call.
+-- A worker's open session and the call that it has in hand.
 use Rattle.mediation.proofs.Common.{◌≡◌, ◌⊎◌, inl, inr, ℕ, ◌<◌, Bool, true, false, ◌&&◌, not, List, [], ◌∷◌, length, Option, Some, None, refl, sym, ap, ◌∙◌, arith, Ok, Err, cases_Bool, and_parts}
 use Rattle.mediation.proofs.Common.{eq-eqb, ev, event_at, is_worker, is_made, pid_of, ended, fetched, caller, id, is_call, Rules, Fetch, session, skips, starts, joined, notif_of, fetched_by, any_of}
 use Rattle.mediation.proofs.Common.{is_letgo, System, IsStep, IsLegal, session_call, call_after, mem, mem_after, base, base_after, oldest_unfetched, task_place, pid_or, notif, Event, Actor, What}
-use Rattle.mediation.proofs.Common.{Recv, OpenMem, OpenBase, Check, Read, Act, Plant, AddfdPut, AddfdTake, Send, LetGo, Notif, event_at-older}
+use Rattle.mediation.proofs.Common.{Recv, OpenMem, OpenBase, Check, Read, Act, Plant, AddfdPut, AddfdTake, Send, LetGo, Notif, event_at-older, ◌^◌, ◌==◌, and_from, listed, named, oldest-some}
+use Rattle.mediation.proofs.Common.{oldest-found}
 use Rattle.hist_model.specs.Steps.{pid_at}
 use Rattle.mediation.proofs.Rows.{WorkerRow, row-of}
-use Rattle.mediation.proofs.Own.{calls_are_last, listed-below}
-use Rattle.mediation.proofs.Ids.{listed-is_call, is_call-below}
-use Rattle.mediation.proofs.Count.{fetching, fetched-now, fetched-more}
+use Rattle.mediation.proofs.Tasks.{calls_are_last, listed-below, place-stays, place-is, made-place, makes-pid}
+use Rattle.mediation.proofs.Calls.{listed-is_call, is_call-below, fetching, fetched-now, fetched-more, call-ids}
 use Rattle.mediation.proofs.Deeds.{AtWork, deed-is}
-use Rattle.mediation.proofs.Places.{place-stays, place-is, made-place, makes-pid}
+
+-- ---- a worker's open session, and its call
 
 -- the row of a worker's step
 pub worker-row : (S : System) (R : Rules) (K : List Event) (e : Event) (w : ℕ) → IsStep S R K e → is_worker e.who w ≡ true → WorkerRow S R K w e.what
@@ -229,3 +230,78 @@ pub hand : (S : System) (R : Rules) (K : List Event) → IsLegal S R K → (w : 
 unfolding session_call session mem base
 hand S R [] legal = λ w. record { none = inl refl; mem_none = refl; base_none = refl }
 hand S R (e ∷ K) legal = λ w. hand-step S R K e w legal.1 legal.0 (hand S R K legal.1 w)
+
+-- ---- what holds of a call in a worker's hand, by induction on the steps since it was fetched
+
+no-call : (w c : ℕ) → session_call [] w ≡ Some c → ⊥
+unfolding session_call
+no-call w c h = cc
+
+-- the call in hand
+pub in-hand-of : (S : System) (R : Rules) (K : List Event) (w c : ℕ) → IsLegal S R K → session_call K w ≡ Some c → InSession K w c
+in-hand-of S R K w c legal h = rw h at (hand S R K legal w)
+
+-- a fact of calls in hand is there after the worker's receive
+abbrev pub FetchKept : System → Rules → (List Event → ℕ → ℕ → Type 0) → Type 0
+FetchKept S R P = (K : List Event) (a : Actor) (w c : ℕ) (n : Notif) → IsStep S R K (ev a (Recv (Ok n))) → IsLegal S R K → length (ev a (Recv (Ok n)) ∷ K) < 2 ^ 64 → is_worker a w ≡ true
+    → WorkerRow S R K w (Recv (Ok n)) → oldest_unfetched K ≡ Some c → Idle K w → P (ev a (Recv (Ok n)) ∷ K) w c
+
+-- a step of the session keeps it
+abbrev pub WorkKept : System → Rules → (List Event → ℕ → ℕ → Type 0) → Type 0
+WorkKept S R P = (K : List Event) (a : Actor) (w c : ℕ) (what : What) → IsStep S R K (ev a what) → IsLegal S R K → length (ev a what ∷ K) < 2 ^ 64 → is_worker a w ≡ true
+    → WorkerRow S R K w what → works what ≡ true → (i : InSession K w c) → session_call K w ≡ Some c → session (ev a what ∷ K) w ≡ what ∷ session K w → P K w c → P (ev a what ∷ K) w c
+
+-- a step of another, or a skip, keeps it
+abbrev pub StillKept : System → Rules → (List Event → ℕ → ℕ → Type 0) → Type 0
+StillKept S R P = (K : List Event) (e : Event) (w c : ℕ) → IsStep S R K e → IsLegal S R K → length (e ∷ K) < 2 ^ 64 → (is_worker e.who w && not (skips e.what)) ≡ false
+    → (i : InSession K w c) → session_call K w ≡ Some c → session (e ∷ K) w ≡ session K w → P K w c → P (e ∷ K) w c
+
+-- and each step does
+pub record StepKept (S : System) (R : Rules) (P : List Event → ℕ → ℕ → Type 0) : Type 0 where
+  pub fetch : FetchKept S R P
+  pub work : WorkKept S R P
+  pub still : StillKept S R P
+
+module _ (S : System) (R : Rules) (P : List Event → ℕ → ℕ → Type 0) (k : StepKept S R P) where
+  module _ (K : List Event) (w : ℕ) (legal : IsLegal S R K) (ih : (c : ℕ) → session_call K w ≡ Some c → P K w c) where
+    fetch-step : (a : Actor) (n : Notif) (c : ℕ) → IsStep S R K (ev a (Recv (Ok n))) → length (ev a (Recv (Ok n)) ∷ K) < 2 ^ 64 → is_worker a w ≡ true → WorkerRow S R K w (Recv (Ok n)) → session_call (ev a (Recv (Ok n)) ∷ K) w ≡ Some c → P (ev a (Recv (Ok n)) ∷ K) w c
+    fetch-step a n c r room q row h = k.fetch K a w c n r legal room q row (sym (call-more (ev a (Recv (Ok n))) K w q) ∙ h) (idle (session_call K w) (hand S R K legal w))
+      where
+        idle : (o : Option ℕ) → Hand K w o → Idle K w
+        idle None i = i
+        idle (Some d) i = absurd (no-fetch K w d i (deed-is R (session K w) Fetch row.0))
+
+    work-step : (a : Actor) (what : What) (c : ℕ) → IsStep S R K (ev a what) → length (ev a what ∷ K) < 2 ^ 64 → is_worker a w ≡ true → WorkerRow S R K w what → works what ≡ true → session_call (ev a what ∷ K) w ≡ Some c → P (ev a what ∷ K) w c
+    work-step a what c r room q row g h = grind (arith, works-keep, call-more, in-hand-of, session-more, grown)
+
+    session-step : (a : Actor) (what : What) (c : ℕ) → IsStep S R K (ev a what) → length (ev a what ∷ K) < 2 ^ 64 → is_worker a w ≡ true → skips what ≡ false → WorkerRow S R K w what → session_call (ev a what ∷ K) w ≡ Some c → P (ev a what ∷ K) w c
+    session-step a (Recv (Ok n)) c r room q z row h = fetch-step a n c r room q row h
+    session-step a (Recv (Err x)) c r room q z row h =
+        let s : session_call K w ≡ Some c = sym (call-more (ev a (Recv (Err x))) K w q) ∙ h in
+        absurd (no-fetch K w c (in-hand-of S R K w c legal s) (deed-is R (session K w) Fetch row.0))
+    session-step a LetGo c r room q z row h = cc (call-more (ev a LetGo) K w q, h)
+    session-step a what c r room q z row h = work-step a what c r room q row (grind arith) h
+
+    step : (e : Event) (c : ℕ) → IsStep S R K e → length (e ∷ K) < 2 ^ 64 → session_call (e ∷ K) w ≡ Some c → P (e ∷ K) w c
+    step e c r room h = grind (arith, session-step, worker-row, call-still, in-hand-of, session-same)
+
+  pub by-session : (K : List Event) → IsLegal S R K → length K < 2 ^ 64 → (w c : ℕ) → session_call K w ≡ Some c → P K w c
+  by-session [] legal room = λ w c h. absurd (no-call w c h)
+  by-session (e ∷ K) legal room = λ w c h. step K w legal.1 (by-session K legal.1 (omega arith) w) e c legal.0 room h
+
+-- ---- what a session names is its own call or nothing
+
+pub named-is : (K : List Event) (x d : ℕ) → named K x ≡ Some d → (listed K d ≡ true) × (id K d ≡ x)
+unfolding named
+named-is K x d q = grind (arith, oldest-some)
+
+-- of a call in hand
+pub names-own : (S : System) (R : Rules) (K : List Event) (w c d : ℕ) → IsLegal S R K → length K < 2 ^ 64 → (i : InSession K w c) → named K i.n.id ≡ Some d → d ≡ c
+names-own S R K w c d legal b i q =
+    let s = named-is K i.n.id d q in
+    call-ids S R K legal b d c (listed-is_call K d s.0) i.call (s.1 ∙ i.id_is)
+
+-- a listed call's id names a call
+pub named-some : (K : List Event) (c x : ℕ) → listed K c ≡ true → id K c ≡ x → (d : ℕ) × (named K x ≡ Some d)
+unfolding named
+named-some K c x l q = oldest-found (λ d. listed K d && (id K d == x)) (length K) c (listed-below K c l) (and_from (listed K c) (id K c == x) l (eq-eqb (id K c) x q))
