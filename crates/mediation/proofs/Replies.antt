@@ -264,35 +264,18 @@ takes-row S R K a what r = grind arith
 pub taken-by-its-actor : (S : System) (R : Rules) (K : List Event) (e : Event) → IsLegal S R K → length K < 2 ^ 64 → IsStep S R K e → TakenByItsActor K e
 taken-by-its-actor S R K e legal room r = takes-row S R K e.who e.what (row-of S R K e r)
 
--- what an accepted step names
-sent-some : (K : List Event) (o : Option ℕ) (u : Unit {0}) → ◌≡◌ {A = Result (Unit {0}) ℕ} (Ok u) (send_answer K o) → (c : ℕ) × (o ≡ Some c)
-sent-some K o u h = grind arith
+is-some : (o : Option ℕ) → (o ≡ None → ⊥) → (c : ℕ) × (o ≡ Some c)
+is-some None h = absurd (h refl)
+is-some (Some c) h = (c, refl)
 
-put-some : (S : System) (K : List Event) (q : Addfd) (o : Option ℕ) (b : Bool) (u : Unit {0}) → ◌≡◌ {A = Result (Unit {0}) ℕ} (Ok u) (if b then Err 9 else put_answer S K q o) → (c : ℕ) × (o ≡ Some c)
-put-some S K q o true u h = grind (arith)
-put-some S K q None false u h = cc
-put-some S K q (Some c) false u h = (c, refl)
-
-named-place : (o : Option ℕ) (c : ℕ) → o ≡ Some c → is_place o c ≡ true
-named-place o c h = rw h (eq-eqb c c refl)
-
-names-row : (S : System) (R : Rules) (K : List Event) (a : Actor) (what : What) → IsLegal S R K → length K < 2 ^ 64 → Row S R K a what → is_accepted what ≡ true
-    → (w c : ℕ) × (a ≡ Worker w) × (session_call K w ≡ Some c) × ((puts_to K what c || answers K what c) ≡ true)
-names-row S R K (Worker w) (Send x b (Ok u)) legal room r h =
-    let f = sent-some K (named K x) u r.1 in
-    let p : (puts_to K (Send x b (Ok u)) f.0 || answers K (Send x b (Ok u)) f.0) ≡ true = named-place (named K x) f.0 f.1 in
-    (w, f.0, refl, acts-own S R K w f.0 (Send x b (Ok u)) legal room r p, p)
-names-row S R K (Worker w) (AddfdPut q (Ok u)) legal room r h =
-    let f = put-some S K q (named K q.id) (not (S.source q.srcfd)) u r.1 in
-    let p : (puts_to K (AddfdPut q (Ok u)) f.0 || answers K (AddfdPut q (Ok u)) f.0) ≡ true = or-here (is_place (named K q.id) f.0) (named-place (named K q.id) f.0 f.1) in
-    (w, f.0, refl, acts-own S R K w f.0 (AddfdPut q (Ok u)) legal room r p, p)
-  where
-    or-here : (b : Bool) → b ≡ true → (b || false) ≡ true
-    or-here b h = grind arith
-names-row S R K a what legal room r h = grind arith
+-- an accepted step names a call
+accepted : (S : System) (R : Rules) (K : List Event) (a : Actor) (what : What) → Row S R K a what → is_accepted what ≡ true → (w c : ℕ) × (a ≡ Worker w) × WorkerRow S R K w what × ((puts_to K what c || answers K what c) ≡ true)
+accepted S R K (Worker w) (Send x b (Ok u)) r h = let f = is-some (named K x) (λ n. cc (rw n at r.1)) in (w, f.0, refl, r, grind arith)
+accepted S R K (Worker w) (AddfdPut q (Ok u)) r h = let f = is-some (named K q.id) (λ n. let v = rw n at r.1 in grind arith) in (w, f.0, refl, r, grind arith)
+accepted S R K a what r h = grind arith
 
 pub names-own-call : (S : System) (R : Rules) (K : List Event) (e : Event) → IsLegal S R K → length K < 2 ^ 64 → IsStep S R K e → NamesOwn K e
-names-own-call S R K e legal room r h = names-row S R K e.who e.what legal room (row-of S R K e r) h
+names-own-call S R K e legal room r h = let f = accepted S R K e.who e.what (row-of S R K e r) h in (f.0, f.1, f.2, acts-own S R K f.0 f.1 e.what legal room f.3 f.4, f.4)
 
 module _ (S : System) (R : Rules) (K : List Event) (a : Actor) (w c : ℕ) (legal : IsLegal S R K) (room : length K < 2 ^ 64) (is_mine : is_worker a w ≡ true) (l : listed K c ≡ true) (h : AtCall K c w) (i : InSession K w c) where
   not-lost : (what : What) → WorkerRow S R K w what → is_lost what ≡ true → ⊥
@@ -327,10 +310,7 @@ names-nothing S R K w c legal room i g = go (named K i.n.id) refl
   where
     go : (o : Option ℕ) → named K i.n.id ≡ o → named K i.n.id ≡ None
     go None q = q
-    go (Some d) q =
-        let m = names-own S R K w c d legal room i q in
-        let l = (named-is K i.n.id d q).0 in
-        absurd (both_ways (listed K c) g (rw m at l))
+    go (Some d) q = let m = names-own S R K w c d legal room i q in let l = (named-is K i.n.id d q).0 in absurd (cc (g, rw m at l))
 
 install-known-step : (S : System) (R : Rules) (K : List Event) (e : Event) (p x : ℕ) → Row S R K e.who e.what → (install_of K p ≡ Some (Err x) → ((x == 9) || ((x == 24) || (x == 2))) ≡ true) → install_of (e ∷ K) p ≡ Some (Err x) → ((x == 9) || ((x == 24) || (x == 2))) ≡ true
 unfolding install_of
@@ -344,16 +324,10 @@ install-known : (S : System) (R : Rules) (K : List Event) → IsLegal S R K → 
 install-known S R [] legal = λ p x h. absurd (no-install-of p x h)
 install-known S R (e ∷ K) legal = λ p x. install-known-step S R K e p x (row-of S R K e legal.0) (install-known S R K legal.1 p x)
 
-err-same : (x y : ℕ) → ◌≡◌ {A = Result (Unit {0}) ℕ} (Err x) (Err y) → x ≡ y
-err-same x y h = cc
-
 -- the errors of a worker's steps
 module _ (S : System) (R : Rules) (K : List Event) (w : ℕ) (legal : IsLegal S R K) (room : length K < 2 ^ 64) where
   mine : is_worker (Worker w) w ≡ true
   mine = eq-eqb w w refl
-
-  id-same : (c : ℕ) (i : InSession K w c) (n : Notif) → AtWork (session K w) n → n ≡ i.n
-  id-same c i n k = grind arith
 
   send-known : (x : ℕ) (b : Back) (e : ℕ) → WorkerRow S R K w (Send x b (Err e)) → (e == 2) ≡ true
   send-known x b e r =
@@ -361,10 +335,7 @@ module _ (S : System) (R : Rules) (K : List Event) (w : ℕ) (legal : IsLegal S 
       let j = in-hand K w (session_call K w) t.0 t.1 (hand S R K legal w) in
       elim (cases_Bool (listed K j.0)) [
         | inl l ↦ cc (send-is S R K (Worker w) w j.0 legal room mine l (at-call S R K w j.0 legal room j.1 l) j.2 x b (Err e) r).0
-        | inr g ↦
-            let q : x ≡ j.2.n.id = t.4 ∙ ap (λ (z : Notif). z.id) (id-same j.0 j.2 t.0 t.1) in
-            let m = err-same e 2 (rw (q, names-nothing S R K w j.0 legal room j.2 g) at r.1) in
-            rw m
+        | inr g ↦ let q : x ≡ j.2.n.id = grind arith in let v = rw (q, names-nothing S R K w j.0 legal room j.2 g) at r.1 in grind arith
       ]
 
   put-known : (q : Addfd) (e : ℕ) → WorkerRow S R K w (AddfdPut q (Err e)) → ((e == 9) || (e == 2)) ≡ true
@@ -372,23 +343,9 @@ module _ (S : System) (R : Rules) (K : List Event) (w : ℕ) (legal : IsLegal S 
       let t = deed-is R (session K w) (Put q) r.0 in
       let j = in-hand K w (session_call K w) t.0 t.1 (hand S R K legal w) in
       elim (cases_Bool (listed K j.0)) [
-        | inl l ↦ kept (put-is S R K (Worker w) w j.0 legal room mine l (at-call S R K w j.0 legal room j.1 l) j.2 q (Err e) r)
-        | inr g ↦
-            let z : q.id ≡ j.2.n.id = ap (λ (v : Addfd). v.id) t.4.is ∙ (id-of t.4.src t.4.place t.4.flags t.0.id ∙ ap (λ (v : Notif). v.id) (id-same j.0 j.2 t.0 t.1)) in
-            gone (S.source q.srcfd) (rw (z, names-nothing S R K w j.0 legal room j.2 g) at r.1)
+        | inl l ↦ let z = put-is S R K (Worker w) w j.0 legal room mine l (at-call S R K w j.0 legal room j.1 l) j.2 q (Err e) r in grind arith
+        | inr g ↦ let z : q.id ≡ j.2.n.id = grind arith in let v = rw (z, names-nothing S R K w j.0 legal room j.2 g) at r.1 in grind arith
       ]
-    where
-      id-of : (src : ℕ) (p : Option ℕ) (fl x : ℕ) → (addfd_of x src p fl).id ≡ x
-      id-of src None fl x = refl
-      id-of src (Some at) fl x = refl
-
-      kept : ◌⊎◌ (◌≡◌ {A = Result (Unit {0}) ℕ} (Err e) (Ok tt)) (◌≡◌ {A = Result (Unit {0}) ℕ} (Err e) (Err 9)) → ((e == 9) || (e == 2)) ≡ true
-      kept (inl h) = cc
-      kept (inr h) = rw (err-same e 9 h)
-
-      gone : (v : Bool) → ◌≡◌ {A = Result (Unit {0}) ℕ} (Err e) (if not v then Err 9 else Err 2) → ((e == 9) || (e == 2)) ≡ true
-      gone true h = rw (err-same e 2 h)
-      gone false h = rw (err-same e 9 h)
 
 pub errors-known : (S : System) (R : Rules) (K : List Event) (e : Event) → IsLegal S R K → length K < 2 ^ 64 → IsStep S R K e → ErrorsKnown K e
 errors-known S R K e legal room r = grind (arith, row-of, taken-by-its-actor, send-known, put-known, install-known)
