@@ -438,14 +438,7 @@ module _ (S : System) (R : Rules) (K : List Event) (a : Actor) (w c : ℕ) (lega
   mine-send x b y r = let z = send-is x b y r in worked (Send x b y) r refl (λ _. rw z.0 (unfold settled in rw (z.1, eq-eqb c c refl))) (λ u. cc)
 
   mine-skip : AtCall (ev a Skip ∷ K) c w
-  mine-skip =
-      let e = ev a Skip in
-      let s : session (e ∷ K) w ≡ session K w = session-same e K w (grind arith) in
-      record {
-        in_hand = call-more e K w is_mine ∙ h.in_hand;
-        over = λ z. settled-more e K c (h.over (rw s at z));
-        stage = rw s (λ z. stage-calm e K c w (first_some put_in (session K w)) (first_some take_in (session K w)) (record { no_put = refl; no_install = refl; no_answer = refl }) (request-more e K w is_mine) (h.stage z));
-      }
+  mine-skip = grind (arith, session-same, call-more, settled-more, stage-calm, request-more)
 
   pub mine-phase : (what : What) → WorkerRow S R K w what → AtCall (ev a what ∷ K) c w ⊎ ((settled (ev a what ∷ K) c ≡ true) × (session_call (ev a what ∷ K) w ≡ Some c → ⊥))
   mine-phase (Recv x) r = let t = deed-is R (session K w) Fetch r.0 in absurd (grind arith)
