@@ -1,4 +1,5 @@
 -- The steps of a session stand in order, and what it decided stays.
+use Rattle.hist_model.specs.Orders.{uses_copy}
 use Rattle.mediation.proofs.Common.{◌≡◌, inl, inr, ℕ, Bool, true, false, ◌||◌, List, [], ◌∷◌, Option, Some, None, refl, sym, ap, ◌∙◌, arith, ◌==◌, Result, Ok, cases_Bool, Rules, Fetch, Open, OpenB}
 use Rattle.mediation.proofs.Common.{Ask, ReadD, ActD, PlantD, Put, Take, Answer, Let, Decision, Injects, fetched_by, deed, session, starts, joined, notif_of, any_of, is_read, reads_of, first_some}
 use Rattle.mediation.proofs.Common.{put_in, take_in, checks, number_of, System, is_acting, IsStep, IsLegal, Event, What, Recv, OpenMem, OpenBase, Check, Read, Act, Plant, AddfdPut, AddfdTake, Send}
@@ -49,9 +50,6 @@ pub record Fixed (R : Rules) (D : Decision → Type 0) (own : List What) (n : No
   pub sound : R.fault n (reads_of own) ≡ None
   pub decided : D (R.decide n (reads_of own))
 
-some-notif : (a b : Notif) → Some a ≡ Some b → a ≡ b
-some-notif a b h = cc
-
 no-start : (a : What) → starts a ≡ false → fetched_by a ≡ None
 no-start a h = grind arith
 
@@ -66,7 +64,7 @@ module _ (R : Rules) (D : Decision → Type 0) (uses : What → Bool)
   fixed-later : (own : List What) (n : Notif) (a : What) → Suits R own a → notif_of own ≡ Some n → Fixed R D own n → Fixed R D (a ∷ own) n
   fixed-later own n (Read y l z) s h f =
       let t = deed-is R own _ s in
-      let m : t.0 ≡ n = some-notif t.0 n (sym t.1.notif_is ∙ h) in
+      let m : t.0 ≡ n = cc (t.1.notif_is, h) in
       let g : R.next_piece n (reads_of own) ≡ Some (y, l) = rw m at t.4 in
       absurd (cc (sym f.copied ∙ g))
   fixed-later own n (Check y z) s h f =
@@ -76,11 +74,8 @@ module _ (R : Rules) (D : Decision → Type 0) (uses : What → Bool)
 
   pub use-fixed : (own : List What) (n : Notif) → IsOwn R own → notif_of own ≡ Some n → any_of uses own ≡ true → Fixed R D own n
   use-fixed [] n i h u = cc
-  use-fixed (a ∷ []) n i h u = absurd (clash (starts a) i (apart a (or-false (uses a) u)).2)
+  use-fixed (a ∷ []) n i h u = let p = apart a (or-false (uses a) u) in absurd (cc (i, p.2))
     where
-      clash : (b : Bool) → b ≡ true → b ≡ false → ⊥
-      clash b g k = cc
-
       or-false : (b : Bool) → (b || false) ≡ true → b ≡ true
       or-false b k = grind arith
   use-fixed (a ∷ b ∷ own) n i h u =
@@ -88,7 +83,7 @@ module _ (R : Rules) (D : Decision → Type 0) (uses : What → Bool)
       elim (cases_Bool (uses a)) [
         | inl v ↦
             let t = found (b ∷ own) a i.0 v in
-            let m : t.0 ≡ n = some-notif t.0 n (sym t.1 ∙ q) in
+            let m : t.0 ≡ n = cc (t.1, q) in
             let p = apart a v in
             later (b ∷ own) n a p.0 p.1 (rw m at t.2)
         | inr v ↦ fixed-later (b ∷ own) n a i.0 q (use-fixed (b ∷ own) n i.2 q (rw v at u))
@@ -113,8 +108,7 @@ put-apart a h = grind arith
 
 put-any : (own : List What) (x : Result (Unit {0}) ℕ) → first_some put_in own ≡ Some x → any_of is_put own ≡ true
 put-any [] x h = cc
-put-any (AddfdPut q y ∷ own) x h = refl
-put-any (a ∷ own) x h = put-any own x h
+put-any (a ∷ own) x h = let ih = put-any own x in grind arith
 
 pub put-fixed : (R : Rules) (own : List What) (n : Notif) (x : Result (Unit {0}) ℕ) → IsOwn R own → notif_of own ≡ Some n → first_some put_in own ≡ Some x → Fixed R IsInjection own n
 put-fixed R own n x i h p = use-fixed R IsInjection is_put (put-found R) put-apart own n i h (put-any own x p)
@@ -159,22 +153,15 @@ take-after_put R (a ∷ b ∷ own) t i h = take-after_put R (b ∷ own) t i.2 h
 -- before the end each check was good
 goods : (own : List What) → any_of gives_up own ≡ false → number_of is_good_check own ≡ number_of checks own
 goods [] h = refl
-goods (a ∷ own) h =
-    let p = or_parts (gives_up a) (any_of gives_up own) h in
-    rw (one a p.0, goods own p.1)
-  where
-    one : (a : What) → gives_up a ≡ false → is_good_check a ≡ checks a
-    one (Check x (Ok u)) h = refl
-    one (Check x (Err e)) h = cc
-    one a h = refl
+goods (a ∷ own) h = let ih = goods own in grind arith
 
 none-of : (own : List What) → any_of checks own ≡ false → number_of checks own ≡ 0
 none-of [] h = refl
-none-of (a ∷ own) h = let p = or_parts (checks a) (any_of checks own) h in rw (p.0, none-of own p.1)
+none-of (a ∷ own) h = let ih = none-of own in grind arith
 
 some-of : (own : List What) → any_of checks own ≡ true → 0 < number_of checks own
 some-of [] h = cc
-some-of (a ∷ own) h = elim (cases_Bool (checks a)) [ inl q ↦ rw q (omega arith) | inr q ↦ rw q (some-of own (rw q at h)) ]
+some-of (a ∷ own) h = let ih = some-of own in grind arith
 
 -- at most two checks, and after the second the copy is complete
 pub record Checked (R : Rules) (own : List What) : Type 0 where
@@ -183,9 +170,6 @@ pub record Checked (R : Rules) (own : List What) : Type 0 where
   pub opened : (0 < number_of checks own) → any_of opens own ≡ true
   pub based : (n : Notif) → notif_of own ≡ Some n → (0 < number_of checks own) → (R.dirfd n ≡ None) ⊎ (any_of opens_base own ≡ true)
   pub order : InOrder own
-
-same : (m n : Notif) → Some m ≡ Some n → m ≡ n
-same m n h = cc
 
 -- a step that is no check, no opening, no read and no use
 plain : (R : Rules) (own : List What) (a : What) → checks a ≡ false → is_read a ≡ false → (any_of opens own ≡ true → any_of opens (a ∷ own) ≡ true) → (any_of opens_base own ≡ true → any_of opens_base (a ∷ own) ≡ true)
@@ -200,6 +184,10 @@ used-two R own n work c ih =
     let m = ih.most in
     omega arith
 
+-- a use of the copy
+use-step : (R : Rules) (own : List What) (a : What) (n : Notif) → uses_copy a ≡ true → AtWork own n → HasCopied R own n → Checked R own → Checked R (a ∷ own)
+use-step R own a n u work c ih = let two = used-two R own n work c ih in grind (arith, plain)
+
 pub ordered : (R : Rules) (own : List What) → IsOwn R own → Checked R own
 ordered R [] i = record { most = omega arith; complete = λ n h. cc; opened = λ h. absurd (omega arith); based = λ n h. cc; order = tt }
 ordered R (a ∷ []) i = grind (arith)
@@ -210,10 +198,10 @@ ordered R (Check x y ∷ b ∷ own) i =
       most = elim t.4 [ inl q ↦ omega (arith, none-of (b ∷ own) q) | inr q ↦ omega (arith, eqb-true (number_of checks (b ∷ own)) 1 q.0) ];
       complete = λ n h e. elim t.4 [
         | inl q ↦ absurd (omega (arith, none-of (b ∷ own) q))
-        | inr q ↦ let m = same t.0 n (sym t.1.notif_is ∙ h) in rw m at q.1
+        | inr q ↦ let m : t.0 ≡ n = cc (t.1.notif_is, h) in rw m at q.1
       ];
       opened = λ h. t.2.mem;
-      based = λ n h e. let m = same t.0 n (sym t.1.notif_is ∙ h) in rw m at t.2.base;
+      based = λ n h e. let m : t.0 ≡ n = cc (t.1.notif_is, h) in rw m at t.2.base;
       order = (λ h. cc, λ h. cc, λ h. cc, ih.order);
     }
 ordered R (Read x l y ∷ b ∷ own) i =
@@ -221,50 +209,32 @@ ordered R (Read x l y ∷ b ∷ own) i =
     let ih = ordered R (b ∷ own) i.2 in
     record {
       most = ih.most;
-      complete = λ n h e. absurd (none-some (x, l) (let m = same t.0 n (sym t.1.notif_is ∙ h) in sym (ih.complete n h e) ∙ rw m at t.4));
+      complete = λ n h e. let m : t.0 ≡ n = cc (t.1.notif_is, h) in absurd (cc (ih.complete n h e, rw m at t.4));
       opened = ih.opened;
       based = ih.based;
       order = (
         λ h. cc,
         λ h. (let g = goods (b ∷ own) t.1.no_end in let p = some-of (b ∷ own) t.3 in let m = ih.most in
-            let two : number_of checks (b ∷ own) ≡ 2 → ⊥ = λ e. none-some (x, l) (sym (ih.complete t.0 t.1.notif_is e) ∙ t.4) in omega arith),
+            let two : number_of checks (b ∷ own) ≡ 2 → ⊥ = λ e. cc (ih.complete t.0 t.1.notif_is e, t.4) in omega arith),
         λ h. cc,
         ih.order,
       );
     }
-  where
-    none-some : (v : ℕ × ℕ) → None ≡ Some v → ⊥
-    none-some v h = cc
 ordered R (OpenMem p y ∷ b ∷ own) i =
     let t = deed-is R (b ∷ own) _ i.0 in
     let ih = ordered R (b ∷ own) i.2 in
     let g = goods (b ∷ own) t.1.no_end in
-    let no : (0 < number_of checks (b ∷ own)) → ⊥ = λ h. both_ways (any_of opens (b ∷ own)) t.2 (ih.opened h) in
+    let no : (0 < number_of checks (b ∷ own)) → ⊥ = λ h. cc (t.2, ih.opened h) in
     plain R (b ∷ own) (OpenMem p y) refl refl (λ h. refl) (λ h. h) (λ n h. h) ih (λ h. (omega arith), λ h. cc, λ h. cc, ih.order)
 ordered R (OpenBase p d y ∷ b ∷ own) i =
     let t = deed-is R (b ∷ own) _ i.0 in
     let ih = ordered R (b ∷ own) i.2 in
     let g = goods (b ∷ own) t.1.no_end in
-    let no : (0 < number_of checks (b ∷ own)) → ⊥ = λ h. elim (ih.based t.0 t.1.notif_is h) [ inl q ↦ none-some d (sym q ∙ t.5) | inr q ↦ both_ways (any_of opens_base (b ∷ own)) t.3 q ] in
+    let no : (0 < number_of checks (b ∷ own)) → ⊥ = λ h. elim (ih.based t.0 t.1.notif_is h) [ inl q ↦ cc (q, t.5) | inr q ↦ cc (t.3, q) ] in
     plain R (b ∷ own) (OpenBase p d y) refl refl (λ h. h) (λ h. refl) (λ n h. h) ih (λ h. (omega arith), λ h. cc, λ h. cc, ih.order)
-  where
-    none-some : (v : ℤ) → None ≡ Some v → ⊥
-    none-some v h = cc
-ordered R (Act q cap y ∷ b ∷ own) i =
-    let t = deed-is R (b ∷ own) _ i.0 in
-    let ih = ordered R (b ∷ own) i.2 in
-    plain R (b ∷ own) (Act q cap y) refl refl (λ h. h) (λ h. h) (λ n h. h) ih (λ h. cc, λ h. cc, λ h. used-two R (b ∷ own) t.0 t.1 t.3 ih, ih.order)
-ordered R (Plant x v cap y ∷ b ∷ own) i =
-    let t = deed-is R (b ∷ own) _ i.0 in
-    let ih = ordered R (b ∷ own) i.2 in
-    plain R (b ∷ own) (Plant x v cap y) refl refl (λ h. h) (λ h. h) (λ n h. h) ih (λ h. cc, λ h. cc, λ h. used-two R (b ∷ own) t.0 t.1 t.3 ih, ih.order)
-ordered R (AddfdPut q y ∷ b ∷ own) i =
-    let t = deed-is R (b ∷ own) _ i.0 in
-    let ih = ordered R (b ∷ own) i.2 in
-    plain R (b ∷ own) (AddfdPut q y) refl refl (λ h. h) (λ h. h) (λ n h. h) ih (λ h. cc, λ h. cc, λ h. used-two R (b ∷ own) t.0 t.1 t.3 ih, ih.order)
-ordered R (Send x v y ∷ b ∷ own) i =
-    let t = deed-is R (b ∷ own) _ i.0 in
-    let ih = ordered R (b ∷ own) i.2 in
-    plain R (b ∷ own) (Send x v y) refl refl (λ h. h) (λ h. h) (λ n h. h) ih (λ h. cc, λ h. cc, λ h. used-two R (b ∷ own) t.0 t.1 t.3 ih, ih.order)
+ordered R (Act q cap y ∷ b ∷ own) i = let t = deed-is R (b ∷ own) _ i.0 in use-step R (b ∷ own) (Act q cap y) t.0 refl t.1 t.3 (ordered R (b ∷ own) i.2)
+ordered R (Plant x v cap y ∷ b ∷ own) i = let t = deed-is R (b ∷ own) _ i.0 in use-step R (b ∷ own) (Plant x v cap y) t.0 refl t.1 t.3 (ordered R (b ∷ own) i.2)
+ordered R (AddfdPut q y ∷ b ∷ own) i = let t = deed-is R (b ∷ own) _ i.0 in use-step R (b ∷ own) (AddfdPut q y) t.0 refl t.1 t.3 (ordered R (b ∷ own) i.2)
+ordered R (Send x v y ∷ b ∷ own) i = let t = deed-is R (b ∷ own) _ i.0 in use-step R (b ∷ own) (Send x v y) t.0 refl t.1 t.3 (ordered R (b ∷ own) i.2)
 ordered R (Recv (Ok m) ∷ b ∷ own) i = grind (arith)
 ordered R (a ∷ b ∷ own) i = grind (arith, plain, ordered R (b ∷ own) i.2)
