@@ -127,8 +127,9 @@ waits-in-call K n c q = grind (arith, newest-some, name_eq-true)
 first-is : (rs : List ℕ) (r : ℕ) (more : List ℕ) → rs ≡ r ∷ more → is_first rs r ≡ true
 first-is rs r more q = rw q (eq-eqb r r refl)
 
-pub installs-own : (S : System) (R : Rules) (K : List Event) (n : Name) (x : Result ℕ ℕ) → IsLegal S R K → length K < 2 ^ 64 → TaskRow S K n (Install x) → (c r w : ℕ) × IsInstallOf K n c r w
-installs-own S R K n x legal room r =
+pub installs-are-own : (S : System) (R : Rules) (K : List Event) (e : Event) → IsLegal S R K → length K < 2 ^ 64 → IsStep S R K e → InstallsOwn K e
+installs-are-own S R K e legal room step n x who what =
+    let r : TaskRow S K n (Install x) = rw (who, what) at (row-of S R K e step) in
     let c = r.1.0 in
     let l = waits-in-call K n c r.1.1 in
     let i = install-first S K (Task n) x c (queue K c) refl r.1.1 r.1.3 in
@@ -194,9 +195,10 @@ pub settled-by : (S : System) (R : Rules) (K : List Event) → IsLegal S R K →
 settled-by S R [] legal room = λ c h. absurd (nothing-settled c h)
 settled-by S R (e ∷ K) legal room = λ c. settled-kind S R K e c legal.1 (omega arith) (row-of S R K e legal.0) (settled-by S R K legal.1 (omega arith) c)
 
-pub resumes-own : (S : System) (R : Rules) (K : List Event) (n : Name) (b : Back) → IsLegal S R K → length K < 2 ^ 64 → TaskRow S K n (Resume b) → (c w : ℕ) × (listed K c ≡ true) × (caller K c ≡ n) × (fetcher K c ≡ Some w) × Source K c w b
+pub resumes-are-own : (S : System) (R : Rules) (K : List Event) (e : Event) → IsLegal S R K → length K < 2 ^ 64 → IsStep S R K e → ResumesOwn K e
 unfolding Settled
-resumes-own S R K n b legal room r =
+resumes-are-own S R K e legal room step n b who what =
+    let r : TaskRow S K n (Resume b) = rw (who, what) at (row-of S R K e step) in
     let c = r.1.0 in
     let l = waits-in-call K n c r.1.1 in
     let z = settled-by S R K legal room c r.1.2 in
@@ -246,9 +248,9 @@ gave-number S R [] legal room = λ c r m q h. grind (arith, call-at-above)
 gave-number S R (e ∷ K) legal room = λ c r m. gave-step S R K e c r m legal.1 (omega arith) (row-of S R K e legal.0) (gave-number S R K legal.1 (omega arith) c r m)
 
 -- a resume of such a call returns the number
-pub returns-installed : (S : System) (R : Rules) (K : List Event) (n : Name) (b : Back) → IsLegal S R K → length K < 2 ^ 64 → TaskRow S K n (Resume b) → (c r m : ℕ) → call_of K n ≡ Some c → call_at K r ≡ Some c → install_of K r ≡ Some (Ok m) → b ≡ Value (pos m)
+pub resumes-installed : (S : System) (R : Rules) (K : List Event) (e : Event) → IsLegal S R K → length K < 2 ^ 64 → IsStep S R K e → ReturnsInstalled K e
 unfolding Gave
-returns-installed S R K n b legal room row c r m k q h = grind (arith, gave-number)
+resumes-installed S R K e legal room step n b who what c r m k q h = let row : TaskRow S K n (Resume b) = rw (who, what) at (row-of S R K e step) in grind (arith, gave-number)
 
 -- ---- answers: whose they are, what causes them, and when they tell that a call is gone
 
@@ -355,15 +357,6 @@ known-not-busy what h = grind arith
 
 pub never-busy : (S : System) (R : Rules) (K : List Event) (e : Event) → IsLegal S R K → length K < 2 ^ 64 → IsStep S R K e → NeverBusy K e
 never-busy S R K e legal room r = known-not-busy e.what (errors-known S R K e legal room r)
-
-pub installs-are-own : (S : System) (R : Rules) (K : List Event) (e : Event) → IsLegal S R K → length K < 2 ^ 64 → IsStep S R K e → InstallsOwn K e
-installs-are-own S R K e legal room r n x who what = installs-own S R K n x legal room (rw (who, what) at (row-of S R K e r))
-
-pub resumes-are-own : (S : System) (R : Rules) (K : List Event) (e : Event) → IsLegal S R K → length K < 2 ^ 64 → IsStep S R K e → ResumesOwn K e
-resumes-are-own S R K e legal room r n b who what = resumes-own S R K n b legal room (rw (who, what) at (row-of S R K e r))
-
-pub resumes-installed : (S : System) (R : Rules) (K : List Event) (e : Event) → IsLegal S R K → length K < 2 ^ 64 → IsStep S R K e → ReturnsInstalled K e
-resumes-installed S R K e legal room r n b who what = returns-installed S R K n b legal room (rw (who, what) at (row-of S R K e r))
 
 -- ---- a call has one session, and what was accepted for it arrives
 
