@@ -228,9 +228,7 @@ module _ (S : System) (R : Rules) where
   sent [] legal room = λ s w x b a h. grind (arith, event_at-above)
   sent (e ∷ K) legal room = λ s w x b a h. elim (below_or_last s (length K) (event_at-below (e ∷ K) s (ev (Worker w) (Send x b a)) h)) [
     | inl l ↦ sent-later K e s w x b a legal.0 l (sent K legal.1 (omega arith) s w x b a (sym (event_at-older e K s l) ∙ h))
-    | inr q ↦
-        let m : e ≡ ev (Worker w) (Send x b a) = cc (event_at-here e K, rw q at h) in
-        rw (q, m) (sent-now K w x b a legal.1 (omega arith) (rw m at legal.0))
+    | inr q ↦ grind (arith, event_at-here, sent-now)
   ]
 
 -- what the audit makes of it

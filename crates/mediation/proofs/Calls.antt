@@ -142,11 +142,7 @@ count_below-less p q (suc n) d l s t h =
           let same : p n ≡ q n = h n (omega arith) (omega arith) in
           let ih = count_below-less p q n d m s t (λ c k. h c (omega arith)) in
           rw (same, ih) (omega arith)
-      | inr m ↦
-          let s' : p n ≡ true = rw m at s in
-          let t' : q n ≡ false = rw m at t in
-          let ih = count_below-same p q n (λ c k. h c (omega arith) (omega arith)) in
-          rw (s', t', ih) (omega arith)
+      | inr m ↦ grind (arith, count_below-same)
     ]
 
 -- two parts
@@ -202,12 +198,7 @@ fetch-one S R K e d legal b q l f =
     gone = let n = fetched-now e K d (rw (same_id d) (eq-eqb (id K d) (id K d) refl)) l in grind arith
 
     others : (c : ℕ) → c < length K → (c ≡ d → ⊥) → unfetched K c ≡ unfetched (e ∷ K) c
-    others c k n = rw (event_at-older e K c k, fetched-same e K c (elsewhere c n))
-      where
-        elsewhere : (c : ℕ) → (c ≡ d → ⊥) → (fetches e.what (id K c) && listed K c) ≡ false
-        elsewhere c n = false_from_ne_true (fetches e.what (id K c) && listed K c) (λ h.
-            let p = and_parts (fetches e.what (id K c)) (listed K c) h in
-            n (ids_differ S R K legal b c d p.1 l (sym (eqb-true (id K d) (id K c) (rw same_id at p.0)))))
+    others c k n = grind (arith, event_at-older, fetched-same, ids_differ)
 
 pub fetching : (K : List Event) (n : Notif) (o : Option ℕ) → oldest_unfetched K ≡ o → Ok n ≡ recv_answer K o → (d : ℕ) × (n ≡ notif K d) × (listed K d ≡ true) × (fetched K d ≡ false) × (o ≡ Some d)
 unfolding oldest_unfetched
@@ -235,10 +226,7 @@ count_is S R K legal b =
     c.sum ∙ count_below-parts (unfetched K) (λ c. listed K c && not (fetched K c)) (λ c. is_call K c && (not (listed K c) && not (fetched K c))) (length K) parts
   where
     parts : (c : ℕ) → (if unfetched K c then 1 else 0) ≡ (if listed K c && not (fetched K c) then 1 else 0) + (if is_call K c && (not (listed K c) && not (fetched K c)) then 1 else 0)
-    parts c = elim (cases_Bool (listed K c)) [
-      | inl q ↦ rw (q, listed-is_call K c q) (grind arith)
-      | inr q ↦ rw q (grind arith)
-    ]
+    parts c = grind (arith, listed-is_call)
 
 -- ---- the events before a place
 

@@ -78,9 +78,7 @@ module _ (S : System) (R : Rules) where
   prefixes : (e : Event) (K : List Event) (w c : ℕ) → WaitedUntilChecked K w c → (is_until_checked (e ∷ K) w ≡ true → waiting (e ∷ K) c ≡ true) → WaitedUntilChecked (e ∷ K) w c
   prefixes e K w c old new p l s u =
       elim (below_or_last p (length (e ∷ K)) (omega arith)) [
-        | inl q ↦
-            let same : before (e ∷ K) p ≡ before K p = before-older e K p (omega arith) in
-            rw same (old p (omega arith) (rw same at s) (rw same at u))
+        | inl q ↦ grind (arith, before-older)
         | inr q ↦ let all : before (e ∷ K) p ≡ e ∷ K = before-all (e ∷ K) p (omega arith) in rw all (new (rw all at u))
       ]
 

@@ -36,8 +36,7 @@ module _ (S : System) (R : Rules) (K : List Event) (f : Finished K) where
   worker-idles w LetGo r = let t = deed-is R (session K w) _ r in absurd (open-no (not-open (session K w) (f.sessions w)) t.0 t.1 t.2)
     where
       open-no : (notif_of (session K w) ≡ None) ⊎ (any_of is_letgo (session K w) ≡ true) → (n : Notif) → notif_of (session K w) ≡ Some n → any_of is_letgo (session K w) ≡ false → ⊥
-      open-no (inl q) n h g = cc (sym q ∙ h)
-      open-no (inr q) n h g = both_ways (any_of is_letgo (session K w)) g q
+      open-no x0 n h g = grind arith
   worker-idles w (OpenMem p x) r = absurd (works-no w (OpenMem p x) r refl)
   worker-idles w (OpenBase p d x) r = absurd (works-no w (OpenBase p d x) r refl)
   worker-idles w (Check x y) r = absurd (works-no w (Check x y) r refl)

@@ -165,9 +165,7 @@ good-check (a ∷ own) h g =
     ]
   where
     one : (a : What) → checks a ≡ true → gives_up a ≡ false → is_good_check a ≡ true
-    one (Check x (Ok u)) h g = refl
-    one (Check x (Err y)) h g = cc
-    one a h g = cc
+    one a h g = grind arith
 
 -- a session that has opened, and has not given up, has a memory
 abbrev pub MemoryOpened : List Event → ℕ → ℕ → Type 0

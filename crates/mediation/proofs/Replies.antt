@@ -170,8 +170,7 @@ settled-install S R K e c legal room row f g =
     (o.0, o.1.session_of, subst (Source (e ∷ K) c o.0) (sym k.2) (installed_for i.first k.0 (request-later S R K e c i.first o.0 legal room row o.1) h))
   where
     number : (what : What) → gave what ≡ true → (n : ℕ) × (what ≡ Install (Ok n)) × (back_of what ≡ Value (pos n))
-    number (Install (Ok n)) h = (n, refl, refl)
-    number what h = cc
+    number what h = grind arith
 
 settled-kind : (S : System) (R : Rules) (K : List Event) (e : Event) (c : ℕ) → IsLegal S R K → length K < 2 ^ 64 → Row S R K e.who e.what → (settled K c ≡ true → Settled K c) → settled (e ∷ K) c ≡ true → Settled (e ∷ K) c
 unfolding Settled
@@ -179,13 +178,9 @@ settled-kind S R K e c legal room row ih h =
     elim (cases_Bool (settles K e c)) [
       | inl q ↦ rw (reply-now e K c q) (kept (elim (or_cases (answers K e.what c) (installs_for K e c && (gave e.what && first_sends K (queue K c))) q) [
         | inl a ↦ settled-send S R K e c legal room row a
-        | inr a ↦
-            let p = and_parts (installs_for K e c) (gave e.what && first_sends K (queue K c)) a in
-            settled-install S R K e c legal room row p.0 (and_parts (gave e.what) (first_sends K (queue K c)) p.1).0
+        | inr a ↦ grind (arith, settled-install)
       ]))
-      | inr q ↦
-          let z = ih (settled-was e K c q h) in
-          rw (reply-same e K c q) (z.0, fetcher-stays S R K e z.0 c legal room row (fetcher-fetched K c z.0 z.1) z.1, source-later S R K e c z.0 (reply K c) legal room row (settled-was e K c q h) z.2)
+      | inr q ↦ grind (arith, settled-was, reply-same, fetcher-stays, fetcher-fetched, source-later)
     ]
   where
     kept : {b : Back} → (w : ℕ) × (fetcher K c ≡ Some w) × Source (e ∷ K) c w b → (w : ℕ) × (fetcher (e ∷ K) c ≡ Some w) × Source (e ∷ K) c w b
@@ -217,22 +212,14 @@ gave-kind S R K e c r m legal room row q ih h =
           let w : e.what ≡ Install (Ok m) = number e.what (sym (installed-now e K c r q p) ∙ h) in
           let s : settles K e c ≡ true = settling (queue K c) refl f.0 f.1 w in
           (or_left (settles K e c) (settled K c) s, reply-now e K c s ∙ ap back_of w)
-      | inr p ↦
-          let z = ih (sym (installed-same e K c r q p) ∙ h) in
-          let n : settles K e c ≡ false = false_from_ne_true (settles K e c) (λ s. cc (settles-once S R K e c legal row s, z.0)) in
-          (or_right (settles K e c) (settled K c) z.0, reply-same e K c n ∙ z.1)
+      | inr p ↦ grind (arith, installed-same, settles-once, reply-same)
     ]
   where
     number : (what : What) → installed what ≡ Some (Ok m) → what ≡ Install (Ok m)
     number what k = grind arith
 
     settling : (rs : List ℕ) → queue K c ≡ rs → installs_for K e c ≡ true → is_first rs r ≡ true → e.what ≡ Install (Ok m) → settles K e c ≡ true
-    settling [] z f g w = cc
-    settling (x ∷ rs) z f g w =
-        let s : is_send K x ≡ true = (first-own S R K c x rs legal room z).1.sends in
-        let y : first_sends K (queue K c) ≡ true = rw z s in
-        let v : gave e.what ≡ true = ap gave w in
-        grind arith
+    settling x0 z f g w = grind (arith, first-own)
 
 -- a request that is put now has no install yet
 gave-step : (S : System) (R : Rules) (K : List Event) (e : Event) (c r m : ℕ) → IsLegal S R K → length K < 2 ^ 64 → Row S R K e.who e.what → (call_at K r ≡ Some c → install_of K r ≡ Some (Ok m) → Gave K c m) → call_at (e ∷ K) r ≡ Some c → install_of (e ∷ K) r ≡ Some (Ok m) → Gave (e ∷ K) c m

@@ -319,10 +319,7 @@ placed-spawned [] t n m q = absurd (omega (arith, made-below [] t m))
 placed-spawned (e ∷ K) t n m q =
     elim (below_or_last t (length K) (made-below (e ∷ K) t m)) [
       | inl l ↦ or_right (spawns e.what n) (spawned K n) (placed-spawned K t n (rw event_at-older at m) (rw event_at-older at q))
-      | inr z ↦
-          let k : makes e.what ≡ true = rw (z, event_at-here) at m in
-          let p : child_of e.what ≡ n = rw (z, event_at-here) at q in
-          or_left (spawns e.what n) (spawned K n) (made-spawns e.what n (rw (k, p) (name_eq-refl n)))
+      | inr z ↦ grind (arith, event_at-here, made-spawns, name_eq-refl)
     ]
 
 nothing-spawned : (n : Name) → spawned [] n ≡ false
