@@ -54,13 +54,9 @@ module _ (S : System) (R : Rules) (K : List Event) (f : Finished K) where
 joined-closed : (own : List What) (x : ℕ) → is_open_session own ≡ false → is_open_session (joined (Recv (Err x)) own) ≡ false
 joined-closed own x h = grind arith
 
-idle-session : (e : Event) (K : List Event) (w : ℕ) → idles e.what ≡ true → is_open_session (session K w) ≡ false → is_open_session (session (e ∷ K) w) ≡ false
-unfolding session
-idle-session e K w h o = grind arith
-
 stays : (e : Event) (K : List Event) → idles e.what ≡ true → Finished K → Finished (e ∷ K)
-unfolding listed is_made ended
-stays e K h f = grind (arith, idle-session)
+unfolding listed is_made ended session
+stays e K h f = grind arith
 
 filled : (L K : List Event) → 0 < length K → L ++ K ≡ [] → ⊥
 filled [] K l q = omega (arith, ap length q)

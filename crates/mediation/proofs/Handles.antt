@@ -212,13 +212,9 @@ moves (OpenBase p d (Ok u)) = true
 moves LetGo = true
 moves _ = false
 
--- two workers
-another : (v w : ℕ) → ((v == w) && true) ≡ false → (w == v) ≡ false
-another v w h = grind arith
-
 -- another's step, or one that is no opening of a base and no letting go
 after-base : (S : Script) (K : List Event) (F : Files) (a : Actor) (what : What) (w : ℕ) → (is_worker a w && moves what) ≡ false → (files_after S K F a what).base w ≡ F.base w
-after-base S K F a what w h = grind (arith, native-base, another)
+after-base S K F a what w h = grind (arith, native-base)
 
 files-same : (S : Script) (e : Event) (K : List Event) (w : ℕ) → (is_worker e.who w && moves e.what) ≡ false → files_base S (e ∷ K) w ≡ files_base S K w
 unfolding files_base files

@@ -16,10 +16,6 @@ use Rattle.mediation.specs.Facts.{spawns, spawned, NamesDiffer}
 
 -- ---- unreaped tasks have different process numbers
 
-pub ended-more : (e : Event) (K : List Event) (n : Name) → ended K n ≡ true → ended (e ∷ K) n ≡ true
-unfolding ended
-ended-more e K n h = or_right (ends e.what && is_task e.who n) (ended K n) h
-
 -- a task that is not reaped was not reaped before
 holds-less : (e : Event) (K : List Event) (p t : ℕ) → t < length K → holds (e ∷ K) p t ≡ true → holds K p t ≡ true
 unfolding reaped ended was_waited_for
@@ -89,10 +85,6 @@ waits-in_some K c h e = newest-found (λ d. listed K d && name_eq (caller K d) (
 pub stays-passive : (S : System) (K : List Event) (n : Name) (w : What) → TaskRow S K n w → (call_of K n ≡ None → ⊥) → leaves w ≡ false → (is_passive w ≡ true) × (ends w ≡ false)
 stays-passive S K n w r h g = grind arith
 
-last-other : (e : Event) (K : List Event) (n : Name) → (is_task e.who n && not (is_passive e.what)) ≡ false → last_own (e ∷ K) n ≡ last_own K n
-unfolding last_own
-last-other e K n h = rw h
-
 -- the event is no step of the task, or a passive one
 pub idle : (S : System) (R : Rules) (K : List Event) (e : Event) (n : Name) → Row S R K e.who e.what → (call_of K n ≡ None → ⊥) → unlists e n ≡ false → (is_task e.who n ≡ false) ⊎ ((is_passive e.what ≡ true) × (ends e.what ≡ false))
 idle S R K e n r h g = go e.who e.what r g
@@ -126,8 +118,8 @@ entering S R K a w r h = grind arith
 old-kept : (S : System) (R : Rules) (K : List Event) (e : Event) (c : ℕ) → Row S R K e.who e.what → listed K c ≡ true → unlists e (caller K c) ≡ false
     → alive K (caller K c) ≡ true → last_own K (caller K c) ≡ Some c
     → (alive (e ∷ K) (caller K c) ≡ true) × (last_own (e ∷ K) (caller K c) ≡ Some c)
-unfolding ended is_made
-old-kept S R K e c r h u a l = grind (arith, idle, waits-in_some, last-other)
+unfolding ended is_made last_own
+old-kept S R K e c r h u a l = grind (arith, idle, waits-in_some)
 
 is_task-of : (a : Actor) (n : Name) → a ≡ Task n → is_task a n ≡ true
 is_task-of a n q = rw q (name_eq-refl n)
@@ -215,8 +207,8 @@ reaps-ended S R K (Task n) (Reap (Ok c)) m r h =
 reaps-ended S R K a w m r h = grind arith
 
 waited-step : (S : System) (R : Rules) (K : List Event) (e : Event) (m : Name) → IsStep S R K e → (was_waited_for K m ≡ true → ended K m ≡ true) → was_waited_for (e ∷ K) m ≡ true → ended (e ∷ K) m ≡ true
-unfolding was_waited_for
-waited-step S R K e m r ih h = grind (arith, ended-more, reaps-ended, row-of)
+unfolding was_waited_for ended
+waited-step S R K e m r ih h = grind (arith, reaps-ended, row-of)
 
 pub waited-ended : (S : System) (R : Rules) (K : List Event) → IsLegal S R K → (m : Name) → was_waited_for K m ≡ true → ended K m ≡ true
 unfolding was_waited_for
