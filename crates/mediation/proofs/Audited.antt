@@ -108,9 +108,6 @@ all-heard P F n (a ∷ b ∷ own) i m f =
 
 -- ---- the audit of a session that answered names the rule that decided
 
-skipped-same : (what : What) → is_skipped what ≡ skips what
-skipped-same what = grind arith
-
 -- one more step of an open session
 extended-open : (own : List What) (a : What) (n : Notif) → notif_of own ≡ Some n → any_of is_letgo own ≡ false → extended own a ≡ a ∷ own
 extended-open own a n h g = grind arith
@@ -235,9 +232,6 @@ module _ (S : System) (R : Rules) where
 none-gone : (own : List What) → any_of gives_up own ≡ false → list_any is_gone own ≡ false
 none-gone [] h = refl
 none-gone (a ∷ own) h = let ih = none-gone own in grind arith
-
-valid-same : (a : What) → is_found_valid a ≡ is_good_check a
-valid-same a = grind arith
 
 some-valid : (own : List What) → 1 ≤ number_of is_good_check own → list_any is_found_valid own ≡ true
 some-valid [] h = absurd (omega arith)

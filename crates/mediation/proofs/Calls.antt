@@ -88,13 +88,6 @@ ids_differ S R K legal b c d h g q = call-ids S R K legal b c d (listed-is_call 
 
 -- ---- a call is answered at most once
 
-no-both : (u : Unit {0}) → ◌≡◌ {A = Result (Unit {0}) ℕ} (Ok u) (Err 115) → ⊥
-no-both u q = cc
-
--- an answer goes to a waiting call
-sent-waiting : (K : List Event) (c : ℕ) (d : Option ℕ) (u : Unit {0}) → Ok u ≡ send_answer K d → is_place d c ≡ true → waiting K c ≡ true
-sent-waiting K c d u q h = grind arith
-
 -- an install belongs to the call in which its task waits, which is not settled
 pub installs-open : (S : System) (R : Rules) (K : List Event) (a : Actor) (w : What) (c : ℕ) → IsLegal S R K → Row S R K a w → is_install w ≡ true → is_task a (caller K c) ≡ true → listed K c ≡ true → settled K c ≡ false
 installs-open S R K (Task n) (Install ans) c legal r h g l =

@@ -301,13 +301,6 @@ either : (T : Tree) (b : Bool) (x y : NativeStep) → Keeping T x → Keeping T 
 either T true x y p q = p
 either T false x y p q = q
 
--- a node that is no device
-made-keeps : (T : Tree) (k : Node) (p : Place) → is_device_node k ≡ false → Keeping T (make_natively false (made T k p))
-made-keeps T k p h = grind arith
-
-device-keeps : (T : Tree) (r : Result Tree ℕ) → Keeping T (make_natively true r)
-device-keeps T r = grind arith
-
 -- an attribute of the user's own
 user_own : List ℕ → Bool
 user_own name = starts_with nat_eq name (codes "user.")

@@ -23,9 +23,6 @@ no-work : (own : List What) (n : Notif) → AtWork own n → (notif_of own ≡ N
 no-work own n k h = grind arith
 
 module _ (S : System) (R : Rules) (K : List Event) (f : Finished K) where
-  no-life : (n : Name) → alive K n ≡ true → ⊥
-  no-life n h = grind arith
-
   works-no : (w : ℕ) (what : What) → WorkerRow S R K w what → works what ≡ true → ⊥
   works-no w what r h = let g = at-work S R K w what r h in no-work (session K w) g.0 g.1 (not-open (session K w) (f.sessions w))
 
@@ -50,9 +47,6 @@ module _ (S : System) (R : Rules) (K : List Event) (f : Finished K) where
 
   row-idles : (a : Actor) (what : What) → Row S R K a what → (K ≡ [] → ⊥) → closes what ≡ false → idles what ≡ true
   row-idles a what r l c = grind (arith, worker-idles)
-
-joined-closed : (own : List What) (x : ℕ) → is_open_session own ≡ false → is_open_session (joined (Recv (Err x)) own) ≡ false
-joined-closed own x h = grind arith
 
 stays : (e : Event) (K : List Event) → idles e.what ≡ true → Finished K → Finished (e ∷ K)
 unfolding listed is_made ended session

@@ -58,12 +58,6 @@ pub clean-above : (K : List Event) (c : ℕ) → length K ≤ c → Clean K c
 clean-above [] c h = record { empty = unfold queue in refl; unsettled = unfold settled in refl }
 clean-above (e ∷ K) c h = let l : length K ≤ c = omega arith in calm-clean e K c (calm-above K e c l) (clean-above K c l)
 
--- a request goes to a waiting call
-put-ok : (S : System) (K : List Event) (q : Addfd) (c : ℕ) (u : Unit {0}) (b : Bool) (o : Option ℕ) → is_place o c ≡ true → ◌≡◌ {A = Result (Unit {0}) ℕ} (Ok u) (if b then Err 9 else put_answer S K q o) → waiting K c ≡ true
-put-ok S K q c u true o h g = grind (arith)
-put-ok S K q c u false None h g = cc
-put-ok S K q c u false (Some d) h g = grind (arith)
-
 -- an install belongs to the first request of its task's call
 pub record Installing (S : System) (K : List Event) (a : Actor) (w : What) (c : ℕ) : Type 0 where
   pub first : ℕ
@@ -124,11 +118,6 @@ pub queue-asks : (K : List Event) (c : ℕ) → Asks K c (queue K c)
 unfolding queue
 queue-asks [] c = unfold Asks in tt
 queue-asks (e ∷ K) c = grind (arith, asks-push, asks-later, call-at-here, put-call, asks-rest, queue-asks K c)
-
--- the first request of a queue was put for its call
-pub first-asks : (K : List Event) (c r : ℕ) (rs : List ℕ) → queue K c ≡ rs → is_first rs r ≡ true → call_at K r ≡ Some c
-first-asks K c r [] q h = cc
-first-asks K c r (x ∷ rs) q h = unfold Asks in rw (eqb-true x r h) at ((rw q at (queue-asks K c)).1)
 
 -- ---- how far a listed call is: not fetched, in hand, or answered
 

@@ -98,9 +98,6 @@ idle S R K e n r h g = go e.who e.what r g
     go (Worker v) w r g = inl refl
     go Listener w r g = inl refl
 
-id-with : (nr : ℤ) (args : List ℕ) (v : Entered) (x : ℕ) → notifies (Enter nr args (with_id v x)) ≡ true → (notify_id (Enter nr args (with_id v x)) ≡ x) × (ends (Enter nr args (with_id v x)) ≡ false)
-id-with nr args v x h = grind arith
-
 -- what the step of a call tells
 pub record Entering (S : System) (R : Rules) (K : List Event) (a : Actor) (w : What) : Type 0 where
   pub name : Name
@@ -184,9 +181,6 @@ pub made-place : (K : List Event) (n : Name) → is_made K n ≡ true → (t : �
 unfolding task_place
 made-place K n h = let m = made-somewhere K n h in oldest-found (λ u. makes_in (event_at K u) && name_eq (name_of K u) n) (length K) m.0 m.1 m.2
 
-makes-given : (w : What) → makes w ≡ true → given w ≡ Some (pid_or (given w))
-makes-given w h = grind arith
-
 pub makes-pid : (o : Option Event) → makes_in o ≡ true → given_in o ≡ Some (pid_or (given_in o))
 makes-pid o h = grind arith
 
@@ -265,10 +259,6 @@ snoc-same (a ∷ n) (b ∷ m) k l h =
 
 abbrev pub ChildrenNumbered : List Event → Type 0
 ChildrenNumbered K = (n : Name) (k : ℕ) → (n ≡ [] → ⊥) → spawned K (n ++ k ∷ []) ≡ true → k ≤ steps_of is_spawn K n
-
-steps-more : (e : Event) (K : List Event) (n : Name) → steps_of is_spawn K n ≤ steps_of is_spawn (e ∷ K) n
-unfolding steps_of
-steps-more e K n = omega arith
 
 numbered-kind : (S : System) (R : Rules) (K : List Event) (a : Actor) (w : What) (n : Name) (k : ℕ) → (n ≡ [] → ⊥) → Row S R K a w → spawns w (n ++ k ∷ []) ≡ true → k ≤ steps_of is_spawn K n + (if is_task a n then is_spawn w else 0)
 numbered-kind S R K (Task m) (Spawn c x) n k z r h = grind (arith, name_eq-true, snoc-same, name_eq-refl)
