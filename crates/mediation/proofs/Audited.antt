@@ -82,14 +82,10 @@ notif-before a own h = grind arith
 same : (a b : Notif) → Some a ≡ Some b → a ≡ b
 same a b h = cc
 
--- a session that begins has read nothing
-first-heard : (parts : List Part) (a : What) → starts a ≡ true → heard parts [] (reads (a ∷ [])) ≡ reads (a ∷ [])
-first-heard parts a s = grind (arith, heard-none)
-
 -- the reads of a session are heard one and all
 pub all-heard : (P : Policy) (F : Figures) (n : Notif) (own : List What) → IsOwn (rules_of P F) own → notif_of own ≡ Some n → FitReads own → heard (plan n.call.nr n.call.args) [] (reads own) ≡ reads own
 all-heard P F n [] i m f = cc
-all-heard P F n (a ∷ []) i m f = first-heard (plan n.call.nr n.call.args) a i
+all-heard P F n (a ∷ []) i m f = grind (arith, heard-none)
 all-heard P F n (Read x l y ∷ b ∷ own) i m f =
     let parts = plan n.call.nr n.call.args in
     let ih = all-heard P F n (b ∷ own) i.2 m f.1 in

@@ -70,11 +70,8 @@ module _ (R : Rules) (own : List What) (n : Notif) (work : AtWork own n) (ready 
   twice_tells c p true h = (n, work, ready, refl, inr (h, p))
   twice_tells c p false h = judged_tells (record { checked = c; twice = h; copied = p }) (R.fault n (reads_of own)) refl
 
-  copied_tells : any_of checks own ≡ true → (p : Option (ℕ × ℕ)) → R.next_piece n (reads_of own) ≡ p → Tells R own (copied_deed R n own p)
-  copied_tells c p h = grind (arith, twice_tells)
-
   checked_tells : (b : Bool) → any_of checks own ≡ b → Tells R own (if not b then Ask n.id else copied_deed R n own (R.next_piece n (reads_of own)))
-  checked_tells true h = copied_tells h (R.next_piece n (reads_of own)) refl
+  checked_tells true h = grind (arith, twice_tells)
   checked_tells false h = (n, work, ready, refl, inl h)
 
 module _ (R : Rules) (own : List What) (n : Notif) (work : AtWork own n) (has_opened : any_of opens own ≡ true) where
@@ -97,12 +94,9 @@ letgo_tells : (R : Rules) (own : List What) (n : Notif) → notif_of own ≡ Som
 letgo_tells R own n h true k = inr k
 letgo_tells R own n h false k = end_tells R own n h k (any_of gives_up own) refl
 
-notif_tells : (R : Rules) (own : List What) (o : Option Notif) → notif_of own ≡ o → Tells R own (deed_for R o own)
-notif_tells R own o h = grind (arith, letgo_tells)
-
 pub deed-tells : (R : Rules) (own : List What) → Tells R own (deed R own)
 unfolding deed
-deed-tells R own = notif_tells R own (notif_of own) refl
+deed-tells R own = grind (arith, letgo_tells)
 
 pub deed-is : (R : Rules) (own : List What) (d : Deed) → deed R own ≡ d → Tells R own d
 deed-is R own d h = subst (Tells R own) h (deed-tells R own)

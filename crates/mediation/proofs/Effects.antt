@@ -328,14 +328,11 @@ attr-keeps T on name value h = record { devices = refl; mounts = refl; attribute
 attributed-keeps : (T : Tree) (name value : List ℕ) (flags : ℕ) (p : Place) → user_own name ≡ true → Keeping T (changed (attributed T name value flags p))
 attributed-keeps T name value flags p h = grind (arith, attr-keeps)
 
-not-own : (T : Tree) (r : Result Tree ℕ) → Keeping T (set_natively false false r)
-not-own T r = grind arith
-
 xattr-keeps : (T : Tree) (root : ℕ) (base : Option ℕ) (path name value : List ℕ) (flags : ℕ) (known own : Bool) → are_attr_flags flags ≡ known → user_own name ≡ own
     → Keeping T (set_natively (is_refused (if known then SetAttr path name value flags else Fail 22)) own (perform T root base (if known then SetAttr path name value flags else Fail 22)))
 xattr-keeps T root base path name value flags false own h g = tt
 xattr-keeps T root base path name value flags true true h g = rw h (attributed-keeps T name value flags (reaches T root base path Follow) g)
-xattr-keeps T root base path name value flags true false h g = not-own T (perform T root base (SetAttr path name value flags))
+xattr-keeps T root base path name value flags true false h g = grind arith
 
 copied-keeps : (S : Script) (F : Files) (g : ℕ) (call : What) (r : Result (List (List ℕ)) ℕ) → Keeping F.tree (copied_natively S F g call r)
 unfolding user_own
@@ -356,11 +353,8 @@ call-keeps S K F n g call =
 native-tree : (F : Files) (g : ℕ) (s : NativeStep) → Keeping F.tree s → KeepsPrivileged F.tree (after_native F g s).tree
 native-tree F g s h = grind arith
 
-spawn-tree : (K : List Event) (F : Files) (a : Actor) (k : SpawnKind) → KeepsPrivileged F.tree (after_spawn K F a k).tree
-spawn-tree K F a k = grind arith
-
 after-keeps : (S : Script) (K : List Event) (F : Files) (a : Actor) (what : What) → is_effect what ≡ false → KeepsPrivileged F.tree (files_after S K F a what).tree
-after-keeps S K F a (Spawn n (Ok made)) h = spawn-tree K F a made.1
+after-keeps S K F a (Spawn n (Ok made)) h = grind arith
 after-keeps S K F a (Spawn n (Err e)) h = keeps-same F.tree
 after-keeps S K F a (Native (Ok n)) h = native-tree F (own_group K a) (native_step S K F (task_name a)) (call-keeps S K F (task_name a) (place_or (group_named K (task_name a))) (last_call K (task_name a)))
 after-keeps S K F a (Native (Err e)) h = keeps-same F.tree

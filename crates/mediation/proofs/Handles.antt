@@ -212,13 +212,9 @@ moves (OpenBase p d (Ok u)) = true
 moves LetGo = true
 moves _ = false
 
--- another's step, or one that is no opening of a base and no letting go
-after-base : (S : Script) (K : List Event) (F : Files) (a : Actor) (what : What) (w : ℕ) → (is_worker a w && moves what) ≡ false → (files_after S K F a what).base w ≡ F.base w
-after-base S K F a what w h = grind (arith, native-base)
-
 files-same : (S : Script) (e : Event) (K : List Event) (w : ℕ) → (is_worker e.who w && moves e.what) ≡ false → files_base S (e ∷ K) w ≡ files_base S K w
 unfolding files_base files
-files-same S e K w h = after-base S K (files S K) e.who e.what w h
+files-same S e K w h = grind (arith, native-base)
 
 -- a worker's own steps
 files-opens : (S : Script) (K : List Event) (a : Actor) (w p : ℕ) (d : ℤ) (u : Unit {0}) → is_worker a w ≡ true → files_base S (ev a (OpenBase p d (Ok u)) ∷ K) w ≡ base_of S (files S K) (place_or (opened K (holder K p))) d
@@ -285,13 +281,9 @@ module _ (S : Script) (R : Rules) where
       same-event : (a : Actor) (w p r : ℕ) (d : ℤ) (u : Unit {0}) → is_worker a w ≡ true → p ≡ r → ev a (OpenBase p d (Ok u)) ≡ ev (Worker w) (OpenBase r d (Ok tt))
       same-event a w p r d u h k = grind arith
 
-  -- a step of a session that moves no base
-  other-found : (K : List Event) (a : Actor) (w c : ℕ) (what : What) → works what ≡ true → moves what ≡ false → session (ev a what ∷ K) w ≡ what ∷ session K w → HasFound K w c → is_worker a w ≡ true → HasFound (ev a what ∷ K) w c
-  other-found K a w c what v m own ih q g h = grind (arith, works-keep, found-later, base-stays)
-
   work-found : WorkKept (system_of S) R HasFound
   work-found K a w c (OpenBase p d (Ok u)) r legal room q row v i s own ih = opens-found K a w c p d u q row s own
-  work-found K a w c what r legal room q row v i s own ih = other-found K a w c what v (grind arith) own ih q
+  work-found K a w c what r legal room q row v i s own ih = λ z0 z1. grind (arith, works-keep, found-later, base-stays)
 
   still-found : StillKept (system_of S) R HasFound
   still-found K e w c r legal room q i s own ih g h =

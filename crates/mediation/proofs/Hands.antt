@@ -170,9 +170,6 @@ module _ (S : System) (R : Rules) (K : List Event) (a : Actor) (w : ℕ) (legal 
       let c : session_call (ev a what ∷ K) w ≡ Some j.0 = call-more (ev a what) K w is_mine ∙ (k.call (session_call K w) ∙ j.1) in
       rw c (in-session-kept (ev a what) K w j.0 j.2 (rw (s, k.no_notif) j.2.notif_is) (rw (s, k.no_letgo) j.2.no_letgo))
 
-  mine-letgo : WorkerRow S R K w LetGo → Hand (ev a LetGo ∷ K) w (session_call (ev a LetGo ∷ K) w)
-  mine-letgo r = grind (arith, deed-is, session-more, grown, call-more, mem-more, base-more)
-
   mine-fetch : (n : Notif) → WorkerRow S R K w (Recv (Ok n)) → Hand (ev a (Recv (Ok n)) ∷ K) w (session_call (ev a (Recv (Ok n)) ∷ K) w)
   mine-fetch n r =
       let e = ev a (Recv (Ok n)) in
@@ -215,7 +212,7 @@ module _ (S : System) (R : Rules) (K : List Event) (a : Actor) (w : ℕ) (legal 
   mine-step : (what : What) → WorkerRow S R K w what → skips what ≡ false → Hand K w (session_call K w) → Hand (ev a what ∷ K) w (session_call (ev a what ∷ K) w)
   mine-step (Recv (Ok n)) r h i = mine-fetch n r
   mine-step (Recv (Err x)) r h i = mine-empty x r i
-  mine-step LetGo r h i = mine-letgo r
+  mine-step LetGo r h i = grind (arith, deed-is, session-more, grown, call-more, mem-more, base-more)
   mine-step what r h i = mine-works what r (grind arith) i
 
 pub hand-step : (S : System) (R : Rules) (K : List Event) (e : Event) (w : ℕ) → IsLegal S R K → IsStep S R K e → Hand K w (session_call K w) → Hand (e ∷ K) w (session_call (e ∷ K) w)
@@ -271,16 +268,13 @@ module _ (S : System) (R : Rules) (P : List Event → ℕ → ℕ → Type 0) (k
         idle None i = i
         idle (Some d) i = absurd (no-fetch K w d i (deed-is R (session K w) Fetch row.0))
 
-    work-step : (a : Actor) (what : What) (c : ℕ) → IsStep S R K (ev a what) → length (ev a what ∷ K) < 2 ^ 64 → is_worker a w ≡ true → WorkerRow S R K w what → works what ≡ true → session_call (ev a what ∷ K) w ≡ Some c → P (ev a what ∷ K) w c
-    work-step a what c r room q row g h = grind (arith, works-keep, call-more, in-hand-of, session-more, grown)
-
     session-step : (a : Actor) (what : What) (c : ℕ) → IsStep S R K (ev a what) → length (ev a what ∷ K) < 2 ^ 64 → is_worker a w ≡ true → skips what ≡ false → WorkerRow S R K w what → session_call (ev a what ∷ K) w ≡ Some c → P (ev a what ∷ K) w c
     session-step a (Recv (Ok n)) c r room q z row h = fetch-step a n c r room q row h
     session-step a (Recv (Err x)) c r room q z row h =
         let s : session_call K w ≡ Some c = sym (call-more (ev a (Recv (Err x))) K w q) ∙ h in
         absurd (no-fetch K w c (in-hand-of S R K w c legal s) (deed-is R (session K w) Fetch row.0))
     session-step a LetGo c r room q z row h = cc (call-more (ev a LetGo) K w q, h)
-    session-step a what c r room q z row h = work-step a what c r room q row (grind arith) h
+    session-step a what c r room q z row h = grind (arith, works-keep, call-more, in-hand-of, session-more, grown)
 
     step : (e : Event) (c : ℕ) → IsStep S R K e → length (e ∷ K) < 2 ^ 64 → session_call (e ∷ K) w ≡ Some c → P (e ∷ K) w c
     step e c r room h = grind (arith, session-step, worker-row, call-still, in-hand-of, session-same)

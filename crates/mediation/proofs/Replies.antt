@@ -242,12 +242,8 @@ pub each : (S : System) (R : Rules) (P : List Event → Event → Type 0) → ((
 each S R P f [] legal room = tt
 each S R P f (e ∷ K) legal room = (f K e legal.1 (omega arith) legal.0, each S R P f K legal.1 (omega arith))
 
--- the kinds of an actor's steps
-takes-row : (S : System) (R : Rules) (K : List Event) (a : Actor) (what : What) → Row S R K a what → takes a what ≡ true
-takes-row S R K a what r = grind arith
-
 pub taken-by-its-actor : (S : System) (R : Rules) (K : List Event) (e : Event) → IsLegal S R K → length K < 2 ^ 64 → IsStep S R K e → TakenByItsActor K e
-taken-by-its-actor S R K e legal room r = takes-row S R K e.who e.what (row-of S R K e r)
+taken-by-its-actor S R K e legal room r = let y5 = row-of S R K e r in grind arith
 
 is-some : (o : Option ℕ) → (o ≡ None → ⊥) → (c : ℕ) × (o ≡ Some c)
 is-some None h = absurd (h refl)
