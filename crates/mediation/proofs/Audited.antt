@@ -21,7 +21,7 @@ use Rattle.mediation.proofs.Rows.{WorkerRow, row-of}
 use Rattle.mediation.proofs.Deeds.{deed-is, AtWork}
 use Rattle.mediation.proofs.Order.{IsOwn, is-own, is_effect, effect-fixed, ordered, used-two}
 use Rattle.mediation.proofs.Hands.{worker-row, session-same, session-more, hand, in-hand, works, works-keep, at-work, started, grown, by-session, FetchKept, WorkKept, StillKept}
-use Rattle.mediation.proofs.Calls.{length-to, before-all, before-older, before-newest, legal-before}
+use Rattle.mediation.proofs.Calls.{length-to, before-all, before-older, before-newest, legal_before}
 
 -- ---- what a session reads answers the piece that was wanted, so all of it is heard
 
@@ -260,7 +260,7 @@ audit-names P F T H legal room s w x b a n texts h m c =
     let q : t.n ≡ n = cc (t.work.notif_is, m) in
     let l = event_at-below H t.place _ t.receive in
     let z : length (before H t.place) ≡ t.place = length-to H t.place (omega arith) in
-    let i = legal-before S Q H s legal in
+    let i = legal_before S Q H s legal in
     let v = all-heard P F n (session (before H s) w) (is-own S Q (before H s) i w) m (fit-reads P F T (before H s) i w) in
     let r = names-rule P n x b a (session (before H s) w) texts t.work.no_end t.two c v in
     (t.place, rw q at t.receive, go (length (before H t.place)) z r t.ends, λ e. grants (session (before H s) w) (is-own S Q (before H s) i w) m c e)

@@ -69,12 +69,12 @@ new-id S R K e c r legal b n h q =
     mod-differ S.firstid o.0 (calls K) o.1 (omega (arith, calls-le-length K)) (sym o.2 ∙ (q ∙ t.id_is))
 
 -- two calls have different ids
-pub call-ids : (S : System) (R : Rules) (K : List Event) → IsLegal S R K → length K < 2 ^ 64 → (c d : ℕ) → is_call K c ≡ true → is_call K d ≡ true → id K c ≡ id K d → c ≡ d
-call-ids S R [] legal b = λ c d h. absurd (omega (arith, is_call-below [] c h))
-call-ids S R (e ∷ K) legal b = λ c d h g q.
+pub call_ids : (S : System) (R : Rules) (K : List Event) → IsLegal S R K → length K < 2 ^ 64 → (c d : ℕ) → is_call K c ≡ true → is_call K d ≡ true → id K c ≡ id K d → c ≡ d
+call_ids S R [] legal b = λ c d h. absurd (omega (arith, is_call-below [] c h))
+call_ids S R (e ∷ K) legal b = λ c d h g q.
     elim (below_or_last c (length K) (is_call-below (e ∷ K) c h)) [
       | inl l ↦ elim (below_or_last d (length K) (is_call-below (e ∷ K) d g)) [
-        | inl m ↦ call-ids S R K legal.1 (omega arith) c d (rw event_at-older at h) (rw event_at-older at g) (rw (event_at-older e K c l, event_at-older e K d m) at q)
+        | inl m ↦ call_ids S R K legal.1 (omega arith) c d (rw event_at-older at h) (rw event_at-older at g) (rw (event_at-older e K c l, event_at-older e K d m) at q)
         | inr m ↦ absurd (new-id S R K e c legal.0 legal.1 (omega arith) (rw (m, event_at-here) at g) (rw event_at-older at h) (rw (event_at-older e K c l, m, event_at-here) at q))
       ]
       | inr l ↦ elim (below_or_last d (length K) (is_call-below (e ∷ K) d g)) [
@@ -84,7 +84,7 @@ call-ids S R (e ∷ K) legal b = λ c d h g q.
     ]
 
 pub ids_differ : (S : System) (R : Rules) (K : List Event) → IsLegal S R K → length K < 2 ^ 64 → IdsDiffer K
-ids_differ S R K legal b c d h g q = call-ids S R K legal b c d (listed-is_call K c h) (listed-is_call K d g) q
+ids_differ S R K legal b c d h g q = call_ids S R K legal b c d (listed-is_call K c h) (listed-is_call K d g) q
 
 -- ---- a call is answered at most once
 
@@ -243,10 +243,10 @@ length-before [] c = omega arith
 length-before (e ∷ K) c = grind (arith, length-before K c)
 
 -- what stands before a place of a legal history is legal
-pub legal-before : (S : System) (R : Rules) (K : List Event) (c : ℕ) → IsLegal S R K → IsLegal S R (before K c)
+pub legal_before : (S : System) (R : Rules) (K : List Event) (c : ℕ) → IsLegal S R K → IsLegal S R (before K c)
 unfolding before
-legal-before S R [] c legal = tt
-legal-before S R (e ∷ K) c legal = grind (arith, legal-before S R K c legal.1)
+legal_before S R [] c legal = tt
+legal_before S R (e ∷ K) c legal = grind (arith, legal_before S R K c legal.1)
 
 pub fetched-before : (K : List Event) (p c : ℕ) → fetched (before K p) c ≡ true → fetched K c ≡ true
 unfolding before

@@ -24,7 +24,7 @@ use Rattle.hist_model.specs.declared.request.Node.{Node}
 use Rattle.hist_model.specs.declared.request.Obj.{Obj}
 use Rattle.hist_model.specs.declared.request.TreeOp.TheVariants.{Fail, SetAttr}
 use Rattle.hist_model.specs.declared.tree.AttrRow.{AttrRow}
-use Rattle.mediation.proofs.Calls.{before-all, before-older, length-before, legal-before, fetched-before, is_call-below, fetching}
+use Rattle.mediation.proofs.Calls.{before-all, before-older, length-before, legal_before, fetched-before, is_call-below, fetching}
 use Rattle.mediation.proofs.Rows.{WorkerRow, Row, row-of}
 use Rattle.mediation.proofs.Tasks.{listed-older}
 use Rattle.mediation.proofs.Hands.{InSession, session-more, started, by-session, in-hand-of, FetchKept, WorkKept, StillKept, hand, hand-notif, in-hand}
@@ -85,7 +85,7 @@ module _ (S : System) (R : Rules) where
   unfetched-before : (K : List Event) (w c : ℕ) → IsLegal S R K → length K < 2 ^ 64 → fetched K c ≡ false → (p : ℕ) → session_call (before K p) w ≡ Some c → ⊥
   unfetched-before K w c legal room f p s =
       let m = length-before K p in
-      let h = hand-fetcher S R (before K p) (legal-before S R K p legal) (omega arith) w c s in
+      let h = hand-fetcher S R (before K p) (legal_before S R K p legal) (omega arith) w c s in
       both_ways (fetched K c) f (fetched-before K p c (fetcher-fetched (before K p) c w h))
 
   nothing-before : (K : List Event) (w c : ℕ) → IsLegal S R K → length K < 2 ^ 64 → fetched K c ≡ false → WaitedUntilChecked K w c

@@ -56,8 +56,8 @@ filled : (L K : List Event) → 0 < length K → L ++ K ≡ [] → ⊥
 filled [] K l q = omega (arith, ap length q)
 filled (e ∷ L) K l q = cc
 
-pub stays-finished : (S : System) (R : Rules) → StaysFinished S R
-stays-finished S R K [] l legal f n = f
-stays-finished S R K (e ∷ L) l legal f n =
-    let ih = stays-finished S R K L l legal.1 f n.1 in
+pub stays_finished : (S : System) (R : Rules) → StaysFinished S R
+stays_finished S R K [] l legal f n = f
+stays_finished S R K (e ∷ L) l legal f n =
+    let ih = stays_finished S R K L l legal.1 f n.1 in
     stays e (L ++ K) (row-idles S R (L ++ K) ih e.who e.what (row-of S R (L ++ K) e legal.0) (filled L K l) n.0) ih

@@ -7,7 +7,7 @@ use Rattle.mediation.proofs.Common.{oldest-found}
 use Rattle.hist_model.specs.Steps.{pid_at}
 use Rattle.mediation.proofs.Rows.{WorkerRow, row-of}
 use Rattle.mediation.proofs.Tasks.{calls_are_last, listed-below, place-stays, place-is, made-place, makes-pid}
-use Rattle.mediation.proofs.Calls.{listed-is_call, is_call-below, fetching, fetched-now, fetched-more, call-ids}
+use Rattle.mediation.proofs.Calls.{listed-is_call, is_call-below, fetching, fetched-now, fetched-more, call_ids}
 use Rattle.mediation.proofs.Deeds.{AtWork, deed-is}
 
 -- ---- a worker's open session, and its call
@@ -293,7 +293,7 @@ named-is K x d q = grind (arith, oldest-some)
 pub names-own : (S : System) (R : Rules) (K : List Event) (w c d : ℕ) → IsLegal S R K → length K < 2 ^ 64 → (i : InSession K w c) → named K i.n.id ≡ Some d → d ≡ c
 names-own S R K w c d legal b i q =
     let s = named-is K i.n.id d q in
-    call-ids S R K legal b d c (listed-is_call K d s.0) i.call (s.1 ∙ i.id_is)
+    call_ids S R K legal b d c (listed-is_call K d s.0) i.call (s.1 ∙ i.id_is)
 
 -- a listed call's id names a call
 pub named-some : (K : List Event) (c x : ℕ) → listed K c ≡ true → id K c ≡ x → (d : ℕ) × (named K x ≡ Some d)
