@@ -1,27 +1,16 @@
 -- The audit of a session that answered names the rule that decided.
 use Rattle.mediation.proofs.Common.{◌≡◌, ℕ, ◌≤◌, true, false, List, [], ◌∷◌, ◌++◌, reverse, Option, Some, refl, sym, ap, ◌∙◌, arith, Result, reverse-append, append-nil, plan, heard, copied}
 use Rattle.mediation.proofs.Common.{system_of, rules_of, reads, session, starts, joined, notif_of, reads_of, IsStep, IsLegal, mem, read_answer, Event, What, Read, Policy, Figures, Script, Notif}
-use Rattle.mediation.proofs.Common.{◌⊎◌, inl, inr, suc, ◌<◌, ◌^◌, ◌&&◌, not, length, None, subst, Ok, cases_Bool, or_parts, eq-eqb, both_ways, or_right, ev, before, event_at, is_worker, Rules}
-use Rattle.mediation.proofs.Common.{Fetch, Answer, skips, any_of, is_letgo, gives_up, number_of, System, session_call, is_good_check, Actor, Worker, Back, Recv, OpenMem, OpenBase, Check, Act, Plant}
-use Rattle.mediation.proofs.Common.{AddfdPut, AddfdTake, Send, LetGo, Skip, is_acting, Request, event_at-here, event_at-older, event_at-below, event_at-above, below_or_last}
-use Rattle.hist_model.specs.Copies.{progress, wanted, fits_piece, with_heard, Complete}
-use Rattle.hist_model.specs.Legal.{read_answers, decision}
-use Rattle.hist_model.specs.declared.copy.Part.{Part}
-use Rattle.hist_model.proofs.Pieces.{piece_wanted, wanted_some}
-use Rattle.hist_model.proofs.MappedBytes.{bytes_fit}
-use Rattle.std.specs.List.{list_any}
-use Rattle.hist_model.specs.Requests.{request}
-use Rattle.hist_model.specs.Decisions.{decide}
-use Rattle.hist_model.specs.ReportAudit.{Judging, checked_twice, session_at, joined as extended, is_gone, is_spent, finding, finding_of, judging_by, judged_as, is_good_check as is_found_valid}
-use Rattle.hist_model.specs.ReportAudit.{skips as is_skipped}
-use Rattle.hist_model.specs.Mediated.{AuditNames}
-use Rattle.hist_model.specs.declared.policy.Verdict.{Verdict}
-use Rattle.hist_model.specs.declared.policy.Verdict.TheVariants.{Grant}
+use Rattle.mediation.proofs.Common.{inl, inr, ◌<◌, ◌^◌, ◌&&◌, not, length, Ok, eq-eqb, ev, before, event_at, is_worker, Rules, Fetch, Answer, skips, any_of, is_letgo, gives_up, number_of, System}
+use Rattle.mediation.proofs.Common.{session_call, is_good_check, Actor, Worker, Back, Recv, Send, LetGo, is_acting, Request, event_at-here, event_at-older, event_at-below, event_at-above}
+use Rattle.mediation.proofs.Common.{below_or_last, progress, wanted, fits_piece, with_heard, Complete, read_answers, decision, Part, piece_wanted, wanted_some, bytes_fit, list_any, request, decide}
+use Rattle.mediation.proofs.Common.{Judging, checked_twice, session_at, is_gone, finding, finding_of, judging_by, judged_as, AuditNames, Verdict, Grant}
+use Rattle.hist_model.specs.ReportAudit.{joined as extended, is_spent, is_good_check as is_found_valid}
 use Rattle.mediation.proofs.Rows.{WorkerRow, row-of}
 use Rattle.mediation.proofs.Deeds.{deed-is, AtWork}
 use Rattle.mediation.proofs.Order.{IsOwn, is-own, is_effect, effect-fixed, ordered, used-two}
-use Rattle.mediation.proofs.Hands.{worker-row, session-same, session-more, hand, in-hand, works, works-keep, at-work, started, grown, by-session, FetchKept, WorkKept, StillKept}
-use Rattle.mediation.proofs.Calls.{length-to, before-all, before-older, before-newest, legal_before}
+use Rattle.mediation.proofs.Hands.{worker-row, session-same, session-more, hand, in-hand, works-keep, at-work, started, grown, by-session, FetchKept, WorkKept, StillKept}
+use Rattle.mediation.proofs.Calls.{length-to, before-older, before-newest, legal_before}
 
 -- ---- what a session reads answers the piece that was wanted, so all of it is heard
 

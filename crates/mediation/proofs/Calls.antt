@@ -1,13 +1,9 @@
 -- Calls: their ids, the request count, one answer for each, and the events before a place.
 use Rattle.mediation.proofs.Common.{◌≡◌, inl, inr, ℕ, ◌+◌, ◌<◌, ◌≤◌, ◌%◌, ◌^◌, true, not, List, [], ◌∷◌, length, sym, ◌∙◌, arith, cases_Bool, and_parts, listed, caller, calls, id, is_call, notifies}
-use Rattle.mediation.proofs.Common.{notify_id, unlists, Rules, System, IsStep, IsLegal, Event, event_at-here, event_at-older, event_at-above, below_or_last, false, Option, refl, Result, Ok, Err}
-use Rattle.mediation.proofs.Common.{is_place, is_task, settled, settles, waiting, is_install, send_answer, Actor, Task, What, Install, name_eq-true, zero, suc, Bool, ◌&&◌, Some, if◌then◌else◌, ◌==◌}
-use Rattle.mediation.proofs.Common.{eqb-true, eq-eqb, false_from_ne_true, ev, fetched, fetches, recvs, count, recv_answer, oldest_unfetched, notif, count_below, empty_recvs, Recv, Notif}
-use Rattle.mediation.proofs.Common.{oldest-some, nat_le, before, None, ReceivesFor}
-use Rattle.hist_model.specs.Laws.{IdsDiffer, answers_to, AnsweredOnce, CountIs, gets_nothing}
-use Rattle.std.proofs.lemmas.Bool.{le-leb, lt-leb}
-use Rattle.hist_model.specs.Mediated.{left_unfetched}
-use Rattle.hist_model.proofs.Look.{oldest-none}
+use Rattle.mediation.proofs.Common.{notify_id, unlists, Rules, System, IsStep, IsLegal, Event, event_at-here, event_at-older, event_at-above, below_or_last, false, Option, refl, Ok, is_task}
+use Rattle.mediation.proofs.Common.{settled, settles, is_install, Actor, Task, What, Install, name_eq-true, zero, suc, Bool, ◌&&◌, Some, if◌then◌else◌, ◌==◌, eq-eqb, ev, fetched, fetches, recvs}
+use Rattle.mediation.proofs.Common.{count, recv_answer, oldest_unfetched, notif, count_below, empty_recvs, Recv, Notif, oldest-some, nat_le, before, None, ReceivesFor, IdsDiffer, answers_to}
+use Rattle.mediation.proofs.Common.{AnsweredOnce, CountIs, gets_nothing, le-leb, lt-leb, left_unfetched, oldest-none}
 use Rattle.mediation.proofs.Rows.{row-of, Row}
 use Rattle.mediation.proofs.Tasks.{listed-below, listed-here, listed-older, entering, waits-in}
 

@@ -1,8 +1,8 @@
 -- What a worker's next deed tells of its session so far.
 use Rattle.mediation.proofs.Common.{◌≡◌, ◌⊎◌, inl, inr, ℕ, Bool, true, false, not, List, Option, Some, None, refl, ap, subst, arith, if◌then◌else◌, ◌==◌, Result, Ok, Err, ℤ, Rules, Fetch, Open}
 use Rattle.mediation.proofs.Common.{OpenB, Ask, ReadD, ActD, PlantD, Put, Take, Answer, Let, Decision, Acts, Plants, Injects, addfd_of, reads_of, deed, notif_of, any_of, number_of, is_letgo}
-use Rattle.mediation.proofs.Common.{gives_up, opens, opens_base, checks, first_some, put_in, take_in, is_acting, Cause, faulty, denied, passed, done, not_put, not_taken, What, Notif, Addfd}
-use Rattle.hist_model.specs.Sessions.{Deed, Denies, Passes, deed_for, based_deed, checked_deed, copied_deed, judged_deed, decided_deed, after_act, inject_deed, outcome_in}
+use Rattle.mediation.proofs.Common.{gives_up, opens, opens_base, checks, first_some, put_in, take_in, is_acting, Cause, faulty, denied, passed, done, not_put, not_taken, What, Notif, Addfd, Deed}
+use Rattle.mediation.proofs.Common.{Denies, Passes, based_deed, checked_deed, copied_deed, judged_deed, decided_deed, after_act, inject_deed, outcome_in}
 
 -- the session is at work, for this notification
 pub record AtWork (own : List What) (n : Notif) : Type 0 where

@@ -4,26 +4,12 @@ use Rattle.mediation.proofs.Common.{leb-true, both_ways, ev, before, is_worker, 
 use Rattle.mediation.proofs.Common.{IsLegal, session_call, oldest_unfetched, InOrder, is_good_check, Event, Actor, What, Recv, Check, below_or_last, ◌+◌, if◌then◌else◌, ◌==◌, Result, Err, eqb-true}
 use Rattle.mediation.proofs.Common.{Acts, Plants, reads_of, times_spent, is_spent, Worker, Act, Plant, Cap, Request, Notif, Option, ap, Decision, ActD, PlantD, ReadD, Put, system_of, rules_of}
 use Rattle.mediation.proofs.Common.{copied, ActIsGranted, PlantIsGranted, PutIsInjected, ReadsOwn, AddfdPut, Read, Policy, Figures, Script, files, InstallsAlone, FailsAlone, Bool, codes, Name}
-use Rattle.mediation.proofs.Common.{task_name, plan, place_or, Files, NativeStep, files_after, after_native, ActsAlone, Spawn, Native, Install, OpenBase, LetGo, SpawnKind, name_eq-true}
-use Rattle.hist_model.specs.Orders.{uses_copy}
-use Rattle.hist_model.specs.Mediated.{WaitedUntilChecked, is_until_checked, IsMediated, TimesKept, KeepsPrivileged, is_device_node, is_others_row, is_effect}
-use Rattle.hist_model.specs.Steps.{spends, number_entered, entered, pid_named}
-use Rattle.hist_model.specs.Decisions.{cap_of}
-use Rattle.hist_model.specs.Copies.{Progress, copy_of}
-use Rattle.hist_model.specs.Legal.{judged}
-use Rattle.std.specs.Prelude.{◌%◌, ◌^◌, filter, nat_eq, bytes_eq}
-use Rattle.std.specs.List.{starts_with}
-use Rattle.hist_model.specs.Trees.{Tree, attr, with_attr, is_attr, attr_put, attr_replaced, are_attr_flags}
-use Rattle.hist_model.specs.Paths.{Place, Follow, reaches}
-use Rattle.hist_model.specs.Effects.{perform, made, attributed}
-use Rattle.hist_model.specs.Requests.{base_dirfd}
-use Rattle.hist_model.specs.Memory.{is_number, argument, last_call, group_named, own_group, all_mapped, mapped_byte, sysinfo_size}
-use Rattle.hist_model.specs.Natives.{root, Fails, Gives, Changes, Writes, native_step, call_natively, copied_natively, make_natively, set_natively, changed, is_refused, close_natively, has_base}
-use Rattle.hist_model.specs.Files.{after_spawn}
-use Rattle.hist_model.specs.declared.request.Node.{Node}
-use Rattle.hist_model.specs.declared.request.Obj.{Obj}
-use Rattle.hist_model.specs.declared.request.TreeOp.TheVariants.{Fail, SetAttr}
-use Rattle.hist_model.specs.declared.tree.AttrRow.{AttrRow}
+use Rattle.mediation.proofs.Common.{task_name, plan, place_or, Files, NativeStep, files_after, after_native, ActsAlone, Spawn, Native, Install, OpenBase, LetGo, name_eq-true, uses_copy}
+use Rattle.mediation.proofs.Common.{WaitedUntilChecked, is_until_checked, IsMediated, TimesKept, KeepsPrivileged, is_others_row, is_effect, spends, number_entered, entered, pid_named, cap_of}
+use Rattle.mediation.proofs.Common.{Progress, copy_of, judged, filter, nat_eq, bytes_eq, starts_with, Tree, attr, with_attr, is_attr, attr_put, attr_replaced, are_attr_flags, Place, Follow, reaches}
+use Rattle.mediation.proofs.Common.{perform, made, attributed, base_dirfd, is_number, argument, last_call, group_named, own_group, all_mapped, mapped_byte, sysinfo_size, root, Fails, Gives, Changes}
+use Rattle.mediation.proofs.Common.{Writes, native_step, call_natively, copied_natively, set_natively, changed, is_refused, close_natively, has_base, Obj, Fail, SetAttr, AttrRow}
+use Rattle.std.specs.Prelude.{◌%◌, ◌^◌}
 use Rattle.mediation.proofs.Calls.{before-all, before-older, length-before, legal_before, fetched-before, is_call-below, fetching}
 use Rattle.mediation.proofs.Rows.{WorkerRow, Row, row-of}
 use Rattle.mediation.proofs.Tasks.{listed-older}

@@ -1,9 +1,7 @@
 -- Finished stays finished.
-use Rattle.mediation.proofs.Common.{◌≡◌, ◌⊎◌, inl, inr, ℕ, ◌<◌, Bool, true, false, List, [], ◌∷◌, ◌++◌, length, Some, None, refl, sym, ap, ◌∙◌, arith, Ok, Err, both_ways, Name, ended, is_made}
-use Rattle.mediation.proofs.Common.{alive, listed, closes, Rules, session, joined, any_of, is_letgo, notif_of, System, oldest_unfetched, Event, Actor, What, Recv, OpenMem, OpenBase, Check, Read}
-use Rattle.mediation.proofs.Common.{Act, Plant, AddfdPut, AddfdTake, Send, LetGo, Skip, Notif}
-use Rattle.hist_model.specs.Legal.{Finished, is_open_session}
-use Rattle.mediation.specs.Facts.{StaysFinished}
+use Rattle.mediation.proofs.Common.{◌≡◌, ◌⊎◌, ℕ, ◌<◌, Bool, true, false, List, [], ◌∷◌, ◌++◌, length, Some, None, refl, ap, arith, Ok, Err, both_ways, ended, is_made, listed, closes, Rules, session}
+use Rattle.mediation.proofs.Common.{any_of, is_letgo, notif_of, System, oldest_unfetched, Event, Actor, What, Recv, OpenMem, OpenBase, Check, Read, Act, Plant, AddfdPut, AddfdTake, Send, LetGo}
+use Rattle.mediation.proofs.Common.{Skip, Notif, Finished, is_open_session, StaysFinished}
 use Rattle.mediation.proofs.Rows.{Row, WorkerRow, row-of}
 use Rattle.mediation.proofs.Deeds.{AtWork, deed-is}
 use Rattle.mediation.proofs.Calls.{fetching}

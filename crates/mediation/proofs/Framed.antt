@@ -1,11 +1,8 @@
 -- The frame law.
 use Rattle.mediation.proofs.Common.{◌≡◌, ℕ, zero, suc, ◌+◌, ◌<◌, ◌≤◌, Bool, false, List, [], ◌∷◌, length, Some, None, refl, arith, if◌then◌else◌, false_from_ne_true, Name, newest, oldest, ended}
 use Rattle.mediation.proofs.Common.{ends, was_waited_for, reaped, reaps, holder, free_from, next_pid, last_pid, given, listed, named, fetched, settled, queue, answers, puts_to, is_install, calls}
-use Rattle.mediation.proofs.Common.{recvs, count, notifies, leaves, closes, session, Event, What, event_at-here, event_at-older, oldest-same}
-use Rattle.std.proofs.Common.{◌-◌}
-use Rattle.hist_model.specs.Look.{or_else}
-use Rattle.hist_model.specs.Calls.{answered, some_sends}
-use Rattle.mediation.specs.Frames.{changes_tasks, changes_list, changes_fetched, changes_count, changes_answered, Frame}
+use Rattle.mediation.proofs.Common.{recvs, count, notifies, leaves, closes, session, Event, What, event_at-here, event_at-older, oldest-same, ◌-◌, or_else, answered, some_sends, changes_tasks}
+use Rattle.mediation.proofs.Common.{changes_list, changes_fetched, changes_count, changes_answered, Frame}
 use Rattle.mediation.proofs.Tasks.{listed-below, listed-here}
 use Rattle.mediation.proofs.Phases.{Asks, queue-asks}
 

@@ -2,11 +2,8 @@
 use Rattle.mediation.proofs.Common.{◌≡◌, ◌⊎◌, inl, inr, ℕ, ◌<◌, ◌^◌, true, false, ◌&&◌, not, List, [], ◌∷◌, length, Option, Some, None, refl, arith, Result, Ok, Err, ℤ, and_parts, ev, is_worker}
 use Rattle.mediation.proofs.Common.{holder, listed, waiting, caller, named, unlists, Rules, skips, Open, OpenB, Ask, session, notif_of, any_of, opens, opens_base, checks, System, is_good_check}
 use Rattle.mediation.proofs.Common.{IsLegal, session_call, mem, mem_after, base, base_after, opened, group, task_place, check_answer, Event, Actor, What, Recv, OpenMem, OpenBase, Check, Notif}
-use Rattle.mediation.proofs.Common.{event_at-older, ap, ◌∙◌, if◌then◌else◌, or_cases, or_parts, or_left, or_right, gives_up, lives, Bool, sym, ◌==◌, cases_Bool, eqb-true, before, event_at, IsStep}
-use Rattle.mediation.proofs.Common.{base_answer, place_or, Files, files, files_after, after_native, NativeStep, Start, Task, Worker, Listener, Read, Act, Plant, AddfdPut, AddfdTake, Send, LetGo}
-use Rattle.mediation.proofs.Common.{Script, system_of, event_at-here, event_at-below}
-use Rattle.hist_model.specs.Mediated.{HasMemory, OpenedBase, BaseIs}
-use Rattle.hist_model.specs.Natives.{base_of}
+use Rattle.mediation.proofs.Common.{event_at-older, ap, ◌∙◌, if◌then◌else◌, or_cases, or_parts, or_left, or_right, gives_up, lives, Bool, sym, before, event_at, IsStep, base_answer, place_or, Files}
+use Rattle.mediation.proofs.Common.{files, after_native, NativeStep, Worker, LetGo, Script, system_of, event_at-here, event_at-below, HasMemory, OpenedBase, BaseIs, base_of}
 use Rattle.mediation.proofs.Rows.{WorkerRow}
 use Rattle.mediation.proofs.Tasks.{calls_are_last, listed-older, place-stays, place-is, group-older, living-holder}
 use Rattle.mediation.proofs.Calls.{is_call-below, before-older, before-newest}

@@ -3,8 +3,7 @@ use Rattle.mediation.proofs.Common.{◌≡◌, ◌⊎◌, inl, inr, ℕ, ◌<◌
 use Rattle.mediation.proofs.Common.{eq-eqb, ev, event_at, is_worker, is_made, pid_of, ended, fetched, caller, id, is_call, Rules, Fetch, session, skips, starts, joined, notif_of, fetched_by, any_of}
 use Rattle.mediation.proofs.Common.{is_letgo, System, IsStep, IsLegal, session_call, call_after, mem, mem_after, base, base_after, oldest_unfetched, task_place, pid_or, notif, Event, Actor, What}
 use Rattle.mediation.proofs.Common.{Recv, OpenMem, OpenBase, Check, Read, Act, Plant, AddfdPut, AddfdTake, Send, LetGo, Notif, event_at-older, ◌^◌, ◌==◌, and_from, listed, named, oldest-some}
-use Rattle.mediation.proofs.Common.{oldest-found}
-use Rattle.hist_model.specs.Steps.{pid_at}
+use Rattle.mediation.proofs.Common.{oldest-found, pid_at}
 use Rattle.mediation.proofs.Rows.{WorkerRow, row-of}
 use Rattle.mediation.proofs.Tasks.{calls_are_last, listed-below, place-stays, place-is, made-place, makes-pid}
 use Rattle.mediation.proofs.Calls.{listed-is_call, is_call-below, fetching, fetched-now, fetched-more, call_ids}

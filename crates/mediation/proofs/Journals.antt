@@ -1,16 +1,10 @@
 -- A legal history is fixed by its actors, and by the text of its journal; legality reads the same by places.
 use Rattle.mediation.proofs.Common.{◌≡◌, ◌⊎◌, inl, inr, ℕ, zero, suc, ◌+◌, ◌<◌, ◌≤◌, List, [], ◌∷◌, length, reverse, refl, ap, ap₂, ◌∙◌, arith, reverse-append, Rules, System, IsStep, IsLegal, Event}
 use Rattle.mediation.proofs.Common.{Actor, ◌^◌, true, ◌++◌, sym, codes, leb-true, eqb-false, Name, ev, is_made, is_actor, start, step, task_step, Start, Task, Worker, Listener, Skip, Policy, Script}
-use Rattle.std.proofs.Common.{take, get_or, add-one}
-use Rattle.std.proofs.Math.Seq.{take-length}
-use Rattle.std.proofs.lemmas.List.{take_more, append_assoc, append_cancel_left}
-use Rattle.std.specs.Prelude.{◌+◌, ◌%◌, ◌*◌}
-use Rattle.std.specs.Fmt.{decimal, digits}
-use Rattle.std.specs.List.{flat_map}
-use Rattle.std.proofs.lemmas.Fmt.{decimal_injective, decimal_by_steps, decimal_nonempty}
-use Rattle.hist_model.specs.ReportWords.{name_text, actor_text}
-use Rattle.hist_model.specs.ReportJournal.{what_text, event_line, journal_line, lines_of, journal}
-use Rattle.mediation.specs.Journals.{actors, IsLegalByPlace, IsWritten, IsNamed, AreNamed, FixedByJournal, SharesJournal}
+use Rattle.mediation.proofs.Common.{take, get_or, add-one, take-length, take_more, append_assoc, append_cancel_left, ◌*◌, decimal, digits, flat_map, decimal_injective, decimal_by_steps}
+use Rattle.mediation.proofs.Common.{decimal_nonempty, name_text, actor_text, what_text, event_line, journal_line, lines_of, journal, actors, IsLegalByPlace, IsWritten, IsNamed, AreNamed}
+use Rattle.mediation.proofs.Common.{FixedByJournal, SharesJournal}
+use Rattle.std.specs.Prelude.{◌+◌, ◌%◌}
 
 -- ---- a legal history is fixed by its actors, and legality reads the same by places
 

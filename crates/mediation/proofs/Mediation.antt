@@ -1,7 +1,7 @@
 -- Every legal history is mediated.
 use Rattle.mediation.proofs.Common.{List, [], ◌∷◌, session, Legal, system_of, rules_of, InstallsOwn, ResumesOwn, ReturnsInstalled, Each, TakenByItsActor, NamesOwn, NeverBusy, ErrorsKnown}
 use Rattle.mediation.proofs.Common.{InstallsAlone, FailsAlone, Arrives, ActIsGranted, PlantIsGranted, PutIsInjected, ReadsOwn, HasCause, LostIfGone, ReceivesFor, ActsAlone, Event, Policy, Script}
-use Rattle.hist_model.specs.Mediated.{Mediated}
+use Rattle.mediation.proofs.Common.{Mediated}
 use Rattle.mediation.proofs.Calls.{answered_once, receives-step, receives-are-for}
 use Rattle.mediation.proofs.Order.{is-own, ordered}
 use Rattle.mediation.proofs.Replies.{each, taken-by-its-actor, names-own-call, never-busy, errors-known, installs-are-own, resumes-are-own, resumes-installed, has-cause, lost-if-gone, arrives}

@@ -1,9 +1,8 @@
 -- The steps of a session stand in order, and what it decided stays.
-use Rattle.hist_model.specs.Orders.{uses_copy}
-use Rattle.mediation.proofs.Common.{◌≡◌, inl, inr, ℕ, Bool, true, false, ◌||◌, List, [], ◌∷◌, Option, Some, None, refl, sym, ap, ◌∙◌, arith, ◌==◌, Result, Ok, cases_Bool, Rules, Fetch, Open, OpenB}
-use Rattle.mediation.proofs.Common.{Ask, ReadD, ActD, PlantD, Put, Take, Answer, Let, Decision, Injects, fetched_by, deed, session, starts, joined, notif_of, any_of, is_read, reads_of, first_some}
-use Rattle.mediation.proofs.Common.{put_in, take_in, checks, number_of, System, is_acting, IsStep, IsLegal, Event, What, Recv, OpenMem, OpenBase, Check, Read, Act, Plant, AddfdPut, AddfdTake, Send}
-use Rattle.mediation.proofs.Common.{LetGo, Notif, ◌⊎◌, ◌<◌, ◌≤◌, Err, ℤ, or_parts, eqb-true, eqb-false, both_ways, opens, opens_base, gives_up, InOrder, is_good_check}
+use Rattle.mediation.proofs.Common.{uses_copy, ◌≡◌, inl, inr, ℕ, Bool, true, false, ◌||◌, List, [], ◌∷◌, Option, Some, None, refl, sym, ap, ◌∙◌, arith, ◌==◌, Result, Ok, cases_Bool, Rules, Fetch}
+use Rattle.mediation.proofs.Common.{Open, OpenB, Ask, ReadD, ActD, PlantD, Put, Take, Answer, Let, Decision, Injects, fetched_by, deed, session, starts, joined, notif_of, any_of, is_read, reads_of}
+use Rattle.mediation.proofs.Common.{first_some, put_in, take_in, checks, number_of, System, is_acting, IsStep, IsLegal, Event, What, Recv, OpenMem, OpenBase, Check, Read, Act, Plant, AddfdPut}
+use Rattle.mediation.proofs.Common.{AddfdTake, Send, LetGo, Notif, ◌⊎◌, ◌<◌, ◌≤◌, eqb-true, eqb-false, opens, opens_base, gives_up, InOrder, is_good_check}
 use Rattle.mediation.proofs.Deeds.{deed-is, AtWork, HasCopied}
 use Rattle.mediation.proofs.Hands.{worker-row, session-same, session-more, started}
 

@@ -1,9 +1,6 @@
 -- The history that a schedule plays is legal.
 use Rattle.mediation.proofs.Common.{◌≡◌, ℕ, zero, suc, ◌<◌, ◌≤◌, ◌^◌, true, false, List, [], ◌∷◌, length, refl, arith, closes, ev, IsStep, IsLegal, is_start, is_actor, step, takes, Legal, played}
-use Rattle.mediation.proofs.Common.{system_of, rules_of, Actor, Listener, Event, What, Policy, Script}
-use Rattle.hist_model.specs.Legal.{started, with_step, with_steps, with_schedule}
-use Rattle.hist_model.specs.declared.script.Step.{Step}
-use Rattle.mediation.specs.Scheduled.{IsScheduled, AllScheduled}
+use Rattle.mediation.proofs.Common.{system_of, rules_of, Actor, Listener, Event, What, Policy, Script, started, with_step, with_steps, with_schedule, Step, IsScheduled, AllScheduled}
 use Rattle.mediation.proofs.Replies.{taken-by-its-actor}
 
 not-start : (a : Actor) → IsScheduled a → is_start a ≡ false

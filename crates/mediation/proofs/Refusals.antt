@@ -2,9 +2,9 @@
 use Rattle.mediation.proofs.Common.{◌≡◌, ℕ, ◌<◌, ◌&&◌, Bool, true, false, List, [], ◌∷◌, length, refl, arith, Ok, pos, nat_le, ◌==◌, and_parts, eqb-false, ev, event_at, newest, oldest, ended}
 use Rattle.mediation.proofs.Common.{was_waited_for, reaped, holder, free_from, last_pid, next_pid, is_made, mode, call_of, next_signal, listed, fetched, named, settled, queue, calls, recvs, closes}
 use Rattle.mediation.proofs.Common.{Rules, session, deed, System, IsLegal, is_start, is_actor, start, step, task_step, worker_step, steps_of, reply, oldest_unfetched, task_place, group, mem, base}
-use Rattle.mediation.proofs.Common.{session_call, install_of, call_at, request_of, owes_native, times_spent, Actor, Task, Worker, Event, What, Recv, AddfdPut, Addfd, Notif}
-use Rattle.hist_model.specs.Tasks.{pending}
-use Rattle.mediation.specs.Refused.{after, played, Refuses, EarlyEffect, LateOpening, SecondReading, SecondAnswer, ValidByNumber, LateInstallation, WithoutSend, NewestFirst}
+use Rattle.mediation.proofs.Common.{session_call, install_of, call_at, request_of, owes_native, times_spent, Actor, Task, Worker, Event, What, Recv, AddfdPut, Addfd, Notif, pending, after, Refuses}
+use Rattle.mediation.proofs.Common.{EarlyEffect, LateOpening, SecondReading, SecondAnswer, ValidByNumber, LateInstallation, WithoutSend, NewestFirst}
+use Rattle.mediation.specs.Refused.{played}
 use Rattle.mediation.proofs.Rows.{Row, step-row}
 
 -- tasks and workers

@@ -1,20 +1,14 @@
 -- Answers, installations and returns: whose they are, what causes them, and that they arrive.
 use Rattle.mediation.proofs.Common.{◌≡◌, inl, inr, ℕ, ◌<◌, ◌^◌, true, false, ◌&&◌, List, [], ◌∷◌, ◌++◌, length, Option, Some, None, refl, sym, ap, ◌∙◌, subst, arith, Result, Ok, pos, cases_Bool}
-use Rattle.mediation.proofs.Common.{and_parts, or_cases, or_left, or_right, eq-eqb, eqb-true, false_from_ne_true, both_ways, Name, is_task, listed, caller, answers, puts_to, installs_for}
-use Rattle.mediation.proofs.Common.{is_install, queue, rest_of, settled, settles, has_send_flag, is_send, call_of, Rules, session, addfd_of, System, IsLegal, reply, call_at, install_of, installed}
-use Rattle.mediation.proofs.Common.{is_first, fetcher, worker_of, Event, Actor, Task, What, Install, Resume, Send, AddfdPut, Addfd, Back, event_at-here, event_at-older, event_at-below, newest-some}
-use Rattle.mediation.proofs.Common.{name_eq-true, Bool, ◌⊎◌, ◌||◌, not, Err, ◌==◌, if◌then◌else◌, is_worker, is_place, named, Answer, Put, IsStep, session_call, send_answer, put_answer, InstallsOwn}
-use Rattle.mediation.proofs.Common.{ResumesOwn, ReturnsInstalled, HasCause, NeverBusy, ErrorsKnown, TakenByItsActor, takes, Each, NamesOwn, LostIfGone, Notif, Worker, OpenMem, OpenBase, Check}
-use Rattle.mediation.proofs.Common.{AddfdTake, ◌≤◌, name_eq, fetched, fetches, id, closes, leaves, Arrives, Deliver}
-use Rattle.std.proofs.lemmas.Bool.{cases_order}
-use Rattle.hist_model.specs.Calls.{gave, first_sends, has_send}
-use Rattle.hist_model.specs.Steps.{back_of}
-use Rattle.hist_model.specs.Settlers.{IsRequestOf, IsInstallOf, Source, sent, installed_for}
-use Rattle.hist_model.specs.declared.event.Back.TheVariants.{Value}
-use Rattle.hist_model.specs.Mediated.{is_busy, is_known_error, is_accepted, is_lost, fetches_of, OneSession, returns}
+use Rattle.mediation.proofs.Common.{and_parts, or_cases, or_left, or_right, eq-eqb, false_from_ne_true, both_ways, Name, is_task, listed, caller, answers, puts_to, installs_for, is_install, queue}
+use Rattle.mediation.proofs.Common.{rest_of, settled, settles, has_send_flag, call_of, Rules, session, System, IsLegal, reply, call_at, install_of, installed, is_first, fetcher, worker_of, Event}
+use Rattle.mediation.proofs.Common.{Actor, Task, What, Install, Resume, Send, AddfdPut, Addfd, Back, event_at-here, event_at-older, event_at-below, newest-some, name_eq-true, Bool, ◌||◌, Err, ◌==◌}
+use Rattle.mediation.proofs.Common.{is_worker, named, Answer, Put, IsStep, session_call, InstallsOwn, ResumesOwn, ReturnsInstalled, HasCause, NeverBusy, ErrorsKnown, TakenByItsActor, Each, NamesOwn}
+use Rattle.mediation.proofs.Common.{LostIfGone, Worker, OpenMem, OpenBase, Check, AddfdTake, ◌≤◌, name_eq, fetched, fetches, id, closes, leaves, Arrives, Deliver, cases_order, gave, first_sends}
+use Rattle.mediation.proofs.Common.{has_send, back_of, IsRequestOf, Source, sent, installed_for, Value, is_busy, is_known_error, is_accepted, is_lost, fetches_of, OneSession, returns}
 use Rattle.mediation.proofs.Calls.{before-older, before-newest, installs-open, settles-once}
 use Rattle.mediation.proofs.Rows.{Row, TaskRow, WorkerRow, row-of}
-use Rattle.mediation.proofs.Deeds.{deed-is, AtWork}
+use Rattle.mediation.proofs.Deeds.{deed-is}
 use Rattle.mediation.proofs.Phases.{installing, install-first, put-call, call-at-older, call-at-here, call-at-above, hand-fetcher, fetcher-fetched, fetcher-stays, install-same, install-now}
 use Rattle.mediation.proofs.Phases.{install-new, actor-acts, AtCall, acts-own, check-is, send-is, put-is, take-is, open-is, base-is, at-call, refetch}
 use Rattle.mediation.proofs.Order.{is_put, is-own, ordered, used-two}

@@ -4,13 +4,8 @@ use Rattle.mediation.proofs.Common.{next_pid, holder, mode, calls, settled, name
 use Rattle.mediation.proofs.Common.{Answer, Let, System, step, task_step, worker_step, wait_step, reply, is_child, is_ended_child, recv_answer, oldest_unfetched, lives, check_answer, send_answer}
 use Rattle.mediation.proofs.Common.{with_id, owes_native, install_step, base_answer, read_answer, put_answer, mem, take_step, is_spent, is_start, IsStep, request_of, Event, Actor, Start, Task}
 use Rattle.mediation.proofs.Common.{Worker, Listener, What, Spawn, Enter, Resume, Deliver, Reap, Recv, OpenMem, Check, Send, LetGo, Skip, Native, Install, OpenBase, Read, Act, Plant, AddfdPut}
-use Rattle.mediation.proofs.Common.{AddfdTake, SpawnKind}
-use Rattle.hist_model.specs.Signals.{effect_in_call, effect_outside}
-use Rattle.hist_model.specs.Steps.{living_step, instr_step, deliver_or, spawn_answer, found, next_instr, next_child, install_at, request_listed}
-use Rattle.hist_model.specs.declared.script.Instr.{Instr}
-use Rattle.hist_model.specs.declared.event.SpawnKind.TheVariants.{New}
-use Rattle.hist_model.specs.declared.event.What.TheVariants.{Poke, Handler, Signal, Exit, Close}
-use Rattle.hist_model.specs.declared.event.Delivered.{Delivered}
+use Rattle.mediation.proofs.Common.{AddfdTake, SpawnKind, effect_in_call, effect_outside, living_step, instr_step, deliver_or, spawn_answer, found, next_instr, next_child, install_at}
+use Rattle.mediation.proofs.Common.{request_listed, Instr, New, Poke, Handler, Signal, Exit, Close, Delivered}
 
 -- a task's step tells this
 abbrev pub TaskRow : System → List Event → Name → What → Type 0

@@ -1,6 +1,5 @@
 -- The facts of sessions: what they opened is their call's task's, and what they leave is settled.
-use Rattle.mediation.proofs.Common.{◌<◌, ◌^◌, List, length, arith, Rules, System, IsLegal, Event}
-use Rattle.mediation.specs.Facts.{HandlesOwn, SessionsSettle}
+use Rattle.mediation.proofs.Common.{◌<◌, ◌^◌, List, length, arith, Rules, System, IsLegal, Event, HandlesOwn, SessionsSettle}
 use Rattle.mediation.proofs.Handles.{steady}
 use Rattle.mediation.proofs.Phases.{phases, at-call}
 use Rattle.mediation.proofs.Effects.{waits-now}

@@ -1,18 +1,12 @@
 -- Tasks: their process numbers, their calls, their places, and their names.
 use Rattle.mediation.proofs.Common.{◌≡◌, ℕ, zero, suc, ◌+◌, ◌<◌, true, ◌&&◌, List, [], ◌∷◌, length, Some, None, arith, or_right, Name, newest, is_task, ended, was_waited_for, reaped, ends, holds}
 use Rattle.mediation.proofs.Common.{holder, given, free_from, next_pid, Rules, System, IsStep, IsLegal, Event, Actor, What, event_at-here, event_at-older, event_at-above, below_or_last}
-use Rattle.mediation.proofs.Common.{newest-found, ◌⊎◌, inl, inr, false, ◌||◌, not, ◌%◌, ◌^◌, refl, ◌==◌, ℤ, cases_Bool, eqb-true, and_parts, and_from, ne_eqb, eq-eqb, name_eq, task_name, is_made}
-use Rattle.mediation.proofs.Common.{alive, makes, listed, caller, calls, notifies, notify_id, leaves, closes, unlists, call_of, with_id, Start, Task, Worker, Listener, Enter, name_eq-true}
-use Rattle.mediation.proofs.Common.{name_eq-refl, newest-some, Option, ◌∙◌, or_cases, event_at, child_of, name_of, task_place, makes_in, group, pid_or, oldest-same, oldest-found, oldest-some, ap}
-use Rattle.mediation.proofs.Common.{Ok, oldest, reaps, pid_of, wait_step, is_ended_child, is_child, Reap, ◌≤◌, ◌++◌, sym, if◌then◌else◌, or_left, false_from_ne_true, steps_of, Spawn}
-use Rattle.hist_model.specs.Laws.{PidsDiffer, last_own, is_passive, CallsAreLast}
-use Rattle.std.proofs.lemmas.Bool.{not-true}
-use Rattle.hist_model.specs.declared.event.Entered.{Entered}
-use Rattle.hist_model.specs.Tasks.{given_in}
-use Rattle.hist_model.proofs.Look.{oldest-stays}
-use Rattle.hist_model.specs.Steps.{is_spawn}
+use Rattle.mediation.proofs.Common.{newest-found, ◌⊎◌, inl, inr, false, ◌||◌, not, ◌%◌, ◌^◌, refl, ◌==◌, cases_Bool, eqb-true, and_parts, and_from, ne_eqb, eq-eqb, name_eq, task_name, is_made}
+use Rattle.mediation.proofs.Common.{alive, makes, listed, caller, calls, notifies, notify_id, leaves, closes, unlists, call_of, Start, Task, Worker, Listener, name_eq-true, name_eq-refl}
+use Rattle.mediation.proofs.Common.{newest-some, Option, ◌∙◌, or_cases, event_at, child_of, name_of, task_place, makes_in, group, pid_or, oldest-same, oldest-found, oldest-some, ap, Ok, oldest}
+use Rattle.mediation.proofs.Common.{reaps, pid_of, wait_step, is_ended_child, is_child, Reap, ◌≤◌, ◌++◌, sym, if◌then◌else◌, or_left, false_from_ne_true, steps_of, Spawn, PidsDiffer, last_own}
+use Rattle.mediation.proofs.Common.{is_passive, CallsAreLast, not-true, given_in, oldest-stays, is_spawn, spawns, spawned, NamesDiffer}
 use Rattle.mediation.proofs.Rows.{Row, row-of, TaskRow}
-use Rattle.mediation.specs.Facts.{spawns, spawned, NamesDiffer}
 
 -- ---- unreaped tasks have different process numbers
 
