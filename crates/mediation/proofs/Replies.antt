@@ -62,10 +62,6 @@ put-own S R K e c legal room row h =
       },
     )
 
-queue-install : (e : Event) (K : List Event) (c : ℕ) → puts_to K e.what c ≡ false → installs_for K e c ≡ true → queue (e ∷ K) c ≡ rest_of (queue K c)
-unfolding queue
-queue-install e K c h g = rw (h, g)
-
 queue-other : (e : Event) (K : List Event) (c : ℕ) → puts_to K e.what c ≡ false → installs_for K e c ≡ false → queue (e ∷ K) c ≡ queue K c
 unfolding queue
 queue-other e K c h g = rw (h, g)
@@ -92,7 +88,7 @@ settled-was e K c h g = grind arith
 
 all-kind : (S : System) (R : Rules) (K : List Event) (e : Event) (c : ℕ) → IsLegal S R K → length K < 2 ^ 64 → Row S R K e.who e.what → AllOf K c (queue K c) → AllOf (e ∷ K) c (queue (e ∷ K) c)
 unfolding AllOf queue
-all-kind S R K e c legal room row h = grind (arith, put-own, all-push, all-later, queue-install, queue-other)
+all-kind S R K e c legal room row h = grind (arith, put-own, all-push, all-later, queue-other)
 
 all-of : (S : System) (R : Rules) (K : List Event) → IsLegal S R K → length K < 2 ^ 64 → (c : ℕ) → AllOf K c (queue K c)
 all-of S R [] legal room = λ c. none-of c
