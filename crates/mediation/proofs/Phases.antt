@@ -442,9 +442,6 @@ module _ (S : System) (R : Rules) (K : List Event) (a : Actor) (w c : ℕ) (lega
 
 -- ---- each listed call is not fetched, in hand, or answered
 
-some-nat : (x y : ℕ) → Some x ≡ Some y → x ≡ y
-some-nat x y h = cc
-
 -- only a worker asks and answers
 pub actor-acts : (S : System) (R : Rules) (K : List Event) (a : Actor) (what : What) (c : ℕ) → IsLegal S R K → length K < 2 ^ 64 → Row S R K a what → (puts_to K what c || answers K what c) ≡ true → (v : ℕ) × (a ≡ Worker v) × (session_call K v ≡ Some c)
 actor-acts S R K a what c legal room r h = grind (arith, acts-own)
@@ -498,8 +495,9 @@ module _ (S : System) (R : Rules) (K : List Event) (e : Event) (c : ℕ) (legal 
           let v = actor-acts S R K e.who e.what c legal room row z in
           let x = hand-fetcher S R K legal room v.0 c v.2 in
           let y = hand-fetcher S R K legal room w c h.in_hand in
-          let m : v.0 ≡ w = some-nat v.0 w (sym x ∙ y) in
-          both_ways (is_worker e.who w) o (rw (v.1, m) (eq-eqb w w refl))
+          let m : v.0 ≡ w = cc (x, y) in
+          let g : is_worker (Worker w) w ≡ true = eq-eqb w w refl in
+          cc (v.1, m, o, g)
 
   -- the worker that has it in hand steps
   mine-old : (IsStep S R K e) → (w : ℕ) → is_worker e.who w ≡ true → AtCall K c w → AtCall (e ∷ K) c w ⊎ ((settled (e ∷ K) c ≡ true) × (session_call (e ∷ K) w ≡ Some c → ⊥))
@@ -516,8 +514,7 @@ module _ (S : System) (R : Rules) (K : List Event) (e : Event) (c : ℕ) (legal 
       go (Worker v) (Recv (Ok n)) r q m =
           let e' = ev (Worker v) (Recv (Ok n)) in
           let d = fetching K n (oldest_unfetched K) refl r.2 in
-          let p = and_parts (n.id == id K c) (listed K c) q in
-          let same : d.0 ≡ c = ids_differ S R K legal room d.0 c d.2 l (sym (ap (λ (x : Notif). x.id) d.1) ∙ eqb-true n.id (id K c) p.0) in
+          let same : d.0 ≡ c = ids_differ S R K legal room d.0 c d.2 l (grind arith) in
           let mine : is_worker (Worker v) v ≡ true = eq-eqb v v refl in
           let s : session (e' ∷ K) v ≡ Recv (Ok n) ∷ [] = session-more e' K v mine refl ∙ started (session K v) (Recv (Ok n)) refl in
           inl (record {
