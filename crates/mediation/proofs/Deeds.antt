@@ -1,11 +1,8 @@
 -- What a worker's next deed tells of its session so far.
-use Rattle.std.proofs.Common.{◌≡◌, ◌⊎◌, inl, inr, ℕ, Bool, true, false, not, List, Option, Some, None, refl, ap, subst}
-use Rattle.std.specs.Prelude.{if◌then◌else◌, ◌==◌, Result, Ok, Err, ℤ}
-use Rattle.hist_model.specs.Sessions.{Rules, Deed, Fetch, Open, OpenB, Ask, ReadD, ActD, PlantD, Put, Take, Answer, Let, Decision, Denies, Passes, Acts, Plants, Injects, addfd_of, reads_of, deed, deed_for, based_deed, checked_deed, copied_deed, judged_deed, decided_deed, after_act, inject_deed, notif_of, any_of, number_of, is_letgo, gives_up, opens, opens_base, checks, first_some, outcome_in, put_in, take_in}
-use Rattle.hist_model.specs.Causes.{is_acting, Cause, faulty, denied, passed, done, not_put, not_taken}
-use Rattle.hist_model.specs.declared.event.What.{What}
-use Rattle.sys_abi.specs.declared.wire.Notif.{Notif}
-use Rattle.sys_abi.specs.declared.wire.Addfd.{Addfd}
+use Rattle.mediation.proofs.Common.{◌≡◌, ◌⊎◌, inl, inr, ℕ, Bool, true, false, not, List, Option, Some, None, refl, ap, subst, arith, if◌then◌else◌, ◌==◌, Result, Ok, Err, ℤ, Rules, Fetch, Open}
+use Rattle.mediation.proofs.Common.{OpenB, Ask, ReadD, ActD, PlantD, Put, Take, Answer, Let, Decision, Acts, Plants, Injects, addfd_of, reads_of, deed, notif_of, any_of, number_of, is_letgo}
+use Rattle.mediation.proofs.Common.{gives_up, opens, opens_base, checks, first_some, put_in, take_in, is_acting, Cause, faulty, denied, passed, done, not_put, not_taken, What, Notif, Addfd, Deed}
+use Rattle.mediation.proofs.Common.{Denies, Passes, based_deed, checked_deed, copied_deed, judged_deed, decided_deed, after_act, inject_deed, outcome_in}
 
 -- the session is at work, for this notification
 pub record AtWork (own : List What) (n : Notif) : Type 0 where
@@ -73,12 +70,8 @@ module _ (R : Rules) (own : List What) (n : Notif) (work : AtWork own n) (ready 
   twice_tells c p true h = (n, work, ready, refl, inr (h, p))
   twice_tells c p false h = judged_tells (record { checked = c; twice = h; copied = p }) (R.fault n (reads_of own)) refl
 
-  copied_tells : any_of checks own ≡ true → (p : Option (ℕ × ℕ)) → R.next_piece n (reads_of own) ≡ p → Tells R own (copied_deed R n own p)
-  copied_tells c (Some a) h = (n, work, ready, c, h)
-  copied_tells c None h = twice_tells c h (number_of checks own == 1) refl
-
   checked_tells : (b : Bool) → any_of checks own ≡ b → Tells R own (if not b then Ask n.id else copied_deed R n own (R.next_piece n (reads_of own)))
-  checked_tells true h = copied_tells h (R.next_piece n (reads_of own)) refl
+  checked_tells true h = grind (arith, twice_tells)
   checked_tells false h = (n, work, ready, refl, inl h)
 
 module _ (R : Rules) (own : List What) (n : Notif) (work : AtWork own n) (has_opened : any_of opens own ≡ true) where
@@ -87,8 +80,7 @@ module _ (R : Rules) (own : List What) (n : Notif) (work : AtWork own n) (has_op
   base_tells d q false h = (n, work, has_opened, h, refl, q)
 
   based_tells : (d : Option ℤ) → R.dirfd n ≡ d → Tells R own (based_deed R n own d)
-  based_tells (Some d) q = base_tells d q (any_of opens_base own) refl
-  based_tells None q = checked_tells R own n work (record { mem = has_opened; base = inl q }) (any_of checks own) refl
+  based_tells d q = grind (arith, base_tells, checked_tells)
 
 open_tells : (R : Rules) (own : List What) (n : Notif) → AtWork own n → (b : Bool) → any_of opens own ≡ b → Tells R own (if not b then Open n.pid else based_deed R n own (R.dirfd n))
 open_tells R own n work true h = based_tells R own n work h (R.dirfd n) refl
@@ -102,13 +94,9 @@ letgo_tells : (R : Rules) (own : List What) (n : Notif) → notif_of own ≡ Som
 letgo_tells R own n h true k = inr k
 letgo_tells R own n h false k = end_tells R own n h k (any_of gives_up own) refl
 
-notif_tells : (R : Rules) (own : List What) (o : Option Notif) → notif_of own ≡ o → Tells R own (deed_for R o own)
-notif_tells R own None h = inl h
-notif_tells R own (Some n) h = letgo_tells R own n h (any_of is_letgo own) refl
-
 pub deed-tells : (R : Rules) (own : List What) → Tells R own (deed R own)
 unfolding deed
-deed-tells R own = notif_tells R own (notif_of own) refl
+deed-tells R own = grind (arith, letgo_tells)
 
 pub deed-is : (R : Rules) (own : List What) (d : Deed) → deed R own ≡ d → Tells R own d
 deed-is R own d h = subst (Tells R own) h (deed-tells R own)

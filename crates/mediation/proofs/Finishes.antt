@@ -1,26 +1,11 @@
 -- Finished stays finished.
-use Rattle.std.proofs.Common.{◌≡◌, ◌⊎◌, inl, inr, ℕ, ◌<◌, Bool, true, false, ◌&&◌, ◌||◌, not, List, [], ◌∷◌, ◌++◌, length, Some, None, refl, sym, ◌∙◌, arith}
-use Rattle.std.specs.Prelude.{if◌then◌else◌, ◌==◌, Ok, Err}
-use Rattle.std.proofs.lemmas.Bool.{and_parts, both_ways}
-use Rattle.hist_model.specs.Look.{Name, name_eq, is_task, is_worker}
-use Rattle.hist_model.specs.Tasks.{ended, is_made, alive, makes, child_of}
-use Rattle.hist_model.specs.Calls.{listed, notifies, closes, leaves, caller}
-use Rattle.hist_model.specs.Sessions.{Rules, session, skips, joined, any_of, is_letgo, notif_of}
-use Rattle.hist_model.specs.Systems.{System}
-use Rattle.hist_model.specs.Steps.{oldest_unfetched}
-use Rattle.hist_model.specs.Legal.{Finished, is_open_session}
-use Rattle.hist_model.specs.declared.event.Event.{Event}
-use Rattle.hist_model.specs.declared.event.Actor.{Actor}
-use Rattle.hist_model.specs.declared.event.Actor.TheVariants.{Start, Task, Worker, Listener}
-use Rattle.hist_model.specs.declared.event.What.{What}
-use Rattle.hist_model.specs.declared.event.What.TheVariants.{Spawn, Poke, Handler, Enter, Native, Install, Resume, Signal, Deliver, Reap, Exit, Recv, OpenMem, OpenBase, Check, Read, Act, Plant, AddfdPut, AddfdTake, Send, LetGo, Skip}
-use Rattle.sys_abi.specs.declared.wire.Notif.{Notif}
-use Rattle.mediation.specs.Facts.{StaysFinished}
-use Rattle.mediation.proofs.Rows.{Row, TaskRow, WorkerRow}
-use Rattle.mediation.proofs.Own.{row-of}
+use Rattle.mediation.proofs.Common.{◌≡◌, ◌⊎◌, ℕ, ◌<◌, Bool, true, false, List, [], ◌∷◌, ◌++◌, length, Some, None, refl, ap, arith, Ok, Err, both_ways, ended, is_made, listed, closes, Rules, session}
+use Rattle.mediation.proofs.Common.{any_of, is_letgo, notif_of, System, oldest_unfetched, Event, Actor, What, Recv, OpenMem, OpenBase, Check, Read, Act, Plant, AddfdPut, AddfdTake, Send, LetGo}
+use Rattle.mediation.proofs.Common.{Skip, Notif, Finished, is_open_session, StaysFinished}
+use Rattle.mediation.proofs.Rows.{Row, WorkerRow, row-of}
 use Rattle.mediation.proofs.Deeds.{AtWork, deed-is}
-use Rattle.mediation.proofs.Count.{fetching}
-use Rattle.mediation.proofs.Work.{works, at-work}
+use Rattle.mediation.proofs.Calls.{fetching}
+use Rattle.mediation.proofs.Hands.{works, at-work}
 
 -- the step does nothing: it was none, or it found nothing to receive
 abbrev pub idles : What → Bool
@@ -30,43 +15,12 @@ idles _ = false
 
 -- a session that is not open is none, or has let go
 not-open : (own : List What) → is_open_session own ≡ false → (notif_of own ≡ None) ⊎ (any_of is_letgo own ≡ true)
-not-open [] h = inl refl
-not-open (a ∷ own) h = inr (negated (any_of is_letgo (a ∷ own)) h)
-  where
-    negated : (b : Bool) → not b ≡ false → b ≡ true
-    negated b h = grind arith
+not-open own h = grind arith
 
 no-work : (own : List What) (n : Notif) → AtWork own n → (notif_of own ≡ None) ⊎ (any_of is_letgo own ≡ true) → ⊥
-no-work own n k (inl q) = none n (sym q ∙ k.notif_is)
-  where
-    none : (n : Notif) → None ≡ Some n → ⊥
-    none n h = cc
-no-work own n k (inr q) = both_ways (any_of is_letgo own) k.no_letgo q
+no-work own n k h = grind arith
 
 module _ (S : System) (R : Rules) (K : List Event) (f : Finished K) where
-  no-life : (n : Name) → alive K n ≡ true → ⊥
-  no-life n h =
-      let p = and_parts (is_made K n) (not (ended K n)) h in
-      both (ended K n) p.1 (f.tasks n p.0)
-    where
-      both : (b : Bool) → not b ≡ true → b ≡ true → ⊥
-      both b g h = grind arith
-
-  task-idles : (n : Name) (what : What) → TaskRow S K n what → idles what ≡ true
-  task-idles n Skip r = refl
-  task-idles n (Spawn m a) r = absurd (no-life n r.0)
-  task-idles n (Poke a b) r = absurd (no-life n r.0)
-  task-idles n (Handler s m) r = absurd (no-life n r.0)
-  task-idles n (Enter nr args v) r = absurd (no-life n r.0)
-  task-idles n (Native a) r = absurd (no-life n r.0)
-  task-idles n (Install a) r = absurd (no-life n r.0)
-  task-idles n (Resume b) r = absurd (no-life n r.0)
-  task-idles n (Signal p s a) r = absurd (no-life n r.0)
-  task-idles n (Deliver s effect) r = absurd (no-life n r.0)
-  task-idles n (Reap a) r = absurd (no-life n r.0)
-  task-idles n Exit r = absurd (no-life n r.0)
-  task-idles n _ r = absurd r
-
   works-no : (w : ℕ) (what : What) → WorkerRow S R K w what → works what ≡ true → ⊥
   works-no w what r h = let g = at-work S R K w what r h in no-work (session K w) g.0 g.1 (not-open (session K w) (f.sessions w))
 
@@ -77,11 +31,7 @@ module _ (S : System) (R : Rules) (K : List Event) (f : Finished K) where
   worker-idles w LetGo r = let t = deed-is R (session K w) _ r in absurd (open-no (not-open (session K w) (f.sessions w)) t.0 t.1 t.2)
     where
       open-no : (notif_of (session K w) ≡ None) ⊎ (any_of is_letgo (session K w) ≡ true) → (n : Notif) → notif_of (session K w) ≡ Some n → any_of is_letgo (session K w) ≡ false → ⊥
-      open-no (inl q) n h g = none n (sym q ∙ h)
-        where
-          none : (n : Notif) → None ≡ Some n → ⊥
-          none n h = cc
-      open-no (inr q) n h g = both_ways (any_of is_letgo (session K w)) g q
+      open-no x0 n h g = grind arith
   worker-idles w (OpenMem p x) r = absurd (works-no w (OpenMem p x) r refl)
   worker-idles w (OpenBase p d x) r = absurd (works-no w (OpenBase p d x) r refl)
   worker-idles w (Check x y) r = absurd (works-no w (Check x y) r refl)
@@ -93,65 +43,19 @@ module _ (S : System) (R : Rules) (K : List Event) (f : Finished K) where
   worker-idles w (Send x b y) r = absurd (works-no w (Send x b y) r refl)
   worker-idles w _ r = absurd r
 
-  row-idles : (a : Actor) (what : What) → Row S R K a what → closes what ≡ false → idles what ≡ true
-  row-idles Start what r c = rw r
-  row-idles Listener what r c = absurd (both_ways (closes what) c (rw r))
-  row-idles (Task n) what r c = task-idles n what r
-  row-idles (Worker w) what r c = worker-idles w what r
-
--- what an idle step leaves
-idle-listed : (e : Event) (K : List Event) (c : ℕ) → idles e.what ≡ true → listed K c ≡ false → listed (e ∷ K) c ≡ false
-unfolding listed
-idle-listed e K c h l = go e.what h (c == length K)
-  where
-    go : (what : What) → idles what ≡ true → (b : Bool) → (if b then notifies what else (listed K c && not (closes what || (leaves what && is_task e.who (caller K c))))) ≡ false
-    go Skip h true = refl
-    go Skip h false = rw l
-    go (Recv (Err x)) h true = refl
-    go (Recv (Err x)) h false = rw l
-    go what h b = cc
-
-idle-made : (e : Event) (K : List Event) (n : Name) → idles e.what ≡ true → is_made (e ∷ K) n ≡ is_made K n
-unfolding is_made
-idle-made e K n h = go e.what h
-  where
-    go : (what : What) → idles what ≡ true → ((makes what && name_eq (child_of what) n) || is_made K n) ≡ is_made K n
-    go Skip h = refl
-    go (Recv (Err x)) h = refl
-    go what h = cc
-
-idle-ended : (e : Event) (K : List Event) (n : Name) → ended K n ≡ true → ended (e ∷ K) n ≡ true
-unfolding ended
-idle-ended e K n h = grind arith
-
-joined-closed : (own : List What) (x : ℕ) → is_open_session own ≡ false → is_open_session (joined (Recv (Err x)) own) ≡ false
-joined-closed [] x h = refl
-joined-closed (a ∷ own) x h = h
-
-idle-session : (e : Event) (K : List Event) (w : ℕ) → idles e.what ≡ true → is_open_session (session K w) ≡ false → is_open_session (session (e ∷ K) w) ≡ false
-unfolding session
-idle-session e K w h o = go e.what h (is_worker e.who w)
-  where
-    go : (what : What) → idles what ≡ true → (b : Bool) → is_open_session (if b && not (skips what) then joined what (session K w) else session K w) ≡ false
-    go Skip h true = o
-    go Skip h false = o
-    go (Recv (Err x)) h true = joined-closed (session K w) x o
-    go (Recv (Err x)) h false = o
-    go what h b = cc
+  row-idles : (a : Actor) (what : What) → Row S R K a what → (K ≡ [] → ⊥) → closes what ≡ false → idles what ≡ true
+  row-idles a what r l c = grind (arith, worker-idles)
 
 stays : (e : Event) (K : List Event) → idles e.what ≡ true → Finished K → Finished (e ∷ K)
-stays e K h f = record {
-  tasks = λ n m. idle-ended e K n (f.tasks n (sym (idle-made e K n h) ∙ m));
-  calls = λ c. idle-listed e K c h (f.calls c);
-  sessions = λ w. idle-session e K w h (f.sessions w);
-}
+unfolding listed is_made ended session
+stays e K h f = grind arith
 
-longer : (L K : List Event) → 0 < length K → 0 < length (L ++ K)
-longer [] K h = h
-longer (e ∷ L) K h = omega arith
+filled : (L K : List Event) → 0 < length K → L ++ K ≡ [] → ⊥
+filled [] K l q = omega (arith, ap length q)
+filled (e ∷ L) K l q = cc
 
-pub stays-finished : (S : System) (R : Rules) → StaysFinished S R
-stays-finished S R K [] l legal f n = f
-stays-finished S R K (e ∷ L) l legal f n =
-    let ih = stays-finished S R K L l legal.1 f n.1 in
-    stays e (L ++ K) (row-idles S R (L ++ K) ih e.who e.what (row-of S R (L ++ K) e legal.0 (longer L K l)) n.0) ih
+pub stays_finished : (S : System) (R : Rules) → StaysFinished S R
+stays_finished S R K [] l legal f n = f
+stays_finished S R K (e ∷ L) l legal f n =
+    let ih = stays_finished S R K L l legal.1 f n.1 in
+    stays e (L ++ K) (row-idles S R (L ++ K) ih e.who e.what (row-of S R (L ++ K) e legal.0) (filled L K l) n.0) ih

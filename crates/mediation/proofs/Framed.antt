@@ -1,18 +1,10 @@
 -- The frame law.
-use Rattle.std.proofs.Common.{◌≡◌, inl, inr, ℕ, zero, suc, ◌+◌, ◌-◌, ◌<◌, ◌≤◌, Bool, true, false, ◌&&◌, List, [], ◌∷◌, length, Option, Some, None, refl, sym, ◌∙◌, arith}
-use Rattle.std.specs.Prelude.{if◌then◌else◌, ◌==◌}
-use Rattle.std.proofs.lemmas.Bool.{cases_Bool, eqb-true, false_from_ne_true}
-use Rattle.hist_model.specs.Look.{Name, newest, oldest, or_else}
-use Rattle.hist_model.specs.Tasks.{ended, ends, was_waited_for, reaped, reaps, holds, holder, free_from, next_pid, last_pid, given, name_of}
-use Rattle.hist_model.specs.Calls.{listed, named, id, fetched, fetches, settled, answered, some_sends, queue, answers, puts_to, is_install, calls, recvs, receives, count, notifies, leaves, closes}
-use Rattle.hist_model.specs.Sessions.{session}
-use Rattle.mediation.specs.Frames.{changes_tasks, changes_list, changes_fetched, changes_count, changes_answered, Frame}
-use Rattle.hist_model.specs.declared.event.Event.{Event}
-use Rattle.hist_model.specs.declared.event.What.{What}
-use Rattle.hist_model.specs.declared.event.What.TheVariants.{Spawn, Enter, Deliver, Reap, Exit, Resume, Close, Recv, AddfdPut, Install, Send}
-use Rattle.hist_model.proofs.Look.{event_at-here, event_at-older, oldest-same}
-use Rattle.mediation.proofs.Own.{listed-below, listed-here}
-use Rattle.mediation.proofs.Queues.{Asks, queue-asks}
+use Rattle.mediation.proofs.Common.{◌≡◌, ℕ, zero, suc, ◌+◌, ◌<◌, ◌≤◌, Bool, false, List, [], ◌∷◌, length, Some, None, refl, arith, if◌then◌else◌, false_from_ne_true, Name, newest, oldest, ended}
+use Rattle.mediation.proofs.Common.{ends, was_waited_for, reaped, reaps, holder, free_from, next_pid, last_pid, given, listed, named, fetched, settled, queue, answers, puts_to, is_install, calls}
+use Rattle.mediation.proofs.Common.{recvs, count, notifies, leaves, closes, session, Event, What, event_at-here, event_at-older, oldest-same, ◌-◌, or_else, answered, some_sends, changes_tasks}
+use Rattle.mediation.proofs.Common.{changes_list, changes_fetched, changes_count, changes_answered, Frame}
+use Rattle.mediation.proofs.Tasks.{listed-below, listed-here}
+use Rattle.mediation.proofs.Phases.{Asks, queue-asks}
 
 -- a kind that changes no task
 pub record NoTask (w : What) : Type 0 where
@@ -21,12 +13,7 @@ pub record NoTask (w : What) : Type 0 where
   pub no_pid : given w ≡ None
 
 no-task : (w : What) → changes_tasks w ≡ false → NoTask w
-no-task (Spawn n a) h = cc
-no-task (Enter nr args v) h = cc
-no-task (Deliver s e) h = cc
-no-task (Reap a) h = cc
-no-task Exit h = cc
-no-task w h = record { no_end = refl; no_reap = λ n. refl; no_pid = refl }
+no-task w h = grind arith
 
 ended-frame : (e : Event) (K : List Event) (n : Name) → NoTask e.what → ended (e ∷ K) n ≡ ended K n
 unfolding ended
@@ -51,10 +38,7 @@ oldest-suc test n = refl
 
 holder-frame : (e : Event) (K : List Event) (p : ℕ) → NoTask e.what → holder (e ∷ K) p ≡ holder K p
 unfolding holder
-holder-frame e K p h =
-    let below = newest-same (holds (e ∷ K) p) (holds K p) (length K) (λ t l. rw (event_at-older e K t l, reaped-frame e K (name_of K t) h)) in
-    let here : holds (e ∷ K) p (length K) ≡ false = rw (event_at-here e K, h.no_pid) in
-    newest-suc (holds (e ∷ K) p) (length K) ∙ rw here below
+holder-frame e K p h = grind (arith, newest-same, event_at-older, reaped-frame, event_at-here, newest-suc)
 
 free-frame : (e : Event) (K : List Event) (n p : ℕ) → NoTask e.what → free_from (e ∷ K) n p ≡ free_from K n p
 unfolding free_from
@@ -75,53 +59,26 @@ pub record NoList (w : What) : Type 0 where
   pub no_enter : notifies w ≡ false
 
 no-list : (w : What) → changes_list w ≡ false → NoList w
-no-list (Enter nr args v) h = cc
-no-list (Resume b) h = cc
-no-list (Deliver s e) h = cc
-no-list Close h = cc
-no-list w h = record { no_leave = refl; no_close = refl; no_enter = refl }
+no-list w h = grind arith
 
 not-listed : (K : List Event) (c : ℕ) → length K ≤ c → listed K c ≡ false
 not-listed K c h = false_from_ne_true (listed K c) (λ q. omega (arith, listed-below K c q))
 
 listed-frame : (e : Event) (K : List Event) (c : ℕ) → NoList e.what → listed (e ∷ K) c ≡ listed K c
 unfolding listed
-listed-frame e K c h =
-    elim (cases_Bool (c == length K)) [
-      | inl q ↦ rw (q, h.no_enter) (sym (not-listed K c (omega (arith, eqb-true c (length K) q))))
-      | inr q ↦ rw (q, h.no_close, h.no_leave) (and-true (listed K c))
-    ]
-  where
-    and-true : (b : Bool) → (b && true) ≡ b
-    and-true b = grind arith
+listed-frame e K c h = grind (arith, not-listed)
 
 named-frame : (e : Event) (K : List Event) (x : ℕ) → NoList e.what → named (e ∷ K) x ≡ named K x
 unfolding named
-named-frame e K x h =
-    let below = oldest-same (λ c. listed (e ∷ K) c && (id (e ∷ K) c == x)) (λ c. listed K c && (id K c == x)) (length K) (λ c l. rw (listed-frame e K c h, event_at-older e K c l)) in
-    let here : listed (e ∷ K) (length K) ≡ false = listed-here e K ∙ h.no_enter in
-    oldest-suc (λ c. listed (e ∷ K) c && (id (e ∷ K) c == x)) (length K) ∙ rw (here, below) (else-none (oldest (λ c. listed K c && (id K c == x)) (length K)))
-  where
-    else-none : (o : Option ℕ) → or_else o None ≡ o
-    else-none (Some c) = refl
-    else-none None = refl
+named-frame e K x h = grind (arith, oldest-same, listed-frame, event_at-older, listed-here, oldest-suc)
 
 fetched-frame : (e : Event) (K : List Event) (c : ℕ) → changes_fetched e.what ≡ false → fetched (e ∷ K) c ≡ fetched K c
 unfolding fetched
-fetched-frame e K c h = rw (no e.what (id K c) h)
-  where
-    no : (w : What) (x : ℕ) → changes_fetched w ≡ false → fetches w x ≡ false
-    no (Recv a) x h = cc
-    no w x h = refl
+fetched-frame e K c h = grind arith
 
 count-frame : (e : Event) (K : List Event) → changes_count e.what ≡ false → count (e ∷ K) ≡ count K
 unfolding calls recvs
-count-frame e K h = let p = no e.what h in rw (p.0, p.1) (omega arith)
-  where
-    no : (w : What) → changes_count w ≡ false → (notifies w ≡ false) × (receives w ≡ false)
-    no (Enter nr args v) h = cc
-    no (Recv a) h = cc
-    no w h = (refl, refl)
+count-frame e K h = grind arith
 
 pub record NoAnswer (K : List Event) (w : What) : Type 0 where
   pub no_send : (c : ℕ) → answers K w c ≡ false
@@ -129,10 +86,7 @@ pub record NoAnswer (K : List Event) (w : What) : Type 0 where
   pub no_install : is_install w ≡ false
 
 no-answer : (K : List Event) (w : What) → changes_answered w ≡ false → NoAnswer K w
-no-answer K (AddfdPut q a) h = cc
-no-answer K (Install a) h = cc
-no-answer K (Send x b a) h = cc
-no-answer K w h = record { no_send = λ c. refl; no_put = λ c. refl; no_install = refl }
+no-answer K w h = grind arith
 
 settled-frame : (e : Event) (K : List Event) (c : ℕ) → NoAnswer K e.what → settled (e ∷ K) c ≡ settled K c
 unfolding settled

@@ -1,39 +1,21 @@
 -- What a session has opened is its call's task's.
-use Rattle.std.proofs.Common.{◌≡◌, ◌⊎◌, inl, inr, ℕ, ◌<◌, ◌^◌, Bool, true, false, not, List, [], ◌∷◌, length, Option, Some, None, refl, sym, ap, ◌∙◌, arith}
-use Rattle.std.specs.Prelude.{if◌then◌else◌, Result, Ok, Err, ℤ}
-use Rattle.std.proofs.lemmas.Bool.{cases_Bool, and_parts, or_cases, or_left, or_right, both_ways}
-use Rattle.hist_model.specs.Look.{ev, is_worker}
-use Rattle.hist_model.specs.Tasks.{holder}
-use Rattle.hist_model.specs.Calls.{listed, waiting, caller, named, unlists}
-use Rattle.hist_model.specs.Sessions.{Rules, Fetch, Open, OpenB, Ask, session, notif_of, any_of, is_letgo, opens, opens_base, checks}
-use Rattle.hist_model.specs.Systems.{System}
-use Rattle.hist_model.specs.Orders.{is_good_check}
-use Rattle.hist_model.specs.Steps.{IsStep, IsLegal, session_call, call_after, mem, mem_after, base, base_after, opened, group, task_place, check_answer}
-use Rattle.hist_model.specs.declared.event.Event.{Event}
-use Rattle.hist_model.specs.declared.event.Actor.{Actor}
-use Rattle.hist_model.specs.declared.event.What.{What}
-use Rattle.hist_model.specs.declared.event.What.TheVariants.{Recv, OpenMem, OpenBase, Check, Read, Act, Plant, AddfdPut, AddfdTake, Send, LetGo, Skip}
-use Rattle.sys_abi.specs.declared.wire.Notif.{Notif}
-use Rattle.hist_model.proofs.Look.{event_at-older}
+use Rattle.mediation.proofs.Common.{◌≡◌, ◌⊎◌, inl, inr, ℕ, ◌<◌, ◌^◌, true, false, ◌&&◌, not, List, [], ◌∷◌, length, Option, Some, None, refl, arith, Result, Ok, Err, ℤ, and_parts, ev, is_worker}
+use Rattle.mediation.proofs.Common.{holder, listed, waiting, caller, named, unlists, Rules, skips, Open, OpenB, Ask, session, notif_of, any_of, opens, opens_base, checks, System, is_good_check}
+use Rattle.mediation.proofs.Common.{IsLegal, session_call, mem, mem_after, base, base_after, opened, group, task_place, check_answer, Event, Actor, What, Recv, OpenMem, OpenBase, Check, Notif}
+use Rattle.mediation.proofs.Common.{event_at-older, ap, ◌∙◌, if◌then◌else◌, or_cases, or_parts, or_left, or_right, gives_up, lives, Bool, sym, before, event_at, IsStep, base_answer, place_or, Files}
+use Rattle.mediation.proofs.Common.{files, after_native, NativeStep, Worker, LetGo, Script, system_of, event_at-here, event_at-below, HasMemory, OpenedBase, BaseIs, base_of}
 use Rattle.mediation.proofs.Rows.{WorkerRow}
-use Rattle.mediation.proofs.Own.{calls_are_last, listed-older}
-use Rattle.mediation.proofs.Ids.{is_call-below}
+use Rattle.mediation.proofs.Tasks.{calls_are_last, listed-older, place-stays, place-is, group-older, living-holder}
+use Rattle.mediation.proofs.Calls.{is_call-below, before-older, before-newest}
 use Rattle.mediation.proofs.Deeds.{AtWork, deed-is}
-use Rattle.mediation.proofs.Places.{place-stays, place-is, group-older}
-use Rattle.mediation.proofs.Holders.{living-holder}
-use Rattle.mediation.proofs.Names.{names-own}
-use Rattle.mediation.proofs.Work.{InSession, Hand, hand, worker-row, works, works-keep, at-work, in-hand, session-same, session-more, grown, started, call-same, call-more, mem-same, mem-more, base-same, base-more}
+use Rattle.mediation.proofs.Hands.{names-own, by-session, mem-still, base-still, InSession, works, works-keep, session-more, started, mem-more, base-more, in-hand-of, FetchKept, WorkKept, StillKept}
+use Rattle.mediation.proofs.Hands.{worker-row}
+
+-- ---- what a session has opened is its call's task's
 
 pub good-checks : (own : List What) → any_of is_good_check own ≡ true → any_of checks own ≡ true
 good-checks [] h = cc
-good-checks (a ∷ own) h = elim (or_cases (is_good_check a) (any_of is_good_check own) h) [
-  | inl q ↦ or_left (checks a) (any_of checks own) (one a q)
-  | inr q ↦ or_right (checks a) (any_of checks own) (good-checks own q)
-]
-  where
-    one : (a : What) → is_good_check a ≡ true → checks a ≡ true
-    one (Check x (Ok u)) h = refl
-    one a h = cc
+good-checks (a ∷ own) h = let ih = good-checks own in grind arith
 
 abbrev pub Steadily : List Event → ℕ → ℕ → Option ℕ → Type 0
 Steadily K w c m = (t g : ℕ) → task_place K (caller K c) ≡ Some t → (listed K c ≡ true) ⊎ (any_of is_good_check (session K w) ≡ true) → m ≡ Some g → g ≡ group K t
@@ -43,13 +25,6 @@ pub record Steady (R : Rules) (K : List Event) (w c : ℕ) : Type 0 where
   pub base_first : (n : Notif) → notif_of (session K w) ≡ Some n → any_of checks (session K w) ≡ true → (R.dirfd n ≡ None) ⊎ (any_of opens_base (session K w) ≡ true)
   pub mem_is : Steadily K w c (mem K w)
   pub base_is : Steadily K w c (base K w)
-
-abbrev pub SteadyFor : Rules → List Event → ℕ → Option ℕ → Type 0
-SteadyFor R K w (Some c) = Steady R K w c
-SteadyFor R K w None = Unit {0}
-
-some-same : (a b : ℕ) → Some a ≡ Some b → a ≡ b
-some-same a b h = cc
 
 pub listed-was : (e : Event) (K : List Event) (c : ℕ) → c < length K → listed (e ∷ K) c ≡ true → listed K c ≡ true
 listed-was e K c l h = (and_parts (listed K c) (not (unlists e (caller K c))) (rw listed-older at h)).0
@@ -61,22 +36,36 @@ steadily-later : (e : Event) (K : List Event) (w c t' : ℕ) (m : Option ℕ) �
 steadily-later e K w c t' m l p h t g q s k =
     let p' : task_place (e ∷ K) (caller K c) ≡ Some t' = place-stays e K (caller K c) t' p in
     let q' : task_place (e ∷ K) (caller K c) ≡ Some t = rw event_at-older at q in
-    let same : t ≡ t' = some-same t t' (sym q' ∙ p') in
+    let same : t ≡ t' = cc in
     let below : t' < length K = (place-is K (caller K c) t' p).2 in
     let s' : (listed K c ≡ true) ⊎ (any_of is_good_check (session (e ∷ K) w) ≡ true) = elim s [ inl x ↦ inl (listed-was e K c l x) | inr x ↦ inr x ] in
     rw (same, group-older e K t' below) (h g s' k)
 
--- another's step
-steady-other : (R : Rules) (e : Event) (K : List Event) (w c : ℕ) → is_worker e.who w ≡ false → InSession K w c → Steady R K w c → Steady R (e ∷ K) w c
-steady-other R e K w c h i s =
-    let q = session-same e K w (grind arith) in
+-- a new session has opened nothing
+steady-new : (S : System) (R : Rules) (K : List Event) (a : Actor) (w : ℕ) (n : Notif) → is_worker a w ≡ true → mem K w ≡ None → base K w ≡ None → (c : ℕ) → Steady R (ev a (Recv (Ok n)) ∷ K) w c
+steady-new S R K a w n h x y c = grind (arith, session-more, started, mem-more, base-more)
+
+-- another's step, or a skip
+steady-still : (R : Rules) (e : Event) (K : List Event) (w c : ℕ) → (is_worker e.who w && not (skips e.what)) ≡ false → InSession K w c → session (e ∷ K) w ≡ session K w → Steady R K w c → Steady R (e ∷ K) w c
+steady-still R e K w c h i q s =
     let l = is_call-below K c i.call in
     record {
       opens_first = rw q s.opens_first;
       base_first = rw q s.base_first;
-      mem_is = rw (mem-same e K w h) (steadily-later e K w c i.t (mem K w) l i.task_is (rw q (λ g x k. s.mem_is i.t g i.task_is x k)));
-      base_is = rw (base-same e K w h) (steadily-later e K w c i.t (base K w) l i.task_is (rw q (λ g x k. s.base_is i.t g i.task_is x k)));
+      mem_is = rw (mem-still e K w h) (steadily-later e K w c i.t (mem K w) l i.task_is (rw q (λ g x k. s.mem_is i.t g i.task_is x k)));
+      base_is = rw (base-still e K w h) (steadily-later e K w c i.t (base K w) l i.task_is (rw q (λ g x k. s.base_is i.t g i.task_is x k)));
     }
+
+-- a good check finds the session's call waiting
+pub check-listed : (S : System) (R : Rules) (K : List Event) (w c x : ℕ) (u : Unit {0}) → IsLegal S R K → length K < 2 ^ 64 → InSession K w c → WorkerRow S R K w (Check x (Ok u)) → waiting K c ≡ true
+check-listed S R K w c x u legal room i r =
+    let t = deed-is R (session K w) (Ask x) r.0 in
+    let m : x ≡ i.n.id = grind arith in
+    go (named K i.n.id) refl (rw m at r.1)
+  where
+    go : (o : Option ℕ) → named K i.n.id ≡ o → ◌≡◌ {A = Result (Unit {0}) ℕ} (Ok u) (check_answer K o) → waiting K c ≡ true
+    go None q h = cc
+    go (Some d) q h = let m = names-own S R K w c d legal room i q in grind arith
 
 module _ (S : System) (R : Rules) (K : List Event) (a : Actor) (w c : ℕ) (legal : IsLegal S R K) (room : length K < 2 ^ 64) (is_mine : is_worker a w ≡ true) (i : InSession K w c) (s : Steady R K w c) where
   -- what one more step of the session owes
@@ -86,52 +75,31 @@ module _ (S : System) (R : Rules) (K : List Event) (a : Actor) (w c : ℕ) (lega
     pub mem_then : (g : ℕ) → (listed K c ≡ true) ⊎ (any_of is_good_check (what ∷ session K w) ≡ true) → mem_after K what (mem K w) ≡ Some g → g ≡ group K i.t
     pub base_then : (g : ℕ) → (listed K c ≡ true) ⊎ (any_of is_good_check (what ∷ session K w) ≡ true) → base_after K what (base K w) ≡ Some g → g ≡ group K i.t
 
-  one-more : (p q : What → Bool) (what : What) (own : List What) → (p what ≡ true → any_of q own ≡ true) → (any_of p own ≡ true → any_of q own ≡ true) → any_of p (what ∷ own) ≡ true → any_of q (what ∷ own) ≡ true
-  one-more p q what own x y h = elim (or_cases (p what) (any_of p own) h) [ inl z ↦ or_right (q what) (any_of q own) (x z) | inr z ↦ or_right (q what) (any_of q own) (y z) ]
-
-  steady-more : (what : What) → works what ≡ true → Owes what → Steady R (ev a what ∷ K) w c
-  steady-more what h o =
+  steady-more : (what : What) → works what ≡ true → session (ev a what ∷ K) w ≡ what ∷ session K w → Owes what → Steady R (ev a what ∷ K) w c
+  steady-more what h q o =
       let e = ev a what in
       let k = works-keep K what h in
       let l = is_call-below K c i.call in
-      let own = session K w in
-      let q : session (e ∷ K) w ≡ what ∷ own = session-more e K w is_mine k.no_skip ∙ grown own what i.n i.notif_is k.no_start in
+      let x = o.opens_before in
+      let y = s.opens_first in
       record {
-        opens_first = rw q (one-more checks opens what own o.opens_before s.opens_first);
-        base_first = rw (q, k.no_notif) (λ n x y. elim (or_cases (checks what) (any_of checks own) y) [
-          | inl z ↦ later n (o.base_before n x z)
-          | inr z ↦ later n (s.base_first n x z)
-        ]);
+        opens_first = rw q (grind arith);
+        base_first = rw (q, k.no_notif) (λ n z v. let x' = o.base_before n z in let y' = s.base_first n z in grind arith);
         mem_is = rw (mem-more e K w is_mine) (steadily-later e K w c i.t (mem_after K what (mem K w)) l i.task_is (rw q o.mem_then));
         base_is = rw (base-more e K w is_mine) (steadily-later e K w c i.t (base_after K what (base K w)) l i.task_is (rw q o.base_then));
       }
-    where
-      later : (n : Notif) → (R.dirfd n ≡ None) ⊎ (any_of opens_base (session K w) ≡ true) → (R.dirfd n ≡ None) ⊎ (any_of opens_base (what ∷ session K w) ≡ true)
-      later n (inl x) = inl x
-      later n (inr x) = inr (or_right (opens_base what) (any_of opens_base (session K w)) x)
-
-  notif-same : (n : Notif) → notif_of (session K w) ≡ Some n → i.n ≡ n
-  notif-same n q = go i.n n (sym i.notif_is ∙ q)
-    where
-      go : (x y : Notif) → Some x ≡ Some y → x ≡ y
-      go x y h = cc
 
   -- the number leads to the call's task while the call is listed
   opens-own : (n : Notif) (p g : ℕ) → AtWork (session K w) n → p ≡ n.pid → listed K c ≡ true → opened K (holder K p) ≡ Some g → g ≡ group K i.t
   opens-own n p g k q l h =
-      let m = notif-same n k.notif_is in
       let x = (calls_are_last S R K legal c l).0 in
       let y : holder K i.n.pid ≡ Some i.t = living-holder S R K (caller K c) i.t i.n.pid legal x i.task_is i.pid_is in
-      let z : p ≡ i.n.pid = q ∙ ap (λ (v : Notif). v.pid) (sym m) in
-      some-same g (group K i.t) (sym h ∙ rw (z, y))
+      let z : p ≡ i.n.pid = grind arith in
+      let v : opened K (Some i.t) ≡ Some g = rw (z, y) at h in
+      cc
 
   quiet : (what : What) → checks what ≡ false → is_good_check what ≡ false → ((m : Option ℕ) → mem_after K what m ≡ m) → ((m : Option ℕ) → base_after K what m ≡ m) → Owes what
-  quiet what x p y z = record {
-    opens_before = λ h. absurd (both_ways (checks what) x h);
-    base_before = λ n q h. absurd (both_ways (checks what) x h);
-    mem_then = rw (y (mem K w), p) (λ g l k. s.mem_is i.t g i.task_is l k);
-    base_then = rw (z (base K w), p) (λ g l k. s.base_is i.t g i.task_is l k);
-  }
+  quiet what x p y z = grind (arith)
 
   open-owes : (p : ℕ) (u : Unit {0}) → WorkerRow S R K w (OpenMem p (Ok u)) → Owes (OpenMem p (Ok u))
   open-owes p u r =
@@ -139,10 +107,7 @@ module _ (S : System) (R : Rules) (K : List Event) (a : Actor) (w c : ℕ) (lega
       record {
         opens_before = λ h. cc;
         base_before = λ n q h. cc;
-        mem_then = λ g l k. elim l [
-          | inl x ↦ opens-own t.0 p g t.1 t.3 x k
-          | inr x ↦ absurd (both_ways (any_of opens (session K w)) t.2 (s.opens_first (good-checks (session K w) x)))
-        ];
+        mem_then = λ g l k. elim l [ inl x ↦ opens-own t.0 p g t.1 t.3 x k | inr x ↦ absurd (cc (t.2, s.opens_first (good-checks (session K w) x))) ];
         base_then = λ g l k. s.base_is i.t g i.task_is l k;
       }
 
@@ -155,164 +120,203 @@ module _ (S : System) (R : Rules) (K : List Event) (a : Actor) (w c : ℕ) (lega
         mem_then = λ g l k. s.mem_is i.t g i.task_is l k;
         base_then = λ g l k. elim l [
           | inl x ↦ opens-own t.0 p g t.1 t.4 x k
-          | inr x ↦ elim (s.base_first t.0 t.1.notif_is (good-checks (session K w) x)) [
-            | inl y ↦ absurd (none-some d (sym y ∙ t.5))
-            | inr y ↦ absurd (both_ways (any_of opens_base (session K w)) t.3 y)
-          ]
+          | inr x ↦ elim (s.base_first t.0 t.1.notif_is (good-checks (session K w) x)) [ inl y ↦ absurd (cc (y, t.5)) | inr y ↦ absurd (cc (t.3, y)) ]
         ];
       }
-    where
-      none-some : (d : ℤ) → None ≡ Some d → ⊥
-      none-some d h = cc
-
-  -- a good check finds the session's call listed
-  pub check-listed : (x : ℕ) (u : Unit {0}) → WorkerRow S R K w (Check x (Ok u)) → waiting K c ≡ true
-  check-listed x u r =
-      let t = deed-is R (session K w) (Ask x) r.0 in
-      let m = notif-same t.0 t.1.notif_is in
-      go (named K x) (rw (t.3, ← m)) r.1
-    where
-      go : (o : Option ℕ) → named K i.n.id ≡ o → ◌≡◌ {A = Result (Unit {0}) ℕ} (Ok u) (check_answer K o) → waiting K c ≡ true
-      go None q h = cc
-      go (Some d) q h =
-          let same = names-own S R K w c d legal room i q in
-          rw same at (good d (waiting K d) refl h)
-        where
-          good : (d : ℕ) (b : Bool) → waiting K d ≡ b → ◌≡◌ {A = Result (Unit {0}) ℕ} (Ok u) (if b then Ok tt else Err 2) → waiting K d ≡ true
-          good d true q h = q
-          good d false q h = absurd (no u h)
-            where
-              no : (u : Unit {0}) → ◌≡◌ {A = Result (Unit {0}) ℕ} (Ok u) (Err 2) → ⊥
-              no u h = cc
 
   ask-owes : (x : ℕ) (y : Result (Unit {0}) ℕ) → WorkerRow S R K w (Check x y) → ((any_of is_good_check (Check x y ∷ session K w) ≡ true) → (listed K c ≡ true) ⊎ (any_of is_good_check (session K w) ≡ true)) → Owes (Check x y)
   ask-owes x y r p =
       let t = deed-is R (session K w) (Ask x) r.0 in
       record {
         opens_before = λ h. t.2.mem;
-        base_before = λ n q h. rw (sym (notif-same n q) ∙ notif-same t.0 t.1.notif_is) t.2.base;
-        mem_then = λ g l k. s.mem_is i.t g i.task_is (either l) k;
-        base_then = λ g l k. s.base_is i.t g i.task_is (either l) k;
+        base_before = λ n q h. let m : n ≡ t.0 = cc (q, t.1.notif_is) in rw m t.2.base;
+        mem_then = λ g l k. s.mem_is i.t g i.task_is (elim l [ inl v ↦ inl v | inr v ↦ p v ]) k;
+        base_then = λ g l k. s.base_is i.t g i.task_is (elim l [ inl v ↦ inl v | inr v ↦ p v ]) k;
       }
-    where
-      either : (listed K c ≡ true) ⊎ (any_of is_good_check (Check x y ∷ session K w) ≡ true) → (listed K c ≡ true) ⊎ (any_of is_good_check (session K w) ≡ true)
-      either (inl l) = inl l
-      either (inr l) = p l
 
   owes-of : (what : What) → WorkerRow S R K w what → works what ≡ true → Owes what
   owes-of (OpenMem p (Ok u)) r h = open-owes p u r
-  owes-of (OpenMem p (Err x)) r h = quiet (OpenMem p (Err x)) refl refl (λ m. refl) (λ m. refl)
   owes-of (OpenBase p d (Ok u)) r h = base-owes p d u r
-  owes-of (OpenBase p d (Err x)) r h = quiet (OpenBase p d (Err x)) refl refl (λ m. refl) (λ m. refl)
-  owes-of (Check x (Ok u)) r h = let v = check-listed x u r in ask-owes x (Ok u) r (λ _. inl (grind arith))
+  owes-of (Check x (Ok u)) r h = let v = check-listed S R K w c x u legal room i r in ask-owes x (Ok u) r (λ _. inl (grind arith))
   owes-of (Check x (Err y)) r h = ask-owes x (Err y) r (λ l. inr l)
-  owes-of (Read x l y) r h = quiet (Read x l y) refl refl (λ m. refl) (λ m. refl)
-  owes-of (Act q cap x) r h = quiet (Act q cap x) refl refl (λ m. refl) (λ m. refl)
-  owes-of (Plant x b cap y) r h = quiet (Plant x b cap y) refl refl (λ m. refl) (λ m. refl)
-  owes-of (AddfdPut q x) r h = quiet (AddfdPut q x) refl refl (λ m. refl) (λ m. refl)
-  owes-of (AddfdTake x) r h = quiet (AddfdTake x) refl refl (λ m. refl) (λ m. refl)
-  owes-of (Send x b y) r h = quiet (Send x b y) refl refl (λ m. refl) (λ m. refl)
-  owes-of what r h = cc
-
--- a new session has opened nothing
-steady-new : (S : System) (R : Rules) (K : List Event) (a : Actor) (w : ℕ) (n : Notif) → is_worker a w ≡ true → mem K w ≡ None → base K w ≡ None → (c : ℕ) → Steady R (ev a (Recv (Ok n)) ∷ K) w c
-steady-new S R K a w n h x y c =
-    let e = ev a (Recv (Ok n)) in
-    let q : session (e ∷ K) w ≡ Recv (Ok n) ∷ [] = session-more e K w h refl ∙ started (session K w) (Recv (Ok n)) refl in
-    record {
-      opens_first = rw q (λ z. cc);
-      base_first = rw q (λ m z k. cc);
-      mem_is = rw (mem-more e K w h, x) (λ t g z l k. cc);
-      base_is = rw (base-more e K w h, y) (λ t g z l k. cc);
-    }
-
--- a step that leaves the session as it is
-steady-skip : (R : Rules) (K : List Event) (a : Actor) (w c : ℕ) → is_worker a w ≡ true → InSession K w c → Steady R K w c → Steady R (ev a Skip ∷ K) w c
-steady-skip R K a w c h i s =
-    let e = ev a Skip in
-    let q = session-same e K w (grind arith) in
-    let l = is_call-below K c i.call in
-    record {
-      opens_first = rw q s.opens_first;
-      base_first = rw q s.base_first;
-      mem_is = rw (mem-more e K w h) (steadily-later e K w c i.t (mem K w) l i.task_is (rw q (λ g x k. s.mem_is i.t g i.task_is x k)));
-      base_is = rw (base-more e K w h) (steadily-later e K w c i.t (base K w) l i.task_is (rw q (λ g x k. s.base_is i.t g i.task_is x k)));
-    }
-
-module _ (S : System) (R : Rules) (K : List Event) (a : Actor) (w : ℕ) (legal : IsLegal S R K) (room : length K < 2 ^ 64) (is_mine : is_worker a w ≡ true) where
-  steady-works : (what : What) → WorkerRow S R K w what → works what ≡ true → Hand K w (session_call K w) → SteadyFor R K w (session_call K w) → SteadyFor R (ev a what ∷ K) w (session_call (ev a what ∷ K) w)
-  steady-works what r h i s =
-      let g = at-work S R K w what r h in
-      let j = in-hand K w (session_call K w) g.0 g.1 i in
-      let k = works-keep K what h in
-      let c : session_call (ev a what ∷ K) w ≡ Some j.0 = call-more (ev a what) K w is_mine ∙ (k.call (session_call K w) ∙ j.1) in
-      rw c (steady-more S R K a w j.0 legal room is_mine j.2 (rw j.1 at s) what h (owes-of S R K a w j.0 legal room is_mine j.2 (rw j.1 at s) what r h))
-
-  steady-fetch : (n : Notif) → WorkerRow S R K w (Recv (Ok n)) → Hand K w (session_call K w) → SteadyFor R (ev a (Recv (Ok n)) ∷ K) w (session_call (ev a (Recv (Ok n)) ∷ K) w)
-  steady-fetch n r i = go (session_call K w) i (session_call (ev a (Recv (Ok n)) ∷ K) w)
-    where
-      t : (notif_of (session K w) ≡ None) ⊎ (any_of is_letgo (session K w) ≡ true)
-      t = deed-is R (session K w) Fetch r.0
-
-      no : (c : ℕ) → InSession K w c → (notif_of (session K w) ≡ None) ⊎ (any_of is_letgo (session K w) ≡ true) → ⊥
-      no c i (inl q) = one i.n (sym q ∙ i.notif_is)
-        where
-          one : (m : Notif) → None ≡ Some m → ⊥
-          one m h = cc
-      no c i (inr q) = both_ways (any_of is_letgo (session K w)) i.no_letgo q
-
-      go : (o : Option ℕ) → Hand K w o → (o' : Option ℕ) → SteadyFor R (ev a (Recv (Ok n)) ∷ K) w o'
-      go (Some c) i o' = absurd (no c i t)
-      go None i None = tt
-      go None i (Some d) = steady-new S R K a w n is_mine i.mem_none i.base_none d
-
-  steady-idle : (what : What) → ((o : Option ℕ) → Hand K w o → SteadyFor R K w o → SteadyFor R (ev a what ∷ K) w (call_after K what o)) → Hand K w (session_call K w) → SteadyFor R K w (session_call K w) → SteadyFor R (ev a what ∷ K) w (session_call (ev a what ∷ K) w)
-  steady-idle what f i s = rw (call-more (ev a what) K w is_mine) (f (session_call K w) i s)
-
-  steady-empty : (x : ℕ) → WorkerRow S R K w (Recv (Err x)) → (o : Option ℕ) → Hand K w o → SteadyFor R K w o → SteadyFor R (ev a (Recv (Err x)) ∷ K) w o
-  steady-empty x r None i s = tt
-  steady-empty x r (Some c) i s = absurd (no i (deed-is R (session K w) Fetch r.0))
-    where
-      no : InSession K w c → (notif_of (session K w) ≡ None) ⊎ (any_of is_letgo (session K w) ≡ true) → ⊥
-      no i (inl q) = one i.n (sym q ∙ i.notif_is)
-        where
-          one : (m : Notif) → None ≡ Some m → ⊥
-          one m h = cc
-      no i (inr q) = both_ways (any_of is_letgo (session K w)) i.no_letgo q
-
-  skipped : (o : Option ℕ) → Hand K w o → SteadyFor R K w o → SteadyFor R (ev a Skip ∷ K) w o
-  skipped None i s = tt
-  skipped (Some c) i s = steady-skip R K a w c is_mine i s
-
-  steady-mine : (what : What) → WorkerRow S R K w what → Hand K w (session_call K w) → SteadyFor R K w (session_call K w) → SteadyFor R (ev a what ∷ K) w (session_call (ev a what ∷ K) w)
-  steady-mine (Recv (Ok n)) r i s = steady-fetch n r i
-  steady-mine (Recv (Err x)) r i s = steady-idle (Recv (Err x)) (steady-empty x r) i s
-  steady-mine LetGo r i s = steady-idle LetGo (λ o h z. tt) i s
-  steady-mine Skip r i s = steady-idle Skip skipped i s
-  steady-mine (OpenMem p x) r i s = steady-works (OpenMem p x) r refl i s
-  steady-mine (OpenBase p d x) r i s = steady-works (OpenBase p d x) r refl i s
-  steady-mine (Check x y) r i s = steady-works (Check x y) r refl i s
-  steady-mine (Read x l y) r i s = steady-works (Read x l y) r refl i s
-  steady-mine (Act q cap x) r i s = steady-works (Act q cap x) r refl i s
-  steady-mine (Plant x b cap y) r i s = steady-works (Plant x b cap y) r refl i s
-  steady-mine (AddfdPut q x) r i s = steady-works (AddfdPut q x) r refl i s
-  steady-mine (AddfdTake x) r i s = steady-works (AddfdTake x) r refl i s
-  steady-mine (Send x b y) r i s = steady-works (Send x b y) r refl i s
-  steady-mine _ r i s = absurd r
-
-steady-others : (R : Rules) (e : Event) (K : List Event) (w : ℕ) (o : Option ℕ) → is_worker e.who w ≡ false → Hand K w o → SteadyFor R K w o → SteadyFor R (e ∷ K) w o
-steady-others R e K w None h i s = tt
-steady-others R e K w (Some c) h i s = steady-other R e K w c h i s
-
-pub steady-step : (S : System) (R : Rules) (K : List Event) (e : Event) (w : ℕ) → IsLegal S R K → length K < 2 ^ 64 → IsStep S R K e → SteadyFor R K w (session_call K w) → SteadyFor R (e ∷ K) w (session_call (e ∷ K) w)
-steady-step S R K e w legal room r s =
-    elim (cases_Bool (is_worker e.who w)) [
-      | inl q ↦ steady-mine S R K e.who w legal room q e.what (worker-row S R K e w r q) (hand S R K legal w) s
-      | inr q ↦ rw call-same (steady-others R e K w (session_call K w) q (hand S R K legal w) s)
-    ]
+  owes-of what r h = quiet what (grind arith) (grind arith) (λ m. grind arith) (λ m. grind arith)
 
 -- while a call is listed, and after a good check, what its session opened is its task's
-pub steady : (S : System) (R : Rules) (K : List Event) → IsLegal S R K → length K < 2 ^ 64 → (w : ℕ) → SteadyFor R K w (session_call K w)
-unfolding session_call
-steady S R [] legal room = λ w. tt
-steady S R (e ∷ K) legal room = λ w. steady-step S R K e w legal.1 (omega arith) legal.0 (steady S R K legal.1 (omega arith) w)
+pub steady : (S : System) (R : Rules) (K : List Event) → IsLegal S R K → length K < 2 ^ 64 → (w c : ℕ) → session_call K w ≡ Some c → Steady R K w c
+steady S R = by-session S R (Steady R) (record {
+  fetch = λ K a w c n r legal room q row o idle. steady-new S R K a w n q idle.mem_none idle.base_none c;
+  work = λ K a w c what r legal room q row v i g own s. steady-more S R K a w c legal (omega arith) q i s what v own (owes-of S R K a w c legal (omega arith) q i s what row v);
+  still = λ K e w c r legal room q i g own s. steady-still R e K w c q i own s;
+})
+
+-- ---- a session that has opened its memory has one, and it is its call's task's
+
+-- a check that did not end the session was good
+pub good-check : (own : List What) → any_of checks own ≡ true → any_of gives_up own ≡ false → any_of is_good_check own ≡ true
+good-check [] h g = cc
+good-check (a ∷ own) h g =
+    let p = or_parts (gives_up a) (any_of gives_up own) g in
+    elim (or_cases (checks a) (any_of checks own) h) [
+      | inl q ↦ or_left (is_good_check a) (any_of is_good_check own) (one a q p.0)
+      | inr q ↦ or_right (is_good_check a) (any_of is_good_check own) (good-check own q p.1)
+    ]
+  where
+    one : (a : What) → checks a ≡ true → gives_up a ≡ false → is_good_check a ≡ true
+    one a h g = grind arith
+
+-- a session that has opened, and has not given up, has a memory
+abbrev pub MemoryOpened : List Event → ℕ → ℕ → Type 0
+MemoryOpened K w c = any_of opens (session K w) ≡ true → any_of gives_up (session K w) ≡ false → (g : ℕ) × (mem K w ≡ Some g)
+
+opened-living : (K : List Event) (o : Option ℕ) (u : Unit {0}) → ◌≡◌ {A = Result (Unit {0}) ℕ} (Ok u) (if lives K o then Ok tt else Err 3) → (g : ℕ) × (opened K o ≡ Some g)
+opened-living K None u h = cc
+opened-living K (Some t) u h = (group K t, refl)
+
+module _ (S : System) (R : Rules) where
+  mem-fetch : FetchKept S R MemoryOpened
+  mem-fetch K a w c n r legal room q row o idle h g = grind (arith, session-more, started)
+
+  mem-work : WorkKept S R MemoryOpened
+  mem-work K a w c what r legal room q row v i s own ih h g = grind (arith, mem-more, opened-living)
+
+  mem-stays : StillKept S R MemoryOpened
+  mem-stays K e w c r legal room q i s own ih h g = grind (arith, mem-still)
+
+  pub has-memory : (K : List Event) → IsLegal S R K → length K < 2 ^ 64 → (w c : ℕ) → session_call K w ≡ Some c → MemoryOpened K w c
+  has-memory = by-session S R MemoryOpened (record { fetch = mem-fetch; work = mem-work; still = mem-stays })
+
+  -- after a good check the memory is the call's task's
+  pub own-memory : (K : List Event) (w c : ℕ) → IsLegal S R K → length K < 2 ^ 64 → session_call K w ≡ Some c → any_of opens (session K w) ≡ true → any_of checks (session K w) ≡ true → any_of gives_up (session K w) ≡ false → HasMemory K w c
+  own-memory K w c legal room s o k g =
+      let i = in-hand-of S R K w c legal s in
+      let m = has-memory K legal room w c s o g in
+      let t : Steady R K w c = steady S R K legal room w c s in
+      let v = t.mem_is i.t m.0 i.task_is (inr (good-check (session K w) k g)) m.1 in
+      (group K i.t, m.1 ∙ ap Some v, ap (opened K) i.task_is)
+
+-- ---- the base from which a session's effect goes is one that the session opened, in a slot of its call's task's group
+
+-- the base that the files have for a worker
+pub files_base : Script → List Event → ℕ → Option ℕ
+files_base S K w = (files S K).base w
+
+native-base : (F : Files) (g : ℕ) (s : NativeStep) (w : ℕ) → (after_native F g s).base w ≡ F.base w
+native-base F g s w = grind arith
+
+-- the step opens or drops a base
+abbrev moves : What → Bool
+moves (OpenBase p d (Ok u)) = true
+moves LetGo = true
+moves _ = false
+
+files-same : (S : Script) (e : Event) (K : List Event) (w : ℕ) → (is_worker e.who w && moves e.what) ≡ false → files_base S (e ∷ K) w ≡ files_base S K w
+unfolding files_base files
+files-same S e K w h = grind (arith, native-base)
+
+-- a worker's own steps
+files-opens : (S : Script) (K : List Event) (a : Actor) (w p : ℕ) (d : ℤ) (u : Unit {0}) → is_worker a w ≡ true → files_base S (ev a (OpenBase p d (Ok u)) ∷ K) w ≡ base_of S (files S K) (place_or (opened K (holder K p))) d
+unfolding files_base files
+files-opens S K a w p d u h = grind arith
+
+base-stays : (e : Event) (K : List Event) (w : ℕ) → (is_worker e.who w && moves e.what) ≡ false → base (e ∷ K) w ≡ base K w
+base-stays e K w h = grind (arith, base-more, base-still)
+
+-- an opening that was answered ok found a living task
+opening-found : (S : System) (K : List Event) (o : Option ℕ) (d : ℤ) (u : Unit {0}) → ◌≡◌ {A = Result (Unit {0}) ℕ} (Ok u) (base_answer S K o d) → (t : ℕ) × (o ≡ Some t)
+opening-found S K o d u h = grind arith
+
+-- a worker without a base's group has no base
+module _ (S : Script) (R : Rules) where
+  none-step : (K : List Event) (e : Event) (w : ℕ) → IsStep (system_of S) R K e → (base K w ≡ None → files_base S K w ≡ None) → base (e ∷ K) w ≡ None → files_base S (e ∷ K) w ≡ None
+  unfolding files_base files
+  none-step K e w r ih h = grind (arith, worker-row, base-more, files-same, base-stays, opening-found)
+
+  pub no-base : (K : List Event) → IsLegal (system_of S) R K → (w : ℕ) → base K w ≡ None → files_base S K w ≡ None
+  unfolding files_base files
+  no-base [] legal = λ w h. refl
+  no-base (e ∷ K) legal = λ w h. none-step K e w legal.0 (no-base K legal.1 w) h
+
+  -- what a base is, with the group in which it was looked up
+  record Found (K : List Event) (w c g : ℕ) : Type 0 where
+    pub n : Notif
+    pub dirfd : ℤ
+    pub place : ℕ
+    pub notif_is : notif_of (session K w) ≡ Some n
+    pub names : R.dirfd n ≡ Some dirfd
+    pub opening : event_at K place ≡ Some (ev (Worker w) (OpenBase n.pid dirfd (Ok tt)))
+    pub in_session : session_call (before K place) w ≡ Some c
+    pub is_base : files_base S K w ≡ base_of S (files S (before K place)) g dirfd
+
+  abbrev HasFound : List Event → ℕ → ℕ → Type 0
+  HasFound K w c = (g : ℕ) → base K w ≡ Some g → Found K w c g
+
+  found-later : (e : Event) (K : List Event) (w c g : ℕ) → (is_worker e.who w && moves e.what) ≡ false → notif_of (session (e ∷ K) w) ≡ notif_of (session K w) → Found K w c g → Found (e ∷ K) w c g
+  found-later e K w c g q s f = grind (arith, event_at-below, before-older, event_at-older, files-same)
+
+  fetch-found : FetchKept (system_of S) R HasFound
+  fetch-found K a w c n r legal room q row o idle g h = grind (arith, base-more)
+
+  -- the opening of a base
+  opens-found : (K : List Event) (a : Actor) (w c p : ℕ) (d : ℤ) (u : Unit {0}) → is_worker a w ≡ true → WorkerRow (system_of S) R K w (OpenBase p d (Ok u)) → session_call K w ≡ Some c
+      → session (ev a (OpenBase p d (Ok u)) ∷ K) w ≡ OpenBase p d (Ok u) ∷ session K w → HasFound (ev a (OpenBase p d (Ok u)) ∷ K) w c
+  opens-found K a w c p d u q row s own g h =
+      let e = ev a (OpenBase p d (Ok u)) in
+      let t = deed-is R (session K w) _ row.0 in
+      let f = opening-found (system_of S) K (holder K p) d u row.1 in
+      let o : opened K (holder K p) ≡ Some g = sym (base-more e K w q) ∙ h in
+      record {
+        n = t.0;
+        dirfd = d;
+        place = length K;
+        notif_is = rw own t.1.notif_is;
+        names = t.5;
+        opening = event_at-here e K ∙ ap Some (same-event a w p t.0.pid d u q t.4);
+        in_session = rw (before-newest e K) s;
+        is_base = rw (before-newest e K) (files-opens S K a w p d u q ∙ ap (λ (x : Option ℕ). base_of S (files S K) (place_or x) d) o);
+      }
+    where
+      same-event : (a : Actor) (w p r : ℕ) (d : ℤ) (u : Unit {0}) → is_worker a w ≡ true → p ≡ r → ev a (OpenBase p d (Ok u)) ≡ ev (Worker w) (OpenBase r d (Ok tt))
+      same-event a w p r d u h k = grind arith
+
+  work-found : WorkKept (system_of S) R HasFound
+  work-found K a w c (OpenBase p d (Ok u)) r legal room q row v i s own ih = opens-found K a w c p d u q row s own
+  work-found K a w c what r legal room q row v i s own ih = λ z0 z1. grind (arith, works-keep, found-later, base-stays)
+
+  still-found : StillKept (system_of S) R HasFound
+  still-found K e w c r legal room q i s own ih g h =
+      found-later e K w c g no-move (ap notif_of own) (ih g (sym (base-stays e K w no-move) ∙ h))
+    where
+      no-move : (is_worker e.who w && moves e.what) ≡ false
+      no-move = grind arith
+
+  has-found : (K : List Event) → IsLegal (system_of S) R K → length K < 2 ^ 64 → (w c : ℕ) → session_call K w ≡ Some c → HasFound K w c
+  has-found = by-session (system_of S) R HasFound (record { fetch = fetch-found; work = work-found; still = still-found })
+
+  -- after a good check, the base is the one that the call names, or none
+  pub base-is : (K : List Event) (w c : ℕ) (n : Notif) → IsLegal (system_of S) R K → length K < 2 ^ 64 → session_call K w ≡ Some c → notif_of (session K w) ≡ Some n → any_of checks (session K w) ≡ true → any_of gives_up (session K w) ≡ false
+      → BaseIs S K w c n (R.dirfd n)
+  unfolding files_base
+  base-is K w c n legal room s m k g = go (base K w) refl (R.dirfd n) refl
+    where
+      i : InSession K w c
+      i = in-hand-of (system_of S) R K w c legal s
+
+      found-is : (x : ℕ) → base K w ≡ Some x → (f : Found K w c x) → (d : ℤ) → R.dirfd n ≡ Some d → OpenedBase S K w c x n d
+      found-is x q f d h =
+          let v : f.n ≡ n = cc (f.notif_is, m) in
+          let z : f.dirfd ≡ d = cc (f.names, v, h) in
+          let t : Steady R K w c = steady (system_of S) R K legal room w c s in
+          let y = t.base_is i.t x i.task_is (inr (good-check (session K w) k g)) q in
+          record {
+            place = f.place;
+            opening = rw (v, z) at f.opening;
+            in_session = f.in_session;
+            of_caller = ap (opened K) i.task_is ∙ ap Some (sym y);
+            is_base = rw z at f.is_base;
+          }
+
+      go : (o : Option ℕ) → base K w ≡ o → (d : Option ℤ) → R.dirfd n ≡ d → BaseIs S K w c n d
+      go None q None h = no-base K legal w q
+      go None q (Some d) h = inl (no-base K legal w q)
+      go (Some x) q None h = let f = has-found K legal room w c s x q in let v : f.n ≡ n = cc (f.notif_is, m) in absurd (cc (f.names, v, h))
+      go (Some x) q (Some d) h = inr (x, found-is x q (has-found K legal room w c s x q) d h)

@@ -1,22 +1,13 @@
 -- Every legal history is mediated.
-use Rattle.std.proofs.Common.{List, [], ◌∷◌}
-use Rattle.hist_model.specs.Sessions.{session}
-use Rattle.hist_model.specs.Legal.{Legal, system_of, rules_of}
-use Rattle.hist_model.specs.Settlers.{InstallsOwn, ResumesOwn, ReturnsInstalled}
-use Rattle.hist_model.specs.Mediated.{Mediated, Each, TakenByItsActor, NamesOwn, NeverBusy, ErrorsKnown, InstallsAlone, FailsAlone, Arrives, ActIsGranted, PlantIsGranted, PutIsInjected, ReadsOwn, HasCause, LostIfGone, ReceivesFor, ActsAlone}
-use Rattle.hist_model.specs.declared.event.Event.{Event}
-use Rattle.hist_model.specs.declared.policy.Policy.{Policy}
-use Rattle.hist_model.specs.declared.script.Script.{Script}
-use Rattle.mediation.proofs.Once.{answered_once}
-use Rattle.mediation.proofs.Sequence.{is-own}
-use Rattle.mediation.proofs.Ordered.{ordered}
-use Rattle.mediation.proofs.Replies.{each, taken-by-its-actor, names-own-call, never-busy, errors-known, installs-are-own, resumes-are-own, resumes-installed, has-cause, lost-if-gone}
-use Rattle.mediation.proofs.Arrivals.{arrives, one-session}
-use Rattle.mediation.proofs.Received.{receives-step, receives-are-for}
-use Rattle.mediation.proofs.Placed.{installs-alone, fails-alone}
-use Rattle.mediation.proofs.Privileged.{acts-alone}
+use Rattle.mediation.proofs.Common.{List, [], ◌∷◌, session, Legal, system_of, rules_of, InstallsOwn, ResumesOwn, ReturnsInstalled, Each, TakenByItsActor, NamesOwn, NeverBusy, ErrorsKnown}
+use Rattle.mediation.proofs.Common.{InstallsAlone, FailsAlone, Arrives, ActIsGranted, PlantIsGranted, PutIsInjected, ReadsOwn, HasCause, LostIfGone, ReceivesFor, ActsAlone, Event, Policy, Script}
+use Rattle.mediation.proofs.Common.{Mediated}
+use Rattle.mediation.proofs.Calls.{answered_once, receives-step, receives-are-for}
+use Rattle.mediation.proofs.Order.{is-own, ordered}
+use Rattle.mediation.proofs.Replies.{each, taken-by-its-actor, names-own-call, never-busy, errors-known, installs-are-own, resumes-are-own, resumes-installed, has-cause, lost-if-gone, arrives}
+use Rattle.mediation.proofs.Replies.{one-session}
+use Rattle.mediation.proofs.Effects.{installs-alone, fails-alone, acts-alone, act-is-granted, plant-is-granted, put-is-injected, reads-are-own, times-kept}
 use Rattle.mediation.proofs.Audited.{audit-names}
-use Rattle.mediation.proofs.Granted.{act-is-granted, plant-is-granted, put-is-injected, reads-are-own, times-kept}
 
 -- a fact of each event that needs no more than the event
 every : (P : List Event → Event → Type 0) → ((K : List Event) (e : Event) → P K e) → (K : List Event) → Each P K

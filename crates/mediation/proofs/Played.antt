@@ -1,39 +1,16 @@
 -- The history that a schedule plays is legal.
-use Rattle.std.proofs.Common.{◌≡◌, ℕ, zero, suc, ◌+◌, ◌<◌, ◌≤◌, ◌^◌, Bool, true, false, nat_le, List, [], ◌∷◌, length, refl, arith}
-use Rattle.hist_model.specs.Calls.{closes}
-use Rattle.hist_model.specs.Look.{ev}
-use Rattle.hist_model.specs.Steps.{IsStep, IsLegal, is_start, is_actor, step, start}
-use Rattle.hist_model.specs.Mediated.{takes}
-use Rattle.hist_model.specs.Legal.{Legal, played, started, system_of, rules_of, with_step, with_steps, with_schedule}
-use Rattle.hist_model.specs.declared.event.Actor.{Actor}
-use Rattle.hist_model.specs.declared.event.Actor.TheVariants.{Start, Task, Worker, Listener}
-use Rattle.hist_model.specs.declared.event.Event.{Event}
-use Rattle.hist_model.specs.declared.event.What.{What}
-use Rattle.hist_model.specs.declared.event.What.TheVariants.{Close}
-use Rattle.hist_model.specs.declared.policy.Policy.{Policy}
-use Rattle.hist_model.specs.declared.script.Script.{Script}
-use Rattle.hist_model.specs.declared.script.Step.{Step}
-use Rattle.mediation.specs.Scheduled.{IsScheduled, AllScheduled}
+use Rattle.mediation.proofs.Common.{◌≡◌, ℕ, zero, suc, ◌<◌, ◌≤◌, ◌^◌, true, false, List, [], ◌∷◌, length, refl, arith, closes, ev, IsStep, IsLegal, is_start, is_actor, step, takes, Legal, played}
+use Rattle.mediation.proofs.Common.{system_of, rules_of, Actor, Listener, Event, What, Policy, Script, started, with_step, with_steps, with_schedule, Step, IsScheduled, AllScheduled}
 use Rattle.mediation.proofs.Replies.{taken-by-its-actor}
 
 not-start : (a : Actor) → IsScheduled a → is_start a ≡ false
-not-start (Task n) s = refl
-not-start (Worker w) s = refl
-not-start Start s = absurd s
-not-start Listener s = absurd s
+not-start a s = grind arith
 
 may-step : (a : Actor) → IsScheduled a → is_actor a ≡ true
-may-step (Task n) s = refl
-may-step (Worker w) s = grind (arith)
-may-step Start s = absurd s
-may-step Listener s = absurd s
+may-step a s = grind arith
 
 never-closes : (a : Actor) (what : What) → IsScheduled a → takes a what ≡ true → closes what ≡ false
-never-closes (Task n) Close s t = cc
-never-closes (Worker w) Close s t = cc
-never-closes Start Close s t = absurd s
-never-closes Listener Close s t = absurd s
-never-closes a _ s t = refl
+never-closes a what s t = grind arith
 
 -- a history that goes on: its newest event isn't the close of the listener
 abbrev IsOpen : List Event → Type 0
@@ -65,10 +42,7 @@ module _ (P : Policy) (S : Script) where
   longer-schedule : (steps : List Step) (K : List Event) → length K ≤ length (with_schedule P S steps K)
   unfolding with_schedule
   longer-schedule [] K = omega arith
-  longer-schedule (s ∷ more) K =
-      let here = longer-steps s.who s.count K in
-      let rest = longer-schedule more (with_steps P S s.who s.count K) in
-      omega arith
+  longer-schedule (s ∷ more) K = grind (arith, longer-steps, longer-schedule more (with_steps P S s.who s.count K))
 
   steps : (a : Actor) (n : ℕ) (K : List Event) → IsScheduled a → length (with_steps P S a n K) < 2 ^ 64 → Goes K → Goes (with_steps P S a n K)
   unfolding with_steps
@@ -88,10 +62,7 @@ module _ (P : Policy) (S : Script) where
   begins = record { legal = (refl, tt); unclosed = refl }
 
   ends : (K : List Event) → Goes K → IsLegal (system_of S) (rules_of P S.figures) (with_step P S Listener K)
-  ends [] g = absurd g.unclosed
-  ends (f ∷ K) g = ((g.unclosed, refl, refl, refl), g.legal)
+  ends K g = grind arith
 
   pub played-is-legal : AllScheduled S.schedule → length (played P S) < 2 ^ 64 → Legal P S (played P S)
-  played-is-legal s room =
-      let K = with_schedule P S S.schedule (started S) in
-      (ends K (schedule S.schedule (started S) s (omega arith) begins), room)
+  played-is-legal s room = grind (arith, schedule, ends, begins)

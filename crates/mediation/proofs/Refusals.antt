@@ -1,23 +1,10 @@
 -- The small histories that wrong kernels and brokers would make are not legal.
-use Rattle.std.proofs.Common.{◌≡◌, ℕ, ◌<◌, ◌&&◌, Bool, true, false, List, [], ◌∷◌, length, None, refl, ap, ◌∙◌, arith}
-use Rattle.std.specs.Prelude.{Ok, Err, pos, nat_le, ◌==◌}
-use Rattle.std.proofs.lemmas.Bool.{and_parts, eqb-false}
-use Rattle.hist_model.specs.Look.{ev, event_at, newest, oldest}
-use Rattle.hist_model.specs.Tasks.{ended, was_waited_for, reaped, holder, free_from, last_pid, next_pid, is_made, mode, pending}
-use Rattle.hist_model.specs.Signals.{call_of, next_signal}
-use Rattle.hist_model.specs.Calls.{listed, fetched, named, settled, queue, calls, recvs, closes}
-use Rattle.hist_model.specs.Sessions.{Rules, session, deed}
-use Rattle.hist_model.specs.Systems.{System}
-use Rattle.hist_model.specs.Steps.{IsLegal, is_start, is_actor, start, step, task_step, worker_step, steps_of, reply, oldest_unfetched, task_place, group, mem, base, session_call, install_of, call_at, request_of, owes_native, times_spent}
-use Rattle.hist_model.specs.declared.event.Actor.{Actor}
-use Rattle.hist_model.specs.declared.event.Actor.TheVariants.{Start, Task, Worker, Listener}
-use Rattle.hist_model.specs.declared.event.Event.{Event}
-use Rattle.hist_model.specs.declared.event.What.{What}
-use Rattle.hist_model.specs.declared.event.What.TheVariants.{Recv, OpenMem, Check, Read, Act, Install, AddfdPut, Send, LetGo, Exit, Close}
-use Rattle.hist_model.specs.declared.event.Back.TheVariants.{Value}
-use Rattle.sys_abi.specs.declared.wire.Addfd.{Addfd}
-use Rattle.sys_abi.specs.declared.wire.Notif.{Notif}
-use Rattle.mediation.specs.Refused.{after, played, Refuses, one_call, reused, interrupted, two_calls, granting, injecting, asked, parent, worker, read_once, checked_twice, answered, renumbered, put_and_interrupted, both_called, newest_notif, without_send, EarlyEffect, LateOpening, SecondReading, SecondAnswer, ValidByNumber, LateInstallation, WithoutSend, NewestFirst}
+use Rattle.mediation.proofs.Common.{◌≡◌, ℕ, ◌<◌, ◌&&◌, Bool, true, false, List, [], ◌∷◌, length, refl, arith, Ok, pos, nat_le, ◌==◌, and_parts, eqb-false, ev, event_at, newest, oldest, ended}
+use Rattle.mediation.proofs.Common.{was_waited_for, reaped, holder, free_from, last_pid, next_pid, is_made, mode, call_of, next_signal, listed, fetched, named, settled, queue, calls, recvs, closes}
+use Rattle.mediation.proofs.Common.{Rules, session, deed, System, IsLegal, is_start, is_actor, start, step, task_step, worker_step, steps_of, reply, oldest_unfetched, task_place, group, mem, base}
+use Rattle.mediation.proofs.Common.{session_call, install_of, call_at, request_of, owes_native, times_spent, Actor, Task, Worker, Event, What, Recv, AddfdPut, Addfd, Notif, pending, after, Refuses}
+use Rattle.mediation.proofs.Common.{EarlyEffect, LateOpening, SecondReading, SecondAnswer, ValidByNumber, LateInstallation, WithoutSend, NewestFirst}
+use Rattle.mediation.specs.Refused.{played}
 use Rattle.mediation.proofs.Rows.{Row, step-row}
 
 -- tasks and workers
@@ -32,18 +19,10 @@ all_move (a ∷ more) = moves a && all_move more
 
 -- they don't close the listener
 row-closes : (S : System) (R : Rules) (K : List Event) (a : Actor) (what : What) → moves a ≡ true → Row S R K a what → closes what ≡ false
-row-closes S R K (Task n) Close m r = absurd r
-row-closes S R K (Task n) what m r = refl
-row-closes S R K (Worker w) Close m r = absurd r
-row-closes S R K (Worker w) what m r = refl
-row-closes S R K Start what m r = cc
-row-closes S R K Listener what m r = cc
+row-closes S R K a what m r = grind arith
 
 moves-actor : (a : Actor) → moves a ≡ true → (is_start a ≡ false) × (is_actor a ≡ true)
-moves-actor (Task n) h = (refl, refl)
-moves-actor (Worker w) h = (refl, h)
-moves-actor Start h = cc
-moves-actor Listener h = cc
+moves-actor a h = grind arith
 
 -- what they play is legal
 after-legal : (S : System) (R : Rules) (actors : List Actor) (f : Event) (K : List Event) → all_move actors ≡ true → closes f.what ≡ false → IsLegal S R (f ∷ K) → IsLegal S R (after S R actors (f ∷ K))
@@ -51,7 +30,7 @@ after-legal S R [] f K m c legal = legal
 after-legal S R (a ∷ more) f K m c legal =
     let p = and_parts (moves a) (all_move more) m in
     let q = moves-actor a p.0 in
-    let r = row-closes S R (f ∷ K) a (step S R (f ∷ K) a) p.0 (step-row S R (f ∷ K) a) in
+    let r = row-closes S R (f ∷ K) a (step S R (f ∷ K) a) p.0 (step-row S R (f ∷ K) a q.0) in
     after-legal S R more (ev a (step S R (f ∷ K) a)) (f ∷ K) p.1 r ((c, q.0, refl, q.1), legal)
 
 played-legal : (S : System) (R : Rules) (actors : List Actor) → all_move actors ≡ true → IsLegal S R (played S R actors)
@@ -59,8 +38,7 @@ played-legal S R actors m = after-legal S R actors (start S) [] m refl (refl, tt
 
 -- an event that is not the step of its actor
 other-step : (S : System) (R : Rules) (K : List Event) (a : Actor) (wrong right : What) → 0 < length K → step S R K a ≡ right → (wrong ≡ right → ⊥) → IsLegal S R (ev a wrong ∷ K) → ⊥
-other-step S R [] a wrong right l q n legal = absurd (omega arith)
-other-step S R (f ∷ K) a wrong right l q n legal = n (legal.0.2 ∙ q)
+other-step S R K a wrong right l q n legal = grind arith
 
 longer : (S : System) (R : Rules) (actors : List Actor) (K : List Event) → 0 < length K → 0 < length (after S R actors K)
 longer S R [] K h = h
@@ -87,13 +65,4 @@ numbers a b h q = eqb-false a b h q
 -- each by what its actor's step is in truth
 pub refusals : EarlyEffect × LateOpening × SecondReading × SecondAnswer × ValidByNumber × LateInstallation × WithoutSend × NewestFirst
 unfolding step task_step worker_step event_at newest oldest ended was_waited_for reaped holder free_from last_pid next_pid is_made mode pending next_signal listed fetched named settled queue calls recvs session deed call_of steps_of reply oldest_unfetched task_place group mem base session_call install_of call_at request_of owes_native times_spent with_send oldest_notif number_of
-refusals = (
-  refuses one_call granting read_once worker (Act asked None (Ok tt)) (Check 1 (Ok tt)) refl refl (λ (h : (Act asked None (Ok tt)) ≡ (Check 1 (Ok tt))). cc),
-  refuses one_call granting checked_twice worker (OpenMem 1 (Ok tt)) (Act asked None (Ok tt)) refl refl (λ (h : (OpenMem 1 (Ok tt)) ≡ (Act asked None (Ok tt))). cc),
-  refuses one_call granting checked_twice worker (Read 65536 256 (Ok (47 ∷ 0 ∷ []))) (Act asked None (Ok tt)) refl refl (λ (h : (Read 65536 256 (Ok (47 ∷ 0 ∷ []))) ≡ (Act asked None (Ok tt))). cc),
-  refuses one_call granting answered worker (Send 1 (Value (pos 0)) (Ok tt)) (LetGo) refl refl (λ (h : (Send 1 (Value (pos 0)) (Ok tt)) ≡ (LetGo)). cc),
-  refuses reused granting renumbered worker (Check 1 (Ok tt)) (Check 1 (Err 2)) refl refl (λ (h : (Check 1 (Ok tt)) ≡ (Check 1 (Err 2))). cc),
-  refuses interrupted injecting put_and_interrupted parent (Install (Ok 3)) (Exit) refl refl (λ (h : (Install (Ok 3)) ≡ (Exit)). cc),
-  refuses one_call injecting read_once worker (AddfdPut without_send (Ok tt)) (AddfdPut with_send (Ok tt)) refl refl (λ h. numbers 0 2 refl (ap number_of h)),
-  refuses two_calls granting both_called worker (Recv (Ok newest_notif)) (Recv (Ok oldest_notif)) refl refl (λ h. numbers 2 1 refl (ap number_of h)),
-)
+refusals = grind arith

@@ -1,160 +1,276 @@
--- Answers: whose they are, what causes them, and when they tell that a call is gone.
-use Rattle.std.proofs.Common.{◌≡◌, Bool, ◌⊎◌, inl, inr, ℕ, ◌<◌, ◌^◌, true, false, List, [], ◌∷◌, length, refl, ap, arith, ◌||◌, not, ◌∙◌, sym, None, Some, Option}
-use Rattle.std.specs.Prelude.{Result, Ok, Err, ◌==◌, if◌then◌else◌}
-use Rattle.std.proofs.lemmas.Bool.{or_cases, eqb-true, eq-eqb, false_from_ne_true, cases_Bool, both_ways}
-use Rattle.hist_model.specs.Look.{is_worker, Name, is_place}
-use Rattle.hist_model.specs.Calls.{listed, named, waiting, queue, puts_to, answers}
-use Rattle.hist_model.specs.Sessions.{Rules, session, Answer, Put, addfd_of}
-use Rattle.hist_model.specs.Systems.{System, Slot, Number, Full, Over}
-use Rattle.hist_model.specs.Steps.{IsStep, IsLegal, session_call, start, is_start, send_answer, put_answer, check_answer, take_step, install_of, install_at, install_step, installed, installs_request, request_of, request_listed, call_at, slot_answer}
-use Rattle.hist_model.specs.Settlers.{InstallsOwn, ResumesOwn, ReturnsInstalled}
-use Rattle.hist_model.specs.Mediated.{HasCause, NeverBusy, is_busy, ErrorsKnown, is_known_error, TakenByItsActor, takes, Each, NamesOwn, is_accepted, LostIfGone, is_lost}
-use Rattle.mediation.proofs.Own.{row-of}
-use Rattle.mediation.proofs.Settlers.{installs-own, resumes-own, returns-installed}
-use Rattle.mediation.proofs.Names.{named-is, names-own}
-use Rattle.sys_abi.specs.declared.wire.Addfd.{Addfd}
-use Rattle.sys_abi.specs.declared.wire.Notif.{Notif}
-use Rattle.hist_model.specs.declared.event.Event.{Event}
-use Rattle.hist_model.specs.declared.event.Actor.{Actor}
-use Rattle.hist_model.specs.declared.event.Actor.TheVariants.{Worker, Start, Task, Listener}
-use Rattle.hist_model.specs.declared.event.What.{What}
-use Rattle.hist_model.specs.declared.event.Back.{Back}
-use Rattle.hist_model.specs.declared.event.What.TheVariants.{Spawn, Poke, Handler, Enter, Native, Install, Resume, Signal, Deliver, Reap, Exit, Recv, OpenMem, OpenBase, Check, Read, Act, Plant, AddfdPut, AddfdTake, Send, LetGo, Skip}
-use Rattle.mediation.proofs.Rows.{Row, WorkerRow, TaskRow}
-use Rattle.mediation.proofs.Deeds.{deed-is, AtWork}
-use Rattle.mediation.proofs.Work.{InSession, hand, hand-notif, worker-row, in-hand, works, at-work}
-use Rattle.mediation.proofs.Sequence.{is-own}
-use Rattle.mediation.proofs.Phases.{AtCall, acts-own}
-use Rattle.mediation.proofs.Answered.{check-is, send-is, put-is, take-is, open-is, base-is}
-use Rattle.mediation.proofs.Waiting.{at-call}
-use Rattle.mediation.proofs.Ordered.{ordered, used-two}
+-- Answers, installations and returns: whose they are, what causes them, and that they arrive.
+use Rattle.mediation.proofs.Common.{◌≡◌, inl, inr, ℕ, ◌<◌, ◌^◌, true, false, ◌&&◌, List, [], ◌∷◌, ◌++◌, length, Option, Some, None, refl, sym, ap, ◌∙◌, subst, arith, Result, Ok, pos, cases_Bool}
+use Rattle.mediation.proofs.Common.{and_parts, or_cases, or_left, or_right, eq-eqb, false_from_ne_true, both_ways, Name, is_task, listed, caller, answers, puts_to, installs_for, is_install, queue}
+use Rattle.mediation.proofs.Common.{rest_of, settled, settles, has_send_flag, call_of, Rules, session, System, IsLegal, reply, call_at, install_of, installed, is_first, fetcher, worker_of, Event}
+use Rattle.mediation.proofs.Common.{Actor, Task, What, Install, Resume, Send, AddfdPut, Addfd, Back, event_at-here, event_at-older, event_at-below, newest-some, name_eq-true, Bool, ◌||◌, Err, ◌==◌}
+use Rattle.mediation.proofs.Common.{is_worker, named, Answer, Put, IsStep, session_call, InstallsOwn, ResumesOwn, ReturnsInstalled, HasCause, NeverBusy, ErrorsKnown, TakenByItsActor, Each, NamesOwn}
+use Rattle.mediation.proofs.Common.{LostIfGone, Worker, OpenMem, OpenBase, Check, AddfdTake, ◌≤◌, name_eq, fetched, fetches, id, closes, leaves, Arrives, Deliver, cases_order, gave, first_sends}
+use Rattle.mediation.proofs.Common.{has_send, back_of, IsRequestOf, Source, sent, installed_for, Value, is_busy, is_known_error, is_accepted, is_lost, fetches_of, OneSession, returns}
+use Rattle.mediation.proofs.Calls.{before-older, before-newest, installs-open, settles-once}
+use Rattle.mediation.proofs.Rows.{Row, TaskRow, WorkerRow, row-of}
+use Rattle.mediation.proofs.Deeds.{deed-is}
+use Rattle.mediation.proofs.Phases.{installing, install-first, put-call, call-at-older, call-at-here, call-at-above, hand-fetcher, fetcher-fetched, fetcher-stays, install-same, install-now}
+use Rattle.mediation.proofs.Phases.{install-new, actor-acts, AtCall, acts-own, check-is, send-is, put-is, take-is, open-is, base-is, at-call, refetch}
+use Rattle.mediation.proofs.Order.{is_put, is-own, ordered, used-two}
+use Rattle.mediation.proofs.Hands.{named-is, names-own, InSession, hand, hand-notif, in-hand, works, at-work}
+use Rattle.mediation.proofs.Tasks.{listed-below, listed-older, waits-here}
+
+-- ---- installs and resumes are of the call's own session
+
+request-later : (S : System) (R : Rules) (K : List Event) (e : Event) (c r w : ℕ) → IsLegal S R K → length K < 2 ^ 64 → Row S R K e.who e.what → IsRequestOf K c r w → IsRequestOf (e ∷ K) c r w
+request-later S R K e c r w legal room row i = grind (arith, call-at-older, event_at-older, fetcher-stays, fetcher-fetched)
+
+-- each of a call's requests is its session's
+AllOf : List Event → ℕ → List ℕ → Type 0
+AllOf K c [] = Unit {0}
+AllOf K c (r ∷ rs) = ((w : ℕ) × IsRequestOf K c r w) × AllOf K c rs
+
+all-later : (S : System) (R : Rules) (K : List Event) (e : Event) (c : ℕ) (rs : List ℕ) → IsLegal S R K → length K < 2 ^ 64 → Row S R K e.who e.what → AllOf K c rs → AllOf (e ∷ K) c rs
+unfolding AllOf
+all-later S R K e c [] legal room row h = tt
+all-later S R K e c (r ∷ rs) legal room row h = ((h.0.0, request-later S R K e c r h.0.0 legal room row h.0.1), all-later S R K e c rs legal room row h.1)
+
+all-push : (K : List Event) (c r w : ℕ) (rs : List ℕ) → AllOf K c rs → IsRequestOf K c r w → AllOf K c (rs ++ r ∷ [])
+unfolding AllOf
+all-push K c r w [] h i = ((w, i), tt)
+all-push K c r w (x ∷ rs) h i = (h.0, all-push K c r w rs h.1 i)
+
+-- each request of a worker has SEND
+put-sends : (S : System) (R : Rules) (K : List Event) (w : ℕ) (q : Addfd) (a : Result (Unit {0}) ℕ) → WorkerRow S R K w (AddfdPut q a) → has_send_flag q ≡ true
+put-sends S R K w q a r =
+    let t = deed-is R (session K w) _ r.0 in
+    grind arith
+
+put-is-put : (K : List Event) (what : What) (c : ℕ) → puts_to K what c ≡ true → is_put what ≡ true
+put-is-put K what c h = grind arith
+
+puts-send : (S : System) (R : Rules) (K : List Event) (a : Actor) (what : What) → Row S R K a what → is_put what ≡ true → has_send what ≡ true
+puts-send S R K a what r h = grind (arith, put-sends)
+
+-- a new request is its session's
+put-own : (S : System) (R : Rules) (K : List Event) (e : Event) (c : ℕ) → IsLegal S R K → length K < 2 ^ 64 → Row S R K e.who e.what → puts_to K e.what c ≡ true → (w : ℕ) × IsRequestOf (e ∷ K) c (length K) w
+put-own S R K e c legal room row h =
+    let v = actor-acts S R K e.who e.what c legal room row (or_left (puts_to K e.what c) (answers K e.what c) h) in
+    let f = hand-fetcher S R K legal room v.0 c v.2 in (
+      v.0,
+      record {
+        below = omega arith;
+        for_call = call-at-here e K ∙ put-call K e.what c h;
+        sends = rw event_at-here (puts-send S R K e.who e.what row (put-is-put K e.what c h));
+        put_by = rw event_at-here (ap worker_of v.1);
+        session_of = fetcher-stays S R K e v.0 c legal room row (fetcher-fetched K c v.0 f) f;
+      },
+    )
+
+queue-other : (e : Event) (K : List Event) (c : ℕ) → puts_to K e.what c ≡ false → installs_for K e c ≡ false → queue (e ∷ K) c ≡ queue K c
+unfolding queue
+queue-other e K c h g = rw (h, g)
+
+none-of : (c : ℕ) → AllOf [] c (queue [] c)
+unfolding queue AllOf
+none-of c = tt
+
+nothing-settled : (c : ℕ) → settled [] c ≡ true → ⊥
+unfolding settled
+nothing-settled c h = cc
+
+reply-now : (e : Event) (K : List Event) (c : ℕ) → settles K e c ≡ true → reply (e ∷ K) c ≡ back_of e.what
+unfolding reply
+reply-now e K c h = rw h
+
+reply-same : (e : Event) (K : List Event) (c : ℕ) → settles K e c ≡ false → reply (e ∷ K) c ≡ reply K c
+unfolding reply
+reply-same e K c h = rw h
+
+settled-was : (e : Event) (K : List Event) (c : ℕ) → settles K e c ≡ false → settled (e ∷ K) c ≡ true → settled K c ≡ true
+unfolding settled
+settled-was e K c h g = grind arith
+
+all-kind : (S : System) (R : Rules) (K : List Event) (e : Event) (c : ℕ) → IsLegal S R K → length K < 2 ^ 64 → Row S R K e.who e.what → AllOf K c (queue K c) → AllOf (e ∷ K) c (queue (e ∷ K) c)
+unfolding AllOf queue
+all-kind S R K e c legal room row h = grind (arith, put-own, all-push, all-later, queue-other)
+
+all-of : (S : System) (R : Rules) (K : List Event) → IsLegal S R K → length K < 2 ^ 64 → (c : ℕ) → AllOf K c (queue K c)
+all-of S R [] legal room = λ c. none-of c
+all-of S R (e ∷ K) legal room = λ c. all-kind S R K e c legal.1 (omega arith) (row-of S R K e legal.0) (all-of S R K legal.1 (omega arith) c)
+
+pub first-own : (S : System) (R : Rules) (K : List Event) (c r : ℕ) (rs : List ℕ) → IsLegal S R K → length K < 2 ^ 64 → queue K c ≡ r ∷ rs → (w : ℕ) × IsRequestOf K c r w
+unfolding AllOf
+first-own S R K c r rs legal room q = (rw q at (all-of S R K legal room c)).0
+
+installed-now : (e : Event) (K : List Event) (c r : ℕ) → call_at K r ≡ Some c → (installs_for K e c && is_first (queue K c) r) ≡ true → install_of (e ∷ K) r ≡ installed e.what
+unfolding install_of
+installed-now e K c r q p = rw (q, p)
+
+installed-same : (e : Event) (K : List Event) (c r : ℕ) → call_at K r ≡ Some c → (installs_for K e c && is_first (queue K c) r) ≡ false → install_of (e ∷ K) r ≡ install_of K r
+unfolding install_of
+installed-same e K c r q p = rw (q, p)
+
+waits-in-call : (K : List Event) (n : Name) (c : ℕ) → call_of K n ≡ Some c → (listed K c ≡ true) × (caller K c ≡ n)
+unfolding call_of
+waits-in-call K n c q = grind (arith, newest-some, name_eq-true)
+
+first-is : (rs : List ℕ) (r : ℕ) (more : List ℕ) → rs ≡ r ∷ more → is_first rs r ≡ true
+first-is rs r more q = rw q (eq-eqb r r refl)
+
+pub installs-are-own : (S : System) (R : Rules) (K : List Event) (e : Event) → IsLegal S R K → length K < 2 ^ 64 → IsStep S R K e → InstallsOwn K e
+installs-are-own S R K e legal room step n x who what =
+    let r : TaskRow S K n (Install x) = rw (who, what) at (row-of S R K e step) in
+    let c = r.1.0 in
+    let l = waits-in-call K n c r.1.1 in
+    let i = install-first S K (Task n) x c (queue K c) refl r.1.1 r.1.3 in
+    let o = first-own S R K c i.first i.rest legal room i.queue_is in
+    (c, i.first, o.0, record { in_call = r.1.1; on_list = l.0; by_caller = l.1; is_next = first-is (queue K c) i.first i.rest i.queue_is; request = o.1 })
+
+-- a settled call gets no more installs
+no-install : (S : System) (R : Rules) (K : List Event) (e : Event) (c : ℕ) → IsLegal S R K → Row S R K e.who e.what → settled K c ≡ true → installs_for K e c ≡ false
+no-install S R K e c legal row h = grind (arith, installs-open)
+
+source-later : (S : System) (R : Rules) (K : List Event) (e : Event) (c w : ℕ) (b : Back) → IsLegal S R K → length K < 2 ^ 64 → Row S R K e.who e.what → settled K c ≡ true → Source K c w b → Source (e ∷ K) c w b
+source-later S R K e c w b legal room row s (sent p x b' u d q h g a) = let l = event_at-below K p d q in sent p x b' u d (rw event_at-older q) h g (rw (before-older e K p (omega arith)) a)
+source-later S R K e c w b legal room row s (installed_for r n h g) =
+    installed_for r n (request-later S R K e c r w legal room row h) (install-same e K c r h.for_call (no-install S R K e c legal row s) ∙ g)
+
+pub Settled : List Event → ℕ → Type 0
+Settled K c = (w : ℕ) × (fetcher K c ≡ Some w) × Source K c w (reply K c)
+
+settled-send : (S : System) (R : Rules) (K : List Event) (e : Event) (c : ℕ) → IsLegal S R K → length K < 2 ^ 64 → Row S R K e.who e.what → answers K e.what c ≡ true → (w : ℕ) × (fetcher K c ≡ Some w) × Source (e ∷ K) c w (back_of e.what)
+settled-send S R K e c legal room row h =
+    let v = actor-acts S R K e.who e.what c legal room row (or_right (puts_to K e.what c) (answers K e.what c) h) in
+    let f = hand-fetcher S R K legal room v.0 c v.2 in
+    let k = a-send e.what h in
+    (v.0, f, sent (length K) k.0 (back_of e.what) k.1 e (event_at-here e K) v.1 k.2 (rw (before-newest e K) h))
+  where
+    a-send : (what : What) → answers K what c ≡ true → (x : ℕ) × (u : Unit {0}) × (what ≡ Send x (back_of what) (Ok u))
+    a-send (Send x b (Ok u)) h = (x, u, refl)
+    a-send what h = cc
+
+settled-install : (S : System) (R : Rules) (K : List Event) (e : Event) (c : ℕ) → IsLegal S R K → length K < 2 ^ 64 → Row S R K e.who e.what → installs_for K e c ≡ true → gave e.what ≡ true → (w : ℕ) × (fetcher K c ≡ Some w) × Source (e ∷ K) c w (back_of e.what)
+settled-install S R K e c legal room row f g =
+    let p = and_parts (is_install e.what) (is_task e.who (caller K c) && listed K c) f in
+    let q = and_parts (is_task e.who (caller K c)) (listed K c) p.1 in
+    let i = installing S R K e.who e.what c legal row p.0 q.0 q.1 in
+    let o = first-own S R K c i.first i.rest legal room i.queue_is in
+    let k = number e.what g in
+    let h : install_of (e ∷ K) i.first ≡ Some (Ok k.0) = install-now e K c i.first i.rest o.1.for_call f i.queue_is ∙ ap installed k.1 in
+    (o.0, o.1.session_of, subst (Source (e ∷ K) c o.0) (sym k.2) (installed_for i.first k.0 (request-later S R K e c i.first o.0 legal room row o.1) h))
+  where
+    number : (what : What) → gave what ≡ true → (n : ℕ) × (what ≡ Install (Ok n)) × (back_of what ≡ Value (pos n))
+    number what h = grind arith
+
+settled-kind : (S : System) (R : Rules) (K : List Event) (e : Event) (c : ℕ) → IsLegal S R K → length K < 2 ^ 64 → Row S R K e.who e.what → (settled K c ≡ true → Settled K c) → settled (e ∷ K) c ≡ true → Settled (e ∷ K) c
+unfolding Settled
+settled-kind S R K e c legal room row ih h =
+    elim (cases_Bool (settles K e c)) [
+      | inl q ↦ rw (reply-now e K c q) (kept (elim (or_cases (answers K e.what c) (installs_for K e c && (gave e.what && first_sends K (queue K c))) q) [
+        | inl a ↦ settled-send S R K e c legal room row a
+        | inr a ↦ grind (arith, settled-install)
+      ]))
+      | inr q ↦ grind (arith, settled-was, reply-same, fetcher-stays, fetcher-fetched, source-later)
+    ]
+  where
+    kept : {b : Back} → (w : ℕ) × (fetcher K c ≡ Some w) × Source (e ∷ K) c w b → (w : ℕ) × (fetcher (e ∷ K) c ≡ Some w) × Source (e ∷ K) c w b
+    kept z = (z.0, fetcher-stays S R K e z.0 c legal room row (fetcher-fetched K c z.0 z.1) z.1, z.2)
+
+pub settled-by : (S : System) (R : Rules) (K : List Event) → IsLegal S R K → length K < 2 ^ 64 → (c : ℕ) → settled K c ≡ true → Settled K c
+settled-by S R [] legal room = λ c h. absurd (nothing-settled c h)
+settled-by S R (e ∷ K) legal room = λ c. settled-kind S R K e c legal.1 (omega arith) (row-of S R K e legal.0) (settled-by S R K legal.1 (omega arith) c)
+
+pub resumes-are-own : (S : System) (R : Rules) (K : List Event) (e : Event) → IsLegal S R K → length K < 2 ^ 64 → IsStep S R K e → ResumesOwn K e
+unfolding Settled
+resumes-are-own S R K e legal room step n b who what =
+    let r : TaskRow S K n (Resume b) = rw (who, what) at (row-of S R K e step) in
+    let c = r.1.0 in
+    let l = waits-in-call K n c r.1.1 in
+    let z = settled-by S R K legal room c r.1.2 in
+    (c, z.0, l.0, l.1, z.1, rw r.1.3 z.2)
+
+-- a number that was installed for a call's request settles the call, and is its reply
+pub Gave : List Event → ℕ → ℕ → Type 0
+Gave K c m = (settled K c ≡ true) × (reply K c ≡ Value (pos m))
+
+gave-kind : (S : System) (R : Rules) (K : List Event) (e : Event) (c r m : ℕ) → IsLegal S R K → length K < 2 ^ 64 → Row S R K e.who e.what → call_at K r ≡ Some c → (install_of K r ≡ Some (Ok m) → Gave K c m) → install_of (e ∷ K) r ≡ Some (Ok m) → Gave (e ∷ K) c m
+unfolding Gave settled
+gave-kind S R K e c r m legal room row q ih h =
+    elim (cases_Bool (installs_for K e c && is_first (queue K c) r)) [
+      | inl p ↦
+          let f = and_parts (installs_for K e c) (is_first (queue K c) r) p in
+          let w : e.what ≡ Install (Ok m) = number e.what (sym (installed-now e K c r q p) ∙ h) in
+          let s : settles K e c ≡ true = settling (queue K c) refl f.0 f.1 w in
+          (or_left (settles K e c) (settled K c) s, reply-now e K c s ∙ ap back_of w)
+      | inr p ↦ grind (arith, installed-same, settles-once, reply-same)
+    ]
+  where
+    number : (what : What) → installed what ≡ Some (Ok m) → what ≡ Install (Ok m)
+    number what k = grind arith
+
+    settling : (rs : List ℕ) → queue K c ≡ rs → installs_for K e c ≡ true → is_first rs r ≡ true → e.what ≡ Install (Ok m) → settles K e c ≡ true
+    settling x0 z f g w = grind (arith, first-own)
+
+-- a request that is put now has no install yet
+gave-step : (S : System) (R : Rules) (K : List Event) (e : Event) (c r m : ℕ) → IsLegal S R K → length K < 2 ^ 64 → Row S R K e.who e.what → (call_at K r ≡ Some c → install_of K r ≡ Some (Ok m) → Gave K c m) → call_at (e ∷ K) r ≡ Some c → install_of (e ∷ K) r ≡ Some (Ok m) → Gave (e ∷ K) c m
+gave-step S R K e c r m legal room row ih q h =
+    elim (cases_order r (length K)) [
+      | inl z ↦ absurd (cc (install-new e K, rw z at h))
+      | inr (inl l) ↦ let p : call_at K r ≡ Some c = sym (call-at-older e K r l) ∙ q in gave-kind S R K e c r m legal room row p (ih p) h
+      | inr (inr l) ↦ absurd (cc (call-at-above (e ∷ K) r (omega arith), q))
+    ]
+
+pub gave-number : (S : System) (R : Rules) (K : List Event) → IsLegal S R K → length K < 2 ^ 64 → (c r m : ℕ) → call_at K r ≡ Some c → install_of K r ≡ Some (Ok m) → Gave K c m
+gave-number S R [] legal room = λ c r m q h. grind (arith, call-at-above)
+gave-number S R (e ∷ K) legal room = λ c r m. gave-step S R K e c r m legal.1 (omega arith) (row-of S R K e legal.0) (gave-number S R K legal.1 (omega arith) c r m)
+
+-- a resume of such a call returns the number
+pub resumes-installed : (S : System) (R : Rules) (K : List Event) (e : Event) → IsLegal S R K → length K < 2 ^ 64 → IsStep S R K e → ReturnsInstalled K e
+unfolding Gave
+resumes-installed S R K e legal room step n b who what c r m k q h = let row : TaskRow S K n (Resume b) = rw (who, what) at (row-of S R K e step) in grind (arith, gave-number)
+
+-- ---- answers: whose they are, what causes them, and when they tell that a call is gone
 
 pub each : (S : System) (R : Rules) (P : List Event → Event → Type 0) → ((K : List Event) (e : Event) → IsLegal S R K → length K < 2 ^ 64 → IsStep S R K e → P K e)
     → (K : List Event) → IsLegal S R K → length K < 2 ^ 64 → Each P K
 each S R P f [] legal room = tt
 each S R P f (e ∷ K) legal room = (f K e legal.1 (omega arith) legal.0, each S R P f K legal.1 (omega arith))
 
--- the first event, or a step of its actor
-pub row-or-start : (S : System) (R : Rules) (K : List Event) (e : Event) → IsStep S R K e → (e ≡ start S) ⊎ ((is_start e.who ≡ false) × Row S R K e.who e.what)
-row-or-start S R [] e r = inl r
-row-or-start S R (f ∷ K) e r = inr (r.1, row-of S R (f ∷ K) e r (omega arith))
-
--- the kinds of an actor's steps
-takes-row : (S : System) (R : Rules) (K : List Event) (a : Actor) (what : What) → is_start a ≡ false → Row S R K a what → takes a what ≡ true
-takes-row S R K Start what n r = cc
-takes-row S R K Listener what n r = rw r
-takes-row S R K (Task m) (Spawn n a) q r = refl
-takes-row S R K (Task m) (Poke x b) q r = refl
-takes-row S R K (Task m) (Handler s mode) q r = refl
-takes-row S R K (Task m) (Enter nr args v) q r = refl
-takes-row S R K (Task m) (Native a) q r = refl
-takes-row S R K (Task m) (Install a) q r = refl
-takes-row S R K (Task m) (Resume b) q r = refl
-takes-row S R K (Task m) (Signal p s a) q r = refl
-takes-row S R K (Task m) (Deliver s effect) q r = refl
-takes-row S R K (Task m) (Reap a) q r = refl
-takes-row S R K (Task m) Exit q r = refl
-takes-row S R K (Task m) Skip q r = refl
-takes-row S R K (Task m) _ q r = absurd r
-takes-row S R K (Worker w) (Recv a) q r = refl
-takes-row S R K (Worker w) (OpenMem p a) q r = refl
-takes-row S R K (Worker w) (OpenBase p d a) q r = refl
-takes-row S R K (Worker w) (Check x a) q r = refl
-takes-row S R K (Worker w) (Read x l a) q r = refl
-takes-row S R K (Worker w) (Act x cap a) q r = refl
-takes-row S R K (Worker w) (Plant x b cap a) q r = refl
-takes-row S R K (Worker w) (AddfdPut x a) q r = refl
-takes-row S R K (Worker w) (AddfdTake a) q r = refl
-takes-row S R K (Worker w) (Send x b a) q r = refl
-takes-row S R K (Worker w) LetGo q r = refl
-takes-row S R K (Worker w) Skip q r = refl
-takes-row S R K (Worker w) _ q r = absurd r
-
 pub taken-by-its-actor : (S : System) (R : Rules) (K : List Event) (e : Event) → IsLegal S R K → length K < 2 ^ 64 → IsStep S R K e → TakenByItsActor K e
-taken-by-its-actor S R K e legal room r = elim (row-or-start S R K e r) [
-  | inl q ↦ rw q
-  | inr q ↦ takes-row S R K e.who e.what q.0 q.1
-]
+taken-by-its-actor S R K e legal room r = let y5 = row-of S R K e r in grind arith
 
-pub by-worker : (S : System) (R : Rules) (K : List Event) (e : Event) (w : ℕ) → IsStep S R K e → e.who ≡ Worker w → WorkerRow S R K w e.what
-by-worker S R K e w r q = worker-row S R K e w r (rw q (eq-eqb w w refl))
+is-some : (o : Option ℕ) → (o ≡ None → ⊥) → (c : ℕ) × (o ≡ Some c)
+is-some None h = absurd (h refl)
+is-some (Some c) h = (c, refl)
 
--- what an accepted step names
-sent-some : (K : List Event) (o : Option ℕ) (u : Unit {0}) → ◌≡◌ {A = Result (Unit {0}) ℕ} (Ok u) (send_answer K o) → (c : ℕ) × (o ≡ Some c)
-sent-some K None u h = cc
-sent-some K (Some c) u h = (c, refl)
-
-put-some : (S : System) (K : List Event) (q : Addfd) (o : Option ℕ) (b : Bool) (u : Unit {0}) → ◌≡◌ {A = Result (Unit {0}) ℕ} (Ok u) (if b then Err 9 else put_answer S K q o) → (c : ℕ) × (o ≡ Some c)
-put-some S K q o true u h = absurd (no u h)
-  where
-    no : (u : Unit {0}) → ◌≡◌ {A = Result (Unit {0}) ℕ} (Ok u) (Err 9) → ⊥
-    no u h = cc
-put-some S K q None false u h = cc
-put-some S K q (Some c) false u h = (c, refl)
-
-named-place : (o : Option ℕ) (c : ℕ) → o ≡ Some c → is_place o c ≡ true
-named-place o c h = rw h (eq-eqb c c refl)
-
-names-row : (S : System) (R : Rules) (K : List Event) (a : Actor) (what : What) → IsLegal S R K → length K < 2 ^ 64 → Row S R K a what → is_accepted what ≡ true
-    → (w c : ℕ) × (a ≡ Worker w) × (session_call K w ≡ Some c) × ((puts_to K what c || answers K what c) ≡ true)
-names-row S R K (Worker w) (Send x b (Ok u)) legal room r h =
-    let f = sent-some K (named K x) u r.1 in
-    let p : (puts_to K (Send x b (Ok u)) f.0 || answers K (Send x b (Ok u)) f.0) ≡ true = named-place (named K x) f.0 f.1 in
-    (w, f.0, refl, acts-own S R K w f.0 (Send x b (Ok u)) legal room r p, p)
-names-row S R K (Worker w) (AddfdPut q (Ok u)) legal room r h =
-    let f = put-some S K q (named K q.id) (not (S.source q.srcfd)) u r.1 in
-    let p : (puts_to K (AddfdPut q (Ok u)) f.0 || answers K (AddfdPut q (Ok u)) f.0) ≡ true = or-here (is_place (named K q.id) f.0) (named-place (named K q.id) f.0 f.1) in
-    (w, f.0, refl, acts-own S R K w f.0 (AddfdPut q (Ok u)) legal room r p, p)
-  where
-    or-here : (b : Bool) → b ≡ true → (b || false) ≡ true
-    or-here b h = grind arith
-names-row S R K (Task n) (Send x b (Ok u)) legal room r h = absurd r
-names-row S R K (Task n) (AddfdPut q (Ok u)) legal room r h = absurd r
-names-row S R K Start (Send x b (Ok u)) legal room r h = cc
-names-row S R K Start (AddfdPut q (Ok u)) legal room r h = cc
-names-row S R K Listener (Send x b (Ok u)) legal room r h = cc
-names-row S R K Listener (AddfdPut q (Ok u)) legal room r h = cc
-names-row S R K a what legal room r h = cc
+-- an accepted step names a call
+accepted : (S : System) (R : Rules) (K : List Event) (a : Actor) (what : What) → Row S R K a what → is_accepted what ≡ true → (w c : ℕ) × (a ≡ Worker w) × WorkerRow S R K w what × ((puts_to K what c || answers K what c) ≡ true)
+accepted S R K (Worker w) (Send x b (Ok u)) r h = let f = is-some (named K x) (λ n. cc (rw n at r.1)) in (w, f.0, refl, r, grind arith)
+accepted S R K (Worker w) (AddfdPut q (Ok u)) r h = let f = is-some (named K q.id) (λ n. let v = rw n at r.1 in grind arith) in (w, f.0, refl, r, grind arith)
+accepted S R K a what r h = grind arith
 
 pub names-own-call : (S : System) (R : Rules) (K : List Event) (e : Event) → IsLegal S R K → length K < 2 ^ 64 → IsStep S R K e → NamesOwn K e
-names-own-call S R K e legal room r h = elim (row-or-start S R K e r) [
-  | inl q ↦ absurd (both_ways (is_accepted e.what) (ap (λ (d : Event). is_accepted d.what) q) h)
-  | inr q ↦ names-row S R K e.who e.what legal room q.1 h
-]
+names-own-call S R K e legal room r h = let f = accepted S R K e.who e.what (row-of S R K e r) h in (f.0, f.1, f.2, acts-own S R K f.0 f.1 e.what legal room f.3 f.4, f.4)
 
 module _ (S : System) (R : Rules) (K : List Event) (a : Actor) (w c : ℕ) (legal : IsLegal S R K) (room : length K < 2 ^ 64) (is_mine : is_worker a w ≡ true) (l : listed K c ≡ true) (h : AtCall K c w) (i : InSession K w c) where
   not-lost : (what : What) → WorkerRow S R K w what → is_lost what ≡ true → ⊥
-  not-lost (OpenMem p (Err x)) r q = let z = open-is S R K a w c legal room is_mine l h i p (Err x) r in cc
-  not-lost (OpenBase p d (Err x)) r q = absurd (base-is S R K a w c legal room is_mine l h i p d (Err x) r (ap Err (eqb-true x 3 q)))
-  not-lost (Check x (Err y)) r q = let z = check-is S R K a w c legal room is_mine l h i x (Err y) r in cc
-  not-lost (AddfdPut q' (Err x)) r q = go (put-is S R K a w c legal room is_mine l h i q' (Err x) r)
-    where
-      go : ◌⊎◌ (◌≡◌ {A = Result (Unit {0}) ℕ} (Err x) (Ok tt)) (◌≡◌ {A = Result (Unit {0}) ℕ} (Err x) (Err 9)) → ⊥
-      go (inl z) = cc
-      go (inr z) = let m : x ≡ 9 = cc in let e : x ≡ 2 = eqb-true x 2 q in omega arith
-  not-lost (AddfdTake (Err x)) r q = take-is S R K a w c legal room is_mine l h i (Err x) r (ap Err (eqb-true x 2 q))
-  not-lost (Send x b (Err y)) r q = let z = send-is S R K a w c legal room is_mine l h i x b (Err y) r in cc
+  not-lost (OpenMem p x) r q = let z = open-is S R K a w c legal room is_mine l h i p x r in grind arith
+  not-lost (OpenBase p d x) r q = let z = base-is S R K a w c legal room is_mine l h i p d x r in grind arith
+  not-lost (Check x y) r q = let z = check-is S R K a w c legal room is_mine l h i x y r in grind arith
+  not-lost (AddfdPut q' x) r q = let z = put-is S R K a w c legal room is_mine l h i q' x r in grind arith
+  not-lost (AddfdTake x) r q = let z = take-is S R K a w c legal room is_mine l h i x r in grind arith
+  not-lost (Send x b y) r q = let z = (send-is S R K a w c legal room is_mine l h i x b y r).0 in grind arith
   not-lost what r q = cc
 
 lost-works : (what : What) → is_lost what ≡ true → works what ≡ true
-lost-works (OpenMem p (Err x)) h = refl
-lost-works (OpenBase p d (Err x)) h = refl
-lost-works (Check x (Err y)) h = refl
-lost-works (AddfdPut q (Err x)) h = refl
-lost-works (AddfdTake (Err x)) h = refl
-lost-works (Send x b (Err y)) h = refl
-lost-works what h = cc
+lost-works what h = grind arith
 
 pub lost-if-gone : (S : System) (R : Rules) (K : List Event) (e : Event) → IsLegal S R K → length K < 2 ^ 64 → IsStep S R K e → LostIfGone K e
 lost-if-gone S R K e legal room r w q z =
-    let row = by-worker S R K e w r q in
+    let row : WorkerRow S R K w e.what = rw q at (row-of S R K e r) in
     let g = at-work S R K w e.what row (lost-works e.what z) in
     let j = in-hand K w (session_call K w) g.0 g.1 (hand S R K legal w) in
     (j.0, j.1, false_from_ne_true (listed K j.0) (λ l. not-lost S R K e.who w j.0 legal room (rw q (eq-eqb w w refl)) l (at-call S R K w j.0 legal room j.1 l) j.2 e.what row z))
 
 pub has-cause : (S : System) (R : Rules) (K : List Event) (e : Event) → IsLegal S R K → length K < 2 ^ 64 → IsStep S R K e → HasCause R K e
 has-cause S R K e legal room r w x b y who what =
-    let row : WorkerRow S R K w (Send x b y) = rw what at (by-worker S R K e w r who) in
+    let row : WorkerRow S R K w (Send x b y) = rw what at (rw who at (row-of S R K e r)) in
     let t = deed-is R (session K w) (Answer x b) row.0 in
     let j = in-hand K w (session_call K w) t.0 t.1 (hand S R K legal w) in
     (j.0, t.0, j.1, t.1.notif_is, hand-notif K w j.0 j.2 t.0 j.3, t.4, used-two R (session K w) t.0 t.1 t.3 (ordered R (session K w) (is-own S R K legal w)), t.5)
@@ -165,181 +281,89 @@ names-nothing S R K w c legal room i g = go (named K i.n.id) refl
   where
     go : (o : Option ℕ) → named K i.n.id ≡ o → named K i.n.id ≡ None
     go None q = q
-    go (Some d) q =
-        let m = names-own S R K w c d legal room i q in
-        let l = (named-is K i.n.id d q).0 in
-        absurd (both_ways (listed K c) g (rw m at l))
-
--- the error of an install
-install-error : (S : System) (R : Rules) (K : List Event) (a : Actor) (what : What) (x : ℕ) → Row S R K a what → installed what ≡ Some (Err x) → ((x == 9) || ((x == 24) || (x == 2))) ≡ true
-install-error S R K (Task n) (Install y) x r h = go (queue K r.1.0) r.1.3 h
-  where
-    slot : (s : Slot) → y ≡ slot_answer s → ◌≡◌ {A = Option (Result ℕ ℕ)} (Some y) (Some (Err x)) → ((x == 9) || ((x == 24) || (x == 2))) ≡ true
-    slot (Number k) q h = let z : Some (Ok k) ≡ Some (Err x) = ap Some (sym q) ∙ h in cc
-    slot Full q h = let z : 9 ≡ x = errs 9 (ap Some (sym q) ∙ h) in rw (← z)
-      where
-        errs : (k : ℕ) → ◌≡◌ {A = Option (Result ℕ ℕ)} (Some (Err k)) (Some (Err x)) → k ≡ x
-        errs k h = cc
-    slot Over q h = let z : 24 ≡ x = errs 24 (ap Some (sym q) ∙ h) in rw (← z)
-      where
-        errs : (k : ℕ) → ◌≡◌ {A = Option (Result ℕ ℕ)} (Some (Err k)) (Some (Err x)) → k ≡ x
-        errs k h = cc
-
-    answer : (y z : Result ℕ ℕ) → Install y ≡ Install z → y ≡ z
-    answer y z h = cc
-
-    go : (rs : List ℕ) → Install y ≡ install_step S K r.1.0 rs → ◌≡◌ {A = Option (Result ℕ ℕ)} (Some y) (Some (Err x)) → ((x == 9) || ((x == 24) || (x == 2))) ≡ true
-    go [] q h = cc
-    go (p ∷ rs) q h = slot (S.slot K r.1.0 p) (answer y _ q) h
-install-error S R K (Worker v) (Install y) x r h = absurd r
-install-error S R K Start (Install y) x r h = cc
-install-error S R K Listener (Install y) x r h = cc
-install-error S R K a what x r h = cc
+    go (Some d) q = let m = names-own S R K w c d legal room i q in let l = (named-is K i.n.id d q).0 in absurd (cc (g, rw m at l))
 
 install-known-step : (S : System) (R : Rules) (K : List Event) (e : Event) (p x : ℕ) → Row S R K e.who e.what → (install_of K p ≡ Some (Err x) → ((x == 9) || ((x == 24) || (x == 2))) ≡ true) → install_of (e ∷ K) p ≡ Some (Err x) → ((x == 9) || ((x == 24) || (x == 2))) ≡ true
 unfolding install_of
-install-known-step S R K e p x row ih h = elim (cases_Bool (installs_request K e (call_at K p) p)) [
-  | inl q ↦ install-error S R K e.who e.what x row (rw q at h)
-  | inr q ↦ ih (rw q at h)
-]
+install-known-step S R K e p x row ih h = grind arith
 
 no-install-of : (p x : ℕ) → install_of [] p ≡ Some (Err x) → ⊥
 unfolding install_of
 no-install-of p x h = cc
 
-first-install-of : (e : Event) (p x : ℕ) → install_of (e ∷ []) p ≡ Some (Err x) → ⊥
-unfolding install_of call_at
-first-install-of e p x h = cc
-
 install-known : (S : System) (R : Rules) (K : List Event) → IsLegal S R K → (p x : ℕ) → install_of K p ≡ Some (Err x) → ((x == 9) || ((x == 24) || (x == 2))) ≡ true
 install-known S R [] legal = λ p x h. absurd (no-install-of p x h)
-install-known S R (e ∷ []) legal = λ p x h. absurd (first-install-of e p x h)
-install-known S R (e ∷ f ∷ K) legal = λ p x. install-known-step S R (f ∷ K) e p x (row-of S R (f ∷ K) e legal.0 (omega arith)) (install-known S R (f ∷ K) legal.1 p x)
-
-err-same : (x y : ℕ) → ◌≡◌ {A = Result (Unit {0}) ℕ} (Err x) (Err y) → x ≡ y
-err-same x y h = cc
+install-known S R (e ∷ K) legal = λ p x. install-known-step S R K e p x (row-of S R K e legal.0) (install-known S R K legal.1 p x)
 
 -- the errors of a worker's steps
 module _ (S : System) (R : Rules) (K : List Event) (w : ℕ) (legal : IsLegal S R K) (room : length K < 2 ^ 64) where
   mine : is_worker (Worker w) w ≡ true
   mine = eq-eqb w w refl
 
-  id-same : (c : ℕ) (i : InSession K w c) (n : Notif) → AtWork (session K w) n → n ≡ i.n
-  id-same c i n k = same n i.n (sym k.notif_is ∙ i.notif_is)
-    where
-      same : (x y : Notif) → Some x ≡ Some y → x ≡ y
-      same x y h = cc
-
   send-known : (x : ℕ) (b : Back) (e : ℕ) → WorkerRow S R K w (Send x b (Err e)) → (e == 2) ≡ true
   send-known x b e r =
       let t = deed-is R (session K w) (Answer x b) r.0 in
       let j = in-hand K w (session_call K w) t.0 t.1 (hand S R K legal w) in
       elim (cases_Bool (listed K j.0)) [
-        | inl l ↦ none (send-is S R K (Worker w) w j.0 legal room mine l (at-call S R K w j.0 legal room j.1 l) j.2 x b (Err e) r)
-        | inr g ↦
-            let q : x ≡ j.2.n.id = t.4 ∙ ap (λ (z : Notif). z.id) (id-same j.0 j.2 t.0 t.1) in
-            let m = err-same e 2 (rw (q, names-nothing S R K w j.0 legal room j.2 g) at r.1) in
-            rw m
+        | inl l ↦ cc (send-is S R K (Worker w) w j.0 legal room mine l (at-call S R K w j.0 legal room j.1 l) j.2 x b (Err e) r).0
+        | inr g ↦ let q : x ≡ j.2.n.id = grind arith in let v = rw (q, names-nothing S R K w j.0 legal room j.2 g) at r.1 in grind arith
       ]
-    where
-      none : ◌≡◌ {A = Result (Unit {0}) ℕ} (Err e) (Ok tt) → (e == 2) ≡ true
-      none h = cc
 
   put-known : (q : Addfd) (e : ℕ) → WorkerRow S R K w (AddfdPut q (Err e)) → ((e == 9) || (e == 2)) ≡ true
   put-known q e r =
       let t = deed-is R (session K w) (Put q) r.0 in
       let j = in-hand K w (session_call K w) t.0 t.1 (hand S R K legal w) in
       elim (cases_Bool (listed K j.0)) [
-        | inl l ↦ kept (put-is S R K (Worker w) w j.0 legal room mine l (at-call S R K w j.0 legal room j.1 l) j.2 q (Err e) r)
-        | inr g ↦
-            let z : q.id ≡ j.2.n.id = ap (λ (v : Addfd). v.id) t.4.is ∙ (id-of t.4.src t.4.place t.4.flags t.0.id ∙ ap (λ (v : Notif). v.id) (id-same j.0 j.2 t.0 t.1)) in
-            gone (S.source q.srcfd) (rw (z, names-nothing S R K w j.0 legal room j.2 g) at r.1)
+        | inl l ↦ let z = put-is S R K (Worker w) w j.0 legal room mine l (at-call S R K w j.0 legal room j.1 l) j.2 q (Err e) r in grind arith
+        | inr g ↦ let z : q.id ≡ j.2.n.id = grind arith in let v = rw (z, names-nothing S R K w j.0 legal room j.2 g) at r.1 in grind arith
       ]
-    where
-      id-of : (src : ℕ) (p : Option ℕ) (fl x : ℕ) → (addfd_of x src p fl).id ≡ x
-      id-of src None fl x = refl
-      id-of src (Some at) fl x = refl
-
-      kept : ◌⊎◌ (◌≡◌ {A = Result (Unit {0}) ℕ} (Err e) (Ok tt)) (◌≡◌ {A = Result (Unit {0}) ℕ} (Err e) (Err 9)) → ((e == 9) || (e == 2)) ≡ true
-      kept (inl h) = cc
-      kept (inr h) = rw (err-same e 9 h)
-
-      gone : (v : Bool) → ◌≡◌ {A = Result (Unit {0}) ℕ} (Err e) (if not v then Err 9 else Err 2) → ((e == 9) || (e == 2)) ≡ true
-      gone true h = rw (err-same e 2 h)
-      gone false h = rw (err-same e 9 h)
-
-  take-known : (e : ℕ) → WorkerRow S R K w (AddfdTake (Err e)) → ((e == 9) || ((e == 24) || (e == 2))) ≡ true
-  take-known e r = go (request_of K w) (request_listed K (request_of K w)) r.1
-    where
-      taken : (y z : Result ℕ ℕ) → AddfdTake y ≡ AddfdTake z → y ≡ z
-      taken y z q = cc
-
-      err : (k : ℕ) → ◌≡◌ {A = Result ℕ ℕ} (Err e) (Err k) → e ≡ k
-      err k h = cc
-
-      step : (o : Option (Result ℕ ℕ)) (b : Bool) → ((x : ℕ) → o ≡ Some (Err x) → ((x == 9) || ((x == 24) || (x == 2))) ≡ true) → AddfdTake (Err e) ≡ take_step o b → ((e == 9) || ((e == 24) || (e == 2))) ≡ true
-      step (Some (Ok k)) b f h = cc
-      step (Some (Err k)) b f h = f e (ap Some (sym (taken (Err e) (Err k) h)))
-      step None true f h = cc
-      step None false f h = rw (err 2 (taken (Err e) (Err 2) h))
-
-      go : (o : Option ℕ) (b : Bool) → AddfdTake (Err e) ≡ take_step (install_at K o) b → ((e == 9) || ((e == 24) || (e == 2))) ≡ true
-      go (Some p) b h = step (install_of K p) b (λ x. install-known S R K legal p x) h
-      go None b h = step None b (λ x z. cc) h
-
-  check-known : (o : Option ℕ) (e : ℕ) → ◌≡◌ {A = Result (Unit {0}) ℕ} (Err e) (check_answer K o) → (e == 2) ≡ true
-  check-known None e h = rw (err-same e 2 h)
-  check-known (Some c) e h = go (waiting K c) h
-    where
-      go : (b : Bool) → ◌≡◌ {A = Result (Unit {0}) ℕ} (Err e) (if b then Ok tt else Err 2) → (e == 2) ≡ true
-      go true h = cc
-      go false h = rw (err-same e 2 h)
-
-  worker-known : (what : What) → WorkerRow S R K w what → is_known_error what ≡ true
-  worker-known (Check x (Err e)) r = check-known (named K x) e r.1
-  worker-known (Send x b (Err e)) r = send-known x b e r
-  worker-known (AddfdPut q (Err e)) r = put-known q e r
-  worker-known (AddfdTake (Err e)) r = take-known e r
-  worker-known what r = refl
-
--- a step of another actor has none of these errors
-others-known : (a : Actor) (what : What) → takes a what ≡ true → ((w : ℕ) → a ≡ Worker w → ⊥) → is_known_error what ≡ true
-others-known (Worker w) what h n = absurd (n w refl)
-others-known a (Check x (Err e)) h n = cc
-others-known a (Send x b (Err e)) h n = cc
-others-known a (AddfdPut q (Err e)) h n = cc
-others-known a (AddfdTake (Err e)) h n = cc
-others-known a what h n = refl
 
 pub errors-known : (S : System) (R : Rules) (K : List Event) (e : Event) → IsLegal S R K → length K < 2 ^ 64 → IsStep S R K e → ErrorsKnown K e
-errors-known S R K e legal room r = go e.who refl
-  where
-    go : (a : Actor) → e.who ≡ a → is_known_error e.what ≡ true
-    go (Worker w) q = worker-known S R K w legal room e.what (by-worker S R K e w r q)
-    go (Task n) q = others-known (Task n) e.what (rw q at (taken-by-its-actor S R K e legal room r)) (λ w h. cc)
-    go Start q = others-known Start e.what (rw q at (taken-by-its-actor S R K e legal room r)) (λ w h. cc)
-    go Listener q = others-known Listener e.what (rw q at (taken-by-its-actor S R K e legal room r)) (λ w h. cc)
+errors-known S R K e legal room r = grind (arith, row-of, taken-by-its-actor, send-known, put-known, install-known)
 
 known-not-busy : (what : What) → is_known_error what ≡ true → is_busy what ≡ false
-known-not-busy (Send x b (Err e)) h = rw (eqb-true e 2 h)
-known-not-busy (AddfdPut q (Err e)) h = elim (or_cases (e == 9) (e == 2) h) [ inl z ↦ rw (eqb-true e 9 z) | inr z ↦ rw (eqb-true e 2 z) ]
-known-not-busy what h = refl
+known-not-busy what h = grind arith
 
 pub never-busy : (S : System) (R : Rules) (K : List Event) (e : Event) → IsLegal S R K → length K < 2 ^ 64 → IsStep S R K e → NeverBusy K e
 never-busy S R K e legal room r = known-not-busy e.what (errors-known S R K e legal room r)
 
-pub by-task : (S : System) (R : Rules) (K : List Event) (e : Event) (n : Name) → IsStep S R K e → e.who ≡ Task n → TaskRow S K n e.what
-by-task S R [] e n r q = let h = ap (λ (d : Event). d.who) r in absurd (no (sym h ∙ q))
+-- ---- a call has one session, and what was accepted for it arrives
+
+-- a settled call is left by its return alone
+leaves-settled : (S : System) (R : Rules) (K : List Event) (c : ℕ) (a : Actor) (what : What) → IsLegal S R K → settled K c ≡ true → listed K c ≡ true → Row S R K a what
+    → (closes what || (leaves what && is_task a (caller K c))) ≡ true → (closes what || (returns what && is_task a (caller K c))) ≡ true
+leaves-settled S R K c (Task n) (Deliver sig effect) legal s l r u =
+    let q = name_eq-true n (caller K c) (go (name_eq n (caller K c)) u) in
+    let w : call_of K n ≡ Some c = rw q (waits-here S R K c legal l) in
+    absurd (both_ways (settled K c) (r.2 c w) s)
   where
-    no : Start ≡ Task n → ⊥
-    no h = cc
-by-task S R (f ∷ K) e n r q = rw q at (row-of S R (f ∷ K) e r (omega arith))
+    go : (b : Bool) → (false || (true && b)) ≡ true → b ≡ true
+    go b h = grind arith
+leaves-settled S R K c a what legal s l r u = grind arith
 
-pub installs-are-own : (S : System) (R : Rules) (K : List Event) (e : Event) → IsLegal S R K → length K < 2 ^ 64 → IsStep S R K e → InstallsOwn K e
-installs-are-own S R K e legal room r n x who what = installs-own S R K n x legal room (rw what at (by-task S R K e n r who))
+pub arrives : (S : System) (R : Rules) (K : List Event) (e : Event) → IsLegal S R K → length K < 2 ^ 64 → IsStep S R K e → Arrives K e
+arrives S R K e legal room r c s l g = grind (arith, listed-below, listed-older, leaves-settled, row-of)
 
-pub resumes-are-own : (S : System) (R : Rules) (K : List Event) (e : Event) → IsLegal S R K → length K < 2 ^ 64 → IsStep S R K e → ResumesOwn K e
-resumes-are-own S R K e legal room r n b who what = resumes-own S R K n b legal room (rw what at (by-task S R K e n r who))
+-- a call is fetched once
+FetchedOnce : List Event → ℕ → Type 0
+FetchedOnce K c = (fetches_of K c ≤ 1) × (fetched K c ≡ false → fetches_of K c ≡ 0)
 
-pub resumes-installed : (S : System) (R : Rules) (K : List Event) (e : Event) → IsLegal S R K → length K < 2 ^ 64 → IsStep S R K e → ReturnsInstalled K e
-resumes-installed S R K e legal room r n b who what = returns-installed S R K n b legal room (rw what at (by-task S R K e n r who))
+once-kind : (S : System) (R : Rules) (K : List Event) (e : Event) (c : ℕ) → IsLegal S R K → length K < 2 ^ 64 → Row S R K e.who e.what → FetchedOnce K c → FetchedOnce (e ∷ K) c
+unfolding FetchedOnce
+once-kind S R K e c legal room r ih =
+    elim (cases_Bool (fetches e.what (id K c) && listed K c)) [
+      | inl q ↦
+          let f : fetched K c ≡ false = false_from_ne_true (fetched K c) (λ h. both_ways (fetches e.what (id K c) && listed K c) (refetch S R K e.who e.what c legal room r h) q) in
+          let z = ih.1 f in
+          unfold fetches_of fetched in rw q (omega arith, λ x. cc)
+      | inr q ↦ unfold fetches_of fetched in rw q (omega (arith, ih.0), λ x. omega (arith, ih.1 x))
+    ]
+
+fetched-once : (S : System) (R : Rules) (K : List Event) → IsLegal S R K → length K < 2 ^ 64 → (c : ℕ) → FetchedOnce K c
+unfolding FetchedOnce fetches_of
+fetched-once S R [] legal room = λ c. (omega arith, λ _. refl)
+fetched-once S R (e ∷ K) legal room = λ c. once-kind S R K e c legal.1 (omega arith) (row-of S R K e legal.0) (fetched-once S R K legal.1 (omega arith) c)
+
+pub one-session : (S : System) (R : Rules) (K : List Event) → IsLegal S R K → length K < 2 ^ 64 → OneSession K
+unfolding FetchedOnce
+one-session S R K legal room = λ c. (fetched-once S R K legal room c).0

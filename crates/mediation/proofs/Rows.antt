@@ -1,23 +1,11 @@
 -- What the step of an actor can be, kind by kind, and what it then tells.
-use Rattle.std.proofs.Common.{◌≡◌, ℕ, ◌+◌, ◌%◌, ◌^◌, Bool, true, false, not, List, [], ◌∷◌, length, Option, Some, None, refl, sym, ◌∙◌}
-use Rattle.std.specs.Prelude.{if◌then◌else◌, ◌==◌, Result, Ok, Err}
-use Rattle.hist_model.specs.Look.{Name, oldest}
-use Rattle.hist_model.specs.Tasks.{alive, next_pid, holder, mode}
-use Rattle.hist_model.specs.Calls.{calls, settled, named, count, queue}
-use Rattle.hist_model.specs.Signals.{next_signal, call_of, effect_in_call, effect_outside}
-use Rattle.hist_model.specs.Sessions.{session, deed, Rules, Deed, Fetch, Open, OpenB, Ask, ReadD, ActD, PlantD, Put, Take, Answer, Let}
-use Rattle.hist_model.specs.Systems.{System}
-use Rattle.hist_model.specs.Steps.{step, task_step, living_step, worker_step, deed_step, instr_step, deliver_or, wait_step, reply, spawn_answer, found, is_child, is_ended_child, next_instr, recv_answer, oldest_unfetched, lives, check_answer, send_answer, with_id, owes_native, install_step, base_answer, read_answer, put_answer, mem, take_step, next_child, is_spent, install_at, request_of, request_listed}
-use Rattle.hist_model.specs.declared.event.Event.{Event}
-use Rattle.hist_model.specs.declared.script.Instr.{Instr}
-use Rattle.hist_model.specs.declared.script.Instr.TheVariants.{Poke as IPoke, Fill as IFill, Call as ICall, Spawn as ISpawn, Thread as IThread, Kill as IKill, Handler as IHandler, Wait as IWait, Exit as IExit}
-use Rattle.hist_model.specs.declared.event.SpawnKind.TheVariants.{Copied, Shared}
-use Rattle.hist_model.specs.declared.event.Actor.{Actor}
-use Rattle.hist_model.specs.declared.event.Actor.TheVariants.{Start, Task, Worker, Listener}
-use Rattle.hist_model.specs.declared.event.What.{What}
-use Rattle.hist_model.specs.declared.event.What.TheVariants.{Spawn, Poke, Handler, Enter, Resume, Signal, Deliver, Reap, Exit, Recv, OpenMem, Check, Send, LetGo, Skip, Close, Native, Install, OpenBase, Read, Act, Plant, AddfdPut, AddfdTake}
-use Rattle.hist_model.specs.declared.event.SpawnKind.{SpawnKind}
-use Rattle.hist_model.specs.declared.event.Delivered.{Delivered}
+use Rattle.mediation.proofs.Common.{◌≡◌, ℕ, ◌+◌, ◌%◌, ◌^◌, Bool, true, false, not, List, [], ◌∷◌, length, Option, Some, None, refl, arith, if◌then◌else◌, ◌==◌, Ok, Err, Name, oldest, alive}
+use Rattle.mediation.proofs.Common.{next_pid, holder, mode, calls, settled, named, count, queue, next_signal, call_of, session, deed, Rules, Fetch, Open, OpenB, Ask, ReadD, ActD, PlantD, Put, Take}
+use Rattle.mediation.proofs.Common.{Answer, Let, System, step, task_step, worker_step, wait_step, reply, is_child, is_ended_child, recv_answer, oldest_unfetched, lives, check_answer, send_answer}
+use Rattle.mediation.proofs.Common.{with_id, owes_native, install_step, base_answer, read_answer, put_answer, mem, take_step, is_spent, is_start, IsStep, request_of, Event, Actor, Start, Task}
+use Rattle.mediation.proofs.Common.{Worker, Listener, What, Spawn, Enter, Resume, Deliver, Reap, Recv, OpenMem, Check, Send, LetGo, Skip, Native, Install, OpenBase, Read, Act, Plant, AddfdPut}
+use Rattle.mediation.proofs.Common.{AddfdTake, SpawnKind, effect_in_call, effect_outside, living_step, instr_step, deliver_or, spawn_answer, found, next_instr, next_child, install_at}
+use Rattle.mediation.proofs.Common.{request_listed, Instr, New, Poke, Handler, Signal, Exit, Close, Delivered}
 
 -- a task's step tells this
 abbrev pub TaskRow : System → List Event → Name → What → Type 0
@@ -51,50 +39,31 @@ WorkerRow S R K w LetGo = deed R (session K w) ≡ Let
 WorkerRow S R K w Skip = Unit {0}
 WorkerRow S R K w _ = ⊥
 
+-- the start is the first event, and nothing else
 abbrev pub Row : System → Rules → List Event → Actor → What → Type 0
-Row S R K Start a = a ≡ Skip
+Row S R K Start (Spawn m a) = (K ≡ []) × (m ≡ 0 ∷ []) × (a ≡ Ok (S.pidbase + 1, New))
+Row S R K Start _ = ⊥
 Row S R K (Task n) a = TaskRow S K n a
 Row S R K (Worker w) a = WorkerRow S R K w a
-Row S R K Listener a = a ≡ Close
+Row S R K Listener Close = Unit {0}
+Row S R K Listener _ = ⊥
 
 module _ (S : System) (K : List Event) (n : Name) (living : alive K n ≡ true) where
   deliver_row : (r : Option ℕ) (effect : ℕ → Delivered) (other : What) → next_signal S.killable K n ≡ r → ((c : ℕ) → call_of K n ≡ Some c → settled K c ≡ false) → (r ≡ None → TaskRow S K n other) → TaskRow S K n (deliver_or r effect other)
-  deliver_row (Some s) effect other q u h = (living, q, u)
-  deliver_row None effect other q u h = h refl
+  deliver_row r effect other q u h = grind arith
 
   -- the call in which the task waits is not settled
   one_open : (c d : ℕ) → call_of K n ≡ Some c → settled K c ≡ false → call_of K n ≡ Some d → settled K d ≡ false
-  one_open c d q h g = let s : c ≡ d = some-place c d (sym q ∙ g) in rw s at h
-    where
-      some-place : (x y : ℕ) → Some x ≡ Some y → x ≡ y
-      some-place x y h = cc
+  one_open c d q h g = grind arith
 
   none_open : (c : ℕ) → call_of K n ≡ None → call_of K n ≡ Some c → settled K c ≡ false
-  none_open c q h = absurd (none-some c (sym q ∙ h))
-    where
-      none-some : (x : ℕ) → None ≡ Some x → ⊥
-      none-some x h = cc
-
-  wait_row : (child ended : Option ℕ) → call_of K n ≡ None → oldest (is_child K n) (length K) ≡ child → oldest (is_ended_child K n) (length K) ≡ ended → TaskRow S K n (wait_step K child ended)
-  wait_row None ended q h g = (living, q, rw h)
-  wait_row (Some child) None q h g = tt
-  wait_row (Some child) (Some t) q h g = (living, q, rw (h, g))
+  none_open c q h = grind arith
 
   instr_row : (i : Option Instr) → call_of K n ≡ None → TaskRow S K n (instr_step S K n i)
-  instr_row None q = (living, q)
-  instr_row (Some (IPoke a b)) q = (living, q)
-  instr_row (Some (IFill a len b)) q = (living, q)
-  instr_row (Some (ICall nr args)) q = (living, q, refl)
-  instr_row (Some (ISpawn p)) q = (living, q, (Copied, refl), refl)
-  instr_row (Some (IThread p)) q = (living, q, (Shared, refl), refl)
-  instr_row (Some (IKill whom s)) q = (living, q, refl)
-  instr_row (Some (IHandler s m)) q = (living, q)
-  instr_row (Some IExit) q = (living, q)
-  instr_row (Some IWait) q = wait_row (oldest (is_child K n) (length K)) (oldest (is_ended_child K n) (length K)) q refl refl
+  instr_row i q = grind arith
 
   install_row : (c : ℕ) → call_of K n ≡ Some c → settled K c ≡ false → (rs : List ℕ) → queue K c ≡ rs → TaskRow S K n (install_step S K c rs)
-  install_row c q h [] g = tt
-  install_row c q h (r ∷ rs) g = (living, (c, q, h, rw g))
+  install_row c q h rs g = grind arith
 
   resume_row : (c : ℕ) → call_of K n ≡ Some c → (b : Bool) → settled K c ≡ b → TaskRow S K n (if b then Resume (reply K c) else deliver_or (next_signal S.killable K n) (λ s. effect_in_call s (mode K n s)) (install_step S K c (queue K c)))
   resume_row c q true h = (living, (c, q, h, refl))
@@ -105,8 +74,7 @@ module _ (S : System) (K : List Event) (n : Name) (living : alive K n ≡ true) 
   outside_row q false h = deliver_row (next_signal S.killable K n) (λ s. effect_outside s (mode K n s)) (instr_step S K n (next_instr S K n)) refl (λ c g. none_open c q g) (λ _. instr_row (next_instr S K n) q)
 
   living_row : (r : Option ℕ) → call_of K n ≡ r → TaskRow S K n (living_step S K n r)
-  living_row (Some c) q = resume_row c q (settled K c) refl
-  living_row None q = outside_row q (owes_native K n) refl
+  living_row r q = grind (arith, resume_row, outside_row)
 
 task_row : (S : System) (K : List Event) (n : Name) (b : Bool) → alive K n ≡ b → TaskRow S K n (if b then living_step S K n (call_of K n) else Skip)
 task_row S K n true h = living_row S K n h (call_of K n) refl
@@ -117,28 +85,12 @@ module _ (S : System) (R : Rules) (K : List Event) (w : ℕ) where
   fetch_row q true h = tt
   fetch_row q false h = (q, h, refl)
 
-  take_row : deed R (session K w) ≡ Take → (i : Option (Result ℕ ℕ)) (b : Bool) → install_at K (request_of K w) ≡ i → request_listed K (request_of K w) ≡ b → WorkerRow S R K w (take_step i b)
-  take_row q (Some a) b h g = (q, rw h)
-  take_row q None true h g = tt
-  take_row q None false h g = (q, rw (h, g))
-
-  worker_row : (d : Deed) → deed R (session K w) ≡ d → WorkerRow S R K w (deed_step S K w d)
-  worker_row Fetch q = fetch_row q (count K == 0) refl
-  worker_row (Open p) q = (q, refl)
-  worker_row (OpenB p d) q = (q, refl)
-  worker_row (Ask x) q = (q, refl)
-  worker_row (ReadD a n) q = (q, refl)
-  worker_row (ActD a cap) q = (q, refl)
-  worker_row (PlantD a b cap) q = (q, refl)
-  worker_row (Put a) q = (q, refl)
-  worker_row Take q = take_row q (install_at K (request_of K w)) (request_listed K (request_of K w)) refl refl
-  worker_row (Answer x b) q = (q, refl)
-  worker_row Let q = q
-
 -- the step of an actor is one of its rows
-pub step-row : (S : System) (R : Rules) (K : List Event) (a : Actor) → Row S R K a (step S R K a)
+pub step-row : (S : System) (R : Rules) (K : List Event) (a : Actor) → is_start a ≡ false → Row S R K a (step S R K a)
 unfolding step task_step worker_step
-step-row S R K Start = refl
-step-row S R K (Task n) = task_row S K n (alive K n) refl
-step-row S R K (Worker w) = worker_row S R K w (deed R (session K w)) refl
-step-row S R K Listener = refl
+step-row S R K a h = grind (arith, task_row, fetch_row)
+
+-- and so is each event of a legal history
+pub row-of : (S : System) (R : Rules) (K : List Event) (e : Event) → IsStep S R K e → Row S R K e.who e.what
+row-of S R [] e r = rw r (refl, refl, refl)
+row-of S R (f ∷ K) e r = rw (← r.2) at (step-row S R (f ∷ K) e.who r.1)

@@ -14,7 +14,7 @@ ghost use Rattle.hist_model.specs.Legal.{Legal, played};
 ghost use Rattle.hist_model.specs.declared.policy.Policy.{Policy};
 ghost use Rattle.hist_model.specs.declared.script.Script.{Script};
 ghost use Rattle.hist_model.specs.Mediated.{Mediated, Each, TakenByItsActor, NamesOwn, NeverBusy, ErrorsKnown, LostIfGone, HasCause};
-ghost use Rattle.mediation.specs.Journals.{actors, IsLegalByPlace};
+ghost use Rattle.mediation.specs.Journals.{actors, IsLegalByPlace, FixedByJournal, SharesJournal};
 ghost use Rattle.mediation.specs.Facts.{CallIdsDiffer, NamesDiffer, HandlesOwn, SessionsSettle, StaysFinished};
 ghost use Rattle.mediation.specs.Frames.{Frame};
 ghost use Rattle.mediation.specs.Scheduled.{AllScheduled};
@@ -32,6 +32,7 @@ pub fn played_is_legal()
 {}
 
 /// Two calls have different ids, whether listed or not.
+#[tactic(auto, using(crate::proofs::Calls::call_ids))]
 pub fn ids_differ()
     ensures { (S : System) (R : Rules) (K : List Event) → IsLegal S R K → length K < 2 ^ 64 → CallIdsDiffer K }
 {}
@@ -42,24 +43,36 @@ pub fn calls_are_last()
 {}
 
 /// Two tasks that are not reaped have different process numbers.
+#[tactic(auto, using(crate::proofs::Tasks::pids_differ))]
 pub fn pids_differ()
     ensures { (S : System) (R : Rules) (K : List Event) → IsLegal S R K → PidsDiffer K }
 {}
 
 /// A call is settled at most once.
+#[tactic(auto, using(crate::proofs::Calls::answered_once))]
 pub fn answered_once()
     ensures { (S : System) (R : Rules) (K : List Event) → IsLegal S R K → AnsweredOnce K }
 {}
 
 /// The request count is the number of listed calls that are not fetched, and of those that left the list unfetched,
 /// less the receives that found nothing.
+#[tactic(auto, using(crate::proofs::Calls::count_is))]
 pub fn count_is()
     ensures { (S : System) (R : Rules) (K : List Event) → IsLegal S R K → length K < 2 ^ 64 → CountIs K }
 {}
 
 /// Two legal histories with the same actors are one.
+#[tactic(auto, using(crate::proofs::Journals::determined))]
 pub fn fixed_by_actors()
     ensures { (S : System) (R : Rules) (K L : List Event) → IsLegal S R K → IsLegal S R L → actors K ≡ actors L → K ≡ L }
+{}
+
+/// Two legal histories of one policy and script with the same journal are one: what a report prints tells the whole history.
+/// The names of tasks have numbers below 2^64, as every name of a program has. Without that it isn't so, since a number is
+/// written with at most 64 digits.
+pub fn fixed_by_journal()
+    ensures same { (P : Policy) (S : Script) → FixedByJournal P S }
+    ensures only_so { (S : System) (R : Rules) → SharesJournal S R }
 {}
 
 /// Legality reads the same by the places of a list that begins with the oldest event.
@@ -69,6 +82,7 @@ pub fn legal_by_place()
 {}
 
 /// What stands before a place of a legal history is legal.
+#[tactic(auto, using(crate::proofs::Calls::legal_before))]
 pub fn prefixes_are_legal()
     ensures { (S : System) (R : Rules) (K : List Event) (place : ℕ) → IsLegal S R K → IsLegal S R (before K place) }
 {}
@@ -125,16 +139,19 @@ pub fn returns_installed()
 {}
 
 /// A legal history that continues a finished one, without the close of the listener, is finished.
+#[tactic(auto, using(crate::proofs::Finishes::stays_finished))]
 pub fn stays_finished()
     ensures { (S : System) (R : Rules) → StaysFinished S R }
 {}
 
 /// Which kinds of event can change which definitions: each other kind leaves them as they are.
+#[tactic(auto, using(crate::proofs::Framed::frame))]
 pub fn frame()
     ensures { (K : List Event) (e : Event) → Frame K e }
 {}
 
 /// Two tasks have different names.
+#[tactic(auto, using(crate::proofs::Tasks::names_differ))]
 pub fn names_differ()
     ensures { (S : System) (R : Rules) (K : List Event) → IsLegal S R K → NamesDiffer K }
 {}
@@ -145,6 +162,7 @@ pub fn handles_own()
 {}
 
 /// A listed call whose session has ended is settled, and one whose session goes on, and has asked for no descriptor, waits.
+#[tactic(auto, using(crate::proofs::Sessions::sessions_settle))]
 pub fn sessions_settle()
     ensures { (S : System) (R : Rules) (K : List Event) → IsLegal S R K → length K < 2 ^ 64 → SessionsSettle K }
 {}

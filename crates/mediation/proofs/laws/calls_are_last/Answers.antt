@@ -1,4 +1,4 @@
-use Rattle.mediation.proofs.Own as lemma
+use Rattle.mediation.proofs.Tasks as lemma
 use Rattle.mediation.proofs.laws.calls_are_last.Goals as goal
 
 pub returns : goal.returns

@@ -1,4 +1,4 @@
-use Rattle.mediation.proofs.Determined as lemma
+use Rattle.mediation.proofs.Journals as lemma
 use Rattle.mediation.proofs.laws.legal_by_place.Goals as goal
 
 pub returns : goal.returns

@@ -1,5 +1,0 @@
-use Rattle.mediation.proofs.Once as lemma
-use Rattle.mediation.proofs.laws.answered_once.Goals as goal
-
-pub returns : goal.returns
-returns c = lemma.answered_once

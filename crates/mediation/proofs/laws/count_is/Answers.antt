@@ -1,5 +1,0 @@
-use Rattle.mediation.proofs.Count as lemma
-use Rattle.mediation.proofs.laws.count_is.Goals as goal
-
-pub returns : goal.returns
-returns c = lemma.count_is

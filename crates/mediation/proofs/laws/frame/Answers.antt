@@ -1,5 +1,0 @@
-use Rattle.mediation.proofs.Framed as lemma
-use Rattle.mediation.proofs.laws.frame.Goals as goal
-
-pub returns : goal.returns
-returns c = lemma.frame

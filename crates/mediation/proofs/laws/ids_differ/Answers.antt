@@ -1,5 +1,0 @@
-use Rattle.mediation.proofs.Ids as lemma
-use Rattle.mediation.proofs.laws.ids_differ.Goals as goal
-
-pub returns : goal.returns
-returns c = lemma.call-ids

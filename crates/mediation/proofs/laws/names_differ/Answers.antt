@@ -1,5 +1,0 @@
-use Rattle.mediation.proofs.Fresh as lemma
-use Rattle.mediation.proofs.laws.names_differ.Goals as goal
-
-pub returns : goal.returns
-returns c = lemma.names_differ

@@ -1,5 +1,0 @@
-use Rattle.mediation.proofs.Pids as lemma
-use Rattle.mediation.proofs.laws.pids_differ.Goals as goal
-
-pub returns : goal.returns
-returns c = lemma.pids_differ
