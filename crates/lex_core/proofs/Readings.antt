@@ -205,3 +205,19 @@ tokens-end = refl
 pub tokens_end : (line rest : List ℕ) (front : List Token) → tokens line ≡ with_tokens front (tokens rest) → length rest ≡ 0 → tokens line ≡ Ok front
 tokens_end line [] front e l = e ∙ ap (with_tokens front) tokens-end ∙ ap Ok (append-nil front)
 tokens_end line (b ∷ bs) front e l = absurd (omega arith)
+
+-- ---- a line that isn't skipped has tokens
+
+begun-some : (kind : List ℕ → Token) (left : Within) (found : List Token) → begun kind left ≡ Ok found → 0 < length found
+begun-some kind (Ok left) found e = let q : found ≡ kind left.0 ∷ left.1 = cc in rw q (omega arith)
+begun-some kind (Err reason) found e = absurd (cc)
+
+pub tokens_some : (line : List ℕ) (found : List Token) → is_skipped line ≡ false → tokens line ≡ Ok found → 0 < length found
+tokens_some [] found h e = let q : true ≡ false = sym skipped-end ∙ h in absurd (cc)
+tokens_some (b ∷ bs) found h e = elim (cases_Bool (is_blank b)) [
+  | inl k ↦ tokens_some bs found (sym (skipped-blank b bs k) ∙ h) (sym (tokens-blank b bs k) ∙ e)
+  | inr k ↦ elim (cases_Bool (b == 34)) [
+    | inl q ↦ let is : b ≡ 34 = grind (arith, nat_tests) in begun-some Quoted (quoted bs) found (sym (tokens_quoted (b ∷ bs) bs b refl is) ∙ e)
+    | inr q ↦ begun-some Bare (bare (b ∷ bs)) found (sym (tokens-bare b bs k q) ∙ e)
+  ]
+]
