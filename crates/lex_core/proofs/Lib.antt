@@ -1,3 +1,4 @@
 pub mod Readings
 pub mod Splits
 pub mod Values
+pub mod Derivations

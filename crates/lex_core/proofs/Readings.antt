@@ -25,7 +25,7 @@ past-end : past_blanks [] ≡ []
 unfolding past_blanks
 past-end = refl
 
-tokens-blank : (b : ℕ) (bs : List ℕ) → is_blank b ≡ true → tokens (b ∷ bs) ≡ tokens bs
+pub tokens-blank : (b : ℕ) (bs : List ℕ) → is_blank b ≡ true → tokens (b ∷ bs) ≡ tokens bs
 unfolding tokens
 tokens-blank b bs h = rw h refl
 
@@ -87,19 +87,19 @@ take-next n b bytes = let e : 1 + n ≡ suc n = omega arith in rw e refl
 drop-next : (n b : ℕ) (bytes : List ℕ) → drop (1 + n) (b ∷ bytes) ≡ drop n bytes
 drop-next n b bytes = let e : 1 + n ≡ suc n = omega arith in rw e refl
 
-with_byte-bytes : (b : ℕ) (front : List ℕ) (left : Within) → with_byte b (with_bytes front left) ≡ with_bytes (b ∷ front) left
+pub with_byte-bytes : (b : ℕ) (front : List ℕ) (left : Within) → with_byte b (with_bytes front left) ≡ with_bytes (b ∷ front) left
 with_byte-bytes b front (Ok left) = refl
 with_byte-bytes b front (Err reason) = refl
 
-with_bytes-none : (left : Within) → with_bytes [] left ≡ left
+pub with_bytes-none : (left : Within) → with_bytes [] left ≡ left
 with_bytes-none (Ok left) = refl
 with_bytes-none (Err reason) = refl
 
-bare-more : (b : ℕ) (bs : List ℕ) → is_bare b ≡ true → bare (b ∷ bs) ≡ with_byte b (bare bs)
+pub bare-more : (b : ℕ) (bs : List ℕ) → is_bare b ≡ true → bare (b ∷ bs) ≡ with_byte b (bare bs)
 unfolding tokens
 bare-more b bs h = rw h refl
 
-bare-ends : (b : ℕ) (bs : List ℕ) → is_bare b ≡ false → bare (b ∷ bs) ≡ ended (after (b ∷ bs))
+pub bare-ends : (b : ℕ) (bs : List ℕ) → is_bare b ≡ false → bare (b ∷ bs) ≡ ended (after (b ∷ bs))
 unfolding tokens
 bare-ends b bs h = elim (cases_Bool (is_blank b)) [
   | inl k ↦ rw (h, k) refl
@@ -137,14 +137,14 @@ token_is_some n [] begins ends l = absurd begins
 token_is_some zero (b ∷ bs) begins ends l = let k : true ≡ false = sym ends ∙ begins in absurd (cc)
 token_is_some (suc n) (b ∷ bs) begins ends l = omega (arith, length-drop n bs)
 
-tokens_of_quoted : (inner : List ℕ) → tokens (34 ∷ inner) ≡ begun Quoted (quoted inner)
+pub tokens_of_quoted : (inner : List ℕ) → tokens (34 ∷ inner) ≡ begun Quoted (quoted inner)
 unfolding tokens
 tokens_of_quoted inner = refl
 
 tokens_quoted : (text inner : List ℕ) (b : ℕ) → text ≡ b ∷ inner → b ≡ 34 → tokens text ≡ begun Quoted (quoted inner)
 tokens_quoted text inner b e q = ap tokens (e ∙ ap (λ c. c ∷ inner) q) ∙ tokens_of_quoted inner
 
-tokens-bare : (b : ℕ) (bs : List ℕ) → is_blank b ≡ false → (b == 34) ≡ false → tokens (b ∷ bs) ≡ begun Bare (bare (b ∷ bs))
+pub tokens-bare : (b : ℕ) (bs : List ℕ) → is_blank b ≡ false → (b == 34) ≡ false → tokens (b ∷ bs) ≡ begun Bare (bare (b ∷ bs))
 unfolding tokens
 tokens-bare b bs h q = elim (cases_Bool (is_bare b)) [
   | inl k ↦ rw (h, k) refl
@@ -156,7 +156,7 @@ tokens_bare text inner b e h q =
     let k : is_blank b ≡ false = let P : List ℕ → Type 0 = BeginsToken in subst P e h in
     ap tokens e ∙ tokens-bare b inner k (grind (arith, nat_tests)) ∙ ap (λ t. begun Bare (bare t)) (sym e)
 
-begun_ended : (kind : List ℕ → Token) (bytes : List ℕ) (later : Result (List Token) Reason) → begun kind (with_bytes bytes (ended later)) ≡ with_tokens (kind bytes ∷ []) later
+pub begun_ended : (kind : List ℕ → Token) (bytes : List ℕ) (later : Result (List Token) Reason) → begun kind (with_bytes bytes (ended later)) ≡ with_tokens (kind bytes ∷ []) later
 begun_ended kind bytes (Ok more) = ap (λ bs. Ok (kind bs ∷ more)) (append-nil bytes)
 begun_ended kind bytes (Err reason) = refl
 
@@ -205,3 +205,19 @@ tokens-end = refl
 pub tokens_end : (line rest : List ℕ) (front : List Token) → tokens line ≡ with_tokens front (tokens rest) → length rest ≡ 0 → tokens line ≡ Ok front
 tokens_end line [] front e l = e ∙ ap (with_tokens front) tokens-end ∙ ap Ok (append-nil front)
 tokens_end line (b ∷ bs) front e l = absurd (omega arith)
+
+-- ---- a line that isn't skipped has tokens
+
+begun-some : (kind : List ℕ → Token) (left : Within) (found : List Token) → begun kind left ≡ Ok found → 0 < length found
+begun-some kind (Ok left) found e = let q : found ≡ kind left.0 ∷ left.1 = cc in rw q (omega arith)
+begun-some kind (Err reason) found e = absurd (cc)
+
+pub tokens_some : (line : List ℕ) (found : List Token) → is_skipped line ≡ false → tokens line ≡ Ok found → 0 < length found
+tokens_some [] found h e = let q : true ≡ false = sym skipped-end ∙ h in absurd (cc)
+tokens_some (b ∷ bs) found h e = elim (cases_Bool (is_blank b)) [
+  | inl k ↦ tokens_some bs found (sym (skipped-blank b bs k) ∙ h) (sym (tokens-blank b bs k) ∙ e)
+  | inr k ↦ elim (cases_Bool (b == 34)) [
+    | inl q ↦ let is : b ≡ 34 = grind (arith, nat_tests) in begun-some Quoted (quoted bs) found (sym (tokens_quoted (b ∷ bs) bs b refl is) ∙ e)
+    | inr q ↦ begun-some Bare (bare (b ∷ bs)) found (sym (tokens-bare b bs k q) ∙ e)
+  ]
+]

@@ -3,3 +3,4 @@ pub mod Steps
 pub mod Given
 pub mod Lines
 pub mod Numbers
+pub mod Grammar

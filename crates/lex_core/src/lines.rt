@@ -1,7 +1,7 @@
 //! The lines of a script, one by one.
 
-ghost use Rattle.std.specs.Prelude.{◌≡◌, ◌<◌, ◌≤◌, ◌+◌, ◌^◌, [], ◌∷◌, length, IfOk, IfErr, OnErr, IfSome, IfNone, position, ◌==◌};
-ghost use Rattle.lex_core.specs.Lines.{lines_after, split, without_return, numbered};
+ghost use Rattle.std.specs.Prelude.{◌≡◌, ◌<◌, ◌≤◌, ◌+◌, ◌^◌, [], ◌∷◌, length, IfOk, IfErr, OnErr, IfSome, IfNone, false, position, ◌==◌};
+ghost use Rattle.lex_core.specs.Lines.{is_skipped, lines_after, split, without_return, numbered};
 ghost use Rattle.lex_core.specs.Given.{refused_at, GivesFirst, RefusesFirst};
 
 use crate::line::Line;
@@ -76,6 +76,7 @@ fn first_line(before: u32, text: &[u8]) -> Option<Found<'_>>
     requires { before + length text.now < 2 ^ 32 }
     ensures none { IfNone result (lines_after before text.now ≡ []) }
     ensures found { IfSome result (λ f. lines_after before text.now ≡ record { number = f.number; bytes = f.line.now } ∷ lines_after f.number f.rest.now) }
+    ensures kept { IfSome result (λ f. is_skipped f.line.now ≡ false) }
     ensures bound { IfSome result (λ f. f.number + length f.rest.now < 2 ^ 32) }
 {
     let mut number = before;
@@ -119,9 +120,10 @@ impl<'a> Lines<'a> {
     ///
     /// `BadByte` and `BadQuote` come where they are the first fault of that line, with its number. After
     /// an error the line is still the next one.
-    #[tactic(auto, using(crate::proofs::Splits::first_refused))]
+    #[tactic(auto, using(crate::proofs::Splits::first_refused, crate::proofs::Readings::tokens_some))]
     pub fn next(&mut self) -> Result<Option<Line>, OrNoMemory<LexError>>
         ensures line { IfOk result (λ line. GivesFirst self.old line self.new) }
+        ensures some { IfOk result (λ line. IfSome line (λ l. 0 < length l.tokens)) }
         ensures refused { IfErr result (λ e. RefusesFirst self.old e) }
         ensures unchanged { OnErr result (self.new ≡ self.old) }
     {
