@@ -1,15 +1,16 @@
 //! The 112 bytes of sysinfo(2).
 //!
 //! A container that a rule grants sysinfo is told its own limits, the smallest of its control groups; natively a call is
-//! told the host's. The definitions stand in the file `Sysinfo` of `hist_model`'s specs, and this layer has no state. Below
-//! stands the plain type of the figures; above stand the kernel, which writes the host's bytes, and the worker's machine,
-//! which writes the container's.
+//! told the host's. What is told is defined in the file `Sysinfo` of `hist_model`'s specs, and this layer has no state. Below
+//! stand the plain type of the figures and the structure of `sys_abi`; above stand the kernel, which writes the host's bytes,
+//! and the worker's machine, which writes the container's.
 #![tactic(auto)]
 
 ghost use Rattle.std.specs.Prelude.{◌≡◌};
-ghost use Rattle.hist_model.specs.Sysinfo.{container_sysinfo, host_sysinfo, sysinfo_bytes};
+ghost use Rattle.hist_model.specs.Sysinfo.{container_sysinfo, host_sysinfo, told};
 
 use hist_model::script::Figures;
+use sys_abi::wire::Sysinfo;
 
 #[cfg(test)]
 mod tests;
@@ -19,7 +20,7 @@ mod tests;
 pub fn container(f: &Figures) -> [u8; 112]
     ensures { result ≡ container_sysinfo f.now }
 {
-    sysinfo(f, f.memory, f.swap)
+    told(f, f.memory, f.swap).to_bytes()
 }
 
 /// What the host tells: its limits, and of them what isn't used, not below 0.
@@ -27,22 +28,25 @@ pub fn container(f: &Figures) -> [u8; 112]
 pub fn host(f: &Figures) -> [u8; 112]
     ensures { result ≡ host_sysinfo f.now }
 {
-    sysinfo(f, f.host_memory, f.host_swap)
+    told(f, f.host_memory, f.host_swap).to_bytes()
 }
 
 /// The structure for these totals of memory and swap.
-fn sysinfo(f: &Figures, memory: u64, swap: u64) -> [u8; 112]
-    ensures { result ≡ sysinfo_bytes f.now memory swap }
+fn told(f: &Figures, memory: u64, swap: u64) -> Sysinfo
+    ensures { result ≡ told f.now memory swap }
 {
-    let mut bytes = [0; 112];
-    bytes[0..8].copy_from_slice(&f.uptime.to_le_bytes());
-    bytes[32..40].copy_from_slice(&memory.to_le_bytes());
-    bytes[40..48].copy_from_slice(&memory.saturating_sub(f.used).to_le_bytes());
-    bytes[48..56].copy_from_slice(&f.shared.to_le_bytes());
-    bytes[56..64].copy_from_slice(&f.buffers.to_le_bytes());
-    bytes[64..72].copy_from_slice(&swap.to_le_bytes());
-    bytes[72..80].copy_from_slice(&swap.saturating_sub(f.swap_used).to_le_bytes());
-    bytes[80..82].copy_from_slice(&f.procs.to_le_bytes());
-    bytes[104..108].copy_from_slice(&1u32.to_le_bytes());
-    bytes
+    Sysinfo {
+        uptime: f.uptime,
+        loads: [0; 3],
+        totalram: memory,
+        freeram: memory.saturating_sub(f.used),
+        sharedram: f.shared,
+        bufferram: f.buffers,
+        totalswap: swap,
+        freeswap: swap.saturating_sub(f.swap_used),
+        procs: f.procs,
+        totalhigh: 0,
+        freehigh: 0,
+        mem_unit: 1,
+    }
 }

@@ -2,6 +2,7 @@
 use Rattle.std.proofs.Common.{◌≡◌, ℕ, true, false, List, [], ◌∷◌, ◌++◌, Some, None, refl}
 use Rattle.std.specs.Prelude.{pos, negsuc, codes, replicate, map}
 use Rattle.std.specs.Fmt.{digits}
+use Rattle.sys_abi.specs.Wire.{sysinfo_bytes}
 use Rattle.hist_model.specs.Requests.{request, base_dirfd, kind_of, major_of, minor_of, granted}
 use Rattle.hist_model.specs.Decisions.{Switches, fits, decide, decide_from, rule_name, cap_of, lies_under, lxd_mknod_rules, default_rules, all_rules, plain_rule}
 use Rattle.hist_model.specs.Sysinfo.{container_sysinfo, host_sysinfo}
@@ -168,17 +169,17 @@ figures = record { uptime = 60; used = 150000; shared = 10; buffers = 20; swap_u
 container : container_sysinfo figures
     ≡ 60 ∷ replicate 31 0 ++ 0x80 ∷ 0x1a ∷ 6 ∷ replicate 5 0 ++ 0x90 ∷ 0xd0 ∷ 3 ∷ replicate 5 0 ++ 10 ∷ replicate 7 0 ++ 20 ∷ replicate 7 0
     ++ 0x20 ∷ 0xa1 ∷ 7 ∷ replicate 5 0 ++ 0x80 ∷ 0x1a ∷ 6 ∷ replicate 5 0 ++ 7 ∷ replicate 23 0 ++ 1 ∷ replicate 7 0
-unfolding container_sysinfo figures
+unfolding container_sysinfo sysinfo_bytes figures
 container = refl
 
 host : host_sysinfo figures
     ≡ 60 ∷ replicate 31 0 ++ 0x40 ∷ 0x42 ∷ 0x0f ∷ replicate 5 0 ++ 0x50 ∷ 0xf8 ∷ 0x0c ∷ replicate 5 0 ++ 10 ∷ replicate 7 0 ++ 20 ∷ replicate 7 0
     ++ 0x20 ∷ 0xa1 ∷ 7 ∷ replicate 5 0 ++ 0x80 ∷ 0x1a ∷ 6 ∷ replicate 5 0 ++ 7 ∷ replicate 23 0 ++ 1 ∷ replicate 7 0
-unfolding host_sysinfo figures
+unfolding host_sysinfo sysinfo_bytes figures
 host = refl
 
 -- more is used than there is: nothing is free
 spent : container_sysinfo (record figures { memory = 100 }) ≡ 60 ∷ replicate 31 0 ++ 100 ∷ replicate 15 0 ++ 10 ∷ replicate 7 0 ++ 20 ∷ replicate 7 0
     ++ 0x20 ∷ 0xa1 ∷ 7 ∷ replicate 5 0 ++ 0x80 ∷ 0x1a ∷ 6 ∷ replicate 5 0 ++ 7 ∷ replicate 23 0 ++ 1 ∷ replicate 7 0
-unfolding container_sysinfo figures
+unfolding container_sysinfo sysinfo_bytes figures
 spent = refl

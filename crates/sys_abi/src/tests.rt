@@ -116,7 +116,7 @@ const MKNODAT_CALL: SeccompData = SeccompData {
     args: [0xffffffffffffff9c, 0x10000, 0o020666, 259, 0, u64::MAX],
 };
 
-/// No call, at its extremes.
+/// The number of no call, and arguments that tell their places apart.
 const LEAST_CALL: SeccompData = SeccompData {
     nr: i32::MIN,
     arch: u32::MAX,
