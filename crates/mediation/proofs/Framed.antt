@@ -98,9 +98,8 @@ queue-frame e K c h = rw (h.no_put c, h.no_install)
 
 -- requests that stand below keep their flags
 sends-frame : (e : Event) (K : List Event) (c : ℕ) (rs : List ℕ) → Asks K c rs → some_sends (e ∷ K) rs ≡ some_sends K rs
-unfolding Asks
 sends-frame e K c [] h = refl
-sends-frame e K c (r ∷ rs) h = rw (event_at-older e K r h.0, sends-frame e K c rs h.2)
+sends-frame e K c (r ∷ rs) h = rw (event_at-older e K r h.0.0, sends-frame e K c rs h.1)
 
 answered-frame : (e : Event) (K : List Event) (c : ℕ) → NoAnswer K e.what → answered (e ∷ K) c ≡ answered K c
 answered-frame e K c h = rw (settled-frame e K c h, queue-frame e K c h, sends-frame e K c (queue K c) (queue-asks K c))

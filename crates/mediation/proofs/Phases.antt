@@ -74,10 +74,36 @@ installing S R K (Task n) (Install x) c legal r h g l =
     install-first S K (Task n) x c (queue K c) refl (rw s at r.1.1) (rw s at r.1.3)
 installing S R K a w c legal r h g l = grind arith
 
+-- P holds of each of these requests
+abbrev pub AllIn : (ℕ → Type 0) → List ℕ → Type 0
+AllIn P [] = Unit {0}
+AllIn P (r ∷ rs) = P r × AllIn P rs
+
+all-map : (P Q : ℕ → Type 0) (rs : List ℕ) → ((r : ℕ) → P r → Q r) → AllIn P rs → AllIn Q rs
+all-map P Q [] f h = tt
+all-map P Q (r ∷ rs) f h = (f r h.0, all-map P Q rs f h.1)
+
+all-rest : (P : ℕ → Type 0) (rs : List ℕ) → AllIn P rs → AllIn P (rest_of rs)
+all-rest P [] h = tt
+all-rest P (r ∷ rs) h = h.1
+
+all-push : (P : ℕ → Type 0) (rs : List ℕ) (r : ℕ) → AllIn P rs → P r → AllIn P (rs ++ r ∷ [])
+all-push P [] r h i = (i, tt)
+all-push P (x ∷ rs) r h i = (h.0, all-push P rs r h.1 i)
+
+-- what stays of a request, and holds of a new one, holds of each in a call's queue
+pub queue-step : (e : Event) (K : List Event) (c : ℕ) (P Q : ℕ → Type 0) → ((r : ℕ) → P r → Q r) → (puts_to K e.what c ≡ true → Q (length K)) → AllIn P (queue K c) → AllIn Q (queue (e ∷ K) c)
+unfolding queue
+queue-step e K c P Q f g h =
+    let m = all-map P Q (queue K c) f h in
+    elim (cases_Bool (puts_to K e.what c)) [
+      | inl q ↦ rw q (all-push Q (queue K c) (length K) m (g q))
+      | inr q ↦ elim (cases_Bool (installs_for K e c)) [ inl p ↦ rw (q, p) (all-rest Q (queue K c) m) | inr p ↦ rw (q, p) m ]
+    ]
+
 -- each request in a queue was put for that call
-unfoldable pub Asks : List Event → ℕ → List ℕ → Type 0
-Asks K c [] = Unit {0}
-Asks K c (r ∷ rs) = (r < length K) × (call_at K r ≡ Some c) × Asks K c rs
+abbrev pub Asks : List Event → ℕ → List ℕ → Type 0
+Asks K c rs = AllIn (λ r. (r < length K) × (call_at K r ≡ Some c)) rs
 
 call-older : (e : Event) (K : List Event) (r : ℕ) → r < length K → call_at (e ∷ K) r ≡ call_at K r
 unfolding call_at
@@ -95,27 +121,14 @@ pub call-at-here : (e : Event) (K : List Event) → call_at (e ∷ K) (length K)
 unfolding call_at
 call-at-here e K = rw (eq-eqb (length K) (length K) refl)
 
-asks-later : (e : Event) (K : List Event) (c : ℕ) (rs : List ℕ) → Asks K c rs → Asks (e ∷ K) c rs
-unfolding Asks
-asks-later e K c [] h = tt
-asks-later e K c (r ∷ rs) h = let l : r < length K = h.0 in (omega arith, call-older e K r l ∙ h.1, asks-later e K c rs h.2)
-
-asks-rest : (K : List Event) (c : ℕ) (rs : List ℕ) → Asks K c rs → Asks K c (rest_of rs)
-unfolding Asks
-asks-rest K c rs h = grind arith
-
-asks-push : (K : List Event) (c r : ℕ) (rs : List ℕ) → Asks K c rs → r < length K → call_at K r ≡ Some c → Asks K c (rs ++ r ∷ [])
-unfolding Asks
-asks-push K c r [] h l q = (l, q, tt)
-asks-push K c r (x ∷ rs) h l q = (h.0, h.1, asks-push K c r rs h.2 l q)
-
 pub put-call : (K : List Event) (w : What) (c : ℕ) → puts_to K w c ≡ true → asked_call K w ≡ Some c
 put-call K w c h = grind arith
 
 pub queue-asks : (K : List Event) (c : ℕ) → Asks K c (queue K c)
 unfolding queue
-queue-asks [] c = unfold Asks in tt
-queue-asks (e ∷ K) c = grind (arith, asks-push, asks-later, call-at-here, put-call, asks-rest, queue-asks K c)
+queue-asks [] c = tt
+queue-asks (e ∷ K) c = queue-step e K c (λ r. (r < length K) × (call_at K r ≡ Some c)) (λ r. (r < length (e ∷ K)) × (call_at (e ∷ K) r ≡ Some c)) (λ r h. let l : r < length K = h.0 in (omega arith, call-at-older e K r l ∙ h.1))
+    (λ q. (omega arith, call-at-here e K ∙ put-call K e.what c q)) (queue-asks K c)
 
 -- ---- how far a listed call is: not fetched, in hand, or answered
 

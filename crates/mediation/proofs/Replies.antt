@@ -9,7 +9,7 @@ use Rattle.mediation.proofs.Common.{has_send, back_of, IsRequestOf, Source, sent
 use Rattle.mediation.proofs.Calls.{before-older, before-newest, installs-open, settles-once}
 use Rattle.mediation.proofs.Rows.{Row, TaskRow, WorkerRow, row-of}
 use Rattle.mediation.proofs.Deeds.{deed-is}
-use Rattle.mediation.proofs.Phases.{installing, install-first, put-call, call-at-older, call-at-here, call-at-above, hand-fetcher, fetcher-fetched, fetcher-stays, install-same, install-now}
+use Rattle.mediation.proofs.Phases.{AllIn, queue-step, installing, install-first, put-call, call-at-older, call-at-here, call-at-above, hand-fetcher, fetcher-fetched, fetcher-stays, install-same, install-now}
 use Rattle.mediation.proofs.Phases.{install-new, actor-acts, AtCall, acts-own, check-is, send-is, put-is, take-is, open-is, base-is, at-call, refetch}
 use Rattle.mediation.proofs.Order.{is_put, is-own, ordered, used-two}
 use Rattle.mediation.proofs.Hands.{named-is, names-own, InSession, hand, hand-notif, in-hand, works, at-work}
@@ -21,19 +21,8 @@ request-later : (S : System) (R : Rules) (K : List Event) (e : Event) (c r w : �
 request-later S R K e c r w legal room row i = grind (arith, call-at-older, event_at-older, fetcher-stays, fetcher-fetched)
 
 -- each of a call's requests is its session's
-AllOf : List Event → ℕ → List ℕ → Type 0
-AllOf K c [] = Unit {0}
-AllOf K c (r ∷ rs) = ((w : ℕ) × IsRequestOf K c r w) × AllOf K c rs
-
-all-later : (S : System) (R : Rules) (K : List Event) (e : Event) (c : ℕ) (rs : List ℕ) → IsLegal S R K → length K < 2 ^ 64 → Row S R K e.who e.what → AllOf K c rs → AllOf (e ∷ K) c rs
-unfolding AllOf
-all-later S R K e c [] legal room row h = tt
-all-later S R K e c (r ∷ rs) legal room row h = ((h.0.0, request-later S R K e c r h.0.0 legal room row h.0.1), all-later S R K e c rs legal room row h.1)
-
-all-push : (K : List Event) (c r w : ℕ) (rs : List ℕ) → AllOf K c rs → IsRequestOf K c r w → AllOf K c (rs ++ r ∷ [])
-unfolding AllOf
-all-push K c r w [] h i = ((w, i), tt)
-all-push K c r w (x ∷ rs) h i = (h.0, all-push K c r w rs h.1 i)
+abbrev IsOwned : List Event → ℕ → ℕ → Type 0
+IsOwned K c r = (w : ℕ) × IsRequestOf K c r w
 
 -- each request of a worker has SEND
 put-sends : (S : System) (R : Rules) (K : List Event) (w : ℕ) (q : Addfd) (a : Result (Unit {0}) ℕ) → WorkerRow S R K w (AddfdPut q a) → has_send_flag q ≡ true
@@ -41,11 +30,8 @@ put-sends S R K w q a r =
     let t = deed-is R (session K w) _ r.0 in
     grind arith
 
-put-is-put : (K : List Event) (what : What) (c : ℕ) → puts_to K what c ≡ true → is_put what ≡ true
-put-is-put K what c h = grind arith
-
-puts-send : (S : System) (R : Rules) (K : List Event) (a : Actor) (what : What) → Row S R K a what → is_put what ≡ true → has_send what ≡ true
-puts-send S R K a what r h = grind (arith, put-sends)
+puts-send : (S : System) (R : Rules) (K : List Event) (a : Actor) (what : What) (c : ℕ) → Row S R K a what → puts_to K what c ≡ true → has_send what ≡ true
+puts-send S R K a what c r h = grind (arith, put-sends)
 
 -- a new request is its session's
 put-own : (S : System) (R : Rules) (K : List Event) (e : Event) (c : ℕ) → IsLegal S R K → length K < 2 ^ 64 → Row S R K e.who e.what → puts_to K e.what c ≡ true → (w : ℕ) × IsRequestOf (e ∷ K) c (length K) w
@@ -56,19 +42,11 @@ put-own S R K e c legal room row h =
       record {
         below = omega arith;
         for_call = call-at-here e K ∙ put-call K e.what c h;
-        sends = rw event_at-here (puts-send S R K e.who e.what row (put-is-put K e.what c h));
+        sends = rw event_at-here (puts-send S R K e.who e.what c row h);
         put_by = rw event_at-here (ap worker_of v.1);
         session_of = fetcher-stays S R K e v.0 c legal room row (fetcher-fetched K c v.0 f) f;
       },
     )
-
-queue-other : (e : Event) (K : List Event) (c : ℕ) → puts_to K e.what c ≡ false → installs_for K e c ≡ false → queue (e ∷ K) c ≡ queue K c
-unfolding queue
-queue-other e K c h g = rw (h, g)
-
-none-of : (c : ℕ) → AllOf [] c (queue [] c)
-unfolding queue AllOf
-none-of c = tt
 
 nothing-settled : (c : ℕ) → settled [] c ≡ true → ⊥
 unfolding settled
@@ -86,17 +64,16 @@ settled-was : (e : Event) (K : List Event) (c : ℕ) → settles K e c ≡ false
 unfolding settled
 settled-was e K c h g = grind arith
 
-all-kind : (S : System) (R : Rules) (K : List Event) (e : Event) (c : ℕ) → IsLegal S R K → length K < 2 ^ 64 → Row S R K e.who e.what → AllOf K c (queue K c) → AllOf (e ∷ K) c (queue (e ∷ K) c)
-unfolding AllOf queue
-all-kind S R K e c legal room row h = grind (arith, put-own, all-push, all-later, queue-other)
-
-all-of : (S : System) (R : Rules) (K : List Event) → IsLegal S R K → length K < 2 ^ 64 → (c : ℕ) → AllOf K c (queue K c)
-all-of S R [] legal room = λ c. none-of c
-all-of S R (e ∷ K) legal room = λ c. all-kind S R K e c legal.1 (omega arith) (row-of S R K e legal.0) (all-of S R K legal.1 (omega arith) c)
+all-own : (S : System) (R : Rules) (K : List Event) → IsLegal S R K → length K < 2 ^ 64 → (c : ℕ) → AllIn (IsOwned K c) (queue K c)
+unfolding queue
+all-own S R [] legal room = λ c. tt
+all-own S R (e ∷ K) legal room = λ c.
+    let row = row-of S R K e legal.0 in
+    let before = all-own S R K legal.1 (omega arith) c in
+    queue-step e K c (IsOwned K c) (IsOwned (e ∷ K) c) (λ r h. (h.0, request-later S R K e c r h.0 legal.1 (omega arith) row h.1)) (put-own S R K e c legal.1 (omega arith) row) before
 
 pub first-own : (S : System) (R : Rules) (K : List Event) (c r : ℕ) (rs : List ℕ) → IsLegal S R K → length K < 2 ^ 64 → queue K c ≡ r ∷ rs → (w : ℕ) × IsRequestOf K c r w
-unfolding AllOf
-first-own S R K c r rs legal room q = (rw q at (all-of S R K legal room c)).0
+first-own S R K c r rs legal room q = (rw q at (all-own S R K legal room c)).0
 
 installed-now : (e : Event) (K : List Event) (c r : ℕ) → call_at K r ≡ Some c → (installs_for K e c && is_first (queue K c) r) ≡ true → install_of (e ∷ K) r ≡ installed e.what
 unfolding install_of
