@@ -2,14 +2,14 @@
 use Rattle.std.proofs.Common.{◌≡◌, ◌⊎◌, inl, inr, ℕ, zero, suc, ◌+◌, ◌<◌, ◌≤◌, Bool, true, false, ◌&&◌, ◌||◌, not, List, [], ◌∷◌, length, Option, Some, None, refl, sym, ap, ◌∙◌, arith}
 use Rattle.std.specs.Prelude.{Ok, Err, ◌==◌, ◌-◌, if◌then◌else◌}
 use Rattle.std.proofs.lemmas.Bool.{cases_Bool, cases_order, eqb-true, and_parts, or_right, or_cases, both_ways, false_from_ne_true}
-use Rattle.hist_model.specs.Look.{Name, name_eq, newest, is_task, event_at, or_else}
+use Rattle.hist_model.specs.Look.{Name, name_eq, newest, is_task, event_at, or_else, oldest}
 use Rattle.hist_model.specs.Tasks.{ended, was_waited_for, reaped, ends, reaps, holds, holder, pid_of, name_of, given, given_in, is_some_of, makes, is_made, child_of, parent, free_from, next_pid, last_pid, is_none}
 use Rattle.hist_model.specs.Steps.{makes_in}
 use Rattle.hist_model.specs.Laws.{PidsDiffer}
 use Rattle.hist_model.specs.declared.event.Event.{Event}
 use Rattle.hist_model.specs.declared.event.What.{What}
 use Rattle.hist_model.specs.declared.event.What.TheVariants.{Spawn}
-use Rattle.hist_model.proofs.Look.{event_at-here, event_at-older, below_or_last, newest-found, newest-some, name_eq-refl}
+use Rattle.hist_model.proofs.Look.{event_at-here, event_at-older, below_or_last, newest-found, newest-some, oldest-none, name_eq-refl}
 use Rattle.history_frames.proofs.Ordinals.{makes-below, name-older, pid-older}
 
 pub ended-more : (e : Event) (K : List Event) (n : Name) → ended K n ≡ true → ended (e ∷ K) n ≡ true
@@ -173,3 +173,17 @@ names-more e K f d t u h g q =
         let m : makes e.what ≡ true = rw (event_at-here e K) at g in
         let n : name_of K v ≡ child_of e.what = rw (event_at-here e K) at q in
         both_ways (is_made K (name_of K v)) (ap (is_made K) n ∙ f m) (made-is K v h)
+
+older-step : (test : ℕ → Bool) (n t u : ℕ) (r : Option ℕ) → oldest test n ≡ r → or_else r (if test n then Some n else None) ≡ Some t → test u ≡ true → u < t → (oldest test n ≡ Some t → ⊥) → ⊥
+older-step test n t u (Some s) f e h l ih = ih (f ∙ e)
+older-step test n t u None f e h l ih =
+    elim (cases_Bool (test n)) [
+      | inl b ↦ let e' : Some n ≡ Some t = rw b at e in let w : n ≡ t = cc in both_ways (test u) (oldest-none test n u f (omega (arith, w, l))) h
+      | inr b ↦ let e' : None ≡ Some t = rw b at e in cc
+    ]
+
+-- nothing older passes the test than what was found
+pub oldest-least : (test : ℕ → Bool) (n t u : ℕ) → oldest test n ≡ Some t → test u ≡ true → u < t → ⊥
+unfolding oldest
+oldest-least test zero t u q h l = cc
+oldest-least test (suc n) t u q h l = older-step test n t u (oldest test n) refl q h l (λ z. oldest-least test n t u z h l)

@@ -9,14 +9,14 @@ use Rattle.hist_model.specs.Tasks.{ended, was_waited_for, reaped, is_made, alive
 use Rattle.hist_model.specs.declared.event.Event.{Event}
 use Rattle.history_frames.specs.Ordinals.{tasks_made, place_of, task_name_of, name_at}
 use Rattle.history_frames.proofs.Ordinals.{place-below, place-makes, make-place, made-place}
-use Rattle.history_frames.proofs.Held.{holder-is, holder-none, holds-makes, made-is}
+use Rattle.history_frames.proofs.Held.{holder-is, holder-none, holder-holds, holds-makes, made-is}
 use Rattle.task_table.specs.declared.reference.TaskRef.{TaskRef}
 use Rattle.task_table.specs.declared.index.Entry.{Entry}
 use Rattle.task_table.specs.declared.table.Task.{Task}
 use Rattle.task_table.specs.declared.table.TaskTable.{TaskTable}
 use Rattle.task_table.specs.Index.{under, has_key, first_free}
 use Rattle.task_table.specs.Table.{Mirrors, entry_of, held_key, reached, of_ordinal, IsRef}
-use Rattle.task_table.specs.Stands.{StandsFor, IsTask}
+use Rattle.task_table.specs.Stands.{StandsFor, IsTask, IsAlive}
 use Rattle.task_table.proofs.Ordered.{has-at, has-some}
 use Rattle.task_table.proofs.Mirrors.{entry-task, entry-from}
 
@@ -161,3 +161,20 @@ alive-lost base pidmax K T t S i h =
   where
     never : (b : Bool) → false ≡ (b && false)
     never b = grind arith
+
+-- a task that lives, and one that holds a number, are found
+pub lost-alive : (base pidmax : ℕ) (K : List Event) (T : TaskTable) (t : TaskRef) → StandsFor base pidmax K T → IsRef T t → reached T.tasks t ≡ None → IsAlive K t → ⊥
+lost-alive base pidmax K T t S i h a =
+    let m = made-place K t.ordinal (omega (arith, i.0, S.made_is)) in
+    let d : ended K (name_of K m.0) ≡ false = ap (λ x. ended K (name_at K x)) (sym m.1) ∙ a in
+    both_ways (ended K (name_of K m.0)) d (reaped-ended K (name_of K m.0) (S.orderly.waited (name_of K m.0)) (reaped-lost base pidmax K T t m.0 S i h m.1))
+
+pub lost-holder : (base pidmax : ℕ) (K : List Event) (T : TaskTable) (t : TaskRef) (pid : ℕ) → StandsFor base pidmax K T → IsRef T t → reached T.tasks t ≡ None → place_of K t.ordinal ≡ holder K pid → ⊥
+lost-holder base pidmax K T t pid S i h a =
+    let m = made-place K t.ordinal (omega (arith, i.0, S.made_is)) in
+    let b = and_parts (is_some_of (pid_of K m.0) pid) (not (reaped K (name_of K m.0))) (holder-holds K pid m.0 (sym a ∙ m.1)) in
+    no (reaped K (name_of K m.0)) (reaped-lost base pidmax K T t m.0 S i h m.1) b.1
+  where
+    no : (x : Bool) → x ≡ true → not x ≡ true → ⊥
+    no true p q = cc
+    no false p q = cc

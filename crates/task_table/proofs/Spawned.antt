@@ -29,7 +29,7 @@ use Rattle.task_table.proofs.Found.{reached-from, is-held}
 use Rattle.task_table.proofs.Started.{ref-same}
 use Rattle.task_table.proofs.Kept.{Leaves, task-left, names-apart, never, none-both, mode-left, pending-left, pending-same, modes-same, place-stays}
 
-less : (x y : ℕ) → x ≤ y → (x ≡ y → ⊥) → x < y
+pub less : (x y : ℕ) → x ≤ y → (x ≡ y → ⊥) → x < y
 less x y l n = omega arith
 
 -- what a spawn is not
@@ -95,7 +95,7 @@ orderly-spawn e K n pid p u v f o = record {
     nameless : is_made (e ∷ K) [] ≡ false
     nameless = made-less e K [] (ap (λ x. name_eq x []) p.child_is ∙ names-apart n [] v) o.nameless
 
-reaped-new : (e : Event) (K : List Event) (n : Name) → was_waited_for (e ∷ K) n ≡ false → ended (e ∷ K) n ≡ false → reaped (e ∷ K) n ≡ false
+pub reaped-new : (e : Event) (K : List Event) (n : Name) → was_waited_for (e ∷ K) n ≡ false → ended (e ∷ K) n ≡ false → reaped (e ∷ K) n ≡ false
 unfolding reaped
 reaped-new e K n w d = rw (w, d)
 

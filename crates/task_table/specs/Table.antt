@@ -1,8 +1,9 @@
 -- What a table keeps.
-use Rattle.std.specs.Prelude.{◌≡◌, ℕ, ◌+◌, ◌<◌, ◌^◌, Bool, true, false, Result, Ok, Err, ◌==◌, if◌then◌else◌, List, Option, Some, None, vec_len, vec_capacity, Contains}
+use Rattle.std.specs.Prelude.{◌≡◌, ◌⊎◌, ℕ, ◌+◌, ◌<◌, ◌^◌, Bool, true, false, Result, Ok, Err, ◌==◌, if◌then◌else◌, List, Option, Some, None, vec_len, vec_capacity, Contains, length, slice_index_or}
 use Rattle.slab.specs.Slab.{Slab, get, Updates, HasRoomFor}
 use Rattle.sys_abi.specs.declared.memory.OrNoMemory.{OrNoMemory}
 use Rattle.sys_abi.specs.declared.memory.OrNoMemory.TheVariants.{Refused, NoMemory}
+use Rattle.hist_model.specs.Tasks.{is_some_of}
 use Rattle.hist_model.specs.declared.event.Mode.{Mode}
 use Rattle.hist_model.specs.declared.event.Mode.TheVariants.{Default}
 use Rattle.task_table.specs.declared.reference.TaskRef.{TaskRef}
@@ -10,7 +11,7 @@ use Rattle.task_table.specs.declared.index.Entry.{Entry}
 use Rattle.task_table.specs.declared.signals.BySignal.{BySignal}
 use Rattle.task_table.specs.declared.table.Task.{Task}
 use Rattle.task_table.specs.declared.table.TaskTable.{TaskTable}
-use Rattle.task_table.specs.Index.{under, IsOrdered, KeysRise, IsPlaced}
+use Rattle.task_table.specs.Index.{under, by_key, by_key_and_ordinal, IsOrdered, KeysRise, IsPlaced, IsRemoved}
 use Rattle.task_table.specs.Sets.{all_signals}
 
 -- a call was refused for a cause of its own, or for want of memory
@@ -114,3 +115,78 @@ pub record IsAdded (old new : TaskTable) (parent : Option TaskRef) (pid : ℕ) (
   pub top : new.top ≡ old.top
   pub last : new.last ≡ pid
   pub made : new.made ≡ old.made + 1
+
+pub record SameCounts (old new : TaskTable) : Type 0 where
+  pub base : new.base ≡ old.base
+  pub top : new.top ≡ old.top
+  pub last : new.last ≡ old.last
+  pub made : new.made ≡ old.made
+
+-- the task was written into its slot
+pub record IsPut (old : TaskTable) (t : TaskRef) (task : Task) (new : TaskTable) : Type 0 where
+  pub updates : Updates old.tasks new.tasks t.slot (Some task)
+  pub pids : new.pids.items ≡ old.pids.items
+  pub children : new.children.items ≡ old.children.items
+  pub counts : SameCounts old new
+
+-- the slot of the task, and its number, were given up
+pub record IsForgotten (old : TaskTable) (t : TaskRef) (r : Task) (new : TaskTable) : Type 0 where
+  pub updates : Updates old.tasks new.tasks t.slot None
+  pub pids : IsOrdered by_key old.pids.items → (e : Entry) → Contains old.pids.items e → e.key ≡ r.pid → IsRemoved old.pids.items e new.pids.items
+  pub children : new.children.items ≡ old.children.items
+  pub counts : SameCounts old new
+
+abbrev pub without_parent : Task → Task
+without_parent r = record r { parent = None }
+
+-- a child, ended or not, whose parent has ended
+abbrev pub IsLeft : Bool → TaskTable → TaskRef → Task → TaskTable → Type 0
+IsLeft true old t r new = IsForgotten old t r new
+IsLeft false old t r new = IsPut old t (without_parent r) new
+
+abbrev pub left : Bool → Task → Option Task
+left true r = None
+left false r = Some (without_parent r)
+
+-- what is kept of a task once the task of this ordinal has ended
+abbrev pub orphaned : ℕ → Option Task → Option Task
+orphaned q (Some r) = if is_some_of r.parent q then left r.ended r else Some r
+orphaned q None = None
+
+-- both indexes are those of the slots
+pub record IsIndexed (T : TaskTable) : Type 0 where
+  pub pids : Mirrors by_key held_key T.tasks T.pids.items
+  pub children : Mirrors by_key_and_ordinal waiting_key T.tasks T.children.items
+
+-- each child of the task of this ordinal was told that it has ended
+pub record IsOrphaned (old : TaskTable) (q : ℕ) (new : TaskTable) : Type 0 where
+  pub indexed : IsIndexed new
+  pub slots : (s : ℕ) → get new.tasks s ≡ orphaned q (get old.tasks s)
+  pub counts : SameCounts old new
+
+-- the same for some of the children
+pub record IsOrphaning (old : TaskTable) (q : ℕ) (now : TaskTable) : Type 0 where
+  pub indexed : IsIndexed now
+  pub slots : (s : ℕ) → (get now.tasks s ≡ get old.tasks s) ⊎ (get now.tasks s ≡ orphaned q (get old.tasks s))
+  pub counts : SameCounts old now
+
+abbrev pub ended_task : Task → Task
+ended_task r = record r { ended = true }
+
+abbrev pub IsEndedWith : Option ℕ → TaskTable → TaskRef → Task → Task → TaskTable → Type 0
+IsEndedWith (Some q) old t r task mid = IsPut old t (ended_task task) mid
+IsEndedWith None old t r task mid = IsForgotten old t r mid
+
+-- the task was ended: first itself, and then its children were told
+pub record IsEnded (old : TaskTable) (t : TaskRef) (r task : Task) (new : TaskTable) : Type 0 where
+  pub between : TaskTable
+  pub own : IsEndedWith task.parent old t r task between
+  pub others : IsIndexed between → IsOrphaned between t.ordinal new
+
+abbrev pub has_ended : Option Task → Bool
+has_ended (Some r) = r.ended
+has_ended None = false
+
+-- the entry at this place is of an ended child of the task of this ordinal
+abbrev pub IsEndedAt : TaskTable → ℕ → ℕ → Type 0
+IsEndedAt T q i = (i < length T.children.items) × ((d : Entry) → ((slice_index_or T.children.items i d).key ≡ q) × (has_ended (reached T.tasks (slice_index_or T.children.items i d).task) ≡ true))

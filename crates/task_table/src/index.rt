@@ -29,7 +29,7 @@ pub fn end(entries: &[Entry], key: u32) -> usize
 }
 
 /// The entry at this place has this key.
-fn is_key(entries: &[Entry], place: usize, key: u32) -> bool
+pub fn is_key(entries: &[Entry], place: usize, key: u32) -> bool
     ensures yes { result ≡ true → IsKeyAt entries.now place key }
     ensures no { result ≡ false → IsKeyAt entries.now place key → ⊥ }
 {
@@ -67,6 +67,20 @@ pub fn remove(entries: &mut Vec<Entry>, key: u32)
     let place = start(entries, key);
     if is_key(entries, place, key) {
         entries.remove(place);
+    }
+}
+
+/// Takes the first entry of a key away, if there is one, and gives its reference.
+pub fn take_first(entries: &mut Vec<Entry>, key: u32) -> Option<TaskRef>
+    ensures some { IfSome result (λ t. IsRemoved entries.old.items (under key t) entries.new.items) }
+    ensures none { IfNone result (entries.new.items ≡ entries.old.items) }
+    ensures no_key { KeysRise entries.old.items → IfNone result ((e : Entry) → Contains entries.old.items e → e.key ≡ key → ⊥) }
+{
+    let place = start(entries, key);
+    if is_key(entries, place, key) {
+        Some(entries.remove(place).task)
+    } else {
+        None
     }
 }
 
