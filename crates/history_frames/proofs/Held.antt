@@ -1,7 +1,7 @@
 -- Who has ended and who is reaped after an event, and who holds a process number.
-use Rattle.std.proofs.Common.{◌≡◌, ◌⊎◌, inl, inr, ℕ, zero, suc, ◌+◌, ◌<◌, ◌≤◌, Bool, true, false, ◌&&◌, ◌||◌, not, List, [], ◌∷◌, length, Option, Some, None, refl, sym, ap, ◌∙◌, arith}
-use Rattle.std.specs.Prelude.{Ok, Err, ◌==◌, ◌-◌, if◌then◌else◌}
-use Rattle.std.proofs.lemmas.Bool.{cases_Bool, cases_order, eqb-true, and_parts, or_right, or_cases, both_ways, false_from_ne_true}
+use Rattle.std.proofs.Common.{◌≡◌, inl, inr, ℕ, zero, suc, ◌+◌, ◌<◌, ◌≤◌, Bool, true, false, ◌&&◌, not, List, [], ◌∷◌, length, Option, Some, None, refl, sym, ap, ◌∙◌, arith}
+use Rattle.std.specs.Prelude.{Ok, ◌-◌, if◌then◌else◌}
+use Rattle.std.proofs.lemmas.Bool.{cases_Bool, cases_order, cases_lt, eqb-true, or_right, both_ways, false_from_ne_true}
 use Rattle.hist_model.specs.Look.{Name, name_eq, newest, is_task, event_at, or_else, oldest}
 use Rattle.hist_model.specs.Tasks.{ended, was_waited_for, reaped, ends, reaps, holds, holder, pid_of, name_of, given, given_in, is_some_of, makes, is_made, child_of, parent, free_from, next_pid, last_pid, is_none}
 use Rattle.hist_model.specs.Steps.{makes_in}
@@ -10,7 +10,7 @@ use Rattle.hist_model.specs.declared.event.Event.{Event}
 use Rattle.hist_model.specs.declared.event.What.{What}
 use Rattle.hist_model.specs.declared.event.What.TheVariants.{Spawn}
 use Rattle.hist_model.proofs.Look.{event_at-here, event_at-older, below_or_last, newest-found, newest-some, oldest-none, name_eq-refl}
-use Rattle.history_frames.proofs.Ordinals.{makes-below, name-older, pid-older}
+use Rattle.history_frames.proofs.Ordinals.{makes-below, name-older}
 
 pub ended-more : (e : Event) (K : List Event) (n : Name) → ended K n ≡ true → ended (e ∷ K) n ≡ true
 unfolding ended
@@ -187,3 +187,27 @@ pub oldest-least : (test : ℕ → Bool) (n t u : ℕ) → oldest test n ≡ Som
 unfolding oldest
 oldest-least test zero t u q h l = cc
 oldest-least test (suc n) t u q h l = older-step test n t u (oldest test n) refl q h l (λ z. oldest-least test n t u z h l)
+
+all-held : (K : List Event) (n p q : ℕ) → free_from K n p ≡ None → p ≤ q → q < p + n → holder K q ≡ None → ⊥
+unfolding free_from
+all-held K zero p q e l m h = absurd (omega arith)
+all-held K (suc n) p q e l m h = go (holder K p) refl e (λ z w. all-held K n (p + 1) q z w (omega arith) h)
+  where
+    go : (r : Option ℕ) → holder K p ≡ r → (if is_none r then Some p else free_from K n (p + 1)) ≡ None → (free_from K n (p + 1) ≡ None → p + 1 ≤ q → ⊥) → ⊥
+    go None f e ih = cc
+    go (Some t) f e ih = elim (cases_order p q) [
+      | inl z ↦ let w : Some t ≡ None = sym f ∙ (ap (holder K) z ∙ h) in cc
+      | inr z ↦ elim z [ inl z ↦ ih e (omega arith) | inr z ↦ absurd (omega arith) ]
+    ]
+
+-- where no number comes next, each is held
+pub next-none : (base pidmax : ℕ) (K : List Event) (q : ℕ) → next_pid base pidmax K ≡ None → base < q → q ≤ base + pidmax → holder K q ≡ None → ⊥
+unfolding next_pid
+next-none base pidmax K q e l m h = go (free_from K (base + pidmax - last_pid base K) (last_pid base K + 1)) refl e
+  where
+    go : (r : Option ℕ) → free_from K (base + pidmax - last_pid base K) (last_pid base K + 1) ≡ r → or_else r (free_from K (last_pid base K - base) (base + 1)) ≡ None → ⊥
+    go (Some p) f e = cc
+    go None f e = elim (cases_lt (last_pid base K) q) [
+      | inl z ↦ all-held K (base + pidmax - last_pid base K) (last_pid base K + 1) q f (omega arith) (omega arith) h
+      | inr z ↦ all-held K (last_pid base K - base) (base + 1) q e (omega arith) (omega arith) h
+    ]

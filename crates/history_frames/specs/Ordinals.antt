@@ -1,5 +1,5 @@
 -- The ordinals of tasks: the task that was made after n others has the ordinal n.
-use Rattle.std.specs.Prelude.{ℕ, ◌+◌, ◌==◌, Bool, ◌&&◌, if◌then◌else◌, List, [], ◌∷◌, length, Option, Some, None}
+use Rattle.std.specs.Prelude.{ℕ, ◌+◌, ◌==◌, ◌&&◌, if◌then◌else◌, List, [], ◌∷◌, length, Option, Some, None}
 use Rattle.hist_model.specs.Look.{Name}
 use Rattle.hist_model.specs.Tasks.{makes, name_of}
 use Rattle.hist_model.specs.declared.event.Event.{Event}

@@ -1,18 +1,16 @@
 -- The indexes of a table when a task is written, forgotten or left by its parent.
-use Rattle.std.proofs.Common.{◌≡◌, ◌≢◌, ◌⊎◌, inl, inr, ℕ, ◌+◌, ◌<◌, Bool, true, false, List, [], ◌∷◌, length, Option, Some, None, refl, sym, ap, ◌∙◌, subst, ltb, ltb-true, arith, Contains}
-use Rattle.std.specs.Prelude.{if◌then◌else◌, ◌==◌, ◌||◌, ◌&&◌}
-use Rattle.std.proofs.lemmas.Bool.{cases_Bool, cases_eq, eqb-true, eq-eqb, both_ways, false_from_ne_true}
+use Rattle.std.proofs.Common.{◌≡◌, ◌≢◌, ◌⊎◌, inl, inr, ℕ, Bool, true, false, Option, Some, None, refl, sym, ap, ◌∙◌, subst, ltb-true, arith, Contains}
+use Rattle.std.proofs.lemmas.Bool.{cases_Bool, cases_eq, eqb-true, eq-eqb, false_from_ne_true}
 use Rattle.slab.specs.Slab.{Slab, get, Updates}
 use Rattle.hist_model.specs.Tasks.{is_some_of}
 use Rattle.task_table.specs.declared.reference.TaskRef.{TaskRef}
 use Rattle.task_table.specs.declared.index.Entry.{Entry}
 use Rattle.task_table.specs.declared.table.Task.{Task}
 use Rattle.task_table.specs.declared.table.TaskTable.{TaskTable}
-use Rattle.task_table.specs.Index.{under, by_key, by_key_and_ordinal, IsRemoved, KeysRise}
-use Rattle.task_table.specs.Table.{Mirrors, entry_of, under_key, held_key, waiting_key, reached, IsPut, IsForgotten, IsLeft, left, without_parent, orphaned, IsIndexed, IsOrphaned, IsOrphaning, SameCounts}
+use Rattle.task_table.specs.Index.{under, by_key, by_key_and_ordinal, IsRemoved}
+use Rattle.task_table.specs.Table.{Mirrors, entry_of, held_key, waiting_key, reached, IsPut, IsForgotten, IsLeft, left, without_parent, orphaned, IsIndexed, IsOrphaned, IsOrphaning, SameCounts}
 use Rattle.task_table.proofs.Mirrors.{mirrors-same, mirrors-remove, entry-task, entry-from}
 use Rattle.task_table.proofs.Found.{reached-from}
-use Rattle.task_table.proofs.Spawned.{children-rise}
 
 pub never-by_key : (x : Entry) → by_key x x ≡ false
 never-by_key x = false_from_ne_true (by_key x x) (λ h. omega (arith, ltb-true x.key x.key h))

@@ -1,13 +1,13 @@
 -- What a table that stands for a history finds.
-use Rattle.std.proofs.Common.{◌≡◌, ◌≢◌, ◌⊎◌, inl, inr, ℕ, zero, suc, ◌+◌, ◌-◌, ◌<◌, ◌≤◌, Bool, true, false, ◌&&◌, ◌||◌, not, List, [], ◌∷◌, length, get_or, Option, Some, None, refl, sym, ap, ◌∙◌, arith, Contains}
+use Rattle.std.proofs.Common.{◌≡◌, inl, inr, ℕ, zero, suc, ◌+◌, ◌-◌, ◌<◌, Bool, true, false, ◌&&◌, ◌||◌, not, List, [], ◌∷◌, length, get_or, Option, Some, None, refl, sym, ap, ◌∙◌, arith, Contains}
 use Rattle.std.specs.Prelude.{if◌then◌else◌, ◌==◌}
-use Rattle.std.proofs.lemmas.Bool.{cases_Bool, both_ways, and_parts, eq-eqb, eqb-true, false_from_ne_true}
+use Rattle.std.proofs.lemmas.Bool.{cases_Bool, both_ways, and_parts, eq-eqb, eqb-true}
 use Rattle.std.proofs.lemmas.List.Elements.{Contains-get_or}
-use Rattle.slab.specs.Slab.{Slab, get}
+use Rattle.slab.specs.Slab.{get}
 use Rattle.hist_model.specs.Look.{Name, or_else}
-use Rattle.hist_model.specs.Tasks.{ended, was_waited_for, reaped, is_made, alive, holds, holder, name_of, pid_of, is_some_of, is_none, free_from, next_pid, last_pid, has_parent, parent}
+use Rattle.hist_model.specs.Tasks.{ended, was_waited_for, reaped, is_made, alive, holds, holder, name_of, pid_of, is_some_of, is_none, free_from, next_pid, has_parent, parent}
 use Rattle.hist_model.specs.declared.event.Event.{Event}
-use Rattle.history_frames.specs.Ordinals.{tasks_made, place_of, task_name_of, name_at}
+use Rattle.history_frames.specs.Ordinals.{place_of, task_name_of, name_at}
 use Rattle.history_frames.proofs.Ordinals.{place-below, place-makes, make-place, made-place}
 use Rattle.history_frames.proofs.Held.{holder-is, holder-none, holder-holds, holds-makes, made-is}
 use Rattle.task_table.specs.declared.reference.TaskRef.{TaskRef}
@@ -15,7 +15,7 @@ use Rattle.task_table.specs.declared.index.Entry.{Entry}
 use Rattle.task_table.specs.declared.table.Task.{Task}
 use Rattle.task_table.specs.declared.table.TaskTable.{TaskTable}
 use Rattle.task_table.specs.Index.{under, has_key, first_free}
-use Rattle.task_table.specs.Table.{Mirrors, entry_of, held_key, reached, of_ordinal, IsRef}
+use Rattle.task_table.specs.Table.{held_key, reached, of_ordinal, IsRef}
 use Rattle.task_table.specs.Stands.{StandsFor, IsTask, IsAlive}
 use Rattle.task_table.proofs.Ordered.{has-at, has-some}
 use Rattle.task_table.proofs.Mirrors.{entry-task, entry-from}

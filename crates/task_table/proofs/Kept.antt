@@ -1,9 +1,9 @@
 -- What is said of a task after an event.
-use Rattle.std.proofs.Common.{◌≡◌, ◌⊎◌, inl, inr, ℕ, ◌+◌, ◌<◌, Bool, true, false, ◌&&◌, ◌||◌, not, List, [], ◌∷◌, length, Option, Some, None, refl, sym, ap, ◌∙◌, subst, arith}
-use Rattle.std.specs.Prelude.{if◌then◌else◌, ◌==◌}
+use Rattle.std.proofs.Common.{◌≡◌, ℕ, Bool, true, false, ◌&&◌, List, ◌∷◌, Option, Some, None, refl, sym, ap, ◌∙◌, subst, arith}
+use Rattle.std.specs.Prelude.{if◌then◌else◌}
 use Rattle.std.proofs.lemmas.Bool.{false_from_ne_true}
 use Rattle.hist_model.specs.Look.{Name, name_eq, is_task}
-use Rattle.hist_model.specs.Tasks.{ended, was_waited_for, reaped, ends, reaps, name_of, pid_of, parent, child_of, handles, mode, mode_or, pending, sends_signal, delivers}
+use Rattle.hist_model.specs.Tasks.{ended, reaped, ends, reaps, name_of, parent, child_of, handles, mode, pending, sends_signal, delivers}
 use Rattle.hist_model.specs.declared.event.Event.{Event}
 use Rattle.hist_model.specs.declared.event.Mode.{Mode}
 use Rattle.hist_model.proofs.Look.{name_eq-true}

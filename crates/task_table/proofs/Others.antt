@@ -1,17 +1,15 @@
 -- A table after an event that changes no task.
-use Rattle.std.proofs.Common.{◌≡◌, ℕ, Bool, true, false, ◌&&◌, List, [], ◌∷◌, Option, Some, None, refl, sym, ap, ◌∙◌}
+use Rattle.std.proofs.Common.{◌≡◌, ℕ, false, ◌&&◌, List, [], ◌∷◌, None, refl, sym, ap, ◌∙◌}
 use Rattle.std.specs.Prelude.{if◌then◌else◌, Ok, Err}
 use Rattle.std.proofs.lemmas.Bool.{both_ways}
-use Rattle.slab.specs.Slab.{get}
-use Rattle.hist_model.specs.Look.{Name, name_eq, is_task}
-use Rattle.hist_model.specs.Tasks.{ended, ends, reaps, name_of, parent, child_of, makes, handles, sends_signal, delivers, is_made}
+use Rattle.hist_model.specs.Look.{Name, is_task}
+use Rattle.hist_model.specs.Tasks.{ends, reaps, name_of, parent, child_of, makes, handles, sends_signal, delivers, is_made}
 use Rattle.hist_model.specs.declared.event.Event.{Event}
 use Rattle.hist_model.specs.declared.event.What.{What}
 use Rattle.hist_model.specs.declared.event.What.TheVariants.{Spawn, Enter, Exit, Deliver, Reap, Handler, Signal}
 use Rattle.hist_model.specs.declared.event.Entered.TheVariants.{Kill}
-use Rattle.task_table.specs.declared.table.Task.{Task}
 use Rattle.task_table.specs.declared.table.TaskTable.{TaskTable}
-use Rattle.task_table.specs.Stands.{StandsFor, IsTask, IsOther}
+use Rattle.task_table.specs.Stands.{StandsFor, IsOther}
 use Rattle.task_table.proofs.Kept.{task-left, names-apart, none-both}
 use Rattle.task_table.proofs.Changed.{counts-same}
 use Rattle.task_table.proofs.Stepped.{orderly-more, stands-from, row-made}

@@ -1,11 +1,10 @@
 -- What a wait finds, and a table after it.
-use Rattle.std.proofs.Common.{◌≡◌, ◌≢◌, ◌⊎◌, inl, inr, ℕ, zero, suc, ◌+◌, ◌<◌, ◌≤◌, Bool, true, false, ◌&&◌, ◌||◌, not, List, [], ◌∷◌, length, get_or, Option, Some, None, refl, sym, ap, ◌∙◌, subst, ltb, ltb-true, arith, Contains}
+use Rattle.std.proofs.Common.{◌≡◌, ◌≢◌, inl, inr, ℕ, ◌+◌, ◌<◌, ◌≤◌, Bool, true, false, ◌&&◌, not, List, [], ◌∷◌, length, get_or, Option, Some, None, refl, sym, ap, ◌∙◌, subst, ltb, ltb-true, arith, Contains}
 use Rattle.std.specs.Prelude.{if◌then◌else◌, ◌==◌, Ok, Err}
 use Rattle.std.specs.List.{AllWithin}
-use Rattle.std.proofs.lemmas.Bool.{cases_Bool, cases_eq, cases_order, cases_lt, both_ways, and_parts, and_from, or_cases, eq-eqb, eqb-true, false_from_ne_true}
+use Rattle.std.proofs.lemmas.Bool.{cases_eq, cases_order, cases_lt, both_ways, and_parts, and_from, or_cases, eq-eqb, eqb-true}
 use Rattle.std.proofs.lemmas.List.{get_or_read, get_or_default}
-use Rattle.std.proofs.lemmas.List.Elements.{Contains-get_or}
-use Rattle.slab.specs.Slab.{Slab, get}
+use Rattle.slab.specs.Slab.{get}
 use Rattle.hist_model.specs.Look.{Name, name_eq, is_task, oldest, event_at}
 use Rattle.hist_model.specs.Tasks.{ended, was_waited_for, reaped, ends, reaps, name_of, parent, has_parent, is_some_of, makes, is_made, child_of, delivers, handles, sends_signal}
 use Rattle.hist_model.specs.Steps.{is_child, is_ended_child, makes_in, wait_step}
@@ -14,22 +13,21 @@ use Rattle.hist_model.specs.declared.event.What.{What}
 use Rattle.hist_model.specs.declared.event.What.TheVariants.{Reap, Skip}
 use Rattle.hist_model.proofs.Look.{name_eq-true, name_eq-refl, oldest-some, oldest-none, oldest-found}
 use Rattle.history_frames.specs.Ordinals.{place_of, task_name_of, name_at}
-use Rattle.history_frames.proofs.Ordinals.{place-makes, place-one, place-below, place-order, make-place, makes-below, made-place}
+use Rattle.history_frames.proofs.Ordinals.{place-makes, place-below, place-order, make-place, made-place}
 use Rattle.history_frames.proofs.Held.{made-is, oldest-least}
 use Rattle.task_table.specs.declared.reference.TaskRef.{TaskRef}
 use Rattle.task_table.specs.declared.index.Entry.{Entry}
 use Rattle.task_table.specs.declared.table.Task.{Task}
 use Rattle.task_table.specs.declared.table.TaskTable.{TaskTable}
-use Rattle.task_table.specs.Index.{under, by_key, by_key_and_ordinal, IsStart, IsKeyAt, IsOrdered, KeysRise, IsRemoved}
+use Rattle.task_table.specs.Index.{under, by_key, by_key_and_ordinal, IsStart, IsKeyAt, KeysRise, IsRemoved}
 use Rattle.task_table.specs.Table.{Mirrors, entry_of, waiting_key, held_key, reached, has_ended, IsRef, IsEndedAt, IsIndexed, IsForgotten, SameCounts}
-use Rattle.task_table.specs.Stands.{StandsFor, IsTask, IsParent, IsOrderly, IsAlive, made_child, made_ended_child, reap_step}
-use Rattle.task_table.proofs.Ordered.{start-none}
+use Rattle.task_table.specs.Stands.{StandsFor, IsTask, IsAlive, made_child, made_ended_child}
 use Rattle.task_table.proofs.Mirrors.{mirrors-remove, entry-task, entry-from}
 use Rattle.task_table.proofs.Found.{reached-some, reached-from}
-use Rattle.task_table.proofs.Kept.{Leaves, task-left, names-apart, never, none-both}
+use Rattle.task_table.proofs.Kept.{task-left, names-apart, none-both}
 use Rattle.task_table.proofs.Spawned.{children-rise, ordinal-below}
 use Rattle.task_table.proofs.Changed.{never-by_both, forget-pids, counts-on}
-use Rattle.task_table.proofs.Stepped.{Touches, orderly-more, stands-from, ref-back, other-name, row-made, row-named}
+use Rattle.task_table.proofs.Stepped.{orderly-more, stands-from, ref-back, other-name, row-named}
 use Rattle.task_table.proofs.Ended.{told, untold}
 
 -- the children are gone through from the first one of the task

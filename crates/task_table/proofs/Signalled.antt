@@ -1,17 +1,16 @@
 -- A table after a signal, and after the delivery of one that ends nothing.
-use Rattle.std.proofs.Common.{◌≡◌, ◌≢◌, ◌⊎◌, inl, inr, ℕ, ◌+◌, ◌<◌, Bool, true, false, ◌&&◌, ◌||◌, not, List, [], ◌∷◌, length, Option, Some, None, refl, sym, ap, ◌∙◌, subst, arith}
+use Rattle.std.proofs.Common.{◌≡◌, inl, inr, ℕ, Bool, true, false, ◌&&◌, ◌||◌, not, List, [], ◌∷◌, Some, None, refl, sym, ap, ◌∙◌, subst, arith}
 use Rattle.std.specs.Prelude.{if◌then◌else◌, ◌==◌, Ok}
-use Rattle.std.proofs.lemmas.Bool.{cases_Bool, both_ways, and_parts, eqb-true, false_from_ne_true}
-use Rattle.slab.specs.Slab.{Slab, get}
+use Rattle.std.proofs.lemmas.Bool.{both_ways, and_parts}
+use Rattle.slab.specs.Slab.{get}
 use Rattle.hist_model.specs.Look.{Name, name_eq, is_task}
-use Rattle.hist_model.specs.Tasks.{ended, reaped, ends, reaps, name_of, parent, child_of, makes, handles, mode, pending, sends_signal, delivers, is_made, is_named, holder}
+use Rattle.hist_model.specs.Tasks.{ends, reaps, name_of, parent, child_of, makes, handles, mode, pending, sends_signal, delivers, is_made, is_named, holder}
 use Rattle.hist_model.specs.Signals.{effect_in_call, effect_outside, is_default, due, held, next_signal}
 use Rattle.hist_model.specs.declared.event.Event.{Event}
 use Rattle.hist_model.specs.declared.event.Actor.TheVariants.{Task as TaskActor}
 use Rattle.hist_model.specs.declared.event.What.{What}
 use Rattle.hist_model.specs.declared.event.What.TheVariants.{Signal, Deliver}
 use Rattle.hist_model.specs.declared.event.Delivered.{Delivered}
-use Rattle.hist_model.specs.declared.event.Delivered.TheVariants.{End, Run, Restart as Again, Eintr}
 use Rattle.hist_model.specs.declared.event.Mode.{Mode}
 use Rattle.hist_model.specs.declared.event.Mode.TheVariants.{Default, Restart, Plain}
 use Rattle.hist_model.proofs.Look.{name_eq-true, name_eq-refl}
@@ -21,11 +20,11 @@ use Rattle.task_table.specs.declared.reference.TaskRef.{TaskRef}
 use Rattle.task_table.specs.declared.table.Task.{Task}
 use Rattle.task_table.specs.declared.table.TaskTable.{TaskTable}
 use Rattle.task_table.specs.declared.signals.BySignal.{BySignal}
-use Rattle.task_table.specs.Sets.{pending_of, modes_of, with_signal, next_of, may_come, with_mode}
+use Rattle.task_table.specs.Sets.{pending_of, modes_of, with_signal, next_of, with_mode}
 use Rattle.task_table.specs.Table.{IsPut, reached}
 use Rattle.task_table.specs.Stands.{StandsFor, IsTask, IsParent, IsStepOf, IsDelivery}
 use Rattle.task_table.proofs.Found.{reached-some}
-use Rattle.task_table.proofs.Kept.{Leaves, task-step, task-left, parent-kept, names-apart, never, none-both, mode-left, modes-same}
+use Rattle.task_table.proofs.Kept.{task-step, task-left, parent-kept, names-apart, never, none-both, mode-left, modes-same}
 use Rattle.task_table.proofs.Stepped.{Touches, Own, orderly-more, stands-put, own-leaves, own-touches, by-name, other-name, row-made, row-named}
 
 -- the signals that are pending after one was sent, and after one was delivered

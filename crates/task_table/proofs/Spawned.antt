@@ -1,33 +1,32 @@
 -- A table after a spawn.
-use Rattle.std.proofs.Common.{◌≡◌, ◌≢◌, ◌⊎◌, inl, inr, ℕ, zero, suc, ◌+◌, ◌<◌, ◌≤◌, Bool, true, false, ◌&&◌, ◌||◌, not, List, [], ◌∷◌, length, get_or, Option, Some, None, refl, sym, ap, ◌∙◌, subst, ltb, ltb-true, leb-false, arith, Contains}
+use Rattle.std.proofs.Common.{◌≡◌, inl, inr, ℕ, ◌+◌, ◌<◌, ◌≤◌, Bool, true, false, ◌&&◌, ◌||◌, not, List, [], ◌∷◌, length, get_or, Option, Some, None, refl, sym, ap, ◌∙◌, subst, ltb, ltb-true, leb-false, arith}
 use Rattle.std.specs.Prelude.{if◌then◌else◌, ◌==◌, Ok}
-use Rattle.std.proofs.lemmas.Bool.{cases_Bool, cases_eq, both_ways, lt-ltb, eq-eqb, eqb-true, and_parts, and_from, or_cases, or_left, or_right, false_from_ne_true}
+use Rattle.std.proofs.lemmas.Bool.{cases_eq, both_ways, lt-ltb, eq-eqb, eqb-true, and_parts, and_from, or_cases, or_left, or_right}
 use Rattle.std.proofs.lemmas.List.Elements.{Contains-get_or}
-use Rattle.slab.specs.Slab.{Slab, get}
-use Rattle.hist_model.specs.Look.{Name, name_eq, is_task, event_at}
-use Rattle.hist_model.specs.Tasks.{ended, was_waited_for, reaped, ends, reaps, name_of, pid_of, parent, has_parent, child_of, given, makes, handles, mode, mode_or, pending, sends_signal, delivers, is_made, is_none, holder, last_pid, or_number}
-use Rattle.hist_model.specs.Steps.{makes_in}
+use Rattle.slab.specs.Slab.{get}
+use Rattle.hist_model.specs.Look.{Name, name_eq, is_task}
+use Rattle.hist_model.specs.Tasks.{ended, was_waited_for, reaped, ends, reaps, name_of, parent, has_parent, child_of, given, makes, handles, mode, pending, sends_signal, delivers, is_made, is_none, holder, last_pid}
 use Rattle.hist_model.specs.declared.event.Event.{Event}
 use Rattle.hist_model.specs.declared.event.SpawnKind.{SpawnKind}
 use Rattle.hist_model.specs.declared.event.What.TheVariants.{Spawn}
 use Rattle.hist_model.specs.declared.event.Mode.TheVariants.{Default}
 use Rattle.hist_model.proofs.Look.{event_at-here, name_eq-refl}
-use Rattle.history_frames.specs.Ordinals.{tasks_made, place_of}
+use Rattle.history_frames.specs.Ordinals.{place_of}
 use Rattle.history_frames.proofs.Ordinals.{made-more, place-new, place-cases, place-below, place-makes, name-older}
 use Rattle.history_frames.proofs.Held.{ended-same, waited-same, pids-more, names-more, unmade-less, unreaped-less, made-is}
 use Rattle.task_table.specs.declared.reference.TaskRef.{TaskRef}
 use Rattle.task_table.specs.declared.index.Entry.{Entry}
 use Rattle.task_table.specs.declared.table.Task.{Task}
 use Rattle.task_table.specs.declared.table.TaskTable.{TaskTable}
-use Rattle.task_table.specs.Index.{under, by_key, by_key_and_ordinal, has_key, KeysRise, IsPlaced, IsOrdered}
+use Rattle.task_table.specs.Index.{under, by_key, by_key_and_ordinal, has_key, KeysRise, IsOrdered}
 use Rattle.task_table.specs.Sets.{pending_of, modes_of, all_signals}
-use Rattle.task_table.specs.Table.{Mirrors, entry_of, under_key, held_key, waiting_key, reached, of_ordinal, inherited, modes_or_default, ordinal_of, IsRef, IsAdded, IsChildPlaced, SameTasks, IsParentRef, new_task}
+use Rattle.task_table.specs.Table.{Mirrors, entry_of, under_key, held_key, waiting_key, inherited, modes_or_default, ordinal_of, IsRef, IsAdded, IsChildPlaced, SameTasks, IsParentRef, new_task}
 use Rattle.task_table.specs.Stands.{StandsFor, IsTask, IsParent, IsOrderly, IsSpawn, IsChildOf}
 use Rattle.task_table.proofs.Ordered.{keys-rise, keys-of-order, has-at}
 use Rattle.task_table.proofs.Mirrors.{mirrors-same, mirrors-insert, ordered-insert, entry-task}
 use Rattle.task_table.proofs.Found.{reached-from, is-held}
 use Rattle.task_table.proofs.Started.{ref-same}
-use Rattle.task_table.proofs.Kept.{Leaves, task-left, names-apart, never, none-both, mode-left, pending-left, pending-same, modes-same, place-stays}
+use Rattle.task_table.proofs.Kept.{Leaves, task-left, names-apart, never, none-both, mode-left, pending-left, modes-same, place-stays}
 
 pub less : (x y : ℕ) → x ≤ y → (x ≡ y → ⊥) → x < y
 less x y l n = omega arith

@@ -1,9 +1,7 @@
 -- A table without tasks, and a table whose room has changed.
-use Rattle.std.proofs.Common.{◌≡◌, ℕ, ◌+◌, ◌<◌, Bool, true, false, List, [], length, get_or, Option, Some, None, refl, sym, ap, ◌∙◌, subst, arith, Contains}
+use Rattle.std.proofs.Common.{◌≡◌, ℕ, ◌+◌, Bool, List, [], length, get_or, Option, Some, None, refl, sym, ap, ◌∙◌, arith}
 use Rattle.slab.specs.Slab.{Slab, get}
-use Rattle.hist_model.specs.Look.{Name, event_at}
-use Rattle.hist_model.specs.Tasks.{ended, was_waited_for, pending, mode, is_made, last_pid, holds, name_of}
-use Rattle.hist_model.specs.Steps.{makes_in}
+use Rattle.hist_model.specs.Tasks.{ended, was_waited_for, pending, mode, is_made, last_pid}
 use Rattle.hist_model.specs.declared.event.Event.{Event}
 use Rattle.history_frames.specs.Ordinals.{tasks_made, place_of}
 use Rattle.history_frames.proofs.Ordinals.{makes-below}
@@ -12,9 +10,9 @@ use Rattle.task_table.specs.declared.reference.TaskRef.{TaskRef}
 use Rattle.task_table.specs.declared.index.Entry.{Entry}
 use Rattle.task_table.specs.declared.table.Task.{Task}
 use Rattle.task_table.specs.declared.table.TaskTable.{TaskTable}
-use Rattle.task_table.specs.Index.{IsOrdered, by_key, by_key_and_ordinal}
+use Rattle.task_table.specs.Index.{by_key, by_key_and_ordinal}
 use Rattle.task_table.specs.Table.{Mirrors, entry_of, held_key, waiting_key, SameTasks, IsRef}
-use Rattle.task_table.specs.Stands.{StandsFor, IsTask, IsOrderly}
+use Rattle.task_table.specs.Stands.{StandsFor, IsOrderly}
 use Rattle.task_table.proofs.Mirrors.{mirrors-same}
 
 orderly-nil : IsOrderly []

@@ -1,30 +1,27 @@
 -- A table after an event that makes no task.
-use Rattle.std.proofs.Common.{◌≡◌, ◌≢◌, ◌⊎◌, inl, inr, ℕ, ◌+◌, ◌<◌, ◌≤◌, Bool, true, false, ◌&&◌, ◌||◌, not, List, [], ◌∷◌, length, Option, Some, None, refl, sym, ap, ◌∙◌, subst, arith}
-use Rattle.std.specs.Prelude.{if◌then◌else◌, ◌==◌, Ok}
-use Rattle.std.proofs.lemmas.Bool.{cases_Bool, cases_eq, both_ways, and_parts, or_cases, eq-eqb, false_from_ne_true}
-use Rattle.slab.specs.Slab.{Slab, get}
+use Rattle.std.proofs.Common.{◌≡◌, ◌≢◌, ◌⊎◌, inl, inr, ℕ, Bool, true, false, ◌&&◌, not, List, [], ◌∷◌, Option, Some, None, refl, sym, ap, ◌∙◌, subst, arith}
+use Rattle.std.specs.Prelude.{if◌then◌else◌, ◌==◌}
+use Rattle.std.proofs.lemmas.Bool.{cases_eq, both_ways, and_parts, or_cases, false_from_ne_true}
+use Rattle.slab.specs.Slab.{get}
 use Rattle.hist_model.specs.Look.{Name, name_eq, is_task}
-use Rattle.hist_model.specs.Tasks.{ended, was_waited_for, reaped, ends, reaps, name_of, parent, has_parent, child_of, given, makes, handles, mode, mode_or, pending, sends_signal, delivers, is_made, is_named, holder, last_pid, or_number}
+use Rattle.hist_model.specs.Tasks.{ended, was_waited_for, reaped, ends, reaps, name_of, parent, child_of, given, makes, handles, mode, mode_or, pending, sends_signal, delivers, is_made, last_pid}
 use Rattle.hist_model.specs.declared.event.Event.{Event}
 use Rattle.hist_model.specs.declared.event.Actor.TheVariants.{Task as TaskActor}
 use Rattle.hist_model.specs.declared.event.What.{What}
-use Rattle.hist_model.specs.declared.event.What.TheVariants.{Handler, Signal, Deliver, Spawn}
-use Rattle.hist_model.specs.declared.event.Delivered.{Delivered}
+use Rattle.hist_model.specs.declared.event.What.TheVariants.{Handler}
 use Rattle.hist_model.specs.declared.event.Mode.{Mode}
-use Rattle.hist_model.specs.declared.event.Mode.TheVariants.{Default}
 use Rattle.hist_model.proofs.Look.{name_eq-true, name_eq-refl}
-use Rattle.history_frames.specs.Ordinals.{tasks_made, place_of}
+use Rattle.history_frames.specs.Ordinals.{place_of}
 use Rattle.history_frames.proofs.Ordinals.{made-same, place-same, place-below, place-makes, place-one, name-older}
 use Rattle.history_frames.proofs.Held.{ended-same, ended-more, waited-same, reaped-same, pids-more, names-more, unmade-less, unreaped-less, made-is, given-none}
 use Rattle.task_table.specs.declared.reference.TaskRef.{TaskRef}
 use Rattle.task_table.specs.declared.table.Task.{Task}
 use Rattle.task_table.specs.declared.table.TaskTable.{TaskTable}
-use Rattle.task_table.specs.declared.signals.BySignal.{BySignal}
-use Rattle.task_table.specs.Sets.{pending_of, modes_of, with_signal}
+use Rattle.task_table.specs.Sets.{with_signal}
 use Rattle.task_table.specs.Table.{IsRef, SameCounts, IsIndexed, IsPut, reached}
 use Rattle.task_table.specs.Stands.{StandsFor, IsTask, IsParent, IsOrderly, IsStepOf}
 use Rattle.task_table.proofs.Found.{reaped-lost, reaped-ended, reached-some}
-use Rattle.task_table.proofs.Kept.{Leaves, task-step, task-left, parent-kept, names-apart, never, none-both, mode-left, pending-left, pending-same, modes-same}
+use Rattle.task_table.proofs.Kept.{Leaves, task-step, task-left, parent-kept, names-apart, never, pending-left, pending-same}
 use Rattle.task_table.proofs.Changed.{put-indexed}
 
 -- what the event does, it does to tasks that were made

@@ -1,5 +1,5 @@
 -- Which histories a table stands for.
-use Rattle.std.specs.Prelude.{◌≡◌, ◌⊎◌, ℕ, ◌+◌, ◌-◌, Bool, true, false, ◌&&◌, not, List, [], ◌∷◌, Option, Some, None, Result, Ok, Err}
+use Rattle.std.specs.Prelude.{◌≡◌, ◌⊎◌, ℕ, ◌+◌, Bool, true, false, ◌&&◌, not, List, [], Option, Some, None, Result, Ok, Err}
 use Rattle.slab.specs.Slab.{get}
 use Rattle.hist_model.specs.Look.{Name}
 use Rattle.hist_model.specs.Tasks.{ended, was_waited_for, reaped, is_made, parent, has_parent, name_of, pid_of, pending, mode, last_pid}

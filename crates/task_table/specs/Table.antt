@@ -1,5 +1,5 @@
 -- What a table keeps.
-use Rattle.std.specs.Prelude.{◌≡◌, ◌⊎◌, ℕ, ◌+◌, ◌<◌, ◌^◌, Bool, true, false, Result, Ok, Err, ◌==◌, if◌then◌else◌, List, Option, Some, None, vec_len, vec_capacity, Contains, length, slice_index_or}
+use Rattle.std.specs.Prelude.{◌≡◌, ◌⊎◌, ℕ, ◌+◌, ◌<◌, ◌^◌, Bool, true, false, Result, Err, ◌==◌, if◌then◌else◌, List, Option, Some, None, vec_len, vec_capacity, Contains, length, slice_index_or}
 use Rattle.slab.specs.Slab.{Slab, get, Updates, HasRoomFor}
 use Rattle.sys_abi.specs.declared.memory.OrNoMemory.{OrNoMemory}
 use Rattle.sys_abi.specs.declared.memory.OrNoMemory.TheVariants.{Refused, NoMemory}

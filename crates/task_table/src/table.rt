@@ -1,6 +1,6 @@
 //! The table of the tasks that aren't reaped.
 
-ghost use Rattle.std.specs.Prelude.{◌≡◌, ℕ, ◌+◌, ◌-◌, ◌<◌, ◌^◌, not, List, ◌∷◌, [], Option, Some, None, IfOk, OnOk, OnErr, IfSome, IfErr, OnSome, IfNone, Bool, length, ◌||◌, ◌==◌, IsOk, true, false, Ok};
+ghost use Rattle.std.specs.Prelude.{◌≡◌, ℕ, ◌+◌, ◌-◌, ◌<◌, ◌≤◌, ◌^◌, not, List, ◌∷◌, [], Option, Some, None, IfOk, OnOk, OnErr, IfSome, IfErr, OnSome, IfNone, Bool, length, ◌||◌, ◌==◌, IsOk, true, false, Ok};
 ghost use Rattle.hist_model.specs.declared.event.Event.{Event};
 ghost use Rattle.slab.specs.Slab.{get};
 ghost use Rattle.hist_model.specs.declared.event.What.TheVariants.{Signal, Handler, Reap};
@@ -167,6 +167,7 @@ impl TaskTable {
     pub fn spawn(&mut self, parent: Option<TaskRef>) -> Result<(TaskRef, u32), OrNoMemory<NoPid>>
         ensures pid { IfOk result (λ made. (base pidmax : ℕ) (K : List Event) → StandsFor base pidmax K self.old → next_pid base pidmax K ≡ Some made.1) }
         ensures no_pid { was_refused result ≡ true → (base pidmax : ℕ) (K : List Event) → StandsFor base pidmax K self.old → next_pid base pidmax K ≡ None }
+        ensures full { was_refused result ≡ true → (base pidmax : ℕ) (K : List Event) → StandsFor base pidmax K self.old → (q : ℕ) → base < q → q ≤ base + pidmax → holder K q ≡ None → ⊥ }
         ensures step { IfOk result (λ made. (base pidmax : ℕ) (K : List Event) (e : Event) → StandsFor base pidmax K self.old → IsParentRef self.old parent → IsSpawn K e parent made.1 → StandsFor base pidmax (e ∷ K) self.new) }
         ensures task { IfOk result (λ made. (base pidmax : ℕ) (K : List Event) → StandsFor base pidmax K self.old → (made.0.ordinal ≡ tasks_made K) × IsRef self.new made.0) }
         ensures refs { (t : TaskRef) → IsRef self.old t → IsRef self.new t }

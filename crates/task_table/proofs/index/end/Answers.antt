@@ -1,4 +1,4 @@
-use Rattle.std.proofs.Common.{leb, arith, rules}
+use Rattle.std.proofs.Common.{leb, rules}
 use Rattle.std.proofs.lemmas.List.Sorted.{IsPartitionPoint-from_clause, IsPartitionedBy-leb}
 use Rattle.task_table.specs.declared.index.Entry.{Entry}
 use Rattle.task_table.proofs.Ordered.{end-from}

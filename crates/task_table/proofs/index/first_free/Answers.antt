@@ -1,7 +1,6 @@
 use Rattle.std.proofs.Common.{◌∙◌, sym, arith, refl}
-use Rattle.std.proofs.lemmas.Bool.{eqb-true}
 use Rattle.task_table.specs.Index.{has_key}
-use Rattle.task_table.proofs.Ordered.{keys-of-order, end-next, end-none, has-at, free-next, free-here, free-end, has-key-at}
+use Rattle.task_table.proofs.Ordered.{keys-of-order, end-next, end-none, free-next, free-here, free-end, has-key-at}
 use Rattle.task_table.proofs.index.first_free.Goals as goal
 
 pub loop-number-init : goal.loop-number-init

@@ -1,5 +1,3 @@
-use Rattle.std.proofs.Common.{◌≡◌}
-use Rattle.task_table.specs.Index.{IsStart, IsKeyAt}
 use Rattle.task_table.proofs.Ordered.{keys-of-order, start-found, start-none}
 use Rattle.task_table.proofs.index.remove.Goals as goal
 

@@ -1,4 +1,4 @@
-use Rattle.std.proofs.Common.{ltb, ltb-true, arith, rules}
+use Rattle.std.proofs.Common.{ltb, rules}
 use Rattle.std.proofs.lemmas.List.Sorted.{IsPartitionPoint-from_clause, IsPartitionedBy-ltb}
 use Rattle.task_table.specs.declared.index.Entry.{Entry}
 use Rattle.task_table.proofs.Ordered.{start-from}

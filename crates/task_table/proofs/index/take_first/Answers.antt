@@ -1,4 +1,3 @@
-use Rattle.std.proofs.Common.{◌≡◌, ◌∙◌, sym}
 use Rattle.task_table.proofs.Ordered.{start-none}
 use Rattle.task_table.proofs.index.take_first.Goals as goal
 

@@ -1,4 +1,4 @@
-use Rattle.std.proofs.Common.{◌∙◌, sym}
+use Rattle.std.proofs.Common.{sym}
 use Rattle.task_table.proofs.Found.{alive-found, alive-lost}
 use Rattle.task_table.proofs.table.TaskTable.alive.Goals as goal
 

@@ -1,4 +1,4 @@
-use Rattle.std.proofs.Common.{◌≡◌, Bool, true, false, Option, Some, None, is_some, ℕ, sym, subst, ◌∙◌}
+use Rattle.std.proofs.Common.{sym, subst, ◌∙◌}
 use Rattle.task_table.proofs.Ended.{own-put, own-forgotten}
 use Rattle.task_table.specs.Table.{IsEndedWith}
 use Rattle.task_table.proofs.table.TaskTable.end.Goals as goal

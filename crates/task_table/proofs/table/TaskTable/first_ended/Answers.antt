@@ -1,4 +1,4 @@
-use Rattle.std.proofs.Common.{ap, sym, ◌∙◌, arith}
+use Rattle.std.proofs.Common.{sym, ◌∙◌, arith}
 use Rattle.task_table.proofs.Reaped.{scan-start, scan-on, scan-end}
 use Rattle.task_table.proofs.table.TaskTable.first_ended.Goals as goal
 

@@ -1,4 +1,4 @@
-use Rattle.std.proofs.Common.{◌∙◌, sym}
+use Rattle.std.proofs.Common.{◌∙◌}
 use Rattle.task_table.proofs.Found.{next-is}
 use Rattle.task_table.proofs.table.TaskTable.next_pid.Goals as goal
 

@@ -1,4 +1,4 @@
-use Rattle.std.proofs.Common.{◌≡◌, ◌∙◌, sym, ap, refl, subst, Ok, Some, Contains}
+use Rattle.std.proofs.Common.{◌≡◌, ◌∙◌, ap, refl, subst, Ok}
 use Rattle.hist_model.specs.declared.event.What.TheVariants.{Reap}
 use Rattle.task_table.specs.declared.table.TaskTable.{TaskTable}
 use Rattle.task_table.specs.declared.reference.TaskRef.{TaskRef}

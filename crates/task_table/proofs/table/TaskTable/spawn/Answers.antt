@@ -1,5 +1,5 @@
 use Rattle.std.proofs.Common.{◌∙◌, sym}
-use Rattle.history_frames.proofs.Held.{next-free}
+use Rattle.history_frames.proofs.Held.{next-free, next-none}
 use Rattle.task_table.proofs.Started.{stands-same}
 use Rattle.task_table.proofs.Spawned.{stands-spawn, parent-ref-same, new-ref}
 use Rattle.task_table.proofs.table.TaskTable.spawn.Goals as goal
@@ -17,3 +17,6 @@ returns-clause-task c base pidmax K S =
       c.add.ensures.ordinal ∙ (same.made ∙ S.made_is),
       new-ref base pidmax K c.ready.new.self c.add.new.self c.args.parent c.in-Some.pid c.add.result (stands-same base pidmax K c.args.self.now c.ready.new.self same S) c.add.ensures,
     )
+
+pub returns-in_default-clause-full : goal.returns-in_default-clause-full
+returns-in_default-clause-full c w base pidmax K S q l m h = next-none base pidmax K q (sym (c.in_default.ensures base pidmax K S)) l m h
