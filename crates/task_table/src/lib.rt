@@ -18,3 +18,6 @@ mod table;
 pub use reference::TaskRef;
 pub use signals::{SIGKILL, SIGTERM, SIGUSR1, SIGUSR2};
 pub use table::{NoChild, NoPid, NoTask, TaskTable};
+
+#[cfg(test)]
+mod tests;
