@@ -1,0 +1,12 @@
+pub mod Ordered
+pub mod Mirrors
+pub mod Found
+pub mod Kept
+pub mod Started
+pub mod Spawned
+pub mod Changed
+pub mod Stepped
+pub mod Signalled
+pub mod Ended
+pub mod Reaped
+pub mod Others

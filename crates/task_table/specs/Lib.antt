@@ -1,0 +1,4 @@
+pub mod Index
+pub mod Sets
+pub mod Table
+pub mod Stands

@@ -1,0 +1,23 @@
+//! Tasks, their process numbers and their signals (clone(2), wait(2), kill(2), signal(7)).
+//!
+//! A `TaskTable` keeps the tasks that aren't reaped, in slots that are used again, and finds them by process number, and
+//! the children of a task in the order in which they were made, by halves. Its model is a history: `StandsFor` says which
+//! histories a table stands for. Each call that is an event takes every history that the table stood for to the longer
+//! one, and each answer is what the definitions of `hist_model` answer by looking back over that history.
+//!
+//! Below stand the definitions (`hist_model`), what one more event changes of them (`history_frames`), and the kit's
+//! `slab`; the kernel stands above, and the slow programs of `look_back`, with which this table is compared, beside it.
+#![tactic(auto)]
+
+mod index;
+pub mod laws;
+mod reference;
+mod signals;
+mod table;
+
+pub use reference::TaskRef;
+pub use signals::{SIGKILL, SIGTERM, SIGUSR1, SIGUSR2};
+pub use table::{NoChild, NoPid, NoTask, TaskTable};
+
+#[cfg(test)]
+mod tests;
