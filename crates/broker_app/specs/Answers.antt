@@ -26,7 +26,7 @@ report_of P S = report (judging_by P.rules) (played P S)
 -- these are the policy and the script of the named files, where the files tell their bytes, and what they play is mediated
 pub record AreRead (files : FileState) (policy script : List ℕ) (P : Policy) (S : Script) : Type 0 where
   pub policy_is : files.tells ≡ true → policy_in files policy ≡ Some P
-  pub script_is : files.tells ≡ true → script_in files script ≡ Some S
+  pub script_is : files.tells ≡ true → script_in P files script ≡ Some S
   pub mediated : Mediated P S (played P S)
 
 -- the sink took nothing
@@ -60,16 +60,16 @@ PolicyRefused files after policy (NotBuilt PolicyText) = files.tells ≡ true �
 PolicyRefused files after policy NoMemory = Unit {0}
 PolicyRefused files after policy _ = ⊥
 
--- why the script wasn't taken
-abbrev pub ScriptRefused : FileState → FileState → List ℕ → Status → Type 0
-ScriptRefused files after script (ReadFault ScriptFile) = Rose files.faults after.faults × (files.sound ≡ true → files.bytes script ≡ None)
-ScriptRefused files after script (NotBuilt ScriptText) = files.tells ≡ true → IsUnbuilt script_of (files.bytes script)
-ScriptRefused files after script NoMemory = Unit {0}
-ScriptRefused files after script _ = ⊥
+-- why the script wasn't taken, where this policy was: a script whose call the policy passes isn't built either
+abbrev pub ScriptRefused : Policy → FileState → FileState → List ℕ → Status → Type 0
+ScriptRefused P files after script (ReadFault ScriptFile) = Rose files.faults after.faults × (files.sound ≡ true → files.bytes script ≡ None)
+ScriptRefused P files after script (NotBuilt ScriptText) = files.tells ≡ true → IsUnbuilt (script_of P) (files.bytes script)
+ScriptRefused P files after script NoMemory = Unit {0}
+ScriptRefused P files after script _ = ⊥
 
--- a policy was taken
-abbrev pub HasPolicy : FileState → List ℕ → Type 0
-HasPolicy files policy = (P : Policy) × (files.tells ≡ true → policy_in files policy ≡ Some P)
+-- a policy was taken, and then the script wasn't
+abbrev pub OnlyPolicy : FileState → FileState → List ℕ → List ℕ → Status → Type 0
+OnlyPolicy files after policy script status = (P : Policy) × (files.tells ≡ true → policy_in files policy ≡ Some P) × ScriptRefused P files after script status
 
 -- how the play of a policy's and a script's files ended
 abbrev pub PlayEnds : FileState → FileState → SinkState → SinkState → List ℕ → List ℕ → Status → Type 0
@@ -78,8 +78,8 @@ PlayEnds files after old new policy script WriteFault = Rose old.faults new.faul
 PlayEnds files after old new policy script NoMemory = TookNothing old new ⊎ TookPrefix files policy script old new
 PlayEnds files after old new policy script (ReadFault PolicyFile) = PolicyRefused files after policy (ReadFault PolicyFile) × TookNothing old new
 PlayEnds files after old new policy script (NotBuilt PolicyText) = PolicyRefused files after policy (NotBuilt PolicyText) × TookNothing old new
-PlayEnds files after old new policy script (ReadFault ScriptFile) = HasPolicy files policy × ScriptRefused files after script (ReadFault ScriptFile) × TookNothing old new
-PlayEnds files after old new policy script (NotBuilt ScriptText) = HasPolicy files policy × ScriptRefused files after script (NotBuilt ScriptText) × TookNothing old new
+PlayEnds files after old new policy script (ReadFault ScriptFile) = OnlyPolicy files after policy script (ReadFault ScriptFile) × TookNothing old new
+PlayEnds files after old new policy script (NotBuilt ScriptText) = OnlyPolicy files after policy script (NotBuilt ScriptText) × TookNothing old new
 PlayEnds files after old new policy script _ = ⊥
 
 -- the words have no form

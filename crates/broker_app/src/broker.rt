@@ -20,7 +20,8 @@ ghost use Rattle.broker_app.specs.Lines.{line_of};
 ghost use Rattle.broker_app.specs.declared.status.InputFile.TheVariants.{Policy as PolicyFile, Script as ScriptFile};
 ghost use Rattle.broker_app.specs.declared.status.Status.TheVariants.{ReadFault};
 
-use crate::inputs::{policy_of, script_of};
+use crate::policies::policy_of;
+use crate::scripts::script_of;
 use crate::status::{InputFile, Status, Unbuilt};
 use crate::words::{Form, read_form};
 use audit_log::audit::write_audit;
@@ -62,14 +63,19 @@ fn read_policy<F: Files>(alloc: Global, files: &mut F, name: &str) -> Result<Pol
     }
 }
 
-/// Reads the script of this name.
+/// Reads the script of this name, which is to be played under the policy.
 #[tactic(auto, using(crate::proofs::Mediates::built_is_mediated))]
-fn read_script<F: Files>(alloc: Global, files: &mut F, name: &str) -> Result<Script, Status>
+fn read_script<F: Files>(
+    alloc: Global,
+    files: &mut F,
+    policy: &Policy,
+    name: &str,
+) -> Result<Script, Status>
     ensures same { SameFiles (F.state files.old) (F.state files.new) }
-    ensures read { IfOk result (λ s. (F.state files.old).tells ≡ true → script_in (F.state files.old) name.now ≡ Some s) }
+    ensures read { IfOk result (λ s. (F.state files.old).tells ≡ true → script_in policy.now (F.state files.old) name.now ≡ Some s) }
     ensures playable { IfOk result IsPlayable }
     ensures mediated { IfOk result (λ s. (P : Policy) → Mediated P s (played P s)) }
-    ensures refused { IfErr result (λ s. ScriptRefused (F.state files.old) (F.state files.new) name.now s) }
+    ensures refused { IfErr result (λ s. ScriptRefused policy.now (F.state files.old) (F.state files.new) name.now s) }
     ensures absent { (F.state files.old).sound ≡ true → (F.state files.old).bytes name.now ≡ None → result ≡ Err (ReadFault ScriptFile) }
 {
     let mut bytes = Vec::new(alloc);
@@ -79,7 +85,7 @@ fn read_script<F: Files>(alloc: Global, files: &mut F, name: &str) -> Result<Scr
         Err(ReadAllError::NoMemory) => return Err(Status::NoMemory),
         Ok(()) => {}
     }
-    match script_of(alloc, bytes.as_slice()) {
+    match script_of(alloc, policy, bytes.as_slice()) {
         Ok(Some(script)) => Ok(script),
         Ok(None) => Err(Status::NotBuilt(Unbuilt::Script)),
         Err(_) => Err(Status::NoMemory),
@@ -148,7 +154,7 @@ fn play_files<F: Files, O: Sink>(
     ensures absent { (F.state files.old).sound ≡ true → (F.state files.old).bytes policy.now ≡ None → result ≡ Err (ReadFault PolicyFile) }
 {
     let policy = read_policy(alloc, files, policy)?;
-    let script = read_script(alloc, files, script)?;
+    let script = read_script(alloc, files, &policy, script)?;
     report_play(alloc, &policy, &script, out)
 }
 

@@ -12,7 +12,10 @@
 #![tactic(auto)]
 
 pub mod broker;
-pub mod inputs;
+mod fields;
+pub mod laws;
+pub mod policies;
+pub mod scripts;
 pub mod status;
 #[cfg(test)]
 mod tests;

@@ -29,7 +29,7 @@ pub enum Form<'a> {
 }
 
 /// The number that a word of 1 to 20 decimal digits is, where it lies between the bounds.
-fn number_between(word: &[u8], low: u64, high: u64) -> Option<u64>
+pub(crate) fn number_between(word: &[u8], low: u64, high: u64) -> Option<u64>
     ensures { result ≡ number_between low high word.now }
 {
     if word.is_empty() || word.len() > 20 {
@@ -43,7 +43,7 @@ fn number_between(word: &[u8], low: u64, high: u64) -> Option<u64>
     }
 }
 
-fn is_digit(b: u8) -> bool
+pub(crate) fn is_digit(b: u8) -> bool
     ensures { result ≡ is_digit b }
 {
     48 <= b && b <= 57

@@ -7,4 +7,5 @@ pub mod Pieces
 pub mod Scans
 mod WalkedPaths
 mod PlayedCases
+mod ReadTexts
 pub mod WorkedReports

@@ -17,7 +17,7 @@ mod defaults;
 mod tests;
 
 use conditions::fits;
-pub use defaults::lxd_mknod_policy;
+pub use defaults::{denying_policy, lxd_mknod_policy};
 use hist_model::policy::{Cap, Policy, Verdict};
 use hist_model::request::Request;
 use hist_model::text::Text;
