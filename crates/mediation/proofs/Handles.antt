@@ -99,7 +99,7 @@ module _ (S : System) (R : Rules) (K : List Event) (a : Actor) (w c : ℕ) (lega
       cc
 
   quiet : (what : What) → checks what ≡ false → is_good_check what ≡ false → ((m : Option ℕ) → mem_after K what m ≡ m) → ((m : Option ℕ) → base_after K what m ≡ m) → Owes what
-  quiet what x p y z = grind (arith)
+  quiet what x p y z = grind arith
 
   open-owes : (p : ℕ) (u : Unit {0}) → WorkerRow S R K w (OpenMem p (Ok u)) → Owes (OpenMem p (Ok u))
   open-owes p u r =
