@@ -280,7 +280,7 @@ module _ (S : Script) (R : Rules) where
 
   work-found : WorkKept (system_of S) R HasFound
   work-found K a w c (OpenBase p d (Ok u)) r legal room q row v i s own ih = opens-found K a w c p d u q row s own
-  work-found K a w c what r legal room q row v i s own ih = λ z0 z1. grind (arith, works-keep, found-later, base-stays)
+  work-found K a w c what r legal room q row v i s own ih = λ g h. grind (arith, works-keep, found-later, base-stays)
 
   still-found : StillKept (system_of S) R HasFound
   still-found K e w c r legal room q i s own ih g h =

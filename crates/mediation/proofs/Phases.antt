@@ -366,7 +366,7 @@ module _ (S : System) (R : Rules) (K : List Event) (a : Actor) (w c : ℕ) (lega
       go d.state (rw (d.mine, d.for_call, l) at r.1)
     where
       go : {x : ℕ} → Done K c x → AddfdTake y ≡ take_step (install_of K x) true → ((k : ℕ) × (y ≡ Ok k) × (settled K c ≡ true)) ⊎ ((k : ℕ) × (y ≡ Err k) × ((k == 2) ≡ false) × Clean K c)
-      go x0 q = grind arith
+      go d q = grind arith
 
   -- where an answer is due, the call is clean
   answer-clean : (n : Notif) (b : Back) → AtWork (session K w) n → Cause R (session K w) n b → (p : Option (Result (Unit {0}) ℕ)) (t : Option (Result ℕ ℕ)) → first_some put_in (session K w) ≡ p → first_some take_in (session K w) ≡ t → StageOf K c w p t → Clean K c

@@ -182,7 +182,7 @@ gave-kind S R K e c r m legal room row q ih h =
     number what k = grind arith
 
     settling : (rs : List ℕ) → queue K c ≡ rs → installs_for K e c ≡ true → is_first rs r ≡ true → e.what ≡ Install (Ok m) → settles K e c ≡ true
-    settling x0 z f g w = grind (arith, first-own)
+    settling rs z f g w = grind (arith, first-own)
 
 -- a request that is put now has no install yet
 gave-step : (S : System) (R : Rules) (K : List Event) (e : Event) (c r m : ℕ) → IsLegal S R K → length K < 2 ^ 64 → Row S R K e.who e.what → (call_at K r ≡ Some c → install_of K r ≡ Some (Ok m) → Gave K c m) → call_at (e ∷ K) r ≡ Some c → install_of (e ∷ K) r ≡ Some (Ok m) → Gave (e ∷ K) c m
