@@ -163,8 +163,8 @@ spends-left S R limit K (Worker w) (Act q (Some cap) (Ok u)) i k r h =
 spends-left S R limit K (Worker w) (Plant x b (Some cap) (Ok u)) i k r h =
     let t = deed-is R (session K w) _ r.0 in
     below-limit limit K cap i h (left-times K cap u (if S.writable x then Ok tt else Err 14) r.1) (k.plants t.0 (reads_of (session K w)) x b cap t.4)
-spends-left S R limit K a (Act q None x) i k r h = grind (arith)
-spends-left S R limit K a (Plant x b None y) i k r h = grind (arith)
+spends-left S R limit K a (Act q None x) i k r h = grind arith
+spends-left S R limit K a (Plant x b None y) i k r h = grind arith
 spends-left S R limit K a what i k r h = grind arith
 
 spent-step : (S : System) (R : Rules) (limit : ℕ → ℕ) (K : List Event) (e : Event) (i : ℕ) → Capped R limit → IsStep S R K e → times_spent K i ≤ limit i → times_spent (e ∷ K) i ≤ limit i

@@ -17,31 +17,13 @@ idles _ = false
 not-open : (own : List What) → is_open_session own ≡ false → (notif_of own ≡ None) ⊎ (any_of is_letgo own ≡ true)
 not-open own h = grind arith
 
-no-work : (own : List What) (n : Notif) → AtWork own n → (notif_of own ≡ None) ⊎ (any_of is_letgo own ≡ true) → ⊥
-no-work own n k h = grind arith
-
 module _ (S : System) (R : Rules) (K : List Event) (f : Finished K) where
-  works-no : (w : ℕ) (what : What) → WorkerRow S R K w what → works what ≡ true → ⊥
-  works-no w what r h = let g = at-work S R K w what r h in no-work (session K w) g.0 g.1 (not-open (session K w) (f.sessions w))
-
   worker-idles : (w : ℕ) (what : What) → WorkerRow S R K w what → idles what ≡ true
   worker-idles w Skip r = refl
   worker-idles w (Recv (Err x)) r = refl
-  worker-idles w (Recv (Ok n)) r = let g = fetching K n (oldest_unfetched K) refl r.2 in absurd (both_ways (listed K g.0) (f.calls g.0) g.2)
-  worker-idles w LetGo r = let t = deed-is R (session K w) _ r in absurd (open-no (not-open (session K w) (f.sessions w)) t.0 t.1 t.2)
-    where
-      open-no : (notif_of (session K w) ≡ None) ⊎ (any_of is_letgo (session K w) ≡ true) → (n : Notif) → notif_of (session K w) ≡ Some n → any_of is_letgo (session K w) ≡ false → ⊥
-      open-no x0 n h g = grind arith
-  worker-idles w (OpenMem p x) r = absurd (works-no w (OpenMem p x) r refl)
-  worker-idles w (OpenBase p d x) r = absurd (works-no w (OpenBase p d x) r refl)
-  worker-idles w (Check x y) r = absurd (works-no w (Check x y) r refl)
-  worker-idles w (Read x l y) r = absurd (works-no w (Read x l y) r refl)
-  worker-idles w (Act x cap y) r = absurd (works-no w (Act x cap y) r refl)
-  worker-idles w (Plant x b cap y) r = absurd (works-no w (Plant x b cap y) r refl)
-  worker-idles w (AddfdPut x y) r = absurd (works-no w (AddfdPut x y) r refl)
-  worker-idles w (AddfdTake x) r = absurd (works-no w (AddfdTake x) r refl)
-  worker-idles w (Send x b y) r = absurd (works-no w (Send x b y) r refl)
-  worker-idles w _ r = absurd r
+  worker-idles w (Recv (Ok n)) r = let g = fetching K n (oldest_unfetched K) refl r.2 in absurd (cc (f.calls g.0, g.2))
+  worker-idles w LetGo r = let t = deed-is R (session K w) _ r in let s = not-open (session K w) (f.sessions w) in absurd (grind arith)
+  worker-idles w what r = let k = at-work S R K w what r (grind arith) in let s = not-open (session K w) (f.sessions w) in absurd (grind arith)
 
   row-idles : (a : Actor) (what : What) → Row S R K a what → (K ≡ [] → ⊥) → closes what ≡ false → idles what ≡ true
   row-idles a what r l c = grind (arith, worker-idles)

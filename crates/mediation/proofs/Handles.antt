@@ -99,7 +99,7 @@ module _ (S : System) (R : Rules) (K : List Event) (a : Actor) (w c : ℕ) (lega
       cc
 
   quiet : (what : What) → checks what ≡ false → is_good_check what ≡ false → ((m : Option ℕ) → mem_after K what m ≡ m) → ((m : Option ℕ) → base_after K what m ≡ m) → Owes what
-  quiet what x p y z = grind (arith)
+  quiet what x p y z = grind arith
 
   open-owes : (p : ℕ) (u : Unit {0}) → WorkerRow S R K w (OpenMem p (Ok u)) → Owes (OpenMem p (Ok u))
   open-owes p u r =
@@ -280,7 +280,7 @@ module _ (S : Script) (R : Rules) where
 
   work-found : WorkKept (system_of S) R HasFound
   work-found K a w c (OpenBase p d (Ok u)) r legal room q row v i s own ih = opens-found K a w c p d u q row s own
-  work-found K a w c what r legal room q row v i s own ih = λ z0 z1. grind (arith, works-keep, found-later, base-stays)
+  work-found K a w c what r legal room q row v i s own ih = λ g h. grind (arith, works-keep, found-later, base-stays)
 
   still-found : StillKept (system_of S) R HasFound
   still-found K e w c r legal room q i s own ih g h =

@@ -157,7 +157,7 @@ no-fetch K w c i h = grind arith
 -- a worker with a session at work has a call in hand
 pub in-hand : (K : List Event) (w : ℕ) (o : Option ℕ) (n : Notif) → AtWork (session K w) n → Hand K w o → (c : ℕ) × (o ≡ Some c) × (i : InSession K w c) × (i.n ≡ n)
 in-hand K w (Some c) n work i = (c, refl, i, cc (i.notif_is, work.notif_is))
-in-hand K w None n work i = grind (arith)
+in-hand K w None n work i = grind arith
 
 module _ (S : System) (R : Rules) (K : List Event) (a : Actor) (w : ℕ) (legal : IsLegal S R K) (is_mine : is_worker a w ≡ true) where
   mine-works : (what : What) → WorkerRow S R K w what → works what ≡ true → Hand K w (session_call K w) → Hand (ev a what ∷ K) w (session_call (ev a what ∷ K) w)

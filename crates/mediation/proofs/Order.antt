@@ -139,7 +139,7 @@ effect-fixed R own n i h e = use-fixed R IsGrant is_effect (effect-found R) effe
 -- a take comes after a good put
 pub take-after_put : (R : Rules) (own : List What) (t : Result ℕ ℕ) → IsOwn R own → first_some take_in own ≡ Some t → (u : Unit {0}) × (first_some put_in own ≡ Some (Ok u))
 take-after_put R [] t i h = cc
-take-after_put R (a ∷ []) t i h = grind (arith)
+take-after_put R (a ∷ []) t i h = grind arith
 take-after_put R (AddfdTake y ∷ b ∷ own) t i h = let v = deed-is R (b ∷ own) _ i.0 in (v.4.0, v.4.1)
 take-after_put R (AddfdPut q y ∷ b ∷ own) t i h =
     let v = deed-is R (b ∷ own) _ i.0 in
@@ -189,7 +189,7 @@ use-step R own a n u work c ih = let two = used-two R own n work c ih in grind (
 
 pub ordered : (R : Rules) (own : List What) → IsOwn R own → Checked R own
 ordered R [] i = record { most = omega arith; complete = λ n h. cc; opened = λ h. absurd (omega arith); based = λ n h. cc; order = tt }
-ordered R (a ∷ []) i = grind (arith)
+ordered R (a ∷ []) i = grind arith
 ordered R (Check x y ∷ b ∷ own) i =
     let t = deed-is R (b ∷ own) _ i.0 in
     let ih = ordered R (b ∷ own) i.2 in
@@ -235,5 +235,5 @@ ordered R (Act q cap y ∷ b ∷ own) i = let t = deed-is R (b ∷ own) _ i.0 in
 ordered R (Plant x v cap y ∷ b ∷ own) i = let t = deed-is R (b ∷ own) _ i.0 in use-step R (b ∷ own) (Plant x v cap y) t.0 refl t.1 t.3 (ordered R (b ∷ own) i.2)
 ordered R (AddfdPut q y ∷ b ∷ own) i = let t = deed-is R (b ∷ own) _ i.0 in use-step R (b ∷ own) (AddfdPut q y) t.0 refl t.1 t.3 (ordered R (b ∷ own) i.2)
 ordered R (Send x v y ∷ b ∷ own) i = let t = deed-is R (b ∷ own) _ i.0 in use-step R (b ∷ own) (Send x v y) t.0 refl t.1 t.3 (ordered R (b ∷ own) i.2)
-ordered R (Recv (Ok m) ∷ b ∷ own) i = grind (arith)
+ordered R (Recv (Ok m) ∷ b ∷ own) i = grind arith
 ordered R (a ∷ b ∷ own) i = grind (arith, plain, ordered R (b ∷ own) i.2)

@@ -1,11 +1,11 @@
 -- How far a listed call is: not fetched, in hand, or answered.
-use Rattle.mediation.proofs.Common.{◌≡◌, ℕ, ◌<◌, ◌≤◌, Bool, true, false, List, [], ◌∷◌, ◌++◌, length, Option, Some, None, refl, sym, ◌∙◌, arith, if◌then◌else◌, Result, Ok, Err, or_right, eqb-true}
+use Rattle.mediation.proofs.Common.{◌≡◌, ℕ, ◌<◌, ◌≤◌, Bool, true, false, List, [], ◌∷◌, ◌++◌, length, Option, Some, None, refl, sym, ◌∙◌, arith, if◌then◌else◌, Result, Ok, Err, or_right}
 use Rattle.mediation.proofs.Common.{ne_eqb, eq-eqb, is_place, is_task, task_name, listed, fetched, caller, named, answers, settled, settles, waiting, puts_to, installs_for, is_install, queue}
 use Rattle.mediation.proofs.Common.{rest_of, call_of, Rules, System, IsLegal, call_at, install_step, slot_answer, Event, Actor, Task, What, Install, Addfd, oldest-some, name_eq-true, ◌⊎◌, inl, inr}
-use Rattle.mediation.proofs.Common.{◌^◌, ◌&&◌, ◌||◌, ap, ◌==◌, cases_Bool, both_ways, is_worker, fetches, id, is_send, session, any_of, gives_up, first_some, put_in, take_in, session_call}
+use Rattle.mediation.proofs.Common.{◌^◌, ◌&&◌, ◌||◌, ap, ◌==◌, cases_Bool, is_worker, fetches, id, is_send, session, any_of, gives_up, first_some, put_in, take_in, session_call}
 use Rattle.mediation.proofs.Common.{call_after, install_of, installed, request_of, request_after, fetcher, worker_of, AddfdPut, Send, Notif, event_at-older, oldest_unfetched, ev, Recv, not, ℤ}
 use Rattle.mediation.proofs.Common.{holder, ended, name_of, has_send_flag, checks, number_of, Fetch, Let, reads_of, take_step, group, Cause, faulty, denied, passed, done, not_put, not_taken, Back}
-use Rattle.mediation.proofs.Common.{OpenMem, OpenBase, Check, Read, Act, Plant, AddfdTake, LetGo, Skip, event_at-here, and_parts, false_from_ne_true, IsStep, Worker, below_or_last, asked_call, Slot}
+use Rattle.mediation.proofs.Common.{OpenMem, OpenBase, Check, Read, Act, Plant, AddfdTake, LetGo, Skip, event_at-here, false_from_ne_true, IsStep, Worker, below_or_last, asked_call, Slot}
 use Rattle.mediation.proofs.Common.{Number, Full, Over}
 use Rattle.mediation.proofs.Rows.{Row, WorkerRow, row-of}
 use Rattle.mediation.proofs.Tasks.{waits-in, listed-below, calls_are_last, place-is, living-holder}
@@ -366,7 +366,7 @@ module _ (S : System) (R : Rules) (K : List Event) (a : Actor) (w c : ℕ) (lega
       go d.state (rw (d.mine, d.for_call, l) at r.1)
     where
       go : {x : ℕ} → Done K c x → AddfdTake y ≡ take_step (install_of K x) true → ((k : ℕ) × (y ≡ Ok k) × (settled K c ≡ true)) ⊎ ((k : ℕ) × (y ≡ Err k) × ((k == 2) ≡ false) × Clean K c)
-      go x0 q = grind arith
+      go d q = grind arith
 
   -- where an answer is due, the call is clean
   answer-clean : (n : Notif) (b : Back) → AtWork (session K w) n → Cause R (session K w) n b → (p : Option (Result (Unit {0}) ℕ)) (t : Option (Result ℕ ℕ)) → first_some put_in (session K w) ≡ p → first_some take_in (session K w) ≡ t → StageOf K c w p t → Clean K c

@@ -1,7 +1,7 @@
 -- Answers, installations and returns: whose they are, what causes them, and that they arrive.
-use Rattle.mediation.proofs.Common.{◌≡◌, inl, inr, ℕ, ◌<◌, ◌^◌, true, false, ◌&&◌, List, [], ◌∷◌, ◌++◌, length, Option, Some, None, refl, sym, ap, ◌∙◌, subst, arith, Result, Ok, pos, cases_Bool}
+use Rattle.mediation.proofs.Common.{◌≡◌, inl, inr, ℕ, ◌<◌, ◌^◌, true, false, ◌&&◌, List, [], ◌∷◌, length, Option, Some, None, refl, sym, ap, ◌∙◌, subst, arith, Result, Ok, pos, cases_Bool}
 use Rattle.mediation.proofs.Common.{and_parts, or_cases, or_left, or_right, eq-eqb, false_from_ne_true, both_ways, Name, is_task, listed, caller, answers, puts_to, installs_for, is_install, queue}
-use Rattle.mediation.proofs.Common.{rest_of, settled, settles, has_send_flag, call_of, Rules, session, System, IsLegal, reply, call_at, install_of, installed, is_first, fetcher, worker_of, Event}
+use Rattle.mediation.proofs.Common.{settled, settles, has_send_flag, call_of, Rules, session, System, IsLegal, reply, call_at, install_of, installed, is_first, fetcher, worker_of, Event}
 use Rattle.mediation.proofs.Common.{Actor, Task, What, Install, Resume, Send, AddfdPut, Addfd, Back, event_at-here, event_at-older, event_at-below, newest-some, name_eq-true, Bool, ◌||◌, Err, ◌==◌}
 use Rattle.mediation.proofs.Common.{is_worker, named, Answer, Put, IsStep, session_call, InstallsOwn, ResumesOwn, ReturnsInstalled, HasCause, NeverBusy, ErrorsKnown, TakenByItsActor, Each, NamesOwn}
 use Rattle.mediation.proofs.Common.{LostIfGone, Worker, OpenMem, OpenBase, Check, AddfdTake, ◌≤◌, name_eq, fetched, fetches, id, closes, leaves, Arrives, Deliver, cases_order, gave, first_sends}
@@ -11,7 +11,7 @@ use Rattle.mediation.proofs.Rows.{Row, TaskRow, WorkerRow, row-of}
 use Rattle.mediation.proofs.Deeds.{deed-is}
 use Rattle.mediation.proofs.Phases.{AllIn, queue-step, installing, install-first, put-call, call-at-older, call-at-here, call-at-above, hand-fetcher, fetcher-fetched, fetcher-stays, install-same, install-now}
 use Rattle.mediation.proofs.Phases.{install-new, actor-acts, AtCall, acts-own, check-is, send-is, put-is, take-is, open-is, base-is, at-call, refetch}
-use Rattle.mediation.proofs.Order.{is_put, is-own, ordered, used-two}
+use Rattle.mediation.proofs.Order.{is-own, ordered, used-two}
 use Rattle.mediation.proofs.Hands.{named-is, names-own, InSession, hand, hand-notif, in-hand, works, at-work}
 use Rattle.mediation.proofs.Tasks.{listed-below, listed-older, waits-here}
 
@@ -182,7 +182,7 @@ gave-kind S R K e c r m legal room row q ih h =
     number what k = grind arith
 
     settling : (rs : List ℕ) → queue K c ≡ rs → installs_for K e c ≡ true → is_first rs r ≡ true → e.what ≡ Install (Ok m) → settles K e c ≡ true
-    settling x0 z f g w = grind (arith, first-own)
+    settling rs z f g w = grind (arith, first-own)
 
 -- a request that is put now has no install yet
 gave-step : (S : System) (R : Rules) (K : List Event) (e : Event) (c r m : ℕ) → IsLegal S R K → length K < 2 ^ 64 → Row S R K e.who e.what → (call_at K r ≡ Some c → install_of K r ≡ Some (Ok m) → Gave K c m) → call_at (e ∷ K) r ≡ Some c → install_of (e ∷ K) r ≡ Some (Ok m) → Gave (e ∷ K) c m
