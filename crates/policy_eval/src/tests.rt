@@ -2,6 +2,7 @@ use super::*;
 use hist_model::policy::{Calls, Cond, Rule};
 use hist_model::text::Sequence;
 use std::test::Fail;
+use sys_abi::errno::Errno;
 
 /// The text of these bytes.
 fn text(alloc: Global, bytes: &[u8]) -> Result<Text, Fail> {
@@ -77,6 +78,27 @@ fn grants_safe_devices(rt: HostRuntime) -> Result<(), Fail> {
         decide(&policy, &Request::Other { nr: 60 }),
         (16, Verdict::Pass)
     );
+    Ok(())
+}
+
+#[test]
+fn denies_one_device(rt: HostRuntime) -> Result<(), Fail> {
+    let alloc = rt.alloc();
+    let policy = denying_policy(alloc, b"no-mem", (1, 1), Errno::EPERM)?;
+    // 1:1 as a character and as a block device, another mode, another device, another call
+    let cases: [(Option<i32>, u16, u32, usize, Verdict); 5] = [
+        (None, 0o020666, 257, 0, Verdict::Deny(Errno::EPERM)),
+        (None, 0o060666, 257, 0, Verdict::Deny(Errno::EPERM)),
+        (None, 0o010666, 257, 4, Verdict::Pass),
+        (None, 0o020666, 259, 4, Verdict::Pass),
+        (Some(7), 0o020666, 257, 8, Verdict::Pass),
+    ];
+    for (dirfd, mode, dev, place, verdict) in cases {
+        let decided = decide(&policy, &mknod(alloc, dirfd, mode, dev)?);
+        assert_eq!(rt; decided, (place, verdict), "at {mode} {dev}");
+    }
+    assert!(rt; !policy.rules.items().is_empty());
+    assert_eq!(rt; rule_name(&policy, 0), b"no-mem".as_slice());
     Ok(())
 }
 
