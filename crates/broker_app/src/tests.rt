@@ -9,6 +9,9 @@ use std::test::Fail;
 
 const POLICY: &str = "{\"config\":{\"security.syscalls.intercept.mknod\":\"true\"}}";
 
+const DENYING: &str =
+    "{\"rules\":[{\"name\":\"no-mem\",\"call\":\"mknod\",\"when\":{\"dev\":\"1:1\"},\"then\":{\"deny\":\"EPERM\"}}]}";
+
 const SCRIPT: &str =
     "notify mknod\nprog main\npoke 0x10000 \"/null\\0\"\ncall mknod 0x10000 0o020666 259\nend\nschedule\nt 0 2\nw 0 9\nt 0 2\nend\n";
 
@@ -16,8 +19,20 @@ const SCRIPT: &str =
 const REPORT: &str =
     "journal 15\n0 - spawn 0 pid=1 new\n1 t0 poke 65536 2f6e756c6c00\n2 t0 call mknod 65536 8630 259 0 0 0 notify id=1\n3 w0 recv id=1 pid=1\n4 w0 open-mem 1 ok\n5 w0 open-base 1 -100 ok\n6 w0 check 1 ok\n7 w0 read 65536 256 2f6e756c6c\n8 w0 check 1 ok\n9 w0 act mknod \"/null\" chr 1:3 ok\n10 w0 send 1 0 ok\n11 w0 let-go\n12 t0 resume 0\n13 t0 exit\n14 listener close\ncalls 1\n2 t0 pid=1 mknod 0\naudit 1\n3 w0 id=1 mknod rule=lxd.mknod.1:3 verdict=grant answer=0 reply=sent\nsummary events=15 calls=1 notified=1 answered=1 granted=1 denied=0 passed=0 injected=0 faults=0 gone=0 lost=0\n";
 
+/// The report of the same script with device 257 under the policy that denies it, worked out by hand.
+const DENIED: &str =
+    "journal 15\n0 - spawn 0 pid=1 new\n1 t0 poke 65536 2f6e756c6c00\n2 t0 call mknod 65536 8630 257 0 0 0 notify id=1\n3 w0 recv id=1 pid=1\n4 w0 open-mem 1 ok\n5 w0 open-base 1 -100 ok\n6 w0 check 1 ok\n7 w0 read 65536 256 2f6e756c6c\n8 w0 check 1 ok\n9 w0 send 1 EPERM ok\n10 w0 let-go\n11 w0 skip\n12 t0 resume EPERM\n13 t0 exit\n14 listener close\ncalls 1\n2 t0 pid=1 mknod EPERM\naudit 1\n3 w0 id=1 mknod rule=no-mem verdict=deny answer=EPERM reply=sent\nsummary events=15 calls=1 notified=1 answered=1 granted=0 denied=1 passed=0 injected=0 faults=0 gone=0 lost=0\n";
+
+/// The report of the script whose actors take one step each: the worker finds no call. Worked out by hand.
+const ONE_STEP_EACH: &str =
+    "journal 5\n0 - spawn 0 pid=1 new\n1 t0 poke 65536 2f6e756c6c00\n2 w0 skip\n3 t0 call mknod 65536 8630 259 0 0 0 notify id=1\n4 listener close\ncalls 1\n3 t0 pid=1 mknod open\naudit 0\nsummary events=5 calls=1 notified=1 answered=0 granted=0 denied=0 passed=0 injected=0 faults=0 gone=0 lost=0\n";
+
+/// The end of the report of a granted call.
+const GRANTED_END: &str =
+    "events=15 calls=1 notified=1 answered=1 granted=1 denied=0 passed=0 injected=0 faults=0 gone=0 lost=0\n";
+
 /// The size of the sinks, in bytes.
-const ROOM: usize = 4096;
+const ROOM: usize = 8192;
 
 /// Files of these names and bytes, of which the listed calls fail.
 fn files_of(alloc: Global, listed: &[(&str, &str)], failing: &[u64]) -> Result<MemFiles, Fail> {
@@ -31,13 +46,15 @@ fn files_of(alloc: Global, listed: &[(&str, &str)], failing: &[u64]) -> Result<M
     Ok(MemFiles::new(files, failing.to_vec(alloc)?))
 }
 
-/// What a call is to answer: its status with its code, the line on `err`, and what `out` took of the report.
+/// What a call is to answer: its status with its code, the line on `err`, and what `out` took, which is the whole
+/// report or a prefix of it, or ends so.
 #[derive(Clone, Copy)]
 struct Want<'a> {
     status: Status,
     code: u8,
     line: &'a str,
     report: &'a str,
+    whole: bool,
 }
 
 /// A call with these words, where the listed calls of the files and the listed writes to `out` fail.
@@ -58,8 +75,12 @@ fn check<R: Abort>(
     let status = broker(alloc, strings.as_slice(), &mut files, &mut out, &mut err);
     assert_eq!(rt; status, want.status);
     assert_eq!(rt; status.code(), want.code);
-    assert_eq!(rt; out.taken(), want.report.as_bytes());
     assert_eq!(rt; err.taken(), want.line.as_bytes());
+    if want.whole {
+        assert_eq!(rt; out.taken(), want.report.as_bytes());
+    } else {
+        assert!(rt; out.taken().ends_with(want.report.as_bytes()));
+    }
     Ok(())
 }
 
@@ -94,6 +115,7 @@ fn refused(status: Status, code: u8, line: &str) -> Want<'_> {
         code,
         line,
         report: "",
+        whole: true,
     }
 }
 
@@ -143,18 +165,361 @@ fn cut(report: &str) -> Want<'_> {
         code: 6,
         line: "write fault\n",
         report,
+        whole: true,
     }
+}
+
+/// This report, whole.
+fn printed(report: &str) -> Want<'_> {
+    Want {
+        status: Status::Done,
+        code: 0,
+        line: "",
+        report,
+        whole: true,
+    }
+}
+
+/// A report that ends so.
+fn ends(report: &str) -> Want<'_> {
+    Want {
+        status: Status::Done,
+        code: 0,
+        line: "",
+        report,
+        whole: false,
+    }
+}
+
+/// The fields of a script.
+#[derive(Clone, Copy)]
+struct Fields<'a> {
+    path: &'a str,
+    device: &'a str,
+    counts: [&'a str; 3],
+}
+
+/// The fields of the first example.
+const FIRST: Fields<'static> = Fields {
+    path: "/null",
+    device: "259",
+    counts: ["2", "9", "2"],
+};
+
+/// The script with these fields, under this policy.
+fn check_fields<R: Abort>(
+    rt: &R,
+    alloc: Global,
+    policy: &str,
+    fields: Fields<'_>,
+    want: Want<'_>,
+) -> Result<(), Fail> {
+    let Fields {
+        path,
+        device,
+        counts: [before, worker, after],
+    } = fields;
+    let script = format!(in alloc;
+        "notify mknod\nprog main\npoke 0x10000 \"{path}\\0\"\ncall mknod 0x10000 0o020666 {device}\nend\nschedule\nt 0 {before}\nw 0 {worker}\nt 0 {after}\nend\n"
+    )?;
+    check_files(
+        rt,
+        alloc,
+        &[("p", policy), ("s", script.as_str())],
+        &[],
+        want,
+    )
+}
+
+/// The script with device 257 under the policy of a rule that denies `device` with `error`.
+fn check_denying<R: Abort>(
+    rt: &R,
+    alloc: Global,
+    name: &str,
+    device: &str,
+    error: &str,
+    want: Want<'_>,
+) -> Result<(), Fail> {
+    let policy = format!(in alloc;
+        "{{\"rules\":[{{\"name\":\"{name}\",\"call\":\"mknod\",\"when\":{{\"dev\":\"{device}\"}},\"then\":{{\"deny\":\"{error}\"}}}}]}}"
+    )?;
+    check_fields(
+        rt,
+        alloc,
+        policy.as_str(),
+        Fields {
+            device: "257",
+            ..FIRST
+        },
+        want,
+    )
 }
 
 #[test]
 fn prints_the_report(rt: HostRuntime) -> Result<(), Fail> {
-    let want = Want {
-        status: Status::Done,
-        code: 0,
-        line: "",
-        report: REPORT,
+    let alloc = rt.alloc();
+    check_words(&rt, alloc, &["play", "p", "s"], 0, printed(REPORT))?;
+    let denied = Fields {
+        device: "257",
+        ..FIRST
     };
-    check_words(&rt, rt.alloc(), &["play", "p", "s"], 0, want)
+    check_fields(&rt, alloc, DENYING, denied, printed(DENIED))?;
+    let short = Fields {
+        counts: ["1", "1", "1"],
+        ..FIRST
+    };
+    check_fields(&rt, alloc, POLICY, short, printed(ONE_STEP_EACH))
+}
+
+#[test]
+fn plays_what_the_policy_decides(rt: HostRuntime) -> Result<(), Fail> {
+    let alloc = rt.alloc();
+    // each device that LXD's switch grants
+    for (device, rule) in [
+        ("0", "0:0"),
+        ("1281", "5:1"),
+        ("263", "1:7"),
+        ("259", "1:3"),
+        ("264", "1:8"),
+        ("1280", "5:0"),
+        ("265", "1:9"),
+        ("261", "1:5"),
+    ] {
+        let end = format!(in alloc;
+            "audit 1\n3 w0 id=1 mknod rule=lxd.mknod.{rule} verdict=grant answer=0 reply=sent\nsummary {GRANTED_END}"
+        )?;
+        let fields = Fields { device, ..FIRST };
+        check_fields(&rt, alloc, POLICY, fields, ends(end.as_str()))?;
+    }
+    // one beside each, which passes, and the greatest device number and the first past it
+    for device in [
+        "1",
+        "1282",
+        "262",
+        "258",
+        "256",
+        "1536",
+        "266",
+        "260",
+        "4294967295",
+        "4294967296",
+    ] {
+        let fields = Fields { device, ..FIRST };
+        check_fields(&rt, alloc, POLICY, fields, other_script())?;
+    }
+    // the rule that denies 1:1 passes 1:3
+    check_fields(&rt, alloc, DENYING, FIRST, other_script())
+}
+
+#[test]
+fn names_the_rule_and_the_error_of_a_denial(rt: HostRuntime) -> Result<(), Fail> {
+    let alloc = rt.alloc();
+    for error in [
+        "EPERM",
+        "ENOENT",
+        "ESRCH",
+        "EINTR",
+        "E2BIG",
+        "EBADF",
+        "ECHILD",
+        "EAGAIN",
+        "EACCES",
+        "EFAULT",
+        "EBUSY",
+        "EEXIST",
+        "ENODEV",
+        "ENOTDIR",
+        "EINVAL",
+        "EMFILE",
+        "ERANGE",
+        "ENAMETOOLONG",
+        "ENOSYS",
+        "ELOOP",
+        "ENODATA",
+        "EINPROGRESS",
+        "EDQUOT",
+    ] {
+        let end = format!(in alloc;
+            "audit 1\n3 w0 id=1 mknod rule=z.9_:- verdict=deny answer={error} reply=sent\nsummary events=15 calls=1 notified=1 answered=1 granted=0 denied=1 passed=0 injected=0 faults=0 gone=0 lost=0\n"
+        )?;
+        check_denying(&rt, alloc, "z.9_:-", "1:1", error, ends(end.as_str()))?;
+    }
+    for error in ["EWHAT", "eperm", "1", "EPER", "EPERMS", ""] {
+        check_denying(&rt, alloc, "no-mem", "1:1", error, other_policy())?;
+    }
+    for device in [
+        "01:1",
+        "1:01",
+        "1:",
+        ":1",
+        "1",
+        "1:1:1",
+        "4096:1",
+        "1:1048576",
+        "1:-1",
+    ] {
+        check_denying(&rt, alloc, "no-mem", device, "EPERM", other_policy())?;
+    }
+    for name in ["", "lxd.", "lxd.x", "default.mknod", "No", "a b", "a/b"] {
+        check_denying(&rt, alloc, name, "1:1", "EPERM", other_policy())?;
+    }
+    let name = letters(alloc, 64)?;
+    let end = format!(in alloc;
+        "audit 1\n3 w0 id=1 mknod rule={name} verdict=deny answer=EPERM reply=sent\nsummary events=15 calls=1 notified=1 answered=1 granted=0 denied=1 passed=0 injected=0 faults=0 gone=0 lost=0\n"
+    )?;
+    check_denying(
+        &rt,
+        alloc,
+        name.as_str(),
+        "1:1",
+        "EPERM",
+        ends(end.as_str()),
+    )?;
+    let name = letters(alloc, 65)?;
+    check_denying(&rt, alloc, name.as_str(), "1:1", "EPERM", other_policy())?;
+    // the greatest device, which is none that the script makes
+    check_denying(&rt, alloc, "lxd", "4095:1048575", "EPERM", other_script())
+}
+
+#[test]
+fn plays_a_schedule_of_any_counts(rt: HostRuntime) -> Result<(), Fail> {
+    let alloc = rt.alloc();
+    for (counts, end) in [
+        (
+            ["9", "9", "9"],
+            "events=29 calls=1 notified=1 answered=1 granted=1 denied=0 passed=0 injected=0 faults=0 gone=0 lost=0\n",
+        ),
+        (
+            ["99", "99", "99"],
+            "events=299 calls=1 notified=1 answered=1 granted=1 denied=0 passed=0 injected=0 faults=0 gone=0 lost=0\n",
+        ),
+        (
+            ["1", "99", "1"],
+            "events=103 calls=1 notified=1 answered=0 granted=0 denied=0 passed=0 injected=0 faults=0 gone=0 lost=0\n",
+        ),
+        (
+            ["2", "6", "99"],
+            "events=109 calls=1 notified=1 answered=0 granted=1 denied=0 passed=0 injected=0 faults=0 gone=0 lost=0\n",
+        ),
+    ] {
+        check_fields(&rt, alloc, POLICY, Fields { counts, ..FIRST }, ends(end))?;
+    }
+    for counts in [
+        ["0", "9", "2"],
+        ["2", "100", "2"],
+        ["2", "9", "02"],
+        ["2", "9", ""],
+        ["2", "9 1", "2"],
+    ] {
+        let fields = Fields { counts, ..FIRST };
+        check_fields(&rt, alloc, POLICY, fields, other_script())?;
+    }
+    Ok(())
+}
+
+/// So many small letters.
+fn letters(alloc: Global, length: usize) -> Result<String, Fail> {
+    let mut text = String::new(alloc);
+    for _ in 0..length {
+        text.push('z')?;
+    }
+    Ok(text)
+}
+
+#[test]
+fn takes_paths_of_1_to_200_small_letters_and_digits(rt: HostRuntime) -> Result<(), Fail> {
+    let alloc = rt.alloc();
+    for (length, want) in [
+        (0, other_script()),
+        (1, ends(GRANTED_END)),
+        (200, ends(GRANTED_END)),
+        (201, other_script()),
+    ] {
+        let name = letters(alloc, length)?;
+        let path = format!(in alloc; "/{name}")?;
+        let fields = Fields {
+            path: path.as_str(),
+            ..FIRST
+        };
+        check_fields(&rt, alloc, POLICY, fields, want)?;
+    }
+    check_fields(
+        &rt,
+        alloc,
+        POLICY,
+        Fields {
+            path: "/az09",
+            ..FIRST
+        },
+        ends(GRANTED_END),
+    )?;
+    for path in [
+        "null", "/Null", "//", "/a/b", "/a.", "/a b", "/{", "/`", "/:",
+    ] {
+        let fields = Fields { path, ..FIRST };
+        check_fields(&rt, alloc, POLICY, fields, other_script())?;
+    }
+    Ok(())
+}
+
+/// A text whose byte at a place is another one, which no field may have.
+fn spoiled(alloc: Global, text: &str, place: usize) -> Result<String, Fail> {
+    let mut other = String::new(alloc);
+    for (i, c) in text.chars().enumerate() {
+        other.push(if i == place { '#' } else { c })?;
+    }
+    Ok(other)
+}
+
+#[test]
+fn refuses_each_text_one_byte_out_of_form(rt: HostRuntime) -> Result<(), Fail> {
+    let alloc = rt.alloc();
+    for place in 0..POLICY.len() {
+        let policy = spoiled(alloc, POLICY, place)?;
+        check_files(
+            &rt,
+            alloc,
+            &[("p", policy.as_str()), ("s", SCRIPT)],
+            &[],
+            other_policy(),
+        )?;
+    }
+    for place in 0..DENYING.len() {
+        let policy = spoiled(alloc, DENYING, place)?;
+        check_files(
+            &rt,
+            alloc,
+            &[("p", policy.as_str()), ("s", SCRIPT)],
+            &[],
+            other_policy(),
+        )?;
+    }
+    for place in 0..SCRIPT.len() {
+        let script = spoiled(alloc, SCRIPT, place)?;
+        check_files(
+            &rt,
+            alloc,
+            &[("p", POLICY), ("s", script.as_str())],
+            &[],
+            other_script(),
+        )?;
+    }
+    let longer = format!(in alloc; "{SCRIPT}\n")?;
+    check_files(
+        &rt,
+        alloc,
+        &[("p", POLICY), ("s", longer.as_str())],
+        &[],
+        other_script(),
+    )?;
+    let longer = format!(in alloc; "{DENYING}\n")?;
+    check_files(
+        &rt,
+        alloc,
+        &[("p", longer.as_str()), ("s", SCRIPT)],
+        &[],
+        other_policy(),
+    )
 }
 
 #[test]
