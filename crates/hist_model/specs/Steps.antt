@@ -36,12 +36,24 @@ abbrev pub found : Option ℕ → Result (Unit {0}) ℕ
 found None = Err 3
 found (Some t) = Ok tt
 
--- an ended child that is not reaped, and a child that is not reaped
-abbrev pub is_ended_child : List Event → Name → ℕ → Bool
-is_ended_child K n t = has_parent (name_of K t) && (name_eq (parent (name_of K t)) n && (ended K (name_of K t) && not (reaped K (name_of K t))))
+-- the event makes a task
+abbrev pub makes_in : Option Event → Bool
+makes_in (Some e) = makes e.what
+makes_in None = false
 
+-- the name that the event at a place was to give is that of a child of the task, and of one that has ended; neither is reaped
+abbrev pub names_child : List Event → Name → ℕ → Bool
+names_child K n t = has_parent (name_of K t) && (name_eq (parent (name_of K t)) n && not (reaped K (name_of K t)))
+
+abbrev pub names_ended_child : List Event → Name → ℕ → Bool
+names_ended_child K n t = has_parent (name_of K t) && (name_eq (parent (name_of K t)) n && (ended K (name_of K t) && not (reaped K (name_of K t))))
+
+-- a child of the task that is not reaped, and one that has ended too; a spawn that was refused made none
 abbrev pub is_child : List Event → Name → ℕ → Bool
-is_child K n t = has_parent (name_of K t) && (name_eq (parent (name_of K t)) n && not (reaped K (name_of K t)))
+is_child K n t = makes_in (event_at K t) && names_child K n t
+
+abbrev pub is_ended_child : List Event → Name → ℕ → Bool
+is_ended_child K n t = makes_in (event_at K t) && names_ended_child K n t
 
 -- the step of a wait: a child, an error, or none
 abbrev pub wait_step : List Event → Option ℕ → Option ℕ → What
@@ -74,10 +86,6 @@ is_spawn _ = 0
 abbrev pub with_id : Entered → ℕ → Entered
 with_id (Notify old) id = Notify id
 with_id v id = v
-
-abbrev pub makes_in : Option Event → Bool
-makes_in (Some e) = makes e.what
-makes_in None = false
 
 -- the place of the task of this name
 unfoldable pub task_place : List Event → Name → Option ℕ

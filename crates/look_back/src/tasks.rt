@@ -4,7 +4,7 @@ ghost use Rattle.std.specs.Prelude.{◌≡◌, ℕ, Some, None, ◌==◌, ◌+�
 ghost use Rattle.hist_model.specs.Look.{name_eq, is_task, task_name, oldest, event_at};
 ghost use Rattle.hist_model.specs.Tasks.{ends, ended, reaps, was_waited_for, parent, has_parent, reaped, child_of, given, name_of, holds, holder, free_from, last_pid, next_pid, or_number, makes, is_made, alive, handles, mode, sends_signal, is_named, delivers, pending};
 ghost use Rattle.look_back.specs.Outcomes.{waited, reap_step};
-ghost use Rattle.hist_model.specs.Steps.{task_place, pid_at, pid_named, group, opened, is_child, is_ended_child, shares_now, makes_in, place_or, wait_step};
+ghost use Rattle.hist_model.specs.Steps.{task_place, pid_at, pid_named, group, opened, is_child, is_ended_child, names_child, names_ended_child, shares_now, makes_in, place_or, wait_step};
 
 use hist_model::event::{Actor, Delivered, Entered, Event, Mode, SpawnKind, What};
 use sys_abi::errno::Errno;
@@ -500,23 +500,48 @@ pub fn opened(events: &[Event], place: Option<usize>) -> Option<usize>
     }
 }
 
-/// The task at this place is a child of the task of this name, and is not reaped.
-pub fn is_child(events: &[Event], name: &[u32], place: usize) -> bool
-    ensures { result ≡ is_child (reverse events.now) name.now place }
+/// The event at this place made a task.
+#[tactic(auto, using(hist_model::proofs::Scans::event_at_past, crate::proofs::Past::event_at_after))]
+fn makes_at(events: &[Event], place: usize) -> bool
+    ensures { result ≡ makes_in (event_at (reverse events.now) place) }
+{
+    match events.get(place) {
+        Some(event) => makes(&event.what),
+        None => false,
+    }
+}
+
+/// The name that the event at this place was to give is that of a child of the task of this name, which is not reaped.
+fn names_child(events: &[Event], name: &[u32], place: usize) -> bool
+    ensures { result ≡ names_child (reverse events.now) name.now place }
 {
     let child = name_at(events, place);
     has_parent(child) && same_name(parent(child), name) && !reaped(events, child)
 }
 
-/// The task at this place is an ended child of the task of this name, and is not reaped.
-pub fn is_ended_child(events: &[Event], name: &[u32], place: usize) -> bool
-    ensures { result ≡ is_ended_child (reverse events.now) name.now place }
+/// The same of a child that has ended.
+fn names_ended_child(events: &[Event], name: &[u32], place: usize) -> bool
+    ensures { result ≡ names_ended_child (reverse events.now) name.now place }
 {
     let child = name_at(events, place);
     has_parent(child)
         && same_name(parent(child), name)
         && ended(events, child)
         && !reaped(events, child)
+}
+
+/// The task at this place is a child of the task of this name, and is not reaped. A spawn that was refused made none.
+pub fn is_child(events: &[Event], name: &[u32], place: usize) -> bool
+    ensures { result ≡ is_child (reverse events.now) name.now place }
+{
+    makes_at(events, place) && names_child(events, name, place)
+}
+
+/// The task at this place is an ended child of the task of this name, and is not reaped.
+pub fn is_ended_child(events: &[Event], name: &[u32], place: usize) -> bool
+    ensures { result ≡ is_ended_child (reverse events.now) name.now place }
+{
+    makes_at(events, place) && names_ended_child(events, name, place)
 }
 
 /// The place of the oldest child of the task of this name that is not reaped.

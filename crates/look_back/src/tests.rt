@@ -380,6 +380,20 @@ fn a_child_is_reaped_and_its_number_is_free(rt: HostRuntime) -> Result<(), Fail>
 }
 
 #[test]
+fn a_refused_spawn_makes_no_child(rt: HostRuntime) -> Result<(), Fail> {
+    let alloc = rt.alloc();
+    let mut events = Vec::new(alloc);
+    events.push(start(alloc)?)?;
+    let refused = What::Spawn {
+        child: name(alloc, &[0, 1])?,
+        answer: Err(Errno::EAGAIN),
+    };
+    events.push(by_task(alloc, &[0], refused)?)?;
+    assert_eq!(rt; tasks::waited(&events, &[0]), Some(Err(Errno::ECHILD)));
+    Ok(())
+}
+
+#[test]
 fn tasks_have_places_numbers_and_groups(rt: HostRuntime) -> Result<(), Fail> {
     let events = killed(rt.alloc())?;
     let own: &[u32] = &[0];

@@ -7,7 +7,7 @@ use Rattle.std.proofs.lemmas.List.{get_or_read, get_or_default}
 use Rattle.slab.specs.Slab.{get}
 use Rattle.hist_model.specs.Look.{Name, name_eq, is_task, oldest, event_at}
 use Rattle.hist_model.specs.Tasks.{ended, was_waited_for, reaped, ends, reaps, name_of, parent, has_parent, is_some_of, makes, is_made, child_of, delivers, handles, sends_signal}
-use Rattle.hist_model.specs.Steps.{is_child, is_ended_child, makes_in, wait_step}
+use Rattle.hist_model.specs.Steps.{is_child, is_ended_child, names_child, names_ended_child, makes_in, wait_step}
 use Rattle.hist_model.specs.declared.event.Event.{Event}
 use Rattle.hist_model.specs.declared.event.What.{What}
 use Rattle.hist_model.specs.declared.event.What.TheVariants.{Reap, Skip}
@@ -21,7 +21,7 @@ use Rattle.task_table.specs.declared.table.Task.{Task}
 use Rattle.task_table.specs.declared.table.TaskTable.{TaskTable}
 use Rattle.task_table.specs.Index.{under, by_key, by_key_and_ordinal, IsStart, IsKeyAt, KeysRise, IsRemoved}
 use Rattle.task_table.specs.Table.{Mirrors, entry_of, waiting_key, held_key, reached, has_ended, IsRef, IsEndedAt, IsIndexed, IsForgotten, SameCounts}
-use Rattle.task_table.specs.Stands.{StandsFor, IsTask, IsAlive, made_child, made_ended_child}
+use Rattle.task_table.specs.Stands.{StandsFor, IsTask, IsAlive}
 use Rattle.task_table.proofs.Mirrors.{mirrors-remove, entry-task, entry-from}
 use Rattle.task_table.proofs.Found.{reached-some, reached-from}
 use Rattle.task_table.proofs.Kept.{task-left, names-apart, none-both}
@@ -78,9 +78,9 @@ module _ (base pidmax : ℕ) (K : List Event) (T : TaskTable) (t : TaskRef) (P :
       made-at = made-is K P (place-makes K t.ordinal P a)
 
   -- each has a slot
-  child-row : (u : ℕ) → made_child K (name_of K P) u ≡ true → (s : ℕ) × (r : Task) × (get T.tasks s ≡ Some r) × (r.parent ≡ Some t.ordinal) × (place_of K r.ordinal ≡ Some u)
+  child-row : (u : ℕ) → is_child K (name_of K P) u ≡ true → (s : ℕ) × (r : Task) × (get T.tasks s ≡ Some r) × (r.parent ≡ Some t.ordinal) × (place_of K r.ordinal ≡ Some u)
   child-row u h =
-      let b = and_parts (makes_in (event_at K u)) (is_child K (name_of K P) u) h in
+      let b = and_parts (makes_in (event_at K u)) (names_child K (name_of K P) u) h in
       let c = and_parts (has_parent (name_of K u)) (name_eq (parent (name_of K u)) (name_of K P) && not (reaped K (name_of K u))) b.1 in
       let d = and_parts (name_eq (parent (name_of K u)) (name_of K P)) (not (reaped K (name_of K u))) c.1 in
       let o = make-place K u b.0 in
@@ -105,26 +105,26 @@ module _ (base pidmax : ℕ) (K : List Event) (T : TaskTable) (t : TaskRef) (P :
       is-so (Some q) h = ap Some (eqb-true q t.ordinal h)
 
   -- and each task with this parent is one
-  row-child : (s : ℕ) (r : Task) → (g : get T.tasks s ≡ Some r) → r.parent ≡ Some t.ordinal → made_child K (name_of K P) (S.tasks s r g).place ≡ true
+  row-child : (s : ℕ) (r : Task) → (g : get T.tasks s ≡ Some r) → r.parent ≡ Some t.ordinal → is_child K (name_of K P) (S.tasks s r g).place ≡ true
   row-child s r g h =
       let i = S.tasks s r g in
       let m = name_of K i.place in
       let w = told K m t.ordinal P r.parent a i.parent_is (rw h (eq-eqb t.ordinal t.ordinal refl)) in
-      and_from (makes_in (event_at K i.place)) (is_child K (name_of K P) i.place) (place-makes K r.ordinal i.place i.at)
+      and_from (makes_in (event_at K i.place)) (names_child K (name_of K P) i.place) (place-makes K r.ordinal i.place i.at)
       (and_from (has_parent m) (name_eq (parent m) (name_of K P) && not (reaped K m)) w.0
       (and_from (name_eq (parent m) (name_of K P)) (not (reaped K m)) (ap (λ v. name_eq v (name_of K P)) w.1 ∙ name_eq-refl (name_of K P)) (ap not i.unreaped)))
 
-  row-ended-child : (s : ℕ) (r : Task) → (g : get T.tasks s ≡ Some r) → r.parent ≡ Some t.ordinal → r.ended ≡ true → made_ended_child K (name_of K P) (S.tasks s r g).place ≡ true
+  row-ended-child : (s : ℕ) (r : Task) → (g : get T.tasks s ≡ Some r) → r.parent ≡ Some t.ordinal → r.ended ≡ true → is_ended_child K (name_of K P) (S.tasks s r g).place ≡ true
   row-ended-child s r g h d =
       let i = S.tasks s r g in
       let m = name_of K i.place in
       let w = told K m t.ordinal P r.parent a i.parent_is (rw h (eq-eqb t.ordinal t.ordinal refl)) in
-      and_from (makes_in (event_at K i.place)) (is_ended_child K (name_of K P) i.place) (place-makes K r.ordinal i.place i.at)
+      and_from (makes_in (event_at K i.place)) (names_ended_child K (name_of K P) i.place) (place-makes K r.ordinal i.place i.at)
       (and_from (has_parent m) (name_eq (parent m) (name_of K P) && (ended K m && not (reaped K m))) w.0
       (and_from (name_eq (parent m) (name_of K P)) (ended K m && not (reaped K m)) (ap (λ v. name_eq v (name_of K P)) w.1 ∙ name_eq-refl (name_of K P))
       (and_from (ended K m) (not (reaped K m)) (sym i.ended_is ∙ d) (ap not i.unreaped))))
 
-  ended-child : (u : ℕ) → made_ended_child K (name_of K P) u ≡ true → (made_child K (name_of K P) u ≡ true) × (ended K (name_of K u) ≡ true)
+  ended-child : (u : ℕ) → is_ended_child K (name_of K P) u ≡ true → (is_child K (name_of K P) u ≡ true) × (ended K (name_of K u) ≡ true)
   ended-child u h = parts (makes_in (event_at K u)) (has_parent (name_of K u)) (name_eq (parent (name_of K u)) (name_of K P)) (ended K (name_of K u)) (not (reaped K (name_of K u))) h
     where
       parts : (m p n d r : Bool) → (m && (p && (n && (d && r)))) ≡ true → ((m && (p && (n && r))) ≡ true) × (d ≡ true)
@@ -142,29 +142,29 @@ module _ (base pidmax : ℕ) (K : List Event) (T : TaskTable) (t : TaskRef) (P :
       (c.0, (c.1, λ x. (ap (λ (y : Entry). y.key) (is x), ap (λ (y : Entry). has_ended (reached T.tasks y.task)) (is x) ∙ (ap has_ended (reached-from (get T.tasks s) r.ordinal r g refl) ∙ d))), λ x. ap (λ (y : Entry). y.task.ordinal) (is x))
 
   -- no entry, no child
-  pub none-child : ((e : Entry) → Contains T.children.items e → e.key ≡ t.ordinal → ⊥) → oldest (made_child K (name_of K P)) (length K) ≡ None
-  none-child n = go (oldest (made_child K (name_of K P)) (length K)) refl
+  pub none-child : ((e : Entry) → Contains T.children.items e → e.key ≡ t.ordinal → ⊥) → oldest (is_child K (name_of K P)) (length K) ≡ None
+  none-child n = go (oldest (is_child K (name_of K P)) (length K)) refl
     where
-      go : (o : Option ℕ) → oldest (made_child K (name_of K P)) (length K) ≡ o → oldest (made_child K (name_of K P)) (length K) ≡ None
+      go : (o : Option ℕ) → oldest (is_child K (name_of K P)) (length K) ≡ o → oldest (is_child K (name_of K P)) (length K) ≡ None
       go None q = q
       go (Some u) q =
-          let x = child-row u (oldest-some (made_child K (name_of K P)) (length K) u q).0 in
+          let x = child-row u (oldest-some (is_child K (name_of K P)) (length K) u q).0 in
           absurd (n (under t.ordinal (record { slot = x.0; ordinal = x.1.ordinal })) (entry-at x.0 x.1 x.2 x.3) refl)
 
   -- an entry, a child
-  pub some-child : (c : TaskRef) → Contains T.children.items (under t.ordinal c) → (u : ℕ) × (oldest (made_child K (name_of K P)) (length K) ≡ Some u)
+  pub some-child : (c : TaskRef) → Contains T.children.items (under t.ordinal c) → (u : ℕ) × (oldest (is_child K (name_of K P)) (length K) ≡ Some u)
   some-child c m =
       let x = entry-task waiting_key c.slot (get T.tasks c.slot) (under t.ordinal c) (S.children.listed (under t.ordinal c) m) in
       let i = S.tasks c.slot x.0 x.1 in
-      oldest-found (made_child K (name_of K P)) (length K) i.place (place-below K x.0.ordinal i.place i.at).1 (row-child c.slot x.0 x.1 x.2)
+      oldest-found (is_child K (name_of K P)) (length K) i.place (place-below K x.0.ordinal i.place i.at).1 (row-child c.slot x.0 x.1 x.2)
 
-  pub none-ended : ((j : ℕ) → IsEndedAt T t.ordinal j → ⊥) → oldest (made_ended_child K (name_of K P)) (length K) ≡ None
-  none-ended n = go (oldest (made_ended_child K (name_of K P)) (length K)) refl
+  pub none-ended : ((j : ℕ) → IsEndedAt T t.ordinal j → ⊥) → oldest (is_ended_child K (name_of K P)) (length K) ≡ None
+  none-ended n = go (oldest (is_ended_child K (name_of K P)) (length K)) refl
     where
-      go : (o : Option ℕ) → oldest (made_ended_child K (name_of K P)) (length K) ≡ o → oldest (made_ended_child K (name_of K P)) (length K) ≡ None
+      go : (o : Option ℕ) → oldest (is_ended_child K (name_of K P)) (length K) ≡ o → oldest (is_ended_child K (name_of K P)) (length K) ≡ None
       go None q = q
       go (Some u) q =
-          let b = ended-child u (oldest-some (made_ended_child K (name_of K P)) (length K) u q).0 in
+          let b = ended-child u (oldest-some (is_ended_child K (name_of K P)) (length K) u q).0 in
           let x = child-row u b.0 in
           let i = S.tasks x.0 x.1 x.2 in
           let z : Some i.place ≡ Some u = sym i.at ∙ x.4 in
@@ -174,20 +174,20 @@ module _ (base pidmax : ℕ) (K : List Event) (T : TaskTable) (t : TaskRef) (P :
 
   -- the first entry of an ended child is of the oldest one
   pub first-ended : (i : ℕ) (c : TaskRef) → IsEndedAt T t.ordinal i → ((j : ℕ) → j < i → IsEndedAt T t.ordinal j → ⊥) → get_or T.children.items i (under t.ordinal c) ≡ under t.ordinal c
-      → oldest (made_ended_child K (name_of K P)) (length K) ≡ place_of K c.ordinal
+      → oldest (is_ended_child K (name_of K P)) (length K) ≡ place_of K c.ordinal
   first-ended i c e n q =
       let m : Contains T.children.items (under t.ordinal c) = (i, e.0, q) in
       let x = entry-task waiting_key c.slot (get T.tasks c.slot) (under t.ordinal c) (S.children.listed (under t.ordinal c) m) in
       let j = S.tasks c.slot x.0 x.1 in
       let d : x.0.ended ≡ true = ap has_ended (sym (reached-from (get T.tasks c.slot) c.ordinal x.0 x.1 x.4)) ∙ (ap (λ (y : Entry). has_ended (reached T.tasks y.task)) (sym q) ∙ (e.1 (under t.ordinal c)).1) in
       let k = row-ended-child c.slot x.0 x.1 x.2 d in
-      go (oldest (made_ended_child K (name_of K P)) (length K)) refl x.0 x.4 j k
+      go (oldest (is_ended_child K (name_of K P)) (length K)) refl x.0 x.4 j k
     where
-      go : (o : Option ℕ) → oldest (made_ended_child K (name_of K P)) (length K) ≡ o → (r : Task) → r.ordinal ≡ c.ordinal → (j : IsTask K r) → made_ended_child K (name_of K P) j.place ≡ true
-          → oldest (made_ended_child K (name_of K P)) (length K) ≡ place_of K c.ordinal
-      go None f r o j k = absurd (both_ways (made_ended_child K (name_of K P) j.place) (oldest-none (made_ended_child K (name_of K P)) (length K) j.place f (place-below K r.ordinal j.place j.at).1) k)
+      go : (o : Option ℕ) → oldest (is_ended_child K (name_of K P)) (length K) ≡ o → (r : Task) → r.ordinal ≡ c.ordinal → (j : IsTask K r) → is_ended_child K (name_of K P) j.place ≡ true
+          → oldest (is_ended_child K (name_of K P)) (length K) ≡ place_of K c.ordinal
+      go None f r o j k = absurd (both_ways (is_ended_child K (name_of K P) j.place) (oldest-none (is_ended_child K (name_of K P)) (length K) j.place f (place-below K r.ordinal j.place j.at).1) k)
       go (Some u) f r o j k =
-          let b = ended-child u (oldest-some (made_ended_child K (name_of K P)) (length K) u f).0 in
+          let b = ended-child u (oldest-some (is_ended_child K (name_of K P)) (length K) u f).0 in
           let x = child-row u b.0 in
           let y = S.tasks x.0 x.1 x.2 in
           let z : Some y.place ≡ Some u = sym y.at ∙ x.4 in
@@ -198,7 +198,7 @@ module _ (base pidmax : ℕ) (K : List Event) (T : TaskTable) (t : TaskRef) (P :
             | inl l ↦ f ∙ (sym x.4 ∙ ap (place_of K) (l ∙ o))
             | inr l ↦ elim l [
               | inl l ↦ absurd (n v.0 (earlier v.0 x.1.ordinal v.1 v.2 (omega (arith, o, l))) v.1)
-              | inr l ↦ absurd (oldest-least (made_ended_child K (name_of K P)) (length K) u j.place f k (place-order K r.ordinal x.1.ordinal j.place u j.at x.4 l))
+              | inr l ↦ absurd (oldest-least (is_ended_child K (name_of K P)) (length K) u j.place f k (place-order K r.ordinal x.1.ordinal j.place u j.at x.4 l))
             ]
           ]
         where
@@ -230,16 +230,16 @@ alive-place base pidmax K T t S i a =
 
 -- the step of a wait, by the name of the task that waits
 abbrev waits : List Event → Name → What
-waits K n = wait_step K (oldest (made_child K n) (length K)) (oldest (made_ended_child K n) (length K))
+waits K n = wait_step K (oldest (is_child K n) (length K)) (oldest (is_ended_child K n) (length K))
 
 pub wait-none : (base pidmax : ℕ) (K : List Event) (T : TaskTable) (t : TaskRef) → StandsFor base pidmax K T → IsRef T t → IsAlive K t → ((e : Entry) → Contains T.children.items e → e.key ≡ t.ordinal → ⊥)
-    → Reap (Err 10) ≡ wait_step K (oldest (made_child K (task_name_of K t.ordinal)) (length K)) (oldest (made_ended_child K (task_name_of K t.ordinal)) (length K))
+    → Reap (Err 10) ≡ wait_step K (oldest (is_child K (task_name_of K t.ordinal)) (length K)) (oldest (is_ended_child K (task_name_of K t.ordinal)) (length K))
 wait-none base pidmax K T t S i a n =
     let p = alive-place base pidmax K T t S i a in
     subst (λ x. Reap (Err 10) ≡ waits K x) (sym p.2) (let q = none-child base pidmax K T t p.0 S p.1 p.3 n in rw q)
 
 pub wait-later : (base pidmax : ℕ) (K : List Event) (T : TaskTable) (t c : TaskRef) → StandsFor base pidmax K T → IsRef T t → IsAlive K t → Contains T.children.items (under t.ordinal c) → ((j : ℕ) → IsEndedAt T t.ordinal j → ⊥)
-    → Skip ≡ wait_step K (oldest (made_child K (task_name_of K t.ordinal)) (length K)) (oldest (made_ended_child K (task_name_of K t.ordinal)) (length K))
+    → Skip ≡ wait_step K (oldest (is_child K (task_name_of K t.ordinal)) (length K)) (oldest (is_ended_child K (task_name_of K t.ordinal)) (length K))
 wait-later base pidmax K T t c S i a m n =
     let p = alive-place base pidmax K T t S i a in
     subst (λ x. Skip ≡ waits K x) (sym p.2) (let q = some-child base pidmax K T t p.0 S p.1 p.3 c m in let r = none-ended base pidmax K T t p.0 S p.1 p.3 n in rw (q.1, r))
@@ -260,7 +260,7 @@ ended-row T q i x e h =
     (a.0, b.0, b.1, a.2)
 
 pub wait-found : (base pidmax : ℕ) (K : List Event) (T : TaskTable) (t : TaskRef) (j : ℕ) (x : Entry) → StandsFor base pidmax K T → IsRef T t → IsAlive K t → IsEndedAt T t.ordinal j → ((k : ℕ) → k < j → IsEndedAt T t.ordinal k → ⊥) → x ≡ get_or T.children.items j x
-    → Reap (Ok (task_name_of K x.task.ordinal)) ≡ wait_step K (oldest (made_child K (task_name_of K t.ordinal)) (length K)) (oldest (made_ended_child K (task_name_of K t.ordinal)) (length K))
+    → Reap (Ok (task_name_of K x.task.ordinal)) ≡ wait_step K (oldest (is_child K (task_name_of K t.ordinal)) (length K)) (oldest (is_ended_child K (task_name_of K t.ordinal)) (length K))
 wait-found base pidmax K T t j x S i a e n h =
     let p = alive-place base pidmax K T t S i a in
     let c = x.task in

@@ -4,7 +4,7 @@ use Rattle.slab.specs.Slab.{get}
 use Rattle.hist_model.specs.Look.{Name}
 use Rattle.hist_model.specs.Tasks.{ended, was_waited_for, reaped, is_made, parent, has_parent, name_of, pid_of, pending, mode, last_pid}
 use Rattle.hist_model.specs.Laws.{PidsDiffer}
-use Rattle.hist_model.specs.Steps.{makes_in, is_child, is_ended_child}
+use Rattle.hist_model.specs.Steps.{makes_in}
 use Rattle.hist_model.specs.Look.{event_at}
 use Rattle.hist_model.specs.declared.event.Event.{Event}
 use Rattle.hist_model.specs.declared.event.Actor.TheVariants.{Task}
@@ -109,13 +109,6 @@ exits _ = false
 -- the step delivers this signal, in a listed call or elsewhere
 abbrev pub IsDelivery : What → ℕ → Mode → Type 0
 IsDelivery w s m = (w ≡ Deliver s (effect_in_call s m)) ⊎ (w ≡ Deliver s (effect_outside s m))
-
--- a child that was made and isn't reaped, and one that has ended too
-abbrev pub made_child : List Event → Name → ℕ → Bool
-made_child K n t = makes_in (event_at K t) && is_child K n t
-
-abbrev pub made_ended_child : List Event → Name → ℕ → Bool
-made_ended_child K n t = makes_in (event_at K t) && is_ended_child K n t
 
 -- the step of a wait that answers this
 abbrev pub reap_step : List Event → Result (Option TaskRef) NoChild → What

@@ -5,14 +5,14 @@ ghost use Rattle.hist_model.specs.declared.event.Event.{Event};
 ghost use Rattle.slab.specs.Slab.{get};
 ghost use Rattle.hist_model.specs.declared.event.What.TheVariants.{Signal, Handler, Reap};
 ghost use Rattle.hist_model.specs.Look.{oldest};
-ghost use Rattle.hist_model.specs.Steps.{wait_step};
+ghost use Rattle.hist_model.specs.Steps.{is_child, is_ended_child, wait_step};
 ghost use Rattle.hist_model.specs.Tasks.{alive, holder, next_pid};
 ghost use Rattle.hist_model.specs.Signals.{held as held_back, next_signal, is_default};
 ghost use Rattle.history_frames.specs.Ordinals.{tasks_made, place_of, task_name_of};
 ghost use Rattle.task_table.specs.Index.{by_key, IsOrdered, KeysRise, first_free, has_key};
 ghost use Rattle.task_table.specs.Table.{was_refused, lacked_memory, reached, inherited, HasRoom, IsAdded, SameTasks, IsRef, IsParentRef, IsPut, IsForgotten, IsLeft, IsIndexed, IsOrphaned, IsEnded, IsEndedAt, has_ended};
 ghost use Rattle.task_table.specs.Sets.{next_of, may_come, with_mode};
-ghost use Rattle.task_table.specs.Stands.{StandsFor, IsSpawn, IsStepOf, IsAlive, IsDelivery, exits, place_found, made_child, made_ended_child, reap_step};
+ghost use Rattle.task_table.specs.Stands.{StandsFor, IsSpawn, IsStepOf, IsAlive, IsDelivery, exits, place_found, reap_step};
 
 use crate::index::{self, Entry};
 use crate::reference::TaskRef;
@@ -328,7 +328,7 @@ impl TaskTable {
     /// Reaps the ended child of a task, which is alive, that was made first, and gives it. None where it has children and
     /// none has ended.
     pub fn reap(&mut self, t: TaskRef) -> Result<Option<TaskRef>, NoChild>
-        ensures found { (base pidmax : ℕ) (K : List Event) → StandsFor base pidmax K self.old → IsRef self.old t → IsAlive K t → reap_step K result ≡ wait_step K (oldest (made_child K (task_name_of K t.ordinal)) (length K)) (oldest (made_ended_child K (task_name_of K t.ordinal)) (length K)) }
+        ensures found { (base pidmax : ℕ) (K : List Event) → StandsFor base pidmax K self.old → IsRef self.old t → IsAlive K t → reap_step K result ≡ wait_step K (oldest (is_child K (task_name_of K t.ordinal)) (length K)) (oldest (is_ended_child K (task_name_of K t.ordinal)) (length K)) }
         ensures step { (c : TaskRef) → result ≡ Ok (Some c) → (base pidmax : ℕ) (K : List Event) (e : Event) → StandsFor base pidmax K self.old → IsRef self.old t → IsAlive K t → e.what ≡ Reap (Ok (task_name_of K c.ordinal)) → StandsFor base pidmax (e ∷ K) self.new }
         ensures task { (c : TaskRef) → result ≡ Ok (Some c) → (base pidmax : ℕ) (K : List Event) → StandsFor base pidmax K self.old → IsRef self.new c }
         ensures refs { (base pidmax : ℕ) (K : List Event) → StandsFor base pidmax K self.old → (u : TaskRef) → IsRef self.old u → IsRef self.new u }
