@@ -34,14 +34,19 @@ const GRANTED_END: &str =
 /// The size of the sinks, in bytes.
 const ROOM: usize = 8192;
 
+/// A file of this name with these bytes.
+fn file(alloc: Global, name: &str, bytes: &str) -> Result<(String, Vec<u8>), Fail> {
+    Ok((
+        String::from_str(alloc, name)?,
+        bytes.as_bytes().to_vec(alloc)?,
+    ))
+}
+
 /// Files of these names and bytes, of which the listed calls fail.
 fn files_of(alloc: Global, listed: &[(&str, &str)], failing: &[u64]) -> Result<MemFiles, Fail> {
     let mut files = Vec::new(alloc);
     for (name, bytes) in listed {
-        files.push((
-            String::from_str(alloc, *name)?,
-            bytes.as_bytes().to_vec(alloc)?,
-        ))?;
+        files.push(file(alloc, *name, *bytes)?)?;
     }
     Ok(MemFiles::new(files, failing.to_vec(alloc)?))
 }
@@ -222,13 +227,11 @@ fn check_fields<R: Abort>(
     let script = format!(in alloc;
         "notify mknod\nprog main\npoke 0x10000 \"{path}\\0\"\ncall mknod 0x10000 0o020666 {device}\nend\nschedule\nt 0 {before}\nw 0 {worker}\nt 0 {after}\nend\n"
     )?;
-    check_files(
-        rt,
-        alloc,
-        &[("p", policy), ("s", script.as_str())],
-        &[],
-        want,
-    )
+    let mut files = Vec::new(alloc);
+    files.push(file(alloc, "p", policy)?)?;
+    files.push(file(alloc, "s", script.as_str())?)?;
+    let files = MemFiles::new(files, Vec::new(alloc));
+    check(rt, alloc, &["play", "p", "s"], files, 0, want)
 }
 
 /// The script with device 257 under the policy of a rule that denies `device` with `error`.
