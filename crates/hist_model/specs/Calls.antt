@@ -5,6 +5,8 @@ use Rattle.hist_model.specs.declared.event.Event.{Event}
 use Rattle.hist_model.specs.declared.event.What.{What}
 use Rattle.hist_model.specs.declared.event.What.TheVariants.{Enter, Deliver, Resume, Recv, Send, Close, AddfdPut, Install}
 use Rattle.hist_model.specs.declared.event.Entered.TheVariants.{Notify}
+use Rattle.hist_model.specs.declared.notification.State.{State}
+use Rattle.hist_model.specs.declared.notification.State.TheVariants.{Unfetched, Fetched, Answered}
 use Rattle.sys_abi.specs.declared.wire.Addfd.{Addfd}
 
 -- the step enters a call that is listed, and its id
@@ -137,6 +139,15 @@ answered K c = settled K c || some_sends K (queue K c)
 
 abbrev pub waiting : List Event → ℕ → Bool
 waiting K c = listed K c && (fetched K c && not (answered K c))
+
+-- how far a listed call has come
+abbrev pub state : List Event → ℕ → State
+state K c = if not (fetched K c) then Unfetched else (if answered K c then Answered else Fetched)
+
+-- the same of the call at a place, where there is one
+abbrev pub state_at : List Event → Option ℕ → Option State
+state_at K (Some c) = Some (state K c)
+state_at K None = None
 
 -- the number of calls, and of receives
 unfoldable pub calls : List Event → ℕ

@@ -14,6 +14,7 @@ pub mod copy;
 pub mod event;
 pub mod filter;
 pub mod history;
+pub mod notification;
 pub mod policy;
 pub mod report;
 pub mod request;

@@ -8,9 +8,12 @@ use sys_abi::calls;
 use sys_abi::errno::Errno;
 use sys_abi::memory::NoMemory;
 
-/// The n-th task made, counted from 0.
+/// A task, as a table of tasks names it: by its slot, and by its ordinal, which is the number of tasks that were made before
+/// it and is no other task's. A slot is used again once its task is reaped, so a reference reaches a task only where the
+/// ordinals are the same, and that of a reaped task reaches nothing.
 #[derive(Clone, Copy, PartialEq, Eq, Debug)]
 pub struct TaskRef {
+    pub slot: usize,
     pub ordinal: u32,
 }
 

@@ -3,7 +3,7 @@ use Rattle.std.proofs.Common.{◌≡◌, ◌≢◌, ◌⊎◌, inl, inr, ℕ, Bo
 use Rattle.std.proofs.lemmas.Bool.{cases_Bool, cases_eq, eqb-true, eq-eqb, false_from_ne_true}
 use Rattle.slab.specs.Slab.{Slab, get, Updates}
 use Rattle.hist_model.specs.Tasks.{is_some_of}
-use Rattle.task_table.specs.declared.reference.TaskRef.{TaskRef}
+use Rattle.hist_model.specs.declared.request.TaskRef.{TaskRef}
 use Rattle.task_table.specs.declared.index.Entry.{Entry}
 use Rattle.task_table.specs.declared.table.Task.{Task}
 use Rattle.task_table.specs.declared.table.TaskTable.{TaskTable}

@@ -17,7 +17,7 @@ use Rattle.hist_model.proofs.Look.{name_eq-refl}
 use Rattle.history_frames.specs.Ordinals.{place_of}
 use Rattle.history_frames.proofs.Ordinals.{place-makes, place-one}
 use Rattle.history_frames.proofs.Held.{ended-same, ended-more, waited-same}
-use Rattle.task_table.specs.declared.reference.TaskRef.{TaskRef}
+use Rattle.hist_model.specs.declared.request.TaskRef.{TaskRef}
 use Rattle.task_table.specs.declared.table.Task.{Task}
 use Rattle.task_table.specs.declared.table.TaskTable.{TaskTable}
 use Rattle.task_table.specs.Sets.{pending_of, modes_of, with_signal}

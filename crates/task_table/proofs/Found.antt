@@ -10,7 +10,7 @@ use Rattle.hist_model.specs.declared.event.Event.{Event}
 use Rattle.history_frames.specs.Ordinals.{place_of, task_name_of, name_at}
 use Rattle.history_frames.proofs.Ordinals.{place-below, place-makes, make-place, made-place}
 use Rattle.history_frames.proofs.Held.{holder-is, holder-none, holder-holds, holds-makes, made-is}
-use Rattle.task_table.specs.declared.reference.TaskRef.{TaskRef}
+use Rattle.hist_model.specs.declared.request.TaskRef.{TaskRef}
 use Rattle.task_table.specs.declared.index.Entry.{Entry}
 use Rattle.task_table.specs.declared.table.Task.{Task}
 use Rattle.task_table.specs.declared.table.TaskTable.{TaskTable}

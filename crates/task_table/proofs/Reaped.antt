@@ -15,7 +15,7 @@ use Rattle.hist_model.proofs.Look.{name_eq-true, name_eq-refl, oldest-some, olde
 use Rattle.history_frames.specs.Ordinals.{place_of, task_name_of, name_at}
 use Rattle.history_frames.proofs.Ordinals.{place-makes, place-below, place-order, make-place, made-place}
 use Rattle.history_frames.proofs.Held.{made-is, oldest-least}
-use Rattle.task_table.specs.declared.reference.TaskRef.{TaskRef}
+use Rattle.hist_model.specs.declared.request.TaskRef.{TaskRef}
 use Rattle.task_table.specs.declared.index.Entry.{Entry}
 use Rattle.task_table.specs.declared.table.Task.{Task}
 use Rattle.task_table.specs.declared.table.TaskTable.{TaskTable}

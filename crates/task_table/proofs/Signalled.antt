@@ -16,7 +16,7 @@ use Rattle.hist_model.specs.declared.event.Mode.TheVariants.{Default, Restart, P
 use Rattle.hist_model.proofs.Look.{name_eq-true, name_eq-refl}
 use Rattle.history_frames.specs.Ordinals.{place_of, task_name_of, name_at}
 use Rattle.history_frames.proofs.Held.{ended-same, waited-same, reaped-same}
-use Rattle.task_table.specs.declared.reference.TaskRef.{TaskRef}
+use Rattle.hist_model.specs.declared.request.TaskRef.{TaskRef}
 use Rattle.task_table.specs.declared.table.Task.{Task}
 use Rattle.task_table.specs.declared.table.TaskTable.{TaskTable}
 use Rattle.task_table.specs.declared.signals.BySignal.{BySignal}

@@ -14,7 +14,7 @@ use Rattle.hist_model.proofs.Look.{event_at-here, name_eq-refl}
 use Rattle.history_frames.specs.Ordinals.{place_of}
 use Rattle.history_frames.proofs.Ordinals.{made-more, place-new, place-cases, place-below, place-makes, name-older}
 use Rattle.history_frames.proofs.Held.{ended-same, waited-same, pids-more, names-more, unmade-less, unreaped-less, made-is}
-use Rattle.task_table.specs.declared.reference.TaskRef.{TaskRef}
+use Rattle.hist_model.specs.declared.request.TaskRef.{TaskRef}
 use Rattle.task_table.specs.declared.index.Entry.{Entry}
 use Rattle.task_table.specs.declared.table.Task.{Task}
 use Rattle.task_table.specs.declared.table.TaskTable.{TaskTable}

@@ -6,7 +6,7 @@ use Rattle.hist_model.specs.declared.event.Event.{Event}
 use Rattle.history_frames.specs.Ordinals.{tasks_made, place_of}
 use Rattle.history_frames.proofs.Ordinals.{makes-below}
 use Rattle.history_frames.proofs.Held.{holds-below}
-use Rattle.task_table.specs.declared.reference.TaskRef.{TaskRef}
+use Rattle.hist_model.specs.declared.request.TaskRef.{TaskRef}
 use Rattle.task_table.specs.declared.index.Entry.{Entry}
 use Rattle.task_table.specs.declared.table.Task.{Task}
 use Rattle.task_table.specs.declared.table.TaskTable.{TaskTable}

@@ -14,7 +14,7 @@ use Rattle.hist_model.proofs.Look.{name_eq-true, name_eq-refl}
 use Rattle.history_frames.specs.Ordinals.{place_of}
 use Rattle.history_frames.proofs.Ordinals.{made-same, place-same, place-below, place-makes, place-one, name-older}
 use Rattle.history_frames.proofs.Held.{ended-same, ended-more, waited-same, reaped-same, pids-more, names-more, unmade-less, unreaped-less, made-is, given-none}
-use Rattle.task_table.specs.declared.reference.TaskRef.{TaskRef}
+use Rattle.hist_model.specs.declared.request.TaskRef.{TaskRef}
 use Rattle.task_table.specs.declared.table.Task.{Task}
 use Rattle.task_table.specs.declared.table.TaskTable.{TaskTable}
 use Rattle.task_table.specs.Sets.{with_signal}

@@ -16,7 +16,7 @@ use Rattle.hist_model.specs.declared.event.Mode.{Mode}
 use Rattle.hist_model.specs.Signals.{effect_in_call, effect_outside}
 use Rattle.hist_model.specs.declared.event.Mode.TheVariants.{Default}
 use Rattle.history_frames.specs.Ordinals.{tasks_made, place_of, task_name_of}
-use Rattle.task_table.specs.declared.reference.TaskRef.{TaskRef}
+use Rattle.hist_model.specs.declared.request.TaskRef.{TaskRef}
 use Rattle.task_table.specs.declared.table.Task.{Task as TaskRow}
 use Rattle.task_table.specs.declared.table.TaskTable.{TaskTable}
 use Rattle.task_table.specs.declared.table.NoTask.{NoTask}

@@ -6,7 +6,7 @@ use Rattle.sys_abi.specs.declared.memory.OrNoMemory.TheVariants.{Refused, NoMemo
 use Rattle.hist_model.specs.Tasks.{is_some_of}
 use Rattle.hist_model.specs.declared.event.Mode.{Mode}
 use Rattle.hist_model.specs.declared.event.Mode.TheVariants.{Default}
-use Rattle.task_table.specs.declared.reference.TaskRef.{TaskRef}
+use Rattle.hist_model.specs.declared.request.TaskRef.{TaskRef}
 use Rattle.task_table.specs.declared.index.Entry.{Entry}
 use Rattle.task_table.specs.declared.signals.BySignal.{BySignal}
 use Rattle.task_table.specs.declared.table.Task.{Task}

@@ -3,7 +3,7 @@
 ghost use Rattle.std.specs.Prelude.{◌≡◌, ◌+◌, ◌-◌, ◌<◌, ◌≤◌, true, false, length, IfSome, IfNone, Contains, vec_len, vec_capacity};
 ghost use Rattle.task_table.specs.Index.{KeysRise, IsStart, IsEnd, IsKeyAt, IsPlaced, IsRemoved, IsOrdered, by_key, under, first_free, has_key};
 
-use crate::reference::TaskRef;
+use hist_model::request::TaskRef;
 
 /// A reference under a key.
 #[derive(Clone, Copy, PartialEq, Eq, Debug)]

@@ -11,11 +11,9 @@
 
 mod index;
 pub mod laws;
-mod reference;
 mod signals;
 mod table;
 
-pub use reference::TaskRef;
 pub use signals::{SIGKILL, SIGTERM, SIGUSR1, SIGUSR2};
 pub use table::{NoChild, NoPid, NoTask, TaskTable};
 

@@ -15,9 +15,9 @@ ghost use Rattle.task_table.specs.Sets.{next_of, may_come, with_mode};
 ghost use Rattle.task_table.specs.Stands.{StandsFor, IsSpawn, IsStepOf, IsAlive, IsDelivery, exits, place_found, reap_step};
 
 use crate::index::{self, Entry};
-use crate::reference::TaskRef;
 use crate::signals::{BySignal, SIGKILL, SIGTERM, SIGUSR1, SIGUSR2};
 use hist_model::event::Mode;
+use hist_model::request::TaskRef;
 use slab::Slab;
 use std::alloc::Global;
 use sys_abi::memory::{NoMemory, OrNoMemory};

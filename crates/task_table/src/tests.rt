@@ -18,7 +18,7 @@ fn the_only_number_is_given_once(rt: HostRuntime) -> Result<(), Fail> {
     let mut table = TaskTable::new(rt.alloc(), 0, 1)?;
     table.ready()?;
     let first = table.spawn(None)?.0;
-    assert_eq!(rt; first.ordinal(), 0);
+    assert_eq!(rt; first.ordinal, 0);
     assert_eq!(rt; table.by_pid(1), Ok(first));
     let second = table.spawn(Some(first));
     assert!(rt; matches!(second, Err(OrNoMemory::Refused(NoPid))));
@@ -43,7 +43,7 @@ fn numbers_go_on_from_the_last_one(rt: HostRuntime) -> Result<(), Fail> {
     assert_eq!(rt; table.reap(first), Ok(Some(second)));
     assert_eq!(rt; table.by_pid(12), Err(NoTask));
     let (third, again) = table.spawn(Some(first))?;
-    assert_eq!(rt; (again, third.ordinal()), (12, 3));
+    assert_eq!(rt; (again, third.ordinal), (12, 3));
     // The third one has the second one's slot and number, and is another task.
     assert!(rt; table.alive(third) && !table.alive(second) && third != second);
     table.set_handler(second, SIGUSR1, Mode::Plain);

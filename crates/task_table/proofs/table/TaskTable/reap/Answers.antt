@@ -1,7 +1,7 @@
 use Rattle.std.proofs.Common.{◌≡◌, ◌∙◌, ap, refl, subst, Ok}
 use Rattle.hist_model.specs.declared.event.What.TheVariants.{Reap}
 use Rattle.task_table.specs.declared.table.TaskTable.{TaskTable}
-use Rattle.task_table.specs.declared.reference.TaskRef.{TaskRef}
+use Rattle.hist_model.specs.declared.request.TaskRef.{TaskRef}
 use Rattle.task_table.specs.Index.{under, IsRemoved}
 use Rattle.task_table.specs.Table.{IsRef}
 use Rattle.task_table.proofs.Spawned.{children-rise}
