@@ -5,7 +5,7 @@ use Rattle.std.proofs.lemmas.Bool.{cases_Bool, cases_eq, both_ways, eq-eqb, eqb-
 use Rattle.std.proofs.lemmas.List.{length-take}
 use Rattle.slab.specs.Slab.{get}
 use Rattle.hist_model.specs.Look.{Name, name_eq, is_task}
-use Rattle.hist_model.specs.Tasks.{ended, was_waited_for, reaped, ends, name_of, parent, has_parent, is_some_of, delivers, handles}
+use Rattle.hist_model.specs.Tasks.{makes, ended, was_waited_for, reaped, ends, name_of, parent, has_parent, is_some_of, delivers, handles}
 use Rattle.hist_model.specs.declared.event.Event.{Event}
 use Rattle.hist_model.specs.Signals.{is_default}
 use Rattle.hist_model.specs.declared.event.What.{What}
@@ -94,7 +94,7 @@ untold K m o P None y a d n i h q =
     no x y f g = grind arith
 untold K m o P (Some k) y a d n i h q =
     let w : i.2 ≡ P = y.names i.2 P (place-makes K k i.2 i.3) (place-makes K o P a) (i.4 ∙ q) in
-    both_ways (k == o) h (eq-eqb k o (place-one K k o P (i.3 ∙ ap Some w) a))
+    both_ways (k == o) h (eq-eqb k o (place-one makes K k o P (i.3 ∙ ap Some w) a))
 
 parent-apart : (n : Name) → has_parent n ≡ true → n ≡ parent n → ⊥
 parent-apart n h q =

@@ -5,7 +5,7 @@ use Rattle.std.proofs.lemmas.Bool.{cases_Bool, both_ways, and_parts, eq-eqb, eqb
 use Rattle.std.proofs.lemmas.List.Elements.{Contains-get_or}
 use Rattle.slab.specs.Slab.{get}
 use Rattle.hist_model.specs.Look.{Name, or_else}
-use Rattle.hist_model.specs.Tasks.{ended, was_waited_for, reaped, is_made, alive, holds, holder, name_of, pid_of, is_some_of, is_none, free_from, next_pid, has_parent, parent}
+use Rattle.hist_model.specs.Tasks.{makes, ended, was_waited_for, reaped, is_made, alive, holds, holder, name_of, pid_of, is_some_of, is_none, free_from, next_pid, has_parent, parent}
 use Rattle.hist_model.specs.declared.event.Event.{Event}
 use Rattle.history_frames.specs.Ordinals.{place_of, task_name_of, name_at}
 use Rattle.history_frames.proofs.Ordinals.{place-below, place-makes, make-place, made-place}
@@ -42,7 +42,7 @@ pub found-ref : (base pidmax : ℕ) (K : List Event) (T : TaskTable) (pid : ℕ)
 found-ref base pidmax K T pid t S c =
     let x = entry-task held_key t.slot (get T.tasks t.slot) (under pid t) (S.pids.listed (under pid t) c) in
     let i = S.tasks t.slot x.0 x.1 in
-    (omega (arith, (place-below K x.0.ordinal i.place i.at).0, x.4, S.made_is), λ s r g q. S.once s t.slot r x.0 g x.1 (q ∙ sym x.4))
+    (omega (arith, (place-below makes K x.0.ordinal i.place i.at).0, x.4, S.made_is), λ s r g q. S.once s t.slot r x.0 g x.1 (q ∙ sym x.4))
 
 -- the slot of the task that holds a number
 pub slot-of-holder : (base pidmax : ℕ) (K : List Event) (T : TaskTable) (pid t : ℕ) → StandsFor base pidmax K T → holds K pid t ≡ true → (s : ℕ) × (r : Task) × (get T.tasks s ≡ Some r) × (r.pid ≡ pid) × (place_of K r.ordinal ≡ Some t)
@@ -155,7 +155,7 @@ reaped-ended K n w r = either (was_waited_for K n) (ended K n) (not (has_parent 
 
 pub alive-lost : (base pidmax : ℕ) (K : List Event) (T : TaskTable) (t : TaskRef) → StandsFor base pidmax K T → IsRef T t → reached T.tasks t ≡ None → false ≡ alive K (task_name_of K t.ordinal)
 alive-lost base pidmax K T t S i h =
-    let m = made-place K t.ordinal (omega (arith, i.0, S.made_is)) in
+    let m = made-place makes K t.ordinal (omega (arith, i.0, S.made_is)) in
     let r = reaped-lost base pidmax K T t m.0 S i h m.1 in
     rw (m.1, reaped-ended K (name_of K m.0) (S.orderly.waited (name_of K m.0)) r) (never (is_made K (name_of K m.0)))
   where
@@ -165,13 +165,13 @@ alive-lost base pidmax K T t S i h =
 -- a task that lives, and one that holds a number, are found
 pub lost-alive : (base pidmax : ℕ) (K : List Event) (T : TaskTable) (t : TaskRef) → StandsFor base pidmax K T → IsRef T t → reached T.tasks t ≡ None → IsAlive K t → ⊥
 lost-alive base pidmax K T t S i h a =
-    let m = made-place K t.ordinal (omega (arith, i.0, S.made_is)) in
+    let m = made-place makes K t.ordinal (omega (arith, i.0, S.made_is)) in
     let d : ended K (name_of K m.0) ≡ false = ap (λ x. ended K (name_at K x)) (sym m.1) ∙ a in
     both_ways (ended K (name_of K m.0)) d (reaped-ended K (name_of K m.0) (S.orderly.waited (name_of K m.0)) (reaped-lost base pidmax K T t m.0 S i h m.1))
 
 pub lost-holder : (base pidmax : ℕ) (K : List Event) (T : TaskTable) (t : TaskRef) (pid : ℕ) → StandsFor base pidmax K T → IsRef T t → reached T.tasks t ≡ None → place_of K t.ordinal ≡ holder K pid → ⊥
 lost-holder base pidmax K T t pid S i h a =
-    let m = made-place K t.ordinal (omega (arith, i.0, S.made_is)) in
+    let m = made-place makes K t.ordinal (omega (arith, i.0, S.made_is)) in
     let b = and_parts (is_some_of (pid_of K m.0) pid) (not (reaped K (name_of K m.0))) (holder-holds K pid m.0 (sym a ∙ m.1)) in
     no (reaped K (name_of K m.0)) (reaped-lost base pidmax K T t m.0 S i h m.1) b.1
   where

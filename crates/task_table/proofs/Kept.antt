@@ -3,7 +3,7 @@ use Rattle.std.proofs.Common.{◌≡◌, ℕ, Bool, true, false, ◌&&◌, List,
 use Rattle.std.specs.Prelude.{if◌then◌else◌}
 use Rattle.std.proofs.lemmas.Bool.{false_from_ne_true}
 use Rattle.hist_model.specs.Look.{Name, name_eq, is_task}
-use Rattle.hist_model.specs.Tasks.{ended, reaped, ends, reaps, name_of, parent, child_of, handles, mode, pending, sends_signal, delivers}
+use Rattle.hist_model.specs.Tasks.{makes, ended, reaped, ends, reaps, name_of, parent, child_of, handles, mode, pending, sends_signal, delivers}
 use Rattle.hist_model.specs.declared.event.Event.{Event}
 use Rattle.hist_model.specs.declared.event.Mode.{Mode}
 use Rattle.hist_model.proofs.Look.{name_eq-true}
@@ -15,11 +15,11 @@ use Rattle.task_table.specs.Sets.{pending_of, modes_of}
 use Rattle.task_table.specs.Stands.{IsTask, IsParent}
 
 pub place-stays : (e : Event) (K : List Event) (o t : ℕ) → place_of K o ≡ Some t → place_of (e ∷ K) o ≡ Some t
-place-stays e K o t q = place-old e K o (place-below K o t q).0 ∙ q
+place-stays e K o t q = place-old makes e K o (place-below makes K o t q).0 ∙ q
 
 pub parent-kept : (e : Event) (K : List Event) (n : Name) (q : Option ℕ) → ended (e ∷ K) (parent n) ≡ ended K (parent n) → IsParent K n q → IsParent (e ∷ K) n q
 parent-kept e K n None s i = rw s i
-parent-kept e K n (Some q) s i = (i.0, s ∙ i.1, i.2, place-stays e K q i.2 i.3, name-older e K i.2 (place-below K q i.2 i.3).1 ∙ i.4)
+parent-kept e K n (Some q) s i = (i.0, s ∙ i.1, i.2, place-stays e K q i.2 i.3, name-older e K i.2 (place-below makes K q i.2 i.3).1 ∙ i.4)
 
 -- a task with new values, which are those of the definitions after the event
 pub task-step : (e : Event) (K : List Event) (r q : Task) → (i : IsTask K r) → q.ordinal ≡ r.ordinal → q.pid ≡ r.pid
@@ -27,7 +27,7 @@ pub task-step : (e : Event) (K : List Event) (r q : Task) → (i : IsTask K r) �
     → q.pending ≡ pending_of (e ∷ K) (name_of K i.place) → q.modes ≡ modes_of (e ∷ K) (name_of K i.place)
     → IsParent (e ∷ K) (name_of K i.place) q.parent → IsTask (e ∷ K) q
 task-step e K r q i o p u d g m c =
-    let l = (place-below K r.ordinal i.place i.at).1 in
+    let l = (place-below makes K r.ordinal i.place i.at).1 in
     let n : name_of (e ∷ K) i.place ≡ name_of K i.place = name-older e K i.place l in
     record {
       place = i.place;

@@ -156,7 +156,7 @@ module _ (base pidmax : ℕ) (K : List Event) (T : TaskTable) (t : TaskRef) (P :
   some-child c m =
       let x = entry-task waiting_key c.slot (get T.tasks c.slot) (under t.ordinal c) (S.children.listed (under t.ordinal c) m) in
       let i = S.tasks c.slot x.0 x.1 in
-      oldest-found (is_child K (name_of K P)) (length K) i.place (place-below K x.0.ordinal i.place i.at).1 (row-child c.slot x.0 x.1 x.2)
+      oldest-found (is_child K (name_of K P)) (length K) i.place (place-below makes K x.0.ordinal i.place i.at).1 (row-child c.slot x.0 x.1 x.2)
 
   pub none-ended : ((j : ℕ) → IsEndedAt T t.ordinal j → ⊥) → oldest (is_ended_child K (name_of K P)) (length K) ≡ None
   none-ended n = go (oldest (is_ended_child K (name_of K P)) (length K)) refl
@@ -185,7 +185,7 @@ module _ (base pidmax : ℕ) (K : List Event) (T : TaskTable) (t : TaskRef) (P :
     where
       go : (o : Option ℕ) → oldest (is_ended_child K (name_of K P)) (length K) ≡ o → (r : Task) → r.ordinal ≡ c.ordinal → (j : IsTask K r) → is_ended_child K (name_of K P) j.place ≡ true
           → oldest (is_ended_child K (name_of K P)) (length K) ≡ place_of K c.ordinal
-      go None f r o j k = absurd (both_ways (is_ended_child K (name_of K P) j.place) (oldest-none (is_ended_child K (name_of K P)) (length K) j.place f (place-below K r.ordinal j.place j.at).1) k)
+      go None f r o j k = absurd (both_ways (is_ended_child K (name_of K P) j.place) (oldest-none (is_ended_child K (name_of K P)) (length K) j.place f (place-below makes K r.ordinal j.place j.at).1) k)
       go (Some u) f r o j k =
           let b = ended-child u (oldest-some (is_ended_child K (name_of K P)) (length K) u f).0 in
           let x = child-row u b.0 in
@@ -198,7 +198,7 @@ module _ (base pidmax : ℕ) (K : List Event) (T : TaskTable) (t : TaskRef) (P :
             | inl l ↦ f ∙ (sym x.4 ∙ ap (place_of K) (l ∙ o))
             | inr l ↦ elim l [
               | inl l ↦ absurd (n v.0 (earlier v.0 x.1.ordinal v.1 v.2 (omega (arith, o, l))) v.1)
-              | inr l ↦ absurd (oldest-least (is_ended_child K (name_of K P)) (length K) u j.place f k (place-order K r.ordinal x.1.ordinal j.place u j.at x.4 l))
+              | inr l ↦ absurd (oldest-least (is_ended_child K (name_of K P)) (length K) u j.place f k (place-order makes K r.ordinal x.1.ordinal j.place u j.at x.4 l))
             ]
           ]
         where
@@ -224,7 +224,7 @@ module _ (base pidmax : ℕ) (K : List Event) (T : TaskTable) (t : TaskRef) (P :
 -- where a task that lives stands in the history
 alive-place : (base pidmax : ℕ) (K : List Event) (T : TaskTable) (t : TaskRef) → StandsFor base pidmax K T → IsRef T t → IsAlive K t → (P : ℕ) × (place_of K t.ordinal ≡ Some P) × (task_name_of K t.ordinal ≡ name_of K P) × (ended K (name_of K P) ≡ false)
 alive-place base pidmax K T t S i a =
-    let m = made-place K t.ordinal (omega (arith, i.0, S.made_is)) in
+    let m = made-place makes K t.ordinal (omega (arith, i.0, S.made_is)) in
     let n : task_name_of K t.ordinal ≡ name_of K m.0 = ap (name_at K) m.1 in
     (m.0, m.1, n, ap (ended K) (sym n) ∙ a)
 

@@ -100,7 +100,7 @@ reaped-new e K n w d = rw (w, d)
 
 parent-new : (e : Event) (K : List Event) (n : Name) (parent' : Option TaskRef) → ended (e ∷ K) (parent n) ≡ ended K (parent n) → IsChildOf K n parent' → IsParent (e ∷ K) n (ordinal_of parent')
 parent-new e K n None s i = rw i
-parent-new e K n (Some p) s i = (i.0, s ∙ i.4, i.1, place-stays e K p.ordinal i.1 i.2, name-older e K i.1 (place-below K p.ordinal i.1 i.2).1 ∙ i.3)
+parent-new e K n (Some p) s i = (i.0, s ∙ i.4, i.1, place-stays e K p.ordinal i.1 i.2, name-older e K i.1 (place-below makes K p.ordinal i.1 i.2).1 ∙ i.3)
 
 unreaped-alive : (K : List Event) (m : Name) → ended K m ≡ false → (was_waited_for K m ≡ true → ended K m ≡ true) → reaped K m ≡ false
 unfolding reaped
@@ -138,7 +138,7 @@ children-rise xs o = keys-rise by_key_and_ordinal xs (λ a b h. elim (or_cases (
 
 -- the slots' tasks were made before
 pub ordinal-below : (base pidmax : ℕ) (K : List Event) (T : TaskTable) (s : ℕ) (r : Task) → StandsFor base pidmax K T → get T.tasks s ≡ Some r → r.ordinal < T.made
-ordinal-below base pidmax K T s r S g = let i = S.tasks s r g in omega (arith, (place-below K r.ordinal i.place i.at).0, S.made_is)
+ordinal-below base pidmax K T s r S g = let i = S.tasks s r g in omega (arith, (place-below makes K r.ordinal i.place i.at).0, S.made_is)
 
 module _ (base pidmax : ℕ) (K : List Event) (e : Event) (old new : TaskTable) (parent' : Option TaskRef) (pid : ℕ) (t : TaskRef)
     (S : StandsFor base pidmax K old) (i : IsParentRef old parent') (sp : IsSpawn K e parent' pid) (f : holder K pid ≡ None) (a : IsAdded old new parent' pid t) where
@@ -224,7 +224,7 @@ module _ (base pidmax : ℕ) (K : List Event) (e : Event) (old new : TaskTable) 
       let d = ended-same e K n (facts.not_ended n) ∙ u.0 in
       record {
         place = length K;
-        at = ap (place_of (e ∷ K)) S.made_is ∙ place-new e K facts.makes_is;
+        at = ap (place_of (e ∷ K)) S.made_is ∙ place-new makes e K facts.makes_is;
         pid_is = rw (event_at-here e K) facts.given_is;
         unreaped = ap (reaped (e ∷ K)) here ∙ reaped-new e K n (waited-same e K n (facts.not_reaped n) ∙ u.1) d;
         ended_is = sym (ap (ended (e ∷ K)) here ∙ d);
@@ -249,10 +249,10 @@ module _ (base pidmax : ℕ) (K : List Event) (e : Event) (old new : TaskTable) 
 
   slots-spawn : (o p : ℕ) → place_of (e ∷ K) o ≡ Some p → reaped (e ∷ K) (name_of (e ∷ K) p) ≡ false → (s : ℕ) × (r : Task) × (get new.tasks s ≡ Some r) × (r.ordinal ≡ o)
   slots-spawn o p q u =
-      elim (place-cases e K o p q) [
+      elim (place-cases makes e K o p q) [
         | inl h ↦ (t.slot, new_task old parent' pid, a.updates.changed, S.made_is ∙ h.1)
         | inr h ↦
-            let l = (place-below K o p h).1 in
+            let l = (place-below makes K o p h).1 in
             let v = unreaped-less e K (name_of K p) (ap (reaped (e ∷ K)) (sym (name-older e K p l)) ∙ u) in
             let x = S.slots o p h v in
             (x.0, x.1, a.updates.others x.0 (λ z. let y : None ≡ Some x.1 = sym a.vacant ∙ (ap (get old.tasks) (sym z) ∙ x.2) in cc) ∙ x.2, x.3)
@@ -263,7 +263,7 @@ module _ (base pidmax : ℕ) (K : List Event) (e : Event) (old new : TaskTable) 
     base_is = a.base ∙ S.base_is;
     top_is = a.top ∙ S.top_is;
     last_is = a.last ∙ sym (last-new base e K pid facts.given_is);
-    made_is = a.made ∙ (ap (λ x. x + 1) S.made_is ∙ sym (made-more e K facts.makes_is));
+    made_is = a.made ∙ (ap (λ x. x + 1) S.made_is ∙ sym (made-more makes e K facts.makes_is));
     pids = pids-spawn;
     children = children-spawn parent' refl a.children;
     once = once-spawn;

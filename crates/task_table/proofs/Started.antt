@@ -3,7 +3,7 @@ use Rattle.std.proofs.Common.{◌≡◌, ℕ, ◌+◌, Bool, List, [], length, g
 use Rattle.slab.specs.Slab.{Slab, get}
 use Rattle.hist_model.specs.Tasks.{ended, was_waited_for, pending, mode, is_made, last_pid}
 use Rattle.hist_model.specs.declared.event.Event.{Event}
-use Rattle.history_frames.specs.Ordinals.{tasks_made, place_of}
+use Rattle.history_frames.specs.Ordinals.{count_of, nth_of}
 use Rattle.history_frames.proofs.Ordinals.{makes-below}
 use Rattle.history_frames.proofs.Held.{holds-below}
 use Rattle.hist_model.specs.declared.request.TaskRef.{TaskRef}
@@ -34,7 +34,7 @@ mirrors-nil before key tasks xs g q = record {
 }
 
 pub stands-new : (base pidmax : ℕ) (T : TaskTable) → T.tasks.slots ≡ [] → T.pids.items ≡ [] → T.children.items ≡ [] → T.base ≡ base → T.top ≡ base + pidmax → T.last ≡ base → T.made ≡ 0 → StandsFor base pidmax [] T
-unfolding last_pid tasks_made place_of
+unfolding last_pid count_of nth_of
 stands-new base pidmax T s p c b t l m =
     let g : (k : ℕ) → get T.tasks k ≡ None = λ k. rw s in
     record {

@@ -88,7 +88,7 @@ stands-from base pidmax K e old new S c m I o back tasks forth = record {
   base_is = c.base ∙ S.base_is;
   top_is = c.top ∙ S.top_is;
   last_is = c.last ∙ (S.last_is ∙ sym (last-same base e K m));
-  made_is = c.made ∙ (S.made_is ∙ sym (made-same e K m));
+  made_is = c.made ∙ (S.made_is ∙ sym (made-same makes e K m));
   pids = I.pids;
   children = I.children;
   once = λ s u r q g h n. let a = back s r g in let b = back u q h in S.once s u a.0 b.0 a.1 b.1 (sym a.2 ∙ (n ∙ b.2));
@@ -99,8 +99,8 @@ stands-from base pidmax K e old new S c m I o back tasks forth = record {
   where
     slots : (o t : ℕ) → place_of (e ∷ K) o ≡ Some t → reaped (e ∷ K) (name_of (e ∷ K) t) ≡ false → (s : ℕ) × (r : Task) × (get new.tasks s ≡ Some r) × (r.ordinal ≡ o)
     slots o t p u =
-        let p' : place_of K o ≡ Some t = sym (place-same e K o m) ∙ p in
-        let l = (place-below K o t p').1 in
+        let p' : place_of K o ≡ Some t = sym (place-same makes e K o m) ∙ p in
+        let l = (place-below makes K o t p').1 in
         let u' : reaped (e ∷ K) (name_of K t) ≡ false = ap (reaped (e ∷ K)) (sym (name-older e K t l)) ∙ u in
         let x = S.slots o t p' (unreaped-less e K (name_of K t) u') in
         let i = S.tasks x.0 x.1 x.2 in
@@ -120,7 +120,7 @@ other-name base pidmax K T s u r x S g h n q =
     let i = S.tasks s r g in
     let j = S.tasks u x h in
     let p : i.place ≡ j.place = S.orderly.names i.place j.place (place-makes K r.ordinal i.place i.at) (place-makes K x.ordinal j.place j.at) q in
-    n (S.once u s x r h g (place-one K x.ordinal r.ordinal j.place j.at (i.at ∙ ap Some p)))
+    n (S.once u s x r h g (place-one makes K x.ordinal r.ordinal j.place j.at (i.at ∙ ap Some p)))
 
 pub row-made : (K : List Event) (r : Task) → (i : IsTask K r) → is_made K (name_of K i.place) ≡ true
 row-made K r i = made-is K i.place (place-makes K r.ordinal i.place i.at)

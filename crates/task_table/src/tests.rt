@@ -1,7 +1,8 @@
 //! Cases of tasks, by the rules of the manual pages.
 
-use crate::{NoChild, NoPid, NoTask, SIGKILL, SIGTERM, SIGUSR1, SIGUSR2, TaskRef, TaskTable};
+use crate::{NoChild, NoPid, NoTask, SIGKILL, SIGTERM, SIGUSR1, SIGUSR2, TaskTable};
 use hist_model::event::Mode;
+use hist_model::request::TaskRef;
 use std::test::Fail;
 use sys_abi::memory::OrNoMemory;
 
