@@ -6,3 +6,4 @@ pub mod Returns
 pub mod Precedence
 pub mod Notifies
 pub mod TextCases
+pub mod InputBytes

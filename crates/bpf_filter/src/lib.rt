@@ -15,6 +15,7 @@
 mod answers;
 mod checks;
 mod filters;
+pub mod laws;
 mod machine;
 mod numbers;
 mod text;

@@ -4,6 +4,7 @@ use Rattle.hist_model.specs.Sessions.{Rules, Decision, Denies, Passes, Acts, Pla
 use Rattle.hist_model.specs.declared.event.What.{What}
 use Rattle.hist_model.specs.declared.event.Back.{Back}
 use Rattle.hist_model.specs.declared.event.Back.TheVariants.{Fail, Continue}
+use Rattle.sys_abi.specs.Errnos.{emfile}
 use Rattle.sys_abi.specs.declared.wire.Notif.{Notif}
 
 abbrev pub is_acting : Decision → Bool
@@ -19,4 +20,4 @@ pub data Cause (R : Rules) (own : List What) (n : Notif) : Back → Type 0 where
   passed : R.fault n (reads_of own) ≡ None → R.decide n (reads_of own) ≡ Passes → Cause R own n Continue
   done : (r : Result (Unit {0}) ℕ) → R.fault n (reads_of own) ≡ None → is_acting (R.decide n (reads_of own)) ≡ true → first_some outcome_in own ≡ Some r → Cause R own n (back_of_outcome r)
   not_put : (e src : ℕ) (at : Option ℕ) (flags : ℕ) → R.fault n (reads_of own) ≡ None → R.decide n (reads_of own) ≡ Injects src at flags → first_some put_in own ≡ Some (Err e) → Cause R own n (Fail e)
-  not_taken : (t : Result ℕ ℕ) (src : ℕ) (at : Option ℕ) (flags : ℕ) → R.fault n (reads_of own) ≡ None → R.decide n (reads_of own) ≡ Injects src at flags → first_some take_in own ≡ Some t → Cause R own n (Fail 24)
+  not_taken : (t : Result ℕ ℕ) (src : ℕ) (at : Option ℕ) (flags : ℕ) → R.fault n (reads_of own) ≡ None → R.decide n (reads_of own) ≡ Injects src at flags → first_some take_in own ≡ Some t → Cause R own n (Fail emfile)

@@ -3,6 +3,8 @@
 use Rattle.std.specs.Prelude.{ℕ, zero, suc, ◌+◌, ◌-◌, ◌%◌, ◌^◌, min, Bool, true, false, ◌&&◌, if◌then◌else◌, ◌==◌, nat_lt, nat_le, List, [], ◌∷◌, ◌++◌, length, slice_index_or, Option, Some, None, Result, Ok, Err, ℤ, pos}
 use Rattle.hist_model.specs.declared.copy.Part.{Part}
 use Rattle.hist_model.specs.declared.copy.Part.TheVariants.{Text, Value}
+use Rattle.sys_abi.specs.Calls.{nr_mknod, nr_mount, nr_setxattr, nr_openat, nr_mknodat}
+use Rattle.sys_abi.specs.Errnos.{e2big, efault, einval, erange, enametoolong}
 
 -- ---- the plan
 
@@ -11,24 +13,24 @@ arg args i = slice_index_or args i 0
 
 -- a path: ENAMETOOLONG where it doesn't end
 abbrev pub path_at : ℕ → Part
-path_at address = Text address 4096 36
+path_at address = Text address 4096 enametoolong
 
 -- an argument of mount that may be missing, which is then empty: EINVAL where it doesn't end
 abbrev pub option_at : ℕ → Part
-option_at address = if address == 0 then Value 0 0 else Text address 4096 22
+option_at address = if address == 0 then Value 0 0 else Text address 4096 einval
 
 -- the name of an attribute: ERANGE where it doesn't end
 abbrev pub name_at : ℕ → Part
-name_at address = Text address 256 34
+name_at address = Text address 256 erange
 
 -- what is read for a call, in order
 abbrev pub plan : ℤ → List ℕ → List Part
 plan (pos nr) args =
-    if nr == 133 then path_at (arg args 0) ∷ []
-    else (if nr == 259 then path_at (arg args 1) ∷ []
-    else (if nr == 257 then path_at (arg args 1) ∷ []
-    else (if nr == 165 then option_at (arg args 0) ∷ path_at (arg args 1) ∷ option_at (arg args 2) ∷ option_at (arg args 4) ∷ []
-    else (if nr == 188 then path_at (arg args 0) ∷ name_at (arg args 1) ∷ Value (arg args 2) (arg args 3) ∷ []
+    if nr == nr_mknod then path_at (arg args 0) ∷ []
+    else (if nr == nr_mknodat then path_at (arg args 1) ∷ []
+    else (if nr == nr_openat then path_at (arg args 1) ∷ []
+    else (if nr == nr_mount then option_at (arg args 0) ∷ path_at (arg args 1) ∷ option_at (arg args 2) ∷ option_at (arg args 4) ∷ []
+    else (if nr == nr_setxattr then path_at (arg args 0) ∷ name_at (arg args 1) ∷ Value (arg args 2) (arg args 3) ∷ []
     else []))))
 plan _ args = []
 
@@ -44,7 +46,7 @@ with_bytes bytes (Err e) = Err e
 
 -- a text that begins with this byte and goes on from the next address; EFAULT where the byte isn't mapped
 abbrev pub text_after : Option ℕ → (ℕ → Result (List ℕ) ℕ) → ℕ → Result (List ℕ) ℕ
-text_after None rest address = Err 14
+text_after None rest address = Err efault
 text_after (Some zero) rest address = Ok []
 text_after (Some (suc b)) rest address = with_bytes (suc b ∷ []) (rest (further address 1))
 
@@ -54,7 +56,7 @@ text_from byte fault zero address = Err fault
 text_from byte fault (suc n) address = text_after (byte address) (text_from byte fault n) address
 
 abbrev pub value_after : Option ℕ → (ℕ → Result (List ℕ) ℕ) → ℕ → Result (List ℕ) ℕ
-value_after None rest address = Err 14
+value_after None rest address = Err efault
 value_after (Some b) rest address = with_bytes (b ∷ []) (rest (further address 1))
 
 -- so many bytes from an address on
@@ -64,7 +66,7 @@ value_from byte (suc n) address = value_after (byte address) (value_from byte n)
 
 -- a value of more than 4096 bytes is E2BIG, and isn't read
 abbrev pub sized_value : Bool → (ℕ → Option ℕ) → ℕ → ℕ → Result (List ℕ) ℕ
-sized_value true byte address size = Err 7
+sized_value true byte address size = Err e2big
 sized_value false byte address size = value_from byte size address
 
 abbrev pub copy_part : (ℕ → Option ℕ) → Part → Result (List ℕ) ℕ
@@ -136,7 +138,7 @@ read_value (Err e ∷ later) address left = Fails e
 
 -- a value of size 0 isn't read
 abbrev pub read_sized : Bool → Bool → List (Result (List ℕ) ℕ) → ℕ → ℕ → Reading
-read_sized true empty answers address size = Fails 7
+read_sized true empty answers address size = Fails e2big
 read_sized false true answers address size = Whole [] answers
 read_sized false false answers address size = read_value answers address size
 

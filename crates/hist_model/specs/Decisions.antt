@@ -17,6 +17,7 @@ use Rattle.hist_model.specs.declared.request.Kind.{Kind}
 use Rattle.hist_model.specs.declared.request.Kind.TheVariants.{Reg, Chr, Blk, Fifo, Sock, Dir, Bad}
 use Rattle.hist_model.specs.declared.request.Request.{Request}
 use Rattle.hist_model.specs.declared.request.Request.TheVariants.{Mknod, Mount, SetXattr, OpenAt}
+use Rattle.sys_abi.specs.Calls.{nr_close, nr_getpid, nr_sysinfo, nr_mknod, nr_mount, nr_setxattr, nr_openat, nr_mknodat}
 
 -- ---- Conditions
 
@@ -103,7 +104,7 @@ meets PlainFlags q = has_plain_flags q
 
 -- the calls that have names: close, getpid, sysinfo, mknod, mount, setxattr, openat and mknodat
 abbrev pub named_calls : List ℤ
-named_calls = pos 3 ∷ pos 39 ∷ pos 99 ∷ pos 133 ∷ pos 165 ∷ pos 188 ∷ pos 257 ∷ pos 259 ∷ []
+named_calls = pos nr_close ∷ pos nr_getpid ∷ pos nr_sysinfo ∷ pos nr_mknod ∷ pos nr_mount ∷ pos nr_setxattr ∷ pos nr_openat ∷ pos nr_mknodat ∷ []
 
 -- the number is in the list
 abbrev pub is_among : List ℤ → ℤ → Bool
@@ -164,26 +165,26 @@ safe_devices = (0, 0) ∷ (5, 1) ∷ (1, 7) ∷ (1, 3) ∷ (1, 8) ∷ (5, 0) ∷
 
 -- the rule that grants one of them, a character device, named lxd.mknod.MAJOR:MINOR
 abbrev pub lxd_mknod_rule : ℕ × ℕ → Rule
-lxd_mknod_rule (major, minor) = plain_rule (codes "lxd.mknod." ++ decimal major ++ codes ":" ++ decimal minor) (Named (pos 133 ∷ pos 259 ∷ [])) (OfKind Chr ∷ Dev major minor ∷ []) Grant
+lxd_mknod_rule (major, minor) = plain_rule (codes "lxd.mknod." ++ decimal major ++ codes ":" ++ decimal minor) (Named (pos nr_mknod ∷ pos nr_mknodat ∷ [])) (OfKind Chr ∷ Dev major minor ∷ []) Grant
 
 abbrev pub lxd_mknod_rules : List Rule
 lxd_mknod_rules = map lxd_mknod_rule safe_devices
 
 -- the rule that grants a mount of one type of file system by a program, named lxd.mount.fuse.TYPE
 abbrev pub lxd_fuse_rule : Bool → List ℕ × List ℕ → Rule
-lxd_fuse_rule shift (fstype, program) = record { name = codes "lxd.mount.fuse." ++ fstype; calls = Named (pos 165 ∷ []); conds = Fstype fstype ∷ PlainFlags ∷ []; verdict = Grant; via = program; shift = shift; times = None }
+lxd_fuse_rule shift (fstype, program) = record { name = codes "lxd.mount.fuse." ++ fstype; calls = Named (pos nr_mount ∷ []); conds = Fstype fstype ∷ PlainFlags ∷ []; verdict = Grant; via = program; shift = shift; times = None }
 
 -- the rule that grants a mount of one type of file system, named lxd.mount.TYPE
 abbrev pub lxd_mount_rule : Bool → List ℕ → Rule
-lxd_mount_rule shift fstype = record { name = codes "lxd.mount." ++ fstype; calls = Named (pos 165 ∷ []); conds = Fstype fstype ∷ PlainFlags ∷ []; verdict = Grant; via = []; shift = shift; times = None }
+lxd_mount_rule shift fstype = record { name = codes "lxd.mount." ++ fstype; calls = Named (pos nr_mount ∷ []); conds = Fstype fstype ∷ PlainFlags ∷ []; verdict = Grant; via = []; shift = shift; times = None }
 
 -- the rule that grants the mark of an opaque directory of an overlay
 abbrev pub lxd_setxattr_rule : Rule
-lxd_setxattr_rule = plain_rule (codes "lxd.setxattr.opaque") (Named (pos 188 ∷ [])) (Name (codes "trusted.overlay.opaque") ∷ []) Grant
+lxd_setxattr_rule = plain_rule (codes "lxd.setxattr.opaque") (Named (pos nr_setxattr ∷ [])) (Name (codes "trusted.overlay.opaque") ∷ []) Grant
 
 -- the rule that grants sysinfo
 abbrev pub lxd_sysinfo_rule : Rule
-lxd_sysinfo_rule = plain_rule (codes "lxd.sysinfo") (Named (pos 99 ∷ [])) [] Grant
+lxd_sysinfo_rule = plain_rule (codes "lxd.sysinfo") (Named (pos nr_sysinfo ∷ [])) [] Grant
 
 -- the switches, and the two lists of file systems, of which the first has a program with each
 pub record Switches : Type 0 where
@@ -213,8 +214,8 @@ default_rule name nr = plain_rule (codes "default." ++ name) (Named (nr ∷ []))
 
 -- the rules that pass what no other rule decides: one for each call that has a name, and one for all others
 abbrev pub default_rules : List Rule
-default_rules = default_rule (codes "close") (pos 3) ∷ default_rule (codes "getpid") (pos 39) ∷ default_rule (codes "sysinfo") (pos 99) ∷ default_rule (codes "mknod") (pos 133)
-    ∷ default_rule (codes "mount") (pos 165) ∷ default_rule (codes "setxattr") (pos 188) ∷ default_rule (codes "openat") (pos 257) ∷ default_rule (codes "mknodat") (pos 259)
+default_rules = default_rule (codes "close") (pos nr_close) ∷ default_rule (codes "getpid") (pos nr_getpid) ∷ default_rule (codes "sysinfo") (pos nr_sysinfo) ∷ default_rule (codes "mknod") (pos nr_mknod)
+    ∷ default_rule (codes "mount") (pos nr_mount) ∷ default_rule (codes "setxattr") (pos nr_setxattr) ∷ default_rule (codes "openat") (pos nr_openat) ∷ default_rule (codes "mknodat") (pos nr_mknodat)
     ∷ plain_rule (codes "default.other") OtherCalls [] Pass ∷ []
 
 -- the whole list of a policy's rules: its own, those of the switches, and the defaults

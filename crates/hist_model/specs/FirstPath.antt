@@ -19,6 +19,7 @@ use Rattle.hist_model.specs.declared.script.Figures.{Figures}
 use Rattle.hist_model.specs.declared.script.Instr.TheVariants.{Poke, Call}
 use Rattle.hist_model.specs.declared.script.Script.{Script}
 use Rattle.hist_model.specs.declared.script.Step.{Step}
+use Rattle.sys_abi.specs.Calls.{nr_mknod}
 use Rattle.sys_abi.specs.Errnos.{errno_of_name}
 
 -- ---- Fields
@@ -79,7 +80,7 @@ is_rule_name name = nat_le 1 (length name) && (nat_le (length name) 64 && (list_
 
 -- the rule that denies mknod of one device, and the defaults
 abbrev pub denying_policy : List ℕ → ℕ × ℕ → ℕ → Policy
-denying_policy name (major, minor) error = record { rules = plain_rule name (Named (pos 133 ∷ [])) (Dev major minor ∷ []) (Deny error) ∷ default_rules }
+denying_policy name (major, minor) error = record { rules = plain_rule name (Named (pos nr_mknod ∷ [])) (Dev major minor ∷ []) (Deny error) ∷ default_rules }
 
 abbrev pub denying : List ℕ → Option ℕ → Option ℕ → Option ℕ → Option Policy
 denying name (Some major) (Some minor) (Some error) = Some (denying_policy name (major, minor) error)
@@ -144,8 +145,8 @@ script_making path dev schedule = record {
   tree = [];
   broker = [];
   map = record { start = 65536; pages = 16 } ∷ [];
-  filters = record { insns = notify_filter (pos 133 ∷ []); listener = true } ∷ [];
-  programs = (Poke 65536 (path ++ 0 ∷ []) ∷ Call (pos 133) (mknod_args dev) ∷ []) ∷ [];
+  filters = record { insns = notify_filter (pos nr_mknod ∷ []); listener = true } ∷ [];
+  programs = (Poke 65536 (path ++ 0 ∷ []) ∷ Call (pos nr_mknod) (mknod_args dev) ∷ []) ∷ [];
   schedule = schedule;
 }
 
@@ -155,7 +156,7 @@ three_turns a b c = record { who = Task (0 ∷ []); count = a } ∷ record { who
 
 -- what the call asks for
 abbrev pub asked : List ℕ → ℕ → Request
-asked path dev = request (pos 133) (mknod_args dev) (path ∷ [])
+asked path dev = request (pos nr_mknod) (mknod_args dev) (path ∷ [])
 
 abbrev pub is_pass : Verdict → Bool
 is_pass Pass = true

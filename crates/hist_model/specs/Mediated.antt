@@ -36,6 +36,7 @@ use Rattle.hist_model.specs.Copies.{Complete}
 use Rattle.hist_model.specs.Decisions.{cap_of, decide}
 use Rattle.hist_model.specs.Requests.{request}
 use Rattle.hist_model.specs.ReportAudit.{audit_of, judging_by, judged_as, finding_of, is_spent}
+use Rattle.sys_abi.specs.Errnos.{enoent, ebadf, ebusy, emfile, einprogress}
 use Rattle.sys_abi.specs.declared.wire.Addfd.{Addfd}
 use Rattle.sys_abi.specs.declared.wire.Notif.{Notif}
 
@@ -104,7 +105,7 @@ NamesOwn K e = is_accepted e.what ≡ true → (w c : ℕ) × (e.who ≡ Worker 
 -- EINPROGRESS and EBUSY: the call is in the way of an answer or a request
 abbrev pub is_busy : What → Bool
 is_busy (Send x b (Err e)) = e == 115
-is_busy (AddfdPut q (Err e)) = (e == 115) || (e == 16)
+is_busy (AddfdPut q (Err e)) = (e == einprogress) || (e == ebusy)
 is_busy _ = false
 
 -- nobody is answered so
@@ -115,8 +116,8 @@ NeverBusy K e = is_busy e.what ≡ false
 abbrev pub is_known_error : What → Bool
 is_known_error (Check x (Err e)) = e == 2
 is_known_error (Send x b (Err e)) = e == 2
-is_known_error (AddfdPut q (Err e)) = (e == 9) || (e == 2)
-is_known_error (AddfdTake (Err e)) = (e == 9) || ((e == 24) || (e == 2))
+is_known_error (AddfdPut q (Err e)) = (e == ebadf) || (e == enoent)
+is_known_error (AddfdTake (Err e)) = (e == ebadf) || ((e == emfile) || (e == enoent))
 is_known_error _ = true
 
 abbrev pub ErrorsKnown : List Event → Event → Type 0

@@ -12,6 +12,8 @@ use Rattle.hist_model.specs.declared.event.SpawnKind.{SpawnKind}
 use Rattle.hist_model.specs.declared.event.SpawnKind.TheVariants.{New, Copied}
 use Rattle.hist_model.specs.declared.script.MapRange.{MapRange}
 use Rattle.hist_model.specs.declared.script.Script.{Script}
+use Rattle.sys_abi.specs.Calls.{nr_sysinfo}
+use Rattle.sys_abi.specs.Errnos.{efault}
 
 -- the address lies in one of the ranges
 abbrev pub is_mapped : List MapRange → ℕ → Bool
@@ -54,7 +56,7 @@ argument call i = number_or_zero (slice_get (entered call) i)
 
 -- what a native call stores, and where: sysinfo alone stores anything
 abbrev pub stored_by_call : Script → What → Option (ℕ × List ℕ)
-stored_by_call S call = if is_number (number_entered call) 99 then Some (argument call 0, host_sysinfo S.figures) else None
+stored_by_call S call = if is_number (number_entered call) nr_sysinfo then Some (argument call 0, host_sysinfo S.figures) else None
 
 -- what the event stores, and where
 abbrev pub stored : Script → List Event → Actor → What → Option (ℕ × List ℕ)
@@ -117,4 +119,4 @@ mapped_bytes S K m a (suc n) = if is_mapped S.map a then byte S K m a ∷ mapped
 
 -- the answer of a read of n bytes: EFAULT where the first isn't mapped
 abbrev pub bytes_read : Script → List Event → ℕ → ℕ → ℕ → Result (List ℕ) ℕ
-bytes_read S K m a n = if is_mapped S.map a then Ok (mapped_bytes S K m a n) else Err 14
+bytes_read S K m a n = if is_mapped S.map a then Ok (mapped_bytes S K m a n) else Err efault

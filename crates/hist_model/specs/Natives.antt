@@ -20,6 +20,8 @@ use Rattle.hist_model.specs.declared.request.Request.TheVariants.{Mknod, Mount, 
 use Rattle.hist_model.specs.declared.request.TreeOp.{TreeOp}
 use Rattle.hist_model.specs.declared.request.TreeOp.TheVariants.{Fail, Make}
 use Rattle.hist_model.specs.declared.script.Script.{Script}
+use Rattle.sys_abi.specs.Calls.{nr_close, nr_getpid, nr_sysinfo}
+use Rattle.sys_abi.specs.Errnos.{eperm, enoent, ebadf, efault, emfile, enosys}
 
 -- what the tree and the descriptor tables are after a history: the tree, what a number of a group leads to, and the base that a worker has opened
 pub record Files : Type 0 where
@@ -80,7 +82,7 @@ is_device _ = false
 
 -- a node: devices answer EPERM once the tests of the tree have passed
 abbrev pub make_natively : Bool → Result Tree ℕ → NativeStep
-make_natively true (Ok T) = Fails 1
+make_natively true (Ok T) = Fails eperm
 make_natively false (Ok T) = Changes T
 make_natively device (Err e) = Fails e
 
@@ -92,15 +94,15 @@ is_refused _ = false
 abbrev pub set_natively : Bool → Bool → Result Tree ℕ → NativeStep
 set_natively true own r = changed r
 set_natively false true r = changed r
-set_natively false false r = Fails 1
+set_natively false false r = Fails eperm
 
 abbrev pub open_at_number : ℕ → Option ℕ → NativeStep
-open_at_number x None = Fails 24
+open_at_number x None = Fails emfile
 open_at_number x (Some n) = Opens n x
 
 abbrev pub opened_place : Option ℕ → Place → NativeStep
 opened_place free (At x) = open_at_number x free
-opened_place free (New dir name) = Fails 2
+opened_place free (New dir name) = Fails enoent
 opened_place free (Refused e) = Fails e
 
 -- a request with its arguments read, from a base
@@ -110,7 +112,7 @@ request_natively S F g base (SetXattr path name value flags) =
     let op = effect (SetXattr path name value flags) in
     set_natively (is_refused op) (starts_with nat_eq name (codes "user.")) (perform F.tree (root S) base op)
 request_natively S F g base (OpenAt d path flags) = opened_place (lowest_free F g S.rlimit) (reaches F.tree (root S) base path Follow)
-request_natively S F g base _ = Fails 1
+request_natively S F g base _ = Fails eperm
 
 abbrev pub copied_natively : Script → Files → ℕ → What → Result (List (List ℕ)) ℕ → NativeStep
 copied_natively S F g call (Err e) = Fails e
@@ -118,7 +120,7 @@ copied_natively S F g call (Ok texts) =
     request_natively S F g (base_for S F g (base_dirfd (number_entered call) (entered call))) (request (number_entered call) (entered call) texts)
 
 abbrev pub close_natively : ℕ → Option Obj → NativeStep
-close_natively n None = Fails 9
+close_natively n None = Fails ebadf
 close_natively n (Some o) = Closes n
 
 abbrev pub has_base : Option ℤ → Bool
@@ -130,11 +132,11 @@ abbrev pub call_natively : Script → List Event → Files → Name → ℕ → 
 call_natively S K F n g call =
     let nr = number_entered call in
     let low = argument call 0 % 2 ^ 32 in
-    if is_number nr 3 then close_natively low (F.slot g low) else (
-    if is_number nr 39 then Gives (pid_named K n) else (
-    if is_number nr 99 then (if all_mapped S.map (argument call 0) sysinfo_size then Writes else Fails 14) else (
+    if is_number nr nr_close then close_natively low (F.slot g low) else (
+    if is_number nr nr_getpid then Gives (pid_named K n) else (
+    if is_number nr nr_sysinfo then (if all_mapped S.map (argument call 0) sysinfo_size then Writes else Fails efault) else (
     if has_base (base_dirfd nr (entered call)) then copied_natively S F g call (copy_of (mapped_byte S K g) (plan nr (entered call))) else
-    Fails 38)))
+    Fails enosys)))
 
 -- a task's native call
 abbrev pub native_step : Script → List Event → Files → Name → NativeStep

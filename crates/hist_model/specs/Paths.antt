@@ -3,6 +3,7 @@ use Rattle.std.specs.Prelude.{ℕ, zero, suc, Bool, true, false, ◌&&◌, ◌||
 use Rattle.hist_model.specs.declared.request.Node.{Node}
 use Rattle.hist_model.specs.declared.request.Node.TheVariants.{Link}
 use Rattle.hist_model.specs.Trees.{Tree, node_at, is_dir_at, entry, top, up}
+use Rattle.sys_abi.specs.Errnos.{enoent, ebadf, eexist, enotdir, enametoolong, eloop}
 
 -- what is done with the last component: it is followed to a node, or is the name of a new one
 pub data Last : Type 0 where
@@ -14,25 +15,6 @@ pub data Place : Type 0 where
   At : ℕ → Place
   New : ℕ → List ℕ → Place
   Refused : ℕ → Place
-
--- ENOENT, EBADF, EEXIST, ENOTDIR, ENAMETOOLONG, ELOOP
-abbrev pub no_entry : ℕ
-no_entry = 2
-
-abbrev pub no_base : ℕ
-no_base = 9
-
-abbrev pub exists_already : ℕ
-exists_already = 17
-
-abbrev pub not_directory : ℕ
-not_directory = 20
-
-abbrev pub name_too_long : ℕ
-name_too_long = 36
-
-abbrev pub too_many_links : ℕ
-too_many_links = 40
 
 -- with one more byte before the first piece
 abbrev pub onto_first : ℕ → List (List ℕ) → List (List ℕ)
@@ -84,12 +66,12 @@ entered T n (Some (Link target)) = Follows target
 entered T n _ = Goes (top T n)
 
 abbrev pub looked_up : Tree → Option ℕ → Turn
-looked_up T None = Ends (Refused no_entry)
+looked_up T None = Ends (Refused enoent)
 looked_up T (Some n) = entered T n (node_at T n)
 
 -- the name of a new node
 abbrev pub named : ℕ → List ℕ → Place
-named n c = if is_dot c || is_dot_dot c then Refused exists_already else New n c
+named n c = if is_dot c || is_dot_dot c then Refused eexist else New n c
 
 -- a component that isn't the name of a new node
 abbrev pub stepped : Tree → ℕ → ℕ → List ℕ → Turn
@@ -98,14 +80,14 @@ stepped T root n c = if is_dot c then Goes n else (if is_dot_dot c then Goes (up
 -- one component at a node; `names` where it is the name of a new node
 abbrev pub turn : Tree → ℕ → Bool → ℕ → List ℕ → Turn
 turn T root names n c =
-    if not (is_dir_at T n) then Ends (Refused not_directory)
-    else (if nat_lt 255 (length c) then Ends (Refused name_too_long)
+    if not (is_dir_at T n) then Ends (Refused enotdir)
+    else (if nat_lt 255 (length c) then Ends (Refused enametoolong)
     else (if names then Ends (named n c) else stepped T root n c))
 
 -- no component is left at a node
 abbrev pub arrived : Last → ℕ → Place
 arrived Follow n = At n
-arrived Create n = Refused exists_already
+arrived Create n = Refused eexist
 
 -- where a link's target is walked from
 abbrev pub link_start : ℕ → ℕ → List ℕ → ℕ
@@ -124,7 +106,7 @@ walk_parts follow T root last n (c ∷ cs) =
     turned follow (λ m. walk_parts follow T root last m cs) root n cs (turn T root (creates last && none_left cs) n c)
 
 abbrev pub looped : ℕ → List (List ℕ) → Place
-looped n cs = Refused too_many_links
+looped n cs = Refused eloop
 
 -- the walk where at most so many links are still followed
 unfoldable pub walk : ℕ → Tree → ℕ → Last → ℕ → List (List ℕ) → Place
@@ -132,10 +114,10 @@ walk zero T root last = walk_parts looped T root last
 walk (suc links) T root last = walk_parts (walk links T root last) T root last
 
 abbrev pub walked_from : Tree → ℕ → Last → List (List ℕ) → Option ℕ → Place
-walked_from T root last cs None = Refused no_base
+walked_from T root last cs None = Refused ebadf
 walked_from T root last cs (Some n) = walk 40 T root last n cs
 
 -- where a path leads, from the container's root or from a base
 abbrev pub reaches : Tree → ℕ → Option ℕ → List ℕ → Last → Place
-reaches T root base [] last = Refused no_entry
+reaches T root base [] last = Refused enoent
 reaches T root base (b ∷ bs) last = walked_from T root last (components (b ∷ bs)) (if b == 47 then Some root else base)

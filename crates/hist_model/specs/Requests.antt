@@ -8,6 +8,7 @@ use Rattle.hist_model.specs.declared.request.Kind.{Kind}
 use Rattle.hist_model.specs.declared.request.Kind.TheVariants.{Reg, Chr, Blk, Fifo, Sock, Dir, Bad}
 use Rattle.hist_model.specs.declared.request.Request.{Request}
 use Rattle.hist_model.specs.declared.request.Request.TheVariants.{Mknod, Mount, SetXattr, OpenAt, Sysinfo, Other}
+use Rattle.sys_abi.specs.Calls.{nr_sysinfo, nr_mknod, nr_mount, nr_setxattr, nr_openat, nr_mknodat}
 
 -- the low 16 bits of a number
 abbrev pub low_16 : ℕ → ℕ
@@ -32,12 +33,12 @@ text_at texts i = get_or texts i []
 -- the request of a call whose number isn't negative
 abbrev pub request_numbered : ℕ → List ℕ → List (List ℕ) → Request
 request_numbered nr args texts =
-    if nr == 99 then Sysinfo (argument args 0)
-    else if nr == 133 then Mknod None (text_at texts 0) (low_16 (argument args 1)) (low_32 (argument args 2))
-    else if nr == 165 then Mount (text_at texts 0) (text_at texts 1) (text_at texts 2) (text_at texts 3) [] (argument args 3) false
-    else if nr == 188 then SetXattr (text_at texts 0) (text_at texts 1) (text_at texts 2) (low_32 (argument args 4))
-    else if nr == 257 then OpenAt (signed_32 (argument args 0)) (text_at texts 0) (low_32 (argument args 2))
-    else if nr == 259 then Mknod (Some (signed_32 (argument args 0))) (text_at texts 0) (low_16 (argument args 2)) (low_32 (argument args 3))
+    if nr == nr_sysinfo then Sysinfo (argument args 0)
+    else if nr == nr_mknod then Mknod None (text_at texts 0) (low_16 (argument args 1)) (low_32 (argument args 2))
+    else if nr == nr_mount then Mount (text_at texts 0) (text_at texts 1) (text_at texts 2) (text_at texts 3) [] (argument args 3) false
+    else if nr == nr_setxattr then SetXattr (text_at texts 0) (text_at texts 1) (text_at texts 2) (low_32 (argument args 4))
+    else if nr == nr_openat then OpenAt (signed_32 (argument args 0)) (text_at texts 0) (low_32 (argument args 2))
+    else if nr == nr_mknodat then Mknod (Some (signed_32 (argument args 0))) (text_at texts 0) (low_16 (argument args 2)) (low_32 (argument args 3))
     else Other (pos nr)
 
 -- the request of a call: its number, its arguments and its texts
@@ -47,16 +48,16 @@ request (negsuc nr) args texts = Other (negsuc nr)
 
 -- the call of a mknod: without a descriptor, and with one
 abbrev pub call_of_mknod : Option ℤ → ℤ
-call_of_mknod None = pos 133
-call_of_mknod (Some fd) = pos 259
+call_of_mknod None = pos nr_mknod
+call_of_mknod (Some fd) = pos nr_mknodat
 
 -- the number of the call that makes a request
 abbrev pub call_of_request : Request → ℤ
 call_of_request (Mknod dirfd path mode dev) = call_of_mknod dirfd
-call_of_request (Mount source target fstype options via flags shift) = pos 165
-call_of_request (SetXattr path name value flags) = pos 188
-call_of_request (OpenAt dirfd path flags) = pos 257
-call_of_request (Sysinfo addr) = pos 99
+call_of_request (Mount source target fstype options via flags shift) = pos nr_mount
+call_of_request (SetXattr path name value flags) = pos nr_setxattr
+call_of_request (OpenAt dirfd path flags) = pos nr_openat
+call_of_request (Sysinfo addr) = pos nr_sysinfo
 call_of_request (Other nr) = nr
 
 -- the kind of node by the four bits of a mode that tell it (inode(7))
@@ -82,8 +83,8 @@ granted rule q = q
 -- the descriptor from which a call's relative paths go: -100 is the container's root, and a call without paths has none
 abbrev pub base_numbered : ℕ → List ℕ → Option ℤ
 base_numbered nr args =
-    if (nr == 133) || (nr == 165) || (nr == 188) then Some (negsuc 99)
-    else if (nr == 257) || (nr == 259) then Some (signed_32 (argument args 0))
+    if (nr == nr_mknod) || (nr == nr_mount) || (nr == nr_setxattr) then Some (negsuc 99)
+    else if (nr == nr_openat) || (nr == nr_mknodat) then Some (signed_32 (argument args 0))
     else None
 
 unfoldable pub base_dirfd : ℤ → List ℕ → Option ℤ

@@ -8,6 +8,7 @@ use Rattle.hist_model.specs.declared.event.Back.{Back}
 use Rattle.hist_model.specs.declared.event.Back.TheVariants.{Value, Fail, Continue}
 use Rattle.hist_model.specs.declared.request.Request.{Request}
 use Rattle.hist_model.specs.declared.policy.Cap.{Cap}
+use Rattle.sys_abi.specs.Errnos.{emfile}
 use Rattle.sys_abi.specs.declared.wire.Notif.{Notif}
 use Rattle.sys_abi.specs.declared.wire.Addfd.{Addfd}
 
@@ -155,7 +156,7 @@ abbrev pub inject_deed : ℕ → Addfd → Option (Result (Unit {0}) ℕ) → Op
 inject_deed x a None t = Put a
 inject_deed x a (Some (Err e)) t = Answer x (Fail e)
 inject_deed x a (Some (Ok u)) None = Take
-inject_deed x a (Some (Ok u)) (Some t) = Answer x (Fail 24)
+inject_deed x a (Some (Ok u)) (Some t) = Answer x (Fail emfile)
 
 abbrev pub decided_deed : ℕ → List What → Decision → Deed
 decided_deed x own (Denies e) = Answer x (Fail e)

@@ -24,16 +24,17 @@ use Rattle.hist_model.specs.declared.script.Instr.TheVariants.{Poke as IPoke, Fi
 use Rattle.hist_model.specs.declared.script.Whom.{Whom}
 use Rattle.hist_model.specs.declared.script.Whom.TheVariants.{Own, Parent, Child, Pid}
 use Rattle.hist_model.specs.declared.policy.Cap.{Cap}
+use Rattle.sys_abi.specs.Errnos.{enoent, esrch, ebadf, echild, eagain, efault, ebusy, emfile, einprogress, edquot}
 use Rattle.sys_abi.specs.declared.wire.Notif.{Notif}
 use Rattle.sys_abi.specs.declared.wire.Addfd.{Addfd}
 
 -- the answer of a spawn
 abbrev pub spawn_answer : Option ℕ → SpawnKind → Result (ℕ × SpawnKind) ℕ
-spawn_answer None kind = Err 11
+spawn_answer None kind = Err eagain
 spawn_answer (Some p) kind = Ok (p, kind)
 
 abbrev pub found : Option ℕ → Result (Unit {0}) ℕ
-found None = Err 3
+found None = Err esrch
 found (Some t) = Ok tt
 
 -- the event makes a task
@@ -57,7 +58,7 @@ is_ended_child K n t = makes_in (event_at K t) && names_ended_child K n t
 
 -- the step of a wait: a child, an error, or none
 abbrev pub wait_step : List Event → Option ℕ → Option ℕ → What
-wait_step K None ended = Reap (Err 10)
+wait_step K None ended = Reap (Err echild)
 wait_step K (Some child) None = Skip
 wait_step K (Some child) (Some t) = Reap (Ok (name_of K t))
 
@@ -159,8 +160,8 @@ owes_native (e ∷ K) n = if is_task e.who n && not (skips e.what) then owes e.w
 
 abbrev pub slot_answer : Slot → Result ℕ ℕ
 slot_answer (Number n) = Ok n
-slot_answer Full = Err 9
-slot_answer Over = Err 24
+slot_answer Full = Err ebadf
+slot_answer Over = Err emfile
 
 -- the install of the oldest request of the call
 abbrev pub install_step : System → List Event → ℕ → List ℕ → What
@@ -203,7 +204,7 @@ abbrev pub notif : List Event → ℕ → Notif
 notif K c = record { id = id K c; pid = pid_at K (task_place K (caller K c)); flags = 0; call = record { nr = nr_in (event_at K c); arch = 0xc000003e; ip = 0; args = args_in (event_at K c) } }
 
 abbrev pub recv_answer : List Event → Option ℕ → Result Notif ℕ
-recv_answer K None = Err 2
+recv_answer K None = Err enoent
 recv_answer K (Some c) = Ok (notif K c)
 
 abbrev pub lives : List Event → Option ℕ → Bool
@@ -211,12 +212,12 @@ lives K None = false
 lives K (Some t) = not (ended K (name_of K t))
 
 abbrev pub check_answer : List Event → Option ℕ → Result (Unit {0}) ℕ
-check_answer K None = Err 2
-check_answer K (Some c) = if waiting K c then Ok tt else Err 2
+check_answer K None = Err enoent
+check_answer K (Some c) = if waiting K c then Ok tt else Err enoent
 
 abbrev pub send_answer : List Event → Option ℕ → Result (Unit {0}) ℕ
-send_answer K None = Err 2
-send_answer K (Some c) = if waiting K c then Ok tt else Err 115
+send_answer K None = Err enoent
+send_answer K (Some c) = if waiting K c then Ok tt else Err einprogress
 
 abbrev pub is_shared : SpawnKind → Bool
 is_shared Shared = true
@@ -286,16 +287,16 @@ base [] w = None
 base (e ∷ K) w = if is_worker e.who w then base_after K e.what (base K w) else base K w
 
 abbrev pub base_answer : System → List Event → Option ℕ → ℤ → Result (Unit {0}) ℕ
-base_answer S K None d = Err 3
-base_answer S K (Some t) d = if ended K (name_of K t) then Err 3 else (if S.directory K (group K t) d then Ok tt else Err 9)
+base_answer S K None d = Err esrch
+base_answer S K (Some t) d = if ended K (name_of K t) then Err esrch else (if S.directory K (group K t) d then Ok tt else Err ebadf)
 
 abbrev pub read_answer : System → List Event → Option ℕ → ℕ → ℕ → Result (List ℕ) ℕ
-read_answer S K None a n = Err 14
+read_answer S K None a n = Err efault
 read_answer S K (Some m) a n = S.bytes K m a n
 
 abbrev pub put_answer : System → List Event → Addfd → Option ℕ → Result (Unit {0}) ℕ
-put_answer S K a None = Err 2
-put_answer S K a (Some c) = if not (waiting K c) then Err 115 else (if has_send_flag a && not (is_empty (queue K c)) then Err 16 else Ok tt)
+put_answer S K a None = Err enoent
+put_answer S K a (Some c) = if not (waiting K c) then Err einprogress else (if has_send_flag a && not (is_empty (queue K c)) then Err ebusy else Ok tt)
 
 -- the worker's request: its last good put, until its next take
 abbrev pub request_after : ℕ → What → Option ℕ → Option ℕ
@@ -342,7 +343,7 @@ request_listed K (Some r) = call_listed K (call_at K r)
 abbrev pub take_step : Option (Result ℕ ℕ) → Bool → What
 take_step (Some a) on = AddfdTake a
 take_step None true = Skip
-take_step None false = AddfdTake (Err 2)
+take_step None false = AddfdTake (Err enoent)
 
 -- the step is an effect that was done under a cap of this rule
 abbrev pub is_cap_of : Option Cap → ℕ → Bool
@@ -367,13 +368,13 @@ is_spent K (Some cap) = nat_le cap.times (times_spent K cap.rule)
 -- the step of a worker's deed: receive, open, check, read and so on, each with its answer
 abbrev pub deed_step : System → List Event → ℕ → Deed → What
 deed_step S K w Fetch = if count K == 0 then Skip else Recv (recv_answer K (oldest_unfetched K))
-deed_step S K w (Open p) = OpenMem p (if lives K (holder K p) then Ok tt else Err 3)
+deed_step S K w (Open p) = OpenMem p (if lives K (holder K p) then Ok tt else Err esrch)
 deed_step S K w (OpenB p d) = OpenBase p d (base_answer S K (holder K p) d)
 deed_step S K w (Ask x) = Check x (check_answer K (named K x))
 deed_step S K w (ReadD a n) = Read a n (read_answer S K (mem K w) a n)
-deed_step S K w (ActD q cap) = Act q cap (if is_spent K cap then Err 122 else S.outcome K w q)
-deed_step S K w (PlantD a b cap) = Plant a b cap (if is_spent K cap then Err 122 else (if S.writable a then Ok tt else Err 14))
-deed_step S K w (Put a) = AddfdPut a (if not (S.source a.srcfd) then Err 9 else put_answer S K a (named K a.id))
+deed_step S K w (ActD q cap) = Act q cap (if is_spent K cap then Err edquot else S.outcome K w q)
+deed_step S K w (PlantD a b cap) = Plant a b cap (if is_spent K cap then Err edquot else (if S.writable a then Ok tt else Err efault))
+deed_step S K w (Put a) = AddfdPut a (if not (S.source a.srcfd) then Err ebadf else put_answer S K a (named K a.id))
 deed_step S K w Take = take_step (install_at K (request_of K w)) (request_listed K (request_of K w))
 deed_step S K w (Answer x back) = Send x back (send_answer K (named K x))
 deed_step S K w Let = LetGo

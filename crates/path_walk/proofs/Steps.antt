@@ -3,7 +3,8 @@ use Rattle.std.proofs.Common.{◌≡◌, ℕ, zero, suc, ◌-◌, ◌<◌, Bool,
 use Rattle.std.specs.Prelude.{◌&&◌, ◌||◌, not, if◌then◌else◌, Option, Some, length}
 use Rattle.std.proofs.lemmas.List.{append-nil}
 use Rattle.hist_model.specs.Trees.{Tree}
-use Rattle.hist_model.specs.Paths.{Last, Place, Refused, Turn, Ends, Goes, Follows, components, none_left, creates, is_absolute, turn, turned, arrived, link_start, looped, too_many_links, walk_parts, walk, reaches}
+use Rattle.hist_model.specs.Paths.{Last, Place, Refused, Turn, Ends, Goes, Follows, components, none_left, creates, is_absolute, turn, turned, arrived, link_start, looped, walk_parts, walk, reaches}
+use Rattle.sys_abi.specs.Errnos.{eloop}
 
 -- what a link leads to while at most so many are still followed
 follow : ℕ → Tree → ℕ → Last → ℕ → List (List ℕ) → Place
@@ -40,7 +41,7 @@ unfolding follow
 followed zero T root last m cs h = absurd (omega arith)
 followed (suc k) T root last m cs h = let e : suc k - 1 ≡ k = omega arith in rw e
 
-not_followed : (k : ℕ) (T : Tree) (root : ℕ) (last : Last) (m : ℕ) (cs : List (List ℕ)) → k ≡ 0 → follow k T root last m cs ≡ Refused too_many_links
+not_followed : (k : ℕ) (T : Tree) (root : ℕ) (last : Last) (m : ℕ) (cs : List (List ℕ)) → k ≡ 0 → follow k T root last m cs ≡ Refused eloop
 unfolding follow
 not_followed zero T root last m cs h = refl
 not_followed (suc k) T root last m cs h = absurd (omega arith)
@@ -63,7 +64,7 @@ module _ (T : Tree) (root : ℕ) (last : Last) (k n : ℕ) (text rest c : List �
   pub step_goes : (m : ℕ) → turn T root names n c ≡ Goes m → walk k T root last n (components text ++ cs) ≡ walk k T root last m (components rest ++ cs)
   step_goes m e = taken (Goes m) e
 
-  pub step_loops : (target : List ℕ) → turn T root names n c ≡ Follows target → k ≡ 0 → walk k T root last n (components text ++ cs) ≡ Refused too_many_links
+  pub step_loops : (target : List ℕ) → turn T root names n c ≡ Follows target → k ≡ 0 → walk k T root last n (components text ++ cs) ≡ Refused eloop
   step_loops target e z = taken (Follows target) e ∙ not_followed k T root last _ _ z
 
   pub step_follows : (target : List ℕ) (from : ℕ) (p : Place) → turn T root names n c ≡ Follows target → 0 < k → from ≡ link_start root n target

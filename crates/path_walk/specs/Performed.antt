@@ -1,18 +1,19 @@
 -- What is answered of an operation on the tree.
 use Rattle.std.specs.Prelude.{◌≡◌, ℕ, ◌+◌, ◌<◌, length, Result, Ok, Err, IsOk}
 use Rattle.hist_model.specs.Trees.{Tree}
-use Rattle.hist_model.specs.Paths.{Place, At, New, no_entry}
+use Rattle.hist_model.specs.Paths.{Place, At, New}
 use Rattle.hist_model.specs.Paths as paths
 use Rattle.hist_model.specs.declared.request.TreeOp.{TreeOp}
 use Rattle.hist_model.specs.declared.request.TreeOp.TheVariants.{Fail, Make, Mount, SetAttr, Open}
 use Rattle.mount_tree.specs.Changes.{Seen}
 use Rattle.sys_abi.specs.declared.memory.OrNoMemory.{OrNoMemory}
 use Rattle.sys_abi.specs.declared.memory.OrNoMemory.TheVariants.{Refused, NoMemory}
+use Rattle.sys_abi.specs.Errnos.{enoent}
 
 -- a walk that leads to no node, with its error
 abbrev pub IsNotFollowed : Place → ℕ → Type 0
 IsNotFollowed (At n) e = ⊥
-IsNotFollowed (New dir name) e = e ≡ no_entry
+IsNotFollowed (New dir name) e = e ≡ enoent
 IsNotFollowed (paths.Refused e') e = e ≡ e'
 
 -- the room with which an operation takes no memory

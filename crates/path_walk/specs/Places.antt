@@ -1,6 +1,5 @@
 -- What the walk's answers mean.
 use Rattle.std.specs.Prelude.{ℕ, List, Result, Ok, Err}
-use Rattle.hist_model.specs.Paths.{no_entry, no_base, exists_already, not_directory, name_too_long, too_many_links}
 use Rattle.hist_model.specs.Paths as paths
 use Rattle.path_walk.specs.declared.places.Last.{Last}
 use Rattle.path_walk.specs.declared.places.Last.TheVariants as last
@@ -8,6 +7,7 @@ use Rattle.path_walk.specs.declared.places.Place.{Place}
 use Rattle.path_walk.specs.declared.places.Place.TheVariants as place
 use Rattle.path_walk.specs.declared.places.WalkError.{WalkError}
 use Rattle.path_walk.specs.declared.places.WalkError.TheVariants.{NoEntry, NotDir, Loop, NameTooLong, Exists, NoBase}
+use Rattle.sys_abi.specs.Errnos.{ebadf, eexist, eloop, enametoolong, enoent, enotdir}
 
 abbrev pub last_of : Last → paths.Last
 last_of last.Follow = paths.Follow
@@ -15,12 +15,12 @@ last_of last.Create = paths.Create
 
 -- the number of an error
 abbrev pub error_number : WalkError → ℕ
-error_number NoEntry = no_entry
-error_number NotDir = not_directory
-error_number Loop = too_many_links
-error_number NameTooLong = name_too_long
-error_number Exists = exists_already
-error_number NoBase = no_base
+error_number NoEntry = enoent
+error_number NotDir = enotdir
+error_number Loop = eloop
+error_number NameTooLong = enametoolong
+error_number Exists = eexist
+error_number NoBase = ebadf
 
 -- the place that is answered, with the name that the walk keeps
 abbrev pub place_of : Result Place WalkError → List ℕ → paths.Place

@@ -2,17 +2,42 @@ use Rattle.std.specs.Prelude.{ℕ, ℤ, pos, negsuc, Option, None, List, [], ◌
 use Rattle.std.specs.Option.{option_map}
 use Rattle.sys_abi.specs.Names.{name_in, number_in}
 
--- each call that policies and programs name, by its number and its name (syscalls(2), the numbers of x86-64)
+-- the numbers of calls on x86-64 (syscalls(2))
+abbrev pub nr_close : ℕ
+nr_close = 3
+
+abbrev pub nr_getpid : ℕ
+nr_getpid = 39
+
+abbrev pub nr_sysinfo : ℕ
+nr_sysinfo = 99
+
+abbrev pub nr_mknod : ℕ
+nr_mknod = 133
+
+abbrev pub nr_mount : ℕ
+nr_mount = 165
+
+abbrev pub nr_setxattr : ℕ
+nr_setxattr = 188
+
+abbrev pub nr_openat : ℕ
+nr_openat = 257
+
+abbrev pub nr_mknodat : ℕ
+nr_mknodat = 259
+
+-- each call that policies and programs name, by its number and its name
 abbrev pub calls : List (ℕ × List ℕ)
 calls =
-    (3, codes "close") ∷
-    (39, codes "getpid") ∷
-    (99, codes "sysinfo") ∷
-    (133, codes "mknod") ∷
-    (165, codes "mount") ∷
-    (188, codes "setxattr") ∷
-    (257, codes "openat") ∷
-    (259, codes "mknodat") ∷
+    (nr_close, codes "close") ∷
+    (nr_getpid, codes "getpid") ∷
+    (nr_sysinfo, codes "sysinfo") ∷
+    (nr_mknod, codes "mknod") ∷
+    (nr_mount, codes "mount") ∷
+    (nr_setxattr, codes "setxattr") ∷
+    (nr_openat, codes "openat") ∷
+    (nr_mknodat, codes "mknodat") ∷
     []
 
 -- the name of the call with this number
