@@ -6,7 +6,7 @@ ghost use Rattle.hist_model.specs.Paths.{Follow, At, reaches};
 ghost use Rattle.hist_model.specs.Effects.{perform};
 ghost use Rattle.path_walk.specs.Performed.{IsPerformed, IsNotFollowed, room_wanted};
 
-use crate::places::{Last, Place, known};
+use crate::places::{Last, Place};
 use crate::resolution::{Walk, resolve};
 use hist_model::request::{MountRow, Node, NodeRef, TreeOp};
 use mount_tree::errors::AttrError;
@@ -36,7 +36,7 @@ pub fn follow(
 {
     match resolve(tree, root, base, path, Last::Follow, walk) {
         Ok(Place::At(node)) => Ok(node),
-        Ok(Place::New { .. }) => Err(known(2)),
+        Ok(Place::New { .. }) => Err(Errno::ENOENT),
         Err(error) => Err(error.errno()),
     }
 }
@@ -54,12 +54,12 @@ pub fn make(
 {
     let dir = match resolve(tree, root, base, path, Last::Create, walk) {
         Ok(Place::New { dir }) => dir,
-        Ok(Place::At(_)) => return Err(OrNoMemory::Refused(known(17))),
+        Ok(Place::At(_)) => return Err(OrNoMemory::Refused(Errno::EEXIST)),
         Err(error) => return Err(OrNoMemory::Refused(error.errno())),
     };
     match tree.make_node(dir, walk.name(), node) {
         Ok(_) => Ok(()),
-        Err(OrNoMemory::Refused(_)) => Err(OrNoMemory::Refused(known(17))),
+        Err(OrNoMemory::Refused(_)) => Err(OrNoMemory::Refused(Errno::EEXIST)),
         Err(OrNoMemory::NoMemory) => Err(OrNoMemory::NoMemory),
     }
 }
@@ -80,7 +80,7 @@ pub fn mount(
         Err(errno) => return Err(OrNoMemory::Refused(errno)),
     };
     if !tree.is_dir(dir) {
-        return Err(OrNoMemory::Refused(known(20)));
+        return Err(OrNoMemory::Refused(Errno::ENOTDIR));
     }
     match tree.mount_at(dir, row) {
         Ok(_) => Ok(()),
@@ -103,7 +103,7 @@ pub fn set_attr(
         (TreeOp.SetAttr path.now change.entry.name.now change.entry.value.now change.entry.flags)) result }
 {
     if change.flags >= 4 {
-        return Err(OrNoMemory::Refused(known(22)));
+        return Err(OrNoMemory::Refused(Errno::EINVAL));
     }
     let node = match follow(tree, root, base, path, walk) {
         Ok(node) => node,
@@ -111,9 +111,9 @@ pub fn set_attr(
     };
     match tree.set_attr(node, change.name, change.value, change.flags) {
         Ok(()) => Ok(()),
-        Err(AttrError::BadFlags) => Err(OrNoMemory::Refused(known(22))),
-        Err(AttrError::Exists) => Err(OrNoMemory::Refused(known(17))),
-        Err(AttrError::Absent) => Err(OrNoMemory::Refused(known(61))),
+        Err(AttrError::BadFlags) => Err(OrNoMemory::Refused(Errno::EINVAL)),
+        Err(AttrError::Exists) => Err(OrNoMemory::Refused(Errno::EEXIST)),
+        Err(AttrError::Absent) => Err(OrNoMemory::Refused(Errno::ENODATA)),
         Err(AttrError::NoMemory) => Err(OrNoMemory::NoMemory),
     }
 }

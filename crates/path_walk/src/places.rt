@@ -47,27 +47,18 @@ pub enum WalkError {
     NoBase,
 }
 
-/// The error with a number that is known to be one.
-pub(crate) fn known(code: u16) -> Errno
-    requires low { 1 ≤ code }
-    requires high { code ≤ 4095 }
-    ensures { result ≡ code }
-{
-    Errno::of(code).unwrap()
-}
-
 impl WalkError {
     /// Its number.
     pub fn errno(self) -> Errno
         ensures { result ≡ error_number self }
     {
-        known(match self {
-            WalkError::NoEntry => 2,
-            WalkError::NotDir => 20,
-            WalkError::Loop => 40,
-            WalkError::NameTooLong => 36,
-            WalkError::Exists => 17,
-            WalkError::NoBase => 9,
-        })
+        match self {
+            WalkError::NoEntry => Errno::ENOENT,
+            WalkError::NotDir => Errno::ENOTDIR,
+            WalkError::Loop => Errno::ELOOP,
+            WalkError::NameTooLong => Errno::ENAMETOOLONG,
+            WalkError::Exists => Errno::EEXIST,
+            WalkError::NoBase => Errno::EBADF,
+        }
     }
 }
