@@ -3,27 +3,21 @@ use Rattle.std.proofs.Common.{◌≡◌, ◌≢◌, ℕ, zero, suc, ◌<◌, ◌
 use Rattle.std.specs.Prelude.{nat_lt, ◌==◌, ⊤}
 use Rattle.std.proofs.lemmas.Bool.{cases_Bool}
 use Rattle.std.proofs.lemmas.Bool.Decides.{nat_tests}
-use Rattle.lex_core.specs.Lexical.{is_blank, is_bare, escaped, hex_digit, hex_byte, fault_at, tokens, bare, quoted, after, ended, begun, with_byte}
+use Rattle.lex_core.specs.Lexical.{is_blank, is_bare, escaped, hex_digit, hex_byte, fault_behind_bare, tokens, bare, quoted, after, ended, begun, with_byte}
 use Rattle.lex_core.specs.Steps.{with_bytes, with_tokens, EndsToken}
 use Rattle.lex_core.specs.Grammar.{AreBare, Written, LacksDigits, LacksEscape, Breaks, Reads}
 use Rattle.lex_core.specs.Grammar.Written.{nothing, itself, letter, digits}
-use Rattle.lex_core.specs.Grammar.Reads.{at_end, blank, word, text, stray, word_touched, text_touched, text_broken}
+use Rattle.lex_core.specs.Grammar.Reads.{at_end, blank, word, text, stray, word_touched, word_strays, text_touched, text_strays, text_broken}
 use Rattle.lex_core.specs.declared.line.Token.{Token}
 use Rattle.lex_core.specs.declared.line.Token.TheVariants.{Bare, Quoted}
 use Rattle.lex_core.specs.declared.reason.Reason.{Reason}
 use Rattle.lex_core.specs.declared.reason.Reason.TheVariants.{BadByte, BadQuote}
-use Rattle.lex_core.proofs.Readings.{with_byte-bytes, with_bytes-none, bare-more, bare-ends, tokens-blank, tokens-bare, tokens_of_quoted, begun_ended}
+use Rattle.lex_core.proofs.Readings.{with_byte-bytes, with_bytes-none, bare-more, bare-ended, bare-stopped, tokens-blank, tokens-bare, tokens_of_quoted, begun_ended}
 
 -- ---- what the rules give is what is read
 
 bare-not-blank : (b : ℕ) → is_bare b ≡ true → is_blank b ≡ false
 bare-not-blank b h = grind (arith, nat_tests)
-
-blank-not-bare : (b : ℕ) → is_blank b ≡ true → is_bare b ≡ false
-blank-not-bare b h = elim (cases_Bool (is_bare b)) [
-  | inl k ↦ let q : true ≡ false = sym h ∙ bare-not-blank b k in absurd (cc)
-  | inr k ↦ k
-]
 
 bare-not-quote : (b : ℕ) → is_bare b ≡ true → (b == 34) ≡ false
 bare-not-quote b h = grind (arith, nat_tests)
@@ -40,25 +34,27 @@ after_ends : (rest : List ℕ) → EndsToken rest → after rest ≡ tokens rest
 after_ends [] e = after-end
 after_ends (b ∷ bs) e = after-blank b bs e
 
-after_touched : (b : ℕ) (rest : List ℕ) → is_blank b ≡ false → after (b ∷ rest) ≡ Err (fault_at b)
+after_touched : (b : ℕ) (rest : List ℕ) → is_bare b ≡ true → after (b ∷ rest) ≡ Err BadQuote
 unfolding tokens
-after_touched b rest h = rw h refl
+after_touched b rest h = let k : is_blank b ≡ false = bare-not-blank b h in rw (k, h) refl
 
-bare-end : bare [] ≡ ended (after [])
+after_strays : (b : ℕ) (rest : List ℕ) → is_blank b ≡ false → is_bare b ≡ false → after (b ∷ rest) ≡ Err BadByte
 unfolding tokens
-bare-end = refl
-
-bare-ended : (rest : List ℕ) → EndsToken rest → bare rest ≡ ended (tokens rest)
-bare-ended [] e = bare-end ∙ ap ended after-end
-bare-ended (b ∷ bs) e = bare-ends b bs (blank-not-bare b e) ∙ ap ended (after-blank b bs e)
+after_strays b rest h k = rw (h, k) refl
 
 bare_word : (front rest : List ℕ) → AreBare front → EndsToken rest → bare (front ++ rest) ≡ with_bytes front (ended (tokens rest))
 bare_word [] rest a e = bare-ended rest e ∙ sym (with_bytes-none _)
 bare_word (b ∷ bs) rest a e = bare-more b (bs ++ rest) a.0 ∙ ap (with_byte b) (bare_word bs rest a.1 e) ∙ with_byte-bytes b bs _
 
-bare_touched : (front : List ℕ) (c : ℕ) (rest : List ℕ) → AreBare front → is_blank c ≡ false → is_bare c ≡ false → bare (front ++ c ∷ rest) ≡ Err (fault_at c)
-bare_touched [] c rest a h k = bare-ends c rest k ∙ ap ended (after_touched c rest h)
-bare_touched (b ∷ bs) c rest a h k = bare-more b (bs ++ c ∷ rest) a.0 ∙ ap (with_byte b) (bare_touched bs c rest a.1 h k)
+word_stopped : (front : List ℕ) (c : ℕ) (rest : List ℕ) → AreBare front → is_blank c ≡ false → is_bare c ≡ false → bare (front ++ c ∷ rest) ≡ Err (fault_behind_bare c)
+word_stopped [] c rest a h k = bare-stopped c rest k h
+word_stopped (b ∷ bs) c rest a h k = bare-more b (bs ++ c ∷ rest) a.0 ∙ ap (with_byte b) (word_stopped bs c rest a.1 h k)
+
+not-same : (b n : ℕ) → b ≢ n → (b == n) ≡ false
+not-same b n h = grind (arith, nat_tests)
+
+fault-not-quote : (c : ℕ) → c ≢ 34 → fault_behind_bare c ≡ BadByte
+fault-not-quote c q = rw (not-same c 34 q) refl
 
 quoted-itself : (b : ℕ) (bs : List ℕ) → (b == 34) ≡ false → (b == 92) ≡ false → nat_lt b 32 ≡ false → quoted (b ∷ bs) ≡ with_byte b (quoted bs)
 unfolding tokens
@@ -76,9 +72,6 @@ quoted-closed : (rest : List ℕ) → quoted (34 ∷ rest) ≡ ended (after rest
 unfolding tokens
 quoted-closed rest = refl
 
-not-same : (b n : ℕ) → b ≢ n → (b == n) ≡ false
-not-same b n h = grind (arith, nat_tests)
-
 quoted_written : (front bytes : List ℕ) → Written front bytes → (rest : List ℕ) → quoted (front ++ rest) ≡ with_bytes bytes (quoted rest)
 quoted_written _ _ nothing rest = sym (with_bytes-none _)
 quoted_written _ _ (itself b front bytes l q s w) rest =
@@ -87,6 +80,9 @@ quoted_written _ _ (letter c b front bytes n e w) rest =
     quoted-letter c b (front ++ rest) (not-same c 120 n) e ∙ ap (with_byte b) (quoted_written front bytes w rest) ∙ with_byte-bytes b bytes _
 quoted_written _ _ (digits high low b front bytes e w) rest =
     quoted-digits high low b (front ++ rest) e ∙ ap (with_byte b) (quoted_written front bytes w rest) ∙ with_byte-bytes b bytes _
+
+quoted_followed : (front bytes rest : List ℕ) → Written front bytes → quoted (front ++ 34 ∷ rest) ≡ with_bytes bytes (ended (after rest))
+quoted_followed front bytes rest w = quoted_written front bytes w (34 ∷ rest) ∙ ap (with_bytes bytes) (quoted-closed rest)
 
 quoted-nothing : quoted [] ≡ Err BadQuote
 unfolding tokens
@@ -142,12 +138,16 @@ reads_only _ _ (word b front rest reading a e d) =
     tokens-word b (front ++ rest) a.0 ∙ ap (begun Bare) (bare_word (b ∷ front) rest a e) ∙ begun_ended Bare (b ∷ front) (tokens rest)
     ∙ ap (with_tokens (Bare (b ∷ front) ∷ [])) (reads_only rest reading d)
 reads_only _ _ (text front bytes rest reading w e d) =
-    tokens_of_quoted (front ++ 34 ∷ rest) ∙ ap (begun Quoted) (quoted_written front bytes w (34 ∷ rest) ∙ ap (with_bytes bytes) (quoted-closed rest ∙ ap ended (after_ends rest e)))
+    tokens_of_quoted (front ++ 34 ∷ rest) ∙ ap (begun Quoted) (quoted_followed front bytes rest w ∙ ap (λ r. with_bytes bytes (ended r)) (after_ends rest e))
     ∙ begun_ended Quoted bytes (tokens rest) ∙ ap (with_tokens (Quoted bytes ∷ [])) (reads_only rest reading d)
 reads_only _ _ (stray b rest h k q) = tokens-stray b rest h k (not-same b 34 q)
-reads_only _ _ (word_touched b c front rest a h k) = tokens-word b (front ++ c ∷ rest) a.0 ∙ ap (begun Bare) (bare_touched (b ∷ front) c rest a h k)
+reads_only _ _ (word_touched b front rest a) = tokens-word b (front ++ 34 ∷ rest) a.0 ∙ ap (begun Bare) (word_stopped (b ∷ front) 34 rest a refl refl)
+reads_only _ _ (word_strays b c front rest a h k q) =
+    tokens-word b (front ++ c ∷ rest) a.0 ∙ ap (begun Bare) (word_stopped (b ∷ front) c rest a h k) ∙ ap Err (fault-not-quote c q)
 reads_only _ _ (text_touched c front bytes rest w h) =
-    tokens_of_quoted (front ++ 34 ∷ c ∷ rest) ∙ ap (begun Quoted) (quoted_written front bytes w (34 ∷ c ∷ rest) ∙ ap (with_bytes bytes) (quoted-closed (c ∷ rest) ∙ ap ended (after_touched c rest h)))
+    tokens_of_quoted (front ++ 34 ∷ c ∷ rest) ∙ ap (begun Quoted) (quoted_followed front bytes (c ∷ rest) w ∙ ap (λ r. with_bytes bytes (ended r)) (after_touched c rest h))
+reads_only _ _ (text_strays c front bytes rest w h k) =
+    tokens_of_quoted (front ++ 34 ∷ c ∷ rest) ∙ ap (begun Quoted) (quoted_followed front bytes (c ∷ rest) w ∙ ap (λ r. with_bytes bytes (ended r)) (after_strays c rest h k))
 reads_only _ _ (text_broken front bytes rest w b) =
     tokens_of_quoted (front ++ rest) ∙ ap (begun Quoted) (quoted_written front bytes w rest ∙ ap (with_bytes bytes) (quoted_broken rest b))
 
@@ -238,14 +238,20 @@ read-word : (b : ℕ) (front rest : List ℕ) → AreBare (b ∷ front) → NotB
 read-word b front [] a s r = (_, word b front [] r.0 a tt r.1)
 read-word b front (c ∷ rest) a s r = elim (cases_Bool (is_blank c)) [
   | inl h ↦ (_, word b front (c ∷ rest) r.0 a h r.1)
-  | inr h ↦ (_, word_touched b c front rest a h s)
+  | inr h ↦ elim (cases_Bool (c == 34)) [
+    | inl q ↦ (_, subst (λ (d : ℕ). Reads (b ∷ front ++ d ∷ rest) (Err BadQuote)) (sym (same c 34 q)) (word_touched b front rest a))
+    | inr q ↦ (_, word_strays b c front rest a h s (other c 34 q))
+  ]
 ]
 
 read-text : (front bytes rest : List ℕ) → Written front bytes → Read rest → Read (34 ∷ front ++ 34 ∷ rest)
 read-text front bytes [] w r = (_, text front bytes [] r.0 w tt r.1)
 read-text front bytes (c ∷ rest) w r = elim (cases_Bool (is_blank c)) [
   | inl h ↦ (_, text front bytes (c ∷ rest) r.0 w h r.1)
-  | inr h ↦ (_, text_touched c front bytes rest w h)
+  | inr h ↦ elim (cases_Bool (is_bare c)) [
+    | inl k ↦ (_, text_touched c front bytes rest w k)
+    | inr k ↦ (_, text_strays c front bytes rest w h k)
+  ]
 ]
 
 read_quoted : (n : ℕ) → ((line : List ℕ) → length line ≤ n → Read line) → (rest : List ℕ) → length rest ≤ n → Text rest → Read (34 ∷ rest)

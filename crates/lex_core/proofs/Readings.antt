@@ -1,11 +1,11 @@
 -- Lemmas on how a line is read.
-use Rattle.std.proofs.Common.{◌≡◌, ◌≢◌, ℕ, zero, suc, ◌+◌, ◌<◌, ◌≤◌, List, [], ◌∷◌, ◌++◌, length, take, drop, Bool, true, false, Result, Ok, Err, refl, inl, inr, ap, sym, subst, ◌∙◌, arith, append-nil, append_assoc, length-drop}
+use Rattle.std.proofs.Common.{◌≡◌, ◌≢◌, ℕ, zero, suc, ◌+◌, ◌<◌, ◌≤◌, List, [], ◌∷◌, ◌++◌, length, take, drop, Bool, true, false, Option, Some, None, Result, Ok, Err, refl, inl, inr, ap, sym, subst, ◌∙◌, arith, append-nil, append_assoc, length-drop}
 use Rattle.std.specs.Prelude.{◌==◌}
 use Rattle.std.specs.List.{prefix_len}
 use Rattle.std.proofs.lemmas.Bool.{cases_Bool}
-use Rattle.lex_core.specs.Lexical.{Within, is_blank, is_bare, tokens, bare, quoted, after, ended, begun, with_byte}
+use Rattle.lex_core.specs.Lexical.{Within, is_blank, is_bare, fault_behind_bare, tokens, bare, quoted, ended, begun, with_byte}
 use Rattle.lex_core.specs.Lines.{is_skipped}
-use Rattle.lex_core.specs.Steps.{past_blanks, with_bytes, with_tokens, BeginsToken, EndsToken, Refuses}
+use Rattle.lex_core.specs.Steps.{past_blanks, with_bytes, with_tokens, BeginsToken, EndsToken, Refuses, touching}
 use Rattle.lex_core.specs.declared.line.Token.{Token}
 use Rattle.lex_core.specs.declared.line.Token.TheVariants.{Bare, Quoted}
 use Rattle.lex_core.specs.declared.reason.Reason.{Reason}
@@ -99,24 +99,35 @@ pub bare-more : (b : ℕ) (bs : List ℕ) → is_bare b ≡ true → bare (b ∷
 unfolding tokens
 bare-more b bs h = rw h refl
 
-pub bare-ends : (b : ℕ) (bs : List ℕ) → is_bare b ≡ false → bare (b ∷ bs) ≡ ended (after (b ∷ bs))
-unfolding tokens
-bare-ends b bs h = elim (cases_Bool (is_blank b)) [
-  | inl k ↦ rw (h, k) refl
-  | inr k ↦ rw (h, k) refl
-]
+blank-not-bare : (b : ℕ) → is_blank b ≡ true → is_bare b ≡ false
+blank-not-bare b h = grind (arith, nat_tests)
 
-bare-end : bare [] ≡ ended (after [])
+bare-end : bare [] ≡ ended (tokens [])
 unfolding tokens
 bare-end = refl
 
+bare-blank : (b : ℕ) (bs : List ℕ) → is_blank b ≡ true → is_bare b ≡ false → bare (b ∷ bs) ≡ ended (tokens (b ∷ bs))
+unfolding tokens
+bare-blank b bs h k = rw (h, k) refl
+
+pub bare-ended : (rest : List ℕ) → EndsToken rest → bare rest ≡ ended (tokens rest)
+bare-ended [] e = bare-end
+bare-ended (b ∷ bs) e = bare-blank b bs e (blank-not-bare b e)
+
+pub bare-stopped : (b : ℕ) (bs : List ℕ) → is_bare b ≡ false → is_blank b ≡ false → bare (b ∷ bs) ≡ Err (fault_behind_bare b)
+unfolding tokens
+bare-stopped b bs h k = rw (h, k) refl
+
 -- a bare token has the bytes up to the first that can't stand in it
-pub bare_taken : (text : List ℕ) → bare text ≡ with_bytes (take (prefix_len is_bare text) text) (ended (after (drop (prefix_len is_bare text) text)))
-bare_taken [] = bare-end ∙ sym (with_bytes-none _)
-bare_taken (b ∷ bs) = elim (cases_Bool (is_bare b)) [
-  | inl h ↦ rw h (rw (take-next, drop-next) (bare-more b bs h ∙ ap (with_byte b) (bare_taken bs) ∙ with_byte-bytes b _ _))
-  | inr h ↦ rw h (bare-ends b bs h ∙ sym (with_bytes-none _))
+bare-taken : (text : List ℕ) → bare text ≡ with_bytes (take (prefix_len is_bare text) text) (bare (drop (prefix_len is_bare text) text))
+bare-taken [] = sym (with_bytes-none _)
+bare-taken (b ∷ bs) = elim (cases_Bool (is_bare b)) [
+  | inl h ↦ rw h (rw (take-next, drop-next) (bare-more b bs h ∙ ap (with_byte b) (bare-taken bs) ∙ with_byte-bytes b _ _))
+  | inr h ↦ rw h (sym (with_bytes-none _))
 ]
+
+pub bare_taken : (text rest : List ℕ) → rest ≡ drop (prefix_len is_bare text) text → EndsToken rest → bare text ≡ with_bytes (take (prefix_len is_bare text) text) (ended (tokens rest))
+bare_taken text rest q e = bare-taken text ∙ ap (λ r. with_bytes (take (prefix_len is_bare text) text) (bare r)) (sym q) ∙ ap (with_bytes (take (prefix_len is_bare text) text)) (bare-ended rest e)
 
 pub prefix_within : (p : ℕ → Bool) (xs : List ℕ) → prefix_len p xs ≤ length xs
 prefix_within p [] = omega arith
@@ -125,11 +136,25 @@ prefix_within p (x ∷ xs) = elim (cases_Bool (p x)) [
   | inr h ↦ rw h (omega arith)
 ]
 
-pub bare_refused : (e : OrNoMemory Reason) (text rest : List ℕ) → rest ≡ drop (prefix_len is_bare text) text → Refuses e (after rest) → Refuses e (bare text)
-bare_refused NoMemory text rest q h = tt
-bare_refused (Refused reason) text rest q h =
-    let k : after (drop (prefix_len is_bare text) text) ≡ Err reason = ap after (sym q) ∙ h in
-    bare_taken text ∙ ap (λ r. with_bytes (take (prefix_len is_bare text) text) (ended r)) k
+touching-end : (b : ℕ) → touching [] ≡ Some b → ⊥
+touching-end b e = cc
+
+touching-blank : (b c : ℕ) (cs : List ℕ) → is_blank c ≡ true → touching (c ∷ cs) ≡ Some b → ⊥
+touching-blank b c cs h e = let k : ◌≡◌ {A = Option ℕ} None (Some b) = rw h at e in cc
+
+touching-byte : (b c : ℕ) (cs : List ℕ) → is_blank c ≡ false → touching (c ∷ cs) ≡ Some b → c ≡ b
+touching-byte b c cs h e = let k : Some c ≡ Some b = rw h at e in cc
+
+-- the byte that stops a bare token is no blank
+pub bare_refused : (text : List ℕ) (b : ℕ) → touching (drop (prefix_len is_bare text) text) ≡ Some b → bare text ≡ Err (fault_behind_bare b)
+bare_refused [] b e = absurd (touching-end b e)
+bare_refused (c ∷ cs) b e = elim (cases_Bool (is_bare c)) [
+  | inl h ↦ bare-more c cs h ∙ ap (with_byte c) (bare_refused cs b (rw (h, drop-next) at e))
+  | inr h ↦ elim (cases_Bool (is_blank c)) [
+    | inl k ↦ absurd (touching-blank b c cs k (rw h at e))
+    | inr k ↦ bare-stopped c cs h k ∙ ap (λ d. Err (fault_behind_bare d)) (touching-byte b c cs k (rw h at e))
+  ]
+]
 
 -- what ends a token doesn't begin one
 pub token_is_some : (n : ℕ) (text : List ℕ) → BeginsToken text → EndsToken (drop n text) → n ≤ length text → length (drop n text) < length text

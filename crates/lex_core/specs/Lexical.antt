@@ -33,9 +33,13 @@ abbrev pub hex_byte : Option ℕ → Option ℕ → Option ℕ
 hex_byte (Some high) (Some low) = Some (high * 16 + low)
 hex_byte _ _ = None
 
--- a byte that stands where a token has to end: a token that begins there touches the one before it
-abbrev pub fault_at : ℕ → Reason
-fault_at b = if is_bare b || (b == 34) then BadQuote else BadByte
+-- a byte, no blank, that ends a bare token: a quote begins a token that touches it, and any other can stand in none
+abbrev pub fault_behind_bare : ℕ → Reason
+fault_behind_bare b = if b == 34 then BadQuote else BadByte
+
+-- a byte, no blank, behind a quoted token: one that can stand in a bare token begins one that touches it, and a quote is as any other
+abbrev pub fault_behind_quoted : ℕ → Reason
+fault_behind_quoted b = if is_bare b then BadQuote else BadByte
 
 -- ---- lines
 
@@ -79,7 +83,7 @@ unfoldable mutual
   bare (b ∷ bs) =
       if is_bare b then with_byte b (bare bs)
       else if is_blank b then ended (tokens bs)
-      else Err (fault_at b)
+      else Err (fault_behind_bare b)
 
   -- within a quoted token
   pub quoted : List ℕ → Within
@@ -101,7 +105,7 @@ unfoldable mutual
   hex (h ∷ []) = Err BadQuote
   hex (h ∷ l ∷ bs) = with_escape (hex_byte (hex_digit h) (hex_digit l)) (quoted bs)
 
-  -- behind a token
+  -- behind a quoted token
   pub after : List ℕ → Result (List Token) Reason
   after [] = Ok []
-  after (b ∷ bs) = if is_blank b then tokens bs else Err (fault_at b)
+  after (b ∷ bs) = if is_blank b then tokens bs else Err (fault_behind_quoted b)

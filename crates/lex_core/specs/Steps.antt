@@ -50,3 +50,8 @@ BeginsToken (b ∷ bs) = is_blank b ≡ false
 abbrev pub EndsToken : List ℕ → Type 0
 EndsToken [] = ⊤
 EndsToken (b ∷ bs) = is_blank b ≡ true
+
+-- the byte that stands where a token has to end
+abbrev pub touching : List ℕ → Option ℕ
+touching [] = None
+touching (b ∷ bs) = if is_blank b then None else Some b

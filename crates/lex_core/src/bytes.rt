@@ -1,11 +1,10 @@
 //! What single bytes of a line are for.
 
-ghost use Rattle.std.specs.Prelude.{◌≡◌, IfErr, OnOk};
-ghost use Rattle.lex_core.specs.Lexical.{after, escaped, fault_at, hex_digit, is_bare, is_blank, tokens};
-ghost use Rattle.lex_core.specs.Steps.{EndsToken, Refuses};
+ghost use Rattle.std.specs.Prelude.{◌≡◌, IfNone};
+ghost use Rattle.lex_core.specs.Lexical.{escaped, fault_behind_bare, fault_behind_quoted, hex_digit, is_bare, is_blank};
+ghost use Rattle.lex_core.specs.Steps.{touching, EndsToken};
 
 use crate::reason::Reason;
-use sys_abi::memory::OrNoMemory;
 
 /// Whether a byte separates tokens: a space or a tab.
 pub fn is_blank(byte: u8) -> bool
@@ -46,26 +45,35 @@ pub fn hex_digit(digit: u8) -> Option<u8>
     }
 }
 
-/// What is wrong with a byte that stands where a token has to end.
-pub fn fault_at(byte: u8) -> Reason
-    ensures { result ≡ fault_at byte }
+/// The byte that stands where a token has to end. None where a blank follows, or nothing.
+pub fn touching(rest: &[u8]) -> Option<u8>
+    ensures byte { result ≡ touching rest.now }
+    ensures none { IfNone result (EndsToken rest.now) }
 {
-    if is_bare(byte) || byte == b'"' {
+    match rest.split_first() {
+        Some((&byte, _)) if !is_blank(byte) => Some(byte),
+        _ => None,
+    }
+}
+
+/// What is wrong with a byte, no blank, that ends a bare token.
+pub fn fault_behind_bare(byte: u8) -> Reason
+    ensures { result ≡ fault_behind_bare byte }
+{
+    if byte == b'"' {
         Reason::BadQuote
     } else {
         Reason::BadByte
     }
 }
 
-/// The token before `rest` ends there: a blank or nothing follows.
-#[tactic(auto, unfolding(crate::specs::Lexical::tokens))]
-pub fn expect_end(rest: &[u8]) -> Result<(), OrNoMemory<Reason>>
-    ensures ends { OnOk result (EndsToken rest.now) }
-    ensures reading { OnOk result (after rest.now ≡ tokens rest.now) }
-    ensures refused { IfErr result (λ e. Refuses e (after rest.now)) }
+/// What is wrong with a byte, no blank, behind a quoted token.
+pub fn fault_behind_quoted(byte: u8) -> Reason
+    ensures { result ≡ fault_behind_quoted byte }
 {
-    match rest.split_first() {
-        Some((&byte, _)) if !is_blank(byte) => Err(OrNoMemory::Refused(fault_at(byte))),
-        _ => Ok(()),
+    if is_bare(byte) {
+        Reason::BadQuote
+    } else {
+        Reason::BadByte
     }
 }

@@ -1,11 +1,11 @@
 //! Quoted tokens.
 
-ghost use Rattle.std.specs.Prelude.{◌≡◌, ◌<◌, ◌≤◌, length, IfOk, IfErr};
+ghost use Rattle.std.specs.Prelude.{◌≡◌, ◌<◌, ◌≤◌, length, IfOk, IfErr, OnOk};
 ghost use Rattle.lex_core.specs.Lexical as definitions;
 ghost use Rattle.lex_core.specs.Lexical.{after, ended, escape, hex, quoted, tokens, with_escape};
 ghost use Rattle.lex_core.specs.Steps.{after_escape, after_piece, with_bytes, Refuses};
 
-use crate::bytes::{escaped, expect_end, hex_digit};
+use crate::bytes::{escaped, fault_behind_quoted, hex_digit, touching};
 use crate::reason::Reason;
 use std::alloc::Global;
 use sys_abi::memory::OrNoMemory;
@@ -75,6 +75,18 @@ fn piece(text: &[u8]) -> Result<(Option<u8>, &[u8]), Reason>
         }
         0..=0x1f => Err(Reason::BadQuote),
         _ => Ok((Some(byte), rest)),
+    }
+}
+
+/// The quoted token before `rest` ends there: a blank or nothing follows.
+#[tactic(auto, unfolding(crate::specs::Lexical::tokens))]
+fn expect_end(rest: &[u8]) -> Result<(), OrNoMemory<Reason>>
+    ensures reading { OnOk result (after rest.now ≡ tokens rest.now) }
+    ensures refused { IfErr result (λ e. Refuses e (after rest.now)) }
+{
+    match touching(rest) {
+        Some(byte) => Err(OrNoMemory::Refused(fault_behind_quoted(byte))),
+        None => Ok(()),
     }
 }
 

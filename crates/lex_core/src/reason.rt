@@ -6,11 +6,11 @@ use thiserror::Error;
 /// of filters the others. Printed, a reason is the text that the program writes.
 #[derive(Clone, Copy, PartialEq, Eq, Debug, Error)]
 pub enum Reason {
-    /// A byte that can stand in no token, outside quotes.
+    /// Outside quotes, a byte that can stand in no token, or a quote right behind a quoted token.
     #[error("bad byte")]
     BadByte,
     /// A quote that isn't closed on its line, an unknown escape, a byte below 0x20 between quotes, or a
-    /// token that touches a quoted one.
+    /// bare token that touches a quoted one.
     #[error("bad quote")]
     BadQuote,
     /// The first token isn't a word that is known in any part.

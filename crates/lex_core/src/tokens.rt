@@ -6,7 +6,7 @@ ghost use Rattle.lex_core.specs.Steps.{past_blanks, with_bytes, with_tokens, Beg
 ghost use Rattle.lex_core.specs.Lines.{is_skipped};
 ghost use Rattle.std.specs.List.{prefix_len};
 
-use crate::bytes::{expect_end, is_bare, is_blank};
+use crate::bytes::{fault_behind_bare, is_bare, is_blank, touching};
 use crate::line::{Token, TokenBytes, Tokens};
 use crate::quotes::read_quoted;
 use crate::reason::Reason;
@@ -62,8 +62,10 @@ fn read_bare(alloc: Global, text: &[u8]) -> Result<(Vec<u8>, &[u8]), OrNoMemory<
     ensures refused { IfErr result (λ e. Refuses e (bare text.now)) }
 {
     let (front, rest) = text.split_at(bare_len(text));
-    expect_end(rest)?;
-    Ok((Vec::from_slice(alloc, front)?, rest))
+    match touching(rest) {
+        Some(byte) => Err(OrNoMemory::Refused(fault_behind_bare(byte))),
+        None => Ok((Vec::from_slice(alloc, front)?, rest)),
+    }
 }
 
 /// The token that `text` begins with, and what follows it.
