@@ -1,0 +1,6 @@
+mod Rising
+mod Slots
+mod Changed
+mod Answered
+mod Added
+mod Written
