@@ -1,0 +1,95 @@
+//! What each of the requests of ioctl(2) tests.
+
+ghost use Rattle.std.specs.Prelude.{◌≡◌, ◌↔◌, All, IsOk, IfErr};
+ghost use Rattle.notif_ioctl.specs.Answers.{may_be_sent, reading, admission, validity, response};
+
+use hist_model::event::Back;
+use hist_model::notification::State;
+use sys_abi::errno::Errno;
+use sys_abi::wire::{Resp, SECCOMP_USER_NOTIF_FLAG_CONTINUE};
+
+/// The smallest `error` of an answer: no error has a greater number.
+const MIN_ERROR: i32 = -4095;
+
+/// Tests the buffer of SECCOMP_IOCTL_NOTIF_RECV, which a caller has to hand over filled with zeros: EINVAL exactly where
+/// it isn't.
+pub fn check_recv(buf: &[u8; 80]) -> Result<(), Errno>
+    ensures zeros { IsOk result ↔ All (λ b. b ≡ 0) buf.now }
+    ensures refused { IfErr result (λ e. e ≡ 22) }
+{
+    if buf.iter().all(|byte| *byte == 0) {
+        Ok(())
+    } else {
+        Err(Errno::EINVAL)
+    }
+}
+
+/// Reads the structure of SECCOMP_IOCTL_NOTIF_SEND: EINVAL exactly for a flag that isn't defined, for
+/// `SECCOMP_USER_NOTIF_FLAG_CONTINUE` with a value or an error, and for an `error` that is none of -4095 to 0.
+pub fn parse_send(bytes: &[u8; 24]) -> Result<Resp, Errno>
+    ensures { result ≡ reading bytes.now }
+{
+    let resp = Resp::from_bytes(bytes);
+    if may_be_sent(&resp) {
+        Ok(resp)
+    } else {
+        Err(Errno::EINVAL)
+    }
+}
+
+/// The answer is one that a call can get.
+fn may_be_sent(resp: &Resp) -> bool
+    ensures { result ≡ may_be_sent resp.now }
+{
+    let Resp {
+        val,
+        error,
+        flags,
+        ..
+    } = *resp;
+    if flags == SECCOMP_USER_NOTIF_FLAG_CONTINUE {
+        val == 0 && error == 0
+    } else {
+        flags == 0 && MIN_ERROR <= error && error <= 0
+    }
+}
+
+/// Whether an answer is taken of the listed call that its id names, if it names one: ENOENT exactly where there is none,
+/// EINPROGRESS where nobody has received the call's notification, or it was answered.
+pub fn admit_send(state: Option<State>) -> Result<(), Errno>
+    ensures { result ≡ admission state }
+{
+    match state {
+        None => Err(Errno::ENOENT),
+        Some(State::Fetched) => Ok(()),
+        Some(State::Unfetched | State::Answered) => Err(Errno::EINPROGRESS),
+    }
+}
+
+/// Whether an id is validity (SECCOMP_IOCTL_NOTIF_ID_VALID), which names a listed call of this state or none: ENOENT exactly
+/// where it names none that was received and not answered.
+pub fn check_valid(state: Option<State>) -> Result<(), Errno>
+    ensures { result ≡ validity state }
+{
+    match state {
+        Some(State::Fetched) => Ok(()),
+        _ => Err(Errno::ENOENT),
+    }
+}
+
+/// The structure by which a broker has the call of an id return so.
+pub fn response(id: u64, back: Back) -> Resp
+    ensures { result ≡ response id back }
+{
+    let (val, error, flags) = match back {
+        Back::Value(val) => (val, 0, 0),
+        Back::Fail(errno) => (0, -i32::from(errno.number()), 0),
+        Back::Continue => (0, 0, SECCOMP_USER_NOTIF_FLAG_CONTINUE),
+    };
+    Resp {
+        id,
+        val,
+        error,
+        flags,
+    }
+}
