@@ -1,0 +1,1 @@
+//! Cases of listed calls, by seccomp_unotify(2).
