@@ -193,10 +193,12 @@ impl Queue {
         requires { state_found self.now id ≡ Some Answered }
         ensures { (first : ℕ) (K : List Event) (c : ℕ) → StandsFor first K self.now → named K id ≡ Some c → IsReply K c (Some result) }
     {
-        let Some(Call {
-            reply: Some(reply),
-            ..
-        }) = self.find(id)
+        let Some(
+            Call {
+                reply: Some(reply),
+                ..
+            },
+        ) = self.find(id)
         else {
             unreachable!()
         };
