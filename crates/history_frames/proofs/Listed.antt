@@ -3,7 +3,7 @@ use Rattle.std.proofs.Common.{◌≡◌, ◌⊎◌, inl, inr, ℕ, zero, suc, �
 use Rattle.std.specs.Prelude.{◌==◌, if◌then◌else◌, Ok}
 use Rattle.std.proofs.lemmas.Bool.{cases_Bool, cases_order, eqb-true, eq-eqb, ne_eqb, and_parts, and_from, or_left, or_right, or_cases, both_ways, false_from_ne_true, not-true}
 use Rattle.hist_model.specs.Look.{event_at, oldest, is_place, is_task}
-use Rattle.hist_model.specs.Calls.{notifies, notify_id, caller, id, is_call, closes, leaves, unlists, listed, fetches, fetched, named, answers, puts_to, is_install, gave, installs_for, rest_of, queue, first_sends, some_sends, is_send, has_send, settles, settled, calls}
+use Rattle.hist_model.specs.Calls.{notifies, notify_id, caller, id, is_call, closes, leaves, unlists, listed, fetches, fetched, named, answers, puts_to, is_install, gave, installs_for, rest_of, queue, first_sends, some_sends, is_send, has_send, settles, settled, calls, receives, recvs}
 use Rattle.hist_model.specs.Steps.{reply, back_of}
 use Rattle.hist_model.specs.declared.event.Back.{Back}
 use Rattle.hist_model.specs.declared.event.Event.{Event}
@@ -74,6 +74,14 @@ pub calls-same : (e : Event) (K : List Event) → notifies e.what ≡ false → 
 unfolding calls
 calls-same e K h = rw h (omega arith)
 
+pub recvs-more : (e : Event) (K : List Event) → receives e.what ≡ true → recvs (e ∷ K) ≡ recvs K + 1
+unfolding recvs
+recvs-more e K h = rw h
+
+pub recvs-same : (e : Event) (K : List Event) → receives e.what ≡ false → recvs (e ∷ K) ≡ recvs K
+unfolding recvs
+recvs-same e K h = rw h (omega arith)
+
 -- each call has a number
 pub call-number : (K : List Event) (c : ℕ) → is_call K c ≡ true → (n : ℕ) × (nth_of notifies K n ≡ Some c)
 call-number [] c h = absurd (omega (arith, is_call-below [] c h))
@@ -110,6 +118,10 @@ fetched-same e K c h = rw h
 pub fetched-now : (e : Event) (K : List Event) (c : ℕ) → fetches e.what (id K c) ≡ true → listed K c ≡ true → fetched (e ∷ K) c ≡ true
 unfolding fetched
 fetched-now e K c h l = rw (h, l)
+
+pub fetched-more : (e : Event) (K : List Event) (c : ℕ) → fetched K c ≡ true → fetched (e ∷ K) c ≡ true
+unfolding fetched
+fetched-more e K c h = or_right (fetches e.what (id K c) && listed K c) (fetched K c) h
 
 -- ---- which call an id names
 
@@ -159,7 +171,7 @@ below-push : (n : ℕ) (rs : List ℕ) → Below n rs → Below (suc n) (rs ++ n
 below-push n [] h = (omega arith, tt)
 below-push n (r ∷ rs) h = (omega (arith, h.0), below-push n rs h.1)
 
-below-rest : (n : ℕ) (rs : List ℕ) → Below n rs → Below n (rest_of rs)
+pub below-rest : (n : ℕ) (rs : List ℕ) → Below n rs → Below n (rest_of rs)
 below-rest n [] h = tt
 below-rest n (r ∷ rs) h = h.1
 
@@ -258,3 +270,15 @@ queue-above (e ∷ K) c h =
     let p = false_from_ne_true (puts_to K e.what c) (λ q. omega (arith, listed-below K c (puts-listed K e.what c q))) in
     let i = false_from_ne_true (installs_for K e c) (λ q. omega (arith, listed-below K c (installs-listed K e c q))) in
     rw (p, i) (queue-above K c (omega arith))
+
+-- a new call has no requests and no answer
+pub queue-new : (e : Event) (K : List Event) → queue (e ∷ K) (length K) ≡ []
+queue-new e K =
+    let p = false_from_ne_true (puts_to K e.what (length K)) (λ q. omega (arith, listed-below K (length K) (puts-listed K e.what (length K) q))) in
+    let i = false_from_ne_true (installs_for K e (length K)) (λ q. omega (arith, listed-below K (length K) (installs-listed K e (length K) q))) in
+    queue-same e K (length K) p i ∙ queue-above K (length K) (omega arith)
+
+pub settled-new : (e : Event) (K : List Event) → settled (e ∷ K) (length K) ≡ false
+settled-new e K =
+    let s = false_from_ne_true (settles K e (length K)) (λ q. omega (arith, listed-below K (length K) (settles-listed K e (length K) q))) in
+    settled-same e K (length K) s ∙ false_from_ne_true (settled K (length K)) (λ q. omega (arith, settled-below K (length K) q))

@@ -1,8 +1,8 @@
 -- Which histories a queue of calls stands for.
-use Rattle.std.specs.Prelude.{◌≡◌, ◌⊎◌, ℕ, ◌+◌, ◌-◌, ◌%◌, ◌^◌, ◌<◌, ◌≤◌, Bool, true, false, List, ◌∷◌, Option, Some, None, Ok, Err, pos, ℤ, nat_lt}
+use Rattle.std.specs.Prelude.{◌≡◌, ◌⊎◌, ℕ, ◌+◌, ◌-◌, ◌%◌, ◌^◌, ◌<◌, ◌≤◌, Bool, true, false, List, [], ◌∷◌, Option, Some, None, Ok, Err, pos, ℤ, nat_lt}
 use Rattle.hist_model.specs.Look.{Name, is_task}
 use Rattle.hist_model.specs.Tasks.{name_of}
-use Rattle.hist_model.specs.Calls.{notifies, caller, id, listed, fetched, named, queue, settled, first_sends, some_sends, has_send_flag, rest_of, calls, recvs, leaves}
+use Rattle.hist_model.specs.Calls.{notifies, caller, id, listed, fetched, named, queue, settled, first_sends, some_sends, has_send_flag, is_send, calls, recvs, leaves}
 use Rattle.hist_model.specs.Steps.{reply, oldest_unfetched}
 use Rattle.hist_model.specs.declared.event.Event.{Event}
 use Rattle.hist_model.specs.declared.event.Actor.TheVariants.{Task}
@@ -51,9 +51,10 @@ IsReply K c (Some (Fail x)) = IsSettled K c (BackFail x)
 IsReply K c (Some Continue) = IsSettled K c BackContinue
 IsReply K c (Some Installing) = IsInstalling K c
 
--- of the requests of a call only the last one may have SEND
-abbrev pub SendsLast : List Event → List ℕ → Type 0
-SendsLast K rs = first_sends K rs ≡ true → some_sends K (rest_of rs) ≡ false
+-- at most one of the requests has SEND
+abbrev pub SendsOnce : List Event → List ℕ → Type 0
+SendsOnce K [] = Unit {0}
+SendsOnce K (r ∷ rs) = (is_send K r ≡ true → some_sends K rs ≡ false) × SendsOnce K rs
 
 -- the call is entered by this task
 pub record IsOwner (K : List Event) (c : ℕ) (t : TaskRef) : Type 0 where
@@ -71,13 +72,13 @@ pub record IsCall (K : List Event) (seen n : ℕ) (r : Call) : Type 0 where
   pub reply_is : IsReply K place r.reply
 
 -- what holds of a history of calls: ids count from the first one, no more are received than were entered, a task waits in
--- one call, and only the last request of a call may have SEND
+-- one call, and at most one request of a call has SEND
 pub record IsOrderly (first : ℕ) (K : List Event) : Type 0 where
   pub few : calls K < 2 ^ 64
   pub ids : (n c : ℕ) → nth_of notifies K n ≡ Some c → id K c ≡ (first + n) % 2 ^ 64
   pub received : recvs K ≤ calls K
   pub callers : (c d : ℕ) → listed K c ≡ true → listed K d ≡ true → caller K c ≡ caller K d → c ≡ d
-  pub sends : (c : ℕ) → listed K c ≡ true → SendsLast K (queue K c)
+  pub sends : (c : ℕ) → listed K c ≡ true → SendsOnce K (queue K c)
 
 -- the call has a slot
 pub record HasSlot (K : List Event) (Q : Queue) (c : ℕ) : Type 0 where
@@ -99,6 +100,7 @@ pub record StandsFor (first : ℕ) (K : List Event) (Q : Queue) : Type 0 where
   pub first_fits : first < 2 ^ 64
   pub entered_is : Q.order.entered ≡ calls K
   pub received_is : Q.received ≡ recvs K
+  pub fetched_fits : Q.fetched ≤ calls K
   pub apart : AreApart Q
   pub filled : AreFilled Q
   -- the slots have listed calls, and each listed call has one

@@ -159,8 +159,18 @@ impl Queue {
         }
     }
 
+    /// How the listed call with this id will return, where it was answered.
+    fn find_reply(&self, id: u64) -> Option<Reply>
+        ensures { result ≡ reply_found self.now id }
+    {
+        match self.find(id) {
+            Some(call) => call.reply,
+            None => None,
+        }
+    }
+
     /// Writes how the listed call with this id will return, if there is one.
-    fn reply(&mut self, id: u64, reply: Option<Reply>)
+    fn set_reply(&mut self, id: u64, reply: Option<Reply>)
         ensures { IsReplied self.old id reply self.new }
     {
         let Some(slot) = self.order.find(self.number_of(id)) else {
@@ -176,7 +186,7 @@ impl Queue {
         requires { state_found self.old id ≡ Some FetchedState }
         ensures { (first : ℕ) (K : List Event) (e : Event) → StandsFor first K self.old → IsAnswer e id reply → StandsFor first (e ∷ K) self.new }
     {
-        self.reply(id, Some(reply));
+        self.set_reply(id, Some(reply));
     }
 
     /// Lets the call with this id, which was answered by a request for a descriptor, wait for an answer again, since the
@@ -185,7 +195,7 @@ impl Queue {
         requires { state_found self.old id ≡ Some Answered }
         ensures { (first : ℕ) (K : List Event) (e : Event) → StandsFor first K self.old → IsFailure K e id → StandsFor first (e ∷ K) self.new }
     {
-        self.reply(id, None);
+        self.set_reply(id, None);
     }
 
     /// How the call with this id, which was answered, will return.
@@ -193,13 +203,7 @@ impl Queue {
         requires { state_found self.now id ≡ Some Answered }
         ensures { (first : ℕ) (K : List Event) (c : ℕ) → StandsFor first K self.now → named K id ≡ Some c → IsReply K c (Some result) }
     {
-        let Some(
-            Call {
-                reply: Some(reply),
-                ..
-            },
-        ) = self.find(id)
-        else {
+        let Some(reply) = self.find_reply(id) else {
             unreachable!()
         };
         reply
