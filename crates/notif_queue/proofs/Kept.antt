@@ -143,9 +143,9 @@ stands-inner first K e old new S w a = record {
   apart = a.apart;
   filled = a.filled;
   rows = λ n q f.
-    let b = a.back n q f in
-    let i = S.rows n b.0 b.1 in
-    call-kept e K old.fetched new.fetched n b.0 q i (off (caller K i.place)) b.2 (fetched-same e K i.place (w.no_fetch (id K i.place)) ∙ (i.fetched_is ∙ sym (ap (nat_lt n) a.counts.fetched))) (b.3 i);
+      let b = a.back n q f in
+      let i = S.rows n b.0 b.1 in
+      call-kept e K old.fetched new.fetched n b.0 q i (off (caller K i.place)) b.2 (fetched-same e K i.place (w.no_fetch (id K i.place)) ∙ (i.fetched_is ∙ sym (ap (nat_lt n) a.counts.fetched))) (b.3 i);
   slots = λ c h. elim (listed-cases e K c h) [
     | inl p ↦ absurd (both_ways (notifies e.what) w.no_enter p.1)
     | inr p ↦ let s = S.slots c p.1 in let q = a.on s.number s.row s.found in slot-kept e K old new c s q.0 q.1

@@ -74,10 +74,10 @@ stands-off first K e old new S w k = record {
   apart = k.apart;
   filled = k.filled;
   rows = λ n r f.
-    let b = k.back n r f in
-    let i = S.rows n r b.0 in
-    call-kept e K old.fetched new.fetched n r r i (b.1 i) refl (fetched-same e K i.place (w.no_fetch (id K i.place)) ∙ (i.fetched_is ∙ sym (ap (nat_lt n) k.counts.fetched)))
-    (reply-kept e K i.place r.reply (calm-same e K i.place (quiet-calm e K i.place w.quiet)) i.reply_is);
+      let b = k.back n r f in
+      let i = S.rows n r b.0 in
+      call-kept e K old.fetched new.fetched n r r i (b.1 i) refl (fetched-same e K i.place (w.no_fetch (id K i.place)) ∙ (i.fetched_is ∙ sym (ap (nat_lt n) k.counts.fetched)))
+      (reply-kept e K i.place r.reply (calm-same e K i.place (quiet-calm e K i.place w.quiet)) i.reply_is);
   slots = λ c h. elim (listed-cases e K c h) [
     | inl p ↦ absurd (both_ways (notifies e.what) w.no_enter p.1)
     | inr p ↦ let s = S.slots c p.1 in slot-kept e K old new c s s.row (k.on c p.1 p.2 s)

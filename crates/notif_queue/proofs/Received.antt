@@ -162,9 +162,9 @@ stands-received first K e old new S g w = record {
   apart = rw w.order S.apart;
   filled = λ n s a. let f = S.filled n s (rw w.order at a) in (f.0, found n ∙ f.1);
   rows = λ n r h.
-    let f = sym (found n) ∙ h in
-    let i = S.rows n r f in
-    call-kept e K old.fetched new.fetched n r r i (off (caller K i.place)) refl (g.seen n r f i) (reply-kept e K i.place r.reply (calm-same e K i.place (calm i.place)) i.reply_is);
+      let f = sym (found n) ∙ h in
+      let i = S.rows n r f in
+      call-kept e K old.fetched new.fetched n r r i (off (caller K i.place)) refl (g.seen n r f i) (reply-kept e K i.place r.reply (calm-same e K i.place (calm i.place)) i.reply_is);
   slots = λ c h. elim (listed-cases e K c h) [
     | inl p ↦ absurd (both_ways (notifies e.what) no_enter p.1)
     | inr p ↦ let s = S.slots c p.1 in slot-kept e K old new c s s.row (found s.number ∙ s.found)

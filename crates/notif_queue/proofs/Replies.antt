@@ -137,7 +137,7 @@ install-others first K e Q c d S q l t m h =
       no_send = a.0;
       no_put = a.1;
       no_install = false_from_ne_true (installs_for K e d) (λ z. let p = and_parts (is_install e.what) (is_task e.who (caller K d) && listed K d) z in
-      h (S.orderly.callers d c m l (one-task e.who (caller K d) (caller K c) (and_parts (is_task e.who (caller K d)) (listed K d) p.1).0 t)));
+          h (S.orderly.callers d c m l (one-task e.who (caller K d) (caller K c) (and_parts (is_task e.who (caller K d)) (listed K d) p.1).0 t)));
     }
 
 -- a call for which a request with SEND waits isn't settled

@@ -5,6 +5,7 @@ use hist_model::notification::{Fetched, Reply, State};
 use hist_model::request::TaskRef;
 use std::test::Fail;
 use sys_abi::errno::Errno;
+use sys_abi::memory::NoMemory;
 
 /// The task that was made after so many others.
 fn task(ordinal: u32) -> TaskRef {
@@ -152,7 +153,7 @@ fn an_old_id_never_reaches_a_later_call(rt: HostRuntime) -> Result<(), Fail> {
 #[derive(Clone, Copy, PartialEq, Eq, Debug)]
 enum What {
     Enter(TaskRef),
-    Fetch,
+    Fetch(TaskRef),
     Answer(Reply),
     Reopen,
     Finish,
@@ -173,7 +174,7 @@ fn state(steps: &[Step], id: u64) -> Option<State> {
         match step.what {
             What::Close => return None,
             What::Enter(_) if done => return Some(State::Unfetched),
-            What::Fetch | What::Reopen if done => return Some(State::Fetched),
+            What::Fetch(_) | What::Reopen if done => return Some(State::Fetched),
             What::Answer(_) if done => return Some(State::Answered),
             What::Finish if done => return None,
             _ => {}
@@ -199,7 +200,7 @@ fn received(steps: &[Step]) -> Result<Fetched, FetchError> {
     for step in steps {
         match step.what {
             What::Enter(_) => count = count.saturating_add(1),
-            What::Fetch | What::Gone => count = count.saturating_sub(1),
+            What::Fetch(_) | What::Gone => count = count.saturating_sub(1),
             _ => {}
         }
     }
@@ -232,7 +233,7 @@ fn fetched(got: Result<Fetched, FetchError>, id: u64) -> Option<Step> {
     match got {
         Ok(call) => Some(Step {
             id: call.id,
-            what: What::Fetch,
+            what: What::Fetch(call.owner),
         }),
         Err(FetchError::Gone) => Some(Step {
             id,
@@ -247,9 +248,44 @@ fn taken(took: bool, id: u64, what: What) -> Option<Step> {
     if took { Some(Step { id, what }) } else { None }
 }
 
-/// A receive is answered as the steps say.
-fn is_received(got: Result<Fetched, FetchError>, steps: &[Step]) -> bool {
-    got == received(steps)
+/// Plays what a drawn number says, with this call where it says so, and gives the step, if the queue took one.
+fn play(queue: &mut Queue, id: u64, number: u64) -> Result<Option<Step>, NoMemory> {
+    let rest = number / 64 % 1000;
+    let owner = task(rest as u32);
+    let reply = Reply::Value(rest as i64);
+    Ok(match number % 32 {
+        0..=8 => {
+            let entered = queue.enter(owner)?;
+            taken(true, entered, What::Enter(owner))
+        }
+        9..=15 => fetched(queue.fetch(), id),
+        16..=21 => {
+            let took = answer(queue, id, reply);
+            taken(took, id, What::Answer(reply))
+        }
+        22..=24 => {
+            let took = reopen(queue, id);
+            taken(took, id, What::Reopen)
+        }
+        25..=30 => {
+            let took = finish(queue, id);
+            taken(took, id, What::Finish)
+        }
+        _ => {
+            let took = rest % 20 == 0;
+            if took {
+                queue.close();
+            }
+            taken(took, id, What::Close)
+        }
+    })
+}
+
+/// The next number of a linear congruential generator.
+fn drawn_after(drawn: u64) -> u64 {
+    drawn
+        .wrapping_mul(6_364_136_223_846_793_005)
+        .wrapping_add(1_442_695_040_888_963_407)
 }
 
 #[test]
@@ -258,32 +294,13 @@ fn a_queue_answers_as_its_history_does(rt: HostRuntime) -> Result<(), Fail> {
     let mut steps: Vec<Step> = Vec::new(rt.alloc());
     let mut drawn = 20_261_127u64;
     for _ in 0..3000u32 {
-        drawn = drawn
-            .wrapping_mul(6_364_136_223_846_793_005)
-            .wrapping_add(1_442_695_040_888_963_407);
+        drawn = drawn_after(drawn);
         let number = drawn >> 33;
         let id = recent(&steps).wrapping_add(number / 64 % 36);
-        let reply = Reply::Value((number / 64 % 1000) as i64);
-        let step = match number % 32 {
-            0..=8 => {
-                let owner = task((number / 64 % 1000) as u32);
-                let entered = queue.enter(owner)?;
-                taken(true, entered, What::Enter(owner))
-            }
-            9..=15 => {
-                let got = queue.fetch();
-                assert!(rt; is_received(got, &steps), "at {number}");
-                fetched(got, id)
-            }
-            16..=21 => taken(answer(&mut queue, id, reply), id, What::Answer(reply)),
-            22..=24 => taken(reopen(&mut queue, id), id, What::Reopen),
-            25..=30 => taken(finish(&mut queue, id), id, What::Finish),
-            _ if number / 64 % 20 == 0 => {
-                queue.close();
-                taken(true, id, What::Close)
-            }
-            _ => None,
-        };
+        let step = play(&mut queue, id, number)?;
+        if let 9..=15 = number % 32 {
+            assert_eq!(rt; step, fetched(received(&steps), id), "at {number}");
+        }
         if let Some(step) = step {
             steps.push(step)?;
         }
