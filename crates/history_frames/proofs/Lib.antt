@@ -1,3 +1,4 @@
 pub mod Ordinals
 pub mod Held
 pub mod Groups
+pub mod Listed

@@ -1,0 +1,10 @@
+pub mod Halves
+pub mod Found
+pub mod Kept
+pub mod Orderly
+pub mod Named
+pub mod Entered
+pub mod Received
+pub mod Replies
+pub mod Left
+pub mod Others

@@ -1,0 +1,185 @@
+-- A queue after an event that changes no listed call.
+use Rattle.std.proofs.Common.{◌≡◌, ◌≢◌, inl, inr, ℕ, ◌<◌, Bool, true, false, ◌&&◌, ◌||◌, List, [], ◌∷◌, ◌++◌, length, Option, Some, None, refl, sym, ap, ◌∙◌, arith}
+use Rattle.std.specs.Prelude.{Result, Ok, Err, nat_lt, pos}
+use Rattle.std.proofs.lemmas.Bool.{cases_Bool, cases_eq, both_ways, and_parts, eq-eqb}
+use Rattle.hist_model.specs.Look.{Name, is_task}
+use Rattle.hist_model.specs.Calls.{notifies, caller, id, listed, fetched, named, queue, answers, puts_to, is_install, gave, installs_for, settles, settled, some_sends, first_sends, has_send_flag, rest_of, leaves, closes, unlists, receives, fetches}
+use Rattle.hist_model.specs.Steps.{reply, back_of}
+use Rattle.hist_model.specs.declared.event.Back.TheVariants.{Value as BackValue}
+use Rattle.hist_model.specs.declared.event.Event.{Event}
+use Rattle.hist_model.specs.declared.event.Entered.TheVariants.{Notify}
+use Rattle.hist_model.specs.declared.event.What.{What}
+use Rattle.hist_model.specs.declared.event.What.TheVariants.{Enter, Recv, Close, Resume, Deliver, Send, AddfdPut, Install}
+use Rattle.hist_model.specs.declared.notification.Reply.{Reply}
+use Rattle.hist_model.specs.declared.notification.Reply.TheVariants.{Value, Fail, Continue, Installing}
+use Rattle.history_frames.proofs.Listed.{Below, IsCalm, queue-below, queue-same, queue-put, queue-rest, sends-older, sends-push, below-rest, settled-same, settled-now, reply-now}
+use Rattle.sys_abi.specs.declared.wire.Addfd.{Addfd}
+use Rattle.notif_queue.specs.declared.queue.Call.{Call}
+use Rattle.notif_queue.specs.declared.queue.Queue.{Queue}
+use Rattle.notif_queue.specs.Table.{call_found, SameCounts}
+use Rattle.notif_queue.specs.Stands.{IsOpen, IsSettled, IsAsked, IsReply, IsCall, SendsOnce, StandsFor, IsOther, IsOutside, IsPlain, IsNoAnswer}
+use Rattle.notif_queue.proofs.Kept.{IsQuiet, IsInner, IsSame, quiet-calm, calm-same, reply-kept, sends-same, once-older, once-same, once-push, once-rest, once-first, rest-sends, first-some, stands-inner}
+use Rattle.notif_queue.proofs.Left.{stands-outside}
+use Rattle.notif_queue.proofs.Replies.{asked-open, fault-settles, install-others, put-others, put-once, install-alone}
+
+or-false : (b : Bool) → (b || false) ≡ b
+or-false b = grind arith
+
+and-false : (b : Bool) → (b && false) ≡ false
+and-false b = grind arith
+
+same-counts : (Q : Queue) → SameCounts Q Q
+same-counts Q = record { first = refl; entered = refl; fetched = refl; received = refl }
+
+-- each listed call keeps its reply
+record Keeps (K : List Event) (e : Event) : Type 0 where
+  inner : IsInner e.what
+  reply : (c : ℕ) (x : Option Reply) → listed K c ≡ true → IsReply K c x → IsReply (e ∷ K) c x
+  sends : (c : ℕ) → listed K c ≡ true → SendsOnce (e ∷ K) (queue (e ∷ K) c)
+
+stands-keeps : (first : ℕ) (K : List Event) (e : Event) (Q : Queue) → StandsFor first K Q → Keeps K e → StandsFor first (e ∷ K) Q
+stands-keeps first K e Q S k = stands-inner first K e Q Q S k.inner (record {
+  counts = same-counts Q;
+  apart = S.apart;
+  filled = S.filled;
+  back = λ n q f. (q, f, refl, λ i. k.reply i.place q.reply i.on i.reply_is);
+  on = λ n r f. (r, f);
+  sends = k.sends;
+})
+
+keeps-calm : (first : ℕ) (K : List Event) (e : Event) (Q : Queue) → StandsFor first K Q → IsInner e.what → ((c : ℕ) → listed K c ≡ true → IsCalm K e c) → Keeps K e
+keeps-calm first K e Q S w h = record {
+  inner = w;
+  reply = λ c x l r. reply-kept e K c x (calm-same e K c (h c l)) r;
+  sends = λ c l. let i = h c l in once-same e K c (queue-same e K c i.no_put i.no_install) (S.orderly.sends c l);
+}
+
+-- a request without SEND for a call that has no reply by one with SEND
+keeps-put : (first : ℕ) (K : List Event) (e : Event) (Q : Queue) (a : Addfd) → StandsFor first K Q → e.what ≡ AddfdPut a (Ok tt) → IsPlain K a → Keeps K e
+keeps-put first K e Q a S q h = go (named K a.id) refl
+  where
+    inner : IsInner e.what
+    inner = record { no_enter = rw q; no_leave = rw q; no_close = rw q; no_receive = rw q; no_fetch = λ y. rw q }
+
+    go : (o : Option ℕ) → named K a.id ≡ o → Keeps K e
+    go None n = keeps-calm first K e Q S inner (λ c l. record { no_send = rw q; no_put = rw (q, n); no_install = rw q })
+    go (Some c) n = record {
+      inner = inner;
+      reply = λ d x l r. reply-kept e K d x (same d) r;
+      sends = λ d l. put-once first K e Q c d a S n q (h c n).1 l;
+    }
+      where
+        same : (d : ℕ) → IsSame K e d
+        same d = elim (cases_eq d c) [
+          | inl w ↦
+              let flag = (h c n).0 in
+              let p : puts_to K e.what d ≡ true = rw (q, n, w, eq-eqb c c refl) in
+              record { unsettled = rw q; sends = queue-sends d p flag }
+          | inr w ↦ calm-same e K d (put-others K e c d a n q w)
+        ]
+          where
+            queue-sends : (d : ℕ) → puts_to K e.what d ≡ true → has_send_flag a ≡ false → some_sends (e ∷ K) (queue (e ∷ K) d) ≡ some_sends K (queue K d)
+            queue-sends d p flag = rw (queue-put e K d p, sends-push e K (queue K d) (queue-below K d), q, flag) (or-false (some_sends K (queue K d)))
+
+-- an installation that answers no call
+same-install : (K : List Event) (e : Event) (c : ℕ) → is_install e.what ≡ true → installs_for K e c ≡ true → first_sends K (queue K c) ≡ false → IsSame K e c
+same-install K e c q i f =
+    let a = install-alone e.what K c q in
+    let s = a.0 in
+    record {
+      unsettled = rw (s, i, f) (and-false (gave e.what));
+      sends = rw (queue-rest e K c a.1 i, sends-older e K (rest_of (queue K c)) (below-rest (length K) (queue K c) (queue-below K c))) (rest-sends K (queue K c) f);
+    }
+
+calm-install : (K : List Event) (e : Event) (c : ℕ) → is_install e.what ≡ true → installs_for K e c ≡ false → IsCalm K e c
+calm-install K e c q i = let a = install-alone e.what K c q in record { no_send = a.0; no_put = a.1; no_install = i }
+
+-- an installation that answers a call: its reply is the number
+reply-installed : (K : List Event) (e : Event) (c n : ℕ) (x : Option Reply) → e.what ≡ Install (Ok n) → installs_for K e c ≡ true → first_sends K (queue K c) ≡ true → SendsOnce K (queue K c) → IsReply K c x → IsReply (e ∷ K) c x
+reply-installed K e c n x q i f o r = by x r
+  where
+    given : is_install e.what ≡ true
+    given = rw q
+
+    alone : (answers K e.what c ≡ false) × (puts_to K e.what c ≡ false)
+    alone = install-alone e.what K c given
+
+    some : some_sends K (queue K c) ≡ true
+    some = first-some K (queue K c) f
+
+    settles-is : settles K e c ≡ true
+    settles-is = let a = alone.0 in let g : gave e.what ≡ true = rw q in rw (a, i, g, f)
+
+    settled-is : IsSettled (e ∷ K) c (BackValue (pos n))
+    settled-is = record {
+      is_settled = settled-now e K c settles-is;
+      unasked = rw (queue-rest e K c alone.1 i, sends-older e K (rest_of (queue K c)) (below-rest (length K) (queue K c) (queue-below K c))) (once-first K (queue K c) o f);
+      returns = reply-now e K c settles-is ∙ ap back_of q;
+    }
+
+    by : (x : Option Reply) → IsReply K c x → IsReply (e ∷ K) c x
+    by None r = absurd (both_ways (some_sends K (queue K c)) r.unasked some)
+    by (Some (Value v)) r = absurd (both_ways (some_sends K (queue K c)) r.unasked some)
+    by (Some (Fail v)) r = absurd (both_ways (some_sends K (queue K c)) r.unasked some)
+    by (Some Continue) r = absurd (both_ways (some_sends K (queue K c)) r.unasked some)
+    by (Some Installing) r = inr (n, settled-is)
+
+once-install : (K : List Event) (e : Event) (c : ℕ) → is_install e.what ≡ true → SendsOnce K (queue K c) → SendsOnce (e ∷ K) (queue (e ∷ K) c)
+once-install K e c q h =
+    let a = install-alone e.what K c q in
+    elim (cases_Bool (installs_for K e c)) [
+      | inl i ↦ rw (queue-rest e K c a.1 i) (once-older e K (rest_of (queue K c)) (below-rest (length K) (queue K c) (queue-below K c)) (once-rest K (queue K c) h))
+      | inr i ↦ once-same e K c (queue-same e K c a.1 i) h
+    ]
+
+inner-install : (w : What) → is_install w ≡ true → IsInner w
+inner-install (Install a) q = record { no_enter = refl; no_leave = refl; no_close = refl; no_receive = refl; no_fetch = λ y. refl }
+inner-install w q = cc
+
+keeps-number : (first : ℕ) (K : List Event) (e : Event) (Q : Queue) (n : ℕ) → StandsFor first K Q → e.what ≡ Install (Ok n) → Keeps K e
+keeps-number first K e Q n S q =
+    let g : is_install e.what ≡ true = rw q in
+    record {
+      inner = inner-install e.what g;
+      reply = λ c x l r. elim (cases_Bool (installs_for K e c)) [
+        | inl i ↦ elim (cases_Bool (first_sends K (queue K c))) [
+          | inl f ↦ reply-installed K e c n x q i f (S.orderly.sends c l) r
+          | inr f ↦ reply-kept e K c x (same-install K e c g i f) r
+        ]
+        | inr i ↦ reply-kept e K c x (calm-same e K c (calm-install K e c g i)) r
+      ];
+      sends = λ c l. once-install K e c g (S.orderly.sends c l);
+    }
+
+keeps-fault : (first : ℕ) (K : List Event) (e : Event) (Q : Queue) (x : ℕ) → StandsFor first K Q → e.what ≡ Install (Err x) → IsNoAnswer K e → Keeps K e
+keeps-fault first K e Q x S q h =
+    let g : is_install e.what ≡ true = rw q in
+    record {
+      inner = inner-install e.what g;
+      reply = λ c y l r. reply-kept e K c y (same g c l) r;
+      sends = λ c l. once-install K e c g (S.orderly.sends c l);
+    }
+  where
+    same : is_install e.what ≡ true → (c : ℕ) → listed K c ≡ true → IsSame K e c
+    same g c l = elim (cases_Bool (installs_for K e c)) [
+      | inl i ↦ same-install K e c g i (h c l (and_parts (is_task e.who (caller K c)) (listed K c) (and_parts (is_install e.what) (is_task e.who (caller K c) && listed K c) i).1).0)
+      | inr i ↦ calm-same e K c (calm-install K e c g i)
+    ]
+
+pub stands-other : (first : ℕ) (K : List Event) (e : Event) (Q : Queue) → StandsFor first K Q → IsOther K e e.what → StandsFor first (e ∷ K) Q
+stands-other first K e Q S h = go e.what refl h
+  where
+    calm : IsInner e.what → ((c : ℕ) → IsCalm K e c) → StandsFor first (e ∷ K) Q
+    calm w h = stands-keeps first K e Q S (keeps-calm first K e Q S w (λ c l. h c))
+
+    go : (w : What) → e.what ≡ w → IsOther K e w → StandsFor first (e ∷ K) Q
+    go (Enter nr args (Notify x)) q h = absurd h
+    go (Recv answer) q h = absurd h
+    go Close q h = absurd h
+    go (Resume back) q h = stands-outside first K e Q S (rw q) h
+    go (Deliver s f) q h = stands-outside first K e Q S (rw q) h
+    go (Send x back (Ok u)) q h = calm (record { no_enter = rw q; no_leave = rw q; no_close = rw q; no_receive = rw q; no_fetch = λ y. rw q }) (λ c. record { no_send = rw (q, h); no_put = rw q; no_install = rw q })
+    go (AddfdPut a (Ok u)) q h = stands-keeps first K e Q S (keeps-put first K e Q a S q h)
+    go (Install (Ok n)) q h = stands-keeps first K e Q S (keeps-number first K e Q n S q)
+    go (Install (Err x)) q h = stands-keeps first K e Q S (keeps-fault first K e Q x S q h)
+    go w q h = calm (record { no_enter = rw q; no_leave = rw q; no_close = rw q; no_receive = rw q; no_fetch = λ y. rw q }) (λ c. record { no_send = rw q; no_put = rw q; no_install = rw q })

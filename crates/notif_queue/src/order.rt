@@ -1,0 +1,140 @@
+//! The listed calls in the order of entry, which are found by halves.
+
+ghost use Rattle.std.specs.Prelude.{◌≡◌, ◌+◌, ◌<◌, ◌≤◌, ◌∷◌, ◌++◌, [], IfNone, IfSome, IsOk, OnOk, length};
+ghost use Rattle.notif_queue.specs.Entries.{Rise, AreBelow, IsStart, IsPlace, IsAbsent, entry, slot_of, first_from, without};
+
+use std::alloc::Global;
+use std::collections::VecDeque;
+use sys_abi::memory::NoMemory;
+
+/// A listed call: how many calls were entered before it, and its slot.
+#[derive(Clone, Copy, PartialEq, Eq, Debug)]
+pub struct Entry {
+    pub number: u64,
+    pub slot: usize,
+}
+
+/// The listed calls in the order of entry. One that is taken from either end moves no other, and one between them the
+/// shorter part.
+#[derive(Drop)]
+pub struct Order {
+    entries: VecDeque<Entry>,
+    /// How many calls were entered.
+    entered: u64,
+    ghost rising: { Rise entries.items },
+    ghost below: { AreBelow entered entries.items },
+}
+
+impl Order {
+    ghost use Rattle.notif_queue.specs.Table.{HasPlace};
+
+    pub fn new(alloc: Global) -> Order
+        ensures entries { result.entries.items ≡ [] }
+        ensures entered { result.entered ≡ 0 }
+    {
+        Order {
+            entries: VecDeque::new(alloc),
+            entered: 0,
+        }
+    }
+
+    /// How many calls were entered.
+    pub fn entered(&self) -> u64
+        ensures { result ≡ self.now.entered }
+    {
+        self.entered
+    }
+
+    /// Makes room for one `push`. There is none for the 2^64-th call.
+    pub fn ready(&mut self) -> Result<(), NoMemory>
+        ensures room { OnOk result (HasPlace self.new) }
+        ensures had_room { HasPlace self.old → IsOk result }
+        ensures entries { self.new.entries.items ≡ self.old.entries.items }
+        ensures entered { self.new.entered ≡ self.old.entered }
+    {
+        if self.entered == u64::MAX {
+            return Err(NoMemory);
+        }
+        self.entries.reserve(1)?;
+        Ok(())
+    }
+
+    /// Enters a call that has this slot, for which there is room, and gives its number.
+    pub fn push(&mut self, slot: usize) -> u64
+        requires { HasPlace self.old }
+        ensures number { result ≡ self.old.entered }
+        ensures entries { self.new.entries.items ≡ self.old.entries.items ++ entry self.old.entered slot ∷ [] }
+        ensures entered { self.new.entered ≡ self.old.entered + 1 }
+    {
+        let number = self.entered;
+        self.entered = number + 1;
+        let Ok(()) = self.entries.push_back(Entry { number, slot }) else {
+            unreachable!()
+        };
+        number
+    }
+
+    /// The place of the first call whose number isn't below this one.
+    fn start(&self, number: u64) -> usize
+        ensures bound { result ≤ length self.now.entries.items }
+        ensures parted { IsStart self.now.entries.items number result }
+    {
+        self.entries.partition_point(|entry| entry.number < number)
+    }
+
+    /// The place of the call with this number.
+    fn place(&self, number: u64) -> Option<usize>
+        ensures found { IfSome result (λ i. IsPlace self.now.entries.items number i) }
+        ensures none { IfNone result (IsAbsent self.now.entries.items number) }
+    {
+        let place = self.start(number);
+        match self.entries.get(place) {
+            Some(entry) if entry.number == number => Some(place),
+            _ => None,
+        }
+    }
+
+    /// The slot of the call with this number.
+    pub fn find(&self, number: u64) -> Option<usize>
+        ensures { result ≡ slot_of self.now.entries.items number }
+    {
+        match self.place(number) {
+            Some(place) => Some(self.entries[place].slot),
+            None => None,
+        }
+    }
+
+    /// The first call whose number isn't below this one.
+    pub fn first_from(&self, number: u64) -> Option<Entry>
+        ensures first { result ≡ first_from self.now.entries.items number }
+        ensures below { IfSome result (λ e. e.number < self.now.entered) }
+    {
+        match self.entries.get(self.start(number)) {
+            Some(entry) => Some(*entry),
+            None => None,
+        }
+    }
+
+    /// Takes the call with this number away, if there is one, and gives its slot.
+    pub fn take(&mut self, number: u64) -> Option<usize>
+        ensures slot { result ≡ slot_of self.old.entries.items number }
+        ensures entries { self.new.entries.items ≡ without self.old.entries.items number }
+        ensures entered { self.new.entered ≡ self.old.entered }
+    {
+        let Some(place) = self.place(number) else {
+            return None;
+        };
+        match self.entries.remove(place) {
+            Some(entry) => Some(entry.slot),
+            None => None,
+        }
+    }
+
+    /// Takes all calls away.
+    pub fn clear(&mut self)
+        ensures entries { self.new.entries.items ≡ [] }
+        ensures entered { self.new.entered ≡ self.old.entered }
+    {
+        self.entries.clear();
+    }
+}
