@@ -3,6 +3,7 @@ use Rattle.std.specs.Prelude.{ℕ, ◌≤◌, Bool, ◌&&◌, ◌||◌, if◌the
 use Rattle.std.specs.Int.{w64}
 use Rattle.std.specs.Int.Signed.{le_z}
 use Rattle.std.specs.Ordering.{int_eq}
+use Rattle.sys_abi.specs.Errnos.{enoent, einval, einprogress}
 use Rattle.sys_abi.specs.Wire.{resp_of}
 use Rattle.sys_abi.specs.declared.wire.Resp.{Resp}
 use Rattle.hist_model.specs.declared.event.Back.{Back}
@@ -20,18 +21,18 @@ may_be_sent resp = ((resp.flags == 1) && (int_eq resp.val (pos 0) && int_eq resp
 
 -- the structure that the bytes of an answer stand for, where it may be sent; else EINVAL
 abbrev pub reading : List ℕ → Result Resp ℕ
-reading bytes = if may_be_sent (resp_of bytes) then Ok (resp_of bytes) else Err 22
+reading bytes = if may_be_sent (resp_of bytes) then Ok (resp_of bytes) else Err einval
 
 -- an answer to no listed call; to one that waits for it; to one that isn't received yet, or answered
 abbrev pub admission : Option State → Result (Unit {0}) ℕ
-admission None = Err 2
+admission None = Err enoent
 admission (Some Fetched) = Ok tt
-admission (Some state) = Err 115
+admission (Some state) = Err einprogress
 
 -- an id is valid only where its call is received and not answered
 abbrev pub validity : Option State → Result (Unit {0}) ℕ
 validity (Some Fetched) = Ok tt
-validity state = Err 2
+validity state = Err enoent
 
 -- the structure that has the call of an id return so
 abbrev pub response : ℕ → Back → Resp

@@ -1,6 +1,7 @@
 //! What each of the requests of ioctl(2) tests.
 
 ghost use Rattle.std.specs.Prelude.{◌≡◌, ◌↔◌, All, IsOk, IfErr};
+ghost use Rattle.sys_abi.specs.Errnos.{einval};
 ghost use Rattle.notif_ioctl.specs.Answers.{may_be_sent, reading, admission, validity, response};
 
 use hist_model::event::Back;
@@ -15,7 +16,7 @@ const MIN_ERROR: i32 = -4095;
 /// it isn't.
 pub fn check_recv(buf: &[u8; 80]) -> Result<(), Errno>
     ensures zeros { IsOk result ↔ All (λ b. b ≡ 0) buf.now }
-    ensures refused { IfErr result (λ e. e ≡ 22) }
+    ensures refused { IfErr result (λ e. e ≡ einval) }
 {
     if buf.iter().all(|byte| *byte == 0) {
         Ok(())
@@ -66,8 +67,8 @@ pub fn admit_send(state: Option<State>) -> Result<(), Errno>
     }
 }
 
-/// Whether an id is validity (SECCOMP_IOCTL_NOTIF_ID_VALID), which names a listed call of this state or none: ENOENT exactly
-/// where it names none that was received and not answered.
+/// Whether an id is valid (SECCOMP_IOCTL_NOTIF_ID_VALID) that names a listed call of this state, or none: ENOENT exactly where
+/// it names none that was received and not answered.
 pub fn check_valid(state: Option<State>) -> Result<(), Errno>
     ensures { result ≡ validity state }
 {
