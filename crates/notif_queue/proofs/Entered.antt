@@ -1,24 +1,21 @@
 -- A queue without calls, one whose room has changed, and one with a call more.
-use Rattle.std.proofs.Common.{◌≡◌, ◌≢◌, inl, inr, ℕ, ◌+◌, ◌<◌, ◌≤◌, ◌%◌, ◌^◌, Bool, true, false, List, [], ◌∷◌, length, get_or, Option, Some, None, refl, sym, ap, ◌∙◌, arith}
+use Rattle.std.proofs.Common.{◌≡◌, inl, inr, ℕ, ◌+◌, ◌<◌, ◌%◌, ◌^◌, true, false, List, [], ◌∷◌, length, get_or, Option, Some, None, refl, sym, ap, ◌∙◌, arith}
 use Rattle.std.specs.Prelude.{nat_lt}
 use Rattle.std.proofs.lemmas.Bool.{cases_eq, le-ltb}
-use Rattle.slab.specs.Slab.{get}
 use Rattle.hist_model.specs.Look.{Name, task_name}
-use Rattle.hist_model.specs.Tasks.{makes, name_of}
-use Rattle.hist_model.specs.Calls.{notifies, caller, id, listed, fetched, fetches, queue, settled, some_sends, calls, recvs, receives, unlists}
+use Rattle.hist_model.specs.Tasks.{makes}
+use Rattle.hist_model.specs.Calls.{notifies, caller, listed, some_sends, calls, recvs, unlists}
 use Rattle.hist_model.specs.declared.event.Event.{Event}
-use Rattle.hist_model.specs.declared.event.Entered.TheVariants.{Notify}
-use Rattle.hist_model.specs.declared.event.What.TheVariants.{Enter}
 use Rattle.hist_model.specs.declared.request.TaskRef.{TaskRef}
 use Rattle.hist_model.proofs.Look.{event_at-here}
 use Rattle.history_frames.specs.Ordinals.{count_of, nth_of}
 use Rattle.history_frames.proofs.Ordinals.{place-new, place-old, place-below, name-older}
-use Rattle.history_frames.proofs.Listed.{IsCalm, listed-below, listed-here, listed-cases, calls-count, calls-more, recvs-same, fetched-same, fetched-new, queue-same, queue-new, settled-new}
+use Rattle.history_frames.proofs.Listed.{IsCalm, listed-here, listed-cases, calls-count, calls-more, recvs-same, fetched-same, fetched-new, queue-same, queue-new, settled-new}
 use Rattle.notif_queue.specs.declared.queue.Call.{Call}
 use Rattle.notif_queue.specs.declared.queue.Queue.{Queue}
-use Rattle.notif_queue.specs.Table.{in_slot, call_found, SameCounts, SameCalls}
+use Rattle.notif_queue.specs.Table.{in_slot, call_found, SameCalls}
 use Rattle.notif_queue.specs.Entries.{slot_of}
-use Rattle.notif_queue.specs.Stands.{IsOpen, IsOwner, IsCall, IsOrderly, HasSlot, StandsFor, IsEntry}
+use Rattle.notif_queue.specs.Stands.{IsCall, IsOrderly, StandsFor, IsEntry}
 use Rattle.notif_queue.proofs.Found.{IsChanged, nothing-found, nothing-apart, nothing-filled}
 use Rattle.notif_queue.proofs.Kept.{IsQuiet, quiet-calm, calm-same, reply-kept, call-kept, slot-kept, once-same}
 use Rattle.notif_queue.proofs.Orderly.{orderly-more}

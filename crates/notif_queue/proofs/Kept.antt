@@ -1,11 +1,11 @@
 -- A listed call, with its answer, after an event that leaves it on the list.
-use Rattle.std.proofs.Common.{◌≡◌, inl, inr, ℕ, ◌+◌, ◌<◌, Bool, true, false, ◌||◌, List, [], ◌∷◌, ◌++◌, length, Option, Some, None, refl, sym, ap, ◌∙◌, arith}
+use Rattle.std.proofs.Common.{◌≡◌, inl, inr, ℕ, ◌<◌, true, false, ◌&&◌, List, [], ◌∷◌, ◌++◌, length, Option, Some, None, refl, sym, ap, ◌∙◌, arith}
 use Rattle.std.specs.Prelude.{nat_lt, pos}
-use Rattle.std.proofs.lemmas.Bool.{both_ways}
+use Rattle.std.proofs.lemmas.Bool.{cases_lt, both_ways, and_parts, eqb-true, false_from_ne_true, or_left}
 use Rattle.hist_model.specs.Look.{Name}
-use Rattle.hist_model.specs.Tasks.{makes, name_of}
-use Rattle.hist_model.specs.Calls.{notifies, caller, id, listed, fetched, fetches, leaves, closes, unlists, queue, answers, puts_to, is_install, settles, settled, some_sends, first_sends, is_send, rest_of, calls, recvs, receives}
-use Rattle.hist_model.specs.Steps.{reply}
+use Rattle.hist_model.specs.Tasks.{makes}
+use Rattle.hist_model.specs.Calls.{notifies, caller, id, listed, fetched, fetches, leaves, closes, unlists, queue, answers, puts_to, is_install, installs_for, settles, some_sends, first_sends, is_send, rest_of, calls, recvs, receives}
+use Rattle.hist_model.specs.Steps.{call_at, is_first}
 use Rattle.hist_model.specs.declared.event.Back.{Back}
 use Rattle.hist_model.specs.declared.event.Back.TheVariants.{Value as BackValue}
 use Rattle.hist_model.specs.declared.event.Event.{Event}
@@ -14,13 +14,13 @@ use Rattle.hist_model.specs.declared.notification.Reply.{Reply}
 use Rattle.hist_model.specs.declared.notification.Reply.TheVariants.{Value, Fail, Continue, Installing}
 use Rattle.hist_model.specs.declared.request.TaskRef.{TaskRef}
 use Rattle.hist_model.proofs.Look.{event_at-older}
-use Rattle.history_frames.specs.Ordinals.{nth_of, place_of}
 use Rattle.history_frames.proofs.Ordinals.{place-old, place-below, name-older}
 use Rattle.history_frames.proofs.Listed.{Below, IsCalm, listed-below, listed-cases, listed-stays, calls-same, recvs-same, fetched-same, caller-older, number-older, queue-below, queue-same, sends-older, settled-same, reply-same, calm-settles}
+use Rattle.history_frames.proofs.Queued.{call-older, call-above, install-same}
 use Rattle.notif_queue.specs.declared.queue.Call.{Call}
 use Rattle.notif_queue.specs.declared.queue.Queue.{Queue}
 use Rattle.notif_queue.specs.Table.{call_found, SameCounts}
-use Rattle.notif_queue.specs.Stands.{IsOpen, IsSettled, IsAsked, IsReply, IsOwner, IsCall, HasSlot, SendsOnce, AreApart, AreFilled, StandsFor}
+use Rattle.notif_queue.specs.Stands.{IsSettled, IsInstalled, IsReply, IsOwner, IsCall, HasSlot, SendsOnce, AreApart, AreFilled, StandsFor}
 use Rattle.notif_queue.proofs.Orderly.{orderly-more}
 
 -- the event changes no answer of the call, and not whether a request with SEND waits
@@ -41,6 +41,31 @@ settled-kept e K c back s h = record {
   returns = reply-same e K c s.unsettled ∙ h.returns;
 }
 
+call-below : (K : List Event) (r c : ℕ) → call_at K r ≡ Some c → r < length K
+call-below K r c q = elim (cases_lt r (length K)) [
+  | inl l ↦ l
+  | inr l ↦ let z : None ≡ Some c = sym (call-above K r l) ∙ q in cc
+]
+
+-- what was installed stays, since no request with SEND waits
+installed-kept : (e : Event) (K : List Event) (c n : ℕ) → IsSame K e c → IsInstalled K c n → IsInstalled (e ∷ K) c n
+installed-kept e K c n s h =
+    let l = call-below K h.request c h.for in
+    record {
+      settled_is = settled-kept e K c (BackValue (pos n)) s h.settled_is;
+      request = h.request;
+      for = call-older e K h.request l ∙ h.for;
+      sends = rw (event_at-older e K h.request l) h.sends;
+      gave = install-same e K c h.request h.for (false_from_ne_true (installs_for K e c && is_first (queue K c) h.request) (λ q. again (queue K c) (and_parts (installs_for K e c) (is_first (queue K c) h.request) q).1 h.settled_is.unasked)) ∙ h.gave;
+    }
+  where
+    again : (rs : List ℕ) → is_first rs h.request ≡ true → some_sends K rs ≡ false → ⊥
+    again [] q u = cc
+    again (r ∷ rs) q u =
+        let e : r ≡ h.request = eqb-true r h.request q in
+        let f : is_send K r ≡ true = ap (is_send K) e ∙ h.sends in
+        both_ways (some_sends K (r ∷ rs)) u (or_left (is_send K r) (some_sends K rs) f)
+
 pub reply-kept : (e : Event) (K : List Event) (c : ℕ) (x : Option Reply) → IsSame K e c → IsReply K c x → IsReply (e ∷ K) c x
 reply-kept e K c None s h = record { unsettled = settled-same e K c s.unsettled ∙ h.unsettled; unasked = s.sends ∙ h.unasked }
 reply-kept e K c (Some (Value v)) s h = settled-kept e K c _ s h
@@ -48,7 +73,7 @@ reply-kept e K c (Some (Fail v)) s h = settled-kept e K c _ s h
 reply-kept e K c (Some Continue) s h = settled-kept e K c _ s h
 reply-kept e K c (Some Installing) s h = elim h [
   | inl a ↦ inl (record { unsettled = settled-same e K c s.unsettled ∙ a.unsettled; asked = s.sends ∙ a.asked })
-  | inr a ↦ inr (a.0, settled-kept e K c (BackValue (pos a.0)) s a.1)
+  | inr a ↦ inr (a.0, installed-kept e K c a.0 s a.1)
 ]
 
 pub owner-kept : (e : Event) (K : List Event) (c : ℕ) (t : TaskRef) → c < length K → IsOwner K c t → IsOwner (e ∷ K) c t

@@ -1,18 +1,17 @@
 -- A queue after a call left the list, or all did.
-use Rattle.std.proofs.Common.{◌≡◌, ◌≢◌, inl, inr, ℕ, ◌<◌, ◌≤◌, ◌^◌, Bool, true, false, ◌&&◌, ◌||◌, List, [], ◌∷◌, length, Option, Some, None, refl, sym, ap, ◌∙◌, arith}
-use Rattle.std.specs.Prelude.{nat_lt, IsSome}
-use Rattle.std.proofs.lemmas.Bool.{cases_eq, both_ways, false_from_ne_true, or_right}
+use Rattle.std.proofs.Common.{◌≡◌, ◌≢◌, inl, inr, ℕ, true, false, List, [], ◌∷◌, Some, None, refl, sym, ap, ◌∙◌}
+use Rattle.std.specs.Prelude.{nat_lt}
+use Rattle.std.proofs.lemmas.Bool.{both_ways, false_from_ne_true, or_right}
 use Rattle.slab.specs.Slab.{Updates}
-use Rattle.hist_model.specs.Look.{Name, is_task, name_eq}
-use Rattle.hist_model.specs.Calls.{notifies, caller, id, listed, fetched, fetches, named, queue, answers, puts_to, is_install, leaves, closes, unlists, calls, recvs, receives}
-use Rattle.hist_model.specs.declared.event.Actor.TheVariants.{Task}
+use Rattle.hist_model.specs.Look.{name_eq}
+use Rattle.hist_model.specs.Calls.{notifies, caller, id, listed, fetches, leaves, closes, unlists, receives}
 use Rattle.hist_model.specs.declared.event.Event.{Event}
 use Rattle.hist_model.specs.declared.event.What.{What}
 use Rattle.hist_model.specs.declared.event.What.TheVariants.{Resume, Deliver, Close}
 use Rattle.hist_model.proofs.Look.{name_eq-true, name_eq-refl}
 use Rattle.history_frames.specs.Ordinals.{nth_of}
 use Rattle.history_frames.proofs.Ordinals.{place-one}
-use Rattle.history_frames.proofs.Listed.{IsCalm, listed-cases, calls-same, recvs-same, fetched-same, queue-same, named-listed}
+use Rattle.history_frames.proofs.Listed.{listed-cases, calls-same, recvs-same, fetched-same, queue-same, named-listed}
 use Rattle.notif_queue.specs.declared.queue.Call.{Call}
 use Rattle.notif_queue.specs.declared.queue.Queue.{Queue}
 use Rattle.notif_queue.specs.Entries.{slot_of, without}

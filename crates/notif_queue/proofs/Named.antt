@@ -1,8 +1,7 @@
 -- Which call an id names, and how far it is.
-use Rattle.std.proofs.Common.{◌≡◌, inl, inr, ℕ, ◌+◌, ◌-◌, ◌<◌, ◌≤◌, ◌%◌, ◌^◌, Bool, true, false, ◌||◌, not, List, [], ◌∷◌, length, Option, Some, None, refl, sym, ap, subst, ◌∙◌, arith}
+use Rattle.std.proofs.Common.{◌≡◌, inl, inr, ℕ, ◌+◌, ◌-◌, ◌<◌, ◌%◌, ◌^◌, Bool, true, false, not, List, Option, Some, None, refl, sym, ap, subst, ◌∙◌, arith}
 use Rattle.std.specs.Prelude.{nat_lt, if◌then◌else◌}
-use Rattle.std.proofs.lemmas.Bool.{cases_Bool, cases_order}
-use Rattle.hist_model.specs.Calls.{notifies, id, listed, fetched, named, queue, settled, some_sends, answered, state, state_at, calls}
+use Rattle.hist_model.specs.Calls.{notifies, id, listed, named, answered, state, state_at}
 use Rattle.hist_model.specs.declared.event.Event.{Event}
 use Rattle.hist_model.specs.declared.notification.Reply.{Reply}
 use Rattle.hist_model.specs.declared.notification.Reply.TheVariants.{Value, Fail, Continue, Installing}
@@ -10,11 +9,11 @@ use Rattle.hist_model.specs.declared.notification.State.{State}
 use Rattle.hist_model.specs.declared.notification.State.TheVariants.{Answered}
 use Rattle.history_frames.specs.Ordinals.{nth_of}
 use Rattle.history_frames.proofs.Ordinals.{place-below}
-use Rattle.history_frames.proofs.Listed.{listed-is_call, calls-count, call-number, named-listed, named-is, named-none}
+use Rattle.history_frames.proofs.Listed.{listed-is_call, calls-count, call-number, named-listed, named-is}
 use Rattle.notif_queue.specs.declared.queue.Call.{Call}
 use Rattle.notif_queue.specs.declared.queue.Queue.{Queue}
 use Rattle.notif_queue.specs.Table.{call_found, number_of, state_by, state_in, state_found, reply_in, reply_found}
-use Rattle.notif_queue.specs.Stands.{IsReply, IsCall, IsOrderly, HasSlot, StandsFor}
+use Rattle.notif_queue.specs.Stands.{IsReply, IsCall, IsOrderly, StandsFor}
 
 mod-back : (f n : ℕ) → f < 2 ^ 64 → n < 2 ^ 64 → ((f + n) % 2 ^ 64 + (2 ^ 64 - f)) % 2 ^ 64 ≡ n
 mod-back f n a b = omega arith
@@ -76,7 +75,7 @@ answered-is K c None h = rw (h.unsettled, h.unasked)
 answered-is K c (Some (Value v)) h = rw h.is_settled
 answered-is K c (Some (Fail v)) h = rw h.is_settled
 answered-is K c (Some Continue) h = rw h.is_settled
-answered-is K c (Some Installing) h = elim h [ inl a ↦ rw (a.unsettled, a.asked) | inr a ↦ let s = a.1 in rw s.is_settled ]
+answered-is K c (Some Installing) h = elim h [ inl a ↦ rw (a.unsettled, a.asked) | inr a ↦ let s = a.1.settled_is in rw s.is_settled ]
 
 state-of-row : (K : List Event) (seen n : ℕ) (r : Call) (i : IsCall K seen n r) → state_by (nat_lt n seen) r.reply ≡ state K i.place
 state-of-row K seen n r i = rw (i.fetched_is, answered-is K i.place r.reply i.reply_is) (by (nat_lt n seen) r.reply)

@@ -1,7 +1,7 @@
 -- A history of calls that holds one more event.
-use Rattle.std.proofs.Common.{◌≡◌, inl, inr, ℕ, ◌+◌, ◌<◌, ◌≤◌, ◌%◌, ◌^◌, Bool, true, false, List, [], ◌∷◌, length, Some, refl, sym, ap, ◌∙◌, arith}
+use Rattle.std.proofs.Common.{◌≡◌, inl, inr, ℕ, ◌+◌, ◌<◌, ◌≤◌, ◌%◌, ◌^◌, true, List, [], ◌∷◌, length, Some, sym, ap, ◌∙◌}
 use Rattle.hist_model.specs.Look.{task_name}
-use Rattle.hist_model.specs.Calls.{notifies, notify_id, caller, id, listed, unlists, queue, calls, recvs}
+use Rattle.hist_model.specs.Calls.{notifies, notify_id, caller, id, listed, queue, calls, recvs}
 use Rattle.hist_model.specs.declared.event.Event.{Event}
 use Rattle.hist_model.proofs.Look.{event_at-here}
 use Rattle.history_frames.specs.Ordinals.{nth_of}

@@ -1,10 +1,10 @@
 -- A queue after an event that changes no listed call.
-use Rattle.std.proofs.Common.{◌≡◌, ◌≢◌, inl, inr, ℕ, ◌<◌, Bool, true, false, ◌&&◌, ◌||◌, List, [], ◌∷◌, ◌++◌, length, Option, Some, None, refl, sym, ap, ◌∙◌, arith}
-use Rattle.std.specs.Prelude.{Result, Ok, Err, nat_lt, pos}
+use Rattle.std.proofs.Common.{◌≡◌, inl, inr, ℕ, Bool, true, false, ◌&&◌, ◌||◌, List, [], ◌∷◌, length, Option, Some, None, refl, ap, ◌∙◌, arith}
+use Rattle.std.specs.Prelude.{Ok, Err, pos}
 use Rattle.std.proofs.lemmas.Bool.{cases_Bool, cases_eq, both_ways, and_parts, eq-eqb}
-use Rattle.hist_model.specs.Look.{Name, is_task}
-use Rattle.hist_model.specs.Calls.{notifies, caller, id, listed, fetched, named, queue, answers, puts_to, is_install, gave, installs_for, settles, settled, some_sends, first_sends, has_send_flag, rest_of, leaves, closes, unlists, receives, fetches}
-use Rattle.hist_model.specs.Steps.{reply, back_of}
+use Rattle.hist_model.specs.Look.{is_task}
+use Rattle.hist_model.specs.Calls.{caller, listed, named, queue, answers, puts_to, is_install, gave, installs_for, settles, some_sends, first_sends, has_send_flag, rest_of}
+use Rattle.hist_model.specs.Steps.{back_of}
 use Rattle.hist_model.specs.declared.event.Back.TheVariants.{Value as BackValue}
 use Rattle.hist_model.specs.declared.event.Event.{Event}
 use Rattle.hist_model.specs.declared.event.Entered.TheVariants.{Notify}
@@ -12,15 +12,16 @@ use Rattle.hist_model.specs.declared.event.What.{What}
 use Rattle.hist_model.specs.declared.event.What.TheVariants.{Enter, Recv, Close, Resume, Deliver, Send, AddfdPut, Install}
 use Rattle.hist_model.specs.declared.notification.Reply.{Reply}
 use Rattle.hist_model.specs.declared.notification.Reply.TheVariants.{Value, Fail, Continue, Installing}
-use Rattle.history_frames.proofs.Listed.{Below, IsCalm, queue-below, queue-same, queue-put, queue-rest, sends-older, sends-push, below-rest, settled-same, settled-now, reply-now}
+use Rattle.history_frames.proofs.Listed.{IsCalm, queue-below, queue-same, queue-put, queue-rest, sends-older, sends-push, below-rest, settled-now, reply-now}
+use Rattle.history_frames.proofs.Queued.{call-older, first-for, install-here}
+use Rattle.hist_model.proofs.Look.{event_at-older}
 use Rattle.sys_abi.specs.declared.wire.Addfd.{Addfd}
-use Rattle.notif_queue.specs.declared.queue.Call.{Call}
 use Rattle.notif_queue.specs.declared.queue.Queue.{Queue}
-use Rattle.notif_queue.specs.Table.{call_found, SameCounts}
-use Rattle.notif_queue.specs.Stands.{IsOpen, IsSettled, IsAsked, IsReply, IsCall, SendsOnce, StandsFor, IsOther, IsOutside, IsPlain, IsNoAnswer}
-use Rattle.notif_queue.proofs.Kept.{IsQuiet, IsInner, IsSame, quiet-calm, calm-same, reply-kept, sends-same, once-older, once-same, once-push, once-rest, once-first, rest-sends, first-some, stands-inner}
+use Rattle.notif_queue.specs.Table.{SameCounts}
+use Rattle.notif_queue.specs.Stands.{IsSettled, IsInstalled, IsReply, SendsOnce, StandsFor, IsOther, IsPlain, IsNoAnswer}
+use Rattle.notif_queue.proofs.Kept.{IsInner, IsSame, calm-same, reply-kept, once-older, once-same, once-rest, once-first, rest-sends, first-some, stands-inner}
 use Rattle.notif_queue.proofs.Left.{stands-outside}
-use Rattle.notif_queue.proofs.Replies.{asked-open, fault-settles, install-others, put-others, put-once, install-alone}
+use Rattle.notif_queue.proofs.Replies.{put-others, put-once, install-alone}
 
 or-false : (b : Bool) → (b || false) ≡ b
 or-false b = grind arith
@@ -117,12 +118,26 @@ reply-installed K e c n x q i f o r = by x r
       returns = reply-now e K c settles-is ∙ ap back_of q;
     }
 
+    -- the first request is the one that gave the number
+    installed : (rs : List ℕ) → queue K c ≡ rs → IsInstalled (e ∷ K) c n
+    installed [] p = let z : first_sends K [] ≡ true = rw p at f in cc
+    installed (r ∷ rs) p =
+        let w = first-for K c r rs p in
+        let z : first_sends K (r ∷ rs) ≡ true = rw p at f in
+        record {
+          settled_is = settled-is;
+          request = r;
+          for = call-older e K r w.0 ∙ w.1;
+          sends = rw (event_at-older e K r w.0) z;
+          gave = install-here e K c r rs w.1 i p ∙ rw q;
+        }
+
     by : (x : Option Reply) → IsReply K c x → IsReply (e ∷ K) c x
     by None r = absurd (both_ways (some_sends K (queue K c)) r.unasked some)
     by (Some (Value v)) r = absurd (both_ways (some_sends K (queue K c)) r.unasked some)
     by (Some (Fail v)) r = absurd (both_ways (some_sends K (queue K c)) r.unasked some)
     by (Some Continue) r = absurd (both_ways (some_sends K (queue K c)) r.unasked some)
-    by (Some Installing) r = inr (n, settled-is)
+    by (Some Installing) r = inr (n, installed (queue K c) refl)
 
 once-install : (K : List Event) (e : Event) (c : ℕ) → is_install e.what ≡ true → SendsOnce K (queue K c) → SendsOnce (e ∷ K) (queue (e ∷ K) c)
 once-install K e c q h =

@@ -1,17 +1,16 @@
 -- A queue after a receive.
-use Rattle.std.proofs.Common.{◌≡◌, ◌≢◌, inl, inr, ℕ, ◌+◌, ◌-◌, ◌<◌, ◌≤◌, ◌%◌, ◌^◌, Bool, true, false, ◌&&◌, not, List, [], ◌∷◌, length, Option, Some, None, refl, sym, ap, ◌∙◌, arith, ltb-true, ltb-false}
+use Rattle.std.proofs.Common.{◌≡◌, inl, inr, ℕ, ◌+◌, ◌-◌, ◌<◌, ◌≤◌, ◌%◌, ◌^◌, Bool, true, false, ◌&&◌, not, List, ◌∷◌, length, Option, Some, None, refl, sym, ap, ◌∙◌, arith, ltb-false}
 use Rattle.std.specs.Prelude.{nat_lt, ◌==◌, Result, Ok, Err}
 use Rattle.sys_abi.specs.declared.wire.Notif.{Notif}
-use Rattle.std.proofs.lemmas.Bool.{cases_eq, cases_order, cases_lt, both_ways, and_parts, and_from, lt-ltb, le-ltb, not-true, eq-eqb, ne_eqb}
+use Rattle.std.proofs.lemmas.Bool.{cases_order, cases_lt, both_ways, and_parts, lt-ltb, le-ltb, not-true, eq-eqb, ne_eqb}
 use Rattle.slab.specs.Slab.{Slab, get}
-use Rattle.hist_model.specs.Look.{Name, oldest}
-use Rattle.hist_model.specs.Calls.{notifies, caller, id, listed, fetched, fetches, queue, calls, recvs, count, receives, unlists}
+use Rattle.hist_model.specs.Look.{Name}
+use Rattle.hist_model.specs.Calls.{notifies, caller, id, listed, fetched, fetches, calls, recvs, count, unlists}
 use Rattle.hist_model.specs.Steps.{oldest_unfetched}
 use Rattle.hist_model.specs.declared.event.Event.{Event}
-use Rattle.hist_model.specs.declared.event.What.{What}
 use Rattle.hist_model.specs.declared.event.What.TheVariants.{Recv}
 use Rattle.hist_model.specs.declared.request.TaskRef.{TaskRef}
-use Rattle.hist_model.proofs.Look.{oldest-some, oldest-found, oldest-none}
+use Rattle.hist_model.proofs.Look.{oldest-some, oldest-found}
 use Rattle.history_frames.specs.Ordinals.{nth_of, task_name_of, name_at}
 use Rattle.history_frames.proofs.Ordinals.{place-below, place-order}
 use Rattle.history_frames.proofs.Held.{oldest-least}
@@ -19,12 +18,12 @@ use Rattle.history_frames.proofs.Listed.{IsCalm, listed-below, listed-cases, cal
 use Rattle.notif_queue.specs.declared.order.Entry.{Entry}
 use Rattle.notif_queue.specs.declared.queue.Call.{Call}
 use Rattle.notif_queue.specs.declared.queue.Queue.{Queue}
-use Rattle.notif_queue.specs.Entries.{slot_of, first_from}
+use Rattle.notif_queue.specs.Entries.{first_from}
 use Rattle.notif_queue.specs.Table.{in_slot, call_found, next_found, with_owner}
-use Rattle.notif_queue.specs.Stands.{IsOwner, IsCall, AreFilled, HasSlot, StandsFor, IsReceipt, IsNext}
-use Rattle.notif_queue.proofs.Halves.{IsFirst, first-is, first-none}
+use Rattle.notif_queue.specs.Stands.{IsOwner, IsCall, AreFilled, StandsFor, IsReceipt, IsNext}
+use Rattle.notif_queue.proofs.Halves.{first-is, first-none}
 use Rattle.notif_queue.proofs.Found.{found-row}
-use Rattle.notif_queue.proofs.Kept.{IsQuiet, quiet-calm, calm-same, reply-kept, call-kept, slot-kept, once-same}
+use Rattle.notif_queue.proofs.Kept.{quiet-calm, calm-same, reply-kept, call-kept, slot-kept, once-same}
 use Rattle.notif_queue.proofs.Named.{ids-differ}
 use Rattle.notif_queue.proofs.Orderly.{orderly-more}
 

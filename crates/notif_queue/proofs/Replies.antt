@@ -1,10 +1,10 @@
 -- A queue after a call was answered, or opened again.
-use Rattle.std.proofs.Common.{◌≡◌, ◌≢◌, inl, inr, ℕ, ◌+◌, ◌<◌, ◌^◌, Bool, true, false, ◌&&◌, ◌||◌, not, List, [], ◌∷◌, ◌++◌, length, Option, Some, None, refl, sym, ap, ◌∙◌, arith}
-use Rattle.std.specs.Prelude.{Ok, Err, nat_lt, ◌==◌, pos}
+use Rattle.std.proofs.Common.{◌≡◌, ◌≢◌, inl, inr, ℕ, ◌<◌, ◌^◌, Bool, true, false, ◌&&◌, List, ◌∷◌, length, Option, Some, None, refl, sym, ap, ◌∙◌, arith}
+use Rattle.std.specs.Prelude.{Ok, Err, nat_lt}
 use Rattle.std.proofs.lemmas.Bool.{cases_eq, and_parts, both_ways, eq-eqb, ne_eqb, false_from_ne_true, or_right}
-use Rattle.hist_model.specs.Look.{Name, is_task, is_place}
-use Rattle.hist_model.specs.Calls.{notifies, caller, id, listed, fetched, named, queue, answers, puts_to, is_install, gave, installs_for, settles, settled, some_sends, first_sends, has_send_flag, rest_of}
-use Rattle.hist_model.specs.Steps.{reply, back_of}
+use Rattle.hist_model.specs.Look.{Name, is_task}
+use Rattle.hist_model.specs.Calls.{notifies, caller, listed, named, queue, answers, puts_to, is_install, installs_for, settles, some_sends, has_send_flag, rest_of}
+use Rattle.hist_model.specs.Steps.{back_of}
 use Rattle.hist_model.specs.declared.event.Actor.{Actor}
 use Rattle.hist_model.specs.declared.event.Actor.TheVariants.{Task}
 use Rattle.hist_model.specs.declared.event.Back.{Back}
@@ -26,7 +26,7 @@ use Rattle.notif_queue.specs.declared.queue.Queue.{Queue}
 use Rattle.notif_queue.specs.Table.{call_found, number_of, state_by, state_in, state_found, with_reply, IsReplied, SameCounts}
 use Rattle.notif_queue.specs.Stands.{IsOpen, IsSettled, IsAsked, IsReply, IsCall, SendsOnce, AreApart, AreFilled, StandsFor, IsAnswer, IsFailure}
 use Rattle.notif_queue.proofs.Found.{IsChanged, changed-put, found-row}
-use Rattle.notif_queue.proofs.Kept.{IsInner, IsSame, IsAnswered, calm-same, reply-kept, sends-same, once-older, once-same, once-push, once-rest, once-first, first-some, stands-inner}
+use Rattle.notif_queue.proofs.Kept.{IsInner, IsSame, calm-same, reply-kept, sends-same, once-older, once-same, once-push, once-rest, once-first, first-some, stands-inner}
 use Rattle.notif_queue.proofs.Named.{named-row, row-named, reply-is}
 
 -- the event gives one call this reply, and changes no other
@@ -146,7 +146,7 @@ asked-open K c None h s = absurd (both_ways (some_sends K (queue K c)) h.unasked
 asked-open K c (Some (Value v)) h s = absurd (both_ways (some_sends K (queue K c)) h.unasked s)
 asked-open K c (Some (Fail v)) h s = absurd (both_ways (some_sends K (queue K c)) h.unasked s)
 asked-open K c (Some Continue) h s = absurd (both_ways (some_sends K (queue K c)) h.unasked s)
-asked-open K c (Some Installing) h s = elim h [ inl a ↦ a | inr a ↦ absurd (both_ways (some_sends K (queue K c)) a.1.unasked s) ]
+asked-open K c (Some Installing) h s = elim h [ inl a ↦ a | inr a ↦ absurd (both_ways (some_sends K (queue K c)) a.1.settled_is.unasked s) ]
 
 pub fault-settles : (K : List Event) (e : Event) (c x : ℕ) → e.what ≡ Install (Err x) → settles K e c ≡ false
 fault-settles K e c x q = rw q (never (is_task e.who (caller K c) && listed K c))

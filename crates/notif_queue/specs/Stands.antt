@@ -1,9 +1,9 @@
 -- Which histories a queue of calls stands for.
-use Rattle.std.specs.Prelude.{◌≡◌, ◌⊎◌, ℕ, ◌+◌, ◌-◌, ◌%◌, ◌^◌, ◌<◌, ◌≤◌, Bool, true, false, List, [], ◌∷◌, Option, Some, None, Ok, Err, pos, ℤ, nat_lt}
-use Rattle.hist_model.specs.Look.{Name, is_task}
+use Rattle.std.specs.Prelude.{◌≡◌, ◌⊎◌, ℕ, ◌+◌, ◌%◌, ◌^◌, ◌<◌, ◌≤◌, true, false, List, [], ◌∷◌, Option, Some, None, Ok, Err, pos, ℤ, nat_lt}
+use Rattle.hist_model.specs.Look.{is_task}
 use Rattle.hist_model.specs.Tasks.{name_of}
 use Rattle.hist_model.specs.Calls.{notifies, caller, id, listed, fetched, named, queue, settled, first_sends, some_sends, has_send_flag, is_send, calls, recvs, leaves}
-use Rattle.hist_model.specs.Steps.{reply, oldest_unfetched}
+use Rattle.hist_model.specs.Steps.{reply, call_at, install_of, oldest_unfetched}
 use Rattle.hist_model.specs.declared.event.Event.{Event}
 use Rattle.hist_model.specs.declared.event.Actor.TheVariants.{Task}
 use Rattle.hist_model.specs.declared.event.Back.{Back}
@@ -39,9 +39,17 @@ pub record IsAsked (K : List Event) (c : ℕ) : Type 0 where
   pub unsettled : settled K c ≡ false
   pub asked : some_sends K (queue K c) ≡ true
 
--- a request with SEND answers the call: it waits for its installation, or the call returns the number that this gave
+-- a request with SEND was installed for the call and gave this number, which the call will return
+pub record IsInstalled (K : List Event) (c n : ℕ) : Type 0 where
+  pub settled_is : IsSettled K c (BackValue (pos n))
+  pub request : ℕ
+  pub for : call_at K request ≡ Some c
+  pub sends : is_send K request ≡ true
+  pub gave : install_of K request ≡ Some (Ok n)
+
+-- a request with SEND answers the call: it waits for its installation, or was installed and gave a number
 abbrev pub IsInstalling : List Event → ℕ → Type 0
-IsInstalling K c = IsAsked K c ⊎ ((n : ℕ) × IsSettled K c (BackValue (pos n)))
+IsInstalling K c = IsAsked K c ⊎ ((n : ℕ) × IsInstalled K c n)
 
 -- the reply is the call's answer so far
 abbrev pub IsReply : List Event → ℕ → Option Reply → Type 0

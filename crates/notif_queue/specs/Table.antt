@@ -1,5 +1,5 @@
 -- What a queue keeps.
-use Rattle.std.specs.Prelude.{◌≡◌, ℕ, ◌+◌, ◌-◌, ◌%◌, ◌^◌, ◌<◌, Bool, true, false, List, Option, Some, None, nat_lt, option_map}
+use Rattle.std.specs.Prelude.{◌≡◌, ℕ, ◌+◌, ◌-◌, ◌%◌, ◌^◌, ◌<◌, Bool, true, false, Option, Some, None, nat_lt}
 use Rattle.std.specs.VecDeque.{deque_len, deque_capacity}
 use Rattle.slab.specs.Slab.{Slab, get, HasRoomFor, Updates}
 use Rattle.hist_model.specs.declared.notification.Reply.{Reply}

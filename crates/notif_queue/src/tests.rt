@@ -293,7 +293,7 @@ fn a_queue_answers_as_its_history_does(rt: HostRuntime) -> Result<(), Fail> {
     let mut queue = Queue::new(rt.alloc(), u64::MAX - 100);
     let mut steps: Vec<Step> = Vec::new(rt.alloc());
     let mut drawn = 20_261_127u64;
-    for _ in 0..3000u32 {
+    for _ in 0..5000u32 {
         drawn = drawn_after(drawn);
         let number = drawn >> 33;
         let id = recent(&steps).wrapping_add(number / 64 % 36);

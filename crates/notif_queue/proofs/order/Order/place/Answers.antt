@@ -1,4 +1,4 @@
-use Rattle.std.proofs.Common.{rules, ◌≡◌, ◌<◌, arith, length}
+use Rattle.std.proofs.Common.{rules, arith}
 use Rattle.std.proofs.lemmas.Grind.{common_steps}
 use Rattle.notif_queue.proofs.Halves.{place-at, absent-at}
 use Rattle.notif_queue.proofs.order.Order.place.Goals as goal

@@ -1,4 +1,4 @@
-use Rattle.std.proofs.Common.{refl, sym, rules}
+use Rattle.std.proofs.Common.{refl}
 use Rattle.notif_queue.proofs.Entered.{stands-enter, stands-same}
 use Rattle.notif_queue.proofs.Found.{changed-enter}
 use Rattle.notif_queue.proofs.queue.Queue.enter.Goals as goal

@@ -1,5 +1,5 @@
-use Rattle.std.proofs.Common.{◌<◌, refl, sym, arith}
-use Rattle.notif_queue.proofs.Received.{IsReceived, next-some, next-is, waited, oldest-lost, stands-gone, stands-fetch}
+use Rattle.std.proofs.Common.{refl, sym, arith}
+use Rattle.notif_queue.proofs.Received.{next-some, next-is, waited, oldest-lost, stands-gone, stands-fetch}
 use Rattle.notif_queue.proofs.queue.Queue.fetch.Goals as goal
 
 pub returns-in_default-clause-gone : goal.returns-in_default-clause-gone

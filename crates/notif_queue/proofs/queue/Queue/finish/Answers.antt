@@ -1,4 +1,4 @@
-use Rattle.std.proofs.Common.{refl, sym, rules}
+use Rattle.std.proofs.Common.{refl, rules}
 use Rattle.notif_queue.proofs.Left.{stands-left}
 use Rattle.notif_queue.proofs.queue.Queue.finish.Goals as goal
 

@@ -1,5 +1,5 @@
 use Rattle.std.proofs.Common.{sym}
-use Rattle.notif_queue.proofs.Named.{answered-found, reply-found}
+use Rattle.notif_queue.proofs.Named.{reply-found}
 use Rattle.notif_queue.proofs.queue.Queue.reply_of.Goals as goal
 
 pub returns : goal.returns
