@@ -1,2 +1,4 @@
 pub mod Ordinals
 pub mod Held
+pub mod Listed
+pub mod Queued
