@@ -1,0 +1,9 @@
+mod Lists
+mod KeptLemmas
+mod Calls
+mod Other
+mod PutLater
+mod Installed
+mod Taken
+mod Answers
+mod Flagged
