@@ -5,7 +5,7 @@ use Rattle.hist_model.specs.Memory.{byte_or, byte_stored}
 use Rattle.task_memory.specs.declared.list.Entry.{Entry}
 use Rattle.task_memory.specs.declared.pages.Page.{Page}
 use Rattle.task_memory.specs.declared.pages.Pages.{Pages}
-use Rattle.task_memory.specs.Lists.{NumbersRise, slot_of, uses_in, one_if}
+use Rattle.task_memory.specs.Lists.{NumbersRise, slot_of, uses_in, one_if, one_if_some}
 
 abbrev pub count_in : Option Page → ℕ
 count_in (Some page) = page.shares
@@ -62,6 +62,11 @@ pages_touched offset n = (offset + n + 4095) / 4096
 -- the slot was left by one entry
 pub record IsLeft (old : Pages) (s : ℕ) (new : Pages) : Type 0 where
   pub count : (p : ℕ) → count_at new p ≡ count_at old p - one_if s p
+  pub bytes : (p : ℕ) → 0 < count_at new p → bytes_at new p ≡ bytes_at old p
+
+-- the same, if there is a slot
+pub record IsLeftBySome (old : Pages) (s : Option ℕ) (new : Pages) : Type 0 where
+  pub count : (p : ℕ) → count_at new p ≡ count_at old p - one_if_some s p
   pub bytes : (p : ℕ) → 0 < count_at new p → bytes_at new p ≡ bytes_at old p
 
 -- one page more, with the bytes of this one

@@ -72,6 +72,7 @@ pub record IsSound (T : Spaces) : Type 0 where
   pub rises : (u : ℕ) → NumbersRise (entries_at T u)
   pub once : (u p : ℕ) → uses_in (entries_at T u) p ≤ 1
   pub few : slab_len T.spaces ≤ T.made
+  pub below : (u o : ℕ) → ordinal_at T u ≡ Some o → o < T.made
   pub held : (u : ℕ) (r : Space) → get T.spaces u ≡ Some r → 0 < r.holders
   pub distinct : (u v o : ℕ) → ordinal_at T u ≡ Some o → ordinal_at T v ≡ Some o → u ≡ v
 

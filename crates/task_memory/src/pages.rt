@@ -2,8 +2,9 @@
 
 ghost use Rattle.std.specs.Prelude.{◌≡◌, ◌≢◌, ℕ, ◌+◌, ◌-◌, ◌*◌, ◌%◌, ◌<◌, ◌≤◌, ◌++◌, ◌^◌, length, Some, None, OnOk, IsOk, vec_len, vec_capacity, slice_index};
 ghost use Rattle.slab.specs.Slab.{get, HasRoomFor};
-ghost use Rattle.task_memory.specs.Lists.{NumbersRise};
-ghost use Rattle.task_memory.specs.Pages.{count_at, bytes_at_some, byte_in, bytes_from, IsStore, IsList, HasPages, pages_touched, IsLeft, IsPageAdded, IsOwned, IsPut, IsStored, IsSharedOnce, IsShared, IsLeftByAll};
+ghost use Rattle.hist_model.specs.Memory.{byte_or, byte_stored};
+ghost use Rattle.task_memory.specs.Lists.{NumbersRise, slot_of};
+ghost use Rattle.task_memory.specs.Pages.{count_at, bytes_at_some, byte_in, bytes_from, IsStore, IsList, HasPages, pages_touched, IsLeft, IsLeftBySome, IsPageAdded, IsOwned, IsPut, IsStored, IsSharedOnce, IsShared, IsLeftByAll};
 
 use crate::list::{self, Entry};
 use slab::Slab;
@@ -111,6 +112,17 @@ impl Pages {
         }
     }
 
+    /// The same, if there is a slot.
+    fn leave_some(&mut self, slot: Option<usize>)
+        ensures left { IsLeftBySome self.old slot self.new }
+        ensures store { IsStore self.old → IsStore self.new }
+        ensures room { (k : ℕ) → HasPages self.old k → HasPages self.new k }
+    {
+        if let Some(slot) = slot {
+            self.leave(slot);
+        }
+    }
+
     /// The slot of the page of a number, which no other entry has: where one has, this list gets a page of its own with
     /// the same bytes. There is room for it.
     fn own(&mut self, list: &mut Vec<Entry>, number: u64) -> usize
@@ -121,15 +133,23 @@ impl Pages {
         ensures entries { (k : ℕ) → vec_len list.old + (k + 1) ≤ vec_capacity list.old → vec_len list.new + k ≤ vec_capacity list.new }
     {
         let found = list::find(list, number);
-        if let Some(slot) = found {
-            if self.shares(slot) == 1 {
-                return slot;
-            }
+        match found {
+            Some(slot) if self.shares(slot) == 1 => slot,
+            _ => self.replace(list, number, found),
         }
+    }
+
+    /// Gives a list a page of its own, with the bytes of the page that it had under this number, or zeros. There is room
+    /// for it.
+    fn replace(&mut self, list: &mut Vec<Entry>, number: u64, found: Option<usize>) -> usize
+        requires pages { HasPages self.old 1 }
+        requires entry { vec_len list.old < vec_capacity list.old }
+        ensures owned { IsStore self.old → IsList self.old list.old.items → found ≡ slot_of list.old.items number → ((p : ℕ) → found ≡ Some p → count_at self.old p ≢ 1) → IsOwned self.old list.old.items number result self.new list.new.items }
+        ensures pages { (k : ℕ) → HasPages self.old (k + 1) → HasPages self.new k }
+        ensures entries { (k : ℕ) → vec_len list.old + (k + 1) ≤ vec_capacity list.old → vec_len list.new + k ≤ vec_capacity list.new }
+    {
         let slot = self.add(found);
-        if let Some(shared) = found {
-            self.leave(shared);
-        }
+        self.leave_some(found);
         list::put(list, Entry { number, slot });
         slot
     }
@@ -142,7 +162,7 @@ impl Pages {
         ensures room { (k : ℕ) → HasPages self.old k → HasPages self.new k }
     {
         if let Some(page) = self.slots.get_mut(slot) {
-            page.bytes[offset..offset + piece.len()].copy_from_slice(piece);
+            write_at(&mut page.bytes, offset, piece);
         }
     }
 
@@ -193,7 +213,7 @@ impl Pages {
         ensures capacity { vec_capacity out.old ≤ vec_capacity out.new }
     {
         let page = self.bytes(list::find(list, number));
-        let Ok(()) = out.extend_from_slice(&page[offset..offset + count]) else {
+        let Ok(()) = out.extend_from_slice(part(page, offset, count)) else {
             unreachable!()
         };
     }
@@ -244,4 +264,21 @@ impl Pages {
             self.leave(entry.slot);
         }
     }
+}
+
+/// Writes a piece into the bytes of a page.
+fn write_at(bytes: &mut [u8; PAGE], offset: usize, piece: &[u8])
+    requires { offset + length piece.now ≤ 4096 }
+    ensures { (i : ℕ) → slice_index bytes.new i ≡ byte_or (byte_stored (Some (offset, piece.now)) i) (slice_index bytes.old i) }
+{
+    bytes[offset..offset + piece.len()].copy_from_slice(piece);
+}
+
+/// Some bytes of a page.
+fn part(page: &[u8; PAGE], offset: usize, count: usize) -> &[u8]
+    requires { offset + count ≤ 4096 }
+    ensures len { length result.now ≡ count }
+    ensures bytes { (i : ℕ) → i < count → slice_index result.now i ≡ slice_index page.now (offset + i) }
+{
+    &page[offset..offset + count]
 }
