@@ -1,6 +1,6 @@
 -- Pages, and what lists of them have.
-use Rattle.std.proofs.Common.{◌≡◌, ◌≢◌, ◌⊎◌, inl, inr, ℕ, zero, suc, ◌+◌, ◌-◌, ◌*◌, ◌/◌, ◌%◌, ◌<◌, ◌≤◌, ◌^◌, Bool, true, false, List, [], ◌∷◌, ◌++◌, length, get_or, take, drop, Option, Some, None, leb, refl, sym, ap, ◌∙◌, arith, add-zero, zero-add, min, append_assoc, append-nil, length-append}
-use Rattle.std.specs.Prelude.{◌==◌, if◌then◌else◌, slice_index, slice_get, nat_le, replicate}
+use Rattle.std.proofs.Common.{◌≡◌, ◌≢◌, ◌⊎◌, inl, inr, ℕ, zero, suc, ◌+◌, ◌-◌, ◌*◌, ◌/◌, ◌%◌, ◌<◌, ◌≤◌, List, [], ◌∷◌, ◌++◌, length, get_or, take, drop, Option, Some, None, refl, sym, ap, ◌∙◌, arith, add-zero, zero-add, min, append_assoc, append-nil, length-append}
+use Rattle.std.specs.Prelude.{slice_index, replicate}
 use Rattle.std.proofs.lemmas.Bool.{cases_eq, cases_lt, le-leb, lt-leb}
 use Rattle.std.proofs.Math.Seq.{take-add}
 use Rattle.std.proofs.lemmas.List.{drop-drop, get_or-drop, get_or-take, get_or_append_left, get_or-append_right, length-take-le}
@@ -48,9 +48,9 @@ shared-none P = record { count = λ p h l. omega (arith, uses-none p); bytes = �
 pub shared-more : (P Q R : Pages) (xs : List Entry) (x : Entry) → IsShared P xs Q → IsSharedOnce Q x.slot R → IsShared P (xs ++ x ∷ []) R
 shared-more P Q R xs x a b = record {
   count = λ p h l.
-  let u = uses-push xs x p in
-  let c = a.count p (λ k. h (omega (arith, u))) (omega (arith, u)) in
-  omega (arith, u, c, b.count p (λ k. omega (arith, c, h (omega (arith, u)))) (omega (arith, u, c)));
+      let u = uses-push xs x p in
+      let c = a.count p (λ k. h (omega (arith, u))) (omega (arith, u)) in
+      omega (arith, u, c, b.count p (λ k. omega (arith, c, h (omega (arith, u)))) (omega (arith, u, c)));
   bytes = λ p. b.bytes p ∙ a.bytes p;
 }
 

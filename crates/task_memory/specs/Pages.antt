@@ -1,5 +1,5 @@
 -- Pages, and what lists of them have.
-use Rattle.std.specs.Prelude.{◌≡◌, ◌≢◌, ℕ, zero, suc, ◌+◌, ◌-◌, ◌*◌, ◌/◌, ◌%◌, ◌<◌, ◌≤◌, ◌^◌, List, [], ◌∷◌, length, Option, Some, None, slice_index, vec_len, vec_capacity}
+use Rattle.std.specs.Prelude.{◌≡◌, ◌≢◌, ℕ, zero, suc, ◌+◌, ◌-◌, ◌/◌, ◌%◌, ◌<◌, ◌≤◌, ◌^◌, List, [], ◌∷◌, Option, Some, None, slice_index, vec_len}
 use Rattle.slab.specs.Slab.{get, HasRoomFor}
 use Rattle.hist_model.specs.Memory.{byte_or, byte_stored}
 use Rattle.task_memory.specs.declared.list.Entry.{Entry}

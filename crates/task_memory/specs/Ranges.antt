@@ -1,5 +1,5 @@
 -- Ranges of mapped addresses.
-use Rattle.std.specs.Prelude.{◌≡◌, ℕ, zero, suc, ◌+◌, ◌*◌, ◌<◌, ◌≤◌, ◌^◌, ◌==◌, Bool, true, false, if◌then◌else◌, List, [], ◌∷◌}
+use Rattle.std.specs.Prelude.{◌≡◌, ℕ, ◌+◌, ◌*◌, ◌<◌, ◌≤◌, ◌^◌, true, false, List}
 use Rattle.std.specs.List.{All}
 use Rattle.hist_model.specs.Memory.{is_mapped}
 use Rattle.hist_model.specs.declared.script.MapRange.{MapRange}

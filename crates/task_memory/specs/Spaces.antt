@@ -1,5 +1,5 @@
 -- What the spaces have.
-use Rattle.std.specs.Prelude.{◌≡◌, ◌≢◌, ℕ, ◌+◌, ◌/◌, ◌<◌, ◌≤◌, ◌^◌, ◌==◌, if◌then◌else◌, Bool, true, false, List, [], ◌∷◌, length, Option, Some, None, Result, Err, vec_len, vec_capacity}
+use Rattle.std.specs.Prelude.{◌≡◌, ◌≢◌, ℕ, ◌+◌, ◌/◌, ◌<◌, ◌≤◌, ◌^◌, ◌==◌, if◌then◌else◌, Bool, true, false, List, [], length, Option, Some, None, Result, Err, vec_len, vec_capacity}
 use Rattle.std.specs.List.{sum_by}
 use Rattle.slab.specs.Slab.{get, slab_len, HasRoomFor, Updates}
 use Rattle.sys_abi.specs.declared.memory.OrNoMemory.{OrNoMemory}
@@ -153,7 +153,6 @@ pub record IsWritten (old : Spaces) (s : SpaceRef) (a : ℕ) (bytes : List ℕ) 
   pub map : new.map.items ≡ old.map.items
   pub made : new.made ≡ old.made
   pub ordinals : (u : ℕ) → ordinal_at new u ≡ ordinal_at old u
-  pub holders : (t : SpaceRef) → holders_of new t ≡ holders_of old t
   pub here : (b : ℕ) → byte_at new s.slot b ≡ byte_or (byte_stored (Some (a, bytes)) b) (byte_at old s.slot b)
   pub others : (u b : ℕ) → u ≢ s.slot → byte_at new u b ≡ byte_at old u b
 

@@ -1,9 +1,8 @@
 -- Which histories the spaces stand for.
-use Rattle.std.specs.Prelude.{◌≡◌, ◌≢◌, ℕ, ◌<◌, Bool, true, false, List, [], ◌∷◌, Option, Some, None, Result, Ok, Err}
+use Rattle.std.specs.Prelude.{◌≡◌, ◌≢◌, ℕ, true, false, List, ◌∷◌, Some, None, Result, Ok, Err}
 use Rattle.sys_abi.specs.declared.memory.OrNoMemory.{OrNoMemory}
 use Rattle.sys_abi.specs.declared.memory.OrNoMemory.TheVariants.{Refused, NoMemory}
 use Rattle.hist_model.specs.Look.{Name, task_name}
-use Rattle.hist_model.specs.Steps.{mem, number_entered}
 use Rattle.hist_model.specs.Memory.{byte, byte_or, byte_stored, is_mapped, stored, group_named}
 use Rattle.hist_model.specs.declared.event.Event.{Event}
 use Rattle.hist_model.specs.declared.event.What.TheVariants.{Spawn}

@@ -121,6 +121,7 @@ impl Spaces {
     fn ready_copy(&mut self, s: SpaceRef) -> Result<(), NoMemory>
         ensures room { OnOk result (HasCopyRoom self.new s) }
         ensures had_room { HasCopyRoom self.old s → IsOk result }
+        ensures store { (len : ℕ) → HasStoreRoom self.old s len → HasStoreRoom self.new s len }
         ensures same { SameSpaces self.old self.new }
     {
         self.ready_space()?;

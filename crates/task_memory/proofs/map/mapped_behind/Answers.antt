@@ -1,4 +1,4 @@
-use Rattle.std.proofs.Common.{◌+◌, ◌≤◌, ◌^◌, arith}
+use Rattle.std.proofs.Common.{◌+◌, arith}
 use Rattle.task_memory.proofs.Ranges.{unmapped-high}
 use Rattle.task_memory.proofs.map.mapped_behind.Goals as goal
 

@@ -1,5 +1,4 @@
-use Rattle.hist_model.specs.declared.script.MapRange.{MapRange}
-use Rattle.std.proofs.Common.{◌+◌, arith, length, ◌<◌}
+use Rattle.std.proofs.Common.{◌+◌, arith}
 use Rattle.task_memory.proofs.Ranges.{mapped-in, mapped-none}
 use Rattle.task_memory.proofs.map.mapped_rest.Goals as goal
 

@@ -1,5 +1,5 @@
-use Rattle.std.proofs.Common.{◌≡◌, ℕ, ◌+◌, ◌-◌, ◌*◌, ◌<◌, arith, append-nil, sym, refl}
-use Rattle.task_memory.specs.Pages.{byte_in, bytes_from}
+use Rattle.std.proofs.Common.{◌+◌, ◌-◌, ◌*◌, arith}
+use Rattle.task_memory.specs.Pages.{byte_in}
 use Rattle.task_memory.proofs.Shares.{from-more, from-none}
 use Rattle.task_memory.proofs.pages.Pages.append.Goals as goal
 
@@ -24,5 +24,5 @@ loop-rest-preserved c =
       low = omega (arith, at, I.most);
       room = omega (arith, I.room, c.append_piece.ensures.len, c.append_piece.ensures.capacity, c.min-piece.ensures);
       done = λ rise. from-more (byte_in c.args.self.now c.args.list.now) _ _ _ c.args.addr (4096 * c.loop-rest.number + c.loop-rest.offset) (c.args.count - c.loop-rest.rest) c.min-piece.result _
-      (I.done rise) (c.append_piece.ensures.items rise) at (omega (arith, I.most, c.min-piece.ensures));
+          (I.done rise) (c.append_piece.ensures.items rise) at (omega (arith, I.most, c.min-piece.ensures));
     }

@@ -1,4 +1,3 @@
-use Rattle.std.proofs.Common.{length, get_or}
 use Rattle.std.proofs.lemmas.List.{take_more}
 use Rattle.task_memory.specs.declared.list.Entry.{Entry}
 use Rattle.task_memory.proofs.Shares.{left-none, left-more}
@@ -12,6 +11,6 @@ loop-entry-preserved c =
     let d : Entry = record { number = 0; slot = 0 } in
     record {
       done = rw (take_more c.args.list.now c.loop-entry.entry-index d c.loop-entry-test.true)
-      (left-more c.args.self.now c.loop-entry.self c.leave.new.self _ _ c.loop-entry.invariant.done c.leave.ensures.left);
+          (left-more c.args.self.now c.loop-entry.self c.leave.new.self _ _ c.loop-entry.invariant.done c.leave.ensures.left);
       store = λ s. c.leave.ensures.store (c.loop-entry.invariant.store s);
     }

@@ -1,4 +1,4 @@
-use Rattle.std.proofs.Common.{◌≡◌, ◌+◌, ◌-◌, ◌≤◌, vec_len}
+use Rattle.std.proofs.Common.{◌≡◌, ◌-◌, ◌≤◌, vec_len}
 use Rattle.slab.specs.Slab.{HasRoomFor}
 use Rattle.task_memory.proofs.pages.Pages.ready.Given as goal
 

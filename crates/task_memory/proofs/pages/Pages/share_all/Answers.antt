@@ -1,4 +1,3 @@
-use Rattle.std.proofs.Common.{length, get_or}
 use Rattle.std.proofs.lemmas.List.{take_more}
 use Rattle.task_memory.specs.declared.list.Entry.{Entry}
 use Rattle.task_memory.proofs.Shares.{shared-none, shared-more}
@@ -12,6 +11,6 @@ loop-entry-preserved c =
     let d : Entry = record { number = 0; slot = 0 } in
     record {
       done = rw (take_more c.args.list.now c.loop-entry.entry-index d c.loop-entry-test.true)
-      (shared-more c.args.self.now c.loop-entry.self c.share.new.self _ _ c.loop-entry.invariant.done c.share.ensures.shared);
+          (shared-more c.args.self.now c.loop-entry.self c.share.new.self _ _ c.loop-entry.invariant.done c.share.ensures.shared);
       store = λ s. c.share.ensures.store (c.loop-entry.invariant.store s);
     }

@@ -1,7 +1,7 @@
-use Rattle.std.proofs.Common.{◌≡◌, ℕ, ◌+◌, ◌-◌, ◌*◌, ◌<◌, ◌≤◌, List, length, take, arith, sym, ◌∙◌}
+use Rattle.std.proofs.Common.{◌≡◌, ◌+◌, ◌-◌, ◌*◌, ◌<◌, ◌≤◌, length, take, arith, sym, ◌∙◌}
 use Rattle.std.proofs.lemmas.Bool.{eqb-true, eqb-false}
 use Rattle.std.proofs.lemmas.List.{take_all}
-use Rattle.task_memory.specs.Pages.{pages_touched, IsStored}
+use Rattle.task_memory.specs.Pages.{pages_touched}
 use Rattle.task_memory.proofs.Shares.{store-next, rest-next, stored-list, fewer-pages, touched-less}
 use Rattle.task_memory.proofs.pages.Pages.store.Goals as goal
 
@@ -25,10 +25,10 @@ loop-rest-preserved c =
       pages = c.store_piece.ensures.pages (pages_touched 0 (length back)) (fewer-pages c.loop-rest.self _ _ touched I.pages);
       entries = c.store_piece.ensures.entries (pages_touched 0 (length back)) (omega (arith, touched, I.entries));
       done = λ r l.
-      let s = I.done r l in
-      store-next c.args.self.now c.loop-rest.self c.store_piece.new.self c.args.list.now.items c.loop-rest.list.items c.store_piece.new.list.items
-      c.args.addr (4096 * c.loop-rest.number + c.loop-rest.offset) c.min.result v rest c.split_at.result.0.now back I.most I.rest c.split_at.ensures.front c.split_at.ensures.back_len at s
-      (c.store_piece.ensures.stored s.store (stored-list c.args.self.now c.loop-rest.self c.args.list.now.items c.loop-rest.list.items c.args.addr _ l s));
+          let s = I.done r l in
+          store-next c.args.self.now c.loop-rest.self c.store_piece.new.self c.args.list.now.items c.loop-rest.list.items c.store_piece.new.list.items
+          c.args.addr (4096 * c.loop-rest.number + c.loop-rest.offset) c.min.result v rest c.split_at.result.0.now back I.most I.rest c.split_at.ensures.front c.split_at.ensures.back_len at s
+          (c.store_piece.ensures.stored s.store (stored-list c.args.self.now c.loop-rest.self c.args.list.now.items c.loop-rest.list.items c.args.addr _ l s));
     }
 
 pub returns : goal.returns
