@@ -9,7 +9,7 @@ ghost use Rattle.hist_model.specs.Natives.{lowest_free, is_open};
 ghost use Rattle.history_frames.specs.Ordinals.{groups_made};
 ghost use Rattle.slab.specs.Slab.{get, HasRoomFor};
 ghost use Rattle.fd_table.specs.Entries.{NumbersRise, IsSet, IsFirstFree, entry_for, console_entries};
-ghost use Rattle.fd_table.specs.Tables.{Row, row_of, row_at, reached, IsHeld, holders_of, entry_in, obj_in, mark_in, mark_of, SetsMark, console_mark, SameOthers, HasRoomForTable, HasRoomForEntry, HasRoom, count_in, SameTables, IsPut, IsAdded, lacked_memory, number_found, number_given, slot_given};
+ghost use Rattle.fd_table.specs.Tables.{Row, row_of, row_at, reached, IsHeld, holders_of, entry_in, obj_in, mark_in, mark_of, SetsMark, console_mark, SameOthers, HasRoomForTable, HasRoomForEntry, HasRoom, count_in, SameTables, IsPut, IsAdded, lacked_memory, was_refused, number_found, number_given, slot_given};
 ghost use Rattle.fd_table.specs.Stands.{StandsFor, IsFresh, IsCopy, SetsSlot, group_at};
 
 use crate::entries::{self, Entry};
@@ -341,7 +341,8 @@ impl Tables {
         ensures holders { holders_of self.new t ≡ holders_of self.old t }
         ensures others { SameOthers self.old t self.new }
         ensures room { HasRoom self.old t → lacked_memory result ≡ false }
-        ensures refused { OnErr result (SameTables self.old self.new) }
+        ensures refused { was_refused result ≡ true → self.new ≡ self.old }
+        ensures same { OnErr result (SameTables self.old self.new) }
     {
         let number = self.lowest_free(t).map_err(OrNoMemory::Refused)?;
         self.reserve_entry(t)?;
@@ -372,7 +373,8 @@ impl Tables {
         ensures holders { holders_of self.new t ≡ holders_of self.old t }
         ensures others { SameOthers self.old t self.new }
         ensures room { HasRoom self.old t → lacked_memory result ≡ false }
-        ensures refused { OnErr result (SameTables self.old self.new) }
+        ensures refused { was_refused result ≡ true → self.new ≡ self.old }
+        ensures same { OnErr result (SameTables self.old self.new) }
     {
         if n >= NR_OPEN {
             return Err(OrNoMemory::Refused(InstallError::OverNrOpen));
@@ -400,7 +402,7 @@ impl Tables {
         ensures marks { OnOk result ((S : Script) (K : List Event) → StandsFor S K self.old → SetsMark self.old t n None self.new) }
         ensures holders { holders_of self.new t ≡ holders_of self.old t }
         ensures others { SameOthers self.old t self.new }
-        ensures refused { OnErr result (SameTables self.old self.new) }
+        ensures refused { OnErr result (self.new ≡ self.old) }
     {
         let Some(_) = self.find(t, n) else {
             return Err(NotOpen);
@@ -423,10 +425,7 @@ impl Tables {
         requires { IsHeld self.now t }
         ensures { (S : Script) (K : List Event) → StandsFor S K self.now → result ≡ (files S K).slot (group_at K t) n }
     {
-        match self.find(t, n) {
-            Some(entry) => Some(entry.obj),
-            None => None,
-        }
+        self.find(t, n).map(|entry| entry.obj)
     }
 
     /// The close-on-exec mark with which a number was opened. None exactly where it isn't open.
@@ -434,9 +433,6 @@ impl Tables {
         requires { IsHeld self.now t }
         ensures { (S : Script) (K : List Event) → StandsFor S K self.now → result ≡ mark_of self.now t n }
     {
-        match self.find(t, n) {
-            Some(entry) => Some(entry.cloexec),
-            None => None,
-        }
+        self.find(t, n).map(|entry| entry.cloexec)
     }
 }
