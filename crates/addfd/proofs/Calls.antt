@@ -1,15 +1,14 @@
 -- What the requests stand for, one event later, as far as no request changes.
-use Rattle.std.proofs.Common.{◌≡◌, inl, inr, ℕ, ◌<◌, Bool, true, false, List, [], ◌∷◌, length, Option, Some, None, refl, sym, ap, ◌∙◌, arith}
+use Rattle.std.proofs.Common.{◌≡◌, inl, inr, ℕ, ◌<◌, true, false, List, ◌∷◌, length, refl, sym, ap, ◌∙◌}
 use Rattle.std.specs.Prelude.{map, All, ◌==◌}
-use Rattle.std.proofs.lemmas.Bool.{both_ways, eqb-true, cases_Bool, and_parts}
+use Rattle.std.proofs.lemmas.Bool.{both_ways, eqb-true, and_parts}
 use Rattle.std.proofs.lemmas.List.Elements.{All-filter, All-weaker}
-use Rattle.hist_model.specs.Look.{event_at, task_name}
 use Rattle.hist_model.specs.Calls.{listed, id, caller, is_call, notifies, is_install}
-use Rattle.hist_model.specs.Steps.{request_of, install_of, call_at, place_or}
+use Rattle.hist_model.specs.Steps.{request_of, install_of, place_or}
 use Rattle.hist_model.specs.Files.{asked_in}
 use Rattle.hist_model.specs.declared.event.Event.{Event}
 use Rattle.hist_model.proofs.Look.{event_at-here, event_at-older, below_or_last}
-use Rattle.history_frames.proofs.Listed.{listed-cases, listed-is_call, is_call-below, id-older, caller-older}
+use Rattle.history_frames.proofs.Listed.{listed-cases, is_call-below, id-older, caller-older}
 use Rattle.history_frames.proofs.Queued.{request-below, call-older, call-id, install-left}
 use Rattle.addfd.specs.declared.requests.Request.{Request}
 use Rattle.addfd.specs.Requests.{is_waiting, waiting}

@@ -1,22 +1,20 @@
 -- The requests after the oldest of a call was installed.
-use Rattle.std.proofs.Common.{◌≡◌, inl, inr, ℕ, ◌<◌, Bool, true, false, ◌&&◌, List, [], ◌∷◌, length, Option, Some, None, refl, sym, ap, ◌∙◌, arith}
+use Rattle.std.proofs.Common.{◌≡◌, inl, inr, ℕ, true, false, ◌&&◌, List, [], ◌∷◌, length, Some, refl, sym, ap, ◌∙◌}
 use Rattle.std.specs.Prelude.{map, All, Ok, ◌==◌, if◌then◌else◌, is_none, Result}
 use Rattle.std.proofs.lemmas.Bool.{both_ways, eqb-true, eq-eqb, cases_Bool, false_from_ne_true, and_parts, and_from}
 use Rattle.std.proofs.lemmas.List.Elements.{All-map, All-weaker, All-filter, All-head}
-use Rattle.hist_model.specs.Look.{event_at, is_worker, is_task, name_eq}
+use Rattle.hist_model.specs.Look.{event_at, is_task}
 use Rattle.hist_model.specs.Calls.{listed, id, caller, is_call, notifies, is_install, queue, puts_to, installs_for, rest_of}
 use Rattle.hist_model.specs.Steps.{request_of, request_after, install_of, installed, is_first, call_at}
 use Rattle.hist_model.specs.declared.event.Event.{Event}
 use Rattle.hist_model.specs.declared.event.Actor.{Actor}
-use Rattle.hist_model.specs.declared.event.Actor.TheVariants.{Task, Worker}
-use Rattle.hist_model.specs.declared.event.What.{What}
-use Rattle.hist_model.specs.declared.event.What.TheVariants.{Install}
+use Rattle.hist_model.specs.declared.event.Actor.TheVariants.{Task}
 use Rattle.hist_model.proofs.Look.{name_eq-true}
 use Rattle.history_frames.proofs.Listed.{listed-is_call, id-older, queue-same, queue-rest}
 use Rattle.history_frames.proofs.Queued.{request-left, request-own, first-for, install-here, install-same}
 use Rattle.addfd.specs.declared.requests.Request.{Request}
-use Rattle.addfd.specs.Requests.{is_of, is_waiting, waiting, has_request, are_apart, noted, with_result}
-use Rattle.addfd.specs.Stands.{IsRequest, StandsFor, IsInstall, place_of, worker_in, number_or}
+use Rattle.addfd.specs.Requests.{is_of, is_waiting, waiting, are_apart, noted, with_result}
+use Rattle.addfd.specs.Stands.{IsRequest, StandsFor, IsInstall, place_of, worker_in}
 use Rattle.addfd.proofs.Lists.{has-noted, noted-worker, waiting-noted, waiting-first, NoneWaits}
 use Rattle.addfd.proofs.Calls.{row-later, row-id, row-call, place-is, places-same, ids-more, alone-more, listed-was}
 

@@ -1,13 +1,13 @@
 -- What holds of the requests that are kept: no worker has two, so there is always room for one more worker's.
-use Rattle.std.proofs.Common.{◌≡◌, inl, inr, ℕ, ◌<◌, ◌≤◌, Bool, true, false, ◌&&◌, ◌||◌, not, List, [], ◌∷◌, ◌++◌, length, refl, ap, ◌∙◌, arith}
+use Rattle.std.proofs.Common.{◌≡◌, inl, inr, ℕ, ◌<◌, ◌≤◌, Bool, true, false, not, List, [], ◌∷◌, ◌++◌, length, refl, ◌∙◌, arith}
 use Rattle.std.specs.Prelude.{◌==◌, map, nat_le, filter, Result}
-use Rattle.std.specs.List.{list_any, list_all, IsDistinct, AllByRecursion}
+use Rattle.std.specs.List.{list_any, IsDistinct, AllByRecursion}
 use Rattle.std.proofs.lemmas.Bool.{cases_Bool, eqb-true, leb-true, le-leb, and_parts, and_from, or_parts, or_cases, not-true, ne_eqb, eqb-false}
 use Rattle.std.proofs.lemmas.List.{length-map, length-append}
 use Rattle.std.proofs.lemmas.List.Folds.{list_all-append}
 use Rattle.std.proofs.lemmas.Map.Steps.{length-le_from_distinct_below}
 use Rattle.addfd.specs.declared.requests.Request.{Request}
-use Rattle.addfd.specs.Requests.{is_of, has_request, are_apart, are_workers, AreKept, with_result, without, noted}
+use Rattle.addfd.specs.Requests.{is_of, has_request, are_apart, are_workers, AreKept, with_result}
 use Rattle.addfd.proofs.Lists.{apart-push, apart-noted, apart-filter, noted-worker}
 
 abbrev workers : List Request → List ℕ

@@ -1,6 +1,6 @@
 -- Requests in a list: whose they are, and which of them wait.
-use Rattle.std.proofs.Common.{◌≡◌, inl, inr, ℕ, ◌<◌, ◌+◌, Bool, true, false, ◌&&◌, ◌||◌, not, List, [], ◌∷◌, ◌++◌, length, zero, suc, refl, sym, ap, ◌∙◌, subst, arith, get_or, set, take, drop}
-use Rattle.std.specs.Prelude.{◌==◌, if◌then◌else◌, map, filter, find, All, Option, Some, None, Result, remove, position}
+use Rattle.std.proofs.Common.{◌≡◌, inl, inr, ℕ, ◌<◌, Bool, true, false, ◌||◌, not, List, [], ◌∷◌, ◌++◌, length, zero, suc, refl, sym, ap, ◌∙◌, subst, arith, get_or, set}
+use Rattle.std.specs.Prelude.{map, filter, find, All, Some, None, Result, remove, position}
 use Rattle.std.specs.List.{list_any, position_or_len}
 use Rattle.std.proofs.lemmas.Bool.{cases_Bool, eq-eqb, eqb-true, both_ways, and_parts, or_parts, or_cases, or_left, or_right, not-true, false_from_ne_true, lt-ltb}
 use Rattle.std.proofs.lemmas.List.Elements.{All-nil, All-cons, All-head, All-tail}
