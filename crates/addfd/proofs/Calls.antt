@@ -1,16 +1,16 @@
 -- What the requests stand for, one event later, as far as no request changes.
-use Rattle.std.proofs.Common.{◌≡◌, inl, inr, ℕ, ◌<◌, Bool, true, false, List, [], ◌∷◌, length, Option, Some, None, refl, sym, ap, ◌∙◌, arith}
-use Rattle.std.specs.Prelude.{map, All, ◌==◌}
-use Rattle.std.proofs.lemmas.Bool.{both_ways, eqb-true, cases_Bool, and_parts}
+use Rattle.std.proofs.Common.{◌≡◌, inl, inr, ℕ, ◌<◌, true, false, List, ◌∷◌, length, refl, sym, ap, ◌∙◌}
+use Rattle.std.specs.Prelude.{map, All, ◌==◌, is_none}
+use Rattle.std.proofs.lemmas.Bool.{both_ways, eqb-true, and_parts}
 use Rattle.std.proofs.lemmas.List.Elements.{All-filter, All-weaker}
-use Rattle.hist_model.specs.Look.{event_at, task_name}
 use Rattle.hist_model.specs.Calls.{listed, id, caller, is_call, notifies, is_install}
-use Rattle.hist_model.specs.Steps.{request_of, install_of, call_at, place_or}
+use Rattle.hist_model.specs.Steps.{request_of, install_of, place_or}
 use Rattle.hist_model.specs.Files.{asked_in}
 use Rattle.hist_model.specs.declared.event.Event.{Event}
 use Rattle.hist_model.proofs.Look.{event_at-here, event_at-older, below_or_last}
-use Rattle.history_frames.proofs.Listed.{listed-cases, listed-is_call, is_call-below, id-older, caller-older}
+use Rattle.history_frames.proofs.Listed.{listed-cases, is_call-below, id-older, caller-older}
 use Rattle.history_frames.proofs.Queued.{request-below, call-older, call-id, install-left}
+use Rattle.sys_abi.specs.declared.wire.Addfd.{Addfd}
 use Rattle.addfd.specs.declared.requests.Request.{Request}
 use Rattle.addfd.specs.Requests.{is_waiting, waiting}
 use Rattle.addfd.specs.Stands.{IsRequest, StandsFor, place_of}
@@ -45,13 +45,13 @@ places-same e K x qs h =
 
 -- the id that a request names is its call's
 pub row-id : (K : List Event) (q : Request) (i : IsRequest K q) → (is_call K i.call ≡ true) × (id K i.call ≡ q.asked.id)
-row-id K q i = let c = call-id K i.place i.call i.call_is in (c.0, c.1 ∙ ap (λ (a : Rattle.sys_abi.specs.declared.wire.Addfd.Addfd). a.id) (sym i.asked_is))
+row-id K q i = let c = call-id K i.place i.call i.call_is in (c.0, c.1 ∙ ap (λ (a : Addfd). a.id) (sym i.asked_is))
 
 -- a request that waits for the id of a listed call was put for it
 pub row-call : (K : List Event) (qs : List Request) (c : ℕ) (q : Request) → StandsFor K qs → (i : IsRequest K q) → is_call K c ≡ true → is_waiting (id K c) q ≡ true → i.call ≡ c
 row-call K qs c q S i h w =
     let r = row-id K q i in
-    S.ids i.call c r.0 h (r.1 ∙ eqb-true q.asked.id (id K c) (and_parts (q.asked.id == id K c) (Rattle.std.specs.Prelude.is_none q.result) w).0)
+    S.ids i.call c r.0 h (r.1 ∙ eqb-true q.asked.id (id K c) (and_parts (q.asked.id == id K c) (is_none q.result) w).0)
 
 -- ---- calls that differ, after an event that enters none
 

@@ -1,23 +1,21 @@
 -- The requests after the oldest of a call was installed.
-use Rattle.std.proofs.Common.{◌≡◌, inl, inr, ℕ, ◌<◌, Bool, true, false, ◌&&◌, List, [], ◌∷◌, length, Option, Some, None, refl, sym, ap, ◌∙◌, arith}
-use Rattle.std.specs.Prelude.{map, All, Ok, ◌==◌, if◌then◌else◌, is_none, Result}
+use Rattle.std.proofs.Common.{◌≡◌, inl, inr, ℕ, true, false, ◌&&◌, List, [], ◌∷◌, length, Some, refl, sym, ap, ◌∙◌}
+use Rattle.std.specs.Prelude.{map, slice_index_or, Result}
 use Rattle.std.proofs.lemmas.Bool.{both_ways, eqb-true, eq-eqb, cases_Bool, false_from_ne_true, and_parts, and_from}
 use Rattle.std.proofs.lemmas.List.Elements.{All-map, All-weaker, All-filter, All-head}
-use Rattle.hist_model.specs.Look.{event_at, is_worker, is_task, name_eq}
+use Rattle.hist_model.specs.Look.{event_at, is_task}
 use Rattle.hist_model.specs.Calls.{listed, id, caller, is_call, notifies, is_install, queue, puts_to, installs_for, rest_of}
-use Rattle.hist_model.specs.Steps.{request_of, request_after, install_of, installed, is_first, call_at}
+use Rattle.hist_model.specs.Steps.{request_of, request_after, place_or, install_of, installed, is_first, call_at}
 use Rattle.hist_model.specs.declared.event.Event.{Event}
 use Rattle.hist_model.specs.declared.event.Actor.{Actor}
-use Rattle.hist_model.specs.declared.event.Actor.TheVariants.{Task, Worker}
-use Rattle.hist_model.specs.declared.event.What.{What}
-use Rattle.hist_model.specs.declared.event.What.TheVariants.{Install}
+use Rattle.hist_model.specs.declared.event.Actor.TheVariants.{Task}
 use Rattle.hist_model.proofs.Look.{name_eq-true}
 use Rattle.history_frames.proofs.Listed.{listed-is_call, id-older, queue-same, queue-rest}
 use Rattle.history_frames.proofs.Queued.{request-left, request-own, first-for, install-here, install-same}
 use Rattle.addfd.specs.declared.requests.Request.{Request}
-use Rattle.addfd.specs.Requests.{is_of, is_waiting, waiting, has_request, are_apart, noted, with_result}
-use Rattle.addfd.specs.Stands.{IsRequest, StandsFor, IsInstall, place_of, worker_in, number_or}
-use Rattle.addfd.proofs.Lists.{has-noted, noted-worker, waiting-noted, waiting-first, NoneWaits}
+use Rattle.addfd.specs.Requests.{is_of, is_waiting, waiting, are_apart, noted, with_result}
+use Rattle.addfd.specs.Stands.{IsRequest, StandsFor, IsInstall, place_of, worker_in}
+use Rattle.addfd.proofs.Lists.{map-same, has-noted, noted-worker, waiting-noted, waiting-first, NoneWaits}
 use Rattle.addfd.proofs.Calls.{row-later, row-id, row-call, place-is, places-same, ids-more, alone-more, listed-was}
 
 -- the worker of a request's step
@@ -80,10 +78,13 @@ module _ (K : List Event) (e : Event) (qs : List Request) (w : ℕ) (a : Result 
   target-worker : target.0.worker ≡ w
   target-worker = sym (row-worker K target.0 row) ∙ (ap (λ r. worker_in (event_at K r)) at-first ∙ p.worker_is)
 
+  place-first : (q : Request) (i : IsRequest K q) → q.worker ≡ w → i.place ≡ p.first
+  place-first q i h = ap place_or (sym i.is ∙ (ap (request_of K) (h ∙ sym target-worker) ∙ row.is)) ∙ at-first
+
   -- what the installation answers each request
   own-result : (q : Request) (i : IsRequest K q) → q.worker ≡ w → install_of (e ∷ K) i.place ≡ Some a
   own-result q i h =
-      let at : i.place ≡ p.first = ap Rattle.hist_model.specs.Steps.place_or (sym i.is ∙ (ap (request_of K) (h ∙ sym target-worker) ∙ row.is)) ∙ at-first in
+      let at = place-first q i h in
       let f = first-for K p.call p.first p.rest p.queue_is in
       ap (install_of (e ∷ K)) at ∙ (install-here e K p.call p.first p.rest f.1 for-call p.queue_is ∙ ap installed p.what_is)
 
@@ -107,10 +108,10 @@ module _ (K : List Event) (e : Event) (qs : List Request) (w : ℕ) (a : Result 
   -- where another call is concerned, nothing waits less
   none-waits : (c : ℕ) → is_call K c ≡ true → (c ≡ p.call → ⊥) → NoneWaits w (id K c) qs
   none-waits c h n k d l o = false_from_ne_true _ (λ z.
-      let q = Rattle.std.specs.Prelude.slice_index_or qs k d in
+      let q = slice_index_or qs k d in
       let i = S.requests k d l in
       let t = row-id K target.0 row in
-      let at : i.place ≡ p.first = ap Rattle.hist_model.specs.Steps.place_or (sym i.is ∙ (ap (request_of K) (eqb-true q.worker w o ∙ sym target-worker) ∙ row.is)) ∙ at-first in
+      let at = place-first q i (eqb-true q.worker w o) in
       let f = first-for K p.call p.first p.rest p.queue_is in
       let own : Some i.call ≡ Some p.call = sym i.call_is ∙ (ap (call_at K) at ∙ f.1) in
       let same : i.call ≡ p.call = cc in
@@ -129,7 +130,7 @@ module _ (K : List Event) (e : Event) (qs : List Request) (w : ℕ) (a : Result 
       ]
     where
       more-places : map (place_of (e ∷ K)) target.1 ≡ p.rest
-      more-places = Rattle.addfd.proofs.Lists.map-same (place_of (e ∷ K)) (place_of K) target.1 (λ k d l. ap Rattle.hist_model.specs.Steps.place_or (asks-same _)) ∙ target.4
+      more-places = map-same (place_of (e ∷ K)) (place_of K) target.1 (λ k d l. ap place_or (asks-same _)) ∙ target.4
 
   stands : StandsFor (e ∷ K) (with_result w a qs)
   stands = record {

@@ -1,14 +1,14 @@
 -- What holds of the requests that are kept: no worker has two, so there is always room for one more worker's.
-use Rattle.std.proofs.Common.{◌≡◌, inl, inr, ℕ, ◌<◌, ◌≤◌, Bool, true, false, ◌&&◌, ◌||◌, not, List, [], ◌∷◌, ◌++◌, length, refl, ap, ◌∙◌, arith}
+use Rattle.std.proofs.Common.{◌≡◌, inl, inr, ℕ, ◌<◌, ◌≤◌, Bool, true, false, List, [], ◌∷◌, ◌++◌, length, refl, ◌∙◌, arith}
 use Rattle.std.specs.Prelude.{◌==◌, map, nat_le, filter, Result}
-use Rattle.std.specs.List.{list_any, list_all, IsDistinct, AllByRecursion}
-use Rattle.std.proofs.lemmas.Bool.{cases_Bool, eqb-true, leb-true, le-leb, and_parts, and_from, or_parts, or_cases, not-true, ne_eqb, eqb-false}
+use Rattle.std.specs.List.{list_any, IsDistinct, AllByRecursion}
+use Rattle.std.proofs.lemmas.Bool.{cases_Bool, eqb-true, leb-true, le-leb, and_parts, and_from, or_parts, or_cases, ne_eqb, eqb-false}
 use Rattle.std.proofs.lemmas.List.{length-map, length-append}
 use Rattle.std.proofs.lemmas.List.Folds.{list_all-append}
 use Rattle.std.proofs.lemmas.Map.Steps.{length-le_from_distinct_below}
 use Rattle.addfd.specs.declared.requests.Request.{Request}
-use Rattle.addfd.specs.Requests.{is_of, has_request, are_apart, are_workers, AreKept, with_result, without, noted}
-use Rattle.addfd.proofs.Lists.{apart-push, apart-noted, apart-filter, noted-worker}
+use Rattle.addfd.specs.Requests.{is_of, has_request, are_apart, are_workers, AreKept, with_result}
+use Rattle.addfd.proofs.Lists.{apart-parts, apart-push, apart-noted, apart-filter, noted-worker}
 
 abbrev workers : List Request → List ℕ
 workers qs = map (λ (q : Request). q.worker) qs
@@ -20,7 +20,7 @@ differs w (q ∷ qs) h = let p = or_parts (is_of w q) (has_request qs w) h in le
 distinct : (qs : List Request) → are_apart qs ≡ true → IsDistinct (λ v w. v == w) (workers qs)
 unfolding IsDistinct
 distinct [] h = tt
-distinct (q ∷ qs) h = let p = and_parts (not (has_request qs q.worker)) (are_apart qs) h in (differs q.worker qs (not-true (has_request qs q.worker) p.0), distinct qs p.1)
+distinct (q ∷ qs) h = let p = apart-parts q qs h in (differs q.worker qs p.0, distinct qs p.1)
 
 bounded : (qs : List Request) (v : ℕ) → are_workers qs ≡ true → list_any (λ u. v == u) (workers qs) ≡ true → v < 17
 bounded [] v h k = cc

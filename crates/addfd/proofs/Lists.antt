@@ -1,6 +1,6 @@
 -- Requests in a list: whose they are, and which of them wait.
-use Rattle.std.proofs.Common.{◌≡◌, inl, inr, ℕ, ◌<◌, ◌+◌, Bool, true, false, ◌&&◌, ◌||◌, not, List, [], ◌∷◌, ◌++◌, length, zero, suc, refl, sym, ap, ◌∙◌, subst, arith, get_or, set, take, drop}
-use Rattle.std.specs.Prelude.{◌==◌, if◌then◌else◌, map, filter, find, All, Option, Some, None, Result, remove, position}
+use Rattle.std.proofs.Common.{◌≡◌, inl, inr, ℕ, ◌<◌, Bool, true, false, ◌||◌, not, List, [], ◌∷◌, ◌++◌, length, zero, suc, refl, sym, ap, ◌∙◌, subst, arith, get_or, set}
+use Rattle.std.specs.Prelude.{map, filter, find, All, Some, None, Result, remove, position}
 use Rattle.std.specs.List.{list_any, position_or_len}
 use Rattle.std.proofs.lemmas.Bool.{cases_Bool, eq-eqb, eqb-true, both_ways, and_parts, or_parts, or_cases, or_left, or_right, not-true, false_from_ne_true, lt-ltb}
 use Rattle.std.proofs.lemmas.List.Elements.{All-nil, All-cons, All-head, All-tail}
@@ -52,12 +52,22 @@ pub apart-noted : (w : ℕ) (a : Result ℕ ℕ) (qs : List Request) → are_apa
 apart-noted w a [] = refl
 apart-noted w a (q ∷ qs) = rw (noted-worker w a q, has-noted q.worker w a qs, apart-noted w a qs)
 
+-- the first request's worker has no other, and the others are apart
+pub apart-parts : (q : Request) (qs : List Request) → are_apart (q ∷ qs) ≡ true → (has_request qs q.worker ≡ false) × (are_apart qs ≡ true)
+apart-parts q qs h = let a = and_parts (not (has_request qs q.worker)) (are_apart qs) h in (not-true (has_request qs q.worker) a.0, a.1)
+
+apart-own : (w : ℕ) (q : Request) (qs : List Request) → are_apart (q ∷ qs) ≡ true → is_of w q ≡ true → has_request qs w ≡ false
+apart-own w q qs s h = ap (has_request qs) (sym (eqb-true q.worker w h)) ∙ (apart-parts q qs s).0
+
+apart-other : (w : ℕ) (q : Request) (qs : List Request) → are_apart (q ∷ qs) ≡ true → has_request qs w ≡ true → is_of w q ≡ false
+apart-other w q qs s h = false_from_ne_true (is_of w q) (λ z. both_ways (has_request qs w) (apart-own w q qs s z) h)
+
 pub apart-filter : (p : Request → Bool) (qs : List Request) → are_apart qs ≡ true → are_apart (filter p qs) ≡ true
 apart-filter p [] h = refl
 apart-filter p (q ∷ qs) h =
-    let a = and_parts (not (has_request qs q.worker)) (are_apart qs) h in
+    let a = apart-parts q qs h in
     let ih = apart-filter p qs a.1 in
-    let n : has_request (filter p qs) q.worker ≡ false = false_from_ne_true (has_request (filter p qs) q.worker) (λ z. both_ways (has_request qs q.worker) (not-true (has_request qs q.worker) a.0) (has-filter q.worker p qs z)) in
+    let n : has_request (filter p qs) q.worker ≡ false = false_from_ne_true (has_request (filter p qs) q.worker) (λ z. both_ways (has_request qs q.worker) a.0 (has-filter q.worker p qs z)) in
     elim (cases_Bool (p q)) [ inl b ↦ rw (b, n, ih) | inr b ↦ rw b ih ]
 
 has-push : (w : ℕ) (qs : List Request) (q : Request) → has_request (qs ++ q ∷ []) w ≡ (has_request qs w || is_of w q)
@@ -73,10 +83,10 @@ has-push-old w qs q h = rw (has-push w qs q) (or_left (has_request qs w) (is_of 
 pub apart-push : (qs : List Request) (q : Request) → are_apart qs ≡ true → has_request qs q.worker ≡ false → are_apart (qs ++ q ∷ []) ≡ true
 apart-push [] q h f = refl
 apart-push (x ∷ qs) q h f =
-    let a = and_parts (not (has_request qs x.worker)) (are_apart qs) h in
+    let a = apart-parts x qs h in
     let b = or_parts (is_of q.worker x) (has_request qs q.worker) f in
     let n : is_of x.worker q ≡ false = false_from_ne_true (is_of x.worker q) (λ z. both_ways (is_of q.worker x) b.0 (eq-eqb x.worker q.worker (sym (eqb-true q.worker x.worker z)))) in
-    let m : has_request qs x.worker ≡ false = not-true (has_request qs x.worker) a.0 in
+    let m = a.0 in
     rw (has-push x.worker qs q, m, n) (apart-push qs q a.1 b.1)
 
 pub noted-none : (w : ℕ) (a : Result ℕ ℕ) (qs : List Request) → has_request qs w ≡ false → with_result w a qs ≡ qs
@@ -92,35 +102,23 @@ has-at w [] i d l h = absurd (omega (arith, l))
 has-at w (q ∷ qs) zero d l h = or_left (is_of w q) (has_request qs w) h
 has-at w (q ∷ qs) (suc i) d l h = or_right (is_of w q) (has_request qs w) (has-at w qs i d (omega (arith, l)) h)
 
--- the first of two requests of different places is another worker's
-head-other : (w : ℕ) (q : Request) (qs : List Request) (i : ℕ) (d : Request) → are_apart (q ∷ qs) ≡ true → i < length qs → is_of w (get_or qs i d) ≡ true → is_of w q ≡ false
-head-other w q qs i d a l h =
-    let b = and_parts (not (has_request qs q.worker)) (are_apart qs) a in
-    false_from_ne_true (is_of w q) (λ z. both_ways (has_request qs q.worker) (not-true (has_request qs q.worker) b.0) (ap (has_request qs) (eqb-true q.worker w z) ∙ has-at w qs i d l h))
-
 -- the one request of a worker is written
 pub set-noted : (w : ℕ) (a : Result ℕ ℕ) (qs : List Request) (i : ℕ) (d : Request) → i < length qs → is_of w (get_or qs i d) ≡ true → are_apart qs ≡ true → set qs i (record (get_or qs i d) { result = Some a }) ≡ with_result w a qs
 set-noted w a [] i d l h s = absurd (omega (arith, l))
 set-noted w a (q ∷ qs) zero d l h s =
-    let b = and_parts (not (has_request qs q.worker)) (are_apart qs) s in
-    let o : has_request qs w ≡ false = ap (has_request qs) (sym (eqb-true q.worker w h)) ∙ not-true (has_request qs q.worker) b.0 in
-    rw (h, noted-none w a qs o)
+    rw (h, noted-none w a qs (apart-own w q qs s h))
 set-noted w a (q ∷ qs) (suc i) d l h s =
     let m : i < length qs = omega (arith, l) in
-    let b = and_parts (not (has_request qs q.worker)) (are_apart qs) s in
-    rw (head-other w q qs i d s m h, set-noted w a qs i d m h b.1)
+    rw (apart-other w q qs s (has-at w qs i d m h), set-noted w a qs i d m h (apart-parts q qs s).1)
 
 -- the one request of a worker is taken off
 pub remove-without : (w : ℕ) (qs : List Request) (i : ℕ) (d : Request) → i < length qs → is_of w (get_or qs i d) ≡ true → are_apart qs ≡ true → remove qs i ≡ without w qs
 remove-without w [] i d l h s = absurd (omega (arith, l))
 remove-without w (q ∷ qs) zero d l h s =
-    let b = and_parts (not (has_request qs q.worker)) (are_apart qs) s in
-    let o : has_request qs w ≡ false = ap (has_request qs) (sym (eqb-true q.worker w h)) ∙ not-true (has_request qs q.worker) b.0 in
-    rw (h, without-none w qs o)
+    rw (h, without-none w qs (apart-own w q qs s h))
 remove-without w (q ∷ qs) (suc i) d l h s =
     let m : i < length qs = omega (arith, l) in
-    let b = and_parts (not (has_request qs q.worker)) (are_apart qs) s in
-    rw (head-other w q qs i d s m h) (ap (λ r. q ∷ r) (remove-without w qs i d m h b.1))
+    rw (apart-other w q qs s (has-at w qs i d m h)) (ap (λ r. q ∷ r) (remove-without w qs i d m h (apart-parts q qs s).1))
 
 -- ---- which requests wait
 
@@ -153,20 +151,17 @@ waiting-without w x (q ∷ qs) h =
 pub waiting-first : (w x : ℕ) (a : Result ℕ ℕ) (qs : List Request) (q : Request) (more : List Request) → are_apart qs ≡ true → q.worker ≡ w → waiting x qs ≡ q ∷ more → waiting x (with_result w a qs) ≡ more
 waiting-first w x a [] q more s h e = cc
 waiting-first w x a (y ∷ qs) q more s h e =
-    let b = and_parts (not (has_request qs y.worker)) (are_apart qs) s in
     elim (cases_Bool (is_waiting x y)) [
       | inl p ↦
           let e' : y ∷ waiting x qs ≡ q ∷ more = rw p at e in
           let f : y ≡ q = cc in
           let g : waiting x qs ≡ more = cc in
-          let i : y.worker ≡ w = ap (λ (r : Request). r.worker) f ∙ h in
-          let o : has_request qs w ≡ false = ap (has_request qs) (sym i) ∙ not-true (has_request qs y.worker) b.0 in
-          rw (noted-over w x a y (eq-eqb y.worker w i), noted-none w a qs o) g
+          let i = eq-eqb y.worker w (ap (λ (r : Request). r.worker) f ∙ h) in
+          rw (noted-over w x a y i, noted-none w a qs (apart-own w y qs s i)) g
       | inr p ↦
           let e' : waiting x qs ≡ q ∷ more = rw p at e in
           let has : has_request qs w ≡ true = has-filter w (is_waiting x) qs (rw e' (or_left (is_of w q) (has_request more w) (eq-eqb q.worker w h))) in
-          let n : is_of w y ≡ false = false_from_ne_true (is_of w y) (λ z. both_ways (has_request qs y.worker) (not-true (has_request qs y.worker) b.0) (ap (has_request qs) (eqb-true y.worker w z) ∙ has)) in
-          rw (n, p) (waiting-first w x a qs q more b.1 h e')
+          rw (apart-other w y qs s has, p) (waiting-first w x a qs q more (apart-parts y qs s).1 h e')
     ]
 
 -- ---- what is found of a worker
@@ -194,8 +189,7 @@ result-first w [] i d l h s = absurd (omega (arith, l))
 result-first w (q ∷ qs) zero d l h s = rw h
 result-first w (q ∷ qs) (suc i) d l h s =
     let m : i < length qs = omega (arith, l) in
-    let b = and_parts (not (has_request qs q.worker)) (are_apart qs) s in
-    rw (head-other w q qs i d s m h) (result-first w qs i d m h b.1)
+    rw (apart-other w q qs s (has-at w qs i d m h)) (result-first w qs i d m h (apart-parts q qs s).1)
 
 -- ---- the request at a place where its worker's stands
 

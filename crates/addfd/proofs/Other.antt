@@ -1,20 +1,19 @@
 -- The requests after an event that changes none.
-use Rattle.std.proofs.Common.{◌≡◌, inl, inr, ℕ, ◌<◌, Bool, true, false, List, [], ◌∷◌, length, Option, Some, None, refl, sym, ap, ◌∙◌, arith}
-use Rattle.std.specs.Prelude.{map, All, Ok, Err, ◌==◌, is_none}
-use Rattle.std.proofs.lemmas.Bool.{both_ways, eqb-true, and_parts, cases_Bool}
+use Rattle.std.proofs.Common.{◌≡◌, inl, inr, ℕ, true, false, List, [], ◌∷◌, length, Option, refl, sym, ◌∙◌, arith}
+use Rattle.std.specs.Prelude.{map, All, Ok, ◌==◌, is_none}
+use Rattle.std.proofs.lemmas.Bool.{eqb-true, and_parts, cases_Bool}
 use Rattle.std.proofs.lemmas.List.Elements.{All-weaker, All-filter, All-head, filter_passes}
-use Rattle.hist_model.specs.Look.{event_at, task_name}
-use Rattle.hist_model.specs.Calls.{listed, id, caller, is_call, notifies, notify_id, is_install, queue, puts_to, installs_for}
+use Rattle.hist_model.specs.Calls.{listed, id, notifies, notify_id, is_install, queue, puts_to}
 use Rattle.hist_model.specs.Steps.{request_of, request_after}
 use Rattle.hist_model.specs.declared.event.Event.{Event}
 use Rattle.hist_model.specs.declared.event.What.{What}
 use Rattle.hist_model.specs.declared.event.What.TheVariants.{AddfdPut, AddfdTake, Install, Enter}
 use Rattle.hist_model.specs.declared.event.Entered.TheVariants.{Notify}
 use Rattle.hist_model.proofs.Look.{event_at-here, event_at-older, below_or_last}
-use Rattle.history_frames.proofs.Listed.{listed-below, listed-cases, listed-is_call, is_call-below, id-older, caller-older, queue-same, queue-above}
+use Rattle.history_frames.proofs.Listed.{listed-below, listed-cases, is_call-below, id-older, caller-older, queue-same, queue-above}
 use Rattle.history_frames.proofs.Queued.{request-left}
 use Rattle.addfd.specs.declared.requests.Request.{Request}
-use Rattle.addfd.specs.Requests.{is_waiting, waiting, has_request}
+use Rattle.addfd.specs.Requests.{is_waiting, waiting}
 use Rattle.addfd.specs.Stands.{IsRequest, StandsFor, LeavesRequests, IsFresh, place_of}
 use Rattle.addfd.proofs.Calls.{row-same, row-id, places-same, IdsDiffer, AreAlone, ids-more, alone-more}
 

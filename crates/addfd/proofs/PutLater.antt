@@ -1,22 +1,20 @@
 -- The requests after one more was put.
-use Rattle.std.proofs.Common.{◌≡◌, inl, inr, ℕ, ◌<◌, Bool, true, false, ◌&&◌, List, [], ◌∷◌, ◌++◌, length, Option, Some, None, refl, sym, ap, ◌∙◌, arith}
-use Rattle.std.specs.Prelude.{map, All, Ok, ◌==◌, filter}
+use Rattle.std.proofs.Common.{◌≡◌, inl, inr, ℕ, true, false, List, [], ◌∷◌, ◌++◌, length, Some, refl, sym, ap, ◌∙◌}
+use Rattle.std.specs.Prelude.{map, All, ◌==◌}
 use Rattle.std.proofs.lemmas.Bool.{both_ways, eqb-true, eq-eqb, cases_Bool, false_from_ne_true}
 use Rattle.std.proofs.lemmas.List.{map-append, append-nil}
 use Rattle.std.proofs.lemmas.List.Elements.{All-push, filter-append}
-use Rattle.hist_model.specs.Look.{event_at, is_worker, is_place}
-use Rattle.hist_model.specs.Calls.{listed, id, caller, is_call, notifies, named, is_install, queue, puts_to, installs_for}
-use Rattle.hist_model.specs.Steps.{request_of, request_after, asked_call, call_at, place_or}
+use Rattle.hist_model.specs.Look.{is_worker, is_place}
+use Rattle.hist_model.specs.Calls.{listed, id, notifies, named, is_install, queue, puts_to}
+use Rattle.hist_model.specs.Steps.{request_of, request_after, asked_call, place_or}
 use Rattle.hist_model.specs.Files.{asked_in, asked_by}
 use Rattle.hist_model.specs.declared.event.Event.{Event}
-use Rattle.hist_model.specs.declared.event.Actor.TheVariants.{Worker}
-use Rattle.hist_model.specs.declared.event.What.TheVariants.{AddfdPut}
 use Rattle.hist_model.proofs.Look.{event_at-here}
 use Rattle.history_frames.proofs.Listed.{listed-is_call, id-older, named-listed, queue-same, queue-put, is-place, place-is}
 use Rattle.history_frames.proofs.Queued.{request-same, request-more, call-here, install-new}
 use Rattle.sys_abi.specs.declared.wire.Addfd.{Addfd}
 use Rattle.addfd.specs.declared.requests.Request.{Request}
-use Rattle.addfd.specs.Requests.{is_of, is_waiting, waiting, has_request, new_request}
+use Rattle.addfd.specs.Requests.{is_waiting, waiting, has_request, new_request}
 use Rattle.addfd.specs.Stands.{IsRequest, StandsFor, IsPut, place_of}
 use Rattle.addfd.proofs.Lists.{others-all, has-push-new, has-push-old}
 use Rattle.addfd.proofs.Calls.{row-same, places-same, ids-more, alone-more, listed-was}

@@ -1,20 +1,19 @@
 -- What a worker is told of its request, and the requests after it was taken.
-use Rattle.std.proofs.Common.{◌≡◌, inl, inr, ℕ, ◌<◌, Bool, true, false, ◌&&◌, not, List, [], ◌∷◌, length, Option, Some, None, refl, sym, ap, ◌∙◌, subst, arith}
-use Rattle.std.specs.Prelude.{map, All, Ok, Err, ◌==◌, is_none, Result, find, slice_index_or}
+use Rattle.std.proofs.Common.{◌≡◌, inl, inr, ℕ, Bool, true, false, not, List, ◌∷◌, length, Option, Some, None, refl, sym, ap, ◌∙◌, subst}
+use Rattle.std.specs.Prelude.{map, All, Ok, Err, ◌==◌, is_none, Result, slice_index_or}
 use Rattle.std.proofs.lemmas.Bool.{both_ways, eqb-true, eq-eqb, cases_Bool, false_from_ne_true, and_parts, not-true}
 use Rattle.std.proofs.lemmas.List.Elements.{All-filter, filter_passes}
-use Rattle.hist_model.specs.Look.{event_at, is_worker}
-use Rattle.hist_model.specs.Calls.{listed, id, is_call, notifies, is_install, queue, puts_to, installs_for}
-use Rattle.hist_model.specs.Steps.{request_of, request_after, install_of, install_at, call_at, call_listed, request_listed, take_step}
+use Rattle.hist_model.specs.Look.{is_worker}
+use Rattle.hist_model.specs.Calls.{listed, id, notifies, is_install, queue, puts_to}
+use Rattle.hist_model.specs.Steps.{request_of, request_after, install_at, call_listed, request_listed, take_step}
 use Rattle.hist_model.specs.declared.event.Event.{Event}
-use Rattle.hist_model.specs.declared.event.What.{What}
 use Rattle.hist_model.specs.declared.event.What.TheVariants.{AddfdTake, Skip}
 use Rattle.history_frames.proofs.Listed.{listed-is_call, id-older, queue-same}
 use Rattle.history_frames.proofs.Queued.{request-same, request-more}
 use Rattle.addfd.specs.declared.requests.Request.{Request}
 use Rattle.addfd.specs.declared.requests.TakeError.{TakeError}
 use Rattle.addfd.specs.declared.requests.TakeError.TheVariants.{Pending, Fault}
-use Rattle.addfd.specs.Requests.{is_of, is_waiting, waiting, has_request, without, result_in, result_of, taken, is_over, left}
+use Rattle.addfd.specs.Requests.{is_of, waiting, has_request, without, result_in, result_of, taken, is_over, left}
 use Rattle.addfd.specs.Stands.{IsRequest, StandsFor, IsTake, LeavesRequests, take_of, place_of, is_asking}
 use Rattle.addfd.proofs.Lists.{found-row, has-without, waiting-without, NoneWaits}
 use Rattle.addfd.proofs.Calls.{row-same, row-call, places-same, ids-more, alone-more, listed-was}

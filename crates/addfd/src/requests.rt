@@ -5,7 +5,7 @@ ghost use Rattle.std.specs.Option.{option_copied};
 ghost use Rattle.hist_model.specs.Calls.{listed, queue, id as id_of};
 ghost use Rattle.hist_model.specs.Steps.{request_of, request_listed};
 ghost use Rattle.hist_model.specs.declared.event.Event.{Event};
-ghost use Rattle.addfd.specs.Requests.{is_of, is_waiting, has_request, waiting, oldest, result_of, with_result, without, taken, is_over, left, new_request};
+ghost use Rattle.addfd.specs.Requests.{is_of, is_waiting, has_request, waiting, oldest, result_of, with_result, taken, is_over, left, new_request};
 ghost use Rattle.addfd.specs.Stands.{StandsFor, IsPut, IsInstall, IsTake, oldest_in, is_asking};
 
 use std::alloc::Global;

@@ -136,6 +136,29 @@ fn a_send_waits_for_the_others(rt: HostRuntime) -> Result<(), Fail> {
 }
 
 #[test]
+fn requests_of_a_call_come_in_their_order(rt: HostRuntime) -> Result<(), Fail> {
+    let mut requests = Requests::new(rt.alloc())?;
+    let other = Addfd { id: 8, ..asked(0) };
+    requests.put(3, asked(1));
+    requests.put(5, other);
+    requests.put(1, asked(0));
+    requests.put(2, asked(1));
+    assert_eq!(rt; (requests.queued(7), requests.queued(8)), (3, 1));
+    for (worker, flags, left) in [(3, 1, 2), (1, 0, 1), (2, 1, 0)] {
+        assert_eq!(rt; requests.oldest(7), Some((worker, asked(flags))));
+        if requests.has_request(worker) {
+            requests.done(worker, Ok(9));
+        }
+        assert_eq!(rt; requests.queued(7), left);
+    }
+    assert_eq!(rt;
+        (requests.oldest(7), requests.oldest(8)),
+        (None, Some((5, other)))
+    );
+    Ok(())
+}
+
+#[test]
 fn a_request_of_a_call_that_left_has_no_number(rt: HostRuntime) -> Result<(), Fail> {
     let mut requests = Requests::new(rt.alloc())?;
     requests.put(16, asked(1));

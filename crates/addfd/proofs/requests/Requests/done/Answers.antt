@@ -1,5 +1,5 @@
-use Rattle.std.proofs.Common.{◌≡◌, ◌∷◌, true, sym, ap, ◌∙◌, subst}
-use Rattle.addfd.specs.Requests.{are_apart, AreKept, with_result}
+use Rattle.std.proofs.Common.{◌∷◌, sym, ap, ◌∙◌, subst}
+use Rattle.addfd.specs.Requests.{are_apart}
 use Rattle.addfd.specs.Stands.{StandsFor}
 use Rattle.addfd.proofs.Lists.{noted-at}
 use Rattle.addfd.proofs.KeptLemmas.{kept-noted}

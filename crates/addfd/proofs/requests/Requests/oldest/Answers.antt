@@ -1,4 +1,4 @@
-use Rattle.std.proofs.Common.{◌≡◌, sym, ap, ◌∙◌, Some}
+use Rattle.std.proofs.Common.{sym, ap, ◌∙◌}
 use Rattle.std.specs.Prelude.{find, option_map}
 use Rattle.addfd.specs.declared.requests.Request.{Request}
 use Rattle.addfd.specs.Requests.{is_waiting}
