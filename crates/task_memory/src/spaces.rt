@@ -4,7 +4,7 @@ ghost use Rattle.std.specs.Prelude.{◌≡◌, ◌≢◌, ℕ, ◌+◌, ◌-◌,
 ghost use Rattle.slab.specs.Slab.{get, HasRoomFor};
 ghost use Rattle.hist_model.specs.declared.event.Event.{Event};
 ghost use Rattle.hist_model.specs.declared.script.Script.{Script};
-ghost use Rattle.hist_model.specs.Memory.{all_mapped, bytes_read};
+ghost use Rattle.hist_model.specs.Memory.{is_mapped, all_mapped, bytes_read};
 ghost use Rattle.history_frames.specs.Ordinals.{groups_made, group_of};
 ghost use Rattle.task_memory.specs.Ranges.{AllEndLow};
 ghost use Rattle.task_memory.specs.Pages.{pages_touched, HasPages};
@@ -337,6 +337,8 @@ impl Spaces {
         out: &mut Vec<u8>,
     ) -> Result<(), OrNoMemory<Fault>>
         ensures answer { (S : Script) (K : List Event) (g : ℕ) → StandsFor S K self.now → IsHeld self.now h.now.space → group_of K h.now.space.ordinal ≡ Some g → IsReadAnswer result out.new.items (bytes_read S K g addr len) }
+        ensures fault { (S : Script) (K : List Event) → StandsFor S K self.now → lacked_memory result ≡ false → was_refused result ≡ not (is_mapped S.map addr) }
+        ensures stale { (S : Script) (K : List Event) → StandsFor S K self.now → holders_of self.now h.now.space ≡ 0 → OnOk result (out.new.items ≡ []) }
         ensures room { len ≤ vec_capacity out.old → lacked_memory result ≡ false }
         ensures refused { OnErr result (out.new.items ≡ out.old.items) }
     {
