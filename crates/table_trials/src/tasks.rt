@@ -48,6 +48,7 @@ struct Seen {
 }
 
 impl Trial {
+    /// A table without tasks, and no event.
     fn new(alloc: Global, base: u16, pidmax: u16, from: u64) -> Result<Trial, NoMemory> {
         Ok(Trial {
             alloc,
@@ -101,6 +102,7 @@ impl Trial {
         u32::from(self.base) + self.draws.below(usize::from(self.pidmax) + 2) as u32
     }
 
+    /// A drawn signal.
     fn signal(&mut self) -> u8 {
         match self.draws.below(9) {
             0 => SIGKILL,
@@ -110,6 +112,7 @@ impl Trial {
         }
     }
 
+    /// What a task may do at a signal, drawn.
     fn mode(&mut self) -> Mode {
         match self.draws.below(4) {
             0 => Mode::Default,
@@ -133,6 +136,7 @@ fn next_name<R: Abort>(rt: &R, trial: &Trial, parent: Option<Made>) -> Result<Ta
     }
 }
 
+/// A spawn gives the number that is free next, or is refused where none is.
 fn spawn<R: Abort>(
     rt: &R,
     trial: &mut Trial,
@@ -169,6 +173,7 @@ fn spawn<R: Abort>(
     Ok(())
 }
 
+/// A signal is sent by a task to a drawn number, and reaches the one that holds it.
 fn send<R: Abort>(rt: &R, trial: &mut Trial, seen: &mut Seen, own: Made) -> Result<(), Fail> {
     let (pid, sig) = (trial.pid(), trial.signal());
     let want = tasks::holder(trial.events.as_slice(), pid);
@@ -187,6 +192,7 @@ fn send<R: Abort>(rt: &R, trial: &mut Trial, seen: &mut Seen, own: Made) -> Resu
     Ok(())
 }
 
+/// A signal is delivered to a task, in its call or outside, with the mode that it set. The listener is killable.
 fn deliver<R: Abort>(rt: &R, trial: &mut Trial, seen: &mut Seen, own: Made) -> Result<(), Fail> {
     let events = trial.events.as_slice();
     let name = trial.name(own.place);
@@ -222,6 +228,7 @@ fn deliver<R: Abort>(rt: &R, trial: &mut Trial, seen: &mut Seen, own: Made) -> R
     Ok(())
 }
 
+/// A task waits for a child.
 fn reap<R: Abort>(rt: &R, trial: &mut Trial, seen: &mut Seen, own: Made) -> Result<(), Fail> {
     let want = tasks::waited(trial.events.as_slice(), trial.name(own.place));
     let answer = match trial.table.reap(own.task) {
@@ -246,6 +253,7 @@ fn reap<R: Abort>(rt: &R, trial: &mut Trial, seen: &mut Seen, own: Made) -> Resu
     Ok(())
 }
 
+/// A task sets what it does at a signal.
 fn handle(trial: &mut Trial, own: Made) -> Result<(), NoMemory> {
     let (sig, mode) = (trial.signal(), trial.mode());
     trial.table.set_handler(own.task, sig, mode);
@@ -262,6 +270,7 @@ fn exit(trial: &mut Trial, own: Made) -> Result<(), NoMemory> {
     trial.add(own.place, what)
 }
 
+/// A task enters mknod(2), and the filters say this of it.
 fn call(verdict: Entered) -> What {
     What::Enter {
         nr: 133,
