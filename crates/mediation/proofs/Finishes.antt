@@ -1,11 +1,9 @@
 -- Finished stays finished.
-use Rattle.mediation.proofs.Common.{◌≡◌, ◌⊎◌, ℕ, ◌<◌, Bool, true, false, List, [], ◌∷◌, ◌++◌, length, Some, None, refl, ap, arith, Ok, Err, both_ways, ended, is_made, listed, closes, Rules, session}
-use Rattle.mediation.proofs.Common.{any_of, is_letgo, notif_of, System, oldest_unfetched, Event, Actor, What, Recv, OpenMem, OpenBase, Check, Read, Act, Plant, AddfdPut, AddfdTake, Send, LetGo}
-use Rattle.mediation.proofs.Common.{Skip, Notif, Finished, is_open_session, StaysFinished}
-use Rattle.mediation.proofs.Rows.{Row, WorkerRow, row-of}
-use Rattle.mediation.proofs.Deeds.{AtWork, deed-is}
+use Rattle.mediation.proofs.Common.{[], Actor, any_of, ap, arith, Bool, closes, ended, Err, Event, false, Finished, is_letgo, is_made, is_open_session, length, LetGo, List, listed, None, notif_of}
+use Rattle.mediation.proofs.Common.{Ok, oldest_unfetched, Recv, refl, Rules, session, Skip, StaysFinished, System, true, What, ℕ, ◌++◌, ◌+◌, ◌<◌, ◌∷◌, ◌≡◌, ◌⊎◌}
+use Rattle.mediation.proofs.Rows.{WorkerRow, Row, row-of}
 use Rattle.mediation.proofs.Calls.{fetching}
-use Rattle.mediation.proofs.Hands.{works, at-work}
+use Rattle.mediation.proofs.Hands.{at-work}
 
 -- the step does nothing: it was none, or it found nothing to receive
 abbrev pub idles : What → Bool
@@ -21,8 +19,8 @@ module _ (S : System) (R : Rules) (K : List Event) (f : Finished K) where
   worker-idles : (w : ℕ) (what : What) → WorkerRow S R K w what → idles what ≡ true
   worker-idles w Skip r = refl
   worker-idles w (Recv (Err x)) r = refl
-  worker-idles w (Recv (Ok n)) r = let g = fetching K n (oldest_unfetched K) refl r.2 in absurd (cc (f.calls g.0, g.2))
-  worker-idles w LetGo r = let t = deed-is R (session K w) _ r in let s = not-open (session K w) (f.sessions w) in absurd (grind arith)
+  worker-idles w (Recv (Ok n)) r = let g = fetching K n (oldest_unfetched K) refl r.1.1 in absurd (cc (f.calls g.0, g.2))
+  worker-idles w LetGo r = let t = r.0 in let s = not-open (session K w) (f.sessions w) in absurd (grind arith)
   worker-idles w what r = let k = at-work S R K w what r (grind arith) in let s = not-open (session K w) (f.sessions w) in absurd (grind arith)
 
   row-idles : (a : Actor) (what : What) → Row S R K a what → (K ≡ [] → ⊥) → closes what ≡ false → idles what ≡ true

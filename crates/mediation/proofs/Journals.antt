@@ -1,9 +1,9 @@
 -- A legal history is fixed by its actors, and by the text of its journal; legality reads the same by places.
-use Rattle.mediation.proofs.Common.{◌≡◌, ◌⊎◌, inl, inr, ℕ, zero, suc, ◌+◌, ◌<◌, ◌≤◌, List, [], ◌∷◌, length, reverse, refl, ap, ap₂, ◌∙◌, arith, reverse-append, Rules, System, IsStep, IsLegal, Event}
-use Rattle.mediation.proofs.Common.{Actor, ◌^◌, true, ◌++◌, sym, codes, leb-true, eqb-false, Name, ev, is_made, is_actor, start, step, task_step, Start, Task, Worker, Listener, Skip, Policy, Script}
-use Rattle.mediation.proofs.Common.{take, get_or, add-one, take-length, take_more, append_assoc, append_cancel_left, ◌*◌, decimal, digits, flat_map, decimal_injective, decimal_by_steps}
-use Rattle.mediation.proofs.Common.{decimal_nonempty, name_text, actor_text, what_text, event_line, journal_line, lines_of, journal, actors, IsLegalByPlace, IsWritten, IsNamed, AreNamed}
-use Rattle.mediation.proofs.Common.{FixedByJournal, SharesJournal}
+use Rattle.mediation.proofs.Common.{[], Actor, actor_text, actors, add-one, ap, append_assoc, append_cancel_left, ap₂, AreNamed, arith, codes, decimal, decimal_by_steps, decimal_injective}
+use Rattle.mediation.proofs.Common.{decimal_nonempty, digits, eqb-false, ev, Event, event_line, FixedByJournal, flat_map, get_or, inl, inr, is_actor, is_made, IsLegal, IsLegalByPlace, IsNamed}
+use Rattle.mediation.proofs.Common.{IsStep, IsWritten, journal, journal_line, leb-true, length, lines_of, List, Listener, Name, name_text, Policy, refl, reverse, reverse-append, Rules, Script}
+use Rattle.mediation.proofs.Common.{SharesJournal, Skip, start, Start, step, suc, sym, System, take, take-length, take_more, Task, task_step, true, what_text, Worker, zero, ℕ, ◌*◌, ◌++◌, ◌<◌, ◌^◌}
+use Rattle.mediation.proofs.Common.{◌∙◌, ◌∷◌, ◌≡◌, ◌≤◌, ◌⊎◌}
 use Rattle.std.specs.Prelude.{◌+◌, ◌%◌}
 
 -- ---- a legal history is fixed by its actors, and legality reads the same by places
@@ -36,8 +36,8 @@ by-place S R H d h (suc n) l =
     let q : reverse (take (suc n) H) ≡ get_or H n d ∷ reverse (take n H) = rw add-one at (past_more H n d (omega arith)) in
     rw q (h n d (omega arith), by-place S R H d h n (omega arith))
 
-pub legal-by-place : (S : System) (R : Rules) (H : List Event) (d : Event) → IsLegalByPlace S R H → IsLegal S R (reverse H)
-legal-by-place S R H d h = rw take-length at (by-place S R H d h (length H) (omega arith))
+pub legal_by_place : (S : System) (R : Rules) (H : List Event) (d : Event) → IsLegalByPlace S R H → IsLegal S R (reverse H)
+legal_by_place S R H d h = rw take-length at (by-place S R H d h (length H) (omega arith))
 
 places-of : (S : System) (R : Rules) (H : List Event) (n : ℕ) → n ≤ length H → IsLegal S R (reverse (take n H)) → (i : ℕ) (d : Event) → i < n → IsStep S R (reverse (take i H)) (get_or H i d)
 places-of S R H zero l legal i d h = absurd (omega arith)
@@ -52,8 +52,8 @@ places-of S R H (suc n) l legal i d h =
     last : (i n : ℕ) → i < suc n → (i < n) ⊎ (i ≡ n)
     last i n h = grind arith
 
-pub place-of-legal : (S : System) (R : Rules) (H : List Event) → IsLegal S R (reverse H) → IsLegalByPlace S R H
-place-of-legal S R H legal i d h = places-of S R H (length H) (omega arith) (rw take-length legal) i d h
+pub place_of_legal : (S : System) (R : Rules) (H : List Event) → IsLegal S R (reverse H) → IsLegalByPlace S R H
+place_of_legal S R H legal i d h = places-of S R H (length H) (omega arith) (rw take-length legal) i d h
 
 -- ---- a legal history is fixed by the text of its journal
 
@@ -175,8 +175,8 @@ fixed-by-text S R K L p q l m h g t =
     let w : lines_of journal_line K ≡ lines_of journal_line L = cc in
     lines-fix S R K L [] [] p q h g n.0 (ap (λ x. x ++ []) w)
 
-pub fixed-by-journal : (P : Policy) (S : Script) → FixedByJournal P S
-fixed-by-journal P S K L p q h g t = fixed-by-text _ _ K L p.0 q.0 p.1 q.1 h g t
+pub fixed_by_journal : (P : Policy) (S : Script) → FixedByJournal P S
+fixed_by_journal P S K L p q h g t = fixed-by-text _ _ K L p.0 q.0 p.1 q.1 h g t
 
 -- without the bound: two tasks whose numbers end in 64 zeros, and that do nothing, since they are not there
 absent : System → ℕ → List Event
@@ -190,9 +190,9 @@ newest-number : List Event → ℕ
 newest-number [] = 0
 newest-number (e ∷ K) = number-of e.who
 
-pub shares-journal : (S : System) (R : Rules) → SharesJournal S R
+pub shares_journal : (S : System) (R : Rules) → SharesJournal S R
 unfolding absent newest-number number-of step task_step is_made lines_of digits
-shares-journal S R = (
+shares_journal S R = (
   absent S (10 ^ 64),
   absent S (2 * 10 ^ 64),
   ((refl, refl, refl, refl), (refl, tt)),

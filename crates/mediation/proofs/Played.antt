@@ -1,7 +1,8 @@
 -- The history that a schedule plays is legal.
-use Rattle.mediation.proofs.Common.{◌≡◌, ℕ, zero, suc, ◌<◌, ◌≤◌, ◌^◌, true, false, List, [], ◌∷◌, length, refl, arith, closes, ev, IsStep, IsLegal, is_start, is_actor, step, takes, Legal, played}
-use Rattle.mediation.proofs.Common.{system_of, rules_of, Actor, Listener, Event, What, Policy, Script, started, with_step, with_steps, with_schedule, Step, IsScheduled, AllScheduled}
-use Rattle.mediation.proofs.Replies.{taken-by-its-actor}
+use Rattle.mediation.proofs.Common.{[], Actor, AllScheduled, arith, closes, ev, Event, false, is_actor, is_start, IsLegal, IsScheduled, IsStep, Legal, length, List, Listener, played, Policy, refl}
+use Rattle.mediation.proofs.Common.{rules_of, Script, started, step, Step, suc, system_of, takes, true, What, with_schedule, with_step, with_steps, zero, ℕ, ◌<◌, ◌^◌, ◌∷◌, ◌≡◌, ◌≤◌}
+use Rattle.mediation.proofs.Rows.{row-of}
+use Rattle.mediation.proofs.Replies.{takes-own}
 
 not-start : (a : Actor) → IsScheduled a → is_start a ≡ false
 not-start a s = grind arith
@@ -31,7 +32,7 @@ module _ (P : Policy) (S : Script) where
       let is : IsStep T R (f ∷ K) (ev a (step T R (f ∷ K) a)) = (g.unclosed, not-start a s, refl, may-step a s) in
       record {
         legal = (is, g.legal);
-        unclosed = never-closes a (step T R (f ∷ K) a) s (taken-by-its-actor T R (f ∷ K) (ev a (step T R (f ∷ K) a)) g.legal room is);
+        unclosed = never-closes a (step T R (f ∷ K) a) s (takes-own T R (f ∷ K) a (step T R (f ∷ K) a) (row-of T R (f ∷ K) (ev a (step T R (f ∷ K) a)) is));
       }
 
   longer-steps : (a : Actor) (n : ℕ) (K : List Event) → length K ≤ length (with_steps P S a n K)
@@ -64,5 +65,5 @@ module _ (P : Policy) (S : Script) where
   ends : (K : List Event) → Goes K → IsLegal (system_of S) (rules_of P S.figures) (with_step P S Listener K)
   ends K g = grind arith
 
-  pub played-is-legal : AllScheduled S.schedule → length (played P S) < 2 ^ 64 → Legal P S (played P S)
-  played-is-legal s room = grind (arith, schedule, ends, begins)
+  pub played_is_legal : AllScheduled S.schedule → length (played P S) < 2 ^ 64 → Legal P S (played P S)
+  played_is_legal s room = grind (arith, schedule, ends, begins)

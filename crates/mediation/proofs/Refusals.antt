@@ -1,11 +1,11 @@
 -- The small histories that wrong kernels and brokers would make are not legal.
-use Rattle.mediation.proofs.Common.{◌≡◌, ℕ, ◌<◌, ◌&&◌, Bool, true, false, List, [], ◌∷◌, length, refl, arith, Ok, pos, nat_le, ◌==◌, and_parts, eqb-false, ev, event_at, newest, oldest, ended}
-use Rattle.mediation.proofs.Common.{was_waited_for, reaped, holder, free_from, last_pid, next_pid, is_made, mode, call_of, next_signal, listed, fetched, named, settled, queue, calls, recvs, closes}
-use Rattle.mediation.proofs.Common.{Rules, session, deed, System, IsLegal, is_start, is_actor, start, step, task_step, worker_step, steps_of, reply, oldest_unfetched, task_place, group, mem, base}
-use Rattle.mediation.proofs.Common.{session_call, install_of, call_at, request_of, owes_native, times_spent, Actor, Task, Worker, Event, What, Recv, AddfdPut, Addfd, Notif, pending, after, Refuses}
-use Rattle.mediation.proofs.Common.{EarlyEffect, LateOpening, SecondReading, SecondAnswer, ValidByNumber, LateInstallation, WithoutSend, NewestFirst}
-use Rattle.mediation.specs.Refused.{played}
+use Rattle.mediation.proofs.Common.{[], Actor, actors, Addfd, AddfdPut, after, and_parts, arith, base, Bool, call_at, call_of, calls, closes, deed, EarlyEffect, ended, eqb-false, ev, Event}
+use Rattle.mediation.proofs.Common.{event_at, false, fetched, free_from, group, holder, id, install_of, is_actor, is_made, is_start, IsLegal, last_pid, LateInstallation, LateOpening, length, List}
+use Rattle.mediation.proofs.Common.{listed, mem, mode, named, nat_le, newest, NewestFirst, next_pid, next_signal, Notif, Ok, oldest, oldest_unfetched, owes_native, pending, pos, queue, reaped, Recv}
+use Rattle.mediation.proofs.Common.{recvs, refl, Refuses, reply, request_of, Rules, SecondAnswer, SecondReading, session, session_call, settled, start, step, steps_of, System, Task, task_place}
+use Rattle.mediation.proofs.Common.{task_step, times_spent, true, ValidByNumber, was_waited_for, What, WithoutSend, Worker, worker_step, ℕ, ◌&&◌, ◌<◌, ◌==◌, ◌∷◌, ◌≡◌}
 use Rattle.mediation.proofs.Rows.{Row, step-row}
+use Rattle.mediation.specs.Refused.{played}
 
 -- tasks and workers
 abbrev moves : Actor → Bool

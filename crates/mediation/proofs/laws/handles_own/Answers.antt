@@ -1,4 +1,4 @@
-use Rattle.mediation.proofs.Sessions as lemma
+use Rattle.mediation.proofs.Handles as lemma
 use Rattle.mediation.proofs.laws.handles_own.Goals as goal
 
 pub returns : goal.returns
