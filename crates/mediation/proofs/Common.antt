@@ -90,5 +90,5 @@ pub use Rattle.history_frames.proofs.Ordinals.{makes-below}
 pub use Rattle.mediation.specs.Facts.{CallIdsDiffer, HandlesOwn, NamesDiffer, SessionsSettle, StaysFinished}
 pub use Rattle.mediation.specs.Frames.{changes_answered, changes_list, changes_tasks, Frame}
 pub use Rattle.mediation.specs.Journals.{actors, AreNamed, FixedByJournal, IsLegalByPlace, IsNamed, IsWritten, SharesJournal}
-pub use Rattle.mediation.specs.Refused.{after, EarlyEffect, LateInstallation, LateOpening, NewestFirst, Refuses, SecondAnswer, SecondReading, ValidByNumber, WithoutSend}
+pub use Rattle.mediation.specs.Refused.{EarlyEffect, LateInstallation, LateOpening, NewestFirst, SecondAnswer, SecondReading, ValidByNumber, WithoutSend}
 pub use Rattle.mediation.specs.Scheduled.{AllScheduled, IsScheduled}
