@@ -1,31 +1,25 @@
 -- A legal history is fixed by its actors, and by the text of its journal; legality reads the same by places.
-use Rattle.mediation.proofs.Common.{[], Actor, actor_text, actors, add-one, ap, append_assoc, append_cancel_left, ap₂, AreNamed, arith, codes, decimal, decimal_by_steps, decimal_injective}
-use Rattle.mediation.proofs.Common.{decimal_nonempty, digits, eqb-false, ev, Event, event_line, FixedByJournal, flat_map, get_or, inl, inr, is_actor, is_made, IsLegal, IsLegalByPlace, IsNamed}
-use Rattle.mediation.proofs.Common.{IsStep, IsWritten, journal, journal_line, leb-true, length, lines_of, List, Listener, Name, name_text, Policy, refl, reverse, reverse-append, Rules, Script}
-use Rattle.mediation.proofs.Common.{SharesJournal, Skip, start, Start, step, suc, sym, System, take, take-length, take_more, Task, task_step, true, what_text, Worker, zero, ℕ, ◌*◌, ◌++◌, ◌<◌, ◌^◌}
-use Rattle.mediation.proofs.Common.{◌∙◌, ◌∷◌, ◌≡◌, ◌≤◌, ◌⊎◌}
+use Rattle.mediation.proofs.Common.{[], Actor, actor_text, actors, add-one, ap, append_assoc, append_cancel_left, ap₂, AreNamed, arith, below_or_last, codes, decimal, decimal_by_steps}
+use Rattle.mediation.proofs.Common.{decimal_injective, decimal_nonempty, digits, eqb-false, ev, Event, event_line, FixedByJournal, flat_map, get_or, inl, inr, is_actor, is_made, IsLegal}
+use Rattle.mediation.proofs.Common.{IsLegalByPlace, IsNamed, IsStep, IsWritten, journal, journal_line, leb-true, length, lines_of, List, Listener, Name, name_text, Policy, refl, reverse}
+use Rattle.mediation.proofs.Common.{reverse-append, Rules, Script, SharesJournal, Skip, start, Start, step, suc, sym, System, take, take-length, take_more, Task, task_step, true, what_text, Worker}
+use Rattle.mediation.proofs.Common.{zero, ℕ, ◌*◌, ◌++◌, ◌<◌, ◌^◌, ◌∙◌, ◌∷◌, ◌≡◌, ◌≤◌}
 use Rattle.std.specs.Prelude.{◌+◌, ◌%◌}
 
 -- ---- a legal history is fixed by its actors, and legality reads the same by places
 
-same-event : (d e : Event) → d.who ≡ e.who → d.what ≡ e.what → d ≡ e
-same-event d e p q = λ i. record { who = p i; what = q i }
-
 pub same-step : (S : System) (R : Rules) (K : List Event) (d e : Event) → IsStep S R K d → IsStep S R K e → d.who ≡ e.who → d ≡ e
 same-step S R K d e p q h = grind arith
-
-heads : (a b : Actor) (xs ys : List Actor) → a ∷ xs ≡ b ∷ ys → (a ≡ b) × (xs ≡ ys)
-heads a b xs ys h = (cc, cc)
 
 pub determined : (S : System) (R : Rules) (K L : List Event) → IsLegal S R K → IsLegal S R L → actors K ≡ actors L → K ≡ L
 determined S R [] [] p q h = refl
 determined S R [] (e ∷ L) p q h = cc
 determined S R (d ∷ K) [] p q h = cc
 determined S R (d ∷ K) (e ∷ L) p q h =
-    let t = heads d.who e.who (actors K) (actors L) h in
-    let r = determined S R K L p.1 q.1 t.1 in
-    let v : IsStep S R K e = rw (← r) at q.0 in
-    ap₂ (λ x xs. x ∷ xs) (same-step S R K d e p.0 v t.0) r
+    let t : actors K ≡ actors L = cc in
+    let u : d.who ≡ e.who = cc in
+    let r = determined S R K L p.1 q.1 t in
+    ap₂ (λ x xs. x ∷ xs) (same-step S R K d e p.0 (rw (← r) at q.0) u) r
 
 past_more : (xs : List Event) (i : ℕ) (d : Event) → i < length xs → reverse (take (i + 1) xs) ≡ get_or xs i d ∷ reverse (take i xs)
 past_more xs i d h = ap reverse (take_more xs i d h) ∙ reverse-append (take i xs) (get_or xs i d ∷ [])
@@ -44,13 +38,10 @@ places-of S R H zero l legal i d h = absurd (omega arith)
 places-of S R H (suc n) l legal i d h =
     let q : reverse (take (suc n) H) ≡ get_or H n d ∷ reverse (take n H) = rw add-one at (past_more H n d (omega arith)) in
     let v : IsLegal S R (get_or H n d ∷ reverse (take n H)) = rw q at legal in
-    elim (last i n h) [
+    elim (below_or_last i n h) [
       | inl m ↦ places-of S R H n (omega arith) v.1 i d m
       | inr m ↦ rw m v.0
     ]
-  where
-    last : (i n : ℕ) → i < suc n → (i < n) ⊎ (i ≡ n)
-    last i n h = grind arith
 
 pub place_of_legal : (S : System) (R : Rules) (H : List Event) → IsLegal S R (reverse H) → IsLegalByPlace S R H
 place_of_legal S R H legal i d h = places-of S R H (length H) (omega arith) (rw take-length legal) i d h
@@ -120,9 +111,7 @@ unfolding Low
 name-same [] [] p q h g e = refl
 name-same [] (k ∷ m) p q h g e = absurd (no-number k (32 ∷ p) (more_text m ++ 32 ∷ q) g.0 (omega arith) (low-more m q) (simp append_assoc at e))
 name-same (k ∷ n) [] p q h g e = absurd (no-number k (32 ∷ q) (more_text n ++ 32 ∷ p) h.0 (omega arith) (low-more n p) (simp append_assoc at (sym e)))
-name-same (k ∷ n) (j ∷ m) p q h g e =
-    let s = number-same k j (more_text n ++ 32 ∷ p) (more_text m ++ 32 ∷ q) h.0 g.0 (low-more n p) (low-more m q) (simp append_assoc at e) in
-    ap₂ (λ x xs. x ∷ xs) s.0 (more-same n m p q h.1 g.1 s.1)
+name-same (k ∷ n) (j ∷ m) p q h g e = more-same (k ∷ n) (j ∷ m) p q h g (ap (λ xs. 46 ∷ xs) e)
 
 abbrev first-byte : List ℕ → ℕ
 first-byte [] = 0

@@ -4,7 +4,7 @@ use Rattle.mediation.proofs.Common.{ends, eq-eqb, Err, ev, Event, event_at-here,
 use Rattle.mediation.proofs.Common.{install_of, install_step, installs_for, is_first, is_known_error, is_lost, is_place, is_send, is_worker, IsLegal, length, List, listed, name_eq-true, name_of}
 use Rattle.mediation.proofs.Common.{named, ne_eqb, None, Ok, oldest_unfetched, OpenBase, OpenMem, Option, or_left, or_parts, or_right, put_in, puts_to, queue, Recv, refl, request_after, request_of}
 use Rattle.mediation.proofs.Common.{Result, Rules, Send, session, session_call, SessionsSettle, settled, settles, slot_answer, Some, sym, System, take_in, take_step, Task, true, waiting, What}
-use Rattle.mediation.proofs.Common.{Worker, ℕ, ◌&&◌, ◌<◌, ◌==◌, ◌^◌, ◌||◌, ◌∙◌, ◌∷◌, ◌≡◌, ◌≤◌}
+use Rattle.mediation.proofs.Common.{Worker, ℕ, ◌&&◌, ◌+◌, ◌<◌, ◌==◌, ◌^◌, ◌||◌, ◌∙◌, ◌∷◌, ◌≡◌, ◌≤◌}
 use Rattle.mediation.proofs.Rows.{WorkerRow, Row, row-of, by-few-steps}
 use Rattle.mediation.proofs.Tasks.{same-name, listed-below, listed-was, waits-here, place-is}
 use Rattle.mediation.proofs.Calls.{is_call-below, ids_differ, fetched-new, fetching}
@@ -71,15 +71,11 @@ pub call-at-here : (e : Event) (K : List Event) → call_at (e ∷ K) (length K)
 unfolding call_at
 call-at-here e K = rw (eq-eqb (length K) (length K) refl)
 
--- a request that is still to come has no install
-install-above : (K : List Event) (r : ℕ) → length K ≤ r → install_of K r ≡ None
+-- a request that is put now, or still to come, has no install
+pub install-above : (K : List Event) (r : ℕ) → length K ≤ r + 1 → install_of K r ≡ None
 unfolding install_of
 install-above [] r h = refl
 install-above (e ∷ K) r h = rw (call-at-above K r (omega arith)) (install-above K r (omega arith))
-
-pub install-new : (e : Event) (K : List Event) → install_of (e ∷ K) (length K) ≡ None
-unfolding install_of
-install-new e K = rw (call-at-above K (length K) (omega arith)) (install-above K (length K) (omega arith))
 
 -- ---- a call has one session
 
@@ -252,7 +248,7 @@ module _ (S : System) (R : Rules) (K : List Event) (a : Actor) (w c : ℕ) (lega
         below = omega arith;
         sends = rw event_at-here (let g = r.0.4.is in grind arith);
         for_call = call-at-here e K ∙ n;
-        placed = rw (install-new e K) (rw (n, eq-eqb c c refl, k.empty), k.unsettled);
+        placed = rw (install-above (e ∷ K) (length K) (omega arith)) (rw (n, eq-eqb c c refl, k.empty), k.unsettled);
       })
 
   stage-take : (y : Result ℕ ℕ) → WorkerRow S R K w (AddfdTake y) → gives_up (AddfdTake y) ≡ false → StageOf (ev a (AddfdTake y) ∷ K) c w (first_some put_in (session K w)) (Some y)

@@ -11,7 +11,7 @@ use Rattle.mediation.proofs.Tasks.{same-name, listed-below, listed-older, waits-
 use Rattle.mediation.proofs.Calls.{settles-once, once-more, before-older, before-newest}
 use Rattle.mediation.proofs.Hands.{InSession, works, at-work, in-hand, hand, named-own}
 use Rattle.mediation.proofs.Order.{is-own, used-two, ordered}
-use Rattle.mediation.proofs.Phases.{install-first, installing, call-at-older, call-at-above, call-at-here, install-new, fetcher-fetched, refetch, fetcher-stays, hand-fetcher, actor-acts, fine}
+use Rattle.mediation.proofs.Phases.{install-first, installing, call-at-older, call-at-above, call-at-here, install-above, fetcher-fetched, refetch, fetcher-stays, hand-fetcher, actor-acts, fine}
 use Rattle.mediation.proofs.Phases.{at-call}
 
 -- ---- each request of a call is its session's
@@ -148,7 +148,7 @@ gave-more K e c r m sends once q ih h = elim (cases_Bool (installs_for K e c && 
 gave-number : (S : System) (R : Rules) (K : List Event) → IsLegal S R K → length K < 2 ^ 64 → (c r m : ℕ) → call_at K r ≡ Some c → install_of K r ≡ Some (Ok m) → (settled K c ≡ true) × (reply K c ≡ Value (pos m))
 gave-number S R = by-few-steps S R (λ K. (c r m : ℕ) → call_at K r ≡ Some c → install_of K r ≡ Some (Ok m) → (settled K c ≡ true) × (reply K c ≡ Value (pos m))) (λ c r m q h. absurd (cc (call-at-above [] r (omega arith), q)))
     (λ K e legal room row ih c r m q h. elim (cases_order r (length K)) [
-      | inl z ↦ absurd (cc (install-new e K, rw z at h))
+      | inl z ↦ absurd (cc (install-above (e ∷ K) (length K) (omega arith), rw z at h))
       | inr (inl l) ↦ let p = sym (call-at-older e K r l) ∙ q in gave-more K e c r m (λ z. (all-own S R K legal room c r z).1.sends) (settles-once S R K e c legal row) p (ih c r m p) h
       | inr (inr l) ↦ absurd (cc (call-at-above (e ∷ K) r (omega arith), q))
     ])

@@ -1,6 +1,6 @@
 -- Facts of legal histories, beside those that mediation asks for.
-use Rattle.std.specs.Prelude.{◌≡◌, ◌<◌, ◌⊎◌, ℕ, Bool, true, false, ◌||◌, List, [], ◌∷◌, ◌++◌, length, Some, None}
-use Rattle.hist_model.specs.Look.{Name, name_eq, event_at}
+use Rattle.std.specs.Prelude.{◌≡◌, ◌<◌, ◌⊎◌, ℕ, true, false, List, [], ◌∷◌, ◌++◌, length, Some, None}
+use Rattle.hist_model.specs.Look.{event_at}
 use Rattle.hist_model.specs.Tasks.{name_of}
 use Rattle.hist_model.specs.Calls.{is_call, id, caller, listed, settled, waiting, closes}
 use Rattle.hist_model.specs.Sessions.{Rules, session, any_of, gives_up, first_some, put_in}
@@ -10,8 +10,6 @@ use Rattle.hist_model.specs.Laws.{fetcher}
 use Rattle.hist_model.specs.Steps.{IsLegal, makes_in, session_call, task_place, group, mem, base}
 use Rattle.hist_model.specs.Legal.{Finished}
 use Rattle.hist_model.specs.declared.event.Event.{Event}
-use Rattle.hist_model.specs.declared.event.What.{What}
-use Rattle.hist_model.specs.declared.event.What.TheVariants.{Spawn}
 
 -- two calls have different ids, listed or not
 abbrev pub CallIdsDiffer : List Event → Type 0
@@ -25,15 +23,6 @@ NoClose (e ∷ L) = (closes e.what ≡ false) × NoClose L
 -- a legal history that continues a finished one, without its close, is finished; the empty list is no history yet
 abbrev pub StaysFinished : System → Rules → Type 0
 StaysFinished S R = (K L : List Event) → 0 < length K → IsLegal S R (L ++ K) → Finished K → NoClose L → Finished (L ++ K)
-
--- a spawn named this, also one that was refused
-abbrev pub spawns : What → Name → Bool
-spawns (Spawn m a) n = name_eq m n
-spawns _ n = false
-
-unfoldable pub spawned : List Event → Name → Bool
-spawned [] n = false
-spawned (e ∷ K) n = spawns e.what n || spawned K n
 
 -- two tasks have different names
 abbrev pub NamesDiffer : List Event → Type 0
