@@ -121,18 +121,6 @@ pub fetched-new : (e : Event) (K : List Event) → fetched (e ∷ K) (length K) 
 unfolding fetched
 fetched-new e K = grind (arith, fetched-below, listed-below)
 
-pub fetched-same : (e : Event) (K : List Event) (c : ℕ) → (fetches e.what (id K c) && listed K c) ≡ false → fetched (e ∷ K) c ≡ fetched K c
-unfolding fetched
-fetched-same e K c h = rw h
-
-pub fetched-more : (e : Event) (K : List Event) (c : ℕ) → fetched K c ≡ true → fetched (e ∷ K) c ≡ true
-unfolding fetched
-fetched-more e K c h = grind arith
-
-pub fetched-now : (e : Event) (K : List Event) (c : ℕ) → fetches e.what (id K c) ≡ true → listed K c ≡ true → fetched (e ∷ K) c ≡ true
-unfolding fetched
-fetched-now e K c h l = grind arith
-
 -- the calls that are not fetched, below the newest event
 unfetched-step : (e : Event) (K : List Event) → count_below (unfetched (e ∷ K)) (length (e ∷ K)) ≡ count_below (unfetched (e ∷ K)) (length K) + (if notifies e.what then 1 else 0)
 unfolding count_below
@@ -140,20 +128,21 @@ unfetched-step e K = rw (fetched-new e K, event_at-here e K) (grind arith)
 
 fetch-one : (S : System) (R : Rules) (K : List Event) (e : Event) (d : ℕ) → IsLegal S R K → length K < 2 ^ 64 → e.what ≡ Recv (Ok (notif K d)) → listed K d ≡ true → fetched K d ≡ false
     → count_below (unfetched K) (length K) ≡ suc (count_below (unfetched (e ∷ K)) (length K))
+unfolding fetched
 fetch-one S R K e d legal b q l f =
     let c = listed-is_call K d l in
-    let n : fetched (e ∷ K) d ≡ true = fetched-now e K d (rw q (eq-eqb (id K d) (id K d) refl)) l in
-    count_below-less (unfetched K) (unfetched (e ∷ K)) (length K) d (listed-below K d l) (grind arith) (grind (arith, event_at-older)) others
+    count_below-less (unfetched K) (unfetched (e ∷ K)) (length K) d (listed-below K d l) (grind arith) (rw (q, eq-eqb (id K d) (id K d) refl, l) (grind arith)) others
   where
     others : (c : ℕ) → c < length K → (c ≡ d → ⊥) → unfetched K c ≡ unfetched (e ∷ K) c
-    others c k n = grind (arith, event_at-older, fetched-same, ids_differ)
+    others c k n = grind (arith, event_at-older, ids_differ)
 
 pub fetching : (K : List Event) (n : Notif) (o : Option ℕ) → oldest_unfetched K ≡ o → Ok n ≡ recv_answer K o → (d : ℕ) × (n ≡ notif K d) × (listed K d ≡ true) × (fetched K d ≡ false) × (o ≡ Some d)
 unfolding oldest_unfetched
 fetching K n o q h = grind (arith, oldest-some)
 
 same-unfetched : (e : Event) (K : List Event) → ((c : ℕ) → fetches e.what (id K c) ≡ false) → count_below (unfetched (e ∷ K)) (length K) ≡ count_below (unfetched K) (length K)
-same-unfetched e K h = count_below-same (unfetched (e ∷ K)) (unfetched K) (length K) (λ c l. rw (event_at-older e K c l, fetched-same e K c (rw (h c))))
+unfolding fetched
+same-unfetched e K h = count_below-same (unfetched (e ∷ K)) (unfetched K) (length K) (λ c l. rw (event_at-older e K c l, h c))
 
 record Counted (K : List Event) : Type 0 where
   pub room : recvs K ≤ calls K
@@ -221,6 +210,6 @@ legal_before S R [] c legal = tt
 legal_before S R (e ∷ K) c legal = grind (arith, legal_before S R K c legal.1)
 
 pub fetched-before : (K : List Event) (p c : ℕ) → fetched (before K p) c ≡ true → fetched K c ≡ true
-unfolding before
+unfolding before fetched
 fetched-before [] p c h = h
-fetched-before (e ∷ K) p c h = let ih = fetched-before K p c in grind (arith, fetched-more)
+fetched-before (e ∷ K) p c h = let ih = fetched-before K p c in grind arith

@@ -22,15 +22,11 @@ use Rattle.std.specs.Prelude.{◌%◌, ◌^◌}
 module _ (S : System) (R : Rules) where
   -- before the second good check nothing is asked for
   put-late : (K : List Event) (w : ℕ) (n : Notif) → IsLegal S R K → AtWork (session K w) n → number_of is_good_check (session K w) ≤ 1 → first_some put_in (session K w) ≡ None
-  put-late K w n legal work few = go (first_some put_in (session K w)) refl
-    where
-      go : (o : Option (Result (Unit {0}) ℕ)) → first_some put_in (session K w) ≡ o → first_some put_in (session K w) ≡ None
-      go None q = q
-      go (Some x) q =
-          let i = is-own S R K legal w in
-          let u = put-fixed R (session K w) i n x work.notif_is q in
-          let two = used-two R (session K w) n work u.copied (ordered R (session K w) i) in
-          absurd (omega arith)
+  put-late K w n legal work few =
+      let u = put-fixed R (session K w) (is-own S R K legal w) n in
+      let two = used-two R (session K w) n work in
+      let o = ordered R (session K w) (is-own S R K legal w) in
+      grind arith
 
   -- at a good check the call was listed, and waits
   check-waits : (K : List Event) (a : Actor) (w c : ℕ) (what : What) → IsLegal S R (ev a what ∷ K) → length (ev a what ∷ K) < 2 ^ 64 → WorkerRow S R K w what → InSession K w c → session_call (ev a what ∷ K) w ≡ Some c

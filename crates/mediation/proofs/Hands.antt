@@ -1,12 +1,12 @@
 -- A worker's open session and the call that it has in hand.
 use Rattle.mediation.proofs.Common.{[], Act, Actor, AddfdPut, AddfdTake, and_from, and_parts, any_of, ap, arith, base, base_after, Bool, call_after, caller, cases_Bool, Check, ended, eq-eqb, ev}
 use Rattle.mediation.proofs.Common.{Event, event_at, event_at-older, false, fetched, fetched_by, id, if◌then◌else◌, inl, inr, is_call, is_letgo, is_made, is_worker, IsLegal, length, List, listed}
-use Rattle.mediation.proofs.Common.{mem, mem_after, named, None, not, not-true, Notif, notif, notif_of, Ok, oldest-found, oldest-some, oldest_unfetched, OpenBase, OpenMem, Option, pid_at, pid_of}
-use Rattle.mediation.proofs.Common.{pid_or, Plant, Read, Recv, refl, Rules, Send, session, session_call, skips, Some, starts, sym, System, task_place, true, What, Worker, ℕ, ◌&&◌, ◌<◌, ◌==◌, ◌^◌}
-use Rattle.mediation.proofs.Common.{◌∙◌, ◌∷◌, ◌≡◌, ◌⊎◌}
+use Rattle.mediation.proofs.Common.{mem, mem_after, named, None, not, not-true, Notif, notif, notif_of, Ok, oldest-found, oldest-some, oldest_unfetched, OpenBase, OpenMem, Option, or_left, or_right}
+use Rattle.mediation.proofs.Common.{pid_at, pid_of, pid_or, Plant, Read, Recv, refl, Rules, Send, session, session_call, skips, Some, starts, sym, System, task_place, true, What, Worker, ℕ, ◌&&◌}
+use Rattle.mediation.proofs.Common.{◌<◌, ◌==◌, ◌^◌, ◌∙◌, ◌∷◌, ◌≡◌, ◌⊎◌}
 use Rattle.mediation.proofs.Rows.{AtWork, WorkerRow, Row, row-of, by-steps}
 use Rattle.mediation.proofs.Tasks.{listed-below, calls_are_last, place-stays, place-is, made-place, makes-pid}
-use Rattle.mediation.proofs.Calls.{listed-is_call, is_call-below, call_ids, fetched-more, fetched-now, fetching}
+use Rattle.mediation.proofs.Calls.{listed-is_call, is_call-below, call_ids, fetching}
 
 -- ---- a worker's open session, and its call
 
@@ -97,7 +97,7 @@ in-session-kept e K w c i h g =
       n = i.n;
       t = i.t;
       call = rw event_at-older i.call;
-      got = fetched-more e K c i.got;
+      got = unfold fetched in or_right _ (fetched K c) i.got;
       notif_is = h;
       no_letgo = g;
       whole_is = rw (event_at-older e K c l, q, event_at-older e K i.t u) (rw i.task_is at i.whole_is);
@@ -129,6 +129,7 @@ module _ (S : System) (R : Rules) (K : List Event) (a : Actor) (w : ℕ) (legal 
       rw ((moved (ev a what) K w is_mine).0, k.call (session_call K w), j.1) (in-session-kept (ev a what) K w j.0 j.2 (rw (s, k.no_notif) j.2.notif_is) (rw (s, k.no_letgo) j.2.no_letgo))
 
   hand-fetches : (n : Notif) → WorkerRow S R K w (Recv (Ok n)) → Hand (ev a (Recv (Ok n)) ∷ K) w (session_call (ev a (Recv (Ok n)) ∷ K) w)
+  unfolding fetched
   hand-fetches n r =
       let e = ev a (Recv (Ok n)) in
       let f = fetching K n (oldest_unfetched K) refl r.1.1 in
@@ -146,7 +147,7 @@ module _ (S : System) (R : Rules) (K : List Event) (a : Actor) (w : ℕ) (legal 
         n = n;
         t = m.0;
         call = rw event_at-older (listed-is_call K d f.2);
-        got = fetched-now e K d (eq-eqb n.id (id K d) x) f.2;
+        got = or_left _ (fetched K d) (and_from (n.id == id K d) (listed K d) (eq-eqb n.id (id K d) x) f.2);
         notif_is = rw s;
         no_letgo = rw s;
         whole_is = rw (event_at-older e K d v, p, event_at-older e K m.0 u) (rw m.1 at f.1);

@@ -1,15 +1,11 @@
 -- Every legal history is mediated.
-use Rattle.mediation.proofs.Common.{[], actors, ActsAlone, Each, Event, FailsAlone, InstallsAlone, Legal, List, Mediated, Policy, reads, rules_of, Script, system_of, ◌∷◌}
+use Rattle.mediation.proofs.Common.{actors, ActsAlone, Event, FailsAlone, InstallsAlone, Legal, List, Mediated, Policy, reads, rules_of, Script, system_of}
+use Rattle.mediation.proofs.Rows.{each}
 use Rattle.mediation.proofs.Calls.{answered_once, receives-are-for}
 use Rattle.mediation.proofs.Order.{ordered, in_order}
 use Rattle.mediation.proofs.Replies.{installs_own, resumes_own, returns_installed, taken_by_its_actor, names_own, lost_if_gone, has_cause, errors_known, never_busy, arrives, one_session}
 use Rattle.mediation.proofs.Effects.{times-kept, acts-are-granted, plants-are-granted, puts-are-injected, reads-are-own, installs-alone, fails-alone, acts-alone}
 use Rattle.mediation.proofs.Audited.{audit-names}
-
--- a fact of each event that needs no more than the event
-every : (P : List Event → Event → Type 0) → ((K : List Event) (e : Event) → P K e) → (K : List Event) → Each P K
-every P f [] = tt
-every P f (e ∷ K) = (f K e, every P f K)
 
 pub mediated : (P : Policy) (S : Script) (K : List Event) → Legal P S K → Mediated P S K
 mediated P S K lawful =
@@ -27,8 +23,8 @@ mediated P S K lawful =
       busy = never_busy T R K legal room;
       errors = errors_known T R K legal room;
       installs = installs_own T R K legal room;
-      installs_alone = every (InstallsAlone S) (installs-alone S) K;
-      fails_alone = every (FailsAlone S) (fails-alone S) K;
+      installs_alone = each T R (InstallsAlone S) (λ K e l r row. installs-alone S K e) K legal room;
+      fails_alone = each T R (FailsAlone S) (λ K e l r row. fails-alone S K e) K legal room;
       arrives = arrives T R K legal room;
       acts = acts-are-granted P S K legal room;
       plants = plants-are-granted P S K legal room;
@@ -40,5 +36,5 @@ mediated P S K lawful =
       audit = audit-names P S.figures S K legal room;
       lost = lost_if_gone T R K legal room;
       receives = receives-are-for T R K legal room;
-      acts_alone = every (ActsAlone S) (acts-alone S) K;
+      acts_alone = each T R (ActsAlone S) (λ K e l r row. acts-alone S K e) K legal room;
     }
