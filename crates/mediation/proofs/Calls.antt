@@ -2,7 +2,8 @@
 use Rattle.mediation.proofs.Common.{[], Actor, AnsweredOnce, answers_to, arith, before, below_or_last, Bool, caller, CallIdsDiffer, calls, count, count_below, CountIs, Each, empty_recvs, eq-eqb, ev}
 use Rattle.mediation.proofs.Common.{Event, event_at, event_at-above, event_at-here, event_at-older, false, fetched, fetches, id, IdsDiffer, if◌then◌else◌, inl, inr, is_call, is_install, is_task}
 use Rattle.mediation.proofs.Common.{IsLegal, le-leb, left_unfetched, length, List, listed, lt-leb, None, not, Notif, notif, notifies, notify_id, Ok, oldest, oldest-some, oldest_unfetched, Option}
-use Rattle.mediation.proofs.Common.{ReceivesFor, Recv, recv_answer, recvs, refl, Rules, settled, settles, Some, suc, System, true, What, zero, ℕ, ◌%◌, ◌&&◌, ◌+◌, ◌<◌, ◌^◌, ◌||◌, ◌∙◌, ◌∷◌, ◌≡◌, ◌≤◌}
+use Rattle.mediation.proofs.Common.{ReceivesFor, Recv, recv_answer, recvs, refl, Rules, settled, settles, Some, suc, sym, System, true, What, zero, ℕ, ◌%◌, ◌&&◌, ◌+◌, ◌<◌, ◌^◌, ◌||◌, ◌∙◌, ◌∷◌, ◌≡◌}
+use Rattle.mediation.proofs.Common.{◌≤◌}
 use Rattle.mediation.proofs.Rows.{Row, by-steps, by-few-steps}
 use Rattle.mediation.proofs.Tasks.{same-name, event_at-last, listed-below, listed-older, waits-here}
 
@@ -80,9 +81,7 @@ count_below-le p q zero h = omega arith
 count_below-le p q (suc n) h = grind (arith, count_below-le p q n (λ c l. h c (omega arith)))
 
 count_below-same : (p q : ℕ → Bool) (n : ℕ) → ((c : ℕ) → c < n → p c ≡ q c) → count_below p n ≡ count_below q n
-unfolding count_below
-count_below-same p q zero h = refl
-count_below-same p q (suc n) h = rw (h n (omega arith), count_below-same p q n (λ c l. h c (omega arith)))
+count_below-same p q n h = omega (arith, count_below-le p q n (λ c l g. sym (h c l) ∙ g), count_below-le q p n (λ c l g. h c l ∙ g))
 
 -- one place less
 count_below-less : (p q : ℕ → Bool) (n d : ℕ) → d < n → p d ≡ true → q d ≡ false → ((c : ℕ) → c < n → (c ≡ d → ⊥) → p c ≡ q c) → count_below p n ≡ suc (count_below q n)

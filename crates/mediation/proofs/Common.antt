@@ -36,7 +36,7 @@ pub use Rattle.hist_model.specs.Mediated.{NeverBusy, OneSession, PlantIsGranted,
 unfoldable pub use Rattle.hist_model.specs.Memory.{last_call}
 pub use Rattle.hist_model.specs.Memory.{all_mapped, argument, group_named, is_number, mapped_byte, own_group, sysinfo_size}
 pub use Rattle.hist_model.specs.Natives.{base_of, call_natively, changed, Changes, close_natively, copied_natively, Fails, Files, Gives, has_base, native_step, NativeStep, Writes}
-pub use Rattle.hist_model.specs.Orders.{InOrder, is_good_check, is_opening, uses_copy}
+pub use Rattle.hist_model.specs.Orders.{InOrder, is_good_check, is_opening}
 pub use Rattle.hist_model.specs.Paths.{Place}
 unfoldable pub use Rattle.hist_model.specs.ReportAudit.{session_at}
 pub use Rattle.hist_model.specs.ReportAudit.{checked_twice, finding, finding_of, is_gone, judged_as, Judging, judging_by, reads, session_step}
@@ -45,8 +45,8 @@ pub use Rattle.hist_model.specs.ReportJournal.{event_line, journal, journal_line
 pub use Rattle.hist_model.specs.ReportWords.{actor_text, name_text}
 unfoldable pub use Rattle.hist_model.specs.Requests.{base_dirfd, request}
 unfoldable pub use Rattle.hist_model.specs.Sessions.{deed, session}
-pub use Rattle.hist_model.specs.Sessions.{Acts, addfd_of, any_of, based_deed, checked_deed, checks, Decision, fetched_by, first_some, gives_up, Injects, is_letgo, is_read, joined, judged_deed}
-pub use Rattle.hist_model.specs.Sessions.{notif_of, number_of, open_deed, opens, opens_base, outcome_in, Plants, put_in, reads_of, Rules, skips, starts, take_in}
+pub use Rattle.hist_model.specs.Sessions.{Acts, addfd_of, any_of, based_deed, checked_deed, checks, Decision, fetched_by, first_some, gives_up, Injects, is_letgo, joined, judged_deed, notif_of}
+pub use Rattle.hist_model.specs.Sessions.{number_of, open_deed, opens, opens_base, outcome_in, Plants, put_in, reads_of, Rules, skips, starts, take_in}
 pub use Rattle.hist_model.specs.Settlers.{installed_for, InstallsOwn, IsRequestOf, ResumesOwn, ReturnsInstalled, sent, Source}
 unfoldable pub use Rattle.hist_model.specs.Signals.{call_of, next_signal}
 unfoldable pub use Rattle.hist_model.specs.Steps.{base, call_at, group, install_of, mem, oldest_unfetched, owes_native, reply, request_of, session_call, step, steps_of, task_place, task_step}

@@ -1,7 +1,7 @@
 -- The steps of a session stand in order, and what it decided stays.
 use Rattle.mediation.proofs.Common.{[], and_parts, any_of, arith, Bool, cases_Bool, checks, copied, Decision, Event, false, first_some, gives_up, Injects, inl, InOrder, inr, is_acting}
-use Rattle.mediation.proofs.Common.{is_good_check, is_opening, is_read, is_worker, IsLegal, joined, List, list_any, nat_le, None, not, not-true, Notif, notif_of, number_of, Ok, opens, opens_base}
-use Rattle.mediation.proofs.Common.{Option, put_in, reads_of, refl, Result, Rules, session, skips, Some, starts, System, take_in, true, uses_copy, What, ℕ, ◌&&◌, ◌<◌, ◌∷◌, ◌≡◌, ◌≤◌, ◌⊎◌}
+use Rattle.mediation.proofs.Common.{is_good_check, is_worker, IsLegal, joined, List, list_any, nat_le, None, not, not-true, Notif, notif_of, number_of, Ok, opened, opens, opens_base, Option, put_in}
+use Rattle.mediation.proofs.Common.{reads_of, refl, Result, Rules, session, skips, Some, starts, System, take_in, true, What, ℕ, ◌&&◌, ◌<◌, ◌∷◌, ◌≡◌, ◌≤◌, ◌⊎◌}
 use Rattle.mediation.proofs.Rows.{AtWork, HasCopied, Told, WorkerRow, by-steps}
 use Rattle.mediation.proofs.Hands.{worker-row}
 use Rattle.hist_model.specs.ReportAudit.{is_spent}
@@ -105,35 +105,13 @@ pub record Checked (R : Rules) (own : List What) : Type 0 where
 pub used-two : (R : Rules) (own : List What) (n : Notif) → AtWork own n → HasCopied R own n → Checked R own → number_of is_good_check own ≡ 2
 used-two R own n work c ih = grind (arith, goods, any-number)
 
-module _ (R : Rules) (own : List What) (a : What) (s : Follows R own a) (ih : Checked R own) where
-  most : number_of checks (a ∷ own) ≤ 2
-  most = grind (arith, any-number)
-
-  complete : (n : Notif) → notif_of (a ∷ own) ≡ Some n → number_of checks (a ∷ own) ≡ 2 → R.next_piece n (reads_of (a ∷ own)) ≡ None
-  complete n h q = grind (arith, any-number)
-
-  opened : (0 < number_of checks (a ∷ own)) → any_of opens (a ∷ own) ≡ true
-  opened h = grind arith
-
-  based : (n : Notif) → notif_of (a ∷ own) ≡ Some n → (0 < number_of checks (a ∷ own)) → (R.dirfd n ≡ None) ⊎ (any_of opens_base (a ∷ own) ≡ true)
-  based n h q = grind arith
-
-  opens-first : is_opening a ≡ true → number_of is_good_check own ≡ 0
-  opens-first h = grind (arith, goods)
-
-  reads-between : is_read a ≡ true → number_of is_good_check own ≡ 1
-  reads-between h = grind (arith, goods, any-number)
-
-  uses-last : uses_copy a ≡ true → number_of is_good_check own ≡ 2
-  uses-last h = grind (arith, used-two)
-
 pub ordered : (R : Rules) (own : List What) → IsOwn R own → Checked R own
 ordered R = by-own R (Checked R) (record { most = omega arith; complete = λ n h. cc; opened = λ h. absurd (omega arith); based = λ n h. cc; order = tt }) (λ own a s ih. record {
-  most = most R own a s ih;
-  complete = complete R own a s ih;
-  opened = opened R own a s ih;
-  based = based R own a s ih;
-  order = (opens-first R own a s ih, reads-between R own a s ih, uses-last R own a s ih, ih.order);
+  most = grind (arith, any-number);
+  complete = λ n h q. grind (arith, any-number);
+  opened = λ h. grind arith;
+  based = λ n h q. grind arith;
+  order = (λ h. grind (arith, goods), λ h. grind (arith, goods, any-number), λ h. grind (arith, used-two), ih.order);
 })
 
 pub in_order : (S : System) (R : Rules) (K : List Event) → IsLegal S R K → (w : ℕ) → InOrder (session K w)

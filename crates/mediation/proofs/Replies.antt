@@ -201,28 +201,27 @@ install-known S R = by-steps S R (λ K. (p x : ℕ) → install_of K p ≡ Some 
 gone-known : (S : System) (R : Rules) (K : List Event) (w c : ℕ) (what : What) → IsLegal S R K → WorkerRow S R K w what → (i : InSession K w c) → named K i.n.id ≡ None → is_known_error what ≡ true
 gone-known S R K w c what legal r i q = let k = install-known S R K legal in grind arith
 
+error-known : (S : System) (R : Rules) (K : List Event) (a : Actor) (what : What) → IsLegal S R K → length K < 2 ^ 64 → Row S R K a what → is_known_error what ≡ true
+error-known S R K (Worker w) what legal room row = elim (cases_Bool (works what)) [
+  | inl v ↦
+      let g = at-work S R K w what row v in
+      let j = in-hand K w (session_call K w) g.0 g.1 (hand S R K legal w) in
+      elim (cases_Bool (listed K j.0)) [
+        | inl l ↦ (fine S R K (Worker w) w j.0 legal room l j.2 (at-call S R K legal room w j.0 j.1 l) what row v).1
+        | inr l ↦ gone-known S R K w j.0 what legal row j.2 (rw l at (named-own S R K w j.0 legal room j.2))
+      ]
+  | inr v ↦ grind arith
+]
+error-known S R K a what legal room row = grind arith
+
 pub errors_known : (S : System) (R : Rules) (K : List Event) → IsLegal S R K → length K < 2 ^ 64 → Each ErrorsKnown K
-errors_known S R = each S R ErrorsKnown (λ K e legal room row. known K e.who e.what legal room row)
-  where
-    known : (K : List Event) (a : Actor) (what : What) → IsLegal S R K → length K < 2 ^ 64 → Row S R K a what → is_known_error what ≡ true
-    known K (Worker w) what legal room row = elim (cases_Bool (works what)) [
-      | inl v ↦
-          let g = at-work S R K w what row v in
-          let j = in-hand K w (session_call K w) g.0 g.1 (hand S R K legal w) in
-          elim (cases_Bool (listed K j.0)) [
-            | inl l ↦ (fine S R K (Worker w) w j.0 legal room l j.2 (at-call S R K legal room w j.0 j.1 l) what row v).1
-            | inr l ↦ gone-known S R K w j.0 what legal row j.2 (rw l at (named-own S R K w j.0 legal room j.2))
-          ]
-      | inr v ↦ grind arith
-    ]
-    known K a what legal room row = grind arith
+errors_known S R = each S R ErrorsKnown (λ K e. error-known S R K e.who e.what)
+
+known-not-busy : (what : What) → is_known_error what ≡ true → is_busy what ≡ false
+known-not-busy what h = grind arith
 
 pub never_busy : (S : System) (R : Rules) (K : List Event) → IsLegal S R K → length K < 2 ^ 64 → Each NeverBusy K
-never_busy S R [] legal room = tt
-never_busy S R (e ∷ K) legal room = (not-busy e.what (errors_known S R (e ∷ K) legal room).0, never_busy S R K legal.1 (omega arith))
-  where
-    not-busy : (what : What) → is_known_error what ≡ true → is_busy what ≡ false
-    not-busy what h = grind arith
+never_busy S R = each S R NeverBusy (λ K e legal room row. known-not-busy e.what (error-known S R K e.who e.what legal room row))
 
 -- ---- a call has one session, and what was accepted for it arrives
 

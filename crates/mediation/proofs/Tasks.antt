@@ -94,17 +94,13 @@ pub place-is : (K : List Event) (n : Name) (t : ℕ) → task_place K n ≡ Some
 unfolding task_place
 place-is K n t q = grind (arith, oldest-some)
 
-made-somewhere : (K : List Event) (n : Name) → is_made K n ≡ true → (t : ℕ) × (t < length K) × ((makes_in (event_at K t) && name_eq (name_of K t) n) ≡ true)
-unfolding is_made
-made-somewhere [] n h = cc
-made-somewhere (e ∷ K) n h = elim (or_cases (makes e.what && name_eq (child_of e.what) n) (is_made K n) h) [
-  | inl q ↦ (length K, omega arith, rw event_at-here q)
-  | inr q ↦ let m = made-somewhere K n q in let l : m.0 < length K = m.1 in (m.0, omega arith, rw event_at-older m.2)
-]
-
 pub made-place : (K : List Event) (n : Name) → is_made K n ≡ true → (t : ℕ) × (task_place K n ≡ Some t)
-unfolding task_place
-made-place K n h = let m = made-somewhere K n h in oldest-found (λ u. makes_in (event_at K u) && name_eq (name_of K u) n) (length K) m.0 m.1 m.2
+unfolding is_made task_place
+made-place [] n h = cc
+made-place (e ∷ K) n h = elim (or_cases (makes e.what && name_eq (child_of e.what) n) (is_made K n) h) [
+  | inl q ↦ oldest-found (λ u. makes_in (event_at (e ∷ K) u) && name_eq (name_of (e ∷ K) u) n) (length (e ∷ K)) (length K) (omega arith) (rw event_at-here q)
+  | inr q ↦ let m = made-place K n q in (m.0, place-stays e K n m.0 m.1)
+]
 
 pub makes-pid : (o : Option Event) → makes_in o ≡ true → given_in o ≡ Some (pid_or (given_in o))
 makes-pid o h = grind arith
