@@ -26,7 +26,7 @@ pub use Rattle.hist_model.specs.Files.{after_native, files_after}
 unfoldable pub use Rattle.hist_model.specs.Laws.{answers_to, count_below, empty_recvs, fetcher, last_own}
 pub use Rattle.hist_model.specs.Laws.{AnsweredOnce, CallsAreLast, CountIs, IdsDiffer, is_passive, PidsDiffer, worker_of}
 unfoldable pub use Rattle.hist_model.specs.Legal.{with_schedule, with_steps}
-pub use Rattle.hist_model.specs.Legal.{copied, decision, Finished, is_open_session, judged, Legal, played, read_answers, rules_of, started, system_of, with_step}
+pub use Rattle.hist_model.specs.Legal.{copied, decision, Finished, is_open_session, judged, played, read_answers, rules_of, started, system_of, with_step}
 unfoldable pub use Rattle.hist_model.specs.Look.{before, event_at, newest, oldest}
 pub use Rattle.hist_model.specs.Look.{ev, is_place, is_task, is_worker, Name, name_eq, task_name}
 unfoldable pub use Rattle.hist_model.specs.Mediated.{fetches_of}

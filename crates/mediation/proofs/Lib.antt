@@ -11,7 +11,5 @@ pub mod Effects
 pub mod Audited
 pub mod Mediation
 pub mod Framed
-pub mod Finishes
 pub mod Journals
 pub mod Played
-pub mod Refusals

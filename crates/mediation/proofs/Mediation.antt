@@ -1,5 +1,5 @@
 -- Every legal history is mediated.
-use Rattle.mediation.proofs.Common.{actors, ActsAlone, Event, FailsAlone, InstallsAlone, Legal, List, Mediated, Policy, reads, rules_of, Script, system_of}
+use Rattle.mediation.proofs.Common.{actors, ActsAlone, Event, FailsAlone, InstallsAlone, IsLegal, length, List, Mediated, Policy, reads, rules_of, Script, system_of, ◌<◌, ◌^◌}
 use Rattle.mediation.proofs.Rows.{each}
 use Rattle.mediation.proofs.Calls.{answered_once, receives-are-for}
 use Rattle.mediation.proofs.Order.{ordered, in_order}
@@ -7,12 +7,10 @@ use Rattle.mediation.proofs.Replies.{installs_own, resumes_own, returns_installe
 use Rattle.mediation.proofs.Effects.{times-kept, acts-are-granted, plants-are-granted, puts-are-injected, reads-are-own, installs-alone, fails-alone, acts-alone}
 use Rattle.mediation.proofs.Audited.{audit-names}
 
-pub mediated : (P : Policy) (S : Script) (K : List Event) → Legal P S K → Mediated P S K
-mediated P S K lawful =
+pub mediated : (P : Policy) (S : Script) (K : List Event) → IsLegal (system_of S) (rules_of P S.figures) K → length K < 2 ^ 64 → Mediated P S K
+mediated P S K legal room =
     let T = system_of S in
     let R = rules_of P S.figures in
-    let legal = lawful.0 in
-    let room = lawful.1 in
     record {
       actors = taken_by_its_actor T R K legal room;
       once = answered_once T R K legal;

@@ -1,8 +1,15 @@
--- The history that a schedule plays is legal.
-use Rattle.mediation.proofs.Common.{[], Actor, AllScheduled, arith, closes, Event, false, is_actor, is_start, IsLegal, IsScheduled, Legal, length, List, Listener, played, Policy, refl, rules_of}
-use Rattle.mediation.proofs.Common.{Script, started, step, Step, suc, system_of, takes, true, What, with_schedule, with_step, with_steps, zero, ℕ, ◌<◌, ◌^◌, ◌∷◌, ◌≡◌}
-use Rattle.mediation.proofs.Rows.{step-row}
+-- What schedules play is legal, a finished history stays finished, and small histories that wrong kernels and brokers would make are refused.
+use Rattle.mediation.proofs.Common.{[], Actor, AllScheduled, any_of, ap, arith, base, Bool, call_at, call_of, calls, closes, deed, EarlyEffect, ended, Err, Event, event_at, false, fetched, Finished}
+use Rattle.mediation.proofs.Common.{free_from, group, holder, install_of, is_actor, is_letgo, is_made, is_open_session, is_start, IsLegal, IsScheduled, last_pid, LateInstallation, LateOpening}
+use Rattle.mediation.proofs.Common.{length, List, listed, Listener, mem, mode, named, newest, NewestFirst, next_pid, next_signal, None, notif_of, oldest, oldest_unfetched, owes_native, pending}
+use Rattle.mediation.proofs.Common.{played, Policy, queue, reaped, Recv, recvs, refl, reply, request_of, Rules, rules_of, Script, SecondAnswer, SecondReading, session, session_call, settled, Skip}
+use Rattle.mediation.proofs.Common.{started, StaysFinished, step, Step, steps_of, suc, System, system_of, takes, task_place, task_step, times_spent, true, ValidByNumber, was_waited_for, What}
+use Rattle.mediation.proofs.Common.{with_schedule, with_step, with_steps, WithoutSend, Worker, worker_step, zero, ℕ, ◌++◌, ◌+◌, ◌<◌, ◌∷◌, ◌≡◌, ◌⊎◌}
+use Rattle.mediation.proofs.Rows.{Row, step-row, row-of}
+use Rattle.mediation.proofs.Calls.{fetching}
 use Rattle.mediation.proofs.Replies.{takes-own}
+
+-- ---- the history that a schedule plays is legal
 
 may-step : (a : Actor) → IsScheduled a → (is_start a ≡ false) × (is_actor a ≡ true)
 may-step a s = grind arith
@@ -46,5 +53,44 @@ module _ (P : Policy) (S : Script) where
   ends : (K : List Event) → Goes K → IsLegal (system_of S) (rules_of P S.figures) (with_step P S Listener K)
   ends K g = grind arith
 
-  pub played_is_legal : AllScheduled S.schedule → length (played P S) < 2 ^ 64 → Legal P S (played P S)
-  played_is_legal s room = (ends (with_schedule P S S.schedule (started S)) (schedule S.schedule (started S) s begins), room)
+  pub played_is_legal : AllScheduled S.schedule → IsLegal (system_of S) (rules_of P S.figures) (played P S)
+  played_is_legal s = ends (with_schedule P S S.schedule (started S)) (schedule S.schedule (started S) s begins)
+
+-- ---- finished stays finished
+
+-- the step does nothing: it was none, or it found nothing to receive
+abbrev pub idles : What → Bool
+idles Skip = true
+idles (Recv (Err x)) = true
+idles _ = false
+
+-- a session that is not open is none, or has let go
+not-open : (own : List What) → is_open_session own ≡ false → (notif_of own ≡ None) ⊎ (any_of is_letgo own ≡ true)
+not-open own h = grind arith
+
+row-idles : (S : System) (R : Rules) (K : List Event) (a : Actor) (what : What) → Finished K → Row S R K a what → (K ≡ [] → ⊥) → closes what ≡ false → idles what ≡ true
+row-idles S R K (Worker w) what f r l c = let s = not-open (session K w) (f.sessions w) in let g = f.calls in grind (arith, fetching)
+row-idles S R K a what f r l c = let t = f.tasks in grind arith
+
+stays : (e : Event) (K : List Event) → idles e.what ≡ true → Finished K → Finished (e ∷ K)
+unfolding listed is_made ended session
+stays e K h f = grind arith
+
+filled : (L K : List Event) → 0 < length K → L ++ K ≡ [] → ⊥
+filled [] K l q = omega (arith, ap length q)
+filled (e ∷ L) K l q = cc
+
+pub stays_finished : (S : System) (R : Rules) → StaysFinished S R
+stays_finished S R K [] l legal f n = f
+stays_finished S R K (e ∷ L) l legal f n =
+    let ih = stays_finished S R K L l legal.1 f n.1 in
+    stays e (L ++ K) (row-idles S R (L ++ K) e.who e.what ih (row-of S R (L ++ K) e legal.0) (filled L K l) n.0) ih
+
+-- ---- the small histories are not legal
+
+-- each by what its actor's step is in truth
+pub refusals : EarlyEffect × LateOpening × SecondReading × SecondAnswer × ValidByNumber × LateInstallation × WithoutSend × NewestFirst
+refusals =
+    unfold step task_step worker_step event_at newest oldest ended was_waited_for reaped holder free_from last_pid next_pid is_made mode pending next_signal listed fetched named settled queue calls recvs session deed in
+    unfold call_of steps_of reply oldest_unfetched task_place group mem base session_call install_of call_at request_of owes_native times_spent in
+    grind arith

@@ -22,6 +22,7 @@ ghost use Rattle.mediation.specs.Scheduled.{AllScheduled};
 /// Every legal history is mediated: each notification is answered at most once; each reply or descriptor reaches the
 /// waiting call that it was meant for, or nobody; each effect is what the policy grants on one copy of its call's arguments
 /// found valid afterwards; each answer has its cause; and a passed call runs without the broker's rights.
+#[tactic(auto, using(crate::proofs::Mediation::mediated))]
 pub fn legal_is_mediated()
     ensures { (P : Policy) (S : Script) (K : List Event) → Legal P S K → Mediated P S K }
 {}
@@ -150,7 +151,7 @@ pub fn returns_installed()
 {}
 
 /// A legal history that continues a finished one, without the close of the listener, is finished.
-#[tactic(auto, using(crate::proofs::Finishes::stays_finished))]
+#[tactic(auto, using(crate::proofs::Played::stays_finished))]
 pub fn stays_finished()
     ensures { (S : System) (R : Rules) → StaysFinished S R }
 {}
