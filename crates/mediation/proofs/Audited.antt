@@ -1,10 +1,18 @@
 -- The audit of a session that answered names the rule that decided.
-use Rattle.mediation.proofs.Common.{[], and_parts, answers, any_of, ap, append-nil, arith, AuditNames, Back, before, below_or_last, Bool, bytes_fit, cases_Bool, checked_twice, Complete, copied}
-use Rattle.mediation.proofs.Common.{decide, decision, ends, eq-eqb, ev, Event, event_at, event_at-below, event_at-here, event_at-older, false, Figures, finding, finding_of, fits_piece, gives_up}
-use Rattle.mediation.proofs.Common.{Grant, heard, if◌then◌else◌, inl, inr, is_acting, is_gone, is_good_check, is_letgo, is_worker, IsLegal, joined, judged_as, Judging, judging_by, length, LetGo}
-use Rattle.mediation.proofs.Common.{List, list_any, mem, ne_eqb, not, not-true, Notif, notif_of, number_of, Ok, Option, Part, piece_wanted, plan, Policy, progress, Read, read_answer, read_answers}
-use Rattle.mediation.proofs.Common.{reads, reads_of, Recv, refl, request, Request, Result, reverse, reverse-append, Rules, rules_of, Script, Send, session, session_at, session_call, session_step}
-use Rattle.mediation.proofs.Common.{skips, Some, starts, sym, System, system_of, true, Verdict, wanted, wanted_some, What, with_heard, Worker, ℕ, ◌&&◌, ◌++◌, ◌+◌, ◌<◌, ◌^◌, ◌∙◌, ◌∷◌, ◌≡◌, ◌≤◌}
+use Rattle.mediation.proofs.Common.{[], and_parts, answers, any_of, ap, append-nil, arith, AuditNames, Back, before, below_or_last, Bool, cases_Bool, checked_twice, Complete, copied, decision, ends}
+use Rattle.mediation.proofs.Common.{eq-eqb, ev, Event, event_at, event_at-below, event_at-here, event_at-older, false, Figures, finding, finding_of, fits_piece, gives_up, heard, if◌then◌else◌, inl}
+use Rattle.mediation.proofs.Common.{inr, is_acting, is_gone, is_good_check, is_letgo, is_worker, IsLegal, judged_as, Judging, judging_by, length, LetGo, List, list_any, mem, ne_eqb, not, not-true}
+use Rattle.mediation.proofs.Common.{Notif, notif_of, number_of, Ok, Option, plan, Policy, progress, Read, read_answer, read_answers, reads, reads_of, Recv, refl, request, Result, reverse}
+use Rattle.mediation.proofs.Common.{reverse-append, Rules, rules_of, Script, Send, session, session_call, session_step, skips, Some, starts, sym, System, system_of, true, wanted, What, with_heard}
+use Rattle.mediation.proofs.Common.{Worker, ℕ, ◌&&◌, ◌++◌, ◌+◌, ◌<◌, ◌^◌, ◌∙◌, ◌∷◌, ◌≡◌, ◌≤◌}
+use Rattle.hist_model.proofs.MappedBytes.{bytes_fit}
+use Rattle.hist_model.proofs.Pieces.{piece_wanted, wanted_some}
+use Rattle.hist_model.specs.Decisions.{decide}
+use Rattle.hist_model.specs.ReportAudit.{session_at}
+use Rattle.hist_model.specs.declared.copy.Part.{Part}
+use Rattle.hist_model.specs.declared.policy.Verdict.{Verdict}
+use Rattle.hist_model.specs.declared.policy.Verdict.TheVariants.{Grant}
+use Rattle.hist_model.specs.declared.request.Request.{Request}
 use Rattle.mediation.proofs.Rows.{AtWork, WorkerRow, Row, by-few-steps}
 use Rattle.mediation.proofs.Tasks.{event_at-last}
 use Rattle.mediation.proofs.Calls.{before-older, before-newest, length-before, legal_before}
@@ -34,11 +42,8 @@ step-fits P F S K w (Read x l a) row =
     ap (fits_piece (Some (x, l))) row.1 ∙ read-fits S K (mem K w) x l g
 step-fits P F S K w what row = tt
 
-joined-fits : (a : What) (own : List What) → FitsRead a → FitReads own → FitReads (joined a own)
-joined-fits a own h k = grind arith
-
 fit-reads : (P : Policy) (F : Figures) (S : Script) (K : List Event) → IsLegal (system_of S) (rules_of P F) K → (w : ℕ) → FitReads (session K w)
-fit-reads P F S = by-joins (system_of S) (rules_of P F) FitReads tt (λ K w what r z h. joined-fits what (session K w) (step-fits P F S K w what r) h)
+fit-reads P F S = by-joins (system_of S) (rules_of P F) FitReads tt (λ K w what r z h. let s = step-fits P F S K w what r in grind arith)
 
 reads-are : (own : List What) → reads own ≡ reverse (read_answers (reads_of own))
 reads-are [] = refl
@@ -57,7 +62,8 @@ AllHeard own = (n : Notif) → notif_of own ≡ Some n → FitReads own → hear
 notif-before : (a : What) (own : List What) → starts a ≡ false → notif_of (a ∷ own) ≡ notif_of own
 notif-before a own h = grind arith
 
-heard-below : (P : Policy) (F : Figures) (own : List What) (a : What) (n : Notif) → Follows (rules_of P F) own a → notif_of (a ∷ own) ≡ Some n → FitReads own → AllHeard own → heard (plan n.call.nr n.call.args) [] (reads own) ≡ reads own
+heard-below : (P : Policy) (F : Figures) (own : List What) (a : What) (n : Notif) → Follows (rules_of P F) own a → notif_of (a ∷ own) ≡ Some n → FitReads own → AllHeard own
+    → heard (plan n.call.nr n.call.args) [] (reads own) ≡ reads own
 unfolding heard
 heard-below P F own a n s m f ih = elim s [ inl q ↦ rw q.1 | inr t ↦ ih n (sym (notif-before a own t.0) ∙ m) f ]
 
@@ -130,10 +136,12 @@ module _ (S : System) (R : Rules) where
     over : session_at w r H ≡ LetGo ∷ own → Ends H w r own
 
   -- after its answer a session only lets go
-  lets-go : (K : List Event) (w : ℕ) (what : What) (n : Notif) → notif_of (session K w) ≡ Some n → any_of is_letgo (session K w) ≡ false → any_of gives_up (session K w) ≡ true → WorkerRow S R K w what → skips what ≡ false → what ≡ LetGo
+  lets-go : (K : List Event) (w : ℕ) (what : What) (n : Notif) → notif_of (session K w) ≡ Some n → any_of is_letgo (session K w) ≡ false → any_of gives_up (session K w) ≡ true
+      → WorkerRow S R K w what → skips what ≡ false → what ≡ LetGo
   lets-go K w what n h g u row z = grind arith
 
-  ends-later : (K : List Event) (e : Event) (w r : ℕ) (own : List What) (n : Notif) → Row S R K e.who e.what → r < length K → notif_of own ≡ Some n → any_of is_letgo own ≡ false → any_of gives_up own ≡ true → Ends K w r own → Ends (e ∷ K) w r own
+  ends-later : (K : List Event) (e : Event) (w r : ℕ) (own : List What) (n : Notif) → Row S R K e.who e.what → r < length K → notif_of own ≡ Some n → any_of is_letgo own ≡ false
+      → any_of gives_up own ≡ true → Ends K w r own → Ends (e ∷ K) w r own
   ends-later K e w r own n row l h g u (over x) = over (at-later e K w r l ∙ rw x (grind arith))
   ends-later K e w r own n row l h g u (answered x y) = elim (cases_Bool (is_worker e.who w && not (skips e.what))) [
     | inl q ↦
@@ -205,7 +213,8 @@ twice-valid : (own : List What) → 2 ≤ number_of is_good_check own → checke
 twice-valid [] h = absurd (omega arith)
 twice-valid (a ∷ own) h = let ih = twice-valid own in let v = some-valid own in grind arith
 
-names-rule : (P : Policy) (n : Notif) (x : ℕ) (b : Back) (a : Result (Unit {0}) ℕ) (own : List What) (texts : List (List ℕ)) → any_of gives_up own ≡ false → number_of is_good_check own ≡ 2 → copied n (reads_of own) ≡ Complete texts → heard (plan n.call.nr n.call.args) [] (reads own) ≡ reads own
+names-rule : (P : Policy) (n : Notif) (x : ℕ) (b : Back) (a : Result (Unit {0}) ℕ) (own : List What) (texts : List (List ℕ)) → any_of gives_up own ≡ false → number_of is_good_check own ≡ 2
+    → copied n (reads_of own) ≡ Complete texts → heard (plan n.call.nr n.call.args) [] (reads own) ≡ reads own
     → finding (judging_by P.rules) n (Send x b a ∷ own) ≡ finding_of (judged_as (decide P.rules (request n.call.nr n.call.args texts))) (list_any is_spent own)
 names-rule P n x b a own texts g two c v = grind (arith, reads-are, twice-valid, append-nil, none-gone)
 
@@ -234,12 +243,14 @@ audit-names P F T H legal room s w x b a n texts h m c =
     Q : Rules
     Q = rules_of P F
 
-    grants : (own : List What) → IsOwn Q own → notif_of own ≡ Some n → copied n (reads_of own) ≡ Complete texts → list_any is_spent own ≡ true → (decide P.rules (request n.call.nr n.call.args texts)).1 ≡ Grant
+    grants : (own : List What) → IsOwn Q own → notif_of own ≡ Some n → copied n (reads_of own) ≡ Complete texts → list_any is_spent own ≡ true
+        → (decide P.rules (request n.call.nr n.call.args texts)).1 ≡ Grant
     grants own i h k e =
         let f = spent-fixed Q own i n h e in
         acting-grants P F (request n.call.nr n.call.args texts) _ _ (rw k at f.decided)
 
-    go : {r : ℕ} (p : ℕ) → p ≡ r → finding (judging_by P.rules) n (Send x b a ∷ session (before H s) w) ≡ finding_of (judged_as (decide P.rules (request n.call.nr n.call.args texts))) (list_any is_spent (session (before H s) w))
+    go : {r : ℕ} (p : ℕ) → p ≡ r
+        → finding (judging_by P.rules) n (Send x b a ∷ session (before H s) w) ≡ finding_of (judged_as (decide P.rules (request n.call.nr n.call.args texts))) (list_any is_spent (session (before H s) w))
         → Ends S (rules_of P F) H w r (Send x b a ∷ session (before H s) w)
         → finding (judging_by P.rules) n (session_at w p H) ≡ finding_of (judged_as (decide P.rules (request n.call.nr n.call.args texts))) (list_any is_spent (session (before H s) w))
     go p q r (answered k j) = rw (q, k) r

@@ -41,7 +41,8 @@ numbered S R = by-steps S R (λ K. (c : ℕ) → is_call K c ≡ true → Number
 ])
 
 -- a new call's id is no older call's
-new-differs : (S : System) (R : Rules) (K : List Event) (e : Event) (c : ℕ) → Row S R K e.who e.what → IsLegal S R K → length K < 2 ^ 64 → notifies e.what ≡ true → is_call K c ≡ true → id K c ≡ notify_id e.what → ⊥
+new-differs : (S : System) (R : Rules) (K : List Event) (e : Event) (c : ℕ) → Row S R K e.who e.what → IsLegal S R K → length K < 2 ^ 64 → notifies e.what ≡ true
+    → is_call K c ≡ true → id K c ≡ notify_id e.what → ⊥
 unfolding Numbered
 new-differs S R K e c r legal b n h q = grind (arith, new-id, numbered, mod-differ, calls-le-length)
 
@@ -57,7 +58,8 @@ ids_differ S R K legal b c d h g q = call_ids S R K legal b c d (listed-is_call 
 -- ---- a call is answered at most once
 
 -- an install belongs to the call in which its task waits, which is not settled
-pub installs-open : (S : System) (R : Rules) (K : List Event) (a : Actor) (w : What) (c : ℕ) → IsLegal S R K → Row S R K a w → is_install w ≡ true → is_task a (caller K c) ≡ true → listed K c ≡ true → settled K c ≡ false
+pub installs-open : (S : System) (R : Rules) (K : List Event) (a : Actor) (w : What) (c : ℕ) → IsLegal S R K → Row S R K a w → is_install w ≡ true
+    → is_task a (caller K c) ≡ true → listed K c ≡ true → settled K c ≡ false
 installs-open S R K a w c legal r h g l = grind (arith, same-name, waits-here)
 
 pub settles-once : (S : System) (R : Rules) (K : List Event) (e : Event) (c : ℕ) → IsLegal S R K → Row S R K e.who e.what → settles K e c ≡ true → settled K c ≡ false

@@ -1,13 +1,9 @@
 -- The words of the library, the kernel and the histories that the proofs speak of.
 pub use Rattle.std.proofs.Common.{[], add-one, ap, ap₂, arith, Bool, false, get_or, inl, inr, length, List, None, not, Option, refl, reverse, Some, subst, suc, sym, take, true, zero, ℕ, ◌%◌, ◌&&◌}
 pub use Rattle.std.proofs.Common.{◌++◌, ◌+◌, ◌-◌, ◌<◌, ◌^◌, ◌||◌, ◌∙◌, ◌∷◌, ◌≡◌, ◌≤◌, ◌⊎◌}
-pub use Rattle.std.proofs.Math.Seq.{take-length}
 pub use Rattle.std.proofs.lemmas.Bool.{and_from, and_parts, both_ways, cases_Bool, cases_order, eq-eqb, eqb-false, eqb-true, false_from_ne_true, le-leb, leb-true, lt-leb, ne_eqb, not-true, or_cases}
 pub use Rattle.std.proofs.lemmas.Bool.{or_left, or_parts, or_right}
-pub use Rattle.std.proofs.lemmas.Fmt.{decimal_by_steps, decimal_injective, decimal_nonempty}
 pub use Rattle.std.proofs.lemmas.List.{append-nil, append_assoc, append_cancel_left, append_cancel_right, reverse-append, take_more}
-unfoldable pub use Rattle.std.specs.Fmt.{digits}
-pub use Rattle.std.specs.Fmt.{decimal}
 pub use Rattle.std.specs.List.{flat_map, list_any, starts_with}
 pub use Rattle.std.specs.Prelude.{bytes_eq, codes, Err, filter, if◌then◌else◌, nat_eq, nat_le, Ok, pos, Result, ℤ, ◌*◌, ◌==◌}
 pub use Rattle.sys_abi.specs.declared.wire.Addfd.{Addfd}
@@ -18,36 +14,23 @@ pub use Rattle.hist_model.specs.Calls.{puts_to, settles, some_sends, unlists, wa
 pub use Rattle.hist_model.specs.Causes.{Cause, denied, done, faulty, is_acting, not_put, not_taken, passed}
 unfoldable pub use Rattle.hist_model.specs.Copies.{copy_of, heard, progress}
 pub use Rattle.hist_model.specs.Copies.{Complete, fits_piece, plan, Progress, wanted, with_heard}
-unfoldable pub use Rattle.hist_model.specs.Decisions.{decide}
-pub use Rattle.hist_model.specs.Decisions.{cap_of}
-pub use Rattle.hist_model.specs.Effects.{attributed}
 unfoldable pub use Rattle.hist_model.specs.Files.{files}
 pub use Rattle.hist_model.specs.Files.{after_native, files_after}
 unfoldable pub use Rattle.hist_model.specs.Laws.{answers_to, count_below, empty_recvs, fetcher, last_own}
 pub use Rattle.hist_model.specs.Laws.{AnsweredOnce, CallsAreLast, CountIs, IdsDiffer, is_passive, PidsDiffer, worker_of}
-unfoldable pub use Rattle.hist_model.specs.Legal.{with_schedule, with_steps}
 pub use Rattle.hist_model.specs.Legal.{copied, decision, Finished, is_open_session, judged, played, read_answers, rules_of, started, system_of, with_step}
 unfoldable pub use Rattle.hist_model.specs.Look.{before, event_at, newest, oldest}
 pub use Rattle.hist_model.specs.Look.{ev, is_place, is_task, is_worker, Name, name_eq, task_name}
-unfoldable pub use Rattle.hist_model.specs.Mediated.{fetches_of}
 pub use Rattle.hist_model.specs.Mediated.{ActIsGranted, ActsAlone, Arrives, AuditNames, BaseIs, Each, ends_with_check, ErrorsKnown, FailsAlone, HasCause, HasMemory, InstallsAlone, is_accepted}
 pub use Rattle.hist_model.specs.Mediated.{is_busy, is_effect, is_known_error, is_lost, is_others_row, is_until_checked, IsMediated, KeepsPrivileged, left_unfetched, LostIfGone, Mediated, NamesOwn}
 pub use Rattle.hist_model.specs.Mediated.{NeverBusy, OneSession, PlantIsGranted, PutIsInjected, ReadsOwn, ReceivesFor, returns, TakenByItsActor, takes, TimesKept, WaitedUntilChecked}
-unfoldable pub use Rattle.hist_model.specs.Memory.{last_call}
-pub use Rattle.hist_model.specs.Memory.{all_mapped, argument, group_named, is_number, mapped_byte, own_group, sysinfo_size}
 pub use Rattle.hist_model.specs.Natives.{base_of, call_natively, changed, Changes, close_natively, copied_natively, Fails, Files, Gives, has_base, native_step, NativeStep, Writes}
 pub use Rattle.hist_model.specs.Orders.{InOrder, is_good_check, is_opening}
-pub use Rattle.hist_model.specs.Paths.{Place}
-unfoldable pub use Rattle.hist_model.specs.ReportAudit.{session_at}
 pub use Rattle.hist_model.specs.ReportAudit.{checked_twice, finding, finding_of, is_gone, judged_as, Judging, judging_by, reads, session_step}
-unfoldable pub use Rattle.hist_model.specs.ReportJournal.{lines_of}
-pub use Rattle.hist_model.specs.ReportJournal.{event_line, journal, journal_line, what_text}
-pub use Rattle.hist_model.specs.ReportWords.{actor_text, name_text}
 unfoldable pub use Rattle.hist_model.specs.Requests.{base_dirfd, request}
 unfoldable pub use Rattle.hist_model.specs.Sessions.{deed, session}
 pub use Rattle.hist_model.specs.Sessions.{Acts, addfd_of, any_of, based_deed, checked_deed, checks, Decision, fetched_by, first_some, gives_up, Injects, is_letgo, joined, judged_deed, notif_of}
 pub use Rattle.hist_model.specs.Sessions.{number_of, open_deed, opens, opens_base, outcome_in, Plants, put_in, reads_of, Rules, skips, starts, take_in}
-pub use Rattle.hist_model.specs.Settlers.{installed_for, InstallsOwn, IsRequestOf, ResumesOwn, ReturnsInstalled, sent, Source}
 unfoldable pub use Rattle.hist_model.specs.Signals.{call_of, next_signal}
 unfoldable pub use Rattle.hist_model.specs.Steps.{base, call_at, group, install_of, mem, oldest_unfetched, owes_native, reply, request_of, session_call, step, steps_of, task_place, task_step}
 unfoldable pub use Rattle.hist_model.specs.Steps.{times_spent, worker_step}
@@ -58,37 +41,17 @@ pub use Rattle.hist_model.specs.Steps.{spends, start, take_step, wait_step, with
 pub use Rattle.hist_model.specs.Systems.{System}
 unfoldable pub use Rattle.hist_model.specs.Tasks.{ended, free_from, holder, is_made, last_pid, mode, next_pid, pending, reaped, was_waited_for}
 pub use Rattle.hist_model.specs.Tasks.{alive, child_of, ends, given, given_in, holds, makes, name_of, pid_of, reaps}
-unfoldable pub use Rattle.hist_model.specs.Trees.{attr_replaced}
-pub use Rattle.hist_model.specs.Trees.{is_attr, Tree, with_attr}
-pub use Rattle.hist_model.specs.declared.copy.Part.{Part}
 pub use Rattle.hist_model.specs.declared.event.Actor.{Actor}
 pub use Rattle.hist_model.specs.declared.event.Actor.TheVariants.{Listener, Start, Task, Worker}
 pub use Rattle.hist_model.specs.declared.event.Back.{Back}
-pub use Rattle.hist_model.specs.declared.event.Back.TheVariants.{Value}
 pub use Rattle.hist_model.specs.declared.event.Event.{Event}
-pub use Rattle.hist_model.specs.declared.event.SpawnKind.{SpawnKind}
-pub use Rattle.hist_model.specs.declared.event.SpawnKind.TheVariants.{New}
 pub use Rattle.hist_model.specs.declared.event.What.{What}
 pub use Rattle.hist_model.specs.declared.event.What.TheVariants.{Act, AddfdPut, AddfdTake, Check, Close, Deliver, Enter, Exit, Handler, Install, LetGo, Native, OpenBase, OpenMem, Plant, Poke, Read}
 pub use Rattle.hist_model.specs.declared.event.What.TheVariants.{Reap, Recv, Resume, Send, Signal, Skip, Spawn}
-pub use Rattle.hist_model.specs.declared.policy.Cap.{Cap}
 pub use Rattle.hist_model.specs.declared.policy.Policy.{Policy}
-pub use Rattle.hist_model.specs.declared.policy.Verdict.{Verdict}
-pub use Rattle.hist_model.specs.declared.policy.Verdict.TheVariants.{Grant}
-pub use Rattle.hist_model.specs.declared.request.Obj.{Obj}
-pub use Rattle.hist_model.specs.declared.request.Request.{Request}
 pub use Rattle.hist_model.specs.declared.script.Figures.{Figures}
 pub use Rattle.hist_model.specs.declared.script.Script.{Script}
-pub use Rattle.hist_model.specs.declared.script.Step.{Step}
-pub use Rattle.hist_model.specs.declared.tree.AttrRow.{AttrRow}
 pub use Rattle.hist_model.proofs.Look.{below_or_last, event_at-above, event_at-below, event_at-here, event_at-older, name_eq-refl, name_eq-true, newest-found, newest-some, oldest-found, oldest-same}
 pub use Rattle.hist_model.proofs.Look.{oldest-some, oldest-stays}
-pub use Rattle.hist_model.proofs.MappedBytes.{bytes_fit}
-pub use Rattle.hist_model.proofs.Pieces.{piece_wanted, wanted_some}
-pub use Rattle.history_frames.proofs.Held.{holder-is, holds-below, names-more, next-free, pids-more}
-pub use Rattle.history_frames.proofs.Ordinals.{makes-below}
 pub use Rattle.mediation.specs.Facts.{CallIdsDiffer, HandlesOwn, NamesDiffer, SessionsSettle, StaysFinished}
-pub use Rattle.mediation.specs.Frames.{changes_answered, changes_list, changes_tasks, Frame}
 pub use Rattle.mediation.specs.Journals.{actors, AreNamed, FixedByJournal, IsLegalByPlace, IsNamed, IsWritten, SharesJournal}
-pub use Rattle.mediation.specs.Refused.{EarlyEffect, LateInstallation, LateOpening, NewestFirst, SecondAnswer, SecondReading, ValidByNumber, WithoutSend}
-pub use Rattle.mediation.specs.Scheduled.{AllScheduled, IsScheduled}

@@ -1,13 +1,20 @@
 -- Each effect is what the policy grants on the one copy of its session, whose call waited up to the second good check.
-use Rattle.mediation.proofs.Common.{[], Act, ActIsGranted, Actor, Acts, ActsAlone, AddfdPut, after_native, all_mapped, and_parts, any_of, ap, argument, arith, attr_replaced, attributed, AttrRow}
-use Rattle.mediation.proofs.Common.{base_dirfd, before, below_or_last, Bool, both_ways, bytes_eq, call_natively, Cap, cap_of, cases_Bool, changed, Changes, Check, checks, close_natively, codes}
-use Rattle.mediation.proofs.Common.{copied, copied_natively, copy_of, Decision, Each, ends_with_check, entered, eqb-true, Err, ev, Event, Fails, FailsAlone, false, fetched, fetched_by, Figures}
-use Rattle.mediation.proofs.Common.{files, Files, files_after, filter, first_some, Gives, gives_up, group_named, has_base, if◌then◌else◌, inl, inr, InstallsAlone, is_attr, is_effect, is_good_check}
-use Rattle.mediation.proofs.Common.{is_number, is_others_row, is_spent, is_until_checked, is_worker, IsLegal, IsMediated, judged, KeepsPrivileged, last_call, leb-true, length, List, listed}
-use Rattle.mediation.proofs.Common.{mapped_byte, Name, name_eq-true, nat_eq, nat_le, native_step, NativeStep, None, Notif, number_entered, number_of, Obj, Ok, oldest_unfetched, Option, or_parts}
-use Rattle.mediation.proofs.Common.{own_group, pid_named, Place, place_or, plan, Plant, PlantIsGranted, Plants, Policy, Progress, put_in, PutIsInjected, Read, reads_of, ReadsOwn, Recv, refl, Result}
-use Rattle.mediation.proofs.Common.{Rules, rules_of, Script, session, session_call, Some, spends, starts_with, suc, sym, sysinfo_size, System, system_of, task_name, times_spent, TimesKept, Tree}
-use Rattle.mediation.proofs.Common.{true, WaitedUntilChecked, waiting, What, with_attr, Worker, Writes, ℕ, ◌<◌, ◌==◌, ◌∙◌, ◌∷◌, ◌≡◌, ◌≤◌, ◌⊎◌}
+use Rattle.mediation.proofs.Common.{[], Act, ActIsGranted, Actor, Acts, ActsAlone, AddfdPut, after_native, and_parts, any_of, ap, arith, base_dirfd, before, below_or_last, Bool, both_ways, bytes_eq}
+use Rattle.mediation.proofs.Common.{call_natively, cases_Bool, changed, Changes, Check, checks, close_natively, codes, copied, copied_natively, copy_of, Decision, Each, ends_with_check, entered}
+use Rattle.mediation.proofs.Common.{eqb-true, Err, ev, Event, Fails, FailsAlone, false, fetched, fetched_by, Figures, files, Files, files_after, filter, first_some, Gives, gives_up, has_base}
+use Rattle.mediation.proofs.Common.{if◌then◌else◌, inl, inr, InstallsAlone, is_effect, is_good_check, is_others_row, is_spent, is_until_checked, is_worker, IsLegal, IsMediated, judged}
+use Rattle.mediation.proofs.Common.{KeepsPrivileged, leb-true, length, List, listed, Name, name_eq-true, nat_eq, nat_le, native_step, NativeStep, None, Notif, number_entered, number_of, Ok}
+use Rattle.mediation.proofs.Common.{oldest_unfetched, Option, or_parts, pid_named, place_or, plan, Plant, PlantIsGranted, Plants, Policy, Progress, put_in, PutIsInjected, Read, reads_of, ReadsOwn}
+use Rattle.mediation.proofs.Common.{Recv, refl, Result, Rules, rules_of, Script, session, session_call, Some, spends, starts_with, suc, sym, System, system_of, task_name, times_spent, TimesKept}
+use Rattle.mediation.proofs.Common.{true, WaitedUntilChecked, waiting, What, Worker, Writes, ℕ, ◌%◌, ◌<◌, ◌==◌, ◌^◌, ◌∙◌, ◌∷◌, ◌≡◌, ◌≤◌, ◌⊎◌}
+use Rattle.hist_model.specs.Decisions.{cap_of}
+use Rattle.hist_model.specs.Effects.{attributed}
+use Rattle.hist_model.specs.Memory.{all_mapped, argument, group_named, is_number, last_call, mapped_byte, own_group, sysinfo_size}
+use Rattle.hist_model.specs.Paths.{Place}
+use Rattle.hist_model.specs.Trees.{attr_replaced, is_attr, Tree, with_attr}
+use Rattle.hist_model.specs.declared.policy.Cap.{Cap}
+use Rattle.hist_model.specs.declared.request.Obj.{Obj}
+use Rattle.hist_model.specs.declared.tree.AttrRow.{AttrRow}
 use Rattle.mediation.proofs.Rows.{AtWork, HasOpened, HasCopied, WorkerRow, Row, row-of, by-steps, each}
 use Rattle.mediation.proofs.Tasks.{listed-older, listed-was}
 use Rattle.mediation.proofs.Calls.{is_call-below, fetching, before-all, before-older, length-before, legal_before, fetched-before}
@@ -15,7 +22,6 @@ use Rattle.mediation.proofs.Hands.{worker-row, moved, session-grows, InSession, 
 use Rattle.mediation.proofs.Order.{is-own, put-fixed, goods, used-two, ordered}
 use Rattle.mediation.proofs.Handles.{check-listed, own-memory, base-is}
 use Rattle.mediation.proofs.Phases.{fetcher-fetched, hand-fetcher, waits-now}
-use Rattle.std.specs.Prelude.{◌%◌, ◌^◌}
 
 -- ---- a session's call waits up to the second good check
 
@@ -29,7 +35,8 @@ module _ (S : System) (R : Rules) where
       grind arith
 
   -- at a good check the call was listed, and waits
-  check-waits : (K : List Event) (a : Actor) (w c : ℕ) (what : What) → IsLegal S R (ev a what ∷ K) → length (ev a what ∷ K) < 2 ^ 64 → WorkerRow S R K w what → InSession K w c → session_call (ev a what ∷ K) w ≡ Some c
+  check-waits : (K : List Event) (a : Actor) (w c : ℕ) (what : What) → IsLegal S R (ev a what ∷ K) → length (ev a what ∷ K) < 2 ^ 64 → WorkerRow S R K w what
+      → InSession K w c → session_call (ev a what ∷ K) w ≡ Some c
       → session (ev a what ∷ K) w ≡ what ∷ session K w → any_of gives_up (session (ev a what ∷ K) w) ≡ false → checks what ≡ true → waiting (ev a what ∷ K) c ≡ true
   check-waits K a w c (Check x (Err e)) legal room row i s own g z = absurd (cc (own, g))
   check-waits K a w c (Check x (Ok u)) legal room row i s own g z =
@@ -44,7 +51,8 @@ module _ (S : System) (R : Rules) where
   check-waits K a w c what legal room row i s own g z = cc
 
   -- a prefix that ends no later than with that check
-  until-waits : (K : List Event) (w c : ℕ) → IsLegal S R K → length K < 2 ^ 64 → session_call K w ≡ Some c → any_of gives_up (session K w) ≡ false → (listed K c ≡ true) ⊎ (number_of is_good_check (session K w) ≡ 2) → is_until_checked K w ≡ true → waiting K c ≡ true
+  until-waits : (K : List Event) (w c : ℕ) → IsLegal S R K → length K < 2 ^ 64 → session_call K w ≡ Some c → any_of gives_up (session K w) ≡ false
+      → (listed K c ≡ true) ⊎ (number_of is_good_check (session K w) ≡ 2) → is_until_checked K w ≡ true → waiting K c ≡ true
   until-waits K w c legal room s g either u = elim (cases_Bool (nat_le (number_of is_good_check (session K w)) 1)) [
     | inl n ↦
         let few = leb-true (number_of is_good_check (session K w)) 1 n in
@@ -70,7 +78,8 @@ module _ (S : System) (R : Rules) where
   Held K w c = any_of gives_up (session K w) ≡ false → (listed K c ≡ true) ⊎ (number_of is_good_check (session K w) ≡ 2) → WaitedUntilChecked K w c
 
   -- an earlier prefix, or the whole
-  prefixes : (e : Event) (K : List Event) (w c : ℕ) → WaitedUntilChecked K w c → (session_call (e ∷ K) w ≡ Some c → is_until_checked (e ∷ K) w ≡ true → waiting (e ∷ K) c ≡ true) → WaitedUntilChecked (e ∷ K) w c
+  prefixes : (e : Event) (K : List Event) (w c : ℕ) → WaitedUntilChecked K w c
+      → (session_call (e ∷ K) w ≡ Some c → is_until_checked (e ∷ K) w ≡ true → waiting (e ∷ K) c ≡ true) → WaitedUntilChecked (e ∷ K) w c
   prefixes e K w c old new p l s u =
       elim (below_or_last p (length (e ∷ K)) (omega arith)) [
         | inl q ↦ grind (arith, before-older)
@@ -123,7 +132,8 @@ cap-left : (P : Policy) (K : List Event) (k cap : Cap) (i : ℕ) (u : Unit {0}) 
     → ◌≡◌ {A = Result (Unit {0}) ℕ} (Ok u) (if is_spent K (Some k) then Err 122 else other) → times_spent K i < cap.times
 cap-left P K k cap i u other h z c r = let m = eqb-true k.rule i h in let q : k ≡ cap = cc (rw m at z, c) in let y : times_spent K k.rule < k.times = grind arith in rw (← m, ← q) y
 
-spends-left : (P : Policy) (S : Script) (K : List Event) (a : Actor) (what : What) (i : ℕ) (cap : Cap) → Row (system_of S) (rules_of P S.figures) K a what → spends what i ≡ true → cap_of P.rules i ≡ Some cap → times_spent K i < cap.times
+spends-left : (P : Policy) (S : Script) (K : List Event) (a : Actor) (what : What) (i : ℕ) (cap : Cap) → Row (system_of S) (rules_of P S.figures) K a what → spends what i ≡ true
+    → cap_of P.rules i ≡ Some cap → times_spent K i < cap.times
 spends-left P S K (Worker w) (Act q (Some k) (Ok u)) i cap r h c = cap-left P K k cap i u _ h (judged-cap P S.figures r.0.0 (copied r.0.0 (reads_of (session K w))) k (ap decided-cap r.0.4)) c r.1
 spends-left P S K (Worker w) (Plant x b (Some k) (Ok u)) i cap r h c = cap-left P K k cap i u _ h (judged-cap P S.figures r.0.0 (copied r.0.0 (reads_of (session K w))) k (ap decided-cap r.0.4)) c r.1
 spends-left P S K a what i cap r h c = grind arith
@@ -136,7 +146,8 @@ times-kept P S = by-steps (system_of S) (rules_of P S.figures) (TimesKept P) (λ
 -- ---- each effect is what the policy grants on the one copy of its session, and each request for a descriptor what it injects
 
 -- at a use of a copy
-uses-copy : (S : System) (R : Rules) (K : List Event) (w : ℕ) (n : Notif) → IsLegal S R K → length K < 2 ^ 64 → AtWork (session K w) n → HasOpened R (session K w) n → HasCopied R (session K w) n → R.fault n (reads_of (session K w)) ≡ None
+uses-copy : (S : System) (R : Rules) (K : List Event) (w : ℕ) (n : Notif) → IsLegal S R K → length K < 2 ^ 64 → AtWork (session K w) n → HasOpened R (session K w) n
+    → HasCopied R (session K w) n → R.fault n (reads_of (session K w)) ≡ None
     → (c : ℕ) × IsMediated R K w c n
 uses-copy S R K w n legal room work ready copy sound =
     let j = in-hand K w (session_call K w) n work (hand S R K legal w) in

@@ -1,14 +1,13 @@
 -- What a session has opened is its call's task's.
 use Rattle.mediation.proofs.Common.{Actor, after_native, alive, and_parts, any_of, ap, arith, base, base_after, base_answer, base_of, BaseIs, before, Bool, caller, cases_Bool, Check, checks, eq-eqb}
 use Rattle.mediation.proofs.Common.{ev, Event, event_at, event_at-below, event_at-here, event_at-older, false, files, Files, gives_up, group, HandlesOwn, HasMemory, holder, inl, InOrder, inr}
-use Rattle.mediation.proofs.Common.{is_good_check, is_opening, is_worker, IsLegal, length, LetGo, List, listed, mem, mem_after, named, NativeStep, None, not, not-true, Notif, notif_of, Ok, OpenBase}
-use Rattle.mediation.proofs.Common.{opened, opens, Option, place_or, Recv, refl, Result, Rules, Script, session, session_call, skips, Some, sym, System, system_of, task_place, true, waiting, What}
-use Rattle.mediation.proofs.Common.{Worker, ℕ, ℤ, ◌&&◌, ◌<◌, ◌^◌, ◌∙◌, ◌∷◌, ◌≡◌, ◌⊎◌}
+use Rattle.mediation.proofs.Common.{is_good_check, is_opening, is_worker, IsLegal, length, LetGo, List, listed, mem, mem_after, named, NativeStep, None, Notif, notif_of, Ok, OpenBase, opened, opens}
+use Rattle.mediation.proofs.Common.{Option, place_or, Recv, refl, Result, Rules, Script, session, session_call, Some, sym, System, system_of, task_place, true, waiting, What, Worker, ℕ, ℤ, ◌&&◌}
+use Rattle.mediation.proofs.Common.{◌<◌, ◌^◌, ◌∙◌, ◌∷◌, ◌≡◌, ◌⊎◌}
 use Rattle.mediation.proofs.Rows.{WorkerRow, Row, by-steps}
 use Rattle.mediation.proofs.Tasks.{listed-was, calls_are_last, place-stays, place-is, group-older, living-holder}
 use Rattle.mediation.proofs.Calls.{is_call-below, before-older, before-newest}
-use Rattle.mediation.proofs.Hands.{worker-row, worker-is, still, moved, session-grows, InSession, Hand, works, at-work, idle-of, hand, in-hand-of, FetchKept, WorkKept, StillKept, by-session}
-use Rattle.mediation.proofs.Hands.{named-own}
+use Rattle.mediation.proofs.Hands.{worker-row, worker-is, still, moved, session-grows, InSession, Hand, works, idle-of, hand, in-hand-of, FetchKept, WorkKept, StillKept, by-session, named-own}
 use Rattle.mediation.proofs.Order.{goods, any-number, in_order}
 
 -- ---- what a session has opened is its call's task's
@@ -44,7 +43,8 @@ opens-own S R K w c legal i l = let x = (calls_are_last S R K legal c l).0 in (l
 
 module _ (S : System) (R : Rules) where
   -- an opening stands before the first good check
-  early : (K : List Event) (a : Actor) (w : ℕ) (what : What) → IsLegal S R (ev a what ∷ K) → session (ev a what ∷ K) w ≡ what ∷ session K w → is_opening what ≡ true → any_of is_good_check (session K w) ≡ false
+  early : (K : List Event) (a : Actor) (w : ℕ) (what : What) → IsLegal S R (ev a what ∷ K) → session (ev a what ∷ K) w ≡ what ∷ session K w
+      → is_opening what ≡ true → any_of is_good_check (session K w) ≡ false
   early K a w what legal own h =
       let o : InOrder (what ∷ session K w) = rw own at (in_order S R (ev a what ∷ K) legal w) in
       let z = o.0 h in
@@ -56,7 +56,8 @@ module _ (S : System) (R : Rules) where
   was-own K w c (Check x (Ok u)) legal room i row l = let v = check-listed S R K w c x u legal room i row in inl (and_parts (listed K c) _ v).0
   was-own K w c what legal room i row l = l
 
-  own-more : (K : List Event) (w c g : ℕ) (what : What) → IsLegal S R K → (i : InSession K w c) → WorkerRow S R K w what → works what ≡ true → (is_opening what ≡ true → any_of is_good_check (session K w) ≡ false) → (listed K c ≡ true) ⊎ (any_of is_good_check (session K w) ≡ true)
+  own-more : (K : List Event) (w c g : ℕ) (what : What) → IsLegal S R K → (i : InSession K w c) → WorkerRow S R K w what → works what ≡ true
+      → (is_opening what ≡ true → any_of is_good_check (session K w) ≡ false) → (listed K c ≡ true) ⊎ (any_of is_good_check (session K w) ≡ true)
       → (mem K w ≡ Some g → g ≡ group K i.t) × (base K w ≡ Some g → g ≡ group K i.t) → (mem_after K what (mem K w) ≡ Some g → g ≡ group K i.t) × (base_after K what (base K w) ≡ Some g → g ≡ group K i.t)
   own-more K w c g what legal i row v y l x = let o = opens-own S R K w c legal i in grind arith
 
@@ -92,7 +93,8 @@ module _ (S : System) (R : Rules) where
   handles_own K legal room w c t g s = (steady K legal room w c s).handles t g
 
   -- after a good check the memory is the call's task's
-  pub own-memory : (K : List Event) (w c : ℕ) → IsLegal S R K → length K < 2 ^ 64 → session_call K w ≡ Some c → any_of opens (session K w) ≡ true → any_of checks (session K w) ≡ true → any_of gives_up (session K w) ≡ false → HasMemory K w c
+  pub own-memory : (K : List Event) (w c : ℕ) → IsLegal S R K → length K < 2 ^ 64 → session_call K w ≡ Some c → any_of opens (session K w) ≡ true → any_of checks (session K w) ≡ true
+      → any_of gives_up (session K w) ≡ false → HasMemory K w c
   own-memory K w c legal room s o k g =
       let i = in-hand-of S R K w c legal s in
       let t = steady K legal room w c s in
@@ -119,7 +121,8 @@ files-same : (S : Script) (e : Event) (K : List Event) (w : ℕ) → (is_worker 
 unfolding files_base files
 files-same S e K w h = grind (arith, native-base)
 
-files-opens : (S : Script) (K : List Event) (a : Actor) (w p : ℕ) (d : ℤ) (u : Unit {0}) → is_worker a w ≡ true → files_base S (ev a (OpenBase p d (Ok u)) ∷ K) w ≡ base_of S (files S K) (place_or (opened K (holder K p))) d
+files-opens : (S : Script) (K : List Event) (a : Actor) (w p : ℕ) (d : ℤ) (u : Unit {0}) → is_worker a w ≡ true
+    → files_base S (ev a (OpenBase p d (Ok u)) ∷ K) w ≡ base_of S (files S K) (place_or (opened K (holder K p))) d
 unfolding files_base files
 files-opens S K a w p d u h = grind arith
 
@@ -146,7 +149,8 @@ BaseOf S R K w None = files_base S K w ≡ None
 BaseOf S R K w (Some g) = Based S R K w g
 
 module _ (S : Script) (R : Rules) where
-  based-later : (e : Event) (K : List Event) (w : ℕ) (o : Option ℕ) → files_base S (e ∷ K) w ≡ files_base S K w → session_call (e ∷ K) w ≡ session_call K w → notif_of (session (e ∷ K) w) ≡ notif_of (session K w) → BaseOf S R K w o → BaseOf S R (e ∷ K) w o
+  based-later : (e : Event) (K : List Event) (w : ℕ) (o : Option ℕ) → files_base S (e ∷ K) w ≡ files_base S K w → session_call (e ∷ K) w ≡ session_call K w
+      → notif_of (session (e ∷ K) w) ≡ notif_of (session K w) → BaseOf S R K w o → BaseOf S R (e ∷ K) w o
   based-later e K w None f c n b = f ∙ b
   based-later e K w (Some g) f c n b =
       let l = event_at-below K b.place _ b.opening in
@@ -168,32 +172,35 @@ module _ (S : Script) (R : Rules) where
         named = rw (session-grows e K w r.0.0 m refl refl r.0.1.notif_is) (λ n q. grind arith);
       })
 
-  based-step : (K : List Event) (w : ℕ) (what : What) → Hand K w (session_call K w) → WorkerRow (system_of S) R K w what → skips what ≡ false → BaseOf S R K w (base K w) → BaseOf S R (ev (Worker w) what ∷ K) w (base_after K what (base K w))
-  based-step K w (OpenBase p d (Ok u)) i r z b = based-opens K w p d u r
-  based-step K w LetGo i r z b = files-drops S K (Worker w) w (eq-eqb w w refl)
-  based-step K w (Recv x) i r z b =
-      let o = (idle-of K w (session_call K w) i r.0).base_none in
-      rw o (files-same S (ev (Worker w) (Recv x)) K w (grind arith) ∙ (rw o at b))
-  based-step K w what i r z b =
-      let m = moved (ev (Worker w) what) K w (eq-eqb w w refl) in
-      let g = at-work (system_of S) R K w what r (grind arith) in
-      let s = session-grows (ev (Worker w) what) K w g.0 (eq-eqb w w refl) z (grind arith) g.1.notif_is in
-      based-later (ev (Worker w) what) K w (base K w) (files-same S (ev (Worker w) what) K w (grind arith)) m.0 (rw s) b
+  -- a step that moves no base leaves the session, where there is a base
+  session-stays : (K : List Event) (a : Actor) (what : What) (w : ℕ) → Hand K w (session_call K w) → Row (system_of S) R K a what → (is_worker a w && moves what) ≡ false
+      → (base K w ≡ None) ⊎ ((session_call (ev a what ∷ K) w ≡ session_call K w) × (notif_of (session (ev a what ∷ K) w) ≡ notif_of (session K w)))
+  unfolding session session_call
+  session-stays K a what w i r m = let o = idle-of K w (session_call K w) i in grind arith
 
   based : (K : List Event) → IsLegal (system_of S) R K → (w : ℕ) → BaseOf S R K w (base K w)
   based = by-steps (system_of S) R (λ K. (w : ℕ) → BaseOf S R K w (base K w)) (λ w. unfold files_base files base in refl) (λ K e legal r ih w. based-more K e.who e.what w legal r (ih w))
     where
+      moved-base : (K : List Event) (w : ℕ) (what : What) → WorkerRow (system_of S) R K w what → moves what ≡ true → BaseOf S R (ev (Worker w) what ∷ K) w (base_after K what (base K w))
+      moved-base K w (OpenBase p d (Ok u)) r m = based-opens K w p d u r
+      moved-base K w LetGo r m = files-drops S K (Worker w) w (eq-eqb w w refl)
+      moved-base K w what r m = cc
+
       based-more : (K : List Event) (a : Actor) (what : What) (w : ℕ) → IsLegal (system_of S) R K → Row (system_of S) R K a what → BaseOf S R K w (base K w) → BaseOf S R (ev a what ∷ K) w (base (ev a what ∷ K) w)
-      based-more K a what w legal r b = elim (cases_Bool (is_worker a w && not (skips what))) [
+      based-more K a what w legal r b = elim (cases_Bool (is_worker a w && moves what)) [
         | inl q ↦
-            let p = and_parts (is_worker a w) (not (skips what)) q in
-            let x = based-step K w what (hand (system_of S) R K legal w) (worker-row (system_of S) R K a what w r p.0) (not-true (skips what) p.1) b in
-            rw (worker-is a w p.0, (moved (ev (Worker w) what) K w (eq-eqb w w refl)).2) x
-        | inr q ↦ let t = still (ev a what) K w q in rw t.3 (based-later (ev a what) K w (base K w) (files-same S (ev a what) K w (grind arith)) t.1 (ap notif_of t.0) b)
+            let p = and_parts (is_worker a w) (moves what) q in
+            rw (worker-is a w p.0, (moved (ev (Worker w) what) K w (eq-eqb w w refl)).2) (moved-base K w what (worker-row (system_of S) R K a what w r p.0) p.1)
+        | inr q ↦
+            let e = ev a what in
+            let f = files-same S e K w q in
+            let z : base (e ∷ K) w ≡ base K w = unfold base in grind arith in
+            rw z (elim (session-stays K a what w (hand (system_of S) R K legal w) r q) [ inl n ↦ rw n (f ∙ (rw n at b)) | inr t ↦ based-later e K w (base K w) f t.0 t.1 b ])
       ]
 
   -- after a good check, the base is the one that the call names, or none
-  pub base-is : (K : List Event) (w c : ℕ) (n : Notif) → IsLegal (system_of S) R K → length K < 2 ^ 64 → session_call K w ≡ Some c → notif_of (session K w) ≡ Some n → any_of checks (session K w) ≡ true → any_of gives_up (session K w) ≡ false
+  pub base-is : (K : List Event) (w c : ℕ) (n : Notif) → IsLegal (system_of S) R K → length K < 2 ^ 64 → session_call K w ≡ Some c → notif_of (session K w) ≡ Some n
+      → any_of checks (session K w) ≡ true → any_of gives_up (session K w) ≡ false
       → BaseIs S K w c n (R.dirfd n)
   unfolding files_base
   base-is K w c n legal room s m k g = go (base K w) refl (based K legal w)

@@ -33,7 +33,8 @@ pub session-begins : (e : Event) (K : List Event) (w : ℕ) → is_worker e.who 
 unfolding session
 session-begins e K w h s = grind arith
 
-pub session-grows : (e : Event) (K : List Event) (w : ℕ) (n : Notif) → is_worker e.who w ≡ true → skips e.what ≡ false → starts e.what ≡ false → notif_of (session K w) ≡ Some n → session (e ∷ K) w ≡ e.what ∷ session K w
+pub session-grows : (e : Event) (K : List Event) (w : ℕ) (n : Notif) → is_worker e.who w ≡ true → skips e.what ≡ false → starts e.what ≡ false
+    → notif_of (session K w) ≡ Some n → session (e ∷ K) w ≡ e.what ∷ session K w
 unfolding session
 session-grows e K w n h k s q = grind arith
 
@@ -157,7 +158,8 @@ module _ (S : System) (R : Rules) (K : List Event) (a : Actor) (w : ℕ) (legal 
       })
 
   -- it lets go, or finds nothing to fetch
-  hand-idles : (what : What) (o : Option ℕ) → WorkerRow S R K w what → works what ≡ false → starts what ≡ false → skips what ≡ false → session_call K w ≡ o → Hand K w o → Hand (ev a what ∷ K) w (session_call (ev a what ∷ K) w)
+  hand-idles : (what : What) (o : Option ℕ) → WorkerRow S R K w what → works what ≡ false → starts what ≡ false → skips what ≡ false → session_call K w ≡ o → Hand K w o
+      → Hand (ev a what ∷ K) w (session_call (ev a what ∷ K) w)
   unfolding session session_call mem base
   hand-idles what o r h s k q i = grind (arith, no-fetch)
 

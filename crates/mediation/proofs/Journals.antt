@@ -1,10 +1,13 @@
 -- A legal history is fixed by its actors, and by the text of its journal; legality reads the same by places.
-use Rattle.mediation.proofs.Common.{[], Actor, actor_text, actors, add-one, ap, append_assoc, append_cancel_left, ap₂, AreNamed, arith, below_or_last, codes, decimal, decimal_by_steps}
-use Rattle.mediation.proofs.Common.{decimal_injective, decimal_nonempty, digits, eqb-false, ev, Event, event_line, FixedByJournal, flat_map, get_or, inl, inr, is_actor, is_made, IsLegal}
-use Rattle.mediation.proofs.Common.{IsLegalByPlace, IsNamed, IsStep, IsWritten, journal, journal_line, leb-true, length, lines_of, List, Listener, Name, name_text, Policy, refl, reverse}
-use Rattle.mediation.proofs.Common.{reverse-append, Rules, Script, SharesJournal, Skip, start, Start, step, suc, sym, System, take, take-length, take_more, Task, task_step, true, what_text, Worker}
-use Rattle.mediation.proofs.Common.{zero, ℕ, ◌*◌, ◌++◌, ◌<◌, ◌^◌, ◌∙◌, ◌∷◌, ◌≡◌, ◌≤◌}
-use Rattle.std.specs.Prelude.{◌+◌, ◌%◌}
+use Rattle.mediation.proofs.Common.{[], Actor, actors, add-one, ap, append_assoc, append_cancel_left, ap₂, AreNamed, arith, below_or_last, codes, eqb-false, ev, Event, FixedByJournal, flat_map}
+use Rattle.mediation.proofs.Common.{get_or, inl, inr, is_actor, is_made, IsLegal, IsLegalByPlace, IsNamed, IsStep, IsWritten, leb-true, length, List, Listener, Name, Policy, refl, reverse}
+use Rattle.mediation.proofs.Common.{reverse-append, Rules, Script, SharesJournal, Skip, start, Start, step, suc, sym, System, take, take_more, Task, task_step, true, Worker, zero, ℕ, ◌%◌, ◌*◌, ◌++◌}
+use Rattle.mediation.proofs.Common.{◌+◌, ◌<◌, ◌^◌, ◌∙◌, ◌∷◌, ◌≡◌, ◌≤◌}
+use Rattle.hist_model.specs.ReportJournal.{event_line, journal_line, lines_of, what_text}
+use Rattle.hist_model.specs.ReportWords.{actor_text, name_text}
+use Rattle.std.proofs.Math.Seq.{take-length}
+use Rattle.std.proofs.lemmas.Fmt.{decimal_by_steps, decimal_injective, decimal_nonempty}
+use Rattle.std.specs.Fmt.{decimal, digits}
 
 -- ---- a legal history is fixed by its actors, and legality reads the same by places
 
@@ -155,17 +158,14 @@ lines-fix S R (d ∷ K) (e ∷ L) x y p q h g l t =
     let w = append_cancel_left (lines_of journal_line K) _ _ (rw (← r) at u) in
     ap₂ (λ z zs. z ∷ zs) (same-step S R K d e p.0 v (line-same (length K) d e x y h.0 g.0 (is-actor S R K d p.0) (is-actor S R K e v) w)) r
 
-pub fixed-by-text : (S : System) (R : Rules) (K L : List Event) → IsLegal S R K → IsLegal S R L → length K < 2 ^ 64 → length L < 2 ^ 64 → AreNamed K → AreNamed L → journal K ≡ journal L → K ≡ L
+pub fixed_by_journal : (P : Policy) (S : Script) → FixedByJournal P S
 unfolding Low
-fixed-by-text S R K L p q l m h g t =
+fixed_by_journal P S K L p q h g t =
     let u : codes "journal " ++ (decimal (length K) ++ (10 ∷ lines_of journal_line K)) ≡ codes "journal " ++ (decimal (length L) ++ (10 ∷ lines_of journal_line L)) = simp append_assoc at t in
     let v = append_cancel_left (codes "journal ") _ _ u in
-    let n = number-same (length K) (length L) _ _ l m (omega arith) (omega arith) v in
+    let n = number-same (length K) (length L) _ _ p.1 q.1 (omega arith) (omega arith) v in
     let w : lines_of journal_line K ≡ lines_of journal_line L = cc in
-    lines-fix S R K L [] [] p q h g n.0 (ap (λ x. x ++ []) w)
-
-pub fixed_by_journal : (P : Policy) (S : Script) → FixedByJournal P S
-fixed_by_journal P S K L p q h g t = fixed-by-text _ _ K L p.0 q.0 p.1 q.1 h g t
+    lines-fix _ _ K L [] [] p.0 q.0 h g n.0 (ap (λ x. x ++ []) w)
 
 -- without the bound: two tasks whose numbers end in 64 zeros, and that do nothing, since they are not there
 absent : System → ℕ → List Event

@@ -23,7 +23,8 @@ told : (S : System) (R : Rules) (K : List Event) (w : ℕ) (what : What) → Wor
 told S R K w what r h = grind arith
 
 -- what holds of no steps, and with a step of the worker still, holds of its session in each legal history
-pub by-joins : (S : System) (R : Rules) (P : List What → Type 0) → P [] → ((K : List Event) (w : ℕ) (what : What) → WorkerRow S R K w what → skips what ≡ false → P (session K w) → P (joined what (session K w)))
+pub by-joins : (S : System) (R : Rules) (P : List What → Type 0) → P []
+    → ((K : List Event) (w : ℕ) (what : What) → WorkerRow S R K w what → skips what ≡ false → P (session K w) → P (joined what (session K w)))
     → (K : List Event) → IsLegal S R K → (w : ℕ) → P (session K w)
 unfolding session
 by-joins S R P z f = by-steps S R (λ K. (w : ℕ) → P (session K w)) (λ w. z) (λ K e legal r ih w. elim (cases_Bool (is_worker e.who w && not (skips e.what))) [
@@ -48,7 +49,8 @@ pub record Used (R : Rules) (D : Decision → Type 0) (own : List What) (n : Not
   pub decided : D (R.decide n (reads_of own))
 
 -- after the copy nothing is read or checked any more
-no-more : (R : Rules) (own : List What) (a : What) (n : Notif) → Follows R own a → notif_of own ≡ Some n → HasCopied R own n → HasCopied R (a ∷ own) n × (reads_of (a ∷ own) ≡ reads_of own) × (notif_of (a ∷ own) ≡ Some n)
+no-more : (R : Rules) (own : List What) (a : What) (n : Notif) → Follows R own a → notif_of own ≡ Some n → HasCopied R own n
+    → HasCopied R (a ∷ own) n × (reads_of (a ∷ own) ≡ reads_of own) × (notif_of (a ∷ own) ≡ Some n)
 no-more R own a n s h c = grind arith
 
 used-more : (R : Rules) (D : Decision → Type 0) (own : List What) (a : What) (n : Notif) → Follows R own a → notif_of own ≡ Some n → Used R D own n → Used R D (a ∷ own) n
@@ -61,23 +63,13 @@ IsInjection d = (src : ℕ) × (at : Option ℕ) × (flags : ℕ) × (d ≡ Inje
 abbrev pub IsGrant : Decision → Type 0
 IsGrant d = is_acting d ≡ true
 
-abbrev pub PutFixed : Rules → List What → Type 0
-PutFixed R own = (n : Notif) (x : Result (Unit {0}) ℕ) → notif_of own ≡ Some n → first_some put_in own ≡ Some x → Used R IsInjection own n
+pub put-fixed : (R : Rules) (own : List What) → IsOwn R own → (n : Notif) (x : Result (Unit {0}) ℕ) → notif_of own ≡ Some n → first_some put_in own ≡ Some x → Used R IsInjection own n
+put-fixed R = by-own R (λ own. (n : Notif) (x : Result (Unit {0}) ℕ) → notif_of own ≡ Some n → first_some put_in own ≡ Some x → Used R IsInjection own n) (λ n x h. cc)
+    (λ own a s ih n x h p. grind (arith, used-more R IsInjection own a n s))
 
-put-more : (R : Rules) (own : List What) (a : What) → Follows R own a → PutFixed R own → PutFixed R (a ∷ own)
-put-more R own a s ih n x h p = grind (arith, used-more R IsInjection own a n s)
-
-pub put-fixed : (R : Rules) (own : List What) → IsOwn R own → PutFixed R own
-put-fixed R = by-own R (PutFixed R) (λ n x h. cc) (put-more R)
-
-abbrev pub SpentFixed : Rules → List What → Type 0
-SpentFixed R own = (n : Notif) → notif_of own ≡ Some n → list_any is_spent own ≡ true → Used R IsGrant own n
-
-spent-more : (R : Rules) (own : List What) (a : What) → Follows R own a → SpentFixed R own → SpentFixed R (a ∷ own)
-spent-more R own a s ih n h p = grind (arith, used-more R IsGrant own a n s)
-
-pub spent-fixed : (R : Rules) (own : List What) → IsOwn R own → SpentFixed R own
-spent-fixed R = by-own R (SpentFixed R) (λ n h. cc) (spent-more R)
+pub spent-fixed : (R : Rules) (own : List What) → IsOwn R own → (n : Notif) → notif_of own ≡ Some n → list_any is_spent own ≡ true → Used R IsGrant own n
+spent-fixed R = by-own R (λ own. (n : Notif) → notif_of own ≡ Some n → list_any is_spent own ≡ true → Used R IsGrant own n) (λ n h. cc)
+    (λ own a s ih n h p. grind (arith, used-more R IsGrant own a n s))
 
 -- a take comes after a good put
 pub take-after_put : (R : Rules) (own : List What) → IsOwn R own → (t : Result ℕ ℕ) → first_some take_in own ≡ Some t → first_some put_in own ≡ Some (Ok tt)

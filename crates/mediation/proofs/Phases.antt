@@ -85,7 +85,8 @@ fetcher-fetched [] c w h = cc
 fetcher-fetched (e ∷ K) c w h = let ih = fetcher-fetched K c w in grind arith
 
 -- a fetched call is not fetched again
-pub refetch : (S : System) (R : Rules) (K : List Event) (a : Actor) (what : What) (c : ℕ) → IsLegal S R K → length K < 2 ^ 64 → Row S R K a what → fetched K c ≡ true → (fetches what (id K c) && listed K c) ≡ false
+pub refetch : (S : System) (R : Rules) (K : List Event) (a : Actor) (what : What) (c : ℕ) → IsLegal S R K → length K < 2 ^ 64 → Row S R K a what → fetched K c ≡ true
+    → (fetches what (id K c) && listed K c) ≡ false
 refetch S R K a what c legal room r f = grind (arith, fetching, ids_differ)
 
 pub fetcher-stays : (S : System) (R : Rules) (K : List Event) (e : Event) (c : ℕ) → IsLegal S R K → length K < 2 ^ 64 → Row S R K e.who e.what → fetched K c ≡ true → fetcher (e ∷ K) c ≡ fetcher K c
@@ -103,7 +104,8 @@ hand-fetcher S R = by-session S R (λ K w c. fetcher K c ≡ Some w) now
     now K a w c n legal room q row o idle own = let f = fetching K n (oldest_unfetched K) refl row.1.1 in grind arith
 
 -- only a worker asks and answers, and only for the call that it has in hand
-pub actor-acts : (S : System) (R : Rules) (K : List Event) (a : Actor) (what : What) (c : ℕ) → IsLegal S R K → length K < 2 ^ 64 → Row S R K a what → (puts_to K what c || answers K what c) ≡ true → (v : ℕ) × (a ≡ Worker v) × (session_call K v ≡ Some c)
+pub actor-acts : (S : System) (R : Rules) (K : List Event) (a : Actor) (what : What) (c : ℕ) → IsLegal S R K → length K < 2 ^ 64 → Row S R K a what
+    → (puts_to K what c || answers K what c) ≡ true → (v : ℕ) × (a ≡ Worker v) × (session_call K v ≡ Some c)
 actor-acts S R K (Worker v) what c legal room r h =
     let g = at-work S R K v what r (grind arith) in
     let j = in-hand K v (session_call K v) g.0 g.1 (hand S R K legal v) in
@@ -113,7 +115,8 @@ actor-acts S R K a what c legal room r h = grind arith
 
 module _ (S : System) (R : Rules) where
   -- so nothing happens to a call that no worker who acts has in hand
-  calm-by : (K : List Event) (e : Event) (c : ℕ) → IsLegal S R K → length K < 2 ^ 64 → Row S R K e.who e.what → ((v : ℕ) → e.who ≡ Worker v → (puts_to K e.what c || answers K e.what c) ≡ true → session_call K v ≡ Some c → ⊥)
+  calm-by : (K : List Event) (e : Event) (c : ℕ) → IsLegal S R K → length K < 2 ^ 64 → Row S R K e.who e.what
+      → ((v : ℕ) → e.who ≡ Worker v → (puts_to K e.what c || answers K e.what c) ≡ true → session_call K v ≡ Some c → ⊥)
       → installs_for K e c ≡ false → Calm K e c
   calm-by K e c legal room r others f = record {
     no_put = false_from_ne_true (puts_to K e.what c) (λ z. acts (or_left _ _ z));
@@ -169,15 +172,18 @@ module _ (S : System) (R : Rules) where
   unfolding install_of
   placed-calm e K c r m q p = let s = calm-same e K c m in grind (arith, calm-clean)
 
-  stage-calm : (e : Event) (K : List Event) (c w : ℕ) (p : Option (Result (Unit {0}) ℕ)) (t : Option (Result ℕ ℕ)) → Calm K e c → request_of (e ∷ K) w ≡ request_of K w → StageOf K c w p t → StageOf (e ∷ K) c w p t
+  stage-calm : (e : Event) (K : List Event) (c w : ℕ) (p : Option (Result (Unit {0}) ℕ)) (t : Option (Result ℕ ℕ)) → Calm K e c → request_of (e ∷ K) w ≡ request_of K w
+      → StageOf K c w p t → StageOf (e ∷ K) c w p t
   stage-calm e K c w (Some (Ok u)) None m q a = asked-later e K c w q a (placed-calm e K c a.r m a.for_call a.placed)
   stage-calm e K c w p t m q k = calm-clean e K c m k
 
-  placed-install : (S : System) (e : Event) (K : List Event) (c r : ℕ) → Installing S K e.what c → installs_for K e c ≡ true → is_send K r ≡ true → call_at K r ≡ Some c → Placed K c r (install_of K r) → Placed (e ∷ K) c r (install_of (e ∷ K) r)
+  placed-install : (S : System) (e : Event) (K : List Event) (c r : ℕ) → Installing S K e.what c → installs_for K e c ≡ true → is_send K r ≡ true → call_at K r ≡ Some c
+      → Placed K c r (install_of K r) → Placed (e ∷ K) c r (install_of (e ∷ K) r)
   unfolding install_of queue settled
   placed-install S e K c r i f s q p = grind arith
 
-  stage-install : (S : System) (e : Event) (K : List Event) (c w : ℕ) (p : Option (Result (Unit {0}) ℕ)) (t : Option (Result ℕ ℕ)) → request_of (e ∷ K) w ≡ request_of K w → installs_for K e c ≡ true → Installing S K e.what c → StageOf K c w p t → StageOf (e ∷ K) c w p t
+  stage-install : (S : System) (e : Event) (K : List Event) (c w : ℕ) (p : Option (Result (Unit {0}) ℕ)) (t : Option (Result ℕ ℕ)) → request_of (e ∷ K) w ≡ request_of K w
+      → installs_for K e c ≡ true → Installing S K e.what c → StageOf K c w p t → StageOf (e ∷ K) c w p t
   stage-install S e K c w (Some (Ok u)) None q f i a = asked-later e K c w q a (placed-install S e K c a.r i f a.sends a.for_call a.placed)
   stage-install S e K c w p t q f i k = absurd (cc (k.empty, i.queue_is))
 
@@ -259,7 +265,8 @@ module _ (S : System) (R : Rules) where
         rw r.0.4.1 (calm-clean (ev a (AddfdTake y)) K c (record { no_put = refl; no_install = refl; no_answer = refl }) k)
 
     -- a step that neither asks nor answers
-    stage-stays : (what : What) → is_worker a w ≡ true → WorkerRow S R K w what → works what ≡ true → asks what ≡ false → StageOf (ev a what ∷ K) c w (first_some put_in (what ∷ session K w)) (first_some take_in (what ∷ session K w))
+    stage-stays : (what : What) → is_worker a w ≡ true → WorkerRow S R K w what → works what ≡ true → asks what ≡ false
+        → StageOf (ev a what ∷ K) c w (first_some put_in (what ∷ session K w)) (first_some take_in (what ∷ session K w))
     unfolding request_of
     stage-stays what m r v z =
         let p : put_in what ≡ None = grind arith in
@@ -267,7 +274,8 @@ module _ (S : System) (R : Rules) where
         let q : request_after (length K) what (request_of K w) ≡ request_of K w = grind arith in
         rw (p, t) (stage-calm (ev a what) K c w (first_some put_in (session K w)) (first_some take_in (session K w)) (record { no_put = grind arith; no_install = grind arith; no_answer = grind arith }) (rw m q) (h.stage (at-work S R K w what r v).1.no_end))
 
-    stage-more : (what : What) → is_worker a w ≡ true → WorkerRow S R K w what → works what ≡ true → gives_up what ≡ false → StageOf (ev a what ∷ K) c w (first_some put_in (what ∷ session K w)) (first_some take_in (what ∷ session K w))
+    stage-more : (what : What) → is_worker a w ≡ true → WorkerRow S R K w what → works what ≡ true → gives_up what ≡ false
+        → StageOf (ev a what ∷ K) c w (first_some put_in (what ∷ session K w)) (first_some take_in (what ∷ session K w))
     stage-more (AddfdPut q (Ok u)) m r v g = stage-put q u m r
     stage-more (AddfdPut q (Err x)) m r v g = calm-clean (ev a (AddfdPut q (Err x))) K c (record { no_put = refl; no_install = refl; no_answer = refl }) (clean-now (AddfdPut q (Err x)) r refl)
     stage-more (AddfdTake y) m r v g = stage-take y r g
@@ -322,22 +330,26 @@ module _ (S : System) (R : Rules) where
   at-call = by-session S R IsAtCall at-fetch at-work-more at-still
 
   -- a listed call whose session has not asked for a descriptor, and has not given up, waits
-  pub waits-now : (K : List Event) (w c : ℕ) → IsLegal S R K → length K < 2 ^ 64 → session_call K w ≡ Some c → listed K c ≡ true → any_of gives_up (session K w) ≡ false → first_some put_in (session K w) ≡ None → waiting K c ≡ true
+  pub waits-now : (K : List Event) (w c : ℕ) → IsLegal S R K → length K < 2 ^ 64 → session_call K w ≡ Some c → listed K c ≡ true → any_of gives_up (session K w) ≡ false
+      → first_some put_in (session K w) ≡ None → waiting K c ≡ true
   waits-now K w c legal room s l g p = clean-waiting K c l (in-hand-of S R K w c legal s).got (rw p at ((at-call K legal room w c s l).stage g))
 
   -- ---- a session leaves its call settled
 
   -- only a session that has given up lets go
-  left-hand : (K : List Event) (a : Actor) (what : What) (w c : ℕ) → IsLegal S R K → Row S R K a what → session_call K w ≡ Some c → (session_call (ev a what ∷ K) w ≡ Some c → ⊥) → any_of gives_up (session K w) ≡ true
+  left-hand : (K : List Event) (a : Actor) (what : What) (w c : ℕ) → IsLegal S R K → Row S R K a what → session_call K w ≡ Some c
+      → (session_call (ev a what ∷ K) w ≡ Some c → ⊥) → any_of gives_up (session K w) ≡ true
   unfolding session_call
   left-hand K a what w c legal r s n = let i = in-hand-of S R K w c legal s in grind (arith, no-fetch)
 
-  now-hand : (K : List Event) (a : Actor) (what : What) (w c : ℕ) → IsLegal S R K → length K < 2 ^ 64 → Row S R K a what → fetched K c ≡ false → fetcher (ev a what ∷ K) c ≡ Some w → session_call (ev a what ∷ K) w ≡ Some c
+  now-hand : (K : List Event) (a : Actor) (what : What) (w c : ℕ) → IsLegal S R K → length K < 2 ^ 64 → Row S R K a what → fetched K c ≡ false
+      → fetcher (ev a what ∷ K) c ≡ Some w → session_call (ev a what ∷ K) w ≡ Some c
   unfolding session_call fetcher
   now-hand K (Worker v) (Recv (Ok n)) w c legal room r f q = let d = fetching K n (oldest_unfetched K) refl r.1.1 in let y = fetcher-fetched K c w in let z = ids_differ S R K legal room d.0 c in grind arith
   now-hand K a what w c legal room r f q = absurd (both_ways (fetched K c) f (fetcher-fetched K c w (grind arith)))
 
-  settled-step : (K : List Event) (e : Event) (w c : ℕ) → IsLegal S R K → length K < 2 ^ 64 → Row S R K e.who e.what → ((session_call K w ≡ Some c → ⊥) → settled K c ≡ true) → listed K c ≡ true → (session_call (e ∷ K) w ≡ Some c → ⊥) → settled (e ∷ K) c ≡ true
+  settled-step : (K : List Event) (e : Event) (w c : ℕ) → IsLegal S R K → length K < 2 ^ 64 → Row S R K e.who e.what → ((session_call K w ≡ Some c → ⊥) → settled K c ≡ true)
+      → listed K c ≡ true → (session_call (e ∷ K) w ≡ Some c → ⊥) → settled (e ∷ K) c ≡ true
   settled-step K e w c legal room r ih l n = settled-more e K c (elim (cases_Bool (is_place (session_call K w) c)) [
     | inl q ↦ let s : session_call K w ≡ Some c = grind arith in (at-call K legal room w c s l).over (left-hand K e.who e.what w c legal r s n)
     | inr q ↦ ih (λ s. both_ways (is_place (session_call K w) c) q (rw s (eq-eqb c c refl)))

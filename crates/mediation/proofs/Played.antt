@@ -1,10 +1,13 @@
 -- What schedules play is legal, a finished history stays finished, and small histories that wrong kernels and brokers would make are refused.
-use Rattle.mediation.proofs.Common.{[], Actor, AllScheduled, any_of, ap, arith, base, Bool, call_at, call_of, calls, closes, deed, EarlyEffect, ended, Err, Event, event_at, false, fetched, Finished}
-use Rattle.mediation.proofs.Common.{free_from, group, holder, install_of, is_actor, is_letgo, is_made, is_open_session, is_start, IsLegal, IsScheduled, last_pid, LateInstallation, LateOpening}
-use Rattle.mediation.proofs.Common.{length, List, listed, Listener, mem, mode, named, newest, NewestFirst, next_pid, next_signal, None, notif_of, oldest, oldest_unfetched, owes_native, pending}
-use Rattle.mediation.proofs.Common.{played, Policy, queue, reaped, Recv, recvs, refl, reply, request_of, Rules, rules_of, Script, SecondAnswer, SecondReading, session, session_call, settled, Skip}
-use Rattle.mediation.proofs.Common.{started, StaysFinished, step, Step, steps_of, suc, System, system_of, takes, task_place, task_step, times_spent, true, ValidByNumber, was_waited_for, What}
-use Rattle.mediation.proofs.Common.{with_schedule, with_step, with_steps, WithoutSend, Worker, worker_step, zero, ℕ, ◌++◌, ◌+◌, ◌<◌, ◌∷◌, ◌≡◌, ◌⊎◌}
+use Rattle.mediation.proofs.Common.{[], Actor, any_of, ap, arith, base, Bool, call_at, call_of, calls, closes, deed, ended, Err, Event, event_at, false, fetched, Finished, free_from, group, holder}
+use Rattle.mediation.proofs.Common.{install_of, is_actor, is_letgo, is_made, is_open_session, is_start, IsLegal, last_pid, length, List, listed, Listener, mem, mode, named, newest, next_pid}
+use Rattle.mediation.proofs.Common.{next_signal, None, notif_of, oldest, oldest_unfetched, owes_native, pending, played, Policy, queue, reaped, Recv, recvs, refl, reply, request_of, Rules, rules_of}
+use Rattle.mediation.proofs.Common.{Script, session, session_call, settled, Skip, started, StaysFinished, step, steps_of, suc, System, system_of, takes, task_place, task_step, times_spent, true}
+use Rattle.mediation.proofs.Common.{was_waited_for, What, with_step, Worker, worker_step, zero, ℕ, ◌++◌, ◌+◌, ◌<◌, ◌∷◌, ◌≡◌, ◌⊎◌}
+use Rattle.hist_model.specs.Legal.{with_schedule, with_steps}
+use Rattle.hist_model.specs.declared.script.Step.{Step}
+use Rattle.mediation.specs.Refused.{EarlyEffect, LateInstallation, LateOpening, NewestFirst, SecondAnswer, SecondReading, ValidByNumber, WithoutSend}
+use Rattle.mediation.specs.Scheduled.{AllScheduled, IsScheduled}
 use Rattle.mediation.proofs.Rows.{Row, step-row, row-of}
 use Rattle.mediation.proofs.Calls.{fetching}
 use Rattle.mediation.proofs.Replies.{takes-own}

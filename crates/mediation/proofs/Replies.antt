@@ -1,11 +1,13 @@
 -- Answers, installations and returns: whose they are, what causes them, and that they arrive.
 use Rattle.mediation.proofs.Common.{[], Actor, and_parts, answers, ap, arith, Arrives, Back, back_of, Bool, both_ways, call_at, caller, cases_Bool, cases_order, closes, Each, eq-eqb, Err}
-use Rattle.mediation.proofs.Common.{ErrorsKnown, ev, Event, event_at-below, event_at-here, event_at-older, false, false_from_ne_true, fetched, fetcher, fetches, fetches_of, first_sends, gave}
-use Rattle.mediation.proofs.Common.{has_send, HasCause, id, if◌then◌else◌, inl, inr, Install, install_of, installed, installed_for, installs_for, InstallsOwn, is_accepted, is_busy, is_first}
-use Rattle.mediation.proofs.Common.{is_known_error, is_lost, is_send, is_task, IsLegal, IsRequestOf, leaves, length, List, listed, LostIfGone, named, NamesOwn, NeverBusy, None, Notif, notif_of, Ok}
-use Rattle.mediation.proofs.Common.{OneSession, or_cases, or_left, or_right, pos, puts_to, queue, refl, reply, request, Resume, ResumesOwn, returns, ReturnsInstalled, Rules, Send, sent, session}
-use Rattle.mediation.proofs.Common.{session_call, settled, settles, Some, Source, subst, sym, System, TakenByItsActor, takes, true, Value, What, Worker, worker_of, ℕ, ◌&&◌, ◌++◌, ◌+◌, ◌<◌, ◌==◌}
-use Rattle.mediation.proofs.Common.{◌^◌, ◌||◌, ◌∙◌, ◌∷◌, ◌≡◌, ◌≤◌, ◌⊎◌}
+use Rattle.mediation.proofs.Common.{ErrorsKnown, ev, Event, event_at-below, event_at-here, event_at-older, false, false_from_ne_true, fetched, fetcher, fetches, first_sends, gave, has_send}
+use Rattle.mediation.proofs.Common.{HasCause, id, if◌then◌else◌, inl, inr, Install, install_of, installed, installs_for, is_accepted, is_busy, is_first, is_known_error, is_lost, is_send, is_task}
+use Rattle.mediation.proofs.Common.{IsLegal, leaves, length, List, listed, LostIfGone, named, NamesOwn, NeverBusy, None, Notif, notif_of, Ok, OneSession, or_cases, or_left, or_right, pos, puts_to}
+use Rattle.mediation.proofs.Common.{queue, refl, reply, request, Resume, returns, Rules, Send, session, session_call, settled, settles, Some, subst, sym, System, TakenByItsActor, takes, true, What}
+use Rattle.mediation.proofs.Common.{Worker, worker_of, ℕ, ◌&&◌, ◌++◌, ◌+◌, ◌<◌, ◌==◌, ◌^◌, ◌||◌, ◌∙◌, ◌∷◌, ◌≡◌, ◌≤◌, ◌⊎◌}
+use Rattle.hist_model.specs.Mediated.{fetches_of}
+use Rattle.hist_model.specs.Settlers.{installed_for, InstallsOwn, IsRequestOf, ResumesOwn, ReturnsInstalled, sent, Source}
+use Rattle.hist_model.specs.declared.event.Back.TheVariants.{Value}
 use Rattle.mediation.proofs.Rows.{WorkerRow, TaskRow, Row, by-steps, by-few-steps, each}
 use Rattle.mediation.proofs.Tasks.{same-name, listed-below, listed-older, waits-in-call, waits-here}
 use Rattle.mediation.proofs.Calls.{settles-once, once-more, before-older, before-newest}
@@ -79,7 +81,8 @@ module _ (S : System) (R : Rules) where
       let f : installs_for K e c ≡ false = false_from_ne_true (installs_for K e c) (λ z. cc (s, (installing S R K e.who e.what c legal row z).unsettled)) in
       installed_for r n (request-later K e c r w legal room row h) (rw (h.for_call, f) g)
 
-  settled-send : (K : List Event) (e : Event) (c : ℕ) → IsLegal S R K → length K < 2 ^ 64 → Row S R K e.who e.what → answers K e.what c ≡ true → (w : ℕ) × (fetcher K c ≡ Some w) × Source (e ∷ K) c w (back_of e.what)
+  settled-send : (K : List Event) (e : Event) (c : ℕ) → IsLegal S R K → length K < 2 ^ 64 → Row S R K e.who e.what → answers K e.what c ≡ true
+      → (w : ℕ) × (fetcher K c ≡ Some w) × Source (e ∷ K) c w (back_of e.what)
   settled-send K e c legal room row h =
       let v = actor-acts S R K e.who e.what c legal room row (or_right (puts_to K e.what c) (answers K e.what c) h) in
       let k = a-send e.what h in
@@ -89,7 +92,8 @@ module _ (S : System) (R : Rules) where
       a-send (Send x b (Ok u)) h = (x, u, refl)
       a-send what h = cc
 
-  settled-install : (K : List Event) (e : Event) (c : ℕ) → IsLegal S R K → length K < 2 ^ 64 → Row S R K e.who e.what → installs_for K e c ≡ true → gave e.what ≡ true → (w : ℕ) × (fetcher K c ≡ Some w) × Source (e ∷ K) c w (back_of e.what)
+  settled-install : (K : List Event) (e : Event) (c : ℕ) → IsLegal S R K → length K < 2 ^ 64 → Row S R K e.who e.what → installs_for K e c ≡ true → gave e.what ≡ true
+      → (w : ℕ) × (fetcher K c ≡ Some w) × Source (e ∷ K) c w (back_of e.what)
   unfolding install_of
   settled-install K e c legal room row f g =
       let i = installing S R K e.who e.what c legal row f in
@@ -166,7 +170,8 @@ module _ (S : System) (R : Rules) where
   taken_by_its_actor = each S R TakenByItsActor (λ K e legal room. takes-own K e.who e.what)
 
   -- an accepted step is for the call that its session's id names
-  accepts : (K : List Event) (w c : ℕ) (what : What) (n : Notif) → WorkerRow S R K w what → is_accepted what ≡ true → notif_of (session K w) ≡ Some n → named K n.id ≡ (if listed K c then Some c else None) → (puts_to K what c || answers K what c) ≡ true
+  accepts : (K : List Event) (w c : ℕ) (what : What) (n : Notif) → WorkerRow S R K w what → is_accepted what ≡ true → notif_of (session K w) ≡ Some n
+      → named K n.id ≡ (if listed K c then Some c else None) → (puts_to K what c || answers K what c) ≡ true
   accepts K w c what n r h q m = grind arith
 
   pub names_own : (K : List Event) → IsLegal S R K → length K < 2 ^ 64 → Each NamesOwn K

@@ -2,11 +2,13 @@
 use Rattle.mediation.proofs.Common.{[], Act, Actor, Acts, Addfd, addfd_of, AddfdPut, AddfdTake, alive, any_of, arith, base, base_answer, based_deed, call_of, calls, Cause, Check, check_answer}
 use Rattle.mediation.proofs.Common.{checked_deed, checks, Close, copied, count, deed, deed_step, Deliver, denied, done, Each, Enter, Err, Event, Exit, false, faulty, first_some, found, gives_up}
 use Rattle.mediation.proofs.Common.{Handler, holder, if◌then◌else◌, Injects, Install, install_at, install_step, instr_step, is_child, is_ended_child, is_letgo, is_spent, is_start, IsLegal, IsStep}
-use Rattle.mediation.proofs.Common.{judged_deed, length, LetGo, List, Listener, lives, mem, Name, named, Native, New, next_child, next_instr, next_pid, next_signal, None, not, not_put, not_taken}
-use Rattle.mediation.proofs.Common.{Notif, notif_of, number_of, Ok, oldest, oldest_unfetched, open_deed, OpenBase, OpenMem, opens, opens_base, Option, outcome_in, owes_native, passed, Plant, Plants}
-use Rattle.mediation.proofs.Common.{Poke, put_answer, put_in, queue, Read, read_answer, reads_of, Reap, Recv, recv_answer, refl, reply, request_listed, request_of, Resume, Rules, Send, send_answer}
-use Rattle.mediation.proofs.Common.{session, settled, Signal, Skip, Some, Spawn, spawn_answer, SpawnKind, Start, step, System, take_in, take_step, Task, task_step, true, wait_step, What, with_id}
-use Rattle.mediation.proofs.Common.{Worker, worker_step, ℕ, ◌%◌, ◌+◌, ◌<◌, ◌==◌, ◌^◌, ◌∷◌, ◌≡◌, ◌⊎◌}
+use Rattle.mediation.proofs.Common.{judged_deed, length, LetGo, List, Listener, lives, mem, Name, named, Native, next_child, next_instr, next_pid, next_signal, None, not, not_put, not_taken, Notif}
+use Rattle.mediation.proofs.Common.{notif_of, number_of, Ok, oldest, oldest_unfetched, open_deed, OpenBase, OpenMem, opens, opens_base, Option, outcome_in, owes_native, passed, Plant, Plants, Poke}
+use Rattle.mediation.proofs.Common.{put_answer, put_in, queue, Read, read_answer, reads_of, Reap, Recv, recv_answer, refl, reply, request_listed, request_of, Resume, Rules, Send, send_answer}
+use Rattle.mediation.proofs.Common.{session, settled, Signal, Skip, Some, Spawn, spawn_answer, Start, step, System, take_in, take_step, Task, task_step, true, wait_step, What, with_id, Worker}
+use Rattle.mediation.proofs.Common.{worker_step, ℕ, ◌%◌, ◌+◌, ◌<◌, ◌==◌, ◌^◌, ◌∷◌, ◌≡◌, ◌⊎◌}
+use Rattle.hist_model.specs.declared.event.SpawnKind.{SpawnKind}
+use Rattle.hist_model.specs.declared.event.SpawnKind.TheVariants.{New}
 
 -- the session is at work, for this notification
 pub record AtWork (own : List What) (n : Notif) : Type 0 where
@@ -100,7 +102,8 @@ unfolding task_step
 task_row S K n = grind (arith, instr_row)
 
 module _ (S : System) (R : Rules) (K : List Event) (w : ℕ) where
-  judged_row : (n : Notif) → AtWork (session K w) n → HasOpened R (session K w) n → HasCopied R (session K w) n → WorkerRow S R K w (deed_step S K w (judged_deed R n (session K w) (R.fault n (reads_of (session K w)))))
+  judged_row : (n : Notif) → AtWork (session K w) n → HasOpened R (session K w) n → HasCopied R (session K w) n
+      → WorkerRow S R K w (deed_step S K w (judged_deed R n (session K w) (R.fault n (reads_of (session K w)))))
   judged_row n work ready c = grind (arith, faulty, denied, passed, done, not_put, not_taken)
 
   checked_row : (n : Notif) → AtWork (session K w) n → HasOpened R (session K w) n → WorkerRow S R K w (deed_step S K w (checked_deed R n (session K w)))
@@ -138,5 +141,6 @@ by-few-steps S R P z f [] legal room = z
 by-few-steps S R P z f (e ∷ K) legal room = f K e legal.1 (omega arith) (row-of S R K e legal.0) (by-few-steps S R P z f K legal.1 (omega arith))
 
 -- what each step tells holds of each event
-pub each : (S : System) (R : Rules) (P : List Event → Event → Type 0) → ((K : List Event) (e : Event) → IsLegal S R K → length K < 2 ^ 64 → Row S R K e.who e.what → P K e) → (K : List Event) → IsLegal S R K → length K < 2 ^ 64 → Each P K
+pub each : (S : System) (R : Rules) (P : List Event → Event → Type 0) → ((K : List Event) (e : Event) → IsLegal S R K → length K < 2 ^ 64 → Row S R K e.who e.what → P K e)
+    → (K : List Event) → IsLegal S R K → length K < 2 ^ 64 → Each P K
 each S R P f = by-few-steps S R (Each P) tt (λ K e legal room r ih. (f K e legal room r, ih))

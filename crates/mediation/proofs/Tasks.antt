@@ -1,10 +1,11 @@
 -- Tasks: their process numbers, their calls, their places, and their names.
 use Rattle.mediation.proofs.Common.{[], Actor, alive, and_from, ap, append_cancel_right, arith, below_or_last, call_of, caller, CallsAreLast, cases_Bool, child_of, ended, ends, eq-eqb, ev, Event}
-use Rattle.mediation.proofs.Common.{event_at, event_at-here, event_at-older, false, false_from_ne_true, given, given_in, group, holder, holder-is, holds-below, inl, inr, is_made, is_passive}
-use Rattle.mediation.proofs.Common.{is_spawn, is_task, IsLegal, last_own, length, List, listed, makes, makes-below, makes_in, Name, name_eq, name_eq-refl, name_eq-true, name_of, names-more}
-use Rattle.mediation.proofs.Common.{NamesDiffer, ne_eqb, newest, newest-found, newest-some, next-free, None, not, notifies, oldest-found, oldest-same, oldest-some, oldest-stays, Option, or_cases}
-use Rattle.mediation.proofs.Common.{pid_of, pid_or, pids-more, PidsDiffer, reaped, reaps, refl, reverse, reverse-append, Rules, Some, steps_of, System, task_name, task_place, true, unlists}
-use Rattle.mediation.proofs.Common.{was_waited_for, What, ℕ, ◌&&◌, ◌++◌, ◌+◌, ◌<◌, ◌∙◌, ◌∷◌, ◌≡◌, ◌≤◌, ◌⊎◌}
+use Rattle.mediation.proofs.Common.{event_at, event_at-here, event_at-older, false, false_from_ne_true, given, given_in, group, holder, inl, inr, is_made, is_passive, is_spawn, is_task, IsLegal}
+use Rattle.mediation.proofs.Common.{last_own, length, List, listed, makes, makes_in, Name, name_eq, name_eq-refl, name_eq-true, name_of, NamesDiffer, ne_eqb, newest, newest-found, newest-some, None}
+use Rattle.mediation.proofs.Common.{not, notifies, oldest-found, oldest-same, oldest-some, oldest-stays, Option, or_cases, pid_of, pid_or, PidsDiffer, reaped, reaps, refl, reverse, reverse-append}
+use Rattle.mediation.proofs.Common.{Rules, Some, steps_of, System, task_name, task_place, true, unlists, was_waited_for, What, ℕ, ◌&&◌, ◌++◌, ◌+◌, ◌<◌, ◌∙◌, ◌∷◌, ◌≡◌, ◌≤◌, ◌⊎◌}
+use Rattle.history_frames.proofs.Held.{holder-is, holds-below, names-more, next-free, pids-more}
+use Rattle.history_frames.proofs.Ordinals.{makes-below}
 use Rattle.mediation.proofs.Rows.{Row, by-steps}
 
 -- two names differ or are one
@@ -55,7 +56,8 @@ unfolding call_of
 waits-in_some K c h e = newest-found (λ d. listed K d && name_eq (caller K d) (caller K c)) (length K) c (listed-below K c h) (and_from (listed K c) (name_eq (caller K c) (caller K c)) h (name_eq-refl (caller K c))) e
 
 -- while its call stays listed, a task only installs or skips
-idle : (S : System) (R : Rules) (K : List Event) (a : Actor) (w : What) (n : Name) → Row S R K a w → (call_of K n ≡ None → ⊥) → unlists (ev a w) n ≡ false → (is_task a n ≡ false) ⊎ ((is_passive w ≡ true) × (ends w ≡ false))
+idle : (S : System) (R : Rules) (K : List Event) (a : Actor) (w : What) (n : Name) → Row S R K a w → (call_of K n ≡ None → ⊥) → unlists (ev a w) n ≡ false
+    → (is_task a n ≡ false) ⊎ ((is_passive w ≡ true) × (ends w ≡ false))
 idle S R K a w n r h g = grind (arith, same-name)
 
 old-last : (S : System) (R : Rules) (K : List Event) (e : Event) (c : ℕ) → Row S R K e.who e.what → listed K c ≡ true → unlists e (caller K c) ≡ false
