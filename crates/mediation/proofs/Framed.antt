@@ -1,8 +1,7 @@
 -- The frame law.
-use Rattle.mediation.proofs.Common.{[], answered, arith, base, Bool, calls, ended, eq-eqb, Event, event_at-here, event_at-older, false, fetched, free_from, given, holder, holds, inl, inr, last_pid}
-use Rattle.mediation.proofs.Common.{length, List, listed, Name, name_of, named, newest, next_pid, None, oldest, oldest-same, or_left, or_right, queue, reaped, recvs, refl, session, settled}
-use Rattle.mediation.proofs.Common.{some_sends, suc, true, was_waited_for, zero, ℕ, ◌+◌, ◌-◌, ◌<◌, ◌==◌, ◌∷◌, ◌≡◌}
-use Rattle.mediation.specs.Frames.{changes_answered, changes_list, changes_tasks, Frame}
+use Rattle.mediation.proofs.Common.{[], answered, arith, base, Bool, calls, changes_answered, changes_list, changes_tasks, ended, eq-eqb, Event, event_at-here, event_at-older, false, fetched, Frame}
+use Rattle.mediation.proofs.Common.{free_from, given, holder, holds, inl, inr, last_pid, length, List, listed, Name, name_of, named, newest, next_pid, None, oldest, oldest-same, or_left, or_right}
+use Rattle.mediation.proofs.Common.{queue, reaped, recvs, refl, session, settled, some_sends, suc, true, was_waited_for, zero, ℕ, ◌+◌, ◌-◌, ◌<◌, ◌==◌, ◌∷◌, ◌≡◌}
 use Rattle.mediation.proofs.Tasks.{listed-below, listed-here}
 use Rattle.mediation.proofs.Replies.{has, queue-has}
 

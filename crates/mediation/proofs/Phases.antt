@@ -272,7 +272,8 @@ module _ (S : System) (R : Rules) where
         let p : put_in what ≡ None = grind arith in
         let t : take_in what ≡ None = grind arith in
         let q : request_after (length K) what (request_of K w) ≡ request_of K w = grind arith in
-        rw (p, t) (stage-calm (ev a what) K c w (first_some put_in (session K w)) (first_some take_in (session K w)) (record { no_put = grind arith; no_install = grind arith; no_answer = grind arith }) (rw m q) (h.stage (at-work S R K w what r v).1.no_end))
+        let calm : Calm K (ev a what) c = record { no_put = grind arith; no_install = grind arith; no_answer = grind arith } in
+        rw (p, t) (stage-calm (ev a what) K c w (first_some put_in (session K w)) (first_some take_in (session K w)) calm (rw m q) (h.stage (at-work S R K w what r v).1.no_end))
 
     stage-more : (what : What) → is_worker a w ≡ true → WorkerRow S R K w what → works what ≡ true → gives_up what ≡ false
         → StageOf (ev a what ∷ K) c w (first_some put_in (what ∷ session K w)) (first_some take_in (what ∷ session K w))

@@ -94,6 +94,6 @@ stays_finished S R K (e ∷ L) l legal f n =
 -- each by what its actor's step is in truth
 pub refusals : EarlyEffect × LateOpening × SecondReading × SecondAnswer × ValidByNumber × LateInstallation × WithoutSend × NewestFirst
 refusals =
-    unfold step task_step worker_step event_at newest oldest ended was_waited_for reaped holder free_from last_pid next_pid is_made mode pending next_signal listed fetched named settled queue calls recvs session deed in
-    unfold call_of steps_of reply oldest_unfetched task_place group mem base session_call install_of call_at request_of owes_native times_spent in
+    unfold step task_step worker_step event_at newest oldest ended was_waited_for reaped holder free_from last_pid next_pid is_made mode pending next_signal listed fetched named settled in
+    unfold queue calls recvs session deed call_of steps_of reply oldest_unfetched task_place group mem base session_call install_of call_at request_of owes_native times_spent in
     grind arith

@@ -151,7 +151,8 @@ module _ (S : System) (R : Rules) where
   ]
 
   gave-number : (K : List Event) → IsLegal S R K → length K < 2 ^ 64 → (c r m : ℕ) → call_at K r ≡ Some c → install_of K r ≡ Some (Ok m) → (settled K c ≡ true) × (reply K c ≡ Value (pos m))
-  gave-number = by-few-steps S R (λ K. (c r m : ℕ) → call_at K r ≡ Some c → install_of K r ≡ Some (Ok m) → (settled K c ≡ true) × (reply K c ≡ Value (pos m))) (λ c r m q h. absurd (cc (call-at-above [] r (omega arith), q)))
+  gave-number = by-few-steps S R (λ K. (c r m : ℕ) → call_at K r ≡ Some c → install_of K r ≡ Some (Ok m) → (settled K c ≡ true) × (reply K c ≡ Value (pos m)))
+      (λ c r m q h. absurd (cc (call-at-above [] r (omega arith), q)))
       (λ K e legal room row ih c r m q h. elim (cases_order r (length K)) [
         | inl z ↦ absurd (cc (install-above (e ∷ K) (length K) (omega arith), rw z at h))
         | inr (inl l) ↦ let p = sym (call-at-older e K r l) ∙ q in gave-more K e c r m (λ z. (all-own K legal room c r z).1.sends) (settles-once S R K e c legal row) p (ih c r m p) h

@@ -53,7 +53,8 @@ waits-in-call K n c q = grind (arith, newest-some, name_eq-true)
 -- the task of a listed call waits in some call
 waits-in_some : (K : List Event) (c : ℕ) → listed K c ≡ true → call_of K (caller K c) ≡ None → ⊥
 unfolding call_of
-waits-in_some K c h e = newest-found (λ d. listed K d && name_eq (caller K d) (caller K c)) (length K) c (listed-below K c h) (and_from (listed K c) (name_eq (caller K c) (caller K c)) h (name_eq-refl (caller K c))) e
+waits-in_some K c h e =
+    newest-found (λ d. listed K d && name_eq (caller K d) (caller K c)) (length K) c (listed-below K c h) (and_from (listed K c) (name_eq (caller K c) (caller K c)) h (name_eq-refl (caller K c))) e
 
 -- while its call stays listed, a task only installs or skips
 idle : (S : System) (R : Rules) (K : List Event) (a : Actor) (w : What) (n : Name) → Row S R K a w → (call_of K n ≡ None → ⊥) → unlists (ev a w) n ≡ false
@@ -140,7 +141,8 @@ snoc-same n m k l h =
 -- a child's last number is at most the number of its parent's spawns
 children-numbered : (S : System) (R : Rules) (K : List Event) → IsLegal S R K → (n : Name) (k : ℕ) → is_made K (n ++ k ∷ []) ≡ true → k ≤ steps_of is_spawn K n
 unfolding is_made steps_of
-children-numbered S R = by-steps S R (λ K. (n : Name) (k : ℕ) → is_made K (n ++ k ∷ []) ≡ true → k ≤ steps_of is_spawn K n) (λ n k h. cc) (λ K e legal r ih n k h. let s = snoc-same n [] k 0 in grind (arith, same-name, snoc-same, name_eq-refl))
+children-numbered S R = by-steps S R (λ K. (n : Name) (k : ℕ) → is_made K (n ++ k ∷ []) ≡ true → k ≤ steps_of is_spawn K n) (λ n k h. cc)
+    (λ K e legal r ih n k h. let s = snoc-same n [] k 0 in grind (arith, same-name, snoc-same, name_eq-refl))
 
 child-fresh : (S : System) (R : Rules) (K : List Event) (n : Name) → IsLegal S R K → is_made K (n ++ (steps_of is_spawn K n + 1) ∷ []) ≡ false
 child-fresh S R K n legal = false_from_ne_true _ (λ h. let x = children-numbered S R K legal n (steps_of is_spawn K n + 1) h in absurd (omega arith))

@@ -94,7 +94,8 @@ ValidByNumber = Refuses (small (Spawn 0 ∷ Kill (Child 1) 9 ∷ Wait ∷ Spawn 
 
 -- a parent calls; the worker fetches, opens, checks twice and puts a request; a child interrupts the call, and the descriptor is installed then
 abbrev pub LateInstallation : Type 0
-LateInstallation = Refuses (small (Handler 10 Plain ∷ Spawn 0 ∷ calling) (Kill Parent 10 ∷ [])) injecting (parent ∷ parent ∷ parent ∷ worker ∷ worker ∷ worker ∷ worker ∷ worker ∷ child ∷ parent ∷ []) parent (Install (Ok 3))
+LateInstallation = Refuses (small (Handler 10 Plain ∷ Spawn 0 ∷ calling) (Kill Parent 10 ∷ [])) injecting
+    (parent ∷ parent ∷ parent ∷ worker ∷ worker ∷ worker ∷ worker ∷ worker ∷ child ∷ parent ∷ []) parent (Install (Ok 3))
 
 -- a descriptor is put in without answering, to be answered later
 abbrev pub WithoutSend : Type 0
@@ -102,4 +103,5 @@ WithoutSend = Refuses (small calling []) injecting (parent ∷ worker ∷ worker
 
 -- a child calls, and then its parent, whose notification, the newest, is fetched first
 abbrev pub NewestFirst : Type 0
-NewestFirst = Refuses (small (Spawn 0 ∷ calling) calling) granting (parent ∷ child ∷ parent ∷ []) worker (Recv (Ok (record { id = 2; pid = 1; flags = 0; call = record { nr = pos 133; arch = 0xc000003e; ip = 0; args = 65536 ∷ [] } })))
+NewestFirst = Refuses (small (Spawn 0 ∷ calling) calling) granting (parent ∷ child ∷ parent ∷ []) worker
+    (Recv (Ok (record { id = 2; pid = 1; flags = 0; call = record { nr = pos 133; arch = 0xc000003e; ip = 0; args = 65536 ∷ [] } })))

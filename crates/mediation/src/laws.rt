@@ -15,8 +15,7 @@ ghost use Rattle.hist_model.specs.declared.policy.Policy.{Policy};
 ghost use Rattle.hist_model.specs.declared.script.Script.{Script};
 ghost use Rattle.hist_model.specs.Mediated.{Mediated, Each, TakenByItsActor, NamesOwn, NeverBusy, ErrorsKnown, LostIfGone, HasCause};
 ghost use Rattle.mediation.specs.Journals.{actors, IsLegalByPlace, FixedByJournal, SharesJournal};
-ghost use Rattle.mediation.specs.Facts.{CallIdsDiffer, NamesDiffer, HandlesOwn, SessionsSettle, StaysFinished};
-ghost use Rattle.mediation.specs.Frames.{Frame};
+ghost use Rattle.mediation.specs.Facts.{CallIdsDiffer, NamesDiffer, HandlesOwn, SessionsSettle, StaysFinished, Frame};
 ghost use Rattle.mediation.specs.Scheduled.{AllScheduled};
 
 /// Every legal history is mediated: each notification is answered at most once; each reply or descriptor reaches the
