@@ -37,9 +37,9 @@ numbered : (S : System) (R : Rules) (K : List Event) → IsLegal S R K → (c : 
 unfolding Numbered calls
 numbered S R = by-steps S R (λ K. (c : ℕ) → is_call K c ≡ true → Numbered S K c) (λ c h. absurd (omega (arith, is_call-below [] c h)))
     (λ K e legal r ih c h. elim (below_or_last c (length K) (is_call-below (e ∷ K) c h)) [
-  | inl l ↦ let t = ih c (rw event_at-older at h) in (t.0, omega (arith, t.1), rw event_at-older t.2)
-  | inr q ↦ let n : notifies e.what ≡ true = rw event_at-here at (rw q at h) in (calls K, rw n (omega arith), rw (q, event_at-here) (new-id S R K e.who e.what r n))
-])
+      | inl l ↦ let t = ih c (rw event_at-older at h) in (t.0, omega (arith, t.1), rw event_at-older t.2)
+      | inr q ↦ let n : notifies e.what ≡ true = rw event_at-here at (rw q at h) in (calls K, rw n (omega arith), rw (q, event_at-here) (new-id S R K e.who e.what r n))
+    ])
 
 -- a new call's id is no older call's
 new-differs : (S : System) (R : Rules) (K : List Event) (e : Event) (c : ℕ) → Row S R K e.who e.what → IsLegal S R K → length K < 2 ^ 64 → notifies e.what ≡ true

@@ -1,7 +1,7 @@
 -- Each effect is what the policy grants on the one copy of its session, whose call waited up to the second good check.
 use Rattle.mediation.proofs.Common.{[], Act, ActIsGranted, Actor, Acts, ActsAlone, AddfdPut, after_native, and_parts, any_of, ap, arith, base_dirfd, before, below_or_last, Bool, both_ways, bytes_eq}
 use Rattle.mediation.proofs.Common.{call_natively, cases_Bool, changed, Changes, Check, checks, close_natively, codes, copied, copied_natively, copy_of, Decision, Each, ends_with_check, entered}
-use Rattle.mediation.proofs.Common.{eqb-true, Err, ev, Event, Fails, FailsAlone, false, fetched, fetched_by, Figures, files, Files, files_after, filter, first_some, Gives, gives_up, has_base}
+use Rattle.mediation.proofs.Common.{eqb-true, Err, ev, Event, Fails, FailsAlone, false, fetched, Figures, files, Files, files_after, filter, first_some, Gives, gives_up, has_base}
 use Rattle.mediation.proofs.Common.{if◌then◌else◌, inl, inr, InstallsAlone, is_effect, is_good_check, is_others_row, is_spent, is_until_checked, is_worker, IsLegal, IsMediated, judged}
 use Rattle.mediation.proofs.Common.{KeepsPrivileged, leb-true, length, List, listed, Name, name_eq-true, nat_eq, nat_le, native_step, NativeStep, None, Notif, number_entered, number_of, Ok}
 use Rattle.mediation.proofs.Common.{oldest_unfetched, Option, or_parts, pid_named, place_or, plan, Plant, PlantIsGranted, Plants, Policy, Progress, put_in, PutIsInjected, Read, reads_of, ReadsOwn}
@@ -151,18 +151,20 @@ uses-copy : (S : System) (R : Rules) (K : List Event) (w : ℕ) (n : Notif) → 
     → (c : ℕ) × IsMediated R K w c n
 uses-copy S R K w n legal room work ready copy sound =
     let j = in-hand K w (session_call K w) n work (hand S R K legal w) in
-    let two = used-two R (session K w) n work copy (ordered R (session K w) (is-own S R K legal w)) in
-    (j.0, record {
-      of_call = j.1;
-      fetched_by = hand-fetcher S R K legal room w j.0 j.1;
-      notif_is = work.notif_is;
-      of_notif = sym j.3 ∙ j.2.whole_is;
-      whole = copy.copied;
-      no_fault = sound;
-      checked = two;
-      waited = waited S R K legal room w j.0 j.1 work.no_end (inr two);
-      memory = own-memory S R K w j.0 legal room j.1 ready.mem copy.checked work.no_end;
-    })
+    let two = used-two R (session K w) n work copy (ordered R (session K w) (is-own S R K legal w)) in (
+      j.0,
+      record {
+        of_call = j.1;
+        fetched_by = hand-fetcher S R K legal room w j.0 j.1;
+        notif_is = work.notif_is;
+        of_notif = sym j.3 ∙ j.2.whole_is;
+        whole = copy.copied;
+        no_fault = sound;
+        checked = two;
+        waited = waited S R K legal room w j.0 j.1 work.no_end (inr two);
+        memory = own-memory S R K w j.0 legal room j.1 ready.mem copy.checked work.no_end;
+      },
+    )
 
 pub acts-are-granted : (P : Policy) (S : Script) (K : List Event) → IsLegal (system_of S) (rules_of P S.figures) K → length K < 2 ^ 64 → Each (ActIsGranted P S) K
 acts-are-granted P S = each (system_of S) (rules_of P S.figures) (ActIsGranted P S) (λ K e legal room row w q cap a who what.

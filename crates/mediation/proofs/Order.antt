@@ -1,6 +1,6 @@
 -- The steps of a session stand in order, and what it decided stays.
-use Rattle.mediation.proofs.Common.{[], and_parts, any_of, arith, Bool, cases_Bool, checks, copied, Decision, Event, false, first_some, gives_up, Injects, inl, InOrder, inr, is_acting}
-use Rattle.mediation.proofs.Common.{is_good_check, is_worker, IsLegal, joined, List, list_any, nat_le, None, not, not-true, Notif, notif_of, number_of, Ok, opened, opens, opens_base, Option, put_in}
+use Rattle.mediation.proofs.Common.{[], and_parts, any_of, arith, Bool, cases_Bool, checks, Decision, Event, false, first_some, gives_up, Injects, inl, InOrder, inr, is_acting}
+use Rattle.mediation.proofs.Common.{is_good_check, is_worker, IsLegal, joined, List, list_any, nat_le, None, not, not-true, Notif, notif_of, number_of, Ok, opens, opens_base, Option, put_in}
 use Rattle.mediation.proofs.Common.{reads_of, refl, Result, Rules, session, skips, Some, starts, System, take_in, true, What, ℕ, ◌&&◌, ◌<◌, ◌∷◌, ◌≡◌, ◌≤◌, ◌⊎◌}
 use Rattle.mediation.proofs.Rows.{AtWork, HasCopied, Told, WorkerRow, by-steps}
 use Rattle.mediation.proofs.Hands.{worker-row}

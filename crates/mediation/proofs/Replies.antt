@@ -3,8 +3,8 @@ use Rattle.mediation.proofs.Common.{[], Actor, and_parts, answers, ap, arith, Ar
 use Rattle.mediation.proofs.Common.{ErrorsKnown, ev, Event, event_at-below, event_at-here, event_at-older, false, false_from_ne_true, fetched, fetcher, fetches, first_sends, gave, has_send}
 use Rattle.mediation.proofs.Common.{HasCause, id, if◌then◌else◌, inl, inr, Install, install_of, installed, installs_for, is_accepted, is_busy, is_first, is_known_error, is_lost, is_send, is_task}
 use Rattle.mediation.proofs.Common.{IsLegal, leaves, length, List, listed, LostIfGone, named, NamesOwn, NeverBusy, None, Notif, notif_of, Ok, OneSession, or_cases, or_left, or_right, pos, puts_to}
-use Rattle.mediation.proofs.Common.{queue, refl, reply, request, Resume, returns, Rules, Send, session, session_call, settled, settles, Some, subst, sym, System, TakenByItsActor, takes, true, What}
-use Rattle.mediation.proofs.Common.{Worker, worker_of, ℕ, ◌&&◌, ◌++◌, ◌+◌, ◌<◌, ◌==◌, ◌^◌, ◌||◌, ◌∙◌, ◌∷◌, ◌≡◌, ◌≤◌, ◌⊎◌}
+use Rattle.mediation.proofs.Common.{queue, refl, reply, Resume, returns, Rules, Send, session, session_call, settled, settles, Some, subst, sym, System, TakenByItsActor, takes, true, What}
+use Rattle.mediation.proofs.Common.{Worker, worker_of, ℕ, ◌&&◌, ◌++◌, ◌<◌, ◌==◌, ◌^◌, ◌||◌, ◌∙◌, ◌∷◌, ◌≡◌, ◌≤◌, ◌⊎◌}
 use Rattle.hist_model.specs.Mediated.{fetches_of}
 use Rattle.hist_model.specs.Settlers.{installed_for, InstallsOwn, IsRequestOf, ResumesOwn, ReturnsInstalled, sent, Source}
 use Rattle.hist_model.specs.declared.event.Back.TheVariants.{Value}
@@ -45,14 +45,16 @@ module _ (S : System) (R : Rules) where
   put-own : (K : List Event) (e : Event) (c : ℕ) → IsLegal S R K → length K < 2 ^ 64 → Row S R K e.who e.what → puts_to K e.what c ≡ true → (w : ℕ) × IsRequestOf (e ∷ K) c (length K) w
   put-own K e c legal room row h =
       let v = actor-acts S R K e.who e.what c legal room row (or_left (puts_to K e.what c) (answers K e.what c) h) in
-      let f = hand-fetcher S R K legal room v.0 c v.2 in
-      (v.0, record {
-        below = omega arith;
-        for_call = call-at-here e K ∙ grind arith;
-        sends = rw event_at-here (puts-send K e.who e.what c row h);
-        put_by = rw event_at-here (ap worker_of v.1);
-        session_of = fetcher-stays S R K e c legal room row (fetcher-fetched K c v.0 f) ∙ f;
-      })
+      let f = hand-fetcher S R K legal room v.0 c v.2 in (
+        v.0,
+        record {
+          below = omega arith;
+          for_call = call-at-here e K ∙ grind arith;
+          sends = rw event_at-here (puts-send K e.who e.what c row h);
+          put_by = rw event_at-here (ap worker_of v.1);
+          session_of = fetcher-stays S R K e c legal room row (fetcher-fetched K c v.0 f) ∙ f;
+        },
+      )
 
   all-own : (K : List Event) → IsLegal S R K → length K < 2 ^ 64 → (c r : ℕ) → has (queue K c) r ≡ true → (w : ℕ) × IsRequestOf K c r w
   all-own = by-few-steps S R (λ K. (c r : ℕ) → has (queue K c) r ≡ true → (w : ℕ) × IsRequestOf K c r w) (λ c r h. absurd (unfold queue in cc)) (λ K e legal room row ih c r h. elim (queue-has e K c r h) [
@@ -245,4 +247,4 @@ module _ (S : System) (R : Rules) where
   one_session K legal room c =
       let Once = λ (L : List Event). (fetches_of L c ≤ 1) × (fetched L c ≡ false → fetches_of L c ≡ 0) in
       (by-few-steps S R Once (omega arith, λ _. refl) (λ L e l r row. once-more (fetches_of L c) (fetches e.what (id L c) && listed L c) (fetched L c)
-          (λ q. false_from_ne_true (fetched L c) (λ h. both_ways (fetches e.what (id L c) && listed L c) (refetch S R L e.who e.what c l r row h) q))) K legal room).0
+      (λ q. false_from_ne_true (fetched L c) (λ h. both_ways (fetches e.what (id L c) && listed L c) (refetch S R L e.who e.what c l r row h) q))) K legal room).0

@@ -1,6 +1,6 @@
 -- Small histories that are legal but for their last event: what a wrong kernel or a wrong broker would do.
 use Rattle.std.specs.Prelude.{ℕ, true, false, if◌then◌else◌, List, [], ◌∷◌, Option, Some, None, Ok, Err, pos}
-use Rattle.hist_model.specs.Look.{Name, name_eq, ev}
+use Rattle.hist_model.specs.Look.{name_eq, ev}
 use Rattle.hist_model.specs.Sessions.{Rules, Acts, Injects}
 use Rattle.hist_model.specs.Systems.{System, Number}
 use Rattle.hist_model.specs.Steps.{IsLegal, step, start}
@@ -12,13 +12,10 @@ use Rattle.hist_model.specs.declared.event.Mode.TheVariants.{Plain}
 use Rattle.hist_model.specs.declared.event.What.{What}
 use Rattle.hist_model.specs.declared.event.What.TheVariants.{Recv, OpenMem, Check, Read, Act, Install, AddfdPut, Send}
 use Rattle.hist_model.specs.declared.event.Back.TheVariants.{Value}
-use Rattle.hist_model.specs.declared.request.Request.{Request}
 use Rattle.hist_model.specs.declared.request.Request.TheVariants.{Sysinfo}
 use Rattle.hist_model.specs.declared.script.Instr.{Instr}
 use Rattle.hist_model.specs.declared.script.Instr.TheVariants.{Call, Spawn, Kill, Handler, Wait}
 use Rattle.hist_model.specs.declared.script.Whom.TheVariants.{Parent, Child}
-use Rattle.sys_abi.specs.declared.wire.Addfd.{Addfd}
-use Rattle.sys_abi.specs.declared.wire.Notif.{Notif}
 
 -- with one step of each of these actors, in order
 abbrev pub after : System → Rules → List Actor → List Event → List Event
