@@ -1,10 +1,10 @@
 -- The audit of a session that answered names the rule that decided.
-use Rattle.mediation.proofs.Common.{[], and_parts, answers, any_of, ap, append-nil, arith, AuditNames, Back, before, below_or_last, Bool, cases_Bool, checked_twice, Complete, copied, decision}
+use Rattle.mediation.proofs.Common.{[], and_parts, answers, any_of, ap, append-nil, arith, AuditNames, Back, before, below_or_last, Bool, cases_Bool, checked_twice, Complete, copied, decision, ends}
 use Rattle.mediation.proofs.Common.{eq-eqb, ev, Event, event_at, event_at-below, event_at-here, event_at-older, false, Figures, finding, finding_of, fits_piece, gives_up, heard, if◌then◌else◌, inl}
 use Rattle.mediation.proofs.Common.{inr, is_acting, is_gone, is_good_check, is_letgo, is_worker, IsLegal, judged_as, Judging, judging_by, length, LetGo, List, list_any, mem, ne_eqb, not, not-true}
 use Rattle.mediation.proofs.Common.{Notif, notif_of, number_of, Ok, Option, plan, Policy, progress, Read, read_answer, read_answers, reads, reads_of, Recv, refl, request, Result, reverse}
 use Rattle.mediation.proofs.Common.{reverse-append, Rules, rules_of, Script, Send, session, session_call, session_step, skips, Some, starts, sym, System, system_of, true, wanted, What, with_heard}
-use Rattle.mediation.proofs.Common.{Worker, ℕ, ◌&&◌, ◌++◌, ◌<◌, ◌^◌, ◌∙◌, ◌∷◌, ◌≡◌, ◌≤◌}
+use Rattle.mediation.proofs.Common.{Worker, ℕ, ◌&&◌, ◌++◌, ◌+◌, ◌<◌, ◌^◌, ◌∙◌, ◌∷◌, ◌≡◌, ◌≤◌}
 use Rattle.hist_model.proofs.MappedBytes.{bytes_fit}
 use Rattle.hist_model.proofs.Pieces.{piece_wanted, wanted_some}
 use Rattle.hist_model.specs.Decisions.{decide}
@@ -87,10 +87,6 @@ all-heard P F = by-own (rules_of P F) AllHeard (λ n m. cc) (heard-step P F)
 extended-open : (own : List What) (a : What) (n : Notif) → notif_of own ≡ Some n → any_of is_letgo own ≡ false → extended own a ≡ a ∷ own
 extended-open own a n h g = grind arith
 
-at-here : (e : Event) (K : List Event) (w : ℕ) → session_at w (length K) (e ∷ K) ≡ e.what ∷ []
-unfolding session_at
-at-here e K w = rw (eq-eqb (length K) (length K) refl)
-
 stepped : (b : Bool) (own : List What) (a : What) → session_step false b own a ≡ (if b then extended own a else own)
 stepped b own a = grind arith
 
@@ -107,28 +103,26 @@ record Began (K : List Event) (w : ℕ) : Type 0 where
   pub same : session_at w place K ≡ session K w
 
 module _ (S : System) (R : Rules) where
-  abbrev BeganOf : List Event → ℕ → ℕ → Type 0
-  BeganOf K w c = Began K w
-
-  fetch-began : FetchKept S R BeganOf
+  fetch-began : FetchKept S R (λ K w c. Began K w)
+  unfolding session_at
   fetch-began K a w c n legal room q row o idle own =
       let e = ev a (Recv (Ok n)) in
-      record { place = length K; n = n; receive = event_at-here e K ∙ ap (λ b. Some (ev b (Recv (Ok n)))) (worker-is a w q); notif_is = rw own; same = at-here e K w ∙ sym own }
+      record { place = length K; n = n; receive = event_at-here e K ∙ ap (λ b. Some (ev b (Recv (Ok n)))) (worker-is a w q); notif_is = rw own; same = rw (eq-eqb (length K) (length K) refl) (sym own) }
 
-  work-began : WorkKept S R BeganOf
+  work-began : WorkKept S R (λ K w c. Began K w)
   work-began K a w c what legal room q row v i s own b =
       let l = event_at-below K b.place _ b.receive in
       let k = works-keep K what v in
       let joins : extended (session K w) what ≡ what ∷ session K w = extended-open (session K w) what i.n i.notif_is i.no_letgo in
       record { place = b.place; n = b.n; receive = rw event_at-older b.receive; notif_is = rw (own, k.no_notif) b.notif_is; same = rw (at-later (ev a what) K w b.place l, q, k.no_skip, b.same) (joins ∙ sym own) }
 
-  still-began : StillKept S R BeganOf
+  still-began : StillKept S R (λ K w c. Began K w)
   still-began K e w c legal room q i s own b =
       let l = event_at-below K b.place _ b.receive in
       record { place = b.place; n = b.n; receive = rw event_at-older b.receive; notif_is = rw own b.notif_is; same = rw (at-later e K w b.place l, q) (b.same ∙ sym own) }
 
   began : (K : List Event) → IsLegal S R K → length K < 2 ^ 64 → (w c : ℕ) → session_call K w ≡ Some c → Began K w
-  began = by-session S R BeganOf fetch-began work-began still-began
+  began = by-session S R (λ K w c. Began K w) fetch-began work-began still-began
 
   -- what the audit sees of a session that has answered: these steps, and then that it lets go
   data Ends (H : List Event) (w r : ℕ) (own : List What) : Type 0 where

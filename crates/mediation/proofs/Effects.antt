@@ -1,7 +1,7 @@
 -- Each effect is what the policy grants on the one copy of its session, whose call waited up to the second good check.
 use Rattle.mediation.proofs.Common.{[], Act, ActIsGranted, Actor, Acts, ActsAlone, AddfdPut, after_native, and_parts, any_of, ap, arith, base_dirfd, before, below_or_last, Bool, both_ways, bytes_eq}
 use Rattle.mediation.proofs.Common.{call_natively, cases_Bool, changed, Changes, Check, checks, close_natively, codes, copied, copied_natively, copy_of, Decision, Each, ends_with_check, entered}
-use Rattle.mediation.proofs.Common.{eqb-true, Err, ev, Event, Fails, FailsAlone, false, fetched, Figures, files, Files, files_after, filter, first_some, Gives, gives_up, has_base}
+use Rattle.mediation.proofs.Common.{eqb-true, Err, ev, Event, Fails, FailsAlone, false, fetched, fetched_by, Figures, files, Files, files_after, filter, first_some, Gives, gives_up, has_base}
 use Rattle.mediation.proofs.Common.{if◌then◌else◌, inl, inr, InstallsAlone, is_effect, is_good_check, is_others_row, is_spent, is_until_checked, is_worker, IsLegal, IsMediated, judged}
 use Rattle.mediation.proofs.Common.{KeepsPrivileged, leb-true, length, List, listed, Name, name_eq-true, nat_eq, nat_le, native_step, NativeStep, None, Notif, number_entered, number_of, Ok}
 use Rattle.mediation.proofs.Common.{oldest_unfetched, Option, or_parts, pid_named, place_or, plan, Plant, PlantIsGranted, Plants, Policy, Progress, put_in, PutIsInjected, Read, reads_of, ReadsOwn}

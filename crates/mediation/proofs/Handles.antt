@@ -1,9 +1,9 @@
 -- What a session has opened is its call's task's.
 use Rattle.mediation.proofs.Common.{Actor, after_native, alive, and_parts, any_of, ap, arith, base, base_after, base_answer, base_of, BaseIs, before, Bool, caller, cases_Bool, Check, checks, eq-eqb}
-use Rattle.mediation.proofs.Common.{ev, Event, event_at, event_at-below, event_at-here, event_at-older, false, files, Files, gives_up, group, HandlesOwn, HasMemory, holder, inl, InOrder, inr}
-use Rattle.mediation.proofs.Common.{is_good_check, is_opening, is_worker, IsLegal, length, LetGo, List, listed, mem, mem_after, NativeStep, None, Notif, notif_of, Ok, OpenBase, opened, opens}
-use Rattle.mediation.proofs.Common.{Option, place_or, Recv, refl, Result, Rules, Script, session, session_call, Some, sym, System, system_of, task_place, true, waiting, What, Worker, ℕ, ℤ, ◌&&◌}
-use Rattle.mediation.proofs.Common.{◌<◌, ◌^◌, ◌∙◌, ◌∷◌, ◌≡◌, ◌⊎◌}
+use Rattle.mediation.proofs.Common.{ev, Event, event_at, event_at-below, event_at-here, event_at-older, false, files, Files, gives_up, group, HasMemory, holder, inl, InOrder, inr, is_good_check}
+use Rattle.mediation.proofs.Common.{is_opening, is_worker, IsLegal, length, LetGo, List, listed, mem, mem_after, named, NativeStep, None, Notif, notif_of, Ok, OpenBase, opened, opens, Option}
+use Rattle.mediation.proofs.Common.{place_or, Recv, refl, Result, Rules, Script, session, session_call, Some, sym, System, system_of, task_place, true, waiting, What, Worker, ℕ, ℤ, ◌&&◌, ◌<◌, ◌^◌}
+use Rattle.mediation.proofs.Common.{◌∙◌, ◌∷◌, ◌≡◌, ◌⊎◌}
 use Rattle.mediation.proofs.Rows.{WorkerRow, Row, by-steps}
 use Rattle.mediation.proofs.Tasks.{listed-was, calls_are_last, place-stays, place-is, group-older, living-holder}
 use Rattle.mediation.proofs.Calls.{is_call-below, before-older, before-newest}
@@ -23,7 +23,7 @@ check-listed S R K w c x u legal room i r =
 pub good-check : (own : List What) → any_of checks own ≡ true → any_of gives_up own ≡ false → any_of is_good_check own ≡ true
 good-check own h g = grind (arith, goods, any-number)
 
-record Steady (K : List Event) (w c : ℕ) : Type 0 where
+pub record Steady (K : List Event) (w c : ℕ) : Type 0 where
   -- while the call is listed, and after a good check, what the session opened is its call's task's
   pub handles : (t g : ℕ) → task_place K (caller K c) ≡ Some t → (listed K c ≡ true) ⊎ (any_of is_good_check (session K w) ≡ true) → (mem K w ≡ Some g → g ≡ group K t) × (base K w ≡ Some g → g ≡ group K t)
   -- a session that has opened, and has not given up, has a memory
@@ -86,11 +86,8 @@ module _ (S : System) (R : Rules) where
         opened = rw (own, m.2) ih.opened;
       }
 
-  steady : (K : List Event) → IsLegal S R K → length K < 2 ^ 64 → (w c : ℕ) → session_call K w ≡ Some c → Steady K w c
+  pub steady : (K : List Event) → IsLegal S R K → length K < 2 ^ 64 → (w c : ℕ) → session_call K w ≡ Some c → Steady K w c
   steady = by-session S R Steady steady-fetch steady-work steady-still
-
-  pub handles_own : (K : List Event) → IsLegal S R K → length K < 2 ^ 64 → HandlesOwn K
-  handles_own K legal room w c t g s = (steady K legal room w c s).handles t g
 
   -- after a good check the memory is the call's task's
   pub own-memory : (K : List Event) (w c : ℕ) → IsLegal S R K → length K < 2 ^ 64 → session_call K w ≡ Some c → any_of opens (session K w) ≡ true → any_of checks (session K w) ≡ true

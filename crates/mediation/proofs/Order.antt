@@ -1,6 +1,6 @@
 -- The steps of a session stand in order, and what it decided stays.
-use Rattle.mediation.proofs.Common.{[], and_parts, any_of, arith, Bool, cases_Bool, checks, Decision, Event, false, first_some, gives_up, Injects, inl, InOrder, inr, is_acting}
-use Rattle.mediation.proofs.Common.{is_good_check, is_worker, IsLegal, joined, List, list_any, nat_le, None, not, not-true, Notif, notif_of, number_of, Ok, opens, opens_base, Option, put_in}
+use Rattle.mediation.proofs.Common.{[], and_parts, any_of, arith, Bool, cases_Bool, checks, copied, Decision, Event, false, first_some, gives_up, Injects, inl, InOrder, inr, is_acting}
+use Rattle.mediation.proofs.Common.{is_good_check, is_worker, IsLegal, joined, List, list_any, nat_le, None, not, not-true, Notif, notif_of, number_of, Ok, opened, opens, opens_base, Option, put_in}
 use Rattle.mediation.proofs.Common.{reads_of, refl, Result, Rules, session, skips, Some, starts, System, take_in, true, What, ℕ, ◌&&◌, ◌<◌, ◌∷◌, ◌≡◌, ◌≤◌, ◌⊎◌}
 use Rattle.mediation.proofs.Rows.{AtWork, HasCopied, Told, WorkerRow, by-steps}
 use Rattle.mediation.proofs.Hands.{worker-row}
@@ -19,9 +19,6 @@ IsOwn R (a ∷ own) = Follows R own a × IsOwn R own
 joined-own : (R : Rules) (own : List What) (a : What) → IsOwn R own → Told R own a → IsOwn R (joined a own)
 joined-own R own a i s = grind arith
 
-told : (S : System) (R : Rules) (K : List Event) (w : ℕ) (what : What) → WorkerRow S R K w what → skips what ≡ false → Told R (session K w) what
-told S R K w what r h = grind arith
-
 -- what holds of no steps, and with a step of the worker still, holds of its session in each legal history
 pub by-joins : (S : System) (R : Rules) (P : List What → Type 0) → P []
     → ((K : List Event) (w : ℕ) (what : What) → WorkerRow S R K w what → skips what ≡ false → P (session K w) → P (joined what (session K w)))
@@ -33,7 +30,7 @@ by-joins S R P z f = by-steps S R (λ K. (w : ℕ) → P (session K w)) (λ w. z
 ])
 
 pub is-own : (S : System) (R : Rules) (K : List Event) → IsLegal S R K → (w : ℕ) → IsOwn R (session K w)
-is-own S R = by-joins S R (IsOwn R) tt (λ K w what r h i. joined-own R (session K w) what i (told S R K w what r h))
+is-own S R = by-joins S R (IsOwn R) tt (λ K w what r h i. joined-own R (session K w) what i (grind arith))
 
 -- what holds of no steps, and with one more step still, holds of each session
 pub by-own : (R : Rules) (P : List What → Type 0) → P [] → ((own : List What) (a : What) → Follows R own a → P own → P (a ∷ own)) → (own : List What) → IsOwn R own → P own
