@@ -1,10 +1,10 @@
 -- The audit of a session that answered names the rule that decided.
 use Rattle.mediation.proofs.Common.{[], and_parts, answers, any_of, ap, append-nil, arith, AuditNames, Back, before, below_or_last, Bool, cases_Bool, checked_twice, Complete, copied, decision, ends}
 use Rattle.mediation.proofs.Common.{eq-eqb, ev, Event, event_at, event_at-below, event_at-here, event_at-older, false, Figures, finding, finding_of, fits_piece, gives_up, heard, if◌then◌else◌, inl}
-use Rattle.mediation.proofs.Common.{inr, is_acting, is_gone, is_good_check, is_letgo, is_worker, IsLegal, judged_as, Judging, judging_by, length, LetGo, List, list_any, mem, ne_eqb, not, not-true}
-use Rattle.mediation.proofs.Common.{Notif, notif_of, number_of, Ok, Option, plan, Policy, progress, Read, read_answer, read_answers, reads, reads_of, Recv, refl, request, Result, reverse}
-use Rattle.mediation.proofs.Common.{reverse-append, Rules, rules_of, Script, Send, session, session_call, session_step, skips, Some, starts, sym, System, system_of, true, wanted, What, with_heard}
-use Rattle.mediation.proofs.Common.{Worker, ℕ, ◌&&◌, ◌++◌, ◌+◌, ◌<◌, ◌^◌, ◌∙◌, ◌∷◌, ◌≡◌, ◌≤◌}
+use Rattle.mediation.proofs.Common.{inr, is_acting, is_gone, is_good_check, is_letgo, is_worker, IsLegal, judged_as, judging_by, length, LetGo, List, list_any, mem, ne_eqb, not, not-true, Notif}
+use Rattle.mediation.proofs.Common.{notif_of, number_of, Ok, Option, plan, Policy, progress, Read, read_answer, read_answers, reads, reads_of, Recv, refl, request, Result, reverse, reverse-append}
+use Rattle.mediation.proofs.Common.{Rules, rules_of, Script, Send, session, session_call, session_step, skips, Some, starts, sym, System, system_of, true, wanted, What, with_heard, Worker, ℕ, ◌&&◌}
+use Rattle.mediation.proofs.Common.{◌++◌, ◌+◌, ◌<◌, ◌^◌, ◌∙◌, ◌∷◌, ◌≡◌, ◌≤◌}
 use Rattle.hist_model.proofs.MappedBytes.{bytes_fit}
 use Rattle.hist_model.proofs.Pieces.{piece_wanted, wanted_some}
 use Rattle.hist_model.specs.Decisions.{decide}
@@ -212,10 +212,6 @@ names-rule : (P : Policy) (n : Notif) (x : ℕ) (b : Back) (a : Result (Unit {0}
     → finding (judging_by P.rules) n (Send x b a ∷ own) ≡ finding_of (judged_as (decide P.rules (request n.call.nr n.call.args texts))) (list_any is_spent own)
 names-rule P n x b a own texts g two c v = grind (arith, reads-are, twice-valid, append-nil, none-gone)
 
--- letting go adds nothing
-lets-go-finding : (J : Judging) (n : Notif) (own : List What) → finding J n (LetGo ∷ own) ≡ finding J n own
-lets-go-finding J n own = rw (append-nil (reads own))
-
 -- a decision that acts is a grant
 acting-grants : (P : Policy) (F : Figures) (q : Request) (i : ℕ) (v : Verdict) → is_acting (decision P F q i v) ≡ true → v ≡ Grant
 acting-grants P F q i v h = grind arith
@@ -248,4 +244,4 @@ audit-names P F T H legal room s w x b a n texts h m c =
         → Ends S (rules_of P F) H w r (Send x b a ∷ session (before H s) w)
         → finding (judging_by P.rules) n (session_at w p H) ≡ finding_of (judged_as (decide P.rules (request n.call.nr n.call.args texts))) (list_any is_spent (session (before H s) w))
     go p q r (answered k j) = rw (q, k) r
-    go p q r (over k) = rw (q, k) (lets-go-finding (judging_by P.rules) n (Send x b a ∷ session (before H s) w) ∙ r)
+    go p q r (over k) = rw (q, k, append-nil (reads (Send x b a ∷ session (before H s) w))) r

@@ -9,10 +9,6 @@ use Rattle.mediation.proofs.Tasks.{same-name, event_at-last, listed-below, liste
 
 -- ---- two calls have different ids
 
--- numbers less than a turn apart differ modulo the turn
-mod-differ : (f r s : ℕ) → r < s → s < 2 ^ 64 → (f + r) % 2 ^ 64 ≡ (f + s) % 2 ^ 64 → ⊥
-mod-differ f r s h l e = omega arith
-
 -- the call's id counts from the first one
 Numbered : System → List Event → ℕ → Type 0
 Numbered S K c = (r : ℕ) × (r < calls K) × (id K c ≡ (S.firstid + r) % 2 ^ 64)
@@ -45,7 +41,7 @@ numbered S R = by-steps S R (λ K. (c : ℕ) → is_call K c ≡ true → Number
 new-differs : (S : System) (R : Rules) (K : List Event) (e : Event) (c : ℕ) → Row S R K e.who e.what → IsLegal S R K → length K < 2 ^ 64 → notifies e.what ≡ true
     → is_call K c ≡ true → id K c ≡ notify_id e.what → ⊥
 unfolding Numbered
-new-differs S R K e c r legal b n h q = grind (arith, new-id, numbered, mod-differ, calls-le-length)
+new-differs S R K e c r legal b n h q = grind (arith, new-id, numbered, calls-le-length)
 
 two-ids : (e : Event) (K : List Event) → ((c : ℕ) → notifies e.what ≡ true → is_call K c ≡ true → id K c ≡ notify_id e.what → ⊥) → CallIdsDiffer K → CallIdsDiffer (e ∷ K)
 two-ids e K new ih c d h g q = grind (arith, is_call-below (e ∷ K) c h, is_call-below (e ∷ K) d g, event_at-last, event_at-older)

@@ -26,7 +26,7 @@ pub use Rattle.hist_model.specs.Mediated.{is_busy, is_effect, is_known_error, is
 pub use Rattle.hist_model.specs.Mediated.{NeverBusy, OneSession, PlantIsGranted, PutIsInjected, ReadsOwn, ReceivesFor, returns, TakenByItsActor, takes, TimesKept, WaitedUntilChecked}
 pub use Rattle.hist_model.specs.Natives.{base_of, call_natively, changed, Changes, close_natively, copied_natively, Fails, Files, Gives, has_base, native_step, NativeStep, Writes}
 pub use Rattle.hist_model.specs.Orders.{InOrder, is_good_check, is_opening}
-pub use Rattle.hist_model.specs.ReportAudit.{checked_twice, finding, finding_of, is_gone, judged_as, Judging, judging_by, reads, session_step}
+pub use Rattle.hist_model.specs.ReportAudit.{checked_twice, finding, finding_of, is_gone, judged_as, judging_by, reads, session_step}
 unfoldable pub use Rattle.hist_model.specs.Requests.{base_dirfd, request}
 unfoldable pub use Rattle.hist_model.specs.Sessions.{deed, session}
 pub use Rattle.hist_model.specs.Sessions.{Acts, addfd_of, any_of, based_deed, checked_deed, checks, Decision, fetched_by, first_some, gives_up, Injects, is_letgo, joined, judged_deed, notif_of}

@@ -1,12 +1,12 @@
 -- Each effect is what the policy grants on the one copy of its session, whose call waited up to the second good check.
 use Rattle.mediation.proofs.Common.{[], Act, ActIsGranted, Actor, Acts, ActsAlone, AddfdPut, after_native, and_parts, any_of, ap, arith, base_dirfd, before, below_or_last, Bool, both_ways, bytes_eq}
 use Rattle.mediation.proofs.Common.{call_natively, cases_Bool, changed, Changes, Check, checks, close_natively, codes, copied, copied_natively, copy_of, Decision, Each, ends_with_check, entered}
-use Rattle.mediation.proofs.Common.{eqb-true, Err, ev, Event, Fails, FailsAlone, false, fetched, fetched_by, Figures, files, Files, files_after, filter, first_some, Gives, gives_up, has_base}
-use Rattle.mediation.proofs.Common.{if◌then◌else◌, inl, inr, InstallsAlone, is_effect, is_good_check, is_others_row, is_spent, is_until_checked, is_worker, IsLegal, IsMediated, judged}
-use Rattle.mediation.proofs.Common.{KeepsPrivileged, leb-true, length, List, listed, Name, name_eq-true, nat_eq, nat_le, native_step, NativeStep, None, Notif, number_entered, number_of, Ok}
-use Rattle.mediation.proofs.Common.{oldest_unfetched, Option, or_parts, pid_named, place_or, plan, Plant, PlantIsGranted, Plants, Policy, Progress, put_in, PutIsInjected, Read, reads_of, ReadsOwn}
-use Rattle.mediation.proofs.Common.{Recv, refl, Result, Rules, rules_of, Script, session, session_call, Some, spends, starts_with, suc, sym, System, system_of, task_name, times_spent, TimesKept}
-use Rattle.mediation.proofs.Common.{true, WaitedUntilChecked, waiting, What, Worker, Writes, ℕ, ◌%◌, ◌<◌, ◌==◌, ◌^◌, ◌∙◌, ◌∷◌, ◌≡◌, ◌≤◌, ◌⊎◌}
+use Rattle.mediation.proofs.Common.{eqb-true, Err, ev, Event, Fails, false, fetched, fetched_by, Figures, files, Files, files_after, filter, first_some, Gives, gives_up, has_base, if◌then◌else◌}
+use Rattle.mediation.proofs.Common.{inl, inr, is_effect, is_good_check, is_others_row, is_spent, is_until_checked, is_worker, IsLegal, IsMediated, judged, KeepsPrivileged, leb-true, length, List}
+use Rattle.mediation.proofs.Common.{listed, Name, name_eq-true, nat_eq, nat_le, native_step, NativeStep, None, Notif, number_entered, number_of, Ok, oldest_unfetched, Option, or_parts, pid_named}
+use Rattle.mediation.proofs.Common.{place_or, plan, Plant, PlantIsGranted, Plants, Policy, Progress, put_in, PutIsInjected, Read, reads_of, ReadsOwn, Recv, refl, Result, Rules, rules_of, Script}
+use Rattle.mediation.proofs.Common.{session, session_call, Some, spends, starts_with, suc, sym, System, system_of, task_name, times_spent, TimesKept, true, WaitedUntilChecked, waiting, What, Worker}
+use Rattle.mediation.proofs.Common.{Writes, ℕ, ◌%◌, ◌<◌, ◌==◌, ◌^◌, ◌∙◌, ◌∷◌, ◌≡◌, ◌≤◌, ◌⊎◌}
 use Rattle.hist_model.specs.Decisions.{cap_of}
 use Rattle.hist_model.specs.Effects.{attributed}
 use Rattle.hist_model.specs.Memory.{all_mapped, argument, group_named, is_number, last_call, mapped_byte, own_group, sysinfo_size}
@@ -197,17 +197,7 @@ reads-are-own S R = each S R ReadsOwn (λ K e legal room row w x l a who what.
     let j = in-hand K w (session_call K w) t.0 t.1 (hand S R K legal w) in
     (j.0, j.1, own-memory S R K w j.0 legal room j.1 t.2.mem t.3 t.1.no_end))
 
--- ---- an installation puts the request's file where it says, and nothing elsewhere; one that failed puts nothing
-
-pub installs-alone : (S : Script) (K : List Event) (e : Event) → InstallsAlone S K e
-unfolding files
-installs-alone S K e n m who what f j = rw (who, what)
-
-pub fails-alone : (S : Script) (K : List Event) (e : Event) → FailsAlone S K e
-unfolding files
-fails-alone S K e x what f j = rw what
-
--- ---- -- ---- a native call changes no device, no mount, and no attribute but the user's own
+-- ---- a native call changes no device, no mount, and no attribute but the user's own
 
 -- a step that keeps what is privileged of this tree
 abbrev Keeping : Tree → NativeStep → Type 0
@@ -215,8 +205,7 @@ Keeping T (Changes U) = KeepsPrivileged T U
 Keeping T _ = Unit {0}
 
 either : (T : Tree) (b : Bool) (x y : NativeStep) → Keeping T x → Keeping T y → Keeping T (if b then x else y)
-either T true x y p q = p
-either T false x y p q = q
+either T b x y p q = grind arith
 
 close-keeps : (T : Tree) (n : ℕ) (o : Option Obj) → Keeping T (close_natively n o)
 close-keeps T n o = grind arith

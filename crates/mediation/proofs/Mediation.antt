@@ -1,10 +1,10 @@
 -- Every legal history is mediated.
-use Rattle.mediation.proofs.Common.{actors, ActsAlone, Event, FailsAlone, InstallsAlone, IsLegal, length, List, Mediated, Policy, reads, rules_of, Script, system_of, ◌<◌, ◌^◌}
+use Rattle.mediation.proofs.Common.{actors, ActsAlone, Event, FailsAlone, files, InstallsAlone, IsLegal, length, List, Mediated, Policy, reads, rules_of, Script, system_of, ◌<◌, ◌^◌}
 use Rattle.mediation.proofs.Rows.{each}
 use Rattle.mediation.proofs.Calls.{answered_once, receives-are-for}
 use Rattle.mediation.proofs.Order.{ordered, in_order}
 use Rattle.mediation.proofs.Replies.{installs_own, resumes_own, returns_installed, taken_by_its_actor, names_own, lost_if_gone, has_cause, errors_known, never_busy, arrives, one_session}
-use Rattle.mediation.proofs.Effects.{times-kept, acts-are-granted, plants-are-granted, puts-are-injected, reads-are-own, installs-alone, fails-alone, acts-alone}
+use Rattle.mediation.proofs.Effects.{times-kept, acts-are-granted, plants-are-granted, puts-are-injected, reads-are-own, acts-alone}
 use Rattle.mediation.proofs.Audited.{audit-names}
 
 pub mediated : (P : Policy) (S : Script) (K : List Event) → IsLegal (system_of S) (rules_of P S.figures) K → length K < 2 ^ 64 → Mediated P S K
@@ -21,8 +21,8 @@ mediated P S K legal room =
       busy = never_busy T R K legal room;
       errors = errors_known T R K legal room;
       installs = installs_own T R K legal room;
-      installs_alone = each T R (InstallsAlone S) (λ K e l r row. installs-alone S K e) K legal room;
-      fails_alone = each T R (FailsAlone S) (λ K e l r row. fails-alone S K e) K legal room;
+      installs_alone = each T R (InstallsAlone S) (λ K e l r row n m who what f j. unfold files in rw (who, what)) K legal room;
+      fails_alone = each T R (FailsAlone S) (λ K e l r row x what f j. unfold files in rw what) K legal room;
       arrives = arrives T R K legal room;
       acts = acts-are-granted P S K legal room;
       plants = plants-are-granted P S K legal room;
