@@ -1,83 +1,53 @@
 -- Calls: their ids, the request count, one answer for each, and the events before a place.
-use Rattle.mediation.proofs.Common.{◌≡◌, inl, inr, ℕ, ◌+◌, ◌<◌, ◌≤◌, ◌%◌, ◌^◌, true, not, List, [], ◌∷◌, length, sym, ◌∙◌, arith, cases_Bool, and_parts, listed, caller, calls, id, is_call, notifies}
-use Rattle.mediation.proofs.Common.{notify_id, unlists, Rules, System, IsStep, IsLegal, Event, event_at-here, event_at-older, event_at-above, below_or_last, false, Option, refl, Ok, is_task}
-use Rattle.mediation.proofs.Common.{settled, settles, is_install, Actor, Task, What, Install, name_eq-true, zero, suc, Bool, ◌&&◌, Some, if◌then◌else◌, ◌==◌, eq-eqb, ev, fetched, fetches, recvs}
-use Rattle.mediation.proofs.Common.{count, recv_answer, oldest_unfetched, notif, count_below, empty_recvs, Recv, Notif, oldest-some, nat_le, before, None, ReceivesFor, IdsDiffer, answers_to}
-use Rattle.mediation.proofs.Common.{AnsweredOnce, CountIs, gets_nothing, le-leb, lt-leb, left_unfetched, oldest-none}
-use Rattle.mediation.proofs.Rows.{row-of, Row}
-use Rattle.mediation.proofs.Tasks.{listed-below, listed-here, listed-older, entering, waits-in}
+use Rattle.mediation.proofs.Common.{[], Actor, AnsweredOnce, answers_to, arith, before, below_or_last, Bool, caller, CallIdsDiffer, calls, count, count_below, CountIs, Each, empty_recvs, eq-eqb, ev}
+use Rattle.mediation.proofs.Common.{Event, event_at, event_at-above, event_at-here, event_at-older, false, fetched, fetches, id, IdsDiffer, if◌then◌else◌, inl, inr, is_call, is_install, is_task}
+use Rattle.mediation.proofs.Common.{IsLegal, le-leb, left_unfetched, length, List, listed, lt-leb, None, not, Notif, notif, notifies, notify_id, Ok, oldest, oldest-some, oldest_unfetched, Option}
+use Rattle.mediation.proofs.Common.{ReceivesFor, Recv, recv_answer, recvs, refl, Rules, settled, settles, Some, suc, sym, System, true, What, zero, ℕ, ◌%◌, ◌&&◌, ◌+◌, ◌<◌, ◌^◌, ◌||◌, ◌∙◌, ◌∷◌, ◌≡◌}
+use Rattle.mediation.proofs.Common.{◌≤◌}
+use Rattle.mediation.proofs.Rows.{Row, by-steps, by-few-steps}
+use Rattle.mediation.proofs.Tasks.{same-name, event_at-last, listed-below, listed-older, waits-here}
 
--- ---- two listed calls have different ids
-
--- numbers less than a turn apart differ modulo the turn
-mod-differ : (f r s : ℕ) → r < s → s < 2 ^ 64 → (f + r) % 2 ^ 64 ≡ (f + s) % 2 ^ 64 → ⊥
-mod-differ f r s h l e = omega arith
+-- ---- two calls have different ids
 
 -- the call's id counts from the first one
-pub Numbered : System → List Event → ℕ → Type 0
+Numbered : System → List Event → ℕ → Type 0
 Numbered S K c = (r : ℕ) × (r < calls K) × (id K c ≡ (S.firstid + r) % 2 ^ 64)
 
 calls-le-length : (K : List Event) → calls K ≤ length K
 unfolding calls
 calls-le-length [] = omega arith
-calls-le-length (e ∷ K) = let ih = calls-le-length K in elim (cases_Bool (notifies e.what)) [ inl q ↦ rw q (omega arith) | inr q ↦ rw q (omega arith) ]
-
-calls-more : (e : Event) (K : List Event) → calls K ≤ calls (e ∷ K)
-unfolding calls
-calls-more e K = omega arith
-
-calls-here : (e : Event) (K : List Event) → notifies e.what ≡ true → calls K < calls (e ∷ K)
-unfolding calls
-calls-here e K h = rw h (omega arith)
+calls-le-length (e ∷ K) = let ih = calls-le-length K in grind arith
 
 pub listed-is_call : (K : List Event) (c : ℕ) → listed K c ≡ true → is_call K c ≡ true
-listed-is_call [] c h = absurd (omega (arith, listed-below [] c h))
-listed-is_call (e ∷ K) c h =
-    elim (below_or_last c (length K) (listed-below (e ∷ K) c h)) [
-      | inl l ↦ rw event_at-older (listed-is_call K c (and_parts (listed K c) (not (unlists e (caller K c))) (rw listed-older at h)).0)
-      | inr q ↦ rw (q, event_at-here) (rw listed-here at (rw q at h))
-    ]
+unfolding listed event_at
+listed-is_call [] c h = cc
+listed-is_call (e ∷ K) c h = let ih = listed-is_call K c in grind arith
 
 pub is_call-below : (K : List Event) (c : ℕ) → is_call K c ≡ true → c < length K
 is_call-below K c h = grind (arith, event_at-above K c)
 
-numbered-step : (S : System) (R : Rules) (K : List Event) (e : Event) → IsStep S R K e → ((c : ℕ) → is_call K c ≡ true → Numbered S K c) → (c : ℕ) → is_call (e ∷ K) c ≡ true → Numbered S (e ∷ K) c
+new-id : (S : System) (R : Rules) (K : List Event) (a : Actor) (w : What) → Row S R K a w → notifies w ≡ true → notify_id w ≡ (S.firstid + calls K) % 2 ^ 64
+new-id S R K a w r h = grind arith
+
+numbered : (S : System) (R : Rules) (K : List Event) → IsLegal S R K → (c : ℕ) → is_call K c ≡ true → Numbered S K c
+unfolding Numbered calls
+numbered S R = by-steps S R (λ K. (c : ℕ) → is_call K c ≡ true → Numbered S K c) (λ c h. absurd (omega (arith, is_call-below [] c h)))
+    (λ K e legal r ih c h. elim (below_or_last c (length K) (is_call-below (e ∷ K) c h)) [
+      | inl l ↦ let t = ih c (rw event_at-older at h) in (t.0, omega (arith, t.1), rw event_at-older t.2)
+      | inr q ↦ let n : notifies e.what ≡ true = rw event_at-here at (rw q at h) in (calls K, rw n (omega arith), rw (q, event_at-here) (new-id S R K e.who e.what r n))
+    ])
+
+-- a new call's id is no older call's
+new-differs : (S : System) (R : Rules) (K : List Event) (e : Event) (c : ℕ) → Row S R K e.who e.what → IsLegal S R K → length K < 2 ^ 64 → notifies e.what ≡ true
+    → is_call K c ≡ true → id K c ≡ notify_id e.what → ⊥
 unfolding Numbered
-numbered-step S R K e r ih c h =
-    elim (below_or_last c (length K) (is_call-below (e ∷ K) c h)) [
-      | inl l ↦ let t = ih c (rw event_at-older at h) in let m = calls-more e K in (t.0, omega arith, rw event_at-older t.2)
-      | inr q ↦
-          let n : notifies e.what ≡ true = rw event_at-here at (rw q at h) in
-          let t = entering S R K e.who e.what (row-of S R K e r) n in
-          (calls K, calls-here e K n, rw (q, event_at-here) t.id_is)
-    ]
+new-differs S R K e c r legal b n h q = grind (arith, new-id, numbered, calls-le-length)
 
-pub numbered : (S : System) (R : Rules) (K : List Event) → IsLegal S R K → (c : ℕ) → is_call K c ≡ true → Numbered S K c
-numbered S R [] legal = λ c h. absurd (omega (arith, is_call-below [] c h))
-numbered S R (e ∷ K) legal = numbered-step S R K e legal.0 (numbered S R K legal.1)
+two-ids : (e : Event) (K : List Event) → ((c : ℕ) → notifies e.what ≡ true → is_call K c ≡ true → id K c ≡ notify_id e.what → ⊥) → CallIdsDiffer K → CallIdsDiffer (e ∷ K)
+two-ids e K new ih c d h g q = grind (arith, is_call-below (e ∷ K) c h, is_call-below (e ∷ K) d g, event_at-last, event_at-older)
 
--- a new call's id is no listed call's
-new-id : (S : System) (R : Rules) (K : List Event) (e : Event) (c : ℕ) → IsStep S R K e → IsLegal S R K → length K < 2 ^ 64 → notifies e.what ≡ true → is_call K c ≡ true → id K c ≡ notify_id e.what → ⊥
-unfolding Numbered
-new-id S R K e c r legal b n h q =
-    let t = entering S R K e.who e.what (row-of S R K e r) n in
-    let o = numbered S R K legal c h in
-    mod-differ S.firstid o.0 (calls K) o.1 (omega (arith, calls-le-length K)) (sym o.2 ∙ (q ∙ t.id_is))
-
--- two calls have different ids
-pub call_ids : (S : System) (R : Rules) (K : List Event) → IsLegal S R K → length K < 2 ^ 64 → (c d : ℕ) → is_call K c ≡ true → is_call K d ≡ true → id K c ≡ id K d → c ≡ d
-call_ids S R [] legal b = λ c d h. absurd (omega (arith, is_call-below [] c h))
-call_ids S R (e ∷ K) legal b = λ c d h g q.
-    elim (below_or_last c (length K) (is_call-below (e ∷ K) c h)) [
-      | inl l ↦ elim (below_or_last d (length K) (is_call-below (e ∷ K) d g)) [
-        | inl m ↦ call_ids S R K legal.1 (omega arith) c d (rw event_at-older at h) (rw event_at-older at g) (rw (event_at-older e K c l, event_at-older e K d m) at q)
-        | inr m ↦ absurd (new-id S R K e c legal.0 legal.1 (omega arith) (rw (m, event_at-here) at g) (rw event_at-older at h) (rw (event_at-older e K c l, m, event_at-here) at q))
-      ]
-      | inr l ↦ elim (below_or_last d (length K) (is_call-below (e ∷ K) d g)) [
-        | inl m ↦ absurd (new-id S R K e d legal.0 legal.1 (omega arith) (rw (l, event_at-here) at h) (rw event_at-older at g) (sym (rw (event_at-older e K d m, l, event_at-here) at q)))
-        | inr m ↦ l ∙ sym m
-      ]
-    ]
+pub call_ids : (S : System) (R : Rules) (K : List Event) → IsLegal S R K → length K < 2 ^ 64 → CallIdsDiffer K
+call_ids S R = by-few-steps S R CallIdsDiffer (λ c d h. absurd (omega (arith, is_call-below [] c h))) (λ K e legal b r ih. two-ids e K (λ c. new-differs S R K e c r legal b) ih)
 
 pub ids_differ : (S : System) (R : Rules) (K : List Event) → IsLegal S R K → length K < 2 ^ 64 → IdsDiffer K
 ids_differ S R K legal b c d h g q = call_ids S R K legal b c d (listed-is_call K c h) (listed-is_call K d g) q
@@ -85,41 +55,32 @@ ids_differ S R K legal b c d h g q = call_ids S R K legal b c d (listed-is_call 
 -- ---- a call is answered at most once
 
 -- an install belongs to the call in which its task waits, which is not settled
-pub installs-open : (S : System) (R : Rules) (K : List Event) (a : Actor) (w : What) (c : ℕ) → IsLegal S R K → Row S R K a w → is_install w ≡ true → is_task a (caller K c) ≡ true → listed K c ≡ true → settled K c ≡ false
-installs-open S R K (Task n) (Install ans) c legal r h g l =
-    let m = name_eq-true n (caller K c) g in
-    let s = waits-in S R K n c r.1.0 legal r.1.1 l (sym m) in
-    rw s at r.1.2
-installs-open S R K a w c legal r h g l = grind arith
+pub installs-open : (S : System) (R : Rules) (K : List Event) (a : Actor) (w : What) (c : ℕ) → IsLegal S R K → Row S R K a w → is_install w ≡ true
+    → is_task a (caller K c) ≡ true → listed K c ≡ true → settled K c ≡ false
+installs-open S R K a w c legal r h g l = grind (arith, same-name, waits-here)
 
 pub settles-once : (S : System) (R : Rules) (K : List Event) (e : Event) (c : ℕ) → IsLegal S R K → Row S R K e.who e.what → settles K e c ≡ true → settled K c ≡ false
 settles-once S R K e c legal r h = grind (arith, installs-open)
 
-once-kind : (S : System) (R : Rules) (K : List Event) (e : Event) → IsLegal S R K → Row S R K e.who e.what → (c : ℕ)
-    → (answers_to K c ≤ 1) × (settled K c ≡ false → answers_to K c ≡ 0)
-    → (answers_to (e ∷ K) c ≤ 1) × (settled (e ∷ K) c ≡ false → answers_to (e ∷ K) c ≡ 0)
-once-kind S R K e legal r c ih =
-    elim (cases_Bool (settles K e c)) [
-      | inl q ↦
-          let z = ih.1 (settles-once S R K e c legal r q) in
-          unfold answers_to settled in rw q (omega arith, λ x. cc)
-      | inr q ↦ unfold answers_to settled in rw q (omega (arith, ih.0), λ x. omega (arith, ih.1 x))
-    ]
-
-both : (S : System) (R : Rules) (K : List Event) → IsLegal S R K → (c : ℕ) → (answers_to K c ≤ 1) × (settled K c ≡ false → answers_to K c ≡ 0)
-unfolding answers_to
-both S R [] legal = λ c. (omega arith, λ _. refl)
-both S R (e ∷ K) legal = λ c. once-kind S R K e legal.1 (row-of S R K e legal.0) c (both S R K legal.1 c)
+-- once more, where it was not before
+pub once-more : (n : ℕ) (now before : Bool) → (now ≡ true → before ≡ false) → (n ≤ 1) × (before ≡ false → n ≡ 0) → (n + (if now then 1 else 0) ≤ 1) × ((now || before) ≡ false → n + (if now then 1 else 0) ≡ 0)
+once-more n now before f ih = grind arith
 
 pub answered_once : (S : System) (R : Rules) (K : List Event) → IsLegal S R K → AnsweredOnce K
-answered_once S R K legal = λ c. (both S R K legal c).0
+unfolding answers_to settled
+answered_once S R K legal c =
+    let Once = λ (L : List Event). (answers_to L c ≤ 1) × (settled L c ≡ false → answers_to L c ≡ 0) in
+    (by-steps S R Once (omega arith, λ _. refl) (λ L e l r. once-more (answers_to L c) (settles L e c) (settled L c) (settles-once S R L e c l r)) K legal).0
 
 -- ---- what the request count is
 
-count_below-same : (p q : ℕ → Bool) (n : ℕ) → ((c : ℕ) → c < n → p c ≡ q c) → count_below p n ≡ count_below q n
+count_below-le : (p q : ℕ → Bool) (n : ℕ) → ((c : ℕ) → c < n → p c ≡ true → q c ≡ true) → count_below p n ≤ count_below q n
 unfolding count_below
-count_below-same p q zero h = refl
-count_below-same p q (suc n) h = rw (h n (omega arith), count_below-same p q n (λ c l. h c (omega arith)))
+count_below-le p q zero h = omega arith
+count_below-le p q (suc n) h = grind (arith, count_below-le p q n (λ c l. h c (omega arith)))
+
+count_below-same : (p q : ℕ → Bool) (n : ℕ) → ((c : ℕ) → c < n → p c ≡ q c) → count_below p n ≡ count_below q n
+count_below-same p q n h = omega (arith, count_below-le p q n (λ c l g. sym (h c l) ∙ g), count_below-le q p n (λ c l g. h c l ∙ g))
 
 -- one place less
 count_below-less : (p q : ℕ → Bool) (n d : ℕ) → d < n → p d ≡ true → q d ≡ false → ((c : ℕ) → c < n → (c ≡ d → ⊥) → p c ≡ q c) → count_below p n ≡ suc (count_below q n)
@@ -140,32 +101,23 @@ unfolding count_below
 count_below-parts p q r zero h = omega arith
 count_below-parts p q r (suc n) h = let ih = count_below-parts p q r n h in let x = h n in omega arith
 
+-- nothing passes
+count_below-none : (p : ℕ → Bool) (n : ℕ) → oldest p n ≡ None → count_below p n ≡ 0
+unfolding count_below oldest
+count_below-none p zero h = refl
+count_below-none p (suc n) h = let ih = count_below-none p n in grind arith
+
 abbrev unfetched : List Event → ℕ → Bool
 unfetched K c = is_call K c && not (fetched K c)
 
 pub fetched-below : (K : List Event) (c : ℕ) → fetched K c ≡ true → c < length K
 unfolding fetched
 fetched-below [] c h = cc
-fetched-below (e ∷ K) c h = elim (cases_Bool (fetched K c)) [
-  | inl q ↦ omega (arith, fetched-below K c q)
-  | inr q ↦ omega (arith, listed-below K c (grind arith))
-]
+fetched-below (e ∷ K) c h = let ih = fetched-below K c in grind (arith, listed-below)
 
 pub fetched-new : (e : Event) (K : List Event) → fetched (e ∷ K) (length K) ≡ false
 unfolding fetched
 fetched-new e K = grind (arith, fetched-below, listed-below)
-
-pub fetched-same : (e : Event) (K : List Event) (c : ℕ) → (fetches e.what (id K c) && listed K c) ≡ false → fetched (e ∷ K) c ≡ fetched K c
-unfolding fetched
-fetched-same e K c h = rw h
-
-pub fetched-more : (e : Event) (K : List Event) (c : ℕ) → fetched K c ≡ true → fetched (e ∷ K) c ≡ true
-unfolding fetched
-fetched-more e K c h = grind arith
-
-pub fetched-now : (e : Event) (K : List Event) (c : ℕ) → fetches e.what (id K c) ≡ true → listed K c ≡ true → fetched (e ∷ K) c ≡ true
-unfolding fetched
-fetched-now e K c h l = grind arith
 
 -- the calls that are not fetched, below the newest event
 unfetched-step : (e : Event) (K : List Event) → count_below (unfetched (e ∷ K)) (length (e ∷ K)) ≡ count_below (unfetched (e ∷ K)) (length K) + (if notifies e.what then 1 else 0)
@@ -174,48 +126,59 @@ unfetched-step e K = rw (fetched-new e K, event_at-here e K) (grind arith)
 
 fetch-one : (S : System) (R : Rules) (K : List Event) (e : Event) (d : ℕ) → IsLegal S R K → length K < 2 ^ 64 → e.what ≡ Recv (Ok (notif K d)) → listed K d ≡ true → fetched K d ≡ false
     → count_below (unfetched K) (length K) ≡ suc (count_below (unfetched (e ∷ K)) (length K))
+unfolding fetched
 fetch-one S R K e d legal b q l f =
-    count_below-less (unfetched K) (unfetched (e ∷ K)) (length K) d (listed-below K d l) here gone others
+    let c = listed-is_call K d l in
+    count_below-less (unfetched K) (unfetched (e ∷ K)) (length K) d (listed-below K d l) (grind arith) (rw (q, eq-eqb (id K d) (id K d) refl, l) (grind arith)) others
   where
-    here : unfetched K d ≡ true
-    here = let c = listed-is_call K d l in grind arith
-
-    same_id : (c : ℕ) → fetches e.what (id K c) ≡ (id K d == id K c)
-    same_id c = rw q
-
-    gone : unfetched (e ∷ K) d ≡ false
-    gone = let n = fetched-now e K d (rw (same_id d) (eq-eqb (id K d) (id K d) refl)) l in grind arith
-
     others : (c : ℕ) → c < length K → (c ≡ d → ⊥) → unfetched K c ≡ unfetched (e ∷ K) c
-    others c k n = grind (arith, event_at-older, fetched-same, ids_differ)
+    others c k n = grind (arith, event_at-older, ids_differ)
 
 pub fetching : (K : List Event) (n : Notif) (o : Option ℕ) → oldest_unfetched K ≡ o → Ok n ≡ recv_answer K o → (d : ℕ) × (n ≡ notif K d) × (listed K d ≡ true) × (fetched K d ≡ false) × (o ≡ Some d)
 unfolding oldest_unfetched
 fetching K n o q h = grind (arith, oldest-some)
 
-pub record Counted (K : List Event) : Type 0 where
+same-unfetched : (e : Event) (K : List Event) → ((c : ℕ) → fetches e.what (id K c) ≡ false) → count_below (unfetched (e ∷ K)) (length K) ≡ count_below (unfetched K) (length K)
+unfolding fetched
+same-unfetched e K h = count_below-same (unfetched (e ∷ K)) (unfetched K) (length K) (λ c l. rw (event_at-older e K c l, h c))
+
+record Counted (K : List Event) : Type 0 where
   pub room : recvs K ≤ calls K
   pub sum : count K + empty_recvs K ≡ count_below (unfetched K) (length K)
 
-same-unfetched : (e : Event) (K : List Event) → ((c : ℕ) → fetches e.what (id K c) ≡ false) → count_below (unfetched (e ∷ K)) (length K) ≡ count_below (unfetched K) (length K)
-same-unfetched e K h = count_below-same (unfetched (e ∷ K)) (unfetched K) (length K) (λ c l. rw (event_at-older e K c l, fetched-same e K c (rw (h c))))
-
-counted-kind : (S : System) (R : Rules) (K : List Event) (a : Actor) (w : What) → Row S R K a w → IsLegal S R K → length K < 2 ^ 64 → Counted K → Counted (ev a w ∷ K)
+counted-step : (S : System) (R : Rules) (K : List Event) (a : Actor) (w : What) → IsLegal S R K → length K < 2 ^ 64 → Row S R K a w → Counted K → Counted (ev a w ∷ K)
 unfolding calls recvs empty_recvs
-counted-kind S R K a w r legal b ih = grind (arith, fetching, fetch-one, unfetched-step, same-unfetched)
+counted-step S R K a w legal b r ih = grind (arith, fetching, fetch-one, unfetched-step, same-unfetched)
 
-pub counted : (S : System) (R : Rules) (K : List Event) → IsLegal S R K → length K < 2 ^ 64 → Counted K
+counted : (S : System) (R : Rules) (K : List Event) → IsLegal S R K → length K < 2 ^ 64 → Counted K
 unfolding calls recvs empty_recvs count_below
-counted S R [] legal b = record { room = omega arith; sum = refl }
-counted S R (e ∷ K) legal b = counted-kind S R K e.who e.what (row-of S R K e legal.0) legal.1 (omega arith) (counted S R K legal.1 (omega arith))
+counted S R = by-few-steps S R Counted (record { room = omega arith; sum = refl }) (λ K e. counted-step S R K e.who e.what)
+
+-- the call left the list unfetched
+abbrev left : List Event → ℕ → Bool
+left K c = is_call K c && (not (listed K c) && not (fetched K c))
 
 pub count_is : (S : System) (R : Rules) (K : List Event) → IsLegal S R K → length K < 2 ^ 64 → CountIs K
-count_is S R K legal b =
-    let c = counted S R K legal b in
-    c.sum ∙ count_below-parts (unfetched K) (λ c. listed K c && not (fetched K c)) (λ c. is_call K c && (not (listed K c) && not (fetched K c))) (length K) parts
-  where
-    parts : (c : ℕ) → (if unfetched K c then 1 else 0) ≡ (if listed K c && not (fetched K c) then 1 else 0) + (if is_call K c && (not (listed K c) && not (fetched K c)) then 1 else 0)
-    parts c = grind (arith, listed-is_call)
+count_is S R K legal b = (counted S R K legal b).sum ∙ count_below-parts (unfetched K) (λ c. listed K c && not (fetched K c)) (left K) (length K) (λ c. grind (arith, listed-is_call))
+
+-- ---- the receives that found nothing are for calls that left the list unfetched
+
+left-later : (e : Event) (K : List Event) (c : ℕ) → c < length K → left K c ≡ true → left (e ∷ K) c ≡ true
+unfolding fetched
+left-later e K c l h = grind (arith, event_at-older, listed-older)
+
+left-more : (e : Event) (K : List Event) → left_unfetched K ≤ left_unfetched (e ∷ K)
+unfolding count_below
+left-more e K = omega (arith, count_below-le (left K) (left (e ∷ K)) (length K) (left-later e K))
+
+receives-step : (S : System) (R : Rules) (K : List Event) (e : Event) → IsLegal S R K → length K < 2 ^ 64 → Row S R K e.who e.what → empty_recvs K ≤ left_unfetched K → ReceivesFor K e
+unfolding empty_recvs oldest_unfetched
+receives-step S R K e legal room r ih = grind (arith, left-more, count_below-none, count_is)
+
+pub receives-are-for : (S : System) (R : Rules) (K : List Event) → IsLegal S R K → length K < 2 ^ 64 → Each ReceivesFor K
+unfolding empty_recvs count_below
+receives-are-for S R K legal room =
+    (by-few-steps S R (λ L. Each ReceivesFor L × (empty_recvs L ≤ left_unfetched L)) (tt, omega arith) (λ L e l b r ih. let s = receives-step S R L e l b r ih.1 in ((s, ih.0), s)) K legal room).0
 
 -- ---- the events before a place
 
@@ -233,10 +196,10 @@ before-older e K c h = let l : c < length (e ∷ K) = omega arith in rw (lt-leb 
 pub before-newest : (e : Event) (K : List Event) → before (e ∷ K) (length K) ≡ K
 before-newest e K = rw (before-older e K (length K) (omega arith)) (before-all K (length K) (omega arith))
 
-pub length-before : (K : List Event) (c : ℕ) → length (before K c) ≤ length K
+pub length-before : (K : List Event) (p : ℕ) → (length (before K p) ≤ length K) × (p ≤ length K → length (before K p) ≡ p)
 unfolding before
-length-before [] c = omega arith
-length-before (e ∷ K) c = grind (arith, length-before K c)
+length-before [] p = (omega arith, λ h. omega arith)
+length-before (e ∷ K) p = let ih = length-before K p in grind arith
 
 -- what stands before a place of a legal history is legal
 pub legal_before : (S : System) (R : Rules) (K : List Event) (c : ℕ) → IsLegal S R K → IsLegal S R (before K c)
@@ -245,64 +208,6 @@ legal_before S R [] c legal = tt
 legal_before S R (e ∷ K) c legal = grind (arith, legal_before S R K c legal.1)
 
 pub fetched-before : (K : List Event) (p c : ℕ) → fetched (before K p) c ≡ true → fetched K c ≡ true
-unfolding before
+unfolding before fetched
 fetched-before [] p c h = h
-fetched-before (e ∷ K) p c h = elim (cases_Bool (nat_le (length (e ∷ K)) p)) [
-  | inl q ↦ rw q at h
-  | inr q ↦ fetched-more e K c (fetched-before K p c (rw q at h))
-]
-
-pub length-to : (K : List Event) (p : ℕ) → p ≤ length K → length (before K p) ≡ p
-unfolding before
-length-to [] p h = omega arith
-length-to (e ∷ K) p h = let ih = length-to K p in grind arith
-
--- ---- the receives that found nothing are for calls that left the list unfetched
-
-count_below-le : (p q : ℕ → Bool) (n : ℕ) → ((c : ℕ) → c < n → p c ≡ true → q c ≡ true) → count_below p n ≤ count_below q n
-unfolding count_below
-count_below-le p q zero h = omega arith
-count_below-le p q (suc n) h = grind (arith, count_below-le p q n (λ c l. h c (omega arith)))
-
-count_below-none : (p : ℕ → Bool) (n : ℕ) → ((c : ℕ) → c < n → p c ≡ false) → count_below p n ≡ 0
-unfolding count_below
-count_below-none p zero h = refl
-count_below-none p (suc n) h = let ih = count_below-none p n (λ c l. h c (omega arith)) in let s = h n (omega arith) in rw s (omega arith)
-
-count_below-suc : (p : ℕ → Bool) (n : ℕ) → count_below p n ≤ count_below p (suc n)
-unfolding count_below
-count_below-suc p n = omega arith
-
--- the call left the list unfetched
-abbrev left : List Event → ℕ → Bool
-left K c = is_call K c && (not (listed K c) && not (fetched K c))
-
-left-later : (e : Event) (K : List Event) (c : ℕ) → c < length K → left K c ≡ true → left (e ∷ K) c ≡ true
-unfolding fetched
-left-later e K c l h = grind (arith, event_at-older, listed-older)
-
-left-more : (e : Event) (K : List Event) → left_unfetched K ≤ left_unfetched (e ∷ K)
-left-more e K =
-    let x = count_below-le (left K) (left (e ∷ K)) (length K) (λ c l h. left-later e K c l h) in
-    let y = count_below-suc (left (e ∷ K)) (length K) in
-    omega arith
-
-none-listed : (K : List Event) → oldest_unfetched K ≡ None → count_below (λ c. listed K c && not (fetched K c)) (length K) ≡ 0
-unfolding oldest_unfetched
-none-listed K q = count_below-none (λ c. listed K c && not (fetched K c)) (length K) (λ c l. oldest-none (λ c. listed K c && not (fetched K c)) (length K) c q l)
-
-empty-more : (e : Event) (K : List Event) → gets_nothing e.what ≡ true → empty_recvs (e ∷ K) ≡ empty_recvs K + 1
-unfolding empty_recvs
-empty-more e K h = rw h
-
-empty-same : (e : Event) (K : List Event) → gets_nothing e.what ≡ false → empty_recvs (e ∷ K) ≡ empty_recvs K
-unfolding empty_recvs
-empty-same e K h = rw h (omega arith)
-
-pub receives-step : (S : System) (R : Rules) (K : List Event) (e : Event) → IsLegal S R K → length K < 2 ^ 64 → IsStep S R K e → empty_recvs K ≤ left_unfetched K → ReceivesFor K e
-receives-step S R K e legal room r ih = grind (arith, left-more, row-of, empty-more, empty-same, none-listed, count_is)
-
-pub receives-are-for : (S : System) (R : Rules) (K : List Event) → IsLegal S R K → length K < 2 ^ 64 → empty_recvs K ≤ left_unfetched K
-unfolding empty_recvs count_below
-receives-are-for S R [] legal room = omega arith
-receives-are-for S R (e ∷ K) legal room = receives-step S R K e legal.1 (omega arith) legal.0 (receives-are-for S R K legal.1 (omega arith))
+fetched-before (e ∷ K) p c h = let ih = fetched-before K p c in grind arith

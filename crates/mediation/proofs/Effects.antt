@@ -1,185 +1,153 @@
 -- Each effect is what the policy grants on the one copy of its session, whose call waited up to the second good check.
-use Rattle.mediation.proofs.Common.{◌≡◌, ◌⊎◌, inl, inr, ℕ, ◌<◌, ◌≤◌, ◌^◌, true, false, ◌&&◌, List, [], ◌∷◌, length, Some, None, refl, ◌∙◌, arith, nat_le, Ok, cases_Bool, and_parts, or_parts}
-use Rattle.mediation.proofs.Common.{leb-true, both_ways, ev, before, is_worker, listed, fetched, waiting, Rules, session, any_of, gives_up, first_some, put_in, number_of, checks, System, IsStep}
-use Rattle.mediation.proofs.Common.{IsLegal, session_call, oldest_unfetched, InOrder, is_good_check, Event, Actor, What, Recv, Check, below_or_last, ◌+◌, if◌then◌else◌, ◌==◌, Result, Err, eqb-true}
-use Rattle.mediation.proofs.Common.{Acts, Plants, reads_of, times_spent, is_spent, Worker, Act, Plant, Cap, Request, Notif, Option, ap, Decision, ActD, PlantD, ReadD, Put, system_of, rules_of}
-use Rattle.mediation.proofs.Common.{copied, ActIsGranted, PlantIsGranted, PutIsInjected, ReadsOwn, AddfdPut, Read, Policy, Figures, Script, files, InstallsAlone, FailsAlone, Bool, codes, Name}
-use Rattle.mediation.proofs.Common.{task_name, plan, place_or, Files, NativeStep, files_after, after_native, ActsAlone, Spawn, Native, Install, OpenBase, LetGo, name_eq-true, uses_copy}
-use Rattle.mediation.proofs.Common.{WaitedUntilChecked, is_until_checked, IsMediated, TimesKept, KeepsPrivileged, is_others_row, is_effect, spends, number_entered, entered, pid_named, cap_of}
-use Rattle.mediation.proofs.Common.{Progress, copy_of, judged, filter, nat_eq, bytes_eq, starts_with, Tree, attr, with_attr, is_attr, attr_put, attr_replaced, are_attr_flags, Place, Follow, reaches}
-use Rattle.mediation.proofs.Common.{perform, made, attributed, base_dirfd, is_number, argument, last_call, group_named, own_group, all_mapped, mapped_byte, sysinfo_size, root, Fails, Gives, Changes}
-use Rattle.mediation.proofs.Common.{Writes, native_step, call_natively, copied_natively, set_natively, changed, is_refused, close_natively, has_base, Obj, Fail, SetAttr, AttrRow}
-use Rattle.std.specs.Prelude.{◌%◌, ◌^◌}
-use Rattle.mediation.proofs.Calls.{before-all, before-older, length-before, legal_before, fetched-before, is_call-below, fetching}
-use Rattle.mediation.proofs.Rows.{WorkerRow, Row, row-of}
-use Rattle.mediation.proofs.Tasks.{listed-older}
-use Rattle.mediation.proofs.Hands.{InSession, session-more, started, by-session, in-hand-of, FetchKept, WorkKept, StillKept, hand, hand-notif, in-hand}
-use Rattle.mediation.proofs.Handles.{check-listed, listed-was, own-memory, base-is}
-use Rattle.mediation.proofs.Order.{is-own, is_put, ordered, used-two}
-use Rattle.mediation.proofs.Phases.{clean-waiting, hand-fetcher, fetcher-fetched, at-call}
-use Rattle.mediation.proofs.Deeds.{deed-is, AtWork, HasOpened, HasCopied}
+use Rattle.mediation.proofs.Common.{[], Act, ActIsGranted, Actor, Acts, ActsAlone, AddfdPut, after_native, and_parts, any_of, ap, arith, base_dirfd, before, below_or_last, Bool, both_ways, bytes_eq}
+use Rattle.mediation.proofs.Common.{call_natively, cases_Bool, changed, Changes, Check, checks, close_natively, codes, copied, copied_natively, copy_of, Decision, Each, ends_with_check, entered}
+use Rattle.mediation.proofs.Common.{eqb-true, Err, ev, Event, Fails, false, fetched, fetched_by, Figures, files, Files, files_after, filter, first_some, Gives, gives_up, has_base, if◌then◌else◌}
+use Rattle.mediation.proofs.Common.{inl, inr, is_effect, is_good_check, is_others_row, is_spent, is_until_checked, is_worker, IsLegal, IsMediated, judged, KeepsPrivileged, leb-true, length, List}
+use Rattle.mediation.proofs.Common.{listed, Name, name_eq-true, nat_eq, nat_le, native_step, NativeStep, None, Notif, number_entered, number_of, Ok, oldest_unfetched, Option, or_parts, pid_named}
+use Rattle.mediation.proofs.Common.{place_or, plan, Plant, PlantIsGranted, Plants, Policy, Progress, put_in, PutIsInjected, Read, reads_of, ReadsOwn, Recv, refl, Result, Rules, rules_of, Script}
+use Rattle.mediation.proofs.Common.{session, session_call, Some, spends, starts_with, suc, sym, System, system_of, task_name, times_spent, TimesKept, true, WaitedUntilChecked, waiting, What, Worker}
+use Rattle.mediation.proofs.Common.{Writes, ℕ, ◌%◌, ◌<◌, ◌==◌, ◌^◌, ◌∙◌, ◌∷◌, ◌≡◌, ◌≤◌, ◌⊎◌}
+use Rattle.hist_model.specs.Decisions.{cap_of}
+use Rattle.hist_model.specs.Effects.{attributed}
+use Rattle.hist_model.specs.Memory.{all_mapped, argument, group_named, is_number, last_call, mapped_byte, own_group, sysinfo_size}
+use Rattle.hist_model.specs.Paths.{Place}
+use Rattle.hist_model.specs.Trees.{attr_replaced, is_attr, Tree, with_attr}
+use Rattle.hist_model.specs.declared.policy.Cap.{Cap}
+use Rattle.hist_model.specs.declared.request.Obj.{Obj}
+use Rattle.hist_model.specs.declared.tree.AttrRow.{AttrRow}
+use Rattle.mediation.proofs.Rows.{AtWork, HasOpened, HasCopied, WorkerRow, Row, row-of, by-steps, each}
+use Rattle.mediation.proofs.Tasks.{listed-older, listed-was}
+use Rattle.mediation.proofs.Calls.{is_call-below, fetching, before-all, before-older, length-before, legal_before, fetched-before}
+use Rattle.mediation.proofs.Hands.{worker-row, moved, session-grows, InSession, works, at-work, works-keep, in-hand, hand, in-hand-of, FetchKept, WorkKept, StillKept, by-session}
+use Rattle.mediation.proofs.Order.{is-own, put-fixed, goods, used-two, ordered}
+use Rattle.mediation.proofs.Handles.{check-listed, own-memory, base-is}
+use Rattle.mediation.proofs.Phases.{fetcher-fetched, hand-fetcher, waits-now}
 
 -- ---- a session's call waits up to the second good check
 
-no-put : (a : What) → is_put a ≡ false → put_in a ≡ None
-no-put a h = grind arith
-
-put-uses : (a : What) → is_put a ≡ true → (uses_copy a ≡ true) × (is_good_check a ≡ false)
-put-uses a h = grind arith
-
-number-more : (a : What) (own : List What) → number_of is_good_check own ≤ number_of is_good_check (a ∷ own)
-number-more a own = elim (cases_Bool (is_good_check a)) [ inl q ↦ rw q (omega arith) | inr q ↦ rw q (omega arith) ]
-
--- before the second good check nothing is asked for
-put-late : (own : List What) → InOrder own → number_of is_good_check own ≤ 1 → first_some put_in own ≡ None
-put-late [] o h = refl
-put-late (a ∷ own) o h = grind (arith, is_put, put-uses, no-put, number-more, put-late own o.3 (omega (arith, number-more a own)))
-
-good-checks : (a : What) → is_good_check a ≡ true → checks a ≡ true
-good-checks a h = grind arith
-
-good-least : (own : List What) → number_of is_good_check own ≤ number_of checks own
-good-least [] = omega arith
-good-least (a ∷ own) = grind (arith, good-checks, good-least own)
-
-few-good : (own : List What) → number_of checks own ≤ 2 → number_of is_good_check own ≤ 2
-few-good own m = let k = good-least own in omega arith
-
 module _ (S : System) (R : Rules) where
-  -- a listed call whose session has not asked for a descriptor, and has not given up, waits
-  pub waits-now : (K : List Event) (w c : ℕ) → IsLegal S R K → length K < 2 ^ 64 → session_call K w ≡ Some c → listed K c ≡ true → any_of gives_up (session K w) ≡ false → first_some put_in (session K w) ≡ None → waiting K c ≡ true
-  waits-now K w c legal room s l g p =
-      let i = in-hand-of S R K w c legal s in
-      let k = (at-call S R K w c legal room s l).stage g in
-      clean-waiting K c l i.got (rw p at k)
+  -- before the second good check nothing is asked for
+  put-late : (K : List Event) (w : ℕ) (n : Notif) → IsLegal S R K → AtWork (session K w) n → number_of is_good_check (session K w) ≤ 1 → first_some put_in (session K w) ≡ None
+  put-late K w n legal work few =
+      let u = put-fixed R (session K w) (is-own S R K legal w) n in
+      let two = used-two R (session K w) n work in
+      let o = ordered R (session K w) (is-own S R K legal w) in
+      grind arith
 
-  in-order : (K : List Event) (w : ℕ) → IsLegal S R K → InOrder (session K w)
-  in-order K w legal = (ordered R (session K w) (is-own S R K legal w)).order
+  -- at a good check the call was listed, and waits
+  check-waits : (K : List Event) (a : Actor) (w c : ℕ) (what : What) → IsLegal S R (ev a what ∷ K) → length (ev a what ∷ K) < 2 ^ 64 → WorkerRow S R K w what
+      → InSession K w c → session_call (ev a what ∷ K) w ≡ Some c
+      → session (ev a what ∷ K) w ≡ what ∷ session K w → any_of gives_up (session (ev a what ∷ K) w) ≡ false → checks what ≡ true → waiting (ev a what ∷ K) c ≡ true
+  check-waits K a w c (Check x (Err e)) legal room row i s own g z = absurd (cc (own, g))
+  check-waits K a w c (Check x (Ok u)) legal room row i s own g z =
+      let e = ev a (Check x (Ok u)) in
+      let v = (and_parts (listed K c) _ (check-listed S R K w c x u legal.1 (omega arith) i row)).0 in
+      let l : listed (e ∷ K) c ≡ true = listed-older e K c (is_call-below K c i.call) ∙ rw v in
+      let m = (ordered R (session (e ∷ K) w) (is-own S R (e ∷ K) legal w)).most in
+      let d = goods (session (e ∷ K) w) g in
+      let two : number_of is_good_check (session (e ∷ K) w) ≤ 2 = omega arith in
+      let few : suc (number_of is_good_check (session K w)) ≤ 2 = rw own at two in
+      waits-now S R (e ∷ K) w c legal room s l g (rw own (put-late K w row.0.0 legal.1 row.0.1 (omega arith)))
+  check-waits K a w c what legal room row i s own g z = cc
+
+  -- a prefix that ends no later than with that check
+  until-waits : (K : List Event) (w c : ℕ) → IsLegal S R K → length K < 2 ^ 64 → session_call K w ≡ Some c → any_of gives_up (session K w) ≡ false
+      → (listed K c ≡ true) ⊎ (number_of is_good_check (session K w) ≡ 2) → is_until_checked K w ≡ true → waiting K c ≡ true
+  until-waits K w c legal room s g either u = elim (cases_Bool (nat_le (number_of is_good_check (session K w)) 1)) [
+    | inl n ↦
+        let few = leb-true (number_of is_good_check (session K w)) 1 n in
+        let i = in-hand-of S R K w c legal s in
+        elim either [ inl l ↦ waits-now S R K w c legal room s l g (put-late K w i.n legal (record { notif_is = i.notif_is; no_letgo = i.no_letgo; no_end = g }) few) | inr t ↦ absurd (omega arith) ]
+    | inr n ↦ at-check K legal room s g (rw n at u)
+  ]
+    where
+      at-check : (K : List Event) → IsLegal S R K → length K < 2 ^ 64 → session_call K w ≡ Some c → any_of gives_up (session K w) ≡ false → ends_with_check K w ≡ true → waiting K c ≡ true
+      at-check [] legal room s g u = cc
+      at-check (e ∷ K) legal room s g u =
+          let p = and_parts (checks e.what) (is_worker e.who w) u in
+          let r = worker-row S R K e.who e.what w (row-of S R K e legal.0) p.1 in
+          let v : works e.what ≡ true = grind arith in
+          let k = works-keep K e.what v in
+          let t = at-work S R K w e.what r v in
+          let own = session-grows e K w t.0 p.1 k.no_skip k.no_start t.1.notif_is in
+          let h : session_call K w ≡ Some c = sym (k.call (session_call K w)) ∙ (sym (moved e K w p.1).0 ∙ s) in
+          check-waits K e.who w c e.what legal room r (in-hand-of S R K w c legal.1 h) s own g p.0
 
   -- what is asked of a session
-  abbrev Open : List Event → ℕ → ℕ → Type 0
-  Open K w c = any_of gives_up (session K w) ≡ false → (listed K c ≡ true) ⊎ (number_of is_good_check (session K w) ≡ 2) → WaitedUntilChecked K w c
+  abbrev Held : List Event → ℕ → ℕ → Type 0
+  Held K w c = any_of gives_up (session K w) ≡ false → (listed K c ≡ true) ⊎ (number_of is_good_check (session K w) ≡ 2) → WaitedUntilChecked K w c
 
   -- an earlier prefix, or the whole
-  prefixes : (e : Event) (K : List Event) (w c : ℕ) → WaitedUntilChecked K w c → (is_until_checked (e ∷ K) w ≡ true → waiting (e ∷ K) c ≡ true) → WaitedUntilChecked (e ∷ K) w c
+  prefixes : (e : Event) (K : List Event) (w c : ℕ) → WaitedUntilChecked K w c
+      → (session_call (e ∷ K) w ≡ Some c → is_until_checked (e ∷ K) w ≡ true → waiting (e ∷ K) c ≡ true) → WaitedUntilChecked (e ∷ K) w c
   prefixes e K w c old new p l s u =
       elim (below_or_last p (length (e ∷ K)) (omega arith)) [
         | inl q ↦ grind (arith, before-older)
-        | inr q ↦ let all : before (e ∷ K) p ≡ e ∷ K = before-all (e ∷ K) p (omega arith) in rw all (new (rw all at u))
+        | inr q ↦ let all : before (e ∷ K) p ≡ e ∷ K = before-all (e ∷ K) p (omega arith) in rw all (new (rw all at s) (rw all at u))
       ]
 
-  unfetched-before : (K : List Event) (w c : ℕ) → IsLegal S R K → length K < 2 ^ 64 → fetched K c ≡ false → (p : ℕ) → session_call (before K p) w ≡ Some c → ⊥
-  unfetched-before K w c legal room f p s =
-      let m = length-before K p in
-      let h = hand-fetcher S R (before K p) (legal_before S R K p legal) (omega arith) w c s in
-      both_ways (fetched K c) f (fetched-before K p c (fetcher-fetched (before K p) c w h))
-
-  nothing-before : (K : List Event) (w c : ℕ) → IsLegal S R K → length K < 2 ^ 64 → fetched K c ≡ false → WaitedUntilChecked K w c
-  nothing-before K w c legal room f p l s u = absurd (unfetched-before K w c legal room f p s)
-
-  -- before the second good check the call waits
-  early : (K : List Event) (w c : ℕ) → IsLegal S R K → length K < 2 ^ 64 → session_call K w ≡ Some c → any_of gives_up (session K w) ≡ false
-      → (listed K c ≡ true) ⊎ (number_of is_good_check (session K w) ≡ 2) → number_of is_good_check (session K w) ≤ 1 → waiting K c ≡ true
-  early K w c legal room s g (inl l) n = waits-now K w c legal room s l g (put-late (session K w) (in-order K w legal) n)
-  early K w c legal room s g (inr t) n = absurd (omega arith)
-
-  -- the fact, with what it needs of the session's call
-  abbrev Held : List Event → ℕ → ℕ → Type 0
-  Held K w c = session_call K w ≡ Some c → Open K w c
-
-  fetch-kept : FetchKept S R Held
-  fetch-kept K a w c n r legal room q row o idle s g either =
-      let e = ev a (Recv (Ok n)) in
-      let own : session (e ∷ K) w ≡ Recv (Ok n) ∷ [] = session-more e K w q refl ∙ started (session K w) (Recv (Ok n)) refl in
-      let f = fetching K n (oldest_unfetched K) refl row.2 in
+  held-fetch : FetchKept S R Held
+  held-fetch K a w c n legal room q row o idle own g either =
+      let f = fetching K n (oldest_unfetched K) refl row.1.1 in
       let m : f.0 ≡ c = cc (f.4, o) in
-      prefixes e K w c (nothing-before K w c legal (omega arith) (rw m at f.3)) (λ _. early (e ∷ K) w c (r, legal) room s g either (rw own (omega arith)))
+      prefixes (ev a (Recv (Ok n))) K w c (λ p l s u. absurd (unfetched (rw m at f.3) p s)) (λ s. until-waits (ev a (Recv (Ok n)) ∷ K) w c legal room s g either)
+    where
+      unfetched : fetched K c ≡ false → (p : ℕ) → session_call (before K p) w ≡ Some c → ⊥
+      unfetched f p s =
+          let m = (length-before K p).0 in
+          let h = hand-fetcher S R (before K p) (legal_before S R K p legal.1) (omega arith) w c s in
+          both_ways (fetched K c) f (fetched-before K p c (fetcher-fetched (before K p) c w h))
 
-  -- at a good check the call was listed, and waits
-  check-waits : (K : List Event) (a : Actor) (w c : ℕ) (what : What) → IsStep S R K (ev a what) → IsLegal S R K → length (ev a what ∷ K) < 2 ^ 64 → WorkerRow S R K w what → InSession K w c → session_call (ev a what ∷ K) w ≡ Some c
-      → session (ev a what ∷ K) w ≡ what ∷ session K w → any_of gives_up (session (ev a what ∷ K) w) ≡ false → is_good_check what ≡ true → number_of is_good_check (what ∷ session K w) ≤ 2 → waiting (ev a what ∷ K) c ≡ true
-  check-waits K a w c (Check x (Ok u)) r legal room row i s own g z n =
-      let v = (and_parts (listed K c) _ (check-listed S R K w c x u legal (omega arith) i row)).0 in
-      let l : listed (ev a (Check x (Ok u)) ∷ K) c ≡ true = listed-older (ev a (Check x (Ok u))) K c (is_call-below K c i.call) ∙ rw v in
-      waits-now (ev a (Check x (Ok u)) ∷ K) w c (r, legal) room s l g (rw own (put-late (session K w) (in-order K w legal) (omega arith)))
-  check-waits K a w c what r legal room row i s own g z n = cc
-
-  work-kept : WorkKept S R Held
-  work-kept K a w c what r legal room q row v i s own ih s' g either =
+  held-work : WorkKept S R Held
+  held-work K a w c what legal room q row v i s own ih g either =
       let e = ev a what in
       let p = or_parts (gives_up what) (any_of gives_up (session K w)) (rw own at g) in
-      prefixes e K w c (ih s p.1 (was either)) (λ u. elim (cases_Bool (nat_le (number_of is_good_check (session (e ∷ K) w)) 1)) [
-        | inl n ↦ early (e ∷ K) w c (r, legal) room s' g either (leb-true (number_of is_good_check (session (e ∷ K) w)) 1 n)
-        | inr n ↦
-            let y = (and_parts (checks what) (is_worker a w) (rw n at u)).0 in
-            let m = few-good (session (e ∷ K) w) (ordered R (session (e ∷ K) w) (is-own S R (e ∷ K) (r, legal) w)).most in
-            check-waits K a w c what r legal room row i s' own g (good-check what y p.0) (rw own at m)
-      ])
+      prefixes e K w c (ih p.1 (was what row (elim either [ inl l ↦ inl (listed-was e K c (is_call-below K c i.call) l) | inr t ↦ inr (rw own at t) ]))) (λ s'. until-waits (e ∷ K) w c legal room s' g either)
     where
-      good-check : (what : What) → checks what ≡ true → gives_up what ≡ false → is_good_check what ≡ true
-      good-check what y z = grind arith
-
-      found : (what : What) → WorkerRow S R K w what → is_good_check what ≡ true → listed K c ≡ true
-      found (Check x (Ok u)) row z = (and_parts (listed K c) _ (check-listed S R K w c x u legal (omega arith) i row)).0
-      found what row z = cc
-
       -- its call was listed before, or has had both checks
-      was : (listed (ev a what ∷ K) c ≡ true) ⊎ (number_of is_good_check (session (ev a what ∷ K) w) ≡ 2) → (listed K c ≡ true) ⊎ (number_of is_good_check (session K w) ≡ 2)
-      was (inl l) = inl (listed-was (ev a what) K c (is_call-below K c i.call) l)
-      was (inr t) = elim (cases_Bool (is_good_check what)) [ inl z ↦ inl (found what row z) | inr z ↦ inr (rw (own, z) at t) ]
+      was : (what : What) → WorkerRow S R K w what → (listed K c ≡ true) ⊎ (number_of is_good_check (what ∷ session K w) ≡ 2) → (listed K c ≡ true) ⊎ (number_of is_good_check (session K w) ≡ 2)
+      was (Check x (Ok u)) row t = inl (and_parts (listed K c) _ (check-listed S R K w c x u legal.1 (omega arith) i row)).0
+      was what row t = t
 
-  still-kept : StillKept S R Held
-  still-kept K e w c r legal room q i s own ih s' g either =
-      let b = is_call-below K c i.call in
-      prefixes e K w c (ih s (rw own at g) (elim either [ inl l ↦ inl (listed-was e K c b l) | inr t ↦ inr (rw own at t) ])) (λ u. early (e ∷ K) w c (r, legal) room s' g either (few u))
-    where
-      no-check : (checks e.what && is_worker e.who w) ≡ false
-      no-check = grind arith
+  held-still : StillKept S R Held
+  held-still K e w c legal room q i s own ih g either =
+      prefixes e K w c (ih (rw own at g) (elim either [ inl l ↦ inl (listed-was e K c (is_call-below K c i.call) l) | inr t ↦ inr (rw own at t) ])) (λ s'. until-waits (e ∷ K) w c legal room s' g either)
 
-      few : is_until_checked (e ∷ K) w ≡ true → number_of is_good_check (session (e ∷ K) w) ≤ 1
-      few u = let n = no-check in leb-true (number_of is_good_check (session (e ∷ K) w)) 1 (grind arith)
-
-  pub waited : (K : List Event) → IsLegal S R K → length K < 2 ^ 64 → (w c : ℕ) → session_call K w ≡ Some c → any_of gives_up (session K w) ≡ false → (listed K c ≡ true) ⊎ (number_of is_good_check (session K w) ≡ 2) → WaitedUntilChecked K w c
-  waited K legal room w c s = by-session S R Held (record { fetch = fetch-kept; work = work-kept; still = still-kept }) K legal room w c s s
+  waited : (K : List Event) → IsLegal S R K → length K < 2 ^ 64 → (w c : ℕ) → session_call K w ≡ Some c → Held K w c
+  waited = by-session S R Held held-fetch held-work held-still
 
 -- ---- a rule's effects are done no more often than its times allow
 
--- the caps of the rules' decisions have these times at most
-pub record Capped (R : Rules) (limit : ℕ → ℕ) : Type 0 where
-  pub acts : (n : Notif) (reads : List What) (q : Request) (cap : Cap) → R.decide n reads ≡ Acts q (Some cap) → cap.times ≤ limit cap.rule
-  pub plants : (n : Notif) (reads : List What) (a : ℕ) (b : List ℕ) (cap : Cap) → R.decide n reads ≡ Plants a b (Some cap) → cap.times ≤ limit cap.rule
+abbrev decided-cap : Decision → Option Cap
+decided-cap (Acts q cap) = cap
+decided-cap (Plants a b cap) = cap
+decided-cap _ = None
+
+-- the cap of a decision is its rule's
+judged-cap : (P : Policy) (F : Figures) (n : Notif) (p : Progress) (k : Cap) → decided-cap (judged P F n p) ≡ Some k → cap_of P.rules k.rule ≡ Some k
+judged-cap P F n p k h = grind arith
 
 -- an effect that was done had times left
-left-times : (K : List Event) (cap : Cap) (u : Unit {0}) (other : Result (Unit {0}) ℕ) → ◌≡◌ {A = Result (Unit {0}) ℕ} (Ok u) (if is_spent K (Some cap) then Err 122 else other) → times_spent K cap.rule < cap.times
-left-times K cap u other h = grind arith
+cap-left : (P : Policy) (K : List Event) (k cap : Cap) (i : ℕ) (u : Unit {0}) (other : Result (Unit {0}) ℕ) → (k.rule == i) ≡ true → cap_of P.rules k.rule ≡ Some k → cap_of P.rules i ≡ Some cap
+    → ◌≡◌ {A = Result (Unit {0}) ℕ} (Ok u) (if is_spent K (Some k) then Err 122 else other) → times_spent K i < cap.times
+cap-left P K k cap i u other h z c r = let m = eqb-true k.rule i h in let q : k ≡ cap = cc (rw m at z, c) in let y : times_spent K k.rule < k.times = grind arith in rw (← m, ← q) y
 
-below-limit : (limit : ℕ → ℕ) (K : List Event) (cap : Cap) (i : ℕ) → (cap.rule == i) ≡ true → times_spent K cap.rule < cap.times → cap.times ≤ limit cap.rule → times_spent K i + 1 ≤ limit i
-below-limit limit K cap i q l m = let s = eqb-true cap.rule i q in rw (← s) (omega arith)
+spends-left : (P : Policy) (S : Script) (K : List Event) (a : Actor) (what : What) (i : ℕ) (cap : Cap) → Row (system_of S) (rules_of P S.figures) K a what → spends what i ≡ true
+    → cap_of P.rules i ≡ Some cap → times_spent K i < cap.times
+spends-left P S K (Worker w) (Act q (Some k) (Ok u)) i cap r h c = cap-left P K k cap i u _ h (judged-cap P S.figures r.0.0 (copied r.0.0 (reads_of (session K w))) k (ap decided-cap r.0.4)) c r.1
+spends-left P S K (Worker w) (Plant x b (Some k) (Ok u)) i cap r h c = cap-left P K k cap i u _ h (judged-cap P S.figures r.0.0 (copied r.0.0 (reads_of (session K w))) k (ap decided-cap r.0.4)) c r.1
+spends-left P S K a what i cap r h c = grind arith
 
-spends-left : (S : System) (R : Rules) (limit : ℕ → ℕ) (K : List Event) (a : Actor) (what : What) (i : ℕ) → Capped R limit → Row S R K a what → spends what i ≡ true → times_spent K i + 1 ≤ limit i
-spends-left S R limit K (Worker w) (Act q (Some cap) (Ok u)) i k r h =
-    let t = deed-is R (session K w) _ r.0 in
-    below-limit limit K cap i h (left-times K cap u (S.outcome K w q) r.1) (k.acts t.0 (reads_of (session K w)) q cap t.4)
-spends-left S R limit K (Worker w) (Plant x b (Some cap) (Ok u)) i k r h =
-    let t = deed-is R (session K w) _ r.0 in
-    below-limit limit K cap i h (left-times K cap u (if S.writable x then Ok tt else Err 14) r.1) (k.plants t.0 (reads_of (session K w)) x b cap t.4)
-spends-left S R limit K a (Act q None x) i k r h = grind arith
-spends-left S R limit K a (Plant x b None y) i k r h = grind arith
-spends-left S R limit K a what i k r h = grind arith
-
-spent-step : (S : System) (R : Rules) (limit : ℕ → ℕ) (K : List Event) (e : Event) (i : ℕ) → Capped R limit → IsStep S R K e → times_spent K i ≤ limit i → times_spent (e ∷ K) i ≤ limit i
+pub times-kept : (P : Policy) (S : Script) (K : List Event) → IsLegal (system_of S) (rules_of P S.figures) K → TimesKept P K
 unfolding times_spent
-spent-step S R limit K e i k r ih = grind (arith, spends-left, row-of)
-
-pub spent-within : (S : System) (R : Rules) (limit : ℕ → ℕ) → Capped R limit → (K : List Event) → IsLegal S R K → (i : ℕ) → times_spent K i ≤ limit i
-unfolding times_spent
-spent-within S R limit k [] legal = λ i. omega arith
-spent-within S R limit k (e ∷ K) legal = λ i. spent-step S R limit K e i k legal.0 (spent-within S R limit k K legal.1 i)
+times-kept P S = by-steps (system_of S) (rules_of P S.figures) (TimesKept P) (λ i cap h. omega arith) (λ K e legal row ih i cap h.
+    let y = ih i cap h in elim (cases_Bool (spends e.what i)) [ inl q ↦ rw q (omega (arith, spends-left P S K e.who e.what i cap row q h)) | inr q ↦ rw q (omega arith) ])
 
 -- ---- each effect is what the policy grants on the one copy of its session, and each request for a descriptor what it injects
 
 -- at a use of a copy
-uses-copy : (S : System) (R : Rules) (K : List Event) (w : ℕ) (n : Notif) → IsLegal S R K → length K < 2 ^ 64 → AtWork (session K w) n → HasOpened R (session K w) n → HasCopied R (session K w) n → R.fault n (reads_of (session K w)) ≡ None
+uses-copy : (S : System) (R : Rules) (K : List Event) (w : ℕ) (n : Notif) → IsLegal S R K → length K < 2 ^ 64 → AtWork (session K w) n → HasOpened R (session K w) n
+    → HasCopied R (session K w) n → R.fault n (reads_of (session K w)) ≡ None
     → (c : ℕ) × IsMediated R K w c n
 uses-copy S R K w n legal room work ready copy sound =
     let j = in-hand K w (session_call K w) n work (hand S R K legal w) in
@@ -189,7 +157,7 @@ uses-copy S R K w n legal room work ready copy sound =
         of_call = j.1;
         fetched_by = hand-fetcher S R K legal room w j.0 j.1;
         notif_is = work.notif_is;
-        of_notif = hand-notif K w j.0 j.2 n j.3;
+        of_notif = sym j.3 ∙ j.2.whole_is;
         whole = copy.copied;
         no_fault = sound;
         checked = two;
@@ -198,85 +166,38 @@ uses-copy S R K w n legal room work ready copy sound =
       },
     )
 
-pub act-is-granted : (P : Policy) (S : Script) (K : List Event) (e : Event) → IsLegal (system_of S) (rules_of P S.figures) K → length K < 2 ^ 64 → IsStep (system_of S) (rules_of P S.figures) K e → ActIsGranted P S K e
-act-is-granted P S K e legal room r w q cap a who what =
+pub acts-are-granted : (P : Policy) (S : Script) (K : List Event) → IsLegal (system_of S) (rules_of P S.figures) K → length K < 2 ^ 64 → Each (ActIsGranted P S) K
+acts-are-granted P S = each (system_of S) (rules_of P S.figures) (ActIsGranted P S) (λ K e legal room row w q cap a who what.
     let R = rules_of P S.figures in
-    let row : WorkerRow (system_of S) R K w (Act q cap a) = rw what at (rw who at (row-of (system_of S) R K e r)) in
-    let t = deed-is R (session K w) (ActD q cap) row.0 in
+    let r : WorkerRow (system_of S) R K w (Act q cap a) = rw (who, what) at row in
+    let t = r.0 in
     let m = uses-copy (system_of S) R K w t.0 legal room t.1 t.2 t.3 t.6 in
-    (m.0, t.0, m.1, t.4, t.5, base-is S R K w m.0 t.0 legal room m.1.of_call t.1.notif_is t.3.checked t.1.no_end)
+    (m.0, t.0, m.1, t.4, t.5, base-is S R K w m.0 t.0 legal room m.1.of_call t.1.notif_is t.3.checked t.1.no_end))
 
-pub plant-is-granted : (P : Policy) (S : Script) (K : List Event) (e : Event) → IsLegal (system_of S) (rules_of P S.figures) K → length K < 2 ^ 64 → IsStep (system_of S) (rules_of P S.figures) K e → PlantIsGranted P S K e
-plant-is-granted P S K e legal room r w x b cap a who what =
+pub plants-are-granted : (P : Policy) (S : Script) (K : List Event) → IsLegal (system_of S) (rules_of P S.figures) K → length K < 2 ^ 64 → Each (PlantIsGranted P S) K
+plants-are-granted P S = each (system_of S) (rules_of P S.figures) (PlantIsGranted P S) (λ K e legal room row w x b cap a who what.
     let R = rules_of P S.figures in
-    let row : WorkerRow (system_of S) R K w (Plant x b cap a) = rw what at (rw who at (row-of (system_of S) R K e r)) in
-    let t = deed-is R (session K w) (PlantD x b cap) row.0 in
+    let r : WorkerRow (system_of S) R K w (Plant x b cap a) = rw (who, what) at row in
+    let t = r.0 in
     let m = uses-copy (system_of S) R K w t.0 legal room t.1 t.2 t.3 t.6 in
-    (m.0, t.0, m.1, t.4, t.5)
+    (m.0, t.0, m.1, t.4, t.5))
 
-pub put-is-injected : (P : Policy) (S : Script) (K : List Event) (e : Event) → IsLegal (system_of S) (rules_of P S.figures) K → length K < 2 ^ 64 → IsStep (system_of S) (rules_of P S.figures) K e → PutIsInjected P S K e
-put-is-injected P S K e legal room r w q a who what =
+pub puts-are-injected : (P : Policy) (S : Script) (K : List Event) → IsLegal (system_of S) (rules_of P S.figures) K → length K < 2 ^ 64 → Each (PutIsInjected P S) K
+puts-are-injected P S = each (system_of S) (rules_of P S.figures) (PutIsInjected P S) (λ K e legal room row w q a who what.
     let R = rules_of P S.figures in
-    let row : WorkerRow (system_of S) R K w (AddfdPut q a) = rw what at (rw who at (row-of (system_of S) R K e r)) in
-    let t = deed-is R (session K w) (Put q) row.0 in
+    let r : WorkerRow (system_of S) R K w (AddfdPut q a) = rw (who, what) at row in
+    let t = r.0 in
     let m = uses-copy (system_of S) R K w t.0 legal room t.1 t.2 t.3 t.4.sound in
-    (m.0, t.0, m.1, (t.4.src, t.4.place, t.4.flags, t.4.decided, t.4.is), t.5)
+    (m.0, t.0, m.1, (t.4.src, t.4.place, t.4.flags, t.4.decided, t.4.is), t.5))
 
-pub reads-are-own : (S : System) (R : Rules) (K : List Event) (e : Event) → IsLegal S R K → length K < 2 ^ 64 → IsStep S R K e → ReadsOwn K e
-reads-are-own S R K e legal room r w x l a who what =
-    let row : WorkerRow S R K w (Read x l a) = rw what at (rw who at (row-of S R K e r)) in
-    let t = deed-is R (session K w) (ReadD x l) row.0 in
+pub reads-are-own : (S : System) (R : Rules) (K : List Event) → IsLegal S R K → length K < 2 ^ 64 → Each ReadsOwn K
+reads-are-own S R = each S R ReadsOwn (λ K e legal room row w x l a who what.
+    let r : WorkerRow S R K w (Read x l a) = rw (who, what) at row in
+    let t = r.0 in
     let j = in-hand K w (session_call K w) t.0 t.1 (hand S R K legal w) in
-    (j.0, j.1, own-memory S R K w j.0 legal room j.1 t.2.mem t.3 t.1.no_end)
-
--- the cap of a rule
-times-in : Option Cap → ℕ
-times-in None = 0
-times-in (Some cap) = cap.times
-
-limit-of : Policy → ℕ → ℕ
-limit-of P i = times-in (cap_of P.rules i)
-
-act-cap : Decision → Option Cap
-act-cap (Acts q cap) = cap
-act-cap (Plants a b cap) = cap
-act-cap _ = None
-
--- whatever the decision, its cap is within the limit
-Within : Policy → Decision → Type 0
-Within P d = (cap : Cap) → act-cap d ≡ Some cap → cap.times ≤ limit-of P cap.rule
-
-judged-within : (P : Policy) (F : Figures) (n : Notif) (p : Progress) → Within P (judged P F n p)
-unfolding Within act-cap limit-of times-in
-judged-within P F n p cap h = grind (arith, times-in)
-
-policy-capped : (P : Policy) (F : Figures) → Capped (rules_of P F) (limit-of P)
-unfolding Within act-cap
-policy-capped P F = record {
-  acts = λ n reads q cap h. judged-within P F n (copied n reads) cap (ap act-cap h);
-  plants = λ n reads a b cap h. judged-within P F n (copied n reads) cap (ap act-cap h);
-}
-
-pub times-kept : (P : Policy) (S : Script) (K : List Event) → IsLegal (system_of S) (rules_of P S.figures) K → TimesKept P K
-unfolding limit-of times-in
-times-kept P S K legal i cap h =
-    let m = spent-within (system_of S) (rules_of P S.figures) (limit-of P) (policy-capped P S.figures) K legal i in
-    rw h at m
-
--- ---- an installation puts the request's file where it says, and nothing elsewhere; one that failed puts nothing
-
-pub installs-alone : (S : Script) (K : List Event) (e : Event) → InstallsAlone S K e
-unfolding files
-installs-alone S K e n m who what f j = rw (who, what)
-
-pub fails-alone : (S : Script) (K : List Event) (e : Event) → FailsAlone S K e
-unfolding files
-fails-alone S K e x what f j = rw what
+    (j.0, j.1, own-memory S R K w j.0 legal room j.1 t.2.mem t.3 t.1.no_end))
 
 -- ---- a native call changes no device, no mount, and no attribute but the user's own
-
-pub keeps-same : (T : Tree) → KeepsPrivileged T T
-keeps-same T = record { devices = refl; mounts = refl; attributes = refl }
 
 -- a step that keeps what is privileged of this tree
 abbrev Keeping : Tree → NativeStep → Type 0
@@ -284,8 +205,10 @@ Keeping T (Changes U) = KeepsPrivileged T U
 Keeping T _ = Unit {0}
 
 either : (T : Tree) (b : Bool) (x y : NativeStep) → Keeping T x → Keeping T y → Keeping T (if b then x else y)
-either T true x y p q = p
-either T false x y p q = q
+either T b x y p q = grind arith
+
+close-keeps : (T : Tree) (n : ℕ) (o : Option Obj) → Keeping T (close_natively n o)
+close-keeps T n o = grind arith
 
 -- an attribute of the user's own
 user_own : List ℕ → Bool
@@ -304,28 +227,16 @@ replaced-keeps (r ∷ rs) on name value h =
       | inr q ↦ rw (q, ih)
     ]
 
-put-keeps : (T : Tree) (on : ℕ) (name value : List ℕ) (old : Option (List ℕ)) → user_own name ≡ true → filter is_others_row (attr_put T.attrs on name value old) ≡ filter is_others_row T.attrs
-unfolding user_own
-put-keeps T on name value old h = grind (arith, replaced-keeps)
-
 attr-keeps : (T : Tree) (on : ℕ) (name value : List ℕ) → user_own name ≡ true → KeepsPrivileged T (with_attr T on name value)
-attr-keeps T on name value h = record { devices = refl; mounts = refl; attributes = put-keeps T on name value (attr T on name) h }
+unfolding user_own
+attr-keeps T on name value h = grind (arith, replaced-keeps)
 
 attributed-keeps : (T : Tree) (name value : List ℕ) (flags : ℕ) (p : Place) → user_own name ≡ true → Keeping T (changed (attributed T name value flags p))
 attributed-keeps T name value flags p h = grind (arith, attr-keeps)
 
-xattr-keeps : (T : Tree) (root : ℕ) (base : Option ℕ) (path name value : List ℕ) (flags : ℕ) (known own : Bool) → are_attr_flags flags ≡ known → user_own name ≡ own
-    → Keeping T (set_natively (is_refused (if known then SetAttr path name value flags else Fail 22)) own (perform T root base (if known then SetAttr path name value flags else Fail 22)))
-xattr-keeps T root base path name value flags false own h g = tt
-xattr-keeps T root base path name value flags true true h g = rw h (attributed-keeps T name value flags (reaches T root base path Follow) g)
-xattr-keeps T root base path name value flags true false h g = grind arith
-
 copied-keeps : (S : Script) (F : Files) (g : ℕ) (call : What) (r : Result (List (List ℕ)) ℕ) → Keeping F.tree (copied_natively S F g call r)
 unfolding user_own
-copied-keeps S F g call r = grind (arith, xattr-keeps, user_own)
-
-close-keeps : (T : Tree) (n : ℕ) (o : Option Obj) → Keeping T (close_natively n o)
-close-keeps T n o = grind arith
+copied-keeps S F g call r = grind (arith, attributed-keeps)
 
 call-keeps : (S : Script) (K : List Event) (F : Files) (n : Name) (g : ℕ) (call : What) → Keeping F.tree (call_natively S K F n g call)
 call-keeps S K F n g call =
@@ -336,21 +247,14 @@ call-keeps S K F n g call =
     either F.tree (is_number nr 99) _ _ (either F.tree (all_mapped S.map (argument call 0) sysinfo_size) Writes (Fails 14) tt tt) (
     either F.tree (has_base (base_dirfd nr (entered call))) _ (Fails 38) (copied-keeps S F g call (copy_of (mapped_byte S K g) (plan nr (entered call)))) tt)))
 
-native-tree : (F : Files) (g : ℕ) (s : NativeStep) → Keeping F.tree s → KeepsPrivileged F.tree (after_native F g s).tree
-native-tree F g s h = grind arith
+native-keeps : (F : Files) (g : ℕ) (s : NativeStep) → Keeping F.tree s → KeepsPrivileged F.tree (after_native F g s).tree
+native-keeps F g s h = grind arith
 
 after-keeps : (S : Script) (K : List Event) (F : Files) (a : Actor) (what : What) → is_effect what ≡ false → KeepsPrivileged F.tree (files_after S K F a what).tree
-after-keeps S K F a (Spawn n (Ok made)) h = grind arith
-after-keeps S K F a (Spawn n (Err e)) h = keeps-same F.tree
-after-keeps S K F a (Native (Ok n)) h = native-tree F (own_group K a) (native_step S K F (task_name a)) (call-keeps S K F (task_name a) (place_or (group_named K (task_name a))) (last_call K (task_name a)))
-after-keeps S K F a (Native (Err e)) h = keeps-same F.tree
-after-keeps S K F a (Install (Ok m)) h = keeps-same F.tree
-after-keeps S K F a (Install (Err e)) h = keeps-same F.tree
-after-keeps S K F a (Act q cap x) h = cc
-after-keeps S K F (Worker w) (OpenBase p d (Ok u)) h = keeps-same F.tree
-after-keeps S K F (Worker w) (OpenBase p d (Err e)) h = keeps-same F.tree
-after-keeps S K F (Worker w) LetGo h = keeps-same F.tree
-after-keeps S K F a what h = keeps-same F.tree
+after-keeps S K F a what h =
+    let c = call-keeps S K F (task_name a) (place_or (group_named K (task_name a))) (last_call K (task_name a)) in
+    let n = native-keeps F (own_group K a) (native_step S K F (task_name a)) c in
+    grind arith
 
 pub acts-alone : (S : Script) (K : List Event) (e : Event) → ActsAlone S K e
 unfolding files

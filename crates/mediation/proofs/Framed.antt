@@ -1,120 +1,72 @@
 -- The frame law.
-use Rattle.mediation.proofs.Common.{◌≡◌, ℕ, zero, suc, ◌+◌, ◌<◌, ◌≤◌, Bool, false, List, [], ◌∷◌, length, Some, None, refl, arith, if◌then◌else◌, false_from_ne_true, Name, newest, oldest, ended}
-use Rattle.mediation.proofs.Common.{ends, was_waited_for, reaped, reaps, holder, free_from, next_pid, last_pid, given, listed, named, fetched, settled, queue, answers, puts_to, is_install, calls}
-use Rattle.mediation.proofs.Common.{recvs, count, notifies, leaves, closes, session, Event, What, event_at-here, event_at-older, oldest-same, ◌-◌, or_else, answered, some_sends, changes_tasks}
-use Rattle.mediation.proofs.Common.{changes_list, changes_fetched, changes_count, changes_answered, Frame}
+use Rattle.mediation.proofs.Common.{[], answered, arith, base, Bool, calls, changes_answered, changes_list, changes_tasks, ended, eq-eqb, Event, event_at-here, event_at-older, false, fetched, Frame}
+use Rattle.mediation.proofs.Common.{free_from, given, holder, holds, inl, inr, last_pid, length, List, listed, Name, name_of, named, newest, next_pid, None, oldest, oldest-same, or_left, or_right}
+use Rattle.mediation.proofs.Common.{queue, reaped, recvs, refl, session, settled, some_sends, suc, true, was_waited_for, zero, ℕ, ◌+◌, ◌-◌, ◌<◌, ◌==◌, ◌∷◌, ◌≡◌}
 use Rattle.mediation.proofs.Tasks.{listed-below, listed-here}
-use Rattle.mediation.proofs.Phases.{Asks, queue-asks}
-
--- a kind that changes no task
-pub record NoTask (w : What) : Type 0 where
-  pub no_end : ends w ≡ false
-  pub no_reap : (n : Name) → reaps w n ≡ false
-  pub no_pid : given w ≡ None
-
-no-task : (w : What) → changes_tasks w ≡ false → NoTask w
-no-task w h = grind arith
-
-ended-frame : (e : Event) (K : List Event) (n : Name) → NoTask e.what → ended (e ∷ K) n ≡ ended K n
-unfolding ended
-ended-frame e K n h = rw h.no_end
-
-reaped-frame : (e : Event) (K : List Event) (n : Name) → NoTask e.what → reaped (e ∷ K) n ≡ reaped K n
-unfolding reaped was_waited_for
-reaped-frame e K n h = rw (h.no_reap n, ended-frame e K n h, ended-frame e K _ h)
+use Rattle.mediation.proofs.Replies.{has, queue-has}
 
 newest-same : (p q : ℕ → Bool) (n : ℕ) → ((c : ℕ) → c < n → p c ≡ q c) → newest p n ≡ newest q n
 unfolding newest
 newest-same p q zero h = refl
 newest-same p q (suc n) h = rw (newest-same p q n (λ c l. h c (omega arith)), h n (omega arith))
 
-newest-suc : (test : ℕ → Bool) (n : ℕ) → newest test (suc n) ≡ (if test n then Some n else newest test n)
-unfolding newest
-newest-suc test n = refl
+-- the requests of a queue stand below
+queue-below : (K : List Event) (c r : ℕ) → has (queue K c) r ≡ true → r < length K
+queue-below [] c r h = absurd (unfold queue in cc)
+queue-below (e ∷ K) c r h = elim (queue-has e K c r h) [ inl q ↦ omega (arith, queue-below K c r q) | inr q ↦ omega (arith, q.1) ]
 
-oldest-suc : (test : ℕ → Bool) (n : ℕ) → oldest test (suc n) ≡ or_else (oldest test n) (if test n then Some n else None)
-unfolding oldest
-oldest-suc test n = refl
+sends-frame : (e : Event) (K : List Event) (rs : List ℕ) → ((r : ℕ) → has rs r ≡ true → r < length K) → some_sends (e ∷ K) rs ≡ some_sends K rs
+sends-frame e K [] h = refl
+sends-frame e K (r ∷ rs) h = rw (event_at-older e K r (h r (or_left (r == r) (has rs r) (eq-eqb r r refl))), sends-frame e K rs (λ q g. h q (or_right (r == q) (has rs q) g)))
 
-holder-frame : (e : Event) (K : List Event) (p : ℕ) → NoTask e.what → holder (e ∷ K) p ≡ holder K p
-unfolding holder
-holder-frame e K p h = grind (arith, newest-same, event_at-older, reaped-frame, event_at-here, newest-suc)
+module _ (e : Event) (K : List Event) where
+  ended-frame : (n : Name) → changes_tasks e.what ≡ false → ended (e ∷ K) n ≡ ended K n
+  unfolding ended
+  ended-frame n h = grind arith
 
-free-frame : (e : Event) (K : List Event) (n p : ℕ) → NoTask e.what → free_from (e ∷ K) n p ≡ free_from K n p
-unfolding free_from
-free-frame e K zero p h = refl
-free-frame e K (suc n) p h = rw (holder-frame e K p h, free-frame e K n (p + 1) h)
+  reaped-frame : (n : Name) → changes_tasks e.what ≡ false → reaped (e ∷ K) n ≡ reaped K n
+  unfolding reaped was_waited_for
+  reaped-frame n h = grind (arith, ended-frame)
 
-last-frame : (base : ℕ) (e : Event) (K : List Event) → NoTask e.what → last_pid base (e ∷ K) ≡ last_pid base K
-unfolding last_pid
-last-frame base e K h = rw h.no_pid
+  holder-frame : (p : ℕ) → changes_tasks e.what ≡ false → holder (e ∷ K) p ≡ holder K p
+  unfolding holder newest
+  holder-frame p h =
+      let same = newest-same (holds (e ∷ K) p) (holds K p) (length K) (λ c l. rw (event_at-older e K c l, reaped-frame (name_of K c) h)) in
+      let here : holds (e ∷ K) p (length K) ≡ false = rw event_at-here (grind arith) in
+      rw here same
 
-next-frame : (base m : ℕ) (e : Event) (K : List Event) → NoTask e.what → next_pid base m (e ∷ K) ≡ next_pid base m K
-unfolding next_pid
-next-frame base m e K h = rw (last-frame base e K h, free-frame e K (base + m - last_pid base K) (last_pid base K + 1) h, free-frame e K (last_pid base K - base) (base + 1) h)
+  free-frame : (n p : ℕ) → changes_tasks e.what ≡ false → free_from (e ∷ K) n p ≡ free_from K n p
+  unfolding free_from
+  free-frame zero p h = refl
+  free-frame (suc n) p h = rw (holder-frame p h, free-frame n (p + 1) h)
 
-pub record NoList (w : What) : Type 0 where
-  pub no_leave : leaves w ≡ false
-  pub no_close : closes w ≡ false
-  pub no_enter : notifies w ≡ false
+  next-frame : (base m : ℕ) → changes_tasks e.what ≡ false → next_pid base m (e ∷ K) ≡ next_pid base m K
+  unfolding next_pid last_pid
+  next-frame base m h = let g : given e.what ≡ None = grind arith in rw (g, free-frame (base + m - last_pid base K) (last_pid base K + 1) h, free-frame (last_pid base K - base) (base + 1) h)
 
-no-list : (w : What) → changes_list w ≡ false → NoList w
-no-list w h = grind arith
+  listed-frame : (c : ℕ) → changes_list e.what ≡ false → listed (e ∷ K) c ≡ listed K c
+  unfolding listed
+  listed-frame c h = let b = listed-below K c in grind arith
 
-not-listed : (K : List Event) (c : ℕ) → length K ≤ c → listed K c ≡ false
-not-listed K c h = false_from_ne_true (listed K c) (λ q. omega (arith, listed-below K c q))
+  named-frame : (x : ℕ) → changes_list e.what ≡ false → named (e ∷ K) x ≡ named K x
+  unfolding named oldest
+  named-frame x h = grind (arith, oldest-same, listed-frame, event_at-older, listed-here)
 
-listed-frame : (e : Event) (K : List Event) (c : ℕ) → NoList e.what → listed (e ∷ K) c ≡ listed K c
-unfolding listed
-listed-frame e K c h = grind (arith, not-listed)
-
-named-frame : (e : Event) (K : List Event) (x : ℕ) → NoList e.what → named (e ∷ K) x ≡ named K x
-unfolding named
-named-frame e K x h = grind (arith, oldest-same, listed-frame, event_at-older, listed-here, oldest-suc)
-
-fetched-frame : (e : Event) (K : List Event) (c : ℕ) → changes_fetched e.what ≡ false → fetched (e ∷ K) c ≡ fetched K c
-unfolding fetched
-fetched-frame e K c h = grind arith
-
-count-frame : (e : Event) (K : List Event) → changes_count e.what ≡ false → count (e ∷ K) ≡ count K
-unfolding calls recvs
-count-frame e K h = grind arith
-
-pub record NoAnswer (K : List Event) (w : What) : Type 0 where
-  pub no_send : (c : ℕ) → answers K w c ≡ false
-  pub no_put : (c : ℕ) → puts_to K w c ≡ false
-  pub no_install : is_install w ≡ false
-
-no-answer : (K : List Event) (w : What) → changes_answered w ≡ false → NoAnswer K w
-no-answer K w h = grind arith
-
-settled-frame : (e : Event) (K : List Event) (c : ℕ) → NoAnswer K e.what → settled (e ∷ K) c ≡ settled K c
-unfolding settled
-settled-frame e K c h = rw (h.no_send c, h.no_install)
-
-queue-frame : (e : Event) (K : List Event) (c : ℕ) → NoAnswer K e.what → queue (e ∷ K) c ≡ queue K c
-unfolding queue
-queue-frame e K c h = rw (h.no_put c, h.no_install)
-
--- requests that stand below keep their flags
-sends-frame : (e : Event) (K : List Event) (c : ℕ) (rs : List ℕ) → Asks K c rs → some_sends (e ∷ K) rs ≡ some_sends K rs
-sends-frame e K c [] h = refl
-sends-frame e K c (r ∷ rs) h = rw (event_at-older e K r h.0.0, sends-frame e K c rs h.1)
-
-answered-frame : (e : Event) (K : List Event) (c : ℕ) → NoAnswer K e.what → answered (e ∷ K) c ≡ answered K c
-answered-frame e K c h = rw (settled-frame e K c h, queue-frame e K c h, sends-frame e K c (queue K c) (queue-asks K c))
+  answered-frame : (c : ℕ) → changes_answered e.what ≡ false → answered (e ∷ K) c ≡ answered K c
+  unfolding settled queue
+  answered-frame c h = let s = sends-frame e K (queue K c) (queue-below K c) in grind arith
 
 pub frame : (K : List Event) (e : Event) → Frame K e
 frame K e = record {
-  ended_same = λ n h. ended-frame e K n (no-task e.what h);
-  reaped_same = λ n h. reaped-frame e K n (no-task e.what h);
-  holder_same = λ p h. holder-frame e K p (no-task e.what h);
-  next_same = λ base m h. next-frame base m e K (no-task e.what h);
-  listed_same = λ c h. listed-frame e K c (no-list e.what h);
-  named_same = λ x h. named-frame e K x (no-list e.what h);
-  fetched_same = λ c h. fetched-frame e K c h;
-  count_same = λ h. count-frame e K h;
-  settled_same = λ c h. settled-frame e K c (no-answer K e.what h);
-  answered_same = λ c h. answered-frame e K c (no-answer K e.what h);
+  ended_same = ended-frame e K;
+  reaped_same = reaped-frame e K;
+  holder_same = holder-frame e K;
+  next_same = next-frame e K;
+  listed_same = listed-frame e K;
+  named_same = named-frame e K;
+  fetched_same = λ c h. unfold fetched in grind arith;
+  count_same = λ h. unfold calls recvs in grind arith;
+  settled_same = λ c h. unfold settled in grind arith;
+  answered_same = answered-frame e K;
   session_same = λ w h. unfold session in rw h;
 }

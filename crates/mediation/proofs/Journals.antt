@@ -1,31 +1,28 @@
 -- A legal history is fixed by its actors, and by the text of its journal; legality reads the same by places.
-use Rattle.mediation.proofs.Common.{◌≡◌, ◌⊎◌, inl, inr, ℕ, zero, suc, ◌+◌, ◌<◌, ◌≤◌, List, [], ◌∷◌, length, reverse, refl, ap, ap₂, ◌∙◌, arith, reverse-append, Rules, System, IsStep, IsLegal, Event}
-use Rattle.mediation.proofs.Common.{Actor, ◌^◌, true, ◌++◌, sym, codes, leb-true, eqb-false, Name, ev, is_made, is_actor, start, step, task_step, Start, Task, Worker, Listener, Skip, Policy, Script}
-use Rattle.mediation.proofs.Common.{take, get_or, add-one, take-length, take_more, append_assoc, append_cancel_left, ◌*◌, decimal, digits, flat_map, decimal_injective, decimal_by_steps}
-use Rattle.mediation.proofs.Common.{decimal_nonempty, name_text, actor_text, what_text, event_line, journal_line, lines_of, journal, actors, IsLegalByPlace, IsWritten, IsNamed, AreNamed}
-use Rattle.mediation.proofs.Common.{FixedByJournal, SharesJournal}
-use Rattle.std.specs.Prelude.{◌+◌, ◌%◌}
+use Rattle.mediation.proofs.Common.{[], Actor, actors, add-one, ap, append_assoc, append_cancel_left, ap₂, AreNamed, arith, below_or_last, codes, eqb-false, ev, Event, FixedByJournal, flat_map}
+use Rattle.mediation.proofs.Common.{get_or, inl, inr, is_actor, is_made, IsLegal, IsLegalByPlace, IsNamed, IsStep, IsWritten, leb-true, length, List, Listener, Name, Policy, refl, reverse}
+use Rattle.mediation.proofs.Common.{reverse-append, Rules, Script, SharesJournal, Skip, start, Start, step, suc, sym, System, take, take_more, Task, task_step, true, Worker, zero, ℕ, ◌%◌, ◌*◌, ◌++◌}
+use Rattle.mediation.proofs.Common.{◌+◌, ◌<◌, ◌^◌, ◌∙◌, ◌∷◌, ◌≡◌, ◌≤◌}
+use Rattle.hist_model.specs.ReportJournal.{event_line, journal_line, lines_of, what_text}
+use Rattle.hist_model.specs.ReportWords.{actor_text, name_text}
+use Rattle.std.proofs.Math.Seq.{take-length}
+use Rattle.std.proofs.lemmas.Fmt.{decimal_by_steps, decimal_injective, decimal_nonempty}
+use Rattle.std.specs.Fmt.{decimal, digits}
 
 -- ---- a legal history is fixed by its actors, and legality reads the same by places
 
-same-event : (d e : Event) → d.who ≡ e.who → d.what ≡ e.what → d ≡ e
-same-event d e p q = λ i. record { who = p i; what = q i }
-
 pub same-step : (S : System) (R : Rules) (K : List Event) (d e : Event) → IsStep S R K d → IsStep S R K e → d.who ≡ e.who → d ≡ e
 same-step S R K d e p q h = grind arith
-
-heads : (a b : Actor) (xs ys : List Actor) → a ∷ xs ≡ b ∷ ys → (a ≡ b) × (xs ≡ ys)
-heads a b xs ys h = (cc, cc)
 
 pub determined : (S : System) (R : Rules) (K L : List Event) → IsLegal S R K → IsLegal S R L → actors K ≡ actors L → K ≡ L
 determined S R [] [] p q h = refl
 determined S R [] (e ∷ L) p q h = cc
 determined S R (d ∷ K) [] p q h = cc
 determined S R (d ∷ K) (e ∷ L) p q h =
-    let t = heads d.who e.who (actors K) (actors L) h in
-    let r = determined S R K L p.1 q.1 t.1 in
-    let v : IsStep S R K e = rw (← r) at q.0 in
-    ap₂ (λ x xs. x ∷ xs) (same-step S R K d e p.0 v t.0) r
+    let t : actors K ≡ actors L = cc in
+    let u : d.who ≡ e.who = cc in
+    let r = determined S R K L p.1 q.1 t in
+    ap₂ (λ x xs. x ∷ xs) (same-step S R K d e p.0 (rw (← r) at q.0) u) r
 
 past_more : (xs : List Event) (i : ℕ) (d : Event) → i < length xs → reverse (take (i + 1) xs) ≡ get_or xs i d ∷ reverse (take i xs)
 past_more xs i d h = ap reverse (take_more xs i d h) ∙ reverse-append (take i xs) (get_or xs i d ∷ [])
@@ -36,24 +33,21 @@ by-place S R H d h (suc n) l =
     let q : reverse (take (suc n) H) ≡ get_or H n d ∷ reverse (take n H) = rw add-one at (past_more H n d (omega arith)) in
     rw q (h n d (omega arith), by-place S R H d h n (omega arith))
 
-pub legal-by-place : (S : System) (R : Rules) (H : List Event) (d : Event) → IsLegalByPlace S R H → IsLegal S R (reverse H)
-legal-by-place S R H d h = rw take-length at (by-place S R H d h (length H) (omega arith))
+pub legal_by_place : (S : System) (R : Rules) (H : List Event) (d : Event) → IsLegalByPlace S R H → IsLegal S R (reverse H)
+legal_by_place S R H d h = rw take-length at (by-place S R H d h (length H) (omega arith))
 
 places-of : (S : System) (R : Rules) (H : List Event) (n : ℕ) → n ≤ length H → IsLegal S R (reverse (take n H)) → (i : ℕ) (d : Event) → i < n → IsStep S R (reverse (take i H)) (get_or H i d)
 places-of S R H zero l legal i d h = absurd (omega arith)
 places-of S R H (suc n) l legal i d h =
     let q : reverse (take (suc n) H) ≡ get_or H n d ∷ reverse (take n H) = rw add-one at (past_more H n d (omega arith)) in
     let v : IsLegal S R (get_or H n d ∷ reverse (take n H)) = rw q at legal in
-    elim (last i n h) [
+    elim (below_or_last i n h) [
       | inl m ↦ places-of S R H n (omega arith) v.1 i d m
       | inr m ↦ rw m v.0
     ]
-  where
-    last : (i n : ℕ) → i < suc n → (i < n) ⊎ (i ≡ n)
-    last i n h = grind arith
 
-pub place-of-legal : (S : System) (R : Rules) (H : List Event) → IsLegal S R (reverse H) → IsLegalByPlace S R H
-place-of-legal S R H legal i d h = places-of S R H (length H) (omega arith) (rw take-length legal) i d h
+pub place_of_legal : (S : System) (R : Rules) (H : List Event) → IsLegal S R (reverse H) → IsLegalByPlace S R H
+place_of_legal S R H legal i d h = places-of S R H (length H) (omega arith) (rw take-length legal) i d h
 
 -- ---- a legal history is fixed by the text of its journal
 
@@ -120,9 +114,7 @@ unfolding Low
 name-same [] [] p q h g e = refl
 name-same [] (k ∷ m) p q h g e = absurd (no-number k (32 ∷ p) (more_text m ++ 32 ∷ q) g.0 (omega arith) (low-more m q) (simp append_assoc at e))
 name-same (k ∷ n) [] p q h g e = absurd (no-number k (32 ∷ q) (more_text n ++ 32 ∷ p) h.0 (omega arith) (low-more n p) (simp append_assoc at (sym e)))
-name-same (k ∷ n) (j ∷ m) p q h g e =
-    let s = number-same k j (more_text n ++ 32 ∷ p) (more_text m ++ 32 ∷ q) h.0 g.0 (low-more n p) (low-more m q) (simp append_assoc at e) in
-    ap₂ (λ x xs. x ∷ xs) s.0 (more-same n m p q h.1 g.1 s.1)
+name-same (k ∷ n) (j ∷ m) p q h g e = more-same (k ∷ n) (j ∷ m) p q h g (ap (λ xs. 46 ∷ xs) e)
 
 abbrev first-byte : List ℕ → ℕ
 first-byte [] = 0
@@ -166,17 +158,14 @@ lines-fix S R (d ∷ K) (e ∷ L) x y p q h g l t =
     let w = append_cancel_left (lines_of journal_line K) _ _ (rw (← r) at u) in
     ap₂ (λ z zs. z ∷ zs) (same-step S R K d e p.0 v (line-same (length K) d e x y h.0 g.0 (is-actor S R K d p.0) (is-actor S R K e v) w)) r
 
-pub fixed-by-text : (S : System) (R : Rules) (K L : List Event) → IsLegal S R K → IsLegal S R L → length K < 2 ^ 64 → length L < 2 ^ 64 → AreNamed K → AreNamed L → journal K ≡ journal L → K ≡ L
+pub fixed_by_journal : (P : Policy) (S : Script) → FixedByJournal P S
 unfolding Low
-fixed-by-text S R K L p q l m h g t =
+fixed_by_journal P S K L p q h g t =
     let u : codes "journal " ++ (decimal (length K) ++ (10 ∷ lines_of journal_line K)) ≡ codes "journal " ++ (decimal (length L) ++ (10 ∷ lines_of journal_line L)) = simp append_assoc at t in
     let v = append_cancel_left (codes "journal ") _ _ u in
-    let n = number-same (length K) (length L) _ _ l m (omega arith) (omega arith) v in
+    let n = number-same (length K) (length L) _ _ p.1 q.1 (omega arith) (omega arith) v in
     let w : lines_of journal_line K ≡ lines_of journal_line L = cc in
-    lines-fix S R K L [] [] p q h g n.0 (ap (λ x. x ++ []) w)
-
-pub fixed-by-journal : (P : Policy) (S : Script) → FixedByJournal P S
-fixed-by-journal P S K L p q h g t = fixed-by-text _ _ K L p.0 q.0 p.1 q.1 h g t
+    lines-fix _ _ K L [] [] p.0 q.0 h g n.0 (ap (λ x. x ++ []) w)
 
 -- without the bound: two tasks whose numbers end in 64 zeros, and that do nothing, since they are not there
 absent : System → ℕ → List Event
@@ -190,9 +179,9 @@ newest-number : List Event → ℕ
 newest-number [] = 0
 newest-number (e ∷ K) = number-of e.who
 
-pub shares-journal : (S : System) (R : Rules) → SharesJournal S R
+pub shares_journal : (S : System) (R : Rules) → SharesJournal S R
 unfolding absent newest-number number-of step task_step is_made lines_of digits
-shares-journal S R = (
+shares_journal S R = (
   absent S (10 ^ 64),
   absent S (2 * 10 ^ 64),
   ((refl, refl, refl, refl), (refl, tt)),

@@ -1,6 +1,5 @@
 pub mod Common
 pub mod Rows
-pub mod Deeds
 pub mod Tasks
 pub mod Calls
 pub mod Hands
@@ -11,9 +10,6 @@ pub mod Replies
 pub mod Effects
 pub mod Audited
 pub mod Mediation
-pub mod Sessions
 pub mod Framed
-pub mod Finishes
 pub mod Journals
 pub mod Played
-pub mod Refusals

@@ -1,166 +1,87 @@
 -- The steps of a session stand in order, and what it decided stays.
-use Rattle.mediation.proofs.Common.{uses_copy, ◌≡◌, inl, inr, ℕ, Bool, true, false, ◌||◌, List, [], ◌∷◌, Option, Some, None, refl, sym, ap, ◌∙◌, arith, ◌==◌, Result, Ok, cases_Bool, Rules, Fetch}
-use Rattle.mediation.proofs.Common.{Open, OpenB, Ask, ReadD, ActD, PlantD, Put, Take, Answer, Let, Decision, Injects, fetched_by, deed, session, starts, joined, notif_of, any_of, is_read, reads_of}
-use Rattle.mediation.proofs.Common.{first_some, put_in, take_in, checks, number_of, System, is_acting, IsStep, IsLegal, Event, What, Recv, OpenMem, OpenBase, Check, Read, Act, Plant, AddfdPut}
-use Rattle.mediation.proofs.Common.{AddfdTake, Send, LetGo, Notif, ◌⊎◌, ◌<◌, ◌≤◌, eqb-true, eqb-false, opens, opens_base, gives_up, InOrder, is_good_check}
-use Rattle.mediation.proofs.Deeds.{deed-is, AtWork, HasCopied}
-use Rattle.mediation.proofs.Hands.{worker-row, session-same, session-more, started}
+use Rattle.mediation.proofs.Common.{[], and_parts, any_of, arith, Bool, cases_Bool, checks, copied, Decision, Event, false, first_some, gives_up, Injects, inl, InOrder, inr, is_acting}
+use Rattle.mediation.proofs.Common.{is_good_check, is_worker, IsLegal, joined, List, list_any, nat_le, None, not, not-true, Notif, notif_of, number_of, Ok, opened, opens, opens_base, Option, put_in}
+use Rattle.mediation.proofs.Common.{reads_of, refl, Result, Rules, session, skips, Some, starts, System, take_in, true, What, ℕ, ◌&&◌, ◌<◌, ◌∷◌, ◌≡◌, ◌≤◌, ◌⊎◌}
+use Rattle.mediation.proofs.Rows.{AtWork, HasCopied, Told, WorkerRow, by-steps}
+use Rattle.mediation.proofs.Hands.{worker-row}
+use Rattle.hist_model.specs.ReportAudit.{is_spent}
 
--- ---- a session by itself: each of its steps is the deed after those before it
+-- ---- a session by itself: each of its steps is one that may follow those before it
 
--- the step is the deed after these
-abbrev pub Suits : Rules → List What → What → Type 0
-Suits R own (Recv a) = deed R own ≡ Fetch
-Suits R own (OpenMem p a) = deed R own ≡ Open p
-Suits R own (OpenBase p d a) = deed R own ≡ OpenB p d
-Suits R own (Check x a) = deed R own ≡ Ask x
-Suits R own (Read x l a) = deed R own ≡ ReadD x l
-Suits R own (Act q cap a) = deed R own ≡ ActD q cap
-Suits R own (Plant x b cap a) = deed R own ≡ PlantD x b cap
-Suits R own (AddfdPut q a) = deed R own ≡ Put q
-Suits R own (AddfdTake a) = deed R own ≡ Take
-Suits R own (Send x b a) = deed R own ≡ Answer x b
-Suits R own LetGo = deed R own ≡ Let
-Suits R own _ = ⊥
+-- the step begins the session, or is told by the steps before it
+abbrev pub Follows : Rules → List What → What → Type 0
+Follows R own a = ((starts a ≡ true) × (own ≡ [])) ⊎ ((starts a ≡ false) × Told R own a)
 
 abbrev pub IsOwn : Rules → List What → Type 0
 IsOwn R [] = Unit {0}
-IsOwn R (a ∷ []) = starts a ≡ true
-IsOwn R (a ∷ b ∷ own) = Suits R (b ∷ own) a × (starts a ≡ false) × IsOwn R (b ∷ own)
+IsOwn R (a ∷ own) = Follows R own a × IsOwn R own
 
-joined-own : (R : Rules) (own : List What) (a : What) (b : Bool) → starts a ≡ b → IsOwn R own → Suits R own a → IsOwn R (joined a own)
-joined-own R own a true h i s = rw (started own a h) h
-joined-own R [] a false h i s = rw h tt
-joined-own R (b ∷ own) a false h i s = rw h (s, h, i)
+joined-own : (R : Rules) (own : List What) (a : What) → IsOwn R own → Told R own a → IsOwn R (joined a own)
+joined-own R own a i s = grind arith
 
-own-step : (S : System) (R : Rules) (K : List Event) (e : Event) (w : ℕ) → IsStep S R K e → IsOwn R (session K w) → IsOwn R (session (e ∷ K) w)
-own-step S R K e w r i = grind (arith, session-more, joined-own, worker-row, session-same)
+-- what holds of no steps, and with a step of the worker still, holds of its session in each legal history
+pub by-joins : (S : System) (R : Rules) (P : List What → Type 0) → P []
+    → ((K : List Event) (w : ℕ) (what : What) → WorkerRow S R K w what → skips what ≡ false → P (session K w) → P (joined what (session K w)))
+    → (K : List Event) → IsLegal S R K → (w : ℕ) → P (session K w)
+unfolding session
+by-joins S R P z f = by-steps S R (λ K. (w : ℕ) → P (session K w)) (λ w. z) (λ K e legal r ih w. elim (cases_Bool (is_worker e.who w && not (skips e.what))) [
+  | inl q ↦ let p = and_parts (is_worker e.who w) (not (skips e.what)) q in rw q (f K w e.what (worker-row S R K e.who e.what w r p.0) (not-true (skips e.what) p.1) (ih w))
+  | inr q ↦ rw q (ih w)
+])
 
 pub is-own : (S : System) (R : Rules) (K : List Event) → IsLegal S R K → (w : ℕ) → IsOwn R (session K w)
-unfolding session
-is-own S R [] legal = λ w. tt
-is-own S R (e ∷ K) legal = λ w. own-step S R K e w legal.0 (is-own S R K legal.1 w)
+is-own S R = by-joins S R (IsOwn R) tt (λ K w what r h i. joined-own R (session K w) what i (grind arith))
 
--- after both checks, and with the copy complete and sound, the decision is of this form
-pub record Fixed (R : Rules) (D : Decision → Type 0) (own : List What) (n : Notif) : Type 0 where
-  pub checked : any_of checks own ≡ true
-  pub twice : (number_of checks own == 1) ≡ false
-  pub copied : R.next_piece n (reads_of own) ≡ None
+-- what holds of no steps, and with one more step still, holds of each session
+pub by-own : (R : Rules) (P : List What → Type 0) → P [] → ((own : List What) (a : What) → Follows R own a → P own → P (a ∷ own)) → (own : List What) → IsOwn R own → P own
+by-own R P z f [] i = z
+by-own R P z f (a ∷ own) i = f own a i.0 (by-own R P z f own i.1)
+
+-- ---- what a session decided stays
+
+-- the copy was used where the decision is of this form
+pub record Used (R : Rules) (D : Decision → Type 0) (own : List What) (n : Notif) : Type 0 where
+  pub copied : HasCopied R own n
   pub sound : R.fault n (reads_of own) ≡ None
   pub decided : D (R.decide n (reads_of own))
 
-no-start : (a : What) → starts a ≡ false → fetched_by a ≡ None
-no-start a h = grind arith
+-- after the copy nothing is read or checked any more
+no-more : (R : Rules) (own : List What) (a : What) (n : Notif) → Follows R own a → notif_of own ≡ Some n → HasCopied R own n
+    → HasCopied R (a ∷ own) n × (reads_of (a ∷ own) ≡ reads_of own) × (notif_of (a ∷ own) ≡ Some n)
+no-more R own a n s h c = grind arith
 
--- the copy's uses of one kind: where each finds the decision of a form, the decision stays so for the rest of the session
-module _ (R : Rules) (D : Decision → Type 0) (uses : What → Bool)
-    (found : (own : List What) (a : What) → Suits R own a → uses a ≡ true → (n : Notif) × (notif_of own ≡ Some n) × Fixed R D own n)
-    (apart : (a : What) → uses a ≡ true → (is_read a ≡ false) × (checks a ≡ false) × (starts a ≡ false)) where
-  later : (own : List What) (n : Notif) (a : What) → is_read a ≡ false → checks a ≡ false → Fixed R D own n → Fixed R D (a ∷ own) n
-  later own n a h g i = record { checked = rw g i.checked; twice = rw g i.twice; copied = rw h i.copied; sound = rw h i.sound; decided = rw h i.decided }
+used-more : (R : Rules) (D : Decision → Type 0) (own : List What) (a : What) (n : Notif) → Follows R own a → notif_of own ≡ Some n → Used R D own n → Used R D (a ∷ own) n
+used-more R D own a n s h u = let m = no-more R own a n s h u.copied in record { copied = m.0; sound = rw m.1 u.sound; decided = rw m.1 u.decided }
 
-  -- another step once the decision is fixed
-  fixed-later : (own : List What) (n : Notif) (a : What) → Suits R own a → notif_of own ≡ Some n → Fixed R D own n → Fixed R D (a ∷ own) n
-  fixed-later own n (Read y l z) s h f =
-      let t = deed-is R own _ s in
-      let m : t.0 ≡ n = cc (t.1.notif_is, h) in
-      let g : R.next_piece n (reads_of own) ≡ Some (y, l) = rw m at t.4 in
-      absurd (cc (sym f.copied ∙ g))
-  fixed-later own n (Check y z) s h f =
-      let t = deed-is R own _ s in
-      elim t.4 [ inl q ↦ absurd (cc (q, f.checked)) | inr q ↦ absurd (cc (f.twice, q.0)) ]
-  fixed-later own n a s h f = later own n a refl refl f
-
-  pub use-fixed : (own : List What) (n : Notif) → IsOwn R own → notif_of own ≡ Some n → any_of uses own ≡ true → Fixed R D own n
-  use-fixed [] n i h u = cc
-  use-fixed (a ∷ []) n i h u = let p = apart a (or-false (uses a) u) in absurd (cc (i, p.2))
-    where
-      or-false : (b : Bool) → (b || false) ≡ true → b ≡ true
-      or-false b k = grind arith
-  use-fixed (a ∷ b ∷ own) n i h u =
-      let q : notif_of (b ∷ own) ≡ Some n = rw (no-start a i.1) at h in
-      elim (cases_Bool (uses a)) [
-        | inl v ↦
-            let t = found (b ∷ own) a i.0 v in
-            let m : t.0 ≡ n = cc (t.1, q) in
-            let p = apart a v in
-            later (b ∷ own) n a p.0 p.1 (rw m at t.2)
-        | inr v ↦ fixed-later (b ∷ own) n a i.0 q (use-fixed (b ∷ own) n i.2 q (rw v at u))
-      ]
-
--- once something was put, the rule injects, and this stays
+-- once something was put, the rule injects, and once an effect's times were spent, it grants
 abbrev pub IsInjection : Decision → Type 0
 IsInjection d = (src : ℕ) × (at : Option ℕ) × (flags : ℕ) × (d ≡ Injects src at flags)
 
-abbrev pub is_put : What → Bool
-is_put (AddfdPut q a) = true
-is_put _ = false
-
-put-found : (R : Rules) (own : List What) (a : What) → Suits R own a → is_put a ≡ true → (n : Notif) × (notif_of own ≡ Some n) × Fixed R IsInjection own n
-put-found R own (AddfdPut q y) s h =
-    let t = deed-is R own _ s in
-    (t.0, t.1.notif_is, record { checked = t.3.checked; twice = t.3.twice; copied = t.3.copied; sound = t.4.sound; decided = (t.4.src, t.4.place, t.4.flags, t.4.decided) })
-put-found R own a s h = cc
-
-put-apart : (a : What) → is_put a ≡ true → (is_read a ≡ false) × (checks a ≡ false) × (starts a ≡ false)
-put-apart a h = grind arith
-
-put-any : (own : List What) (x : Result (Unit {0}) ℕ) → first_some put_in own ≡ Some x → any_of is_put own ≡ true
-put-any [] x h = cc
-put-any (a ∷ own) x h = let ih = put-any own x in grind arith
-
-pub put-fixed : (R : Rules) (own : List What) (n : Notif) (x : Result (Unit {0}) ℕ) → IsOwn R own → notif_of own ≡ Some n → first_some put_in own ≡ Some x → Fixed R IsInjection own n
-put-fixed R own n x i h p = use-fixed R IsInjection is_put (put-found R) put-apart own n i h (put-any own x p)
-
--- once an effect was tried, the rule grants, and this stays
 abbrev pub IsGrant : Decision → Type 0
 IsGrant d = is_acting d ≡ true
 
-abbrev pub is_effect : What → Bool
-is_effect (Act q cap a) = true
-is_effect (Plant x b cap a) = true
-is_effect _ = false
+pub put-fixed : (R : Rules) (own : List What) → IsOwn R own → (n : Notif) (x : Result (Unit {0}) ℕ) → notif_of own ≡ Some n → first_some put_in own ≡ Some x → Used R IsInjection own n
+put-fixed R = by-own R (λ own. (n : Notif) (x : Result (Unit {0}) ℕ) → notif_of own ≡ Some n → first_some put_in own ≡ Some x → Used R IsInjection own n) (λ n x h. cc)
+    (λ own a s ih n x h p. grind (arith, used-more R IsInjection own a n s))
 
-effect-found : (R : Rules) (own : List What) (a : What) → Suits R own a → is_effect a ≡ true → (n : Notif) × (notif_of own ≡ Some n) × Fixed R IsGrant own n
-effect-found R own (Act q cap y) s h =
-    let t = deed-is R own _ s in
-    (t.0, t.1.notif_is, record { checked = t.3.checked; twice = t.3.twice; copied = t.3.copied; sound = t.6; decided = ap is_acting t.4 })
-effect-found R own (Plant x b cap y) s h =
-    let t = deed-is R own _ s in
-    (t.0, t.1.notif_is, record { checked = t.3.checked; twice = t.3.twice; copied = t.3.copied; sound = t.6; decided = ap is_acting t.4 })
-effect-found R own a s h = cc
-
-effect-apart : (a : What) → is_effect a ≡ true → (is_read a ≡ false) × (checks a ≡ false) × (starts a ≡ false)
-effect-apart a h = grind arith
-
-pub effect-fixed : (R : Rules) (own : List What) (n : Notif) → IsOwn R own → notif_of own ≡ Some n → any_of is_effect own ≡ true → Fixed R IsGrant own n
-effect-fixed R own n i h e = use-fixed R IsGrant is_effect (effect-found R) effect-apart own n i h e
+pub spent-fixed : (R : Rules) (own : List What) → IsOwn R own → (n : Notif) → notif_of own ≡ Some n → list_any is_spent own ≡ true → Used R IsGrant own n
+spent-fixed R = by-own R (λ own. (n : Notif) → notif_of own ≡ Some n → list_any is_spent own ≡ true → Used R IsGrant own n) (λ n h. cc)
+    (λ own a s ih n h p. grind (arith, used-more R IsGrant own a n s))
 
 -- a take comes after a good put
-pub take-after_put : (R : Rules) (own : List What) (t : Result ℕ ℕ) → IsOwn R own → first_some take_in own ≡ Some t → (u : Unit {0}) × (first_some put_in own ≡ Some (Ok u))
-take-after_put R [] t i h = cc
-take-after_put R (a ∷ []) t i h = grind arith
-take-after_put R (AddfdTake y ∷ b ∷ own) t i h = let v = deed-is R (b ∷ own) _ i.0 in (v.4.0, v.4.1)
-take-after_put R (AddfdPut q y ∷ b ∷ own) t i h =
-    let v = deed-is R (b ∷ own) _ i.0 in
-    let f = take-after_put R (b ∷ own) t i.2 h in
-    absurd (cc (sym v.5 ∙ f.1))
-take-after_put R (a ∷ b ∷ own) t i h = take-after_put R (b ∷ own) t i.2 h
+pub take-after_put : (R : Rules) (own : List What) → IsOwn R own → (t : Result ℕ ℕ) → first_some take_in own ≡ Some t → first_some put_in own ≡ Some (Ok tt)
+take-after_put R = by-own R (λ own. (t : Result ℕ ℕ) → first_some take_in own ≡ Some t → first_some put_in own ≡ Some (Ok tt)) (λ t h. cc) (λ own a s ih t h. grind arith)
 
 -- ---- the steps of a session stand in order
 
 -- before the end each check was good
-goods : (own : List What) → any_of gives_up own ≡ false → number_of is_good_check own ≡ number_of checks own
+pub goods : (own : List What) → any_of gives_up own ≡ false → number_of is_good_check own ≡ number_of checks own
 goods [] h = refl
 goods (a ∷ own) h = let ih = goods own in grind arith
 
-none-of : (own : List What) → any_of checks own ≡ false → number_of checks own ≡ 0
-none-of [] h = refl
-none-of (a ∷ own) h = let ih = none-of own in grind arith
-
-some-of : (own : List What) → any_of checks own ≡ true → 0 < number_of checks own
-some-of [] h = cc
-some-of (a ∷ own) h = let ih = some-of own in grind arith
+pub any-number : (test : What → Bool) (own : List What) → any_of test own ≡ nat_le 1 (number_of test own)
+any-number test [] = refl
+any-number test (a ∷ own) = let ih = any-number test own in grind arith
 
 -- at most two checks, and after the second the copy is complete
 pub record Checked (R : Rules) (own : List What) : Type 0 where
@@ -170,70 +91,17 @@ pub record Checked (R : Rules) (own : List What) : Type 0 where
   pub based : (n : Notif) → notif_of own ≡ Some n → (0 < number_of checks own) → (R.dirfd n ≡ None) ⊎ (any_of opens_base own ≡ true)
   pub order : InOrder own
 
--- a step that is no check, no opening, no read and no use
-plain : (R : Rules) (own : List What) (a : What) → checks a ≡ false → is_read a ≡ false → (any_of opens own ≡ true → any_of opens (a ∷ own) ≡ true) → (any_of opens_base own ≡ true → any_of opens_base (a ∷ own) ≡ true)
-    → ((n : Notif) → notif_of (a ∷ own) ≡ Some n → notif_of own ≡ Some n) → Checked R own → InOrder (a ∷ own) → Checked R (a ∷ own)
-plain R own a c r o b m ih order = grind arith
-
 pub used-two : (R : Rules) (own : List What) (n : Notif) → AtWork own n → HasCopied R own n → Checked R own → number_of is_good_check own ≡ 2
-used-two R own n work c ih =
-    let g = goods own work.no_end in
-    let p = some-of own c.checked in
-    let q = eqb-false (number_of checks own) 1 c.twice in
-    let m = ih.most in
-    omega arith
-
--- a use of the copy
-use-step : (R : Rules) (own : List What) (a : What) (n : Notif) → uses_copy a ≡ true → AtWork own n → HasCopied R own n → Checked R own → Checked R (a ∷ own)
-use-step R own a n u work c ih = let two = used-two R own n work c ih in grind (arith, plain)
+used-two R own n work c ih = grind (arith, goods, any-number)
 
 pub ordered : (R : Rules) (own : List What) → IsOwn R own → Checked R own
-ordered R [] i = record { most = omega arith; complete = λ n h. cc; opened = λ h. absurd (omega arith); based = λ n h. cc; order = tt }
-ordered R (a ∷ []) i = grind arith
-ordered R (Check x y ∷ b ∷ own) i =
-    let t = deed-is R (b ∷ own) _ i.0 in
-    let ih = ordered R (b ∷ own) i.2 in
-    record {
-      most = elim t.4 [ inl q ↦ omega (arith, none-of (b ∷ own) q) | inr q ↦ omega (arith, eqb-true (number_of checks (b ∷ own)) 1 q.0) ];
-      complete = λ n h e. elim t.4 [
-        | inl q ↦ absurd (omega (arith, none-of (b ∷ own) q))
-        | inr q ↦ let m : t.0 ≡ n = cc (t.1.notif_is, h) in rw m at q.1
-      ];
-      opened = λ h. t.2.mem;
-      based = λ n h e. let m : t.0 ≡ n = cc (t.1.notif_is, h) in rw m at t.2.base;
-      order = (λ h. cc, λ h. cc, λ h. cc, ih.order);
-    }
-ordered R (Read x l y ∷ b ∷ own) i =
-    let t = deed-is R (b ∷ own) _ i.0 in
-    let ih = ordered R (b ∷ own) i.2 in
-    record {
-      most = ih.most;
-      complete = λ n h e. let m : t.0 ≡ n = cc (t.1.notif_is, h) in absurd (cc (ih.complete n h e, rw m at t.4));
-      opened = ih.opened;
-      based = ih.based;
-      order = (
-        λ h. cc,
-        λ h. (let g = goods (b ∷ own) t.1.no_end in let p = some-of (b ∷ own) t.3 in let m = ih.most in
-            let two : number_of checks (b ∷ own) ≡ 2 → ⊥ = λ e. cc (ih.complete t.0 t.1.notif_is e, t.4) in omega arith),
-        λ h. cc,
-        ih.order,
-      );
-    }
-ordered R (OpenMem p y ∷ b ∷ own) i =
-    let t = deed-is R (b ∷ own) _ i.0 in
-    let ih = ordered R (b ∷ own) i.2 in
-    let g = goods (b ∷ own) t.1.no_end in
-    let no : (0 < number_of checks (b ∷ own)) → ⊥ = λ h. cc (t.2, ih.opened h) in
-    plain R (b ∷ own) (OpenMem p y) refl refl (λ h. refl) (λ h. h) (λ n h. h) ih (λ h. (omega arith), λ h. cc, λ h. cc, ih.order)
-ordered R (OpenBase p d y ∷ b ∷ own) i =
-    let t = deed-is R (b ∷ own) _ i.0 in
-    let ih = ordered R (b ∷ own) i.2 in
-    let g = goods (b ∷ own) t.1.no_end in
-    let no : (0 < number_of checks (b ∷ own)) → ⊥ = λ h. elim (ih.based t.0 t.1.notif_is h) [ inl q ↦ cc (q, t.5) | inr q ↦ cc (t.3, q) ] in
-    plain R (b ∷ own) (OpenBase p d y) refl refl (λ h. h) (λ h. refl) (λ n h. h) ih (λ h. (omega arith), λ h. cc, λ h. cc, ih.order)
-ordered R (Act q cap y ∷ b ∷ own) i = let t = deed-is R (b ∷ own) _ i.0 in use-step R (b ∷ own) (Act q cap y) t.0 refl t.1 t.3 (ordered R (b ∷ own) i.2)
-ordered R (Plant x v cap y ∷ b ∷ own) i = let t = deed-is R (b ∷ own) _ i.0 in use-step R (b ∷ own) (Plant x v cap y) t.0 refl t.1 t.3 (ordered R (b ∷ own) i.2)
-ordered R (AddfdPut q y ∷ b ∷ own) i = let t = deed-is R (b ∷ own) _ i.0 in use-step R (b ∷ own) (AddfdPut q y) t.0 refl t.1 t.3 (ordered R (b ∷ own) i.2)
-ordered R (Send x v y ∷ b ∷ own) i = let t = deed-is R (b ∷ own) _ i.0 in use-step R (b ∷ own) (Send x v y) t.0 refl t.1 t.3 (ordered R (b ∷ own) i.2)
-ordered R (Recv (Ok m) ∷ b ∷ own) i = grind arith
-ordered R (a ∷ b ∷ own) i = grind (arith, plain, ordered R (b ∷ own) i.2)
+ordered R = by-own R (Checked R) (record { most = omega arith; complete = λ n h. cc; opened = λ h. absurd (omega arith); based = λ n h. cc; order = tt }) (λ own a s ih. record {
+  most = grind (arith, any-number);
+  complete = λ n h q. grind (arith, any-number);
+  opened = λ h. grind arith;
+  based = λ n h q. grind arith;
+  order = (λ h. grind (arith, goods), λ h. grind (arith, goods, any-number), λ h. grind (arith, used-two), ih.order);
+})
+
+pub in_order : (S : System) (R : Rules) (K : List Event) → IsLegal S R K → (w : ℕ) → InOrder (session K w)
+in_order S R K legal w = (ordered R (session K w) (is-own S R K legal w)).order

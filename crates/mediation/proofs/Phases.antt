@@ -1,20 +1,16 @@
 -- How far a listed call is: not fetched, in hand, or answered.
-use Rattle.mediation.proofs.Common.{◌≡◌, ℕ, ◌<◌, ◌≤◌, Bool, true, false, List, [], ◌∷◌, ◌++◌, length, Option, Some, None, refl, sym, ◌∙◌, arith, if◌then◌else◌, Result, Ok, Err, or_right}
-use Rattle.mediation.proofs.Common.{ne_eqb, eq-eqb, is_place, is_task, task_name, listed, fetched, caller, named, answers, settled, settles, waiting, puts_to, installs_for, is_install, queue}
-use Rattle.mediation.proofs.Common.{rest_of, call_of, Rules, System, IsLegal, call_at, install_step, slot_answer, Event, Actor, Task, What, Install, Addfd, oldest-some, name_eq-true, ◌⊎◌, inl, inr}
-use Rattle.mediation.proofs.Common.{◌^◌, ◌&&◌, ◌||◌, ap, ◌==◌, cases_Bool, is_worker, fetches, id, is_send, session, any_of, gives_up, first_some, put_in, take_in, session_call}
-use Rattle.mediation.proofs.Common.{call_after, install_of, installed, request_of, request_after, fetcher, worker_of, AddfdPut, Send, Notif, event_at-older, oldest_unfetched, ev, Recv, not, ℤ}
-use Rattle.mediation.proofs.Common.{holder, ended, name_of, has_send_flag, checks, number_of, Fetch, Let, reads_of, take_step, group, Cause, faulty, denied, passed, done, not_put, not_taken, Back}
-use Rattle.mediation.proofs.Common.{OpenMem, OpenBase, Check, Read, Act, Plant, AddfdTake, LetGo, Skip, event_at-here, false_from_ne_true, IsStep, Worker, below_or_last, asked_call, Slot}
-use Rattle.mediation.proofs.Common.{Number, Full, Over}
-use Rattle.mediation.proofs.Rows.{Row, WorkerRow, row-of}
-use Rattle.mediation.proofs.Tasks.{waits-in, listed-below, calls_are_last, place-is, living-holder}
-use Rattle.mediation.proofs.Calls.{ids_differ, fetching, fetched-same, installs-open, fetched-new}
-use Rattle.mediation.proofs.Deeds.{AtWork, deed-is}
-use Rattle.mediation.proofs.Hands.{names-own, by-session, FetchKept, hand, in-hand, call-same, call-more, named-some, InSession, works, works-keep, at-work, session-same, session-more, grown}
-use Rattle.mediation.proofs.Hands.{worker-row, started}
-use Rattle.mediation.proofs.Order.{is-own, put-fixed, take-after_put, Fixed, IsInjection}
-use Rattle.mediation.proofs.Handles.{listed-was}
+use Rattle.mediation.proofs.Common.{[], Actor, Addfd, AddfdPut, AddfdTake, answers, any_of, arith, asked_call, below_or_last, Bool, both_ways, call_at, call_of, caller, cases_Bool, Check, ended}
+use Rattle.mediation.proofs.Common.{ends, eq-eqb, Err, ev, Event, event_at-here, event_at-older, false, false_from_ne_true, fetched, fetcher, fetches, first_some, gives_up, id, inl, inr, Install}
+use Rattle.mediation.proofs.Common.{install_of, install_step, installs_for, is_first, is_known_error, is_lost, is_place, is_send, is_worker, IsLegal, length, List, listed, name_eq-true, name_of}
+use Rattle.mediation.proofs.Common.{named, ne_eqb, None, Ok, oldest_unfetched, OpenBase, OpenMem, Option, or_left, or_parts, or_right, put_in, puts_to, queue, Recv, refl, request_after, request_of}
+use Rattle.mediation.proofs.Common.{Result, Rules, Send, session, session_call, SessionsSettle, settled, settles, slot_answer, Some, sym, System, take_in, take_step, Task, true, waiting, What}
+use Rattle.mediation.proofs.Common.{Worker, ℕ, ◌&&◌, ◌+◌, ◌<◌, ◌==◌, ◌^◌, ◌||◌, ◌∙◌, ◌∷◌, ◌≡◌, ◌≤◌}
+use Rattle.mediation.proofs.Rows.{WorkerRow, Row, row-of, by-few-steps}
+use Rattle.mediation.proofs.Tasks.{same-name, listed-below, listed-was, waits-here, place-is}
+use Rattle.mediation.proofs.Calls.{is_call-below, ids_differ, fetched-new, fetching}
+use Rattle.mediation.proofs.Hands.{InSession, works, at-work, no-fetch, in-hand, hand, in-hand-of, FetchKept, WorkKept, StillKept, by-session, named-own}
+use Rattle.mediation.proofs.Order.{is-own, put-fixed, take-after_put}
+use Rattle.mediation.proofs.Handles.{opens-own}
 
 -- ---- what changes a call's requests and its answer
 
@@ -24,93 +20,47 @@ pub record Clean (K : List Event) (c : ℕ) : Type 0 where
   pub unsettled : settled K c ≡ false
 
 -- the event does nothing to the call
-pub record Calm (K : List Event) (e : Event) (c : ℕ) : Type 0 where
+record Calm (K : List Event) (e : Event) (c : ℕ) : Type 0 where
   pub no_put : puts_to K e.what c ≡ false
   pub no_install : installs_for K e c ≡ false
   pub no_answer : answers K e.what c ≡ false
 
-pub calm-queue : (e : Event) (K : List Event) (c : ℕ) → Calm K e c → queue (e ∷ K) c ≡ queue K c
-unfolding queue
-calm-queue e K c m = rw (m.no_put, m.no_install)
+calm-same : (e : Event) (K : List Event) (c : ℕ) → Calm K e c → (queue (e ∷ K) c ≡ queue K c) × (settled (e ∷ K) c ≡ settled K c)
+unfolding queue settled
+calm-same e K c m = (rw (m.no_put, m.no_install), rw (m.no_answer, m.no_install))
 
-pub calm-settled : (e : Event) (K : List Event) (c : ℕ) → Calm K e c → settled (e ∷ K) c ≡ settled K c
-unfolding settled
-calm-settled e K c m = rw (m.no_answer, m.no_install)
+calm-clean : (e : Event) (K : List Event) (c : ℕ) → Calm K e c → Clean K c → Clean (e ∷ K) c
+calm-clean e K c m k = let s = calm-same e K c m in record { empty = s.0 ∙ k.empty; unsettled = s.1 ∙ k.unsettled }
 
-pub calm-clean : (e : Event) (K : List Event) (c : ℕ) → Calm K e c → Clean K c → Clean (e ∷ K) c
-calm-clean e K c m k = record { empty = calm-queue e K c m ∙ k.empty; unsettled = calm-settled e K c m ∙ k.unsettled }
-
-pub settled-more : (e : Event) (K : List Event) (c : ℕ) → settled K c ≡ true → settled (e ∷ K) c ≡ true
+settled-more : (e : Event) (K : List Event) (c : ℕ) → settled K c ≡ true → settled (e ∷ K) c ≡ true
 unfolding settled
 settled-more e K c h = or_right (settles K e c) (settled K c) h
 
-pub clean-waiting : (K : List Event) (c : ℕ) → listed K c ≡ true → fetched K c ≡ true → Clean K c → waiting K c ≡ true
+clean-waiting : (K : List Event) (c : ℕ) → listed K c ≡ true → fetched K c ≡ true → Clean K c → waiting K c ≡ true
 clean-waiting K c l f k = rw (l, f, k.unsettled, k.empty)
 
--- nothing happens to a place that is still to come
-pub calm-above : (K : List Event) (e : Event) (c : ℕ) → length K ≤ c → Calm K e c
-unfolding named
-calm-above K e c h = grind (arith, listed-below, oldest-some)
-
-pub clean-above : (K : List Event) (c : ℕ) → length K ≤ c → Clean K c
-clean-above [] c h = record { empty = unfold queue in refl; unsettled = unfold settled in refl }
-clean-above (e ∷ K) c h = let l : length K ≤ c = omega arith in calm-clean e K c (calm-above K e c l) (clean-above K c l)
-
--- an install belongs to the first request of its task's call
-pub record Installing (S : System) (K : List Event) (a : Actor) (w : What) (c : ℕ) : Type 0 where
+-- an install is that of the first request of its task's call
+pub record Installing (S : System) (K : List Event) (w : What) (c : ℕ) : Type 0 where
   pub first : ℕ
   pub rest : List ℕ
   pub queue_is : queue K c ≡ first ∷ rest
+  pub is_next : is_first (queue K c) first ≡ true
   pub what_is : w ≡ Install (slot_answer (S.slot K c first))
-  pub call_is : call_of K (task_name a) ≡ Some c
+  pub unsettled : settled K c ≡ false
 
-pub install-first : (S : System) (K : List Event) (a : Actor) (x : Result ℕ ℕ) (c : ℕ) (rs : List ℕ) → queue K c ≡ rs → call_of K (task_name a) ≡ Some c → Install x ≡ install_step S K c rs → Installing S K a (Install x) c
-install-first S K a x c rs q k h = grind arith
+pub install-first : (S : System) (K : List Event) (x : Result ℕ ℕ) (c : ℕ) (rs : List ℕ) → queue K c ≡ rs → Install x ≡ install_step S K c rs → settled K c ≡ false → Installing S K (Install x) c
+install-first S K x c rs q h s = grind arith
 
-pub installing : (S : System) (R : Rules) (K : List Event) (a : Actor) (w : What) (c : ℕ) → IsLegal S R K → Row S R K a w → is_install w ≡ true → is_task a (caller K c) ≡ true → listed K c ≡ true → Installing S K a w c
-installing S R K (Task n) (Install x) c legal r h g l =
-    let m = name_eq-true n (caller K c) g in
-    let s = waits-in S R K n c r.1.0 legal r.1.1 l (sym m) in
-    install-first S K (Task n) x c (queue K c) refl (rw s at r.1.1) (rw s at r.1.3)
-installing S R K a w c legal r h g l = grind arith
-
--- P holds of each of these requests
-abbrev pub AllIn : (ℕ → Type 0) → List ℕ → Type 0
-AllIn P [] = Unit {0}
-AllIn P (r ∷ rs) = P r × AllIn P rs
-
-all-map : (P Q : ℕ → Type 0) (rs : List ℕ) → ((r : ℕ) → P r → Q r) → AllIn P rs → AllIn Q rs
-all-map P Q [] f h = tt
-all-map P Q (r ∷ rs) f h = (f r h.0, all-map P Q rs f h.1)
-
-all-rest : (P : ℕ → Type 0) (rs : List ℕ) → AllIn P rs → AllIn P (rest_of rs)
-all-rest P [] h = tt
-all-rest P (r ∷ rs) h = h.1
-
-all-push : (P : ℕ → Type 0) (rs : List ℕ) (r : ℕ) → AllIn P rs → P r → AllIn P (rs ++ r ∷ [])
-all-push P [] r h i = (i, tt)
-all-push P (x ∷ rs) r h i = (h.0, all-push P rs r h.1 i)
-
--- what stays of a request, and holds of a new one, holds of each in a call's queue
-pub queue-step : (e : Event) (K : List Event) (c : ℕ) (P Q : ℕ → Type 0) → ((r : ℕ) → P r → Q r) → (puts_to K e.what c ≡ true → Q (length K)) → AllIn P (queue K c) → AllIn Q (queue (e ∷ K) c)
-unfolding queue
-queue-step e K c P Q f g h =
-    let m = all-map P Q (queue K c) f h in
-    elim (cases_Bool (puts_to K e.what c)) [
-      | inl q ↦ rw q (all-push Q (queue K c) (length K) m (g q))
-      | inr q ↦ elim (cases_Bool (installs_for K e c)) [ inl p ↦ rw (q, p) (all-rest Q (queue K c) m) | inr p ↦ rw (q, p) m ]
-    ]
-
--- each request in a queue was put for that call
-abbrev pub Asks : List Event → ℕ → List ℕ → Type 0
-Asks K c rs = AllIn (λ r. (r < length K) × (call_at K r ≡ Some c)) rs
-
-call-older : (e : Event) (K : List Event) (r : ℕ) → r < length K → call_at (e ∷ K) r ≡ call_at K r
-unfolding call_at
-call-older e K r l = let n : (r ≡ length K → ⊥) = omega arith in rw (ne_eqb r (length K) n)
+pub installing : (S : System) (R : Rules) (K : List Event) (a : Actor) (w : What) (c : ℕ) → IsLegal S R K → Row S R K a w → installs_for K (ev a w) c ≡ true → Installing S K w c
+installing S R K (Task n) (Install x) c legal r f =
+    let s : call_of K n ≡ Some c = grind (arith, same-name, waits-here) in
+    let m : r.1.0 ≡ c = cc (r.1.1, s) in
+    install-first S K x c (queue K c) refl (rw m at r.1.3) (rw m at r.1.2)
+installing S R K a w c legal r f = grind arith
 
 pub call-at-older : (e : Event) (K : List Event) (r : ℕ) → r < length K → call_at (e ∷ K) r ≡ call_at K r
-call-at-older e K r l = call-older e K r l
+unfolding call_at
+call-at-older e K r l = let n : (r ≡ length K → ⊥) = omega arith in rw (ne_eqb r (length K) n)
 
 pub call-at-above : (K : List Event) (r : ℕ) → length K ≤ r → call_at K r ≡ None
 unfolding call_at
@@ -121,120 +71,13 @@ pub call-at-here : (e : Event) (K : List Event) → call_at (e ∷ K) (length K)
 unfolding call_at
 call-at-here e K = rw (eq-eqb (length K) (length K) refl)
 
-pub put-call : (K : List Event) (w : What) (c : ℕ) → puts_to K w c ≡ true → asked_call K w ≡ Some c
-put-call K w c h = grind arith
-
-pub queue-asks : (K : List Event) (c : ℕ) → Asks K c (queue K c)
-unfolding queue
-queue-asks [] c = tt
-queue-asks (e ∷ K) c = queue-step e K c (λ r. (r < length K) × (call_at K r ≡ Some c)) (λ r. (r < length (e ∷ K)) × (call_at (e ∷ K) r ≡ Some c)) (λ r h. let l : r < length K = h.0 in (omega arith, call-at-older e K r l ∙ h.1))
-    (λ q. (omega arith, call-at-here e K ∙ put-call K e.what c q)) (queue-asks K c)
-
--- ---- how far a listed call is: not fetched, in hand, or answered
-
--- the request r of the worker, for the call: still queued, or installed with this answer
-pub data Done (K : List Event) (c r : ℕ) : Type 0 where
-  queued : queue K c ≡ r ∷ [] → settled K c ≡ false → install_of K r ≡ None → Done K c r
-  gave_number : (n : ℕ) → settled K c ≡ true → install_of K r ≡ Some (Ok n) → Done K c r
-  failed : (x : ℕ) → Clean K c → install_of K r ≡ Some (Err x) → (x == 2) ≡ false → Done K c r
-
-pub record Asked (K : List Event) (c w : ℕ) : Type 0 where
-  pub r : ℕ
-  pub mine : request_of K w ≡ Some r
-  pub below : r < length K
-  pub sends : is_send K r ≡ true
-  pub for_call : call_at K r ≡ Some c
-  pub state : Done K c r
-
-abbrev pub StageOf : List Event → ℕ → ℕ → Option (Result (Unit {0}) ℕ) → Option (Result ℕ ℕ) → Type 0
-StageOf K c w None t = Clean K c
-StageOf K c w (Some (Err e)) t = Clean K c
-StageOf K c w (Some (Ok u)) None = Asked K c w
-StageOf K c w (Some (Ok u)) (Some t) = Clean K c
-
--- a listed call that a worker has in hand
-pub record AtCall (K : List Event) (c w : ℕ) : Type 0 where
-  pub in_hand : session_call K w ≡ Some c
-  pub over : any_of gives_up (session K w) ≡ true → settled K c ≡ true
-  pub stage : any_of gives_up (session K w) ≡ false → StageOf K c w (first_some put_in (session K w)) (first_some take_in (session K w))
-
-abbrev pub Phase : List Event → ℕ → Option ℕ → Type 0
-Phase K c None = (fetched K c ≡ false) × Clean K c
-Phase K c (Some w) = AtCall K c w ⊎ ((settled K c ≡ true) × (session_call K w ≡ Some c → ⊥))
-
-pub fetcher-same : (e : Event) (K : List Event) (c : ℕ) → (fetches e.what (id K c) && listed K c) ≡ false → fetcher (e ∷ K) c ≡ fetcher K c
-unfolding fetcher
-fetcher-same e K c h = rw h
-
-pub fetcher-now : (e : Event) (K : List Event) (c : ℕ) → (fetches e.what (id K c) && listed K c) ≡ true → fetcher (e ∷ K) c ≡ worker_of e.who
-unfolding fetcher
-fetcher-now e K c h = rw h
-
-pub request-same : (e : Event) (K : List Event) (w : ℕ) → is_worker e.who w ≡ false → request_of (e ∷ K) w ≡ request_of K w
-unfolding request_of
-request-same e K w h = rw h
-
-pub request-more : (e : Event) (K : List Event) (w : ℕ) → is_worker e.who w ≡ true → request_of (e ∷ K) w ≡ request_after (length K) e.what (request_of K w)
-unfolding request_of
-request-more e K w h = rw h
-
--- an install that is not for this call leaves its request alone
-pub install-same : (e : Event) (K : List Event) (c r : ℕ) → call_at K r ≡ Some c → installs_for K e c ≡ false → install_of (e ∷ K) r ≡ install_of K r
-unfolding install_of
-install-same e K c r a n = rw (a, n)
-
-pub install-now : (e : Event) (K : List Event) (c r : ℕ) (rs : List ℕ) → call_at K r ≡ Some c → installs_for K e c ≡ true → queue K c ≡ r ∷ rs → install_of (e ∷ K) r ≡ installed e.what
-unfolding install_of
-install-now e K c r rs a n q = rw (a, n, q, eq-eqb r r refl)
-
--- a request that is still to come
-install-above : (K : List Event) (r : ℕ) → length K ≤ r → install_of K r ≡ None
+-- a request that is put now, or still to come, has no install
+pub install-above : (K : List Event) (r : ℕ) → length K ≤ r + 1 → install_of K r ≡ None
 unfolding install_of
 install-above [] r h = refl
 install-above (e ∷ K) r h = rw (call-at-above K r (omega arith)) (install-above K r (omega arith))
 
-pub install-new : (e : Event) (K : List Event) → install_of (e ∷ K) (length K) ≡ None
-unfolding install_of
-install-new e K = rw (call-at-above K (length K) (omega arith)) (install-above K (length K) (omega arith))
-
--- the request one event later
-asked-later : (e : Event) (K : List Event) (c w : ℕ) → request_of (e ∷ K) w ≡ request_of K w → (a : Asked K c w) → Done (e ∷ K) c a.r → Asked (e ∷ K) c w
-asked-later e K c w q a d =
-    let l : a.r < length K = a.below in
-    record { r = a.r; mine = q ∙ a.mine; below = omega arith; sends = rw event_at-older a.sends; for_call = call-at-older e K a.r l ∙ a.for_call; state = d }
-
--- what the event may do to the request of a calm call
-pub asked-calm : (e : Event) (K : List Event) (c w : ℕ) → Calm K e c → request_of (e ∷ K) w ≡ request_of K w → Asked K c w → Asked (e ∷ K) c w
-asked-calm e K c w m q a = asked-later e K c w q a (go (install-same e K c a.r a.for_call m.no_install) a.state)
-  where
-    go : install_of (e ∷ K) a.r ≡ install_of K a.r → Done K c a.r → Done (e ∷ K) c a.r
-    go i (queued x y z) = queued (calm-queue e K c m ∙ x) (calm-settled e K c m ∙ y) (i ∙ z)
-    go i (gave_number n x y) = gave_number n (settled-more e K c x) (i ∙ y)
-    go i (failed x y z v) = failed x (calm-clean e K c m y) (i ∙ z) v
-
-pub stage-calm : (e : Event) (K : List Event) (c w : ℕ) (p : Option (Result (Unit {0}) ℕ)) (t : Option (Result ℕ ℕ)) → Calm K e c → request_of (e ∷ K) w ≡ request_of K w → StageOf K c w p t → StageOf (e ∷ K) c w p t
-stage-calm e K c w p t m q h = grind (arith, calm-clean, asked-calm)
-
--- the install of the call's request
-asked-install : (S : System) (e : Event) (K : List Event) (c w : ℕ) → request_of (e ∷ K) w ≡ request_of K w → installs_for K e c ≡ true → puts_to K e.what c ≡ false → Installing S K e.who e.what c → settled K c ≡ false → Asked K c w → Asked (e ∷ K) c w
-asked-install S e K c w q f np i op a = asked-later e K c w q a (go a.state)
-  where
-    emptied : queue K c ≡ a.r ∷ [] → queue (e ∷ K) c ≡ []
-    emptied x = unfold queue in rw (np, f, x)
-
-    slot : (s : Slot) → e.what ≡ Install (slot_answer s) → queue K c ≡ a.r ∷ [] → settled K c ≡ false → install_of (e ∷ K) a.r ≡ installed e.what → Done (e ∷ K) c a.r
-    slot (Number n) h x y z = let g = a.sends in gave_number n (unfold settled in rw (f, h, x) (grind arith)) (z ∙ ap installed h)
-    slot Full h x y z = failed 9 (record { empty = emptied x; unsettled = unfold settled in rw (f, h, y) }) (z ∙ ap installed h) refl
-    slot Over h x y z = failed 24 (record { empty = emptied x; unsettled = unfold settled in rw (f, h, y) }) (z ∙ ap installed h) refl
-
-    go : Done K c a.r → Done (e ∷ K) c a.r
-    go (queued x y z) = slot (S.slot K c i.first) i.what_is x y (install-now e K c a.r [] a.for_call f x)
-    go (gave_number n x y) = absurd (cc (op, x))
-    go (failed x y z v) = absurd (cc (sym y.empty ∙ i.queue_is))
-
-pub stage-install : (S : System) (e : Event) (K : List Event) (c w : ℕ) (p : Option (Result (Unit {0}) ℕ)) (t : Option (Result ℕ ℕ)) → request_of (e ∷ K) w ≡ request_of K w → installs_for K e c ≡ true → puts_to K e.what c ≡ false → Installing S K e.who e.what c → settled K c ≡ false → StageOf K c w p t → StageOf (e ∷ K) c w p t
-stage-install S e K c w (Some (Ok u)) None q f np i op h = asked-install S e K c w q f np i op h
-stage-install S e K c w p t q f np i op h = absurd (cc (h.empty, i.queue_is))
+-- ---- a call has one session
 
 pub fetcher-fetched : (K : List Event) (c w : ℕ) → fetcher K c ≡ Some w → fetched K c ≡ true
 unfolding fetcher fetched
@@ -242,324 +85,286 @@ fetcher-fetched [] c w h = cc
 fetcher-fetched (e ∷ K) c w h = let ih = fetcher-fetched K c w in grind arith
 
 -- a fetched call is not fetched again
-pub refetch : (S : System) (R : Rules) (K : List Event) (a : Actor) (what : What) (c : ℕ) → IsLegal S R K → length K < 2 ^ 64 → Row S R K a what → fetched K c ≡ true → (fetches what (id K c) && listed K c) ≡ false
+pub refetch : (S : System) (R : Rules) (K : List Event) (a : Actor) (what : What) (c : ℕ) → IsLegal S R K → length K < 2 ^ 64 → Row S R K a what → fetched K c ≡ true
+    → (fetches what (id K c) && listed K c) ≡ false
 refetch S R K a what c legal room r f = grind (arith, fetching, ids_differ)
 
+pub fetcher-stays : (S : System) (R : Rules) (K : List Event) (e : Event) (c : ℕ) → IsLegal S R K → length K < 2 ^ 64 → Row S R K e.who e.what → fetched K c ≡ true → fetcher (e ∷ K) c ≡ fetcher K c
+unfolding fetcher
+fetcher-stays S R K e c legal room r f = rw (refetch S R K e.who e.what c legal room r f)
+
 -- what is in hand was fetched by that worker
-hand-fetcher-kind : (S : System) (R : Rules) (K : List Event) (a : Actor) (what : What) (w c : ℕ) → IsLegal S R K → length K < 2 ^ 64 → Row S R K a what → is_worker a w ≡ true → call_after K what (session_call K w) ≡ Some c → (session_call K w ≡ Some c) ⊎ (((fetches what (id K c) && listed K c) ≡ true) × (worker_of a ≡ Some w))
-hand-fetcher-kind S R K a what w c legal room r h q = grind (arith, fetching)
-
-pub fetcher-stays : (S : System) (R : Rules) (K : List Event) (e : Event) (w c : ℕ) → IsLegal S R K → length K < 2 ^ 64 → Row S R K e.who e.what → fetched K c ≡ true → fetcher K c ≡ Some w → fetcher (e ∷ K) c ≡ Some w
-fetcher-stays S R K e w c legal room r f h = fetcher-same e K c (refetch S R K e.who e.what c legal room r f) ∙ h
-
 pub hand-fetcher : (S : System) (R : Rules) (K : List Event) → IsLegal S R K → length K < 2 ^ 64 → (w c : ℕ) → session_call K w ≡ Some c → fetcher K c ≡ Some w
-hand-fetcher S R = by-session S R (λ K w c. fetcher K c ≡ Some w) (record {
-  fetch = now;
-  work = λ K a w c what r legal room q row v i s own ih. fetcher-stays S R K (ev a what) w c legal (omega arith) (row-of S R K (ev a what) r) i.got ih;
-  still = λ K e w c r legal room q i s own ih. fetcher-stays S R K e w c legal (omega arith) (row-of S R K e r) i.got ih;
-})
+unfolding fetcher
+hand-fetcher S R = by-session S R (λ K w c. fetcher K c ≡ Some w) now
+    (λ K a w c what legal room q row v i s own ih. fetcher-stays S R K (ev a what) c legal.1 (omega arith) (row-of S R K (ev a what) legal.0) i.got ∙ ih)
+    (λ K e w c legal room q i s own ih. fetcher-stays S R K e c legal.1 (omega arith) (row-of S R K e legal.0) i.got ∙ ih)
   where
     now : FetchKept S R (λ K w c. fetcher K c ≡ Some w)
-    now K a w c n r legal room q row o idle = let f = fetching K n (oldest_unfetched K) refl row.2 in fetcher-now (ev a (Recv (Ok n))) K c (grind arith) ∙ grind arith
+    now K a w c n legal room q row o idle own = let f = fetching K n (oldest_unfetched K) refl row.1.1 in grind arith
 
--- a worker answers and asks only for the call that it has in hand
-named-hand : (S : System) (R : Rules) (K : List Event) (v c x : ℕ) (n : Notif) → IsLegal S R K → length K < 2 ^ 64 → AtWork (session K v) n → x ≡ n.id → is_place (named K x) c ≡ true → session_call K v ≡ Some c
-named-hand S R K v c x n legal room work q h =
-    let j = in-hand K v (session_call K v) n work (hand S R K legal v) in
-    let y : x ≡ j.2.n.id = q ∙ ap (λ (z : Notif). z.id) (sym j.3) in
-    let m : named K j.2.n.id ≡ Some c = rw (← y) (place (named K x) h) in
-    j.1 ∙ ap Some (sym (names-own S R K v j.0 c legal room j.2 m))
-  where
-    place : (o : Option ℕ) → is_place o c ≡ true → o ≡ Some c
-    place o h = grind arith
+-- only a worker asks and answers, and only for the call that it has in hand
+pub actor-acts : (S : System) (R : Rules) (K : List Event) (a : Actor) (what : What) (c : ℕ) → IsLegal S R K → length K < 2 ^ 64 → Row S R K a what
+    → (puts_to K what c || answers K what c) ≡ true → (v : ℕ) × (a ≡ Worker v) × (session_call K v ≡ Some c)
+actor-acts S R K (Worker v) what c legal room r h =
+    let g = at-work S R K v what r (grind arith) in
+    let j = in-hand K v (session_call K v) g.0 g.1 (hand S R K legal v) in
+    let o = named-own S R K v j.0 legal room j.2 in
+    (v, refl, grind arith)
+actor-acts S R K a what c legal room r h = grind arith
 
-pub acts-own : (S : System) (R : Rules) (K : List Event) (v c : ℕ) (what : What) → IsLegal S R K → length K < 2 ^ 64 → WorkerRow S R K v what → (puts_to K what c || answers K what c) ≡ true → session_call K v ≡ Some c
-acts-own S R K v c (AddfdPut q (Ok u)) legal room r h =
-    let t = deed-is R (session K v) _ r.0 in
-    named-hand S R K v c q.id t.0 legal room t.1 (grind arith) (grind arith)
-acts-own S R K v c (Send x b (Ok u)) legal room r h =
-    let t = deed-is R (session K v) _ r.0 in
-    named-hand S R K v c x t.0 legal room t.1 t.4 (grind arith)
-acts-own S R K v c what legal room r h = cc
-
--- a call that its worker let go of is not in hand again
-pub stays-gone : (S : System) (R : Rules) (K : List Event) (e : Event) (w c : ℕ) → IsLegal S R K → length K < 2 ^ 64 → Row S R K e.who e.what → fetched K c ≡ true → (session_call K w ≡ Some c → ⊥) → session_call (e ∷ K) w ≡ Some c → ⊥
-stays-gone S R K e w c legal room r f n h =
-    elim (cases_Bool (is_worker e.who w)) [
-      | inl q ↦ elim (hand-fetcher-kind S R K e.who e.what w c legal room r q (sym (call-more e K w q) ∙ h)) [
-        | inl p ↦ n p
-        | inr p ↦ cc (refetch S R K e.who e.what c legal room r f, p.0)
-      ]
-      | inr q ↦ n (sym (call-same e K w q) ∙ h)
-    ]
-
--- ---- each step keeps how far a listed call is
-
--- the session asks for a descriptor, or answers
-abbrev asks : What → Bool
-asks (AddfdPut q a) = true
-asks (AddfdTake a) = true
-asks (Send x b a) = true
-asks _ = false
-
-calm-kind : (K : List Event) (a : Actor) (what : What) (c : ℕ) → works what ≡ true → asks what ≡ false → Calm K (ev a what) c
-calm-kind K a what c h g = grind arith
-
-module _ (S : System) (R : Rules) (K : List Event) (a : Actor) (w c : ℕ) (legal : IsLegal S R K) (room : length K < 2 ^ 64) (is_mine : is_worker a w ≡ true) (l : listed K c ≡ true) (h : AtCall K c w) (i : InSession K w c) where
-  -- the session's id names its call
-  names : (x : ℕ) (n : Notif) → AtWork (session K w) n → x ≡ n.id → named K x ≡ Some c
-  names x n work q =
-      let y : x ≡ i.n.id = grind arith in
-      let f = named-some K c i.n.id l (sym i.id_is) in
-      rw y (f.1 ∙ ap Some (names-own S R K w c f.0 legal room i f.1))
-
-  -- the session's number leads to the living task
-  holds-own : (p : ℕ) (n : Notif) → AtWork (session K w) n → p ≡ n.pid → (holder K p ≡ Some i.t) × (ended K (name_of K i.t) ≡ false)
-  holds-own p n work q =
-      let y : p ≡ i.n.pid = grind arith in
-      let x = (calls_are_last S R K legal c l).0 in
-      let z = living-holder S R K (caller K c) i.t i.n.pid legal x i.task_is i.pid_is in
-      let m = name_eq-true (name_of K i.t) (caller K c) (place-is K (caller K c) i.t i.task_is).1 in
-      (rw y z, rw m (grind arith))
-
-  -- what the answers are while the call is listed
-  pub open-is : (p : ℕ) (x : Result (Unit {0}) ℕ) → WorkerRow S R K w (OpenMem p x) → x ≡ Ok tt
-  open-is p x r = let t = deed-is R (session K w) _ r.0 in let o = holds-own p t.0 t.1 t.3 in rw (o.0, o.1) at r.1
-
-  pub base-is : (p : ℕ) (d : ℤ) (x : Result (Unit {0}) ℕ) → WorkerRow S R K w (OpenBase p d x) → (x ≡ Ok tt) ⊎ (x ≡ Err 9)
-  base-is p d x r =
-      let t = deed-is R (session K w) _ r.0 in
-      let o = holds-own p t.0 t.1 t.4 in
-      let v : x ≡ (if S.directory K (group K i.t) d then Ok tt else Err 9) = rw (o.0, o.1) at r.1 in
-      grind arith
-
-  -- at a check the session has put nothing
-  put-none : (n : Notif) → (any_of checks (session K w) ≡ false) ⊎ (((number_of checks (session K w) == 1) ≡ true) × (R.next_piece n (reads_of (session K w)) ≡ None)) → AtWork (session K w) n → first_some put_in (session K w) ≡ None
-  put-none n v work = go (first_some put_in (session K w)) refl
+module _ (S : System) (R : Rules) where
+  -- so nothing happens to a call that no worker who acts has in hand
+  calm-by : (K : List Event) (e : Event) (c : ℕ) → IsLegal S R K → length K < 2 ^ 64 → Row S R K e.who e.what
+      → ((v : ℕ) → e.who ≡ Worker v → (puts_to K e.what c || answers K e.what c) ≡ true → session_call K v ≡ Some c → ⊥)
+      → installs_for K e c ≡ false → Calm K e c
+  calm-by K e c legal room r others f = record {
+    no_put = false_from_ne_true (puts_to K e.what c) (λ z. acts (or_left _ _ z));
+    no_install = f;
+    no_answer = false_from_ne_true (answers K e.what c) (λ z. acts (or_right _ _ z));
+  }
     where
-      go : (o : Option (Result (Unit {0}) ℕ)) → first_some put_in (session K w) ≡ o → first_some put_in (session K w) ≡ None
-      go None q = q
-      go (Some x) q = let f = put-fixed R (session K w) n x (is-own S R K legal w) work.notif_is q in grind arith
+      acts : (puts_to K e.what c || answers K e.what c) ≡ true → ⊥
+      acts z = let v = actor-acts S R K e.who e.what c legal room r z in others v.0 v.1 z v.2
 
-  pub check-is : (x : ℕ) (y : Result (Unit {0}) ℕ) → WorkerRow S R K w (Check x y) → y ≡ Ok tt
-  check-is x y r =
-      let t = deed-is R (session K w) _ r.0 in
-      let k : Clean K c = rw (put-none t.0 t.4 t.1) at (h.stage t.1.no_end) in
-      rw (names x t.0 t.1 t.3, clean-waiting K c l i.got k) at r.1
+  -- a call that nobody fetched is clean
+  unfetched-calm : (K : List Event) (e : Event) (c : ℕ) → IsLegal S R K → length K < 2 ^ 64 → Row S R K e.who e.what → fetched K c ≡ false → Clean K c → Calm K e c
+  unfetched-calm K e c legal room r f k =
+      calm-by K e c legal room r (λ v q z s. cc (f, (in-hand-of S R K v c legal s).got)) (false_from_ne_true (installs_for K e c) (λ z. cc (k.empty, (installing S R K e.who e.what c legal r z).queue_is)))
 
-  -- what a request is put for, and when
-  put-of : (q : Addfd) (y : Result (Unit {0}) ℕ) → WorkerRow S R K w (AddfdPut q y) → (named K q.id ≡ Some c) × (has_send_flag q ≡ true) × Clean K c × (first_some put_in (session K w) ≡ None)
-  put-of q y r =
-      let t = deed-is R (session K w) _ r.0 in
-      (names q.id t.0 t.1 (grind arith), grind arith, rw t.5 at (h.stage t.1.no_end), t.5)
+  unfetched-clean : (K : List Event) → IsLegal S R K → length K < 2 ^ 64 → (c : ℕ) → fetched K c ≡ false → Clean K c
+  unfolding fetched
+  unfetched-clean = by-few-steps S R (λ K. (c : ℕ) → fetched K c ≡ false → Clean K c) (λ c f. record { empty = unfold queue in refl; unsettled = unfold settled in refl })
+      (λ K e legal room r ih c f. let g = (or_parts (fetches e.what (id K c) && listed K c) (fetched K c) f).1 in calm-clean e K c (unfetched-calm K e c legal room r g (ih c g)) (ih c g))
 
-  pub put-is : (q : Addfd) (y : Result (Unit {0}) ℕ) → WorkerRow S R K w (AddfdPut q y) → (y ≡ Ok tt) ⊎ (y ≡ Err 9)
-  put-is q y r =
-      let t = put-of q y r in
-      let v : y ≡ (if not (S.source q.srcfd) then Err 9 else (if has_send_flag q && false then Err 16 else Ok tt)) = rw (t.0, clean-waiting K c l i.got t.2, t.2.empty) at r.1 in
-      grind arith
+  -- ---- a listed call goes with the session that has it in hand
 
-  pub take-is : (y : Result ℕ ℕ) → WorkerRow S R K w (AddfdTake y) → ((k : ℕ) × (y ≡ Ok k) × (settled K c ≡ true)) ⊎ ((k : ℕ) × (y ≡ Err k) × ((k == 2) ≡ false) × Clean K c)
-  take-is y r =
-      let t = deed-is R (session K w) _ r.0 in
-      let d : Asked K c w = rw (t.4.1, t.5) at (h.stage t.1.no_end) in
-      go d.state (rw (d.mine, d.for_call, l) at r.1)
-    where
-      go : {x : ℕ} → Done K c x → AddfdTake y ≡ take_step (install_of K x) true → ((k : ℕ) × (y ≡ Ok k) × (settled K c ≡ true)) ⊎ ((k : ℕ) × (y ≡ Err k) × ((k == 2) ≡ false) × Clean K c)
-      go d q = grind arith
+  -- the request of the session for the call: still queued, or installed with this answer
+  abbrev pub Placed : List Event → ℕ → ℕ → Option (Result ℕ ℕ) → Type 0
+  Placed K c r None = (queue K c ≡ r ∷ []) × (settled K c ≡ false)
+  Placed K c r (Some (Ok n)) = settled K c ≡ true
+  Placed K c r (Some (Err x)) = ((x == 9) || (x == 24)) ≡ true × Clean K c
 
-  -- where an answer is due, the call is clean
-  answer-clean : (n : Notif) (b : Back) → AtWork (session K w) n → Cause R (session K w) n b → (p : Option (Result (Unit {0}) ℕ)) (t : Option (Result ℕ ℕ)) → first_some put_in (session K w) ≡ p → first_some take_in (session K w) ≡ t → StageOf K c w p t → Clean K c
-  answer-clean n b work z None t q v s = s
-  answer-clean n b work z (Some (Err x)) t q v s = s
-  answer-clean n b work z (Some (Ok u)) (Some t) q v s = s
-  answer-clean n b work z (Some (Ok u)) None q v s = absurd (due z)
-    where
-      f : Fixed R IsInjection (session K w) n
-      f = put-fixed R (session K w) n (Ok u) (is-own S R K legal w) work.notif_is q
+  pub record Asked (K : List Event) (c w : ℕ) : Type 0 where
+    pub r : ℕ
+    pub mine : request_of K w ≡ Some r
+    pub below : r < length K
+    pub sends : is_send K r ≡ true
+    pub for_call : call_at K r ≡ Some c
+    pub placed : Placed K c r (install_of K r)
 
-      due : {b : Back} → Cause R (session K w) n b → ⊥
-      due (faulty x g) = let y = f.sound in cc
-      due (denied x g k) = let y = f.decided.3 in cc
-      due (passed g k) = let y = f.decided.3 in cc
-      due (done x g k e) = let y = f.decided.3 in grind arith
-      due (not_put x src place flags g d k) = cc
-      due (not_taken y src place flags g d k) = cc
+  -- by the session's put and take
+  abbrev pub StageOf : List Event → ℕ → ℕ → Option (Result (Unit {0}) ℕ) → Option (Result ℕ ℕ) → Type 0
+  StageOf K c w (Some (Ok u)) None = Asked K c w
+  StageOf K c w p t = Clean K c
 
-  pub send-is : (x : ℕ) (b : Back) (y : Result (Unit {0}) ℕ) → WorkerRow S R K w (Send x b y) → (y ≡ Ok tt) × (named K x ≡ Some c)
-  send-is x b y r =
-      let t = deed-is R (session K w) _ r.0 in
-      let k = answer-clean t.0 b t.1 t.5 (first_some put_in (session K w)) (first_some take_in (session K w)) refl refl (h.stage t.1.no_end) in
-      let m = names x t.0 t.1 t.4 in
-      (rw (m, clean-waiting K c l i.got k) at r.1, m)
+  pub record AtCall (K : List Event) (w c : ℕ) : Type 0 where
+    pub over : any_of gives_up (session K w) ≡ true → settled K c ≡ true
+    pub stage : any_of gives_up (session K w) ≡ false → StageOf K c w (first_some put_in (session K w)) (first_some take_in (session K w))
 
-  -- one more step of the session
-  worked : (what : What) → WorkerRow S R K w what → works what ≡ true → (gives_up what ≡ true → settled (ev a what ∷ K) c ≡ true)
-      → (gives_up what ≡ false → StageOf (ev a what ∷ K) c w (first_some put_in (what ∷ session K w)) (first_some take_in (what ∷ session K w))) → AtCall (ev a what ∷ K) c w
-  worked what r k o s = grind (arith, at-work, works-keep, session-more, grown, call-more)
+  -- the request one event later
+  asked-later : (e : Event) (K : List Event) (c w : ℕ) → request_of (e ∷ K) w ≡ request_of K w → (a : Asked K c w) → Placed (e ∷ K) c a.r (install_of (e ∷ K) a.r) → Asked (e ∷ K) c w
+  asked-later e K c w q a d =
+      let l : a.r < length K = a.below in
+      record { r = a.r; mine = q ∙ a.mine; below = omega arith; sends = rw event_at-older a.sends; for_call = call-at-older e K a.r l ∙ a.for_call; placed = d }
 
-  calm : (what : What) → WorkerRow S R K w what → works what ≡ true → asks what ≡ false → gives_up what ≡ false → AtCall (ev a what ∷ K) c w
-  calm what r k s g = worked what r k (λ z. cc) (λ _. rw (q.0, q.1) (stage-calm (ev a what) K c w (first_some put_in (session K w)) (first_some take_in (session K w)) (calm-kind K a what c k s) (request-more (ev a what) K w is_mine ∙ q.2) (h.stage (at-work S R K w what r k).1.no_end)))
-    where
-      q : (put_in what ≡ None) × (take_in what ≡ None) × (request_after (length K) what (request_of K w) ≡ request_of K w)
-      q = (grind arith, grind arith, grind arith)
+  placed-calm : (e : Event) (K : List Event) (c r : ℕ) → Calm K e c → call_at K r ≡ Some c → Placed K c r (install_of K r) → Placed (e ∷ K) c r (install_of (e ∷ K) r)
+  unfolding install_of
+  placed-calm e K c r m q p = let s = calm-same e K c m in grind (arith, calm-clean)
 
-  mine-put : (q : Addfd) (y : Result (Unit {0}) ℕ) → WorkerRow S R K w (AddfdPut q y) → (y ≡ Ok tt) ⊎ (y ≡ Err 9) → AtCall (ev a (AddfdPut q y) ∷ K) c w
-  mine-put q y r (inr z) = rw z (worked (AddfdPut q (Err 9)) (rw z at r) refl (λ x. cc) (λ _. calm-clean (ev a (AddfdPut q (Err 9))) K c (record { no_put = refl; no_install = refl; no_answer = refl }) (put-of q y r).2))
-  mine-put q y r (inl z) = rw z (worked (AddfdPut q (Ok tt)) (rw z at r) refl (λ x. cc) (λ _. rw untaken asked))
-    where
-      t : (named K q.id ≡ Some c) × (has_send_flag q ≡ true) × Clean K c × (first_some put_in (session K w) ≡ None)
-      t = put-of q y r
+  stage-calm : (e : Event) (K : List Event) (c w : ℕ) (p : Option (Result (Unit {0}) ℕ)) (t : Option (Result ℕ ℕ)) → Calm K e c → request_of (e ∷ K) w ≡ request_of K w
+      → StageOf K c w p t → StageOf (e ∷ K) c w p t
+  stage-calm e K c w (Some (Ok u)) None m q a = asked-later e K c w q a (placed-calm e K c a.r m a.for_call a.placed)
+  stage-calm e K c w p t m q k = calm-clean e K c m k
 
-      untaken : first_some take_in (session K w) ≡ None
-      untaken = let p = t.3 in grind (arith, take-after_put, is-own)
+  placed-install : (S : System) (e : Event) (K : List Event) (c r : ℕ) → Installing S K e.what c → installs_for K e c ≡ true → is_send K r ≡ true → call_at K r ≡ Some c
+      → Placed K c r (install_of K r) → Placed (e ∷ K) c r (install_of (e ∷ K) r)
+  unfolding install_of queue settled
+  placed-install S e K c r i f s q p = grind arith
 
-      asked : Asked (ev a (AddfdPut q (Ok tt)) ∷ K) c w
-      asked =
-          let e = ev a (AddfdPut q (Ok tt)) in
-          record {
-            r = length K;
-            mine = request-more e K w is_mine;
-            below = omega arith;
-            sends = rw event_at-here t.1;
-            for_call = call-at-here e K ∙ t.0;
-            state = queued (unfold queue in rw (t.0, eq-eqb c c refl, t.2.empty)) (unfold settled in t.2.unsettled) (install-new e K);
-          }
+  stage-install : (S : System) (e : Event) (K : List Event) (c w : ℕ) (p : Option (Result (Unit {0}) ℕ)) (t : Option (Result ℕ ℕ)) → request_of (e ∷ K) w ≡ request_of K w
+      → installs_for K e c ≡ true → Installing S K e.what c → StageOf K c w p t → StageOf (e ∷ K) c w p t
+  stage-install S e K c w (Some (Ok u)) None q f i a = asked-later e K c w q a (placed-install S e K c a.r i f a.sends a.for_call a.placed)
+  stage-install S e K c w p t q f i k = absurd (cc (k.empty, i.queue_is))
 
-  mine-take : (y : Result ℕ ℕ) → WorkerRow S R K w (AddfdTake y) → AtCall (ev a (AddfdTake y) ∷ K) c w
-  mine-take y r = elim (take-is y r) [
-    | inl z ↦ worked (AddfdTake y) r refl (λ _. settled-more (ev a (AddfdTake y)) K c z.2) (λ x. absurd (cc (z.1, x)))
-    | inr z ↦ worked (AddfdTake y) r refl (λ x. absurd (cc (z.1, z.2, x))) (λ _. rw (deed-is R (session K w) _ r.0).4.1 (calm-clean (ev a (AddfdTake y)) K c (record { no_put = refl; no_install = refl; no_answer = refl }) z.3))
-  ]
+  -- the session asks for the call to wait
+  abbrev needs : What → Bool
+  needs (Check x a) = true
+  needs (AddfdPut q a) = true
+  needs (Send x b a) = true
+  needs _ = false
 
-  mine-send : (x : ℕ) (b : Back) (y : Result (Unit {0}) ℕ) → WorkerRow S R K w (Send x b y) → AtCall (ev a (Send x b y) ∷ K) c w
-  mine-send x b y r = let z = send-is x b y r in worked (Send x b y) r refl (λ _. rw z.0 (unfold settled in rw (z.1, eq-eqb c c refl))) (λ u. cc)
+  -- the session asks for a descriptor, or answers
+  abbrev asks : What → Bool
+  asks (AddfdPut q a) = true
+  asks (AddfdTake a) = true
+  asks (Send x b a) = true
+  asks _ = false
 
-  mine-skip : AtCall (ev a Skip ∷ K) c w
-  mine-skip = grind (arith, session-same, call-more, settled-more, stage-calm, request-more)
+  stage-clean : (K : List Event) (c w : ℕ) (p : Option (Result (Unit {0}) ℕ)) (t : Option (Result ℕ ℕ)) → ((u : Unit {0}) → p ≡ Some (Ok u) → t ≡ None → ⊥) → StageOf K c w p t → Clean K c
+  stage-clean K c w p t unasked s = grind arith
 
-  pub mine-phase : (what : What) → WorkerRow S R K w what → AtCall (ev a what ∷ K) c w ⊎ ((settled (ev a what ∷ K) c ≡ true) × (session_call (ev a what ∷ K) w ≡ Some c → ⊥))
-  mine-phase (Recv x) r = let t = deed-is R (session K w) Fetch r.0 in absurd (grind arith)
-  mine-phase (OpenMem p x) r = inl (calm (OpenMem p x) r refl refl (rw (open-is p x r)))
-  mine-phase (OpenBase p d x) r = inl (calm (OpenBase p d x) r refl refl (let z = base-is p d x r in grind arith))
-  mine-phase (Check x y) r = inl (calm (Check x y) r refl refl (rw (check-is x y r)))
-  mine-phase (AddfdPut q y) r = inl (mine-put q y r (put-is q y r))
-  mine-phase (AddfdTake y) r = inl (mine-take y r)
-  mine-phase (Send x b y) r = inl (mine-send x b y r)
-  mine-phase LetGo r = inr (settled-more (ev a LetGo) K c (h.over (deed-is R (session K w) Let r).3), λ z. cc (call-more (ev a LetGo) K w is_mine, z))
-  mine-phase Skip r = inl mine-skip
-  mine-phase (Read x n y) r = inl (calm (Read x n y) r refl refl refl)
-  mine-phase (Act q cap x) r = inl (calm (Act q cap x) r refl refl refl)
-  mine-phase (Plant x b cap y) r = inl (calm (Plant x b cap y) r refl refl refl)
-  mine-phase _ r = absurd r
+  -- a worker's step while its call is listed
+  module _ (K : List Event) (a : Actor) (w c : ℕ) (legal : IsLegal S R K) (room : length K < 2 ^ 64) (l : listed K c ≡ true) (i : InSession K w c) (h : AtCall K w c) where
+    named-it : (x : ℕ) → x ≡ i.n.id → named K x ≡ Some c
+    named-it x q = let o = named-own S R K w c legal room i in rw q (rw l at o)
 
--- ---- each listed call is not fetched, in hand, or answered
+    clean-now : (what : What) → WorkerRow S R K w what → needs what ≡ true → Clean K c
+    clean-now what r d = stage-clean K c w (first_some put_in (session K w)) (first_some take_in (session K w)) unasked (h.stage (at-work S R K w what r (grind arith)).1.no_end)
+      where
+        unasked : (u : Unit {0}) → first_some put_in (session K w) ≡ Some (Ok u) → first_some take_in (session K w) ≡ None → ⊥
+        unasked u p t = let f = put-fixed R (session K w) (is-own S R K legal w) i.n (Ok u) i.notif_is p in grind arith
 
--- only a worker asks and answers
-pub actor-acts : (S : System) (R : Rules) (K : List Event) (a : Actor) (what : What) (c : ℕ) → IsLegal S R K → length K < 2 ^ 64 → Row S R K a what → (puts_to K what c || answers K what c) ≡ true → (v : ℕ) × (a ≡ Worker v) × (session_call K v ≡ Some c)
-actor-acts S R K a what c legal room r h = grind (arith, acts-own)
+    -- the answer to a take is that of the request's install
+    take-is : (y : Result ℕ ℕ) → WorkerRow S R K w (AddfdTake y) → (r : ℕ) × Placed K c r (Some y)
+    take-is y r =
+        let t = r.0 in
+        let d : Asked K c w = rw (t.4.1, t.5) at (h.stage t.1.no_end) in
+        (d.r, go d.r (install_of K d.r) d.placed (rw (d.mine, d.for_call, l) at r.1))
+      where
+        go : (x : ℕ) (o : Option (Result ℕ ℕ)) → Placed K c x o → AddfdTake y ≡ take_step o true → Placed K c x (Some y)
+        go x o p q = grind arith
 
-install-no_put : (K : List Event) (w : What) (c : ℕ) → is_install w ≡ true → puts_to K w c ≡ false
-install-no_put K w c h = grind arith
+    -- no step tells that the call or its task is gone, and no error is unknown
+    pub fine : (what : What) → WorkerRow S R K w what → works what ≡ true → (is_lost what ≡ false) × (is_known_error what ≡ true)
+    fine (OpenMem p x) r v = let o = opens-own S R K w c legal i l in let t = place-is K (caller K c) i.t i.task_is in let m = name_eq-true (name_of K i.t) (caller K c) t.1 in grind arith
+    fine (OpenBase p d x) r v = let o = opens-own S R K w c legal i l in let t = place-is K (caller K c) i.t i.task_is in let m = name_eq-true (name_of K i.t) (caller K c) t.1 in grind arith
+    fine (Check x y) r v = let k = clean-now (Check x y) r refl in let q = clean-waiting K c l i.got k in let m = named-it x (grind arith) in grind arith
+    fine (AddfdPut q y) r v = let k = clean-now (AddfdPut q y) r refl in let z = clean-waiting K c l i.got k in let m = named-it q.id (grind arith) in grind arith
+    fine (Send x b y) r v = let k = clean-now (Send x b y) r refl in let q = clean-waiting K c l i.got k in let m = named-it x (grind arith) in grind arith
+    fine (AddfdTake y) r v = let p = take-is y r in grind arith
+    fine what r v = (grind arith, grind arith)
 
-module _ (S : System) (R : Rules) (K : List Event) (e : Event) (c : ℕ) (legal : IsLegal S R K) (room : length K < 2 ^ 64) (row : Row S R K e.who e.what) (l : listed K c ≡ true) where
-  -- an install for the call
-  parts : installs_for K e c ≡ true → (is_install e.what ≡ true) × (is_task e.who (caller K c) ≡ true)
-  parts f = grind arith
+    over-more : (what : What) → WorkerRow S R K w what → works what ≡ true → gives_up what ≡ true → settled (ev a what ∷ K) c ≡ true
+    unfolding settled
+    over-more (Send x b y) r v g = let f = fine (Send x b y) r v in let m = named-it x (grind arith) in grind arith
+    over-more (AddfdTake y) r v g = let f = fine (AddfdTake y) r v in let p = take-is y r in grind arith
+    over-more what r v g = let f = fine what r v in grind arith
 
-  for-call : installs_for K e c ≡ true → Installing S K e.who e.what c
-  for-call f = let p = parts f in installing S R K e.who e.what c legal row p.0 p.1 l
+    stage-put : (q : Addfd) (u : Unit {0}) → is_worker a w ≡ true → WorkerRow S R K w (AddfdPut q (Ok u)) → StageOf (ev a (AddfdPut q (Ok u)) ∷ K) c w (Some (Ok u)) (first_some take_in (session K w))
+    unfolding queue settled request_of
+    stage-put q u m r =
+        let e = ev a (AddfdPut q (Ok u)) in
+        let k = clean-now (AddfdPut q (Ok u)) r refl in
+        let n = named-it q.id (let g = r.0.4.is in grind arith) in
+        let t = take-after_put R (session K w) (is-own S R K legal w) in
+        let untaken : first_some take_in (session K w) ≡ None = grind arith in
+        rw untaken (record {
+          r = length K;
+          mine = rw m;
+          below = omega arith;
+          sends = rw event_at-here (let g = r.0.4.is in grind arith);
+          for_call = call-at-here e K ∙ n;
+          placed = rw (install-above (e ∷ K) (length K) (omega arith)) (rw (n, eq-eqb c c refl, k.empty), k.unsettled);
+        })
 
-  unfetched-calm : fetched K c ≡ false → Clean K c → Calm K e c
-  unfetched-calm f k = grind (arith, for-call)
+    stage-take : (y : Result ℕ ℕ) → WorkerRow S R K w (AddfdTake y) → gives_up (AddfdTake y) ≡ false → StageOf (ev a (AddfdTake y) ∷ K) c w (first_some put_in (session K w)) (Some y)
+    stage-take y r g =
+        let p = take-is y r in
+        let k : Clean K c = grind arith in
+        rw r.0.4.1 (calm-clean (ev a (AddfdTake y)) K c (record { no_put = refl; no_install = refl; no_answer = refl }) k)
 
-  other-phase : (w : ℕ) → is_worker e.who w ≡ false → AtCall K c w → AtCall (e ∷ K) c w
-  other-phase w o h =
-      elim (cases_Bool (installs_for K e c)) [
-        | inl f ↦
-            let i = for-call f in
-            let p = parts f in
-            let op = installs-open S R K e.who e.what c legal row p.0 p.1 l in
-            kept (λ p t z. stage-install S e K c w p t q f (install-no_put K e.what c (parts f).0) i op z)
-        | inr f ↦
-            let m : Calm K e c = record {
-              no_put = false_from_ne_true (puts_to K e.what c) (λ z. nobody (grind arith));
-              no_install = f;
-              no_answer = false_from_ne_true (answers K e.what c) (λ z. nobody (grind arith));
-            } in
-            kept (λ p t z. stage-calm e K c w p t m q z)
-      ]
-    where
-      q : request_of (e ∷ K) w ≡ request_of K w
-      q = request-same e K w o
+    -- a step that neither asks nor answers
+    stage-stays : (what : What) → is_worker a w ≡ true → WorkerRow S R K w what → works what ≡ true → asks what ≡ false
+        → StageOf (ev a what ∷ K) c w (first_some put_in (what ∷ session K w)) (first_some take_in (what ∷ session K w))
+    unfolding request_of
+    stage-stays what m r v z =
+        let p : put_in what ≡ None = grind arith in
+        let t : take_in what ≡ None = grind arith in
+        let q : request_after (length K) what (request_of K w) ≡ request_of K w = grind arith in
+        let calm : Calm K (ev a what) c = record { no_put = grind arith; no_install = grind arith; no_answer = grind arith } in
+        rw (p, t) (stage-calm (ev a what) K c w (first_some put_in (session K w)) (first_some take_in (session K w)) calm (rw m q) (h.stage (at-work S R K w what r v).1.no_end))
 
-      s : session (e ∷ K) w ≡ session K w
-      s = session-same e K w (grind arith)
+    stage-more : (what : What) → is_worker a w ≡ true → WorkerRow S R K w what → works what ≡ true → gives_up what ≡ false
+        → StageOf (ev a what ∷ K) c w (first_some put_in (what ∷ session K w)) (first_some take_in (what ∷ session K w))
+    stage-more (AddfdPut q (Ok u)) m r v g = stage-put q u m r
+    stage-more (AddfdPut q (Err x)) m r v g = calm-clean (ev a (AddfdPut q (Err x))) K c (record { no_put = refl; no_install = refl; no_answer = refl }) (clean-now (AddfdPut q (Err x)) r refl)
+    stage-more (AddfdTake y) m r v g = stage-take y r g
+    stage-more (Send x b y) m r v g = cc
+    stage-more what m r v g = stage-stays what m r v (grind arith)
 
-      kept : ((p : Option (Result (Unit {0}) ℕ)) (t : Option (Result ℕ ℕ)) → StageOf K c w p t → StageOf (e ∷ K) c w p t) → AtCall (e ∷ K) c w
-      kept f = record {
-        in_hand = call-same e K w o ∙ h.in_hand;
-        over = λ z. settled-more e K c (h.over (rw s at z));
-        stage = rw s (λ z. f (first_some put_in (session K w)) (first_some take_in (session K w)) (h.stage z));
+  abbrev IsAtCall : List Event → ℕ → ℕ → Type 0
+  IsAtCall K w c = listed K c ≡ true → AtCall K w c
+
+  at-fetch : FetchKept S R IsAtCall
+  at-fetch K a w c n legal room q row o idle own l =
+      let e = ev a (Recv (Ok n)) in
+      let f = fetching K n (oldest_unfetched K) refl row.1.1 in
+      let m : f.0 ≡ c = cc (f.4, o) in
+      let g = rw m at f.3 in
+      let k = unfetched-clean K legal.1 (omega arith) c g in
+      let z = unfetched-calm K e c legal.1 (omega arith) (row-of S R K e legal.0) g k in
+      record { over = rw own (λ h. cc); stage = rw own (λ h. calm-clean e K c z k) }
+
+  at-work-more : WorkKept S R IsAtCall
+  at-work-more K a w c what legal room q row v i s own ih l =
+      let was = listed-was (ev a what) K c (is_call-below K c i.call) l in
+      let h = ih was in
+      let z = (at-work S R K w what row v).1.no_end in
+      record {
+        over = rw own (λ g. over-more K a w c legal.1 (omega arith) was i h what row v (grind arith));
+        stage = rw own (λ g. stage-more K a w c legal.1 (omega arith) was i h what q row v (grind arith));
       }
 
-      nobody : (puts_to K e.what c || answers K e.what c) ≡ true → ⊥
-      nobody z =
-          let v = actor-acts S R K e.who e.what c legal room row z in
-          let x = hand-fetcher S R K legal room v.0 c v.2 in
-          let y = hand-fetcher S R K legal room w c h.in_hand in
-          let m : v.0 ≡ w = cc (x, y) in
-          let g : is_worker (Worker w) w ≡ true = eq-eqb w w refl in
-          cc (v.1, m, o, g)
-
-  -- the worker that has it in hand steps
-  mine-old : (IsStep S R K e) → (w : ℕ) → is_worker e.who w ≡ true → AtCall K c w → AtCall (e ∷ K) c w ⊎ ((settled (e ∷ K) c ≡ true) × (session_call (e ∷ K) w ≡ Some c → ⊥))
-  mine-old r w o h = mine-phase S R K e.who w c legal room o l h (rw h.in_hand at (hand S R K legal w)) e.what (worker-row S R K e w r o)
-
-  held-phase : (IsStep S R K e) → (w : ℕ) → fetched K c ≡ true → AtCall K c w ⊎ ((settled K c ≡ true) × (session_call K w ≡ Some c → ⊥)) → AtCall (e ∷ K) c w ⊎ ((settled (e ∷ K) c ≡ true) × (session_call (e ∷ K) w ≡ Some c → ⊥))
-  held-phase r w f h = grind (arith, settled-more, stays-gone, mine-old, other-phase)
-
-  -- the call is fetched now
-  now-phase : fetched K c ≡ false → Clean K c → (fetches e.what (id K c) && listed K c) ≡ true → Phase (e ∷ K) c (worker_of e.who)
-  now-phase f k q = go e.who e.what row q (unfetched-calm f k)
+  at-still : StillKept S R IsAtCall
+  unfolding request_of
+  at-still K e w c legal room q i s own ih l =
+      let row = row-of S R K e legal.0 in
+      let h = ih (listed-was e K c (is_call-below K c i.call) l) in
+      let p = first_some put_in (session K w) in
+      let t = first_some take_in (session K w) in
+      record {
+        over = rw own (λ g. settled-more e K c (h.over g));
+        stage = rw own (λ g. elim (cases_Bool (installs_for K e c)) [
+          | inl f ↦ stage-install S e K c w p t same f (installing S R K e.who e.what c legal.1 row f) (h.stage g)
+          | inr f ↦ stage-calm e K c w p t (calm-by K e c legal.1 (omega arith) row others f) same (h.stage g)
+        ]);
+      }
     where
-      go : (a : Actor) (what : What) → Row S R K a what → (fetches what (id K c) && listed K c) ≡ true → Calm K (ev a what) c → Phase (ev a what ∷ K) c (worker_of a)
-      go (Worker v) (Recv (Ok n)) r q m =
-          let e' = ev (Worker v) (Recv (Ok n)) in
-          let d = fetching K n (oldest_unfetched K) refl r.2 in
-          let same : d.0 ≡ c = ids_differ S R K legal room d.0 c d.2 l (grind arith) in
-          let mine : is_worker (Worker v) v ≡ true = eq-eqb v v refl in
-          let s : session (e' ∷ K) v ≡ Recv (Ok n) ∷ [] = session-more e' K v mine refl ∙ started (session K v) (Recv (Ok n)) refl in
-          inl (record {
-            in_hand = call-more e' K v mine ∙ (d.4 ∙ ap Some same);
-            over = rw s (λ z. cc);
-            stage = rw s (λ z. calm-clean e' K c m k);
-          })
-      go a what r q m = grind arith
+      same : request_of (e ∷ K) w ≡ request_of K w
+      same = grind arith
 
-  old-phase : IsStep S R K e → (o : Option ℕ) → fetcher K c ≡ o → Phase K c o → Phase (e ∷ K) c (fetcher (e ∷ K) c)
-  old-phase r (Some w) q p = grind (arith, fetcher-fetched, fetcher-stays, held-phase)
-  old-phase r None q p = grind (arith, fetcher-now, now-phase, fetcher-same, fetched-same, calm-clean, unfetched-calm)
+      others : (v : ℕ) → e.who ≡ Worker v → (puts_to K e.what c || answers K e.what c) ≡ true → session_call K v ≡ Some c → ⊥
+      others v z y x = let m : v ≡ w = cc (hand-fetcher S R K legal.1 (omega arith) v c x, hand-fetcher S R K legal.1 (omega arith) w c s) in grind arith
 
--- a new call
-new-phase : (e : Event) (K : List Event) → Phase (e ∷ K) (length K) (fetcher (e ∷ K) (length K))
-new-phase e K = grind (arith, fetched-new, calm-clean, calm-above, clean-above, fetcher-fetched)
+  pub at-call : (K : List Event) → IsLegal S R K → length K < 2 ^ 64 → (w c : ℕ) → session_call K w ≡ Some c → listed K c ≡ true → AtCall K w c
+  at-call = by-session S R IsAtCall at-fetch at-work-more at-still
 
-abbrev pub Phases : List Event → Type 0
-Phases K = (c : ℕ) → listed K c ≡ true → Phase K c (fetcher K c)
+  -- a listed call whose session has not asked for a descriptor, and has not given up, waits
+  pub waits-now : (K : List Event) (w c : ℕ) → IsLegal S R K → length K < 2 ^ 64 → session_call K w ≡ Some c → listed K c ≡ true → any_of gives_up (session K w) ≡ false
+      → first_some put_in (session K w) ≡ None → waiting K c ≡ true
+  waits-now K w c legal room s l g p = clean-waiting K c l (in-hand-of S R K w c legal s).got (rw p at ((at-call K legal room w c s l).stage g))
 
-pub phases : (S : System) (R : Rules) (K : List Event) → IsLegal S R K → length K < 2 ^ 64 → Phases K
-phases S R [] legal room = λ c h. absurd (omega (arith, listed-below [] c h))
-phases S R (e ∷ K) legal room = λ c h.
-    elim (below_or_last c (length K) (listed-below (e ∷ K) c h)) [
-      | inl l ↦
-          let was = listed-was e K c l h in
-          old-phase S R K e c legal.1 (omega arith) (row-of S R K e legal.0) was legal.0 (fetcher K c) refl (phases S R K legal.1 (omega arith) c was)
-      | inr q ↦ rw q (new-phase e K)
-    ]
+  -- ---- a session leaves its call settled
 
--- a worker with a listed call in hand
-pub at-call : (S : System) (R : Rules) (K : List Event) (w c : ℕ) → IsLegal S R K → length K < 2 ^ 64 → session_call K w ≡ Some c → listed K c ≡ true → AtCall K c w
-at-call S R K w c legal room h l =
-    let p = rw (hand-fetcher S R K legal room w c h) at (phases S R K legal room c l) in
-    elim p [ inl x ↦ x | inr x ↦ absurd (x.1 h) ]
+  -- only a session that has given up lets go
+  left-hand : (K : List Event) (a : Actor) (what : What) (w c : ℕ) → IsLegal S R K → Row S R K a what → session_call K w ≡ Some c
+      → (session_call (ev a what ∷ K) w ≡ Some c → ⊥) → any_of gives_up (session K w) ≡ true
+  unfolding session_call
+  left-hand K a what w c legal r s n = let i = in-hand-of S R K w c legal s in grind (arith, no-fetch)
+
+  now-hand : (K : List Event) (a : Actor) (what : What) (w c : ℕ) → IsLegal S R K → length K < 2 ^ 64 → Row S R K a what → fetched K c ≡ false
+      → fetcher (ev a what ∷ K) c ≡ Some w → session_call (ev a what ∷ K) w ≡ Some c
+  unfolding session_call fetcher
+  now-hand K (Worker v) (Recv (Ok n)) w c legal room r f q = let d = fetching K n (oldest_unfetched K) refl r.1.1 in let y = fetcher-fetched K c w in let z = ids_differ S R K legal room d.0 c in grind arith
+  now-hand K a what w c legal room r f q = absurd (both_ways (fetched K c) f (fetcher-fetched K c w (grind arith)))
+
+  settled-step : (K : List Event) (e : Event) (w c : ℕ) → IsLegal S R K → length K < 2 ^ 64 → Row S R K e.who e.what → ((session_call K w ≡ Some c → ⊥) → settled K c ≡ true)
+      → listed K c ≡ true → (session_call (e ∷ K) w ≡ Some c → ⊥) → settled (e ∷ K) c ≡ true
+  settled-step K e w c legal room r ih l n = settled-more e K c (elim (cases_Bool (is_place (session_call K w) c)) [
+    | inl q ↦ let s : session_call K w ≡ Some c = grind arith in (at-call K legal room w c s l).over (left-hand K e.who e.what w c legal r s n)
+    | inr q ↦ ih (λ s. both_ways (is_place (session_call K w) c) q (rw s (eq-eqb c c refl)))
+  ])
+
+  let-go : (K : List Event) → IsLegal S R K → length K < 2 ^ 64 → (w c : ℕ) → fetcher K c ≡ Some w → listed K c ≡ true → (session_call K w ≡ Some c → ⊥) → settled K c ≡ true
+  let-go = by-few-steps S R (λ K. (w c : ℕ) → fetcher K c ≡ Some w → listed K c ≡ true → (session_call K w ≡ Some c → ⊥) → settled K c ≡ true) (λ w c f l. absurd (omega (arith, listed-below [] c l)))
+      (λ K e legal room r ih w c f l n. elim (below_or_last c (length K) (listed-below (e ∷ K) c l)) [
+        | inl b ↦ elim (cases_Bool (fetched K c)) [
+          | inl g ↦ let was = listed-was e K c b l in settled-step K e w c legal room r (ih w c (sym (fetcher-stays S R K e c legal room r g) ∙ f) was) was n
+          | inr g ↦ absurd (n (now-hand K e.who e.what w c legal room r g f))
+        ]
+        | inr q ↦ absurd (both_ways (fetched (e ∷ K) c) (rw q (fetched-new e K)) (fetcher-fetched (e ∷ K) c w f))
+      ])
+
+  pub sessions_settle : (K : List Event) → IsLegal S R K → length K < 2 ^ 64 → SessionsSettle K
+  sessions_settle K legal room w c l f = record { ended = let-go K legal room w c f l; ends = λ s g. (at-call K legal room w c s l).over g; goes_on = λ s. waits-now K w c legal room s l }

@@ -1,12 +1,20 @@
--- The history that a schedule plays is legal.
-use Rattle.mediation.proofs.Common.{◌≡◌, ℕ, zero, suc, ◌<◌, ◌≤◌, ◌^◌, true, false, List, [], ◌∷◌, length, refl, arith, closes, ev, IsStep, IsLegal, is_start, is_actor, step, takes, Legal, played}
-use Rattle.mediation.proofs.Common.{system_of, rules_of, Actor, Listener, Event, What, Policy, Script, started, with_step, with_steps, with_schedule, Step, IsScheduled, AllScheduled}
-use Rattle.mediation.proofs.Replies.{taken-by-its-actor}
+-- What schedules play is legal, a finished history stays finished, and small histories that wrong kernels and brokers would make are refused.
+use Rattle.mediation.proofs.Common.{[], Actor, any_of, ap, arith, base, Bool, call_at, call_of, calls, closes, deed, ended, Err, Event, event_at, false, fetched, Finished, free_from, group, holder}
+use Rattle.mediation.proofs.Common.{install_of, is_actor, is_letgo, is_made, is_open_session, is_start, IsLegal, last_pid, length, List, listed, Listener, mem, mode, named, newest, next_pid}
+use Rattle.mediation.proofs.Common.{next_signal, None, notif_of, oldest, oldest_unfetched, owes_native, pending, played, Policy, queue, reaped, Recv, recvs, refl, reply, request_of, Rules, rules_of}
+use Rattle.mediation.proofs.Common.{Script, session, session_call, settled, Skip, started, StaysFinished, step, steps_of, suc, System, system_of, takes, task_place, task_step, times_spent, true}
+use Rattle.mediation.proofs.Common.{was_waited_for, What, with_step, Worker, worker_step, zero, ℕ, ◌++◌, ◌+◌, ◌<◌, ◌∷◌, ◌≡◌, ◌⊎◌}
+use Rattle.hist_model.specs.Legal.{with_schedule, with_steps}
+use Rattle.hist_model.specs.declared.script.Step.{Step}
+use Rattle.mediation.specs.Refused.{EarlyEffect, LateInstallation, LateOpening, NewestFirst, SecondAnswer, SecondReading, ValidByNumber, WithoutSend}
+use Rattle.mediation.specs.Scheduled.{AllScheduled, IsScheduled}
+use Rattle.mediation.proofs.Rows.{Row, step-row, row-of}
+use Rattle.mediation.proofs.Calls.{fetching}
+use Rattle.mediation.proofs.Replies.{takes-own}
 
-not-start : (a : Actor) → IsScheduled a → is_start a ≡ false
-not-start a s = grind arith
+-- ---- the history that a schedule plays is legal
 
-may-step : (a : Actor) → IsScheduled a → is_actor a ≡ true
+may-step : (a : Actor) → IsScheduled a → (is_start a ≡ false) × (is_actor a ≡ true)
 may-step a s = grind arith
 
 never-closes : (a : Actor) (what : What) → IsScheduled a → takes a what ≡ true → closes what ≡ false
@@ -23,40 +31,24 @@ module _ (P : Policy) (S : Script) where
     legal : IsLegal (system_of S) (rules_of P S.figures) K
     unclosed : IsOpen K
 
-  one : (a : Actor) (K : List Event) → IsScheduled a → length K < 2 ^ 64 → Goes K → Goes (with_step P S a K)
-  one a [] s room g = absurd g.unclosed
-  one a (f ∷ K) s room g =
+  one : (a : Actor) (K : List Event) → IsScheduled a → Goes K → Goes (with_step P S a K)
+  one a [] s g = absurd g.unclosed
+  one a (f ∷ K) s g =
       let T = system_of S in
       let R = rules_of P S.figures in
-      let is : IsStep T R (f ∷ K) (ev a (step T R (f ∷ K) a)) = (g.unclosed, not-start a s, refl, may-step a s) in
-      record {
-        legal = (is, g.legal);
-        unclosed = never-closes a (step T R (f ∷ K) a) s (taken-by-its-actor T R (f ∷ K) (ev a (step T R (f ∷ K) a)) g.legal room is);
-      }
+      let what = step T R (f ∷ K) a in
+      let m = may-step a s in
+      record { legal = ((g.unclosed, m.0, refl, m.1), g.legal); unclosed = never-closes a what s (takes-own T R (f ∷ K) a what (step-row T R (f ∷ K) a m.0)) }
 
-  longer-steps : (a : Actor) (n : ℕ) (K : List Event) → length K ≤ length (with_steps P S a n K)
+  steps : (a : Actor) (n : ℕ) (K : List Event) → IsScheduled a → Goes K → Goes (with_steps P S a n K)
   unfolding with_steps
-  longer-steps a zero K = omega arith
-  longer-steps a (suc n) K = let more = longer-steps a n (with_step P S a K) in omega arith
+  steps a zero K s g = g
+  steps a (suc n) K s g = steps a n (with_step P S a K) s (one a K s g)
 
-  longer-schedule : (steps : List Step) (K : List Event) → length K ≤ length (with_schedule P S steps K)
+  schedule : (lines : List Step) (K : List Event) → AllScheduled lines → Goes K → Goes (with_schedule P S lines K)
   unfolding with_schedule
-  longer-schedule [] K = omega arith
-  longer-schedule (s ∷ more) K = grind (arith, longer-steps, longer-schedule more (with_steps P S s.who s.count K))
-
-  steps : (a : Actor) (n : ℕ) (K : List Event) → IsScheduled a → length (with_steps P S a n K) < 2 ^ 64 → Goes K → Goes (with_steps P S a n K)
-  unfolding with_steps
-  steps a zero K s room g = g
-  steps a (suc n) K s room g =
-      let more = longer-steps a n (with_step P S a K) in
-      steps a n (with_step P S a K) s room (one a K s (omega arith) g)
-
-  schedule : (lines : List Step) (K : List Event) → AllScheduled lines → length (with_schedule P S lines K) < 2 ^ 64 → Goes K → Goes (with_schedule P S lines K)
-  unfolding with_schedule
-  schedule [] K s room g = g
-  schedule (l ∷ more) K s room g =
-      let rest = longer-schedule more (with_steps P S l.who l.count K) in
-      schedule more (with_steps P S l.who l.count K) s.1 room (steps l.who l.count K s.0 (omega arith) g)
+  schedule [] K s g = g
+  schedule (l ∷ more) K s g = schedule more (with_steps P S l.who l.count K) s.1 (steps l.who l.count K s.0 g)
 
   begins : Goes (started S)
   begins = record { legal = (refl, tt); unclosed = refl }
@@ -64,5 +56,44 @@ module _ (P : Policy) (S : Script) where
   ends : (K : List Event) → Goes K → IsLegal (system_of S) (rules_of P S.figures) (with_step P S Listener K)
   ends K g = grind arith
 
-  pub played-is-legal : AllScheduled S.schedule → length (played P S) < 2 ^ 64 → Legal P S (played P S)
-  played-is-legal s room = grind (arith, schedule, ends, begins)
+  pub played_is_legal : AllScheduled S.schedule → IsLegal (system_of S) (rules_of P S.figures) (played P S)
+  played_is_legal s = ends (with_schedule P S S.schedule (started S)) (schedule S.schedule (started S) s begins)
+
+-- ---- finished stays finished
+
+-- the step does nothing: it was none, or it found nothing to receive
+abbrev pub idles : What → Bool
+idles Skip = true
+idles (Recv (Err x)) = true
+idles _ = false
+
+-- a session that is not open is none, or has let go
+not-open : (own : List What) → is_open_session own ≡ false → (notif_of own ≡ None) ⊎ (any_of is_letgo own ≡ true)
+not-open own h = grind arith
+
+row-idles : (S : System) (R : Rules) (K : List Event) (a : Actor) (what : What) → Finished K → Row S R K a what → (K ≡ [] → ⊥) → closes what ≡ false → idles what ≡ true
+row-idles S R K (Worker w) what f r l c = let s = not-open (session K w) (f.sessions w) in let g = f.calls in grind (arith, fetching)
+row-idles S R K a what f r l c = let t = f.tasks in grind arith
+
+stays : (e : Event) (K : List Event) → idles e.what ≡ true → Finished K → Finished (e ∷ K)
+unfolding listed is_made ended session
+stays e K h f = grind arith
+
+filled : (L K : List Event) → 0 < length K → L ++ K ≡ [] → ⊥
+filled [] K l q = omega (arith, ap length q)
+filled (e ∷ L) K l q = cc
+
+pub stays_finished : (S : System) (R : Rules) → StaysFinished S R
+stays_finished S R K [] l legal f n = f
+stays_finished S R K (e ∷ L) l legal f n =
+    let ih = stays_finished S R K L l legal.1 f n.1 in
+    stays e (L ++ K) (row-idles S R (L ++ K) e.who e.what ih (row-of S R (L ++ K) e legal.0) (filled L K l) n.0) ih
+
+-- ---- the small histories are not legal
+
+-- each by what its actor's step is in truth
+pub refusals : EarlyEffect × LateOpening × SecondReading × SecondAnswer × ValidByNumber × LateInstallation × WithoutSend × NewestFirst
+refusals =
+    unfold step task_step worker_step event_at newest oldest ended was_waited_for reaped holder free_from last_pid next_pid is_made mode pending next_signal listed fetched named settled in
+    unfold queue calls recvs session deed call_of steps_of reply oldest_unfetched task_place group mem base session_call install_of call_at request_of owes_native times_spent in
+    grind arith

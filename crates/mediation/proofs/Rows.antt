@@ -1,11 +1,73 @@
 -- What the step of an actor can be, kind by kind, and what it then tells.
-use Rattle.mediation.proofs.Common.{◌≡◌, ℕ, ◌+◌, ◌%◌, ◌^◌, Bool, true, false, not, List, [], ◌∷◌, length, Option, Some, None, refl, arith, if◌then◌else◌, ◌==◌, Ok, Err, Name, oldest, alive}
-use Rattle.mediation.proofs.Common.{next_pid, holder, mode, calls, settled, named, count, queue, next_signal, call_of, session, deed, Rules, Fetch, Open, OpenB, Ask, ReadD, ActD, PlantD, Put, Take}
-use Rattle.mediation.proofs.Common.{Answer, Let, System, step, task_step, worker_step, wait_step, reply, is_child, is_ended_child, recv_answer, oldest_unfetched, lives, check_answer, send_answer}
-use Rattle.mediation.proofs.Common.{with_id, owes_native, install_step, base_answer, read_answer, put_answer, mem, take_step, is_spent, is_start, IsStep, request_of, Event, Actor, Start, Task}
-use Rattle.mediation.proofs.Common.{Worker, Listener, What, Spawn, Enter, Resume, Deliver, Reap, Recv, OpenMem, Check, Send, LetGo, Skip, Native, Install, OpenBase, Read, Act, Plant, AddfdPut}
-use Rattle.mediation.proofs.Common.{AddfdTake, SpawnKind, effect_in_call, effect_outside, living_step, instr_step, deliver_or, spawn_answer, found, next_instr, next_child, install_at}
-use Rattle.mediation.proofs.Common.{request_listed, Instr, New, Poke, Handler, Signal, Exit, Close, Delivered}
+use Rattle.mediation.proofs.Common.{[], Act, Actor, Acts, Addfd, addfd_of, AddfdPut, AddfdTake, alive, any_of, arith, base, base_answer, based_deed, call_of, calls, Cause, Check, check_answer}
+use Rattle.mediation.proofs.Common.{checked_deed, checks, Close, copied, count, deed, deed_step, Deliver, denied, done, Each, Enter, Err, Event, Exit, false, faulty, first_some, found, gives_up}
+use Rattle.mediation.proofs.Common.{Handler, holder, if◌then◌else◌, Injects, Install, install_at, install_step, instr_step, is_child, is_ended_child, is_letgo, is_spent, is_start, IsLegal, IsStep}
+use Rattle.mediation.proofs.Common.{judged_deed, length, LetGo, List, Listener, lives, mem, Name, named, Native, next_child, next_instr, next_pid, next_signal, None, not, not_put, not_taken, Notif}
+use Rattle.mediation.proofs.Common.{notif_of, number_of, Ok, oldest, oldest_unfetched, open_deed, OpenBase, OpenMem, opens, opens_base, Option, outcome_in, owes_native, passed, Plant, Plants, Poke}
+use Rattle.mediation.proofs.Common.{put_answer, put_in, queue, Read, read_answer, reads_of, Reap, Recv, recv_answer, refl, reply, request_listed, request_of, Resume, Rules, Send, send_answer}
+use Rattle.mediation.proofs.Common.{session, settled, Signal, Skip, Some, Spawn, spawn_answer, Start, step, System, take_in, take_step, Task, task_step, true, wait_step, What, with_id, Worker}
+use Rattle.mediation.proofs.Common.{worker_step, ℕ, ◌%◌, ◌+◌, ◌<◌, ◌==◌, ◌^◌, ◌∷◌, ◌≡◌, ◌⊎◌}
+use Rattle.hist_model.specs.declared.event.SpawnKind.{SpawnKind}
+use Rattle.hist_model.specs.declared.event.SpawnKind.TheVariants.{New}
+
+-- the session is at work, for this notification
+pub record AtWork (own : List What) (n : Notif) : Type 0 where
+  pub notif_is : notif_of own ≡ Some n
+  pub no_letgo : any_of is_letgo own ≡ false
+  pub no_end : any_of gives_up own ≡ false
+
+-- it has opened what it reads and looks up in
+pub record HasOpened (R : Rules) (own : List What) (n : Notif) : Type 0 where
+  pub mem : any_of opens own ≡ true
+  pub base : (R.dirfd n ≡ None) ⊎ (any_of opens_base own ≡ true)
+
+-- it has read the copy, between two good checks
+pub record HasCopied (R : Rules) (own : List What) (n : Notif) : Type 0 where
+  pub checked : any_of checks own ≡ true
+  pub twice : (number_of checks own == 1) ≡ false
+  pub copied : R.next_piece n (reads_of own) ≡ None
+
+-- the rule injects, and this is the request
+pub record IsInjected (R : Rules) (own : List What) (n : Notif) (q : Addfd) : Type 0 where
+  pub src : ℕ
+  pub place : Option ℕ
+  pub flags : ℕ
+  pub sound : R.fault n (reads_of own) ≡ None
+  pub decided : R.decide n (reads_of own) ≡ Injects src place flags
+  pub is : q ≡ addfd_of n.id src place flags
+
+-- what a step of a session tells of the steps before it
+abbrev pub Told : Rules → List What → What → Type 0
+Told R own (Recv a) = (notif_of own ≡ None) ⊎ (any_of is_letgo own ≡ true)
+Told R own LetGo = (n : Notif) × (notif_of own ≡ Some n) × (any_of is_letgo own ≡ false) × (any_of gives_up own ≡ true)
+Told R own (OpenMem p a) = (n : Notif) × AtWork own n × (any_of opens own ≡ false) × (p ≡ n.pid)
+Told R own (OpenBase p d a) = (n : Notif) × AtWork own n × (any_of opens own ≡ true) × (any_of opens_base own ≡ false) × (p ≡ n.pid) × (R.dirfd n ≡ Some d)
+Told R own (Check x a) = (n : Notif) × AtWork own n × HasOpened R own n × (x ≡ n.id) × ((any_of checks own ≡ false) ⊎ (((number_of checks own == 1) ≡ true) × (R.next_piece n (reads_of own) ≡ None)))
+Told R own (Read x l a) = (n : Notif) × AtWork own n × HasOpened R own n × (any_of checks own ≡ true) × (R.next_piece n (reads_of own) ≡ Some (x, l))
+Told R own (Act q cap a) = (n : Notif) × AtWork own n × HasOpened R own n × HasCopied R own n × (R.decide n (reads_of own) ≡ Acts q cap) × (first_some outcome_in own ≡ None) × (R.fault n (reads_of own) ≡ None)
+Told R own (Plant x bs cap a) = (n : Notif) × AtWork own n × HasOpened R own n × HasCopied R own n × (R.decide n (reads_of own) ≡ Plants x bs cap) × (first_some outcome_in own ≡ None) × (R.fault n (reads_of own) ≡ None)
+Told R own (AddfdPut q a) = (n : Notif) × AtWork own n × HasOpened R own n × HasCopied R own n × IsInjected R own n q × (first_some put_in own ≡ None)
+Told R own (AddfdTake a) = (n : Notif) × AtWork own n × HasOpened R own n × HasCopied R own n × ((u : Unit {0}) × (first_some put_in own ≡ Some (Ok u))) × (first_some take_in own ≡ None)
+Told R own (Send x b a) = (n : Notif) × AtWork own n × HasOpened R own n × HasCopied R own n × (x ≡ n.id) × Cause R own n b
+Told R own _ = ⊥
+
+-- what a worker's step is answered
+abbrev pub Answered : System → List Event → ℕ → What → Type 0
+Answered S K w (Recv a) = (count K == 0 ≡ false) × (a ≡ recv_answer K (oldest_unfetched K))
+Answered S K w (OpenMem p a) = a ≡ (if lives K (holder K p) then Ok tt else Err 3)
+Answered S K w (OpenBase p d a) = a ≡ base_answer S K (holder K p) d
+Answered S K w (Check x a) = a ≡ check_answer K (named K x)
+Answered S K w (Read x n a) = a ≡ read_answer S K (mem K w) x n
+Answered S K w (Act q cap a) = a ≡ (if is_spent K cap then Err 122 else S.outcome K w q)
+Answered S K w (Plant x bs cap a) = a ≡ (if is_spent K cap then Err 122 else (if S.writable x then Ok tt else Err 14))
+Answered S K w (AddfdPut q a) = a ≡ (if not (S.source q.srcfd) then Err 9 else put_answer S K q (named K q.id))
+Answered S K w (AddfdTake a) = AddfdTake a ≡ take_step (install_at K (request_of K w)) (request_listed K (request_of K w))
+Answered S K w (Send x b a) = a ≡ send_answer K (named K x)
+Answered S K w _ = Unit {0}
+
+abbrev pub WorkerRow : System → Rules → List Event → ℕ → What → Type 0
+WorkerRow S R K w Skip = Unit {0}
+WorkerRow S R K w what = Told R (session K w) what × Answered S K w what
 
 -- a task's step tells this
 abbrev pub TaskRow : System → List Event → Name → What → Type 0
@@ -23,22 +85,6 @@ TaskRow S K n Exit = (alive K n ≡ true) × (call_of K n ≡ None)
 TaskRow S K n Skip = Unit {0}
 TaskRow S K n _ = ⊥
 
--- a worker's step tells this
-abbrev pub WorkerRow : System → Rules → List Event → ℕ → What → Type 0
-WorkerRow S R K w (Recv a) = (deed R (session K w) ≡ Fetch) × (count K == 0 ≡ false) × (a ≡ recv_answer K (oldest_unfetched K))
-WorkerRow S R K w (OpenMem p a) = (deed R (session K w) ≡ Open p) × (a ≡ (if lives K (holder K p) then Ok tt else Err 3))
-WorkerRow S R K w (OpenBase p d a) = (deed R (session K w) ≡ OpenB p d) × (a ≡ base_answer S K (holder K p) d)
-WorkerRow S R K w (Check x a) = (deed R (session K w) ≡ Ask x) × (a ≡ check_answer K (named K x))
-WorkerRow S R K w (Read x n a) = (deed R (session K w) ≡ ReadD x n) × (a ≡ read_answer S K (mem K w) x n)
-WorkerRow S R K w (Act q cap a) = (deed R (session K w) ≡ ActD q cap) × (a ≡ (if is_spent K cap then Err 122 else S.outcome K w q))
-WorkerRow S R K w (Plant x bs cap a) = (deed R (session K w) ≡ PlantD x bs cap) × (a ≡ (if is_spent K cap then Err 122 else (if S.writable x then Ok tt else Err 14)))
-WorkerRow S R K w (AddfdPut q a) = (deed R (session K w) ≡ Put q) × (a ≡ (if not (S.source q.srcfd) then Err 9 else put_answer S K q (named K q.id)))
-WorkerRow S R K w (AddfdTake a) = (deed R (session K w) ≡ Take) × (AddfdTake a ≡ take_step (install_at K (request_of K w)) (request_listed K (request_of K w)))
-WorkerRow S R K w (Send x b a) = (deed R (session K w) ≡ Answer x b) × (a ≡ send_answer K (named K x))
-WorkerRow S R K w LetGo = deed R (session K w) ≡ Let
-WorkerRow S R K w Skip = Unit {0}
-WorkerRow S R K w _ = ⊥
-
 -- the start is the first event, and nothing else
 abbrev pub Row : System → Rules → List Event → Actor → What → Type 0
 Row S R K Start (Spawn m a) = (K ≡ []) × (m ≡ 0 ∷ []) × (a ≡ Ok (S.pidbase + 1, New))
@@ -48,49 +94,53 @@ Row S R K (Worker w) a = WorkerRow S R K w a
 Row S R K Listener Close = Unit {0}
 Row S R K Listener _ = ⊥
 
-module _ (S : System) (K : List Event) (n : Name) (living : alive K n ≡ true) where
-  deliver_row : (r : Option ℕ) (effect : ℕ → Delivered) (other : What) → next_signal S.killable K n ≡ r → ((c : ℕ) → call_of K n ≡ Some c → settled K c ≡ false) → (r ≡ None → TaskRow S K n other) → TaskRow S K n (deliver_or r effect other)
-  deliver_row r effect other q u h = grind arith
+instr_row : (S : System) (K : List Event) (n : Name) → alive K n ≡ true → call_of K n ≡ None → TaskRow S K n (instr_step S K n (next_instr S K n))
+instr_row S K n living q = grind arith
 
-  -- the call in which the task waits is not settled
-  one_open : (c d : ℕ) → call_of K n ≡ Some c → settled K c ≡ false → call_of K n ≡ Some d → settled K d ≡ false
-  one_open c d q h g = grind arith
-
-  none_open : (c : ℕ) → call_of K n ≡ None → call_of K n ≡ Some c → settled K c ≡ false
-  none_open c q h = grind arith
-
-  instr_row : (i : Option Instr) → call_of K n ≡ None → TaskRow S K n (instr_step S K n i)
-  instr_row i q = grind arith
-
-  install_row : (c : ℕ) → call_of K n ≡ Some c → settled K c ≡ false → (rs : List ℕ) → queue K c ≡ rs → TaskRow S K n (install_step S K c rs)
-  install_row c q h rs g = grind arith
-
-  resume_row : (c : ℕ) → call_of K n ≡ Some c → (b : Bool) → settled K c ≡ b → TaskRow S K n (if b then Resume (reply K c) else deliver_or (next_signal S.killable K n) (λ s. effect_in_call s (mode K n s)) (install_step S K c (queue K c)))
-  resume_row c q true h = (living, (c, q, h, refl))
-  resume_row c q false h = deliver_row (next_signal S.killable K n) (λ s. effect_in_call s (mode K n s)) (install_step S K c (queue K c)) refl (λ d g. one_open c d q h g) (λ _. install_row c q h (queue K c) refl)
-
-  outside_row : call_of K n ≡ None → (b : Bool) → owes_native K n ≡ b → TaskRow S K n (if b then Native (S.native K n) else deliver_or (next_signal S.killable K n) (λ s. effect_outside s (mode K n s)) (instr_step S K n (next_instr S K n)))
-  outside_row q true h = (living, q, h, refl)
-  outside_row q false h = deliver_row (next_signal S.killable K n) (λ s. effect_outside s (mode K n s)) (instr_step S K n (next_instr S K n)) refl (λ c g. none_open c q g) (λ _. instr_row (next_instr S K n) q)
-
-  living_row : (r : Option ℕ) → call_of K n ≡ r → TaskRow S K n (living_step S K n r)
-  living_row r q = grind (arith, resume_row, outside_row)
-
-task_row : (S : System) (K : List Event) (n : Name) (b : Bool) → alive K n ≡ b → TaskRow S K n (if b then living_step S K n (call_of K n) else Skip)
-task_row S K n true h = living_row S K n h (call_of K n) refl
-task_row S K n false h = tt
+task_row : (S : System) (K : List Event) (n : Name) → TaskRow S K n (task_step S K n)
+unfolding task_step
+task_row S K n = grind (arith, instr_row)
 
 module _ (S : System) (R : Rules) (K : List Event) (w : ℕ) where
-  fetch_row : deed R (session K w) ≡ Fetch → (b : Bool) → (count K == 0) ≡ b → WorkerRow S R K w (if b then Skip else Recv (recv_answer K (oldest_unfetched K)))
-  fetch_row q true h = tt
-  fetch_row q false h = (q, h, refl)
+  judged_row : (n : Notif) → AtWork (session K w) n → HasOpened R (session K w) n → HasCopied R (session K w) n
+      → WorkerRow S R K w (deed_step S K w (judged_deed R n (session K w) (R.fault n (reads_of (session K w)))))
+  judged_row n work ready c = grind (arith, faulty, denied, passed, done, not_put, not_taken)
+
+  checked_row : (n : Notif) → AtWork (session K w) n → HasOpened R (session K w) n → WorkerRow S R K w (deed_step S K w (checked_deed R n (session K w)))
+  checked_row n work ready = grind (arith, judged_row)
+
+  based_row : (n : Notif) → AtWork (session K w) n → any_of opens (session K w) ≡ true → WorkerRow S R K w (deed_step S K w (based_deed R n (session K w) (R.dirfd n)))
+  based_row n work o = grind (arith, checked_row)
+
+  open_row : (n : Notif) → notif_of (session K w) ≡ Some n → WorkerRow S R K w (deed_step S K w (open_deed R n (session K w)))
+  open_row n q = grind (arith, based_row)
+
+  worker_row : WorkerRow S R K w (worker_step S R K w)
+  unfolding worker_step deed
+  worker_row = grind (arith, open_row)
 
 -- the step of an actor is one of its rows
 pub step-row : (S : System) (R : Rules) (K : List Event) (a : Actor) → is_start a ≡ false → Row S R K a (step S R K a)
-unfolding step task_step worker_step
-step-row S R K a h = grind (arith, task_row, fetch_row)
+unfolding step
+step-row S R K a h = grind (arith, task_row, worker_row)
 
 -- and so is each event of a legal history
 pub row-of : (S : System) (R : Rules) (K : List Event) (e : Event) → IsStep S R K e → Row S R K e.who e.what
 row-of S R [] e r = rw r (refl, refl, refl)
 row-of S R (f ∷ K) e r = rw (← r.2) at (step-row S R (f ∷ K) e.who r.1)
+
+-- what holds of no events, and with one more step still, holds of each legal history
+pub by-steps : (S : System) (R : Rules) (P : List Event → Type 0) → P [] → ((K : List Event) (e : Event) → IsLegal S R K → Row S R K e.who e.what → P K → P (e ∷ K)) → (K : List Event) → IsLegal S R K → P K
+by-steps S R P z f [] legal = z
+by-steps S R P z f (e ∷ K) legal = f K e legal.1 (row-of S R K e legal.0) (by-steps S R P z f K legal.1)
+
+-- the same of a history in which ids don't wrap
+pub by-few-steps : (S : System) (R : Rules) (P : List Event → Type 0) → P [] → ((K : List Event) (e : Event) → IsLegal S R K → length K < 2 ^ 64 → Row S R K e.who e.what → P K → P (e ∷ K))
+    → (K : List Event) → IsLegal S R K → length K < 2 ^ 64 → P K
+by-few-steps S R P z f [] legal room = z
+by-few-steps S R P z f (e ∷ K) legal room = f K e legal.1 (omega arith) (row-of S R K e legal.0) (by-few-steps S R P z f K legal.1 (omega arith))
+
+-- what each step tells holds of each event
+pub each : (S : System) (R : Rules) (P : List Event → Event → Type 0) → ((K : List Event) (e : Event) → IsLegal S R K → length K < 2 ^ 64 → Row S R K e.who e.what → P K e)
+    → (K : List Event) → IsLegal S R K → length K < 2 ^ 64 → Each P K
+each S R P f = by-few-steps S R (Each P) tt (λ K e legal room r ih. (f K e legal room r, ih))

@@ -15,13 +15,13 @@ ghost use Rattle.hist_model.specs.declared.policy.Policy.{Policy};
 ghost use Rattle.hist_model.specs.declared.script.Script.{Script};
 ghost use Rattle.hist_model.specs.Mediated.{Mediated, Each, TakenByItsActor, NamesOwn, NeverBusy, ErrorsKnown, LostIfGone, HasCause};
 ghost use Rattle.mediation.specs.Journals.{actors, IsLegalByPlace, FixedByJournal, SharesJournal};
-ghost use Rattle.mediation.specs.Facts.{CallIdsDiffer, NamesDiffer, HandlesOwn, SessionsSettle, StaysFinished};
-ghost use Rattle.mediation.specs.Frames.{Frame};
+ghost use Rattle.mediation.specs.Facts.{CallIdsDiffer, NamesDiffer, HandlesOwn, SessionsSettle, StaysFinished, Frame};
 ghost use Rattle.mediation.specs.Scheduled.{AllScheduled};
 
 /// Every legal history is mediated: each notification is answered at most once; each reply or descriptor reaches the
 /// waiting call that it was meant for, or nobody; each effect is what the policy grants on one copy of its call's arguments
 /// found valid afterwards; each answer has its cause; and a passed call runs without the broker's rights.
+#[tactic(auto, using(crate::proofs::Mediation::mediated))]
 pub fn legal_is_mediated()
     ensures { (P : Policy) (S : Script) (K : List Event) → Legal P S K → Mediated P S K }
 {}
@@ -70,6 +70,7 @@ pub fn fixed_by_actors()
 /// Two legal histories of one policy and script with the same journal are one: what a report prints tells the whole history.
 /// The names of tasks have numbers below 2^64, as every name of a program has. Without that it isn't so, since a number is
 /// written with at most 64 digits.
+#[tactic(auto, using(crate::proofs::Journals::fixed_by_journal, crate::proofs::Journals::shares_journal))]
 pub fn fixed_by_journal()
     ensures same { (P : Policy) (S : Script) → FixedByJournal P S }
     ensures only_so { (S : System) (R : Rules) → SharesJournal S R }
@@ -88,58 +89,68 @@ pub fn prefixes_are_legal()
 {}
 
 /// Each answer and each request that was accepted is for the call of its own session.
+#[tactic(auto, using(crate::proofs::Replies::names_own))]
 pub fn names_own()
     ensures { (S : System) (R : Rules) (K : List Event) → IsLegal S R K → length K < 2 ^ 64 → Each NamesOwn K }
 {}
 
 /// A worker is told that a call or its task is gone only where its session's call isn't listed.
+#[tactic(auto, using(crate::proofs::Replies::lost_if_gone))]
 pub fn lost_if_gone()
     ensures { (S : System) (R : Rules) (K : List Event) → IsLegal S R K → length K < 2 ^ 64 → Each LostIfGone K }
 {}
 
 /// No worker is answered EINPROGRESS or EBUSY.
+#[tactic(auto, using(crate::proofs::Replies::never_busy))]
 pub fn never_busy()
     ensures { (S : System) (R : Rules) (K : List Event) → IsLegal S R K → length K < 2 ^ 64 → Each NeverBusy K }
 {}
 
 /// Each session's steps stand in order: openings, a good check, reads, a good check, uses.
+#[tactic(auto, using(crate::proofs::Order::in_order))]
 pub fn ordered()
     ensures { (S : System) (R : Rules) (K : List Event) → IsLegal S R K → (w : ℕ) → InOrder (session K w) }
 {}
 
 /// Each answer stands after two good checks, and has its cause in the session's copy and the policy.
+#[tactic(auto, using(crate::proofs::Replies::has_cause))]
 pub fn has_cause()
     ensures { (S : System) (R : Rules) (K : List Event) → IsLegal S R K → length K < 2 ^ 64 → Each (HasCause R) K }
 {}
 
 /// Each installation is a step of a listed call's task, for a request of that call's session.
+#[tactic(auto, using(crate::proofs::Replies::installs_own))]
 pub fn installs_own()
     ensures { (S : System) (R : Rules) (K : List Event) → IsLegal S R K → length K < 2 ^ 64 → Each InstallsOwn K }
 {}
 
 /// Each return of a call gives what its session sent, or the number that was installed for its session's request.
+#[tactic(auto, using(crate::proofs::Replies::resumes_own))]
 pub fn resumes_own()
     ensures { (S : System) (R : Rules) (K : List Event) → IsLegal S R K → length K < 2 ^ 64 → Each ResumesOwn K }
 {}
 
 /// Each step is one that its actor takes.
+#[tactic(auto, using(crate::proofs::Replies::taken_by_its_actor))]
 pub fn taken_by_its_actor()
     ensures { (S : System) (R : Rules) (K : List Event) → IsLegal S R K → length K < 2 ^ 64 → Each TakenByItsActor K }
 {}
 
 /// A worker's check and answer have no error but ENOENT, its request for a descriptor none but EBADF and ENOENT, and its
 /// take none but EBADF, EMFILE and ENOENT.
+#[tactic(auto, using(crate::proofs::Replies::errors_known))]
 pub fn errors_known()
     ensures { (S : System) (R : Rules) (K : List Event) → IsLegal S R K → length K < 2 ^ 64 → Each ErrorsKnown K }
 {}
 
 /// Each return of a call for one of whose requests a number was installed gives this number.
+#[tactic(auto, using(crate::proofs::Replies::returns_installed))]
 pub fn returns_installed()
     ensures { (S : System) (R : Rules) (K : List Event) → IsLegal S R K → length K < 2 ^ 64 → Each ReturnsInstalled K }
 {}
 
 /// A legal history that continues a finished one, without the close of the listener, is finished.
-#[tactic(auto, using(crate::proofs::Finishes::stays_finished))]
+#[tactic(auto, using(crate::proofs::Played::stays_finished))]
 pub fn stays_finished()
     ensures { (S : System) (R : Rules) → StaysFinished S R }
 {}
@@ -162,7 +173,7 @@ pub fn handles_own()
 {}
 
 /// A listed call whose session has ended is settled, and one whose session goes on, and has asked for no descriptor, waits.
-#[tactic(auto, using(crate::proofs::Sessions::sessions_settle))]
+#[tactic(auto, using(crate::proofs::Phases::sessions_settle))]
 pub fn sessions_settle()
     ensures { (S : System) (R : Rules) (K : List Event) → IsLegal S R K → length K < 2 ^ 64 → SessionsSettle K }
 {}

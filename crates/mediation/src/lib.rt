@@ -7,8 +7,8 @@
 //!
 //! Nothing here runs: each law is the contract of a function without a body, so that whoever calls it may use it. The
 //! facts are proved by induction over the events, most of them of any `System` and any `Rules`, which hold just what the
-//! order of steps needs of a script and of a policy. Below stand the types and definitions of `hist_model`; the program's
-//! call that prints a history stands above.
+//! order of steps needs of a script and of a policy. Below stand the types and definitions of `hist_model`, and the lemmas
+//! on one more event of `history_frames`; the program's call that prints a history stands above.
 #![tactic(auto)]
 
 pub mod laws;

@@ -3,6 +3,7 @@
 ghost use Rattle.mediation.specs.Refused.{EarlyEffect, LateOpening, SecondReading, SecondAnswer, ValidByNumber, LateInstallation, WithoutSend, NewestFirst};
 
 /// Each of them is refused.
+#[tactic(auto, using(crate::proofs::Played::refusals))]
 pub fn wrong_histories_are_refused()
     ensures early_effect { EarlyEffect }
     ensures late_opening { LateOpening }

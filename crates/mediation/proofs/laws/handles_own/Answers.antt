@@ -1,5 +1,5 @@
-use Rattle.mediation.proofs.Sessions as lemma
+use Rattle.mediation.proofs.Handles as lemma
 use Rattle.mediation.proofs.laws.handles_own.Goals as goal
 
 pub returns : goal.returns
-returns c = lemma.handles_own
+returns c = λ S R K legal room w call t g s. (lemma.steady S R K legal room w call s).handles t g

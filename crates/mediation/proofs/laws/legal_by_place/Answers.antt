@@ -2,4 +2,4 @@ use Rattle.mediation.proofs.Journals as lemma
 use Rattle.mediation.proofs.laws.legal_by_place.Goals as goal
 
 pub returns : goal.returns
-returns c = record { there = lemma.place-of-legal; back = lemma.legal-by-place }
+returns c = record { there = lemma.place_of_legal; back = lemma.legal_by_place }

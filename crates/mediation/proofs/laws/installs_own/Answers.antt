@@ -1,5 +1,0 @@
-use Rattle.mediation.proofs.Replies as lemma
-use Rattle.mediation.proofs.laws.installs_own.Goals as goal
-
-pub returns : goal.returns
-returns c = λ S R K. lemma.each S R _ (lemma.installs-are-own S R) K
