@@ -187,7 +187,8 @@ module _ (S : System) (R : Rules) where
       }
 
   sent-by : (H : List Event) → IsLegal S R H → length H < 2 ^ 64 → (s w x : ℕ) (b : Back) (a : Result (Unit {0}) ℕ) → event_at H s ≡ Some (ev (Worker w) (Send x b a)) → Sent H s w x b a
-  sent-by = by-few-steps S R (λ H. (s w x : ℕ) (b : Back) (a : Result (Unit {0}) ℕ) → event_at H s ≡ Some (ev (Worker w) (Send x b a)) → Sent H s w x b a) (λ s w x b a h. absurd (omega (arith, event_at-below [] s _ h)))
+  sent-by = by-few-steps S R (λ H. (s w x : ℕ) (b : Back) (a : Result (Unit {0}) ℕ) → event_at H s ≡ Some (ev (Worker w) (Send x b a)) → Sent H s w x b a)
+      (λ s w x b a h. absurd (omega (arith, event_at-below [] s _ h)))
       (λ K e legal room row ih s w x b a h. elim (below_or_last s (length K) (event_at-below (e ∷ K) s (ev (Worker w) (Send x b a)) h)) [
         | inl l ↦ sent-later K e s w x b a row l (ih s w x b a (sym (event_at-older e K s l) ∙ h))
         | inr q ↦ let z : e ≡ ev (Worker w) (Send x b a) = cc (event_at-last e K s q, h) in rw (q, z) (sent-now K w x b a legal room (rw z at row))

@@ -162,7 +162,8 @@ module _ (S : System) (R : Rules) where
       ])
 
   pub returns_installed : (K : List Event) → IsLegal S R K → length K < 2 ^ 64 → Each ReturnsInstalled K
-  returns_installed = each S R ReturnsInstalled (λ K e legal room row n b who what c r m k q h. let t : TaskRow S K n (Resume b) = rw (who, what) at row in let g = gave-number K legal room c r m q h in grind arith)
+  returns_installed = each S R ReturnsInstalled (λ K e legal room row n b who what c r m k q h.
+      let t : TaskRow S K n (Resume b) = rw (who, what) at row in let g = gave-number K legal room c r m q h in grind arith)
 
   -- ---- answers: whose they are, what causes them, and when they tell that a call is gone
 
