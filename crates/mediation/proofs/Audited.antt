@@ -1,10 +1,10 @@
 -- The audit of a session that answered names the rule that decided.
-use Rattle.mediation.proofs.Common.{[], and_parts, answers, any_of, ap, append-nil, arith, AuditNames, Back, before, below_or_last, Bool, cases_Bool, checked_twice, Complete, copied, decision, ends}
+use Rattle.mediation.proofs.Common.{[], and_parts, answers, any_of, ap, append-nil, arith, AuditNames, Back, before, below_or_last, Bool, cases_Bool, checked_twice, Complete, copied, decision}
 use Rattle.mediation.proofs.Common.{eq-eqb, ev, Event, event_at, event_at-below, event_at-here, event_at-older, false, Figures, finding, finding_of, fits_piece, gives_up, heard, if◌then◌else◌, inl}
 use Rattle.mediation.proofs.Common.{inr, is_acting, is_gone, is_good_check, is_letgo, is_worker, IsLegal, judged_as, judging_by, length, LetGo, List, list_any, mem, ne_eqb, not, not-true, Notif}
 use Rattle.mediation.proofs.Common.{notif_of, number_of, Ok, Option, plan, Policy, progress, Read, read_answer, read_answers, reads, reads_of, Recv, refl, request, Result, reverse, reverse-append}
 use Rattle.mediation.proofs.Common.{Rules, rules_of, Script, Send, session, session_call, session_step, skips, Some, starts, sym, System, system_of, true, wanted, What, with_heard, Worker, ℕ, ◌&&◌}
-use Rattle.mediation.proofs.Common.{◌++◌, ◌+◌, ◌<◌, ◌^◌, ◌∙◌, ◌∷◌, ◌≡◌, ◌≤◌}
+use Rattle.mediation.proofs.Common.{◌++◌, ◌<◌, ◌^◌, ◌∙◌, ◌∷◌, ◌≡◌, ◌≤◌}
 use Rattle.hist_model.proofs.MappedBytes.{bytes_fit}
 use Rattle.hist_model.proofs.Pieces.{piece_wanted, wanted_some}
 use Rattle.hist_model.specs.Decisions.{decide}
@@ -187,7 +187,8 @@ module _ (S : System) (R : Rules) where
       }
 
   sent-by : (H : List Event) → IsLegal S R H → length H < 2 ^ 64 → (s w x : ℕ) (b : Back) (a : Result (Unit {0}) ℕ) → event_at H s ≡ Some (ev (Worker w) (Send x b a)) → Sent H s w x b a
-  sent-by = by-few-steps S R (λ H. (s w x : ℕ) (b : Back) (a : Result (Unit {0}) ℕ) → event_at H s ≡ Some (ev (Worker w) (Send x b a)) → Sent H s w x b a) (λ s w x b a h. absurd (omega (arith, event_at-below [] s _ h)))
+  sent-by = by-few-steps S R (λ H. (s w x : ℕ) (b : Back) (a : Result (Unit {0}) ℕ) → event_at H s ≡ Some (ev (Worker w) (Send x b a)) → Sent H s w x b a)
+      (λ s w x b a h. absurd (omega (arith, event_at-below [] s _ h)))
       (λ K e legal room row ih s w x b a h. elim (below_or_last s (length K) (event_at-below (e ∷ K) s (ev (Worker w) (Send x b a)) h)) [
         | inl l ↦ sent-later K e s w x b a row l (ih s w x b a (sym (event_at-older e K s l) ∙ h))
         | inr q ↦ let z : e ≡ ev (Worker w) (Send x b a) = cc (event_at-last e K s q, h) in rw (q, z) (sent-now K w x b a legal room (rw z at row))

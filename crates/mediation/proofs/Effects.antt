@@ -1,7 +1,7 @@
 -- Each effect is what the policy grants on the one copy of its session, whose call waited up to the second good check.
 use Rattle.mediation.proofs.Common.{[], Act, ActIsGranted, Actor, Acts, ActsAlone, AddfdPut, after_native, and_parts, any_of, ap, arith, base_dirfd, before, below_or_last, Bool, both_ways, bytes_eq}
 use Rattle.mediation.proofs.Common.{call_natively, cases_Bool, changed, Changes, Check, checks, close_natively, codes, copied, copied_natively, copy_of, Decision, Each, ends_with_check, entered}
-use Rattle.mediation.proofs.Common.{eqb-true, Err, ev, Event, Fails, false, fetched, fetched_by, Figures, files, Files, files_after, filter, first_some, Gives, gives_up, has_base, if◌then◌else◌}
+use Rattle.mediation.proofs.Common.{eqb-true, Err, ev, Event, Fails, false, fetched, Figures, files, Files, files_after, filter, first_some, Gives, gives_up, has_base, if◌then◌else◌}
 use Rattle.mediation.proofs.Common.{inl, inr, is_effect, is_good_check, is_others_row, is_spent, is_until_checked, is_worker, IsLegal, IsMediated, judged, KeepsPrivileged, leb-true, length, List}
 use Rattle.mediation.proofs.Common.{listed, Name, name_eq-true, nat_eq, nat_le, native_step, NativeStep, None, Notif, number_entered, number_of, Ok, oldest_unfetched, Option, or_parts, pid_named}
 use Rattle.mediation.proofs.Common.{place_or, plan, Plant, PlantIsGranted, Plants, Policy, Progress, put_in, PutIsInjected, Read, reads_of, ReadsOwn, Recv, refl, Result, Rules, rules_of, Script}

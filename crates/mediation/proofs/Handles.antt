@@ -1,7 +1,7 @@
 -- What a session has opened is its call's task's.
 use Rattle.mediation.proofs.Common.{Actor, after_native, alive, and_parts, any_of, ap, arith, base, base_after, base_answer, base_of, BaseIs, before, Bool, caller, cases_Bool, Check, checks, eq-eqb}
 use Rattle.mediation.proofs.Common.{ev, Event, event_at, event_at-below, event_at-here, event_at-older, false, files, Files, gives_up, group, HasMemory, holder, inl, InOrder, inr, is_good_check}
-use Rattle.mediation.proofs.Common.{is_opening, is_worker, IsLegal, length, LetGo, List, listed, mem, mem_after, named, NativeStep, None, Notif, notif_of, Ok, OpenBase, opened, opens, Option}
+use Rattle.mediation.proofs.Common.{is_opening, is_worker, IsLegal, length, LetGo, List, listed, mem, mem_after, NativeStep, None, Notif, notif_of, Ok, OpenBase, opened, opens, Option}
 use Rattle.mediation.proofs.Common.{place_or, Recv, refl, Result, Rules, Script, session, session_call, Some, sym, System, system_of, task_place, true, waiting, What, Worker, ℕ, ℤ, ◌&&◌, ◌<◌, ◌^◌}
 use Rattle.mediation.proofs.Common.{◌∙◌, ◌∷◌, ◌≡◌, ◌⊎◌}
 use Rattle.mediation.proofs.Rows.{WorkerRow, Row, by-steps}

@@ -1,8 +1,8 @@
 -- Every legal history is mediated.
-use Rattle.mediation.proofs.Common.{actors, ActsAlone, Event, FailsAlone, files, InstallsAlone, IsLegal, length, List, Mediated, Policy, reads, rules_of, Script, system_of, ◌<◌, ◌^◌}
+use Rattle.mediation.proofs.Common.{ActsAlone, Event, FailsAlone, files, InstallsAlone, IsLegal, length, List, Mediated, Policy, rules_of, Script, system_of, ◌<◌, ◌^◌}
 use Rattle.mediation.proofs.Rows.{each}
 use Rattle.mediation.proofs.Calls.{answered_once, receives-are-for}
-use Rattle.mediation.proofs.Order.{ordered, in_order}
+use Rattle.mediation.proofs.Order.{in_order}
 use Rattle.mediation.proofs.Replies.{installs_own, resumes_own, returns_installed, taken_by_its_actor, names_own, lost_if_gone, has_cause, errors_known, never_busy, arrives, one_session}
 use Rattle.mediation.proofs.Effects.{times-kept, acts-are-granted, plants-are-granted, puts-are-injected, reads-are-own, acts-alone}
 use Rattle.mediation.proofs.Audited.{audit-names}

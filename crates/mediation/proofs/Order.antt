@@ -1,6 +1,6 @@
 -- The steps of a session stand in order, and what it decided stays.
-use Rattle.mediation.proofs.Common.{[], and_parts, any_of, arith, Bool, cases_Bool, checks, copied, Decision, Event, false, first_some, gives_up, Injects, inl, InOrder, inr, is_acting}
-use Rattle.mediation.proofs.Common.{is_good_check, is_worker, IsLegal, joined, List, list_any, nat_le, None, not, not-true, Notif, notif_of, number_of, Ok, opened, opens, opens_base, Option, put_in}
+use Rattle.mediation.proofs.Common.{[], and_parts, any_of, arith, Bool, cases_Bool, checks, Decision, Event, false, first_some, gives_up, Injects, inl, InOrder, inr, is_acting}
+use Rattle.mediation.proofs.Common.{is_good_check, is_worker, IsLegal, joined, List, list_any, nat_le, None, not, not-true, Notif, notif_of, number_of, Ok, opens, opens_base, Option, put_in}
 use Rattle.mediation.proofs.Common.{reads_of, refl, Result, Rules, session, skips, Some, starts, System, take_in, true, What, ℕ, ◌&&◌, ◌<◌, ◌∷◌, ◌≡◌, ◌≤◌, ◌⊎◌}
 use Rattle.mediation.proofs.Rows.{AtWork, HasCopied, Told, WorkerRow, by-steps}
 use Rattle.mediation.proofs.Hands.{worker-row}
@@ -12,6 +12,7 @@ use Rattle.hist_model.specs.ReportAudit.{is_spent}
 abbrev pub Follows : Rules → List What → What → Type 0
 Follows R own a = ((starts a ≡ true) × (own ≡ [])) ⊎ ((starts a ≡ false) × Told R own a)
 
+-- the steps of a session, the newest first
 abbrev pub IsOwn : Rules → List What → Type 0
 IsOwn R [] = Unit {0}
 IsOwn R (a ∷ own) = Follows R own a × IsOwn R own
@@ -79,6 +80,7 @@ pub goods : (own : List What) → any_of gives_up own ≡ false → number_of is
 goods [] h = refl
 goods (a ∷ own) h = let ih = goods own in grind arith
 
+-- some step passes a test where their number isn't 0
 pub any-number : (test : What → Bool) (own : List What) → any_of test own ≡ nat_le 1 (number_of test own)
 any-number test [] = refl
 any-number test (a ∷ own) = let ih = any-number test own in grind arith

@@ -3,7 +3,7 @@ use Rattle.mediation.proofs.Common.{[], Actor, any_of, ap, arith, base, Bool, ca
 use Rattle.mediation.proofs.Common.{install_of, is_actor, is_letgo, is_made, is_open_session, is_start, IsLegal, last_pid, length, List, listed, Listener, mem, mode, named, newest, next_pid}
 use Rattle.mediation.proofs.Common.{next_signal, None, notif_of, oldest, oldest_unfetched, owes_native, pending, played, Policy, queue, reaped, Recv, recvs, refl, reply, request_of, Rules, rules_of}
 use Rattle.mediation.proofs.Common.{Script, session, session_call, settled, Skip, started, StaysFinished, step, steps_of, suc, System, system_of, takes, task_place, task_step, times_spent, true}
-use Rattle.mediation.proofs.Common.{was_waited_for, What, with_step, Worker, worker_step, zero, ℕ, ◌++◌, ◌+◌, ◌<◌, ◌∷◌, ◌≡◌, ◌⊎◌}
+use Rattle.mediation.proofs.Common.{was_waited_for, What, with_step, Worker, worker_step, zero, ℕ, ◌++◌, ◌<◌, ◌∷◌, ◌≡◌, ◌⊎◌}
 use Rattle.hist_model.specs.Legal.{with_schedule, with_steps}
 use Rattle.hist_model.specs.declared.script.Step.{Step}
 use Rattle.mediation.specs.Refused.{EarlyEffect, LateInstallation, LateOpening, NewestFirst, SecondAnswer, SecondReading, ValidByNumber, WithoutSend}

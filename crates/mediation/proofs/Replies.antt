@@ -3,8 +3,8 @@ use Rattle.mediation.proofs.Common.{[], Actor, and_parts, answers, ap, arith, Ar
 use Rattle.mediation.proofs.Common.{ErrorsKnown, ev, Event, event_at-below, event_at-here, event_at-older, false, false_from_ne_true, fetched, fetcher, fetches, first_sends, gave, has_send}
 use Rattle.mediation.proofs.Common.{HasCause, id, if◌then◌else◌, inl, inr, Install, install_of, installed, installs_for, is_accepted, is_busy, is_first, is_known_error, is_lost, is_send, is_task}
 use Rattle.mediation.proofs.Common.{IsLegal, leaves, length, List, listed, LostIfGone, named, NamesOwn, NeverBusy, None, Notif, notif_of, Ok, OneSession, or_cases, or_left, or_right, pos, puts_to}
-use Rattle.mediation.proofs.Common.{queue, refl, reply, request, Resume, returns, Rules, Send, session, session_call, settled, settles, Some, subst, sym, System, TakenByItsActor, takes, true, What}
-use Rattle.mediation.proofs.Common.{Worker, worker_of, ℕ, ◌&&◌, ◌++◌, ◌+◌, ◌<◌, ◌==◌, ◌^◌, ◌||◌, ◌∙◌, ◌∷◌, ◌≡◌, ◌≤◌, ◌⊎◌}
+use Rattle.mediation.proofs.Common.{queue, refl, reply, Resume, returns, Rules, Send, session, session_call, settled, settles, Some, subst, sym, System, TakenByItsActor, takes, true, What}
+use Rattle.mediation.proofs.Common.{Worker, worker_of, ℕ, ◌&&◌, ◌++◌, ◌<◌, ◌==◌, ◌^◌, ◌||◌, ◌∙◌, ◌∷◌, ◌≡◌, ◌≤◌, ◌⊎◌}
 use Rattle.hist_model.specs.Mediated.{fetches_of}
 use Rattle.hist_model.specs.Settlers.{installed_for, InstallsOwn, IsRequestOf, ResumesOwn, ReturnsInstalled, sent, Source}
 use Rattle.hist_model.specs.declared.event.Back.TheVariants.{Value}
@@ -162,7 +162,8 @@ module _ (S : System) (R : Rules) where
       ])
 
   pub returns_installed : (K : List Event) → IsLegal S R K → length K < 2 ^ 64 → Each ReturnsInstalled K
-  returns_installed = each S R ReturnsInstalled (λ K e legal room row n b who what c r m k q h. let t : TaskRow S K n (Resume b) = rw (who, what) at row in let g = gave-number K legal room c r m q h in grind arith)
+  returns_installed = each S R ReturnsInstalled (λ K e legal room row n b who what c r m k q h.
+      let t : TaskRow S K n (Resume b) = rw (who, what) at row in let g = gave-number K legal room c r m q h in grind arith)
 
   -- ---- answers: whose they are, what causes them, and when they tell that a call is gone
 
@@ -210,6 +211,7 @@ module _ (S : System) (R : Rules) where
   gone-known : (K : List Event) (w c : ℕ) (what : What) → IsLegal S R K → WorkerRow S R K w what → (i : InSession K w c) → named K i.n.id ≡ None → is_known_error what ≡ true
   gone-known K w c what legal r i q = let k = install-known K legal in grind arith
 
+  -- no error of a worker's step is unknown
   error-known : (K : List Event) (a : Actor) (what : What) → IsLegal S R K → length K < 2 ^ 64 → Row S R K a what → is_known_error what ≡ true
   error-known K (Worker w) what legal room row = elim (cases_Bool (works what)) [
     | inl v ↦

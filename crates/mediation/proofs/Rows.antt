@@ -1,6 +1,6 @@
 -- What the step of an actor can be, kind by kind, and what it then tells.
-use Rattle.mediation.proofs.Common.{[], Act, Actor, Acts, Addfd, addfd_of, AddfdPut, AddfdTake, alive, any_of, arith, base, base_answer, based_deed, call_of, calls, Cause, Check, check_answer}
-use Rattle.mediation.proofs.Common.{checked_deed, checks, Close, copied, count, deed, deed_step, Deliver, denied, done, Each, Enter, Err, Event, Exit, false, faulty, first_some, found, gives_up}
+use Rattle.mediation.proofs.Common.{[], Act, Actor, Acts, Addfd, addfd_of, AddfdPut, AddfdTake, alive, any_of, arith, base_answer, based_deed, call_of, calls, Cause, Check, check_answer}
+use Rattle.mediation.proofs.Common.{checked_deed, checks, Close, count, deed, deed_step, Deliver, denied, done, Each, Enter, Err, Event, Exit, false, faulty, first_some, found, gives_up}
 use Rattle.mediation.proofs.Common.{Handler, holder, if◌then◌else◌, Injects, Install, install_at, install_step, instr_step, is_child, is_ended_child, is_letgo, is_spent, is_start, IsLegal, IsStep}
 use Rattle.mediation.proofs.Common.{judged_deed, length, LetGo, List, Listener, lives, mem, Name, named, Native, next_child, next_instr, next_pid, next_signal, None, not, not_put, not_taken, Notif}
 use Rattle.mediation.proofs.Common.{notif_of, number_of, Ok, oldest, oldest_unfetched, open_deed, OpenBase, OpenMem, opens, opens_base, Option, outcome_in, owes_native, passed, Plant, Plants, Poke}
@@ -65,6 +65,7 @@ Answered S K w (AddfdTake a) = AddfdTake a ≡ take_step (install_at K (request_
 Answered S K w (Send x b a) = a ≡ send_answer K (named K x)
 Answered S K w _ = Unit {0}
 
+-- a worker's step tells this
 abbrev pub WorkerRow : System → Rules → List Event → ℕ → What → Type 0
 WorkerRow S R K w Skip = Unit {0}
 WorkerRow S R K w what = Told R (session K w) what × Answered S K w what
