@@ -1,6 +1,6 @@
 -- Requests for descriptors after an event: whose they are, for which call they were put, and what their installation answered.
 use Rattle.std.proofs.Common.{◌≡◌, ◌⊎◌, inl, inr, ℕ, ◌<◌, ◌≤◌, true, false, ◌&&◌, List, [], ◌∷◌, ◌++◌, length, Option, Some, None, refl, sym, ◌∙◌, arith}
-use Rattle.std.specs.Prelude.{◌==◌, Ok}
+use Rattle.std.specs.Prelude.{Ok}
 use Rattle.std.proofs.lemmas.Bool.{cases_Bool, cases_order, eq-eqb, eqb-true, ne_eqb}
 use Rattle.hist_model.specs.Look.{event_at, is_worker}
 use Rattle.hist_model.specs.Calls.{listed, id, is_call, queue, puts_to, installs_for, is_install, rest_of}
@@ -12,7 +12,7 @@ use Rattle.hist_model.specs.declared.event.Actor.TheVariants.{Worker}
 use Rattle.hist_model.specs.declared.event.What.{What}
 use Rattle.hist_model.specs.declared.event.What.TheVariants.{AddfdPut}
 use Rattle.hist_model.proofs.Look.{event_at-here, event_at-older, event_at-below}
-use Rattle.history_frames.proofs.Listed.{listed-below, id-older, is_call-below, listed-is_call, named-listed, queue-same, queue-put, queue-rest}
+use Rattle.history_frames.proofs.Listed.{listed-below, is_call-below, listed-is_call, named-listed, queue-same, queue-put, queue-rest}
 
 -- ---- whose a request is
 
