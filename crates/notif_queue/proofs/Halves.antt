@@ -1,13 +1,12 @@
 -- Entries in order: what is found by halves, and taken away.
-use Rattle.std.proofs.Common.{◌≡◌, inl, inr, ℕ, zero, suc, ◌+◌, ◌<◌, ◌≤◌, true, false, List, [], ◌∷◌, length, get_or, Some, None, ltb, ltb-true, ltb-false, refl, ap, ◌∙◌, arith}
+use Rattle.std.proofs.Common.{◌≡◌, inl, inr, ℕ, zero, suc, ◌<◌, ◌≤◌, true, false, List, [], ◌∷◌, length, get_or, Some, None, ltb, ltb-true, ltb-false, refl, ap, ◌∙◌, arith}
 use Rattle.std.specs.Prelude.{slice_get}
-use Rattle.std.specs.List.{AllWithin, remove}
+use Rattle.std.specs.List.{AllWithin}
 use Rattle.std.specs.List.Sorted.{IsNonDecreasingBy}
 use Rattle.std.proofs.lemmas.Bool.{cases_eq, cases_order, cases_lt, eq-eqb, ne_eqb, le-leb, lt-leb}
 use Rattle.std.proofs.lemmas.List.{get_or_default}
-use Rattle.std.proofs.lemmas.List.Edits.{length-remove, get_or-remove_below, get_or-remove_above}
 use Rattle.notif_queue.specs.declared.order.Entry.{Entry}
-use Rattle.notif_queue.specs.Entries.{Rise, AreBelow, IsStart, IsPlace, IsAbsent, slot_of, first_from, without}
+use Rattle.notif_queue.specs.Entries.{Rise, IsStart, IsPlace, IsAbsent, slot_of, first_from, without}
 
 pub rise-by : (xs : List Entry) → Rise xs → IsNonDecreasingBy (λ (e : Entry). e.number) xs
 rise-by xs r i j d l m =
@@ -62,25 +61,6 @@ unfolding first_from
 first-at [] n i p = refl
 first-at (x ∷ xs) n zero p = let b = p.above 0 x (omega arith) (omega arith) in rw (le-leb n x.number b)
 first-at (x ∷ xs) n (suc i) p = let b : x.number < n = p.below 0 x (omega arith) (omega arith) in rw (lt-leb n x.number b) (first-at xs n i (start-tail x xs n i p))
-
-pub rise-remove : (xs : List Entry) (i : ℕ) → Rise xs → i < length xs → Rise (remove xs i)
-rise-remove xs i r b j k d l m =
-    let n = length-remove xs i b in
-    elim (cases_lt j i) [
-      | inl p ↦ elim (cases_lt k i) [
-        | inl q ↦ rw (get_or-remove_below xs i d j p b, get_or-remove_below xs i d k q b) (r j k d l (omega arith))
-        | inr q ↦ rw (get_or-remove_below xs i d j p b, get_or-remove_above xs i d k q b) (r j (k + 1) d (omega arith) (omega arith))
-      ]
-      | inr p ↦ let q : i ≤ k = omega arith in rw (get_or-remove_above xs i d j p b, get_or-remove_above xs i d k q b) (r (j + 1) (k + 1) d (omega arith) (omega arith))
-    ]
-
-pub below-remove : (xs : List Entry) (n i : ℕ) → AreBelow n xs → i < length xs → AreBelow n (remove xs i)
-below-remove xs n i a b j d l =
-    let m = length-remove xs i b in
-    elim (cases_lt j i) [
-      | inl p ↦ rw (get_or-remove_below xs i d j p b) (a j d (omega arith))
-      | inr p ↦ rw (get_or-remove_above xs i d j p b) (a (j + 1) d (omega arith))
-    ]
 
 -- ---- the first one from a number on
 

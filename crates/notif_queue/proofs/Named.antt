@@ -5,14 +5,12 @@ use Rattle.hist_model.specs.Calls.{notifies, id, listed, named, answered, state,
 use Rattle.hist_model.specs.declared.event.Event.{Event}
 use Rattle.hist_model.specs.declared.notification.Reply.{Reply}
 use Rattle.hist_model.specs.declared.notification.Reply.TheVariants.{Value, Fail, Continue, Installing}
-use Rattle.hist_model.specs.declared.notification.State.{State}
-use Rattle.hist_model.specs.declared.notification.State.TheVariants.{Answered}
 use Rattle.history_frames.specs.Ordinals.{nth_of}
 use Rattle.history_frames.proofs.Ordinals.{place-below}
 use Rattle.history_frames.proofs.Listed.{listed-is_call, calls-count, call-number, named-listed, named-is}
 use Rattle.notif_queue.specs.declared.queue.Call.{Call}
 use Rattle.notif_queue.specs.declared.queue.Queue.{Queue}
-use Rattle.notif_queue.specs.Table.{call_found, number_of, state_by, state_in, state_found, reply_in, reply_found}
+use Rattle.notif_queue.specs.Table.{call_found, number_of, state_by, state_found, reply_in, reply_found}
 use Rattle.notif_queue.specs.Stands.{IsReply, IsCall, IsOrderly, StandsFor}
 
 mod-back : (f n : ℕ) → f < 2 ^ 64 → n < 2 ^ 64 → ((f + n) % 2 ^ 64 + (2 ^ 64 - f)) % 2 ^ 64 ≡ n
@@ -92,19 +90,6 @@ state-is first K Q x S l = go (call_found Q (number_of Q x)) refl
     go : (o : Option Call) → call_found Q (number_of Q x) ≡ o → state_found Q x ≡ state_at K (named K x)
     go None f = rw (f, named-lost first K Q x S f)
     go (Some r) f = let i = S.rows (number_of Q x) r f in rw (f, named-row first K Q x r S l f i) (ap Some (state-of-row K Q.fetched (number_of Q x) r i))
-
--- a call that was answered has a reply
-pub answered-found : (Q : Queue) (x : ℕ) → state_found Q x ≡ Some Answered → reply_found Q x ≡ None → ⊥
-answered-found Q x h q = go (nat_lt (number_of Q x) Q.fetched) (call_found Q (number_of Q x)) h q
-  where
-    by : (b : Bool) (y : Option Reply) → ◌≡◌ {A = Option State} (Some (state_by b y)) (Some Answered) → y ≡ None → ⊥
-    by false y h q = cc
-    by true None h q = cc
-    by true (Some z) h q = cc
-
-    go : (b : Bool) (o : Option Call) → state_in b o ≡ Some Answered → reply_in o ≡ None → ⊥
-    go b None h q = cc
-    go b (Some r) h q = by b r.reply h q
 
 reply-row : (o : Option Call) (y : Reply) → reply_in o ≡ Some y → (r : Call) × (o ≡ Some r) × (r.reply ≡ Some y)
 reply-row None y h = cc
