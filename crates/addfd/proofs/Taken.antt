@@ -8,7 +8,7 @@ use Rattle.hist_model.specs.Calls.{listed, named, id, notifies, is_install, queu
 use Rattle.hist_model.specs.Steps.{request_of, request_after, install_at, call_listed, request_listed, take_step}
 use Rattle.hist_model.specs.declared.event.Event.{Event}
 use Rattle.hist_model.specs.declared.event.What.TheVariants.{AddfdTake, Skip}
-use Rattle.history_frames.proofs.Listed.{listed-is_call, named-is, named-none, id-older, queue-same}
+use Rattle.history_frames.proofs.Listed.{listed-is_call, named-is, named-listed, id-older, queue-same}
 use Rattle.history_frames.proofs.Queued.{request-same, request-more}
 use Rattle.addfd.specs.declared.requests.Request.{Request}
 use Rattle.addfd.specs.declared.requests.TakeError.{TakeError}
@@ -50,8 +50,12 @@ listed-named K qs w q S h =
     let one : (d : ℕ) → listed K d ≡ true → id K d ≡ q.asked.id → d ≡ i.call = λ d l e. S.ids d i.call (listed-is_call K d l) r.0 (e ∙ sym r.1) in
     own ∙ elim (cases_Bool (listed K i.call)) [
       | inl b ↦ b ∙ sym (ap is_some (named-is K q.asked.id i.call b r.1 one))
-      | inr b ↦ b ∙ sym (ap is_some (named-none K q.asked.id (λ d l e. both_ways (listed K i.call) b (ap (listed K) (sym (one d l e)) ∙ l))))
+      | inr b ↦ b ∙ sym (gone (named K q.asked.id) refl (λ d l e. both_ways (listed K i.call) b (ap (listed K) (sym (one d l e)) ∙ l)))
     ]
+  where
+    gone : (o : Option ℕ) → named K q.asked.id ≡ o → ((d : ℕ) → listed K d ≡ true → id K d ≡ q.asked.id → ⊥) → is_some o ≡ false
+    gone None e n = refl
+    gone (Some d) e n = let l = named-listed K q.asked.id d e in absurd (n d l.0 l.1)
 
 pub take-answered : (o : Option (Result ℕ ℕ)) (listed : Bool) → take_of (taken o listed) ≡ take_step o listed
 take-answered (Some (Ok n)) listed = refl

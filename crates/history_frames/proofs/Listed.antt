@@ -1,17 +1,16 @@
 -- Calls after an event: which are listed and fetched, which ids name them, and how many were entered.
-use Rattle.std.proofs.Common.{◌≡◌, ◌⊎◌, inl, inr, ℕ, zero, suc, ◌+◌, ◌<◌, ◌≤◌, Bool, true, false, ◌&&◌, ◌||◌, not, List, [], ◌∷◌, ◌++◌, length, Option, Some, None, refl, sym, ap, ◌∙◌, arith}
-use Rattle.std.specs.Prelude.{◌==◌, if◌then◌else◌, Ok}
-use Rattle.std.proofs.lemmas.Bool.{cases_Bool, cases_order, eqb-true, eq-eqb, ne_eqb, and_parts, and_from, or_left, or_right, or_cases, both_ways, false_from_ne_true, not-true}
-use Rattle.hist_model.specs.Look.{event_at, oldest, is_place, is_task}
-use Rattle.hist_model.specs.Calls.{notifies, notify_id, caller, id, is_call, closes, leaves, unlists, listed, fetches, fetched, named, answers, puts_to, is_install, gave, installs_for, rest_of, queue, first_sends, some_sends, is_send, has_send, settles, settled, calls, receives, recvs}
+use Rattle.std.proofs.Common.{◌≡◌, ◌⊎◌, inl, inr, ℕ, suc, ◌+◌, ◌<◌, ◌≤◌, Bool, true, false, ◌&&◌, ◌||◌, not, List, [], ◌∷◌, ◌++◌, length, Option, Some, None, refl, sym, ap, ◌∙◌, arith}
+use Rattle.std.specs.Prelude.{◌==◌, Ok}
+use Rattle.std.proofs.lemmas.Bool.{cases_Bool, eqb-true, eq-eqb, ne_eqb, and_parts, and_from, or_right, or_cases, false_from_ne_true, not-true}
+use Rattle.hist_model.specs.Look.{is_place}
+use Rattle.hist_model.specs.Calls.{notifies, caller, id, is_call, unlists, listed, fetches, fetched, named, answers, puts_to, installs_for, rest_of, queue, some_sends, has_send, settles, settled, calls, receives, recvs}
 use Rattle.hist_model.specs.Steps.{reply, back_of}
-use Rattle.hist_model.specs.declared.event.Back.{Back}
 use Rattle.hist_model.specs.declared.event.Event.{Event}
 use Rattle.hist_model.specs.declared.event.What.{What}
 use Rattle.hist_model.specs.declared.event.What.TheVariants.{AddfdPut, Send}
-use Rattle.hist_model.proofs.Look.{event_at-here, event_at-older, event_at-above, below_or_last, oldest-some, oldest-found, oldest-none}
+use Rattle.hist_model.proofs.Look.{event_at-here, event_at-older, event_at-above, below_or_last, oldest-some, oldest-found}
 use Rattle.history_frames.specs.Ordinals.{count_of, nth_of}
-use Rattle.history_frames.proofs.Ordinals.{place-new, place-old, place-below, place-cases}
+use Rattle.history_frames.proofs.Ordinals.{place-new, place-old, place-below}
 
 -- ---- which calls are listed
 
@@ -141,8 +140,8 @@ named-is K x c h q one =
     let p = and_parts (listed K f.0) (id K f.0 == x) l.0 in
     f.1 ∙ ap Some (one f.0 p.0 (eqb-true (id K f.0) x p.1))
 
+-- where no listed call has the id, it names none
 pub named-none : (K : List Event) (x : ℕ) → ((d : ℕ) → listed K d ≡ true → id K d ≡ x → ⊥) → named K x ≡ None
-unfolding named
 named-none K x none = go (named K x) refl
   where
     go : (o : Option ℕ) → named K x ≡ o → named K x ≡ None
@@ -192,10 +191,6 @@ queue-below (e ∷ K) c =
 pub sends-older : (e : Event) (K : List Event) (rs : List ℕ) → Below (length K) rs → some_sends (e ∷ K) rs ≡ some_sends K rs
 sends-older e K [] h = refl
 sends-older e K (r ∷ rs) h = rw (event_at-older e K r h.0, sends-older e K rs h.1)
-
-pub first-older : (e : Event) (K : List Event) (rs : List ℕ) → Below (length K) rs → first_sends (e ∷ K) rs ≡ first_sends K rs
-first-older e K [] h = refl
-first-older e K (r ∷ rs) h = rw (event_at-older e K r h.0)
 
 -- one more request
 pub sends-push : (e : Event) (K : List Event) (rs : List ℕ) → Below (length K) rs → some_sends (e ∷ K) (rs ++ length K ∷ []) ≡ (some_sends K rs || has_send e.what)
