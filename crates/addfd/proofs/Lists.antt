@@ -173,6 +173,13 @@ found-row P p (q ∷ qs) a h = elim (cases_Bool (p q)) [
   | inr b ↦ let z = found-row P p qs (All-tail P q qs a) (rw b at h) in (z.0, rw b z.1, z.2, z.3)
 ]
 
+pub found-in : (P : Request → Type 0) (p : Request → Bool) (qs : List Request) (q : Request) → All P qs → find p qs ≡ Some q → P q × (p q ≡ true)
+found-in P p [] q a h = cc
+found-in P p (x ∷ qs) q a h = elim (cases_Bool (p x)) [
+  | inl b ↦ let h' : Some x ≡ Some q = rw b at h in let e : x ≡ q = cc in (subst P e (All-head P x qs a), ap p (sym e) ∙ b)
+  | inr b ↦ found-in P p qs q (All-tail P x qs a) (rw b at h)
+]
+
 -- what a test finds has a place
 found-below : (p : Request → Bool) (qs : List Request) → list_any p qs ≡ true → position_or_len p qs < length qs
 found-below p [] h = cc

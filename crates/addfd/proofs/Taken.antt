@@ -1,22 +1,22 @@
 -- What a worker is told of its request, and the requests after it was taken.
 use Rattle.std.proofs.Common.{◌≡◌, inl, inr, ℕ, Bool, true, false, not, List, ◌∷◌, length, Option, Some, None, refl, sym, ap, ◌∙◌, subst}
-use Rattle.std.specs.Prelude.{map, All, Ok, Err, ◌==◌, is_none, Result, slice_index_or}
+use Rattle.std.specs.Prelude.{is_some, find, map, All, Ok, Err, ◌==◌, is_none, Result, slice_index_or}
 use Rattle.std.proofs.lemmas.Bool.{both_ways, eqb-true, eq-eqb, cases_Bool, false_from_ne_true, and_parts, not-true}
 use Rattle.std.proofs.lemmas.List.Elements.{All-filter, filter_passes}
 use Rattle.hist_model.specs.Look.{is_worker}
-use Rattle.hist_model.specs.Calls.{listed, id, notifies, is_install, queue, puts_to}
+use Rattle.hist_model.specs.Calls.{listed, named, id, notifies, is_install, queue, puts_to}
 use Rattle.hist_model.specs.Steps.{request_of, request_after, install_at, call_listed, request_listed, take_step}
 use Rattle.hist_model.specs.declared.event.Event.{Event}
 use Rattle.hist_model.specs.declared.event.What.TheVariants.{AddfdTake, Skip}
-use Rattle.history_frames.proofs.Listed.{listed-is_call, id-older, queue-same}
+use Rattle.history_frames.proofs.Listed.{listed-is_call, named-is, named-listed, id-older, queue-same}
 use Rattle.history_frames.proofs.Queued.{request-same, request-more}
 use Rattle.addfd.specs.declared.requests.Request.{Request}
 use Rattle.addfd.specs.declared.requests.TakeError.{TakeError}
 use Rattle.addfd.specs.declared.requests.TakeError.TheVariants.{Pending, Fault}
 use Rattle.addfd.specs.Requests.{is_of, waiting, has_request, without, result_in, result_of, taken, is_over, left}
 use Rattle.addfd.specs.Stands.{IsRequest, StandsFor, IsTake, LeavesRequests, take_of, place_of, is_asking}
-use Rattle.addfd.proofs.Lists.{found-row, has-without, waiting-without, NoneWaits}
-use Rattle.addfd.proofs.Calls.{row-same, row-call, places-same, ids-more, alone-more, listed-was}
+use Rattle.addfd.proofs.Lists.{found-row, found-in, has-without, waiting-without, NoneWaits}
+use Rattle.addfd.proofs.Calls.{row-same, row-id, row-call, places-same, ids-more, alone-more, listed-was}
 use Rattle.addfd.proofs.Other.{stands-other}
 
 -- a worker has a request exactly where the history has one of it
@@ -39,6 +39,23 @@ row-result K w q i h = i.result_is ∙ sym (ap (install_at K) (ap (request_of K)
 -- its result is the answer of the installation
 pub result-is : (K : List Event) (qs : List Request) (w : ℕ) → StandsFor K qs → has_request qs w ≡ true → result_of w qs ≡ install_at K (request_of K w)
 result-is K qs w S h = let z = found-row (IsRequest K) (is_of w) qs S.requests h in ap result_in z.1 ∙ row-result K w z.0 z.2 (eqb-true (z.0).worker w z.3)
+
+-- the call of a request is listed where the request's id names a listed call
+pub listed-named : (K : List Event) (qs : List Request) (w : ℕ) (q : Request) → StandsFor K qs → find (is_of w) qs ≡ Some q → request_listed K (request_of K w) ≡ is_some (named K q.asked.id)
+listed-named K qs w q S h =
+    let f = found-in (IsRequest K) (is_of w) qs q S.requests h in
+    let i = f.0 in
+    let r = row-id K q i in
+    let own : request_listed K (request_of K w) ≡ listed K i.call = ap (request_listed K) (ap (request_of K) (sym (eqb-true q.worker w f.1)) ∙ i.is) ∙ ap (call_listed K) i.call_is in
+    let one : (d : ℕ) → listed K d ≡ true → id K d ≡ q.asked.id → d ≡ i.call = λ d l e. S.ids d i.call (listed-is_call K d l) r.0 (e ∙ sym r.1) in
+    own ∙ elim (cases_Bool (listed K i.call)) [
+      | inl b ↦ b ∙ sym (ap is_some (named-is K q.asked.id i.call b r.1 one))
+      | inr b ↦ b ∙ sym (gone (named K q.asked.id) refl (λ d l e. both_ways (listed K i.call) b (ap (listed K) (sym (one d l e)) ∙ l)))
+    ]
+  where
+    gone : (o : Option ℕ) → named K q.asked.id ≡ o → ((d : ℕ) → listed K d ≡ true → id K d ≡ q.asked.id → ⊥) → is_some o ≡ false
+    gone None e n = refl
+    gone (Some d) e n = let l = named-listed K q.asked.id d e in absurd (n d l.0 l.1)
 
 pub take-answered : (o : Option (Result ℕ ℕ)) (listed : Bool) → take_of (taken o listed) ≡ take_step o listed
 take-answered (Some (Ok n)) listed = refl

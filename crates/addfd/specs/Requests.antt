@@ -1,5 +1,5 @@
 -- Requests for descriptors, in the order in which they were put.
-use Rattle.std.specs.Prelude.{◌≡◌, ℕ, ◌≤◌, Bool, true, false, ◌&&◌, not, if◌then◌else◌, ◌==◌, nat_le, List, [], ◌∷◌, map, filter, find, Option, Some, None, is_none, Result, Ok, Err}
+use Rattle.std.specs.Prelude.{◌≡◌, ℕ, ◌≤◌, Bool, true, false, ◌&&◌, not, if◌then◌else◌, ◌==◌, nat_le, List, [], ◌∷◌, map, filter, find, option_map, Option, Some, None, is_none, Result, Ok, Err}
 use Rattle.std.specs.List.{list_any, list_all}
 use Rattle.sys_abi.specs.declared.wire.Addfd.{Addfd}
 use Rattle.addfd.specs.declared.requests.Request.{Request}
@@ -53,6 +53,10 @@ with_result w answer qs = map (noted w answer) qs
 -- the requests of the other workers
 abbrev pub without : ℕ → List Request → List Request
 without w qs = filter (λ q. not (is_of w q)) qs
+
+-- what a worker asked for, if it has a request
+abbrev pub asked_by : ℕ → List Request → Option Addfd
+asked_by w qs = option_map (λ (q : Request). q.asked) (find (is_of w) qs)
 
 abbrev pub result_in : Option Request → Option (Result ℕ ℕ)
 result_in (Some q) = q.result

@@ -1,11 +1,11 @@
 //! The requests for descriptors that workers have put and not taken.
 
-ghost use Rattle.std.specs.Prelude.{◌≡◌, ◌≤◌, ◌<◌, ◌++◌, ◌∷◌, [], ℕ, List, Option, Some, None, Ok, IfOk, IfSome, true, false, length, find, position, slice_index_or};
+ghost use Rattle.std.specs.Prelude.{◌≡◌, ◌≤◌, ◌<◌, ◌++◌, ◌∷◌, [], ℕ, List, Option, Some, None, Ok, IfOk, IfSome, true, false, is_some, length, find, position, slice_index_or};
 ghost use Rattle.std.specs.Option.{option_copied};
-ghost use Rattle.hist_model.specs.Calls.{listed, queue, id as id_of};
+ghost use Rattle.hist_model.specs.Calls.{listed, named, queue, id as id_of};
 ghost use Rattle.hist_model.specs.Steps.{request_of, request_listed};
 ghost use Rattle.hist_model.specs.declared.event.Event.{Event};
-ghost use Rattle.addfd.specs.Requests.{is_of, is_waiting, has_request, waiting, oldest, result_of, with_result, taken, is_over, left, new_request};
+ghost use Rattle.addfd.specs.Requests.{is_of, is_waiting, has_request, asked_by, waiting, oldest, result_of, with_result, taken, is_over, left, new_request};
 ghost use Rattle.addfd.specs.Stands.{StandsFor, IsPut, IsInstall, IsTake, oldest_in, is_asking};
 
 use std::alloc::Global;
@@ -74,6 +74,17 @@ impl Requests {
         ensures stands { (K : List Event) → StandsFor K self.now → result ≡ is_asking (request_of K worker) }
     {
         has_request(&self.requests, worker)
+    }
+
+    /// What a worker asked for, if it has a request. Its call is listed where its id names a listed call.
+    pub fn asked_by(&self, worker: u8) -> Option<Addfd>
+        ensures found { result ≡ asked_by worker self.now }
+        ensures listed { IfSome result (λ a. (K : List Event) → StandsFor K self.now → request_listed K (request_of K worker) ≡ is_some (named K a.id)) }
+    {
+        match first_of(&self.requests, worker) {
+            Some(request) => Some(request.asked),
+            None => None,
+        }
     }
 
     /// The place of a worker's request, which it has.
@@ -176,6 +187,13 @@ fn has_request(requests: &[Request], worker: u8) -> bool
     ensures { result ≡ has_request requests.now worker }
 {
     requests.iter().any(|request| request.worker == worker)
+}
+
+/// A worker's first request.
+fn first_of(requests: &[Request], worker: u8) -> Option<&Request>
+    ensures { option_copied result ≡ find (is_of worker) requests.now }
+{
+    requests.iter().find(|request| request.worker == worker)
 }
 
 /// The place of a worker's first request.

@@ -111,6 +111,10 @@ fn a_send_waits_for_the_others(rt: HostRuntime) -> Result<(), Fail> {
     assert!(rt; !requests.has_request(0));
     requests.put(0, asked(0));
     assert!(rt; requests.has_request(0) && !requests.has_request(1));
+    assert_eq!(rt;
+        (requests.asked_by(0), requests.asked_by(1)),
+        (Some(asked(0)), None)
+    );
     let send = asked(2);
     assert_eq!(rt;
         admit_put(&send, fetched, requests.queued(7)),
@@ -317,8 +321,9 @@ fn requests_answer_what_a_look_back_does(rt: HostRuntime) -> Result<(), Fail> {
                 assert_eq!(rt; (requests.queued(id), requests.oldest(id)), (count, first));
             }
             for worker in 0..17 {
-                let has = request_in(&happened, worker).is_some();
-                assert_eq!(rt; requests.has_request(worker), has);
+                let own = request_in(&happened, worker);
+                assert_eq!(rt; requests.has_request(worker), own.is_some());
+                assert_eq!(rt; requests.asked_by(worker), own.map(|own| own.0));
             }
         }
     }
