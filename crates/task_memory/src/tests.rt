@@ -1,5 +1,7 @@
 //! Cases of memory, by the rules of the manual pages, and drawn calls beside a plain program that looks back over stores.
 
+ghost use Rattle.std.specs.Prelude.{◌<◌};
+
 use crate::{MemHandle, SpaceRef, Spaces};
 use hist_model::request::Fault;
 use hist_model::script::MapRange;
@@ -229,8 +231,10 @@ struct Draw {
 }
 
 impl Draw {
-    /// A number below `bound`.
-    fn below(&mut self, bound: u64) -> u64 {
+    /// A number below `bound`; 0 where there is none.
+    fn below(&mut self, bound: u64) -> u64
+        ensures { 0 < bound → result < bound }
+    {
         self.state = self
             .state
             .wrapping_mul(6364136223846793005)
