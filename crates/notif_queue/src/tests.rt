@@ -298,7 +298,7 @@ fn a_queue_answers_as_its_history_does(rt: HostRuntime) -> Result<(), Fail> {
         let number = drawn >> 33;
         let id = recent(&steps).wrapping_add(number / 64 % 36);
         let step = play(&mut queue, id, number)?;
-        if let 9..=15 = number % 32 {
+        if matches!(number % 32, 9..=15) {
             assert_eq!(rt; step, fetched(received(&steps), id), "at {number}");
         }
         if let Some(step) = step {
