@@ -140,14 +140,6 @@ named-is K x c h q one =
     let p = and_parts (listed K f.0) (id K f.0 == x) l.0 in
     f.1 ∙ ap Some (one f.0 p.0 (eqb-true (id K f.0) x p.1))
 
--- where no listed call has the id, it names none
-pub named-none : (K : List Event) (x : ℕ) → ((d : ℕ) → listed K d ≡ true → id K d ≡ x → ⊥) → named K x ≡ None
-named-none K x none = go (named K x) refl
-  where
-    go : (o : Option ℕ) → named K x ≡ o → named K x ≡ None
-    go None q = q
-    go (Some c) q = let p = named-listed K x c q in absurd (none c p.0 p.1)
-
 pub place-is : (o : Option ℕ) (c : ℕ) → is_place o c ≡ true → o ≡ Some c
 place-is None c h = cc
 place-is (Some d) c h = ap Some (eqb-true d c h)
