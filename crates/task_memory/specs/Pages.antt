@@ -55,7 +55,7 @@ pub record HasPages (P : Pages) (k : ℕ) : Type 0 where
   pub slots : HasRoomFor P.slots k
   pub stock : k ≤ vec_len P.stock
 
--- the pages that a page list can touch: so many bytes from an offset on
+-- how many pages so many bytes touch, from an offset in the first one on
 abbrev pub pages_touched : ℕ → ℕ → ℕ
 pages_touched offset n = (offset + n + 4095) / 4096
 

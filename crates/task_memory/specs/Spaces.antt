@@ -87,7 +87,7 @@ pub record SameSpaces (old new : Spaces) : Type 0 where
   pub entries : (u : ℕ) → entries_at new u ≡ entries_at old u
   pub holders : (s : SpaceRef) → holders_of new s ≡ holders_of old s
 
--- the pages that so many bytes can touch
+-- the most pages that so many bytes touch, wherever they begin
 abbrev pub most_pages : ℕ → ℕ
 most_pages n = n / 4096 + 2
 
