@@ -1,2 +1,3 @@
 pub mod Ordinals
 pub mod Held
+pub mod Groups
