@@ -8,7 +8,7 @@ use Rattle.hist_model.specs.declared.event.Event.{Event}
 use Rattle.hist_model.specs.declared.event.Actor.{Actor}
 use Rattle.hist_model.specs.declared.script.Script.{Script}
 use Rattle.history_frames.specs.Ordinals.{group_of, makes_group}
-use Rattle.history_frames.proofs.Ordinals.{place-below}
+use Rattle.history_frames.proofs.Groups.{group-older}
 use Rattle.task_memory.specs.declared.spaces.SpaceRef.{SpaceRef}
 use Rattle.task_memory.specs.Stands.{IsNewSpawn, IsCopySpawn, Stores}
 
@@ -41,9 +41,9 @@ written-other K who g h (Some b) s d = rw (s, ne_eqb g h (λ q. d (sym q)))
 pub stores-from : (S : Script) (K : List Event) (e : Event) (o g a : ℕ) (v : List ℕ) → makes_group e.what ≡ false → stored S K e.who e.what ≡ Some (a, v) → storing_group K e.who ≡ Some g → group_of K o ≡ Some g → Stores S K e g a v
 stores-from S K e o g a v m s w i = record {
   makes_none = m;
-  here = λ b. byte-older S K e g b (place-below makes_group K o g i).1
+  here = λ b. byte-older S K e g b (group-older K o g i)
       ∙ ap (λ (x : Option ℕ). byte_or x (byte S K g b)) (written-own K e.who g (byte_stored (stored S K e.who e.what) b) w ∙ ap (λ (x : Option (ℕ × List ℕ)). byte_stored x b) s);
-  others = λ p h b j d. byte-older S K e h b (place-below makes_group K p h j).1
+  others = λ p h b j d. byte-older S K e h b (group-older K p h j)
       ∙ ap (λ (x : Option ℕ). byte_or x (byte S K h b)) (written-other K e.who g h (byte_stored (stored S K e.who e.what) b) w d);
 }
 

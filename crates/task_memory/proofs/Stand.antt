@@ -9,7 +9,8 @@ use Rattle.hist_model.specs.Memory.{byte, byte_or, byte_stored, is_mapped, all_m
 use Rattle.hist_model.specs.declared.event.Event.{Event}
 use Rattle.hist_model.specs.declared.script.Script.{Script}
 use Rattle.history_frames.specs.Ordinals.{count_of, group_of, makes_group}
-use Rattle.history_frames.proofs.Ordinals.{made-more, made-same, place-new, place-old, place-same, place-below, place-one}
+use Rattle.history_frames.proofs.Ordinals.{made-more, made-same, place-new, place-one}
+use Rattle.history_frames.proofs.Groups.{group-stays, group-older}
 use Rattle.task_memory.specs.declared.spaces.Space.{Space}
 use Rattle.task_memory.specs.declared.spaces.SpaceRef.{SpaceRef}
 use Rattle.task_memory.specs.declared.spaces.Spaces.{Spaces}
@@ -59,10 +60,6 @@ reached-row (Some q) o r h = elim (cases_eq q.ordinal o) [
   | inr d ↦ let x : None ≡ Some r = rw (ne_eqb q.ordinal o d) at h in absurd (cc)
 ]
 
--- an event that makes no group leaves each its place
-place-stays : (K : List Event) (e : Event) (o g : ℕ) → makes_group e.what ≡ false → group_of K o ≡ Some g → group_of (e ∷ K) o ≡ Some g
-place-stays K e o g m h = place-same makes_group e K o m ∙ h
-
 pub stands-written : (S : Script) (K : List Event) (e : Event) (T U : Spaces) (s : SpaceRef) (g a : ℕ) (v : List ℕ) → StandsFor S K T → ordinal_at T s.slot ≡ Some s.ordinal → group_of K s.ordinal ≡ Some g → IsWritten T s a v U → Stores S K e g a v → StandsFor S (e ∷ K) U
 stands-written S K e T U s g a v t o h w x = record {
   sound = w.sound;
@@ -75,7 +72,7 @@ stands-written S K e T U s g a v t o h w x = record {
     spaces : (u p : ℕ) → IsGroup S K T u p → ordinal_at T u ≡ Some p → IsGroup S (e ∷ K) U u p
     spaces u p i q = record {
       place = i.place;
-      at = place-stays K e p i.place x.makes_none i.at;
+      at = group-stays e K p i.place i.at;
       bytes = λ b m. elim (cases_eq u s.slot) [ inl k ↦ own k b m | inr k ↦ w.others u b k ∙ i.bytes b m ∙ sym (x.others p i.place b i.at (other k)) ];
     }
       where
@@ -122,11 +119,10 @@ stands-added S K e T U like n t w m new old = record {
 
     older : (u o : ℕ) → u ≢ n.slot → IsGroup S K T u o → IsGroup S (e ∷ K) U u o
     older u o k i =
-        let l = place-below makes_group K o i.place i.at in
         record {
           place = i.place;
-          at = place-old makes_group e K o l.0 ∙ i.at;
-          bytes = λ b h. w.bytes u b k ∙ i.bytes b h ∙ sym (old i.place b l.1);
+          at = group-stays e K o i.place i.at;
+          bytes = λ b h. w.bytes u b k ∙ i.bytes b h ∙ sym (old i.place b (group-older K o i.place i.at));
         }
 
 pub stands-fresh : (S : Script) (K : List Event) (e : Event) (T U : Spaces) (n : SpaceRef) → StandsFor S K T → IsAdded T (λ b. 0) n U → IsNewSpawn e → StandsFor S (e ∷ K) U
@@ -149,8 +145,8 @@ stands-other S K e T t h = record {
       let i = t.spaces u o q in
       record {
         place = i.place;
-        at = place-stays K e o i.place h.makes_none i.at;
-        bytes = λ b m. i.bytes b m ∙ sym (byte-kept S K e i.place b (place-below makes_group K o i.place i.at).1 h.stores_none);
+        at = group-stays e K o i.place i.at;
+        bytes = λ b m. i.bytes b m ∙ sym (byte-kept S K e i.place b (group-older K o i.place i.at) h.stores_none);
       };
 }
 
