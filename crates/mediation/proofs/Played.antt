@@ -6,7 +6,7 @@ use Rattle.mediation.proofs.Common.{Script, session, session_call, settled, Skip
 use Rattle.mediation.proofs.Common.{was_waited_for, What, with_step, Worker, worker_step, zero, ℕ, ◌++◌, ◌<◌, ◌∷◌, ◌≡◌, ◌⊎◌}
 use Rattle.hist_model.specs.Legal.{with_schedule, with_steps}
 use Rattle.hist_model.specs.declared.script.Step.{Step}
-use Rattle.mediation.specs.Refused.{EarlyEffect, LateInstallation, LateOpening, NewestFirst, SecondAnswer, SecondReading, ValidByNumber, WithoutSend}
+use Rattle.mediation.specs.Refused.{EarlyEffect, EffectAfterEnd, LateInstallation, LateOpening, NewestFirst, SecondAnswer, SecondReading, ValidByNumber, WithoutSend}
 use Rattle.mediation.specs.Scheduled.{AllScheduled, IsScheduled}
 use Rattle.mediation.proofs.Rows.{Row, step-row, row-of}
 use Rattle.mediation.proofs.Calls.{fetching}
@@ -92,7 +92,7 @@ stays_finished S R K (e ∷ L) l legal f n =
 -- ---- the small histories are not legal
 
 -- each by what its actor's step is in truth
-pub refusals : EarlyEffect × LateOpening × SecondReading × SecondAnswer × ValidByNumber × LateInstallation × WithoutSend × NewestFirst
+pub refusals : EarlyEffect × LateOpening × SecondReading × SecondAnswer × ValidByNumber × LateInstallation × WithoutSend × NewestFirst × EffectAfterEnd
 refusals =
     unfold step task_step worker_step event_at newest oldest ended was_waited_for reaped holder free_from last_pid next_pid is_made mode pending next_signal listed fetched named settled in
     unfold queue calls recvs session deed call_of steps_of reply oldest_unfetched task_place group mem base session_call install_of call_at request_of owes_native times_spent in

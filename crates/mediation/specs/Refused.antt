@@ -1,4 +1,4 @@
--- Small histories that are legal but for their last event: what a wrong kernel or a wrong broker would do.
+-- Small histories that are legal but for their last event: what a wrong kernel or a wrong broker would do. And one that may seem wrong, and is legal.
 use Rattle.std.specs.Prelude.{ℕ, true, false, if◌then◌else◌, List, [], ◌∷◌, Option, Some, None, Ok, Err, pos}
 use Rattle.hist_model.specs.Look.{name_eq, ev}
 use Rattle.hist_model.specs.Sessions.{Rules, Acts, Injects}
@@ -6,16 +6,19 @@ use Rattle.hist_model.specs.Systems.{System, Number}
 use Rattle.hist_model.specs.Steps.{IsLegal, step, start}
 use Rattle.hist_model.specs.declared.event.Actor.{Actor}
 use Rattle.hist_model.specs.declared.event.Actor.TheVariants.{Task, Worker}
+use Rattle.hist_model.specs.declared.event.Delivered.TheVariants.{End}
 use Rattle.hist_model.specs.declared.event.Entered.TheVariants.{Notify}
 use Rattle.hist_model.specs.declared.event.Event.{Event}
 use Rattle.hist_model.specs.declared.event.Mode.TheVariants.{Plain}
 use Rattle.hist_model.specs.declared.event.What.{What}
-use Rattle.hist_model.specs.declared.event.What.TheVariants.{Recv, OpenMem, Check, Read, Act, Install, AddfdPut, Send}
+use Rattle.hist_model.specs.declared.event.What.TheVariants.{Recv, OpenMem, Check, Read, Act, Install, AddfdPut, Send, Deliver}
 use Rattle.hist_model.specs.declared.event.Back.TheVariants.{Value}
 use Rattle.hist_model.specs.declared.request.Request.TheVariants.{Sysinfo}
 use Rattle.hist_model.specs.declared.script.Instr.{Instr}
 use Rattle.hist_model.specs.declared.script.Instr.TheVariants.{Call, Spawn, Kill, Handler, Wait}
 use Rattle.hist_model.specs.declared.script.Whom.TheVariants.{Parent, Child}
+use Rattle.sys_abi.specs.Calls.{nr_mknod}
+use Rattle.sys_abi.specs.Errnos.{enoent, enosys}
 
 -- with one step of each of these actors, in order
 abbrev pub after : System → Rules → List Actor → List Event → List Event
@@ -35,7 +38,7 @@ small own children = record {
   killable = false;
   program = λ n. if name_eq n (0 ∷ []) then own else children;
   verdict = λ nr args. Notify 0;
-  native = λ K n. Err 38;
+  native = λ K n. Err enosys;
   slot = λ K c r. Number 3;
   source = λ n. true;
   directory = λ K g d. true;
@@ -57,7 +60,7 @@ abbrev pub injecting : Rules
 injecting = record { dirfd = λ n. None; next_piece = λ n reads. None; fault = λ n reads. None; decide = λ n reads. Injects 5 None 0 }
 
 abbrev pub calling : List Instr
-calling = Call (pos 133) (65536 ∷ []) ∷ []
+calling = Call (pos nr_mknod) (65536 ∷ []) ∷ []
 
 abbrev pub parent : Actor
 parent = Task (0 ∷ [])
@@ -101,4 +104,20 @@ WithoutSend = Refuses (small calling []) injecting (parent ∷ worker ∷ worker
 -- a child calls, and then its parent, whose notification, the newest, is fetched first
 abbrev pub NewestFirst : Type 0
 NewestFirst = Refuses (small (Spawn 0 ∷ calling) calling) granting (parent ∷ child ∷ parent ∷ []) worker
-    (Recv (Ok (record { id = 2; pid = 1; flags = 0; call = record { nr = pos 133; arch = 0xc000003e; ip = 0; args = 65536 ∷ [] } })))
+    (Recv (Ok (record { id = 2; pid = 1; flags = 0; call = record { nr = pos nr_mknod; arch = 0xc000003e; ip = 0; args = 65536 ∷ [] } })))
+
+-- a child calls; the worker fetches, opens, checks, reads and checks, and then the parent kills the child
+abbrev pub killed_actors : List Actor
+killed_actors = parent ∷ child ∷ worker ∷ worker ∷ worker ∷ worker ∷ worker ∷ parent ∷ []
+
+abbrev pub killing : System
+killing = small (Spawn 0 ∷ Kill (Child 1) 9 ∷ []) calling
+
+-- the effect, and an answer that finds no call, after these events
+abbrev pub with_lost_answer : List Event → List Event
+with_lost_answer K = ev worker (Send 1 (Value (pos 0)) (Err enoent)) ∷ ev worker (Act (Sysinfo 65536) None (Ok tt)) ∷ K
+
+-- the child ends by the signal, and the effect comes after: this is legal, and without the signal's delivery it isn't
+abbrev pub EffectAfterEnd : Type 0
+EffectAfterEnd = let K = after killing granting killed_actors (start killing ∷ []) in
+    IsLegal killing granting (with_lost_answer (ev child (Deliver 9 End) ∷ K)) × (IsLegal killing granting (with_lost_answer K) → ⊥)
