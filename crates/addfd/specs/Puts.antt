@@ -1,5 +1,6 @@
 -- What a request for a descriptor is answered (seccomp_unotify(2), SECCOMP_IOCTL_NOTIF_ADDFD).
 use Rattle.std.specs.Prelude.{ℕ, Bool, ◌&&◌, ◌||◌, not, if◌then◌else◌, ◌==◌, List, Option, Some, None, Result, Ok, Err, bit_and}
+use Rattle.sys_abi.specs.Errnos.{enoent, ebadf, ebusy, einval, einprogress}
 use Rattle.sys_abi.specs.Wire.{addfd_of}
 use Rattle.sys_abi.specs.declared.wire.Addfd.{Addfd}
 use Rattle.hist_model.specs.declared.notification.State.{State}
@@ -25,11 +26,11 @@ may_be_put asked = is_known asked && (has_known_newfd_flags asked && ((asked.new
 
 -- the structure that the bytes stand for; EINVAL where it can't be asked for, else EBADF where its source isn't open
 abbrev pub reading : List ℕ → Bool → Result Addfd ℕ
-reading bytes src_open = if not (may_be_put (addfd_of bytes)) then Err 22 else (if src_open then Ok (addfd_of bytes) else Err 9)
+reading bytes src_open = if not (may_be_put (addfd_of bytes)) then Err einval else (if src_open then Ok (addfd_of bytes) else Err ebadf)
 
 -- a request for no listed call; for one that waits, with so many requests that aren't installed; for one that isn't received
 -- yet, or answered
 abbrev pub admission : Addfd → Option State → ℕ → Result (Unit {0}) ℕ
-admission asked None queued = Err 2
-admission asked (Some Fetched) queued = if sends asked && not (queued == 0) then Err 16 else Ok tt
-admission asked (Some state) queued = Err 115
+admission asked None queued = Err enoent
+admission asked (Some Fetched) queued = if sends asked && not (queued == 0) then Err ebusy else Ok tt
+admission asked (Some state) queued = Err einprogress

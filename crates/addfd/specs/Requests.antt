@@ -1,6 +1,7 @@
 -- Requests for descriptors, in the order in which they were put.
 use Rattle.std.specs.Prelude.{◌≡◌, ℕ, ◌≤◌, Bool, true, false, ◌&&◌, not, if◌then◌else◌, ◌==◌, nat_le, List, [], ◌∷◌, map, filter, find, option_map, Option, Some, None, is_none, Result, Ok, Err}
 use Rattle.std.specs.List.{list_any, list_all}
+use Rattle.sys_abi.specs.Errnos.{enoent}
 use Rattle.sys_abi.specs.declared.wire.Addfd.{Addfd}
 use Rattle.addfd.specs.declared.requests.Request.{Request}
 use Rattle.addfd.specs.declared.requests.TakeError.{TakeError}
@@ -71,7 +72,7 @@ abbrev pub taken : Option (Result ℕ ℕ) → Bool → Result ℕ TakeError
 taken (Some (Ok n)) listed = Ok n
 taken (Some (Err errno)) listed = Err (Fault errno)
 taken None true = Err Pending
-taken None false = Err (Fault 2)
+taken None false = Err (Fault enoent)
 
 -- a worker that is told this has no request any more
 abbrev pub is_over : Result ℕ TakeError → Bool

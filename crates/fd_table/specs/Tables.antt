@@ -123,15 +123,6 @@ pub record IsAdded (old : Tables) (entries : List Entry) (t : TableRef) (new : T
   pub rlimit : new.rlimit ≡ old.rlimit
   pub made : new.made ≡ old.made + 1
 
--- a call was refused for a cause of its own, or for want of memory
-abbrev pub was_refused : {T E : Type 0} → Result T (OrNoMemory E) → Bool
-was_refused (Err (Refused e)) = true
-was_refused _ = false
-
-abbrev pub lacked_memory : {T E : Type 0} → Result T (OrNoMemory E) → Bool
-lacked_memory (Err NoMemory) = true
-lacked_memory _ = false
-
 -- the number that was found, or given
 abbrev pub number_found : Result ℕ OverLimitError → Option ℕ
 number_found (Ok n) = Some n

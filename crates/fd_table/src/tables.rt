@@ -9,7 +9,8 @@ ghost use Rattle.hist_model.specs.Natives.{lowest_free, is_open};
 ghost use Rattle.history_frames.specs.Ordinals.{groups_made};
 ghost use Rattle.slab.specs.Slab.{get, HasRoomFor};
 ghost use Rattle.fd_table.specs.Entries.{NumbersRise, IsSet, IsFirstFree, entry_for, console_entries};
-ghost use Rattle.fd_table.specs.Tables.{Row, row_of, row_at, reached, IsHeld, holders_of, entry_in, obj_in, mark_in, mark_of, SetsMark, console_mark, SameOthers, HasRoomForTable, HasRoomForEntry, HasRoom, count_in, SameTables, IsPut, IsAdded, lacked_memory, was_refused, number_found, number_given, slot_given};
+ghost use Rattle.sys_abi.specs.Memory.{lacked_memory, was_refused};
+ghost use Rattle.fd_table.specs.Tables.{Row, row_of, row_at, reached, IsHeld, holders_of, entry_in, obj_in, mark_in, mark_of, SetsMark, console_mark, SameOthers, HasRoomForTable, HasRoomForEntry, HasRoom, count_in, SameTables, IsPut, IsAdded, number_found, number_given, slot_given};
 ghost use Rattle.fd_table.specs.Stands.{StandsFor, IsFresh, IsCopy, SetsSlot, group_at};
 
 use crate::entries::{self, Entry};

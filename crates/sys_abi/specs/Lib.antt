@@ -1,5 +1,6 @@
 pub mod Calls
 pub mod Devices
 pub mod Errnos
+pub mod Memory
 pub mod Names
 pub mod Wire

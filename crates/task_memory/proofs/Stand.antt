@@ -17,7 +17,8 @@ use Rattle.task_memory.specs.declared.spaces.Spaces.{Spaces}
 use Rattle.task_memory.specs.Ranges.{AllEndLow, IsMappedFor}
 use Rattle.task_memory.specs.Lists.{NumbersRise}
 use Rattle.task_memory.specs.Pages.{byte_in, bytes_from}
-use Rattle.task_memory.specs.Spaces.{was_refused, ordinal_at, byte_at, holders_of, holders_in, ordinal_in, entries_in, reached, of_ordinal, IsHeld, IsSound, SameSpaces, IsWritten, IsAdded, IsKept}
+use Rattle.sys_abi.specs.Memory.{was_refused}
+use Rattle.task_memory.specs.Spaces.{ordinal_at, byte_at, holders_of, holders_in, ordinal_in, entries_in, reached, of_ordinal, IsHeld, IsSound, SameSpaces, IsWritten, IsAdded, IsKept}
 use Rattle.task_memory.specs.Stands.{StandsFor, IsGroup, IsNewSpawn, IsCopySpawn, Stores, IsOther}
 use Rattle.task_memory.proofs.Rows.{kept-same, sound-none}
 use Rattle.task_memory.proofs.Ranges.{all-mapped, bytes-mapped}

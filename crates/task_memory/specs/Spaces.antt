@@ -1,9 +1,7 @@
 -- What the spaces have.
-use Rattle.std.specs.Prelude.{◌≡◌, ◌≢◌, ℕ, ◌+◌, ◌/◌, ◌<◌, ◌≤◌, ◌^◌, ◌==◌, if◌then◌else◌, Bool, true, false, List, [], length, Option, Some, None, Result, Err, vec_len, vec_capacity}
+use Rattle.std.specs.Prelude.{◌≡◌, ◌≢◌, ℕ, ◌+◌, ◌/◌, ◌<◌, ◌≤◌, ◌^◌, ◌==◌, if◌then◌else◌, List, [], length, Option, Some, None, vec_len, vec_capacity}
 use Rattle.std.specs.List.{sum_by}
 use Rattle.slab.specs.Slab.{get, slab_len, HasRoomFor, Updates}
-use Rattle.sys_abi.specs.declared.memory.OrNoMemory.{OrNoMemory}
-use Rattle.sys_abi.specs.declared.memory.OrNoMemory.TheVariants.{Refused, NoMemory}
 use Rattle.hist_model.specs.Memory.{byte_or, byte_stored}
 use Rattle.task_memory.specs.declared.list.Entry.{Entry}
 use Rattle.task_memory.specs.declared.spaces.Space.{Space}
@@ -11,15 +9,6 @@ use Rattle.task_memory.specs.declared.spaces.SpaceRef.{SpaceRef}
 use Rattle.task_memory.specs.declared.spaces.Spaces.{Spaces}
 use Rattle.task_memory.specs.Lists.{NumbersRise, uses_in}
 use Rattle.task_memory.specs.Pages.{byte_in, count_at, IsStore, HasPages, IsLeftByAll}
-
--- a call was refused for a cause of its own, or for want of memory
-abbrev pub was_refused : {T E : Type 0} → Result T (OrNoMemory E) → Bool
-was_refused (Err (Refused e)) = true
-was_refused _ = false
-
-abbrev pub lacked_memory : {T E : Type 0} → Result T (OrNoMemory E) → Bool
-lacked_memory (Err NoMemory) = true
-lacked_memory _ = false
 
 abbrev pub ordinal_in : Option Space → Option ℕ
 ordinal_in (Some r) = Some r.ordinal

@@ -1,5 +1,6 @@
 -- Which histories the spaces stand for.
 use Rattle.std.specs.Prelude.{◌≡◌, ◌≢◌, ℕ, true, false, List, ◌∷◌, Some, None, Result, Ok, Err}
+use Rattle.sys_abi.specs.Errnos.{efault}
 use Rattle.sys_abi.specs.declared.memory.OrNoMemory.{OrNoMemory}
 use Rattle.sys_abi.specs.declared.memory.OrNoMemory.TheVariants.{Refused, NoMemory}
 use Rattle.hist_model.specs.Look.{Name, task_name}
@@ -56,5 +57,5 @@ pub record IsOther (S : Script) (K : List Event) (e : Event) : Type 0 where
 -- what a read answered, with the bytes that it left
 abbrev pub IsReadAnswer : Result (Unit {0}) (OrNoMemory Fault) → List ℕ → Result (List ℕ) ℕ → Type 0
 IsReadAnswer (Ok u) out answer = answer ≡ Ok out
-IsReadAnswer (Err (Refused f)) out answer = answer ≡ Err 14
+IsReadAnswer (Err (Refused f)) out answer = answer ≡ Err efault
 IsReadAnswer (Err NoMemory) out answer = Unit {0}

@@ -8,7 +8,8 @@ ghost use Rattle.hist_model.specs.Memory.{is_mapped, all_mapped, bytes_read};
 ghost use Rattle.history_frames.specs.Ordinals.{groups_made, group_of};
 ghost use Rattle.task_memory.specs.Ranges.{AllEndLow};
 ghost use Rattle.task_memory.specs.Pages.{pages_touched, HasPages};
-ghost use Rattle.task_memory.specs.Spaces.{was_refused, lacked_memory, reached, entries_in, holders_of, IsHeld, byte_at, IsSound, SameSpaces, HasEntries, HasCopyRoom, HasStoreRoom, HasRoom, IsInserted, IsHoldersSet, IsFreed, HasFirstHolder, IsWritten, IsAdded};
+ghost use Rattle.sys_abi.specs.Memory.{was_refused, lacked_memory};
+ghost use Rattle.task_memory.specs.Spaces.{reached, entries_in, holders_of, IsHeld, byte_at, IsSound, SameSpaces, HasEntries, HasCopyRoom, HasStoreRoom, HasRoom, IsInserted, IsHoldersSet, IsFreed, HasFirstHolder, IsWritten, IsAdded};
 ghost use Rattle.task_memory.specs.Stands.{StandsFor, IsNewSpawn, IsCopySpawn, Stores, IsReadAnswer};
 
 use crate::list::Entry;

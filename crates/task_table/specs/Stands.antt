@@ -1,6 +1,7 @@
 -- Which histories a table stands for.
 use Rattle.std.specs.Prelude.{◌≡◌, ◌⊎◌, ℕ, ◌+◌, Bool, true, false, ◌&&◌, not, List, [], Option, Some, None, Result, Ok, Err}
 use Rattle.slab.specs.Slab.{get}
+use Rattle.sys_abi.specs.Errnos.{echild}
 use Rattle.hist_model.specs.Look.{Name}
 use Rattle.hist_model.specs.Tasks.{ended, was_waited_for, reaped, is_made, parent, has_parent, name_of, pid_of, pending, mode, last_pid}
 use Rattle.hist_model.specs.Laws.{PidsDiffer}
@@ -114,7 +115,7 @@ IsDelivery w s m = (w ≡ Deliver s (effect_in_call s m)) ⊎ (w ≡ Deliver s (
 abbrev pub reap_step : List Event → Result (Option TaskRef) NoChild → What
 reap_step K (Ok (Some t)) = Reap (Ok (task_name_of K t.ordinal))
 reap_step K (Ok None) = Skip
-reap_step K (Err e) = Reap (Err 10)
+reap_step K (Err e) = Reap (Err echild)
 
 -- the step changes no task: none is made, ends, is reaped, gets a signal or sets what it does at one
 abbrev pub IsOther : List Event → What → Type 0

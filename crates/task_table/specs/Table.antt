@@ -1,8 +1,6 @@
 -- What a table keeps.
-use Rattle.std.specs.Prelude.{◌≡◌, ◌⊎◌, ℕ, ◌+◌, ◌<◌, ◌^◌, Bool, true, false, Result, Err, ◌==◌, if◌then◌else◌, List, Option, Some, None, vec_len, vec_capacity, Contains, length, slice_index_or}
+use Rattle.std.specs.Prelude.{◌≡◌, ◌⊎◌, ℕ, ◌+◌, ◌<◌, ◌^◌, Bool, true, false, ◌==◌, if◌then◌else◌, List, Option, Some, None, vec_len, vec_capacity, Contains, length, slice_index_or}
 use Rattle.slab.specs.Slab.{Slab, get, Updates, HasRoomFor}
-use Rattle.sys_abi.specs.declared.memory.OrNoMemory.{OrNoMemory}
-use Rattle.sys_abi.specs.declared.memory.OrNoMemory.TheVariants.{Refused, NoMemory}
 use Rattle.hist_model.specs.Tasks.{is_some_of}
 use Rattle.hist_model.specs.declared.event.Mode.{Mode}
 use Rattle.hist_model.specs.declared.event.Mode.TheVariants.{Default}
@@ -13,15 +11,6 @@ use Rattle.task_table.specs.declared.table.Task.{Task}
 use Rattle.task_table.specs.declared.table.TaskTable.{TaskTable}
 use Rattle.task_table.specs.Index.{under, by_key, by_key_and_ordinal, IsOrdered, KeysRise, IsPlaced, IsRemoved}
 use Rattle.task_table.specs.Sets.{all_signals}
-
--- a call was refused for a cause of its own, or for want of memory
-abbrev pub was_refused : {T E : Type 0} → Result T (OrNoMemory E) → Bool
-was_refused (Err (Refused e)) = true
-was_refused _ = false
-
-abbrev pub lacked_memory : {T E : Type 0} → Result T (OrNoMemory E) → Bool
-lacked_memory (Err NoMemory) = true
-lacked_memory _ = false
 
 abbrev pub of_ordinal : Option Task → ℕ → Option Task
 of_ordinal (Some r) o = if r.ordinal == o then Some r else None

@@ -10,7 +10,8 @@ ghost use Rattle.hist_model.specs.Tasks.{alive, holder, next_pid};
 ghost use Rattle.hist_model.specs.Signals.{held as held_back, next_signal, is_default};
 ghost use Rattle.history_frames.specs.Ordinals.{tasks_made, place_of, task_name_of};
 ghost use Rattle.task_table.specs.Index.{by_key, IsOrdered, KeysRise, first_free, has_key};
-ghost use Rattle.task_table.specs.Table.{was_refused, lacked_memory, reached, inherited, HasRoom, IsAdded, SameTasks, IsRef, IsParentRef, IsPut, IsForgotten, IsLeft, IsIndexed, IsOrphaned, IsEnded, IsEndedAt, has_ended};
+ghost use Rattle.sys_abi.specs.Memory.{was_refused, lacked_memory};
+ghost use Rattle.task_table.specs.Table.{reached, inherited, HasRoom, IsAdded, SameTasks, IsRef, IsParentRef, IsPut, IsForgotten, IsLeft, IsIndexed, IsOrphaned, IsEnded, IsEndedAt, has_ended};
 ghost use Rattle.task_table.specs.Sets.{next_of, may_come, with_mode};
 ghost use Rattle.task_table.specs.Stands.{StandsFor, IsSpawn, IsStepOf, IsAlive, IsDelivery, exits, place_found, reap_step};
 
