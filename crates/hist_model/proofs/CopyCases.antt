@@ -1,6 +1,6 @@
 -- Worked examples of copies, computed by the definitions.
 use Rattle.std.proofs.Common.{◌≡◌, ℕ, List, [], ◌∷◌, None, Some, refl}
-use Rattle.std.specs.Prelude.{pos, Option, Ok, Err, nat_lt, nat_le, if◌then◌else◌, ◌-◌, ◌&&◌, slice_index_or, replicate}
+use Rattle.std.specs.Prelude.{pos, Option, Ok, Err, nat_lt, nat_le, if◌then◌else◌, ◌+◌, ◌-◌, ◌&&◌, slice_index_or, replicate}
 use Rattle.hist_model.specs.Copies.{plan, copy_of, text_from, Wants, Complete, Faulty, progress, read_text, read_value}
 
 -- memory of 16 pages from 0x10000 on, with some bytes at one address and zeros elsewhere
@@ -68,10 +68,14 @@ nothing_to_read : progress (plan (pos 99) (0 ∷ 0 ∷ 0 ∷ 0 ∷ 0 ∷ 0 ∷ [
 unfolding progress
 nothing_to_read = refl
 
-long_path : copy_of (memory 0x10000 (replicate 4096 97)) (plan (pos 133) (mknod 0x10000)) ≡ Err 36
-unfolding copy_of text_from memory mknod
+-- the same memory, with one byte that isn't zero so many times from 0x10000 on
+filled : ℕ → ℕ → Option ℕ
+filled n a = if nat_le 0x10000 a && nat_lt a 0x20000 then Some (if nat_lt a (0x10000 + n) then 97 else 0) else None
+
+long_path : copy_of (filled 4096) (plan (pos 133) (mknod 0x10000)) ≡ Err 36
+unfolding copy_of text_from filled mknod
 long_path = refl
 
-longest_path : copy_of (memory 0x10000 (replicate 4095 97)) (plan (pos 133) (mknod 0x10000)) ≡ Ok (replicate 4095 97 ∷ [])
-unfolding copy_of text_from memory mknod
+longest_path : copy_of (filled 4095) (plan (pos 133) (mknod 0x10000)) ≡ Ok (replicate 4095 97 ∷ [])
+unfolding copy_of text_from filled mknod
 longest_path = refl
