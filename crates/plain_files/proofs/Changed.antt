@@ -2,7 +2,6 @@
 use Rattle.std.proofs.Common.{◌≡◌, ℕ, List, [], ◌∷◌, length, reverse, Option, Some, None, Result, Ok, Err, OnOk, refl, sym, ap, ◌∙◌}
 use Rattle.std.proofs.lemmas.List.{length-reverse}
 use Rattle.hist_model.specs.Trees.{Tree, ordinal_of}
-use Rattle.hist_model.specs.Calls.{queue}
 use Rattle.hist_model.specs.Look.{event_at}
 use Rattle.hist_model.specs.Natives as natives
 use Rattle.hist_model.specs.Natives.{changed}
@@ -16,7 +15,6 @@ use Rattle.hist_model.specs.declared.request.Request.{Request}
 use Rattle.hist_model.specs.declared.event.SpawnKind.TheVariants.{New}
 use Rattle.hist_model.specs.declared.script.Script.{Script}
 use Rattle.sys_abi.specs.declared.memory.NoMemory.{NoMemory}
-use Rattle.sys_abi.specs.declared.wire.Addfd.{Addfd}
 use Rattle.look_back.specs.Queues.{first_of}
 use Rattle.plain_files.specs.declared.logs.SlotChange.{SlotChange}
 use Rattle.plain_files.specs.declared.logs.BaseChange.{BaseChange}

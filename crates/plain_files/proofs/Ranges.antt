@@ -1,5 +1,5 @@
 -- Ranges of mapped pages.
-use Rattle.std.proofs.Common.{◌≡◌, ℕ, suc, ◌+◌, ◌-◌, ◌<◌, ◌≤◌, ◌&&◌, Bool, true, false, List, [], ◌∷◌, ◌++◌, append_assoc, append-nil, refl, sym, ap, ◌∙◌, arith}
+use Rattle.std.proofs.Common.{◌≡◌, ℕ, suc, ◌+◌, ◌-◌, ◌<◌, ◌≤◌, ◌&&◌, true, false, List, [], ◌∷◌, ◌++◌, append_assoc, append-nil, sym, ap, ◌∙◌, arith}
 use Rattle.hist_model.specs.declared.script.MapRange.{MapRange}
 use Rattle.hist_model.specs.Memory.{is_mapped, all_mapped, byte, mapped_bytes}
 use Rattle.hist_model.specs.declared.event.Event.{Event}

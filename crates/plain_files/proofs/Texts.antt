@@ -1,6 +1,6 @@
 -- Texts and values that are read byte by byte, and copies that are read part by part.
-use Rattle.std.proofs.Common.{◌≡◌, ℕ, zero, suc, ◌-◌, ◌<◌, ◌≤◌, List, [], ◌∷◌, ◌++◌, append_assoc, append-nil, Option, Some, None, Result, Ok, Err, refl, sym, ap, ◌∙◌, arith}
-use Rattle.hist_model.specs.Copies.{further, with_bytes, text_after, text_from, value_after, value_from, copy_part, with_text, copy_of}
+use Rattle.std.proofs.Common.{◌≡◌, ℕ, zero, suc, ◌-◌, ◌<◌, ◌≤◌, List, [], ◌∷◌, ◌++◌, append_assoc, append-nil, Option, Some, None, Result, Ok, Err, refl, arith}
+use Rattle.hist_model.specs.Copies.{further, with_bytes, text_from, value_from, copy_part, with_text, copy_of}
 use Rattle.hist_model.specs.declared.copy.Part.{Part}
 use Rattle.arg_capture.specs.Plans.{first_part, rest_parts}
 use Rattle.plain_files.specs.Copied.{after_texts}

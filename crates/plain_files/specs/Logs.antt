@@ -1,5 +1,5 @@
 -- Logs of changes, the newest first, and what they come to.
-use Rattle.std.specs.Prelude.{ℕ, List, [], ◌∷◌, Option, Some, None}
+use Rattle.std.specs.Prelude.{ℕ, List, [], ◌∷◌, Option, None}
 use Rattle.hist_model.specs.Trees.{ordinal_of}
 use Rattle.hist_model.specs.Files.{console_slot, with_group, with_slot, with_base}
 use Rattle.hist_model.specs.declared.request.Obj.{Obj}

@@ -195,7 +195,7 @@ impl Files {
         let Ok(()) = answer else {
             return Ok(());
         };
-        let op = effect(*self.slots.allocator(), request)?;
+        let op = effect(request.copied(*self.slots.allocator())?);
         let base = self.base(*worker);
         self.change_tree(script.root, base, op)
     }

@@ -26,6 +26,7 @@ use hist_model::request::{Node, NodeRef, Request, TreeOp};
 use hist_model::script::Script;
 use look_back::steps::{group_named, last_call};
 use look_back::tasks::pid_named;
+use path_walk::effects::follow;
 use path_walk::places::{Last, Place};
 use path_walk::resolution::{Walk, resolve};
 use std::alloc::Global;
@@ -120,13 +121,12 @@ fn open(
         opened_place (natives.lowest_free (files_of files.now) group script.now.rlimit)
         (reaches files.now.tree (root script.now) (ordinal_of base) path.now Follow) }
 {
-    match resolve(&files.tree, script.root, base, path, Last::Follow, walk) {
-        Ok(Place::At(node)) => match files.lowest_free(group, script.rlimit) {
+    match follow(&files.tree, script.root, base, path, walk) {
+        Ok(node) => match files.lowest_free(group, script.rlimit) {
             Some(number) => NativeStep::Opens { number, node },
             None => NativeStep::Fails(Errno::EMFILE),
         },
-        Ok(Place::New { .. }) => NativeStep::Fails(Errno::ENOENT),
-        Err(error) => NativeStep::Fails(error.errno()),
+        Err(errno) => NativeStep::Fails(errno),
     }
 }
 
@@ -144,10 +144,13 @@ fn request_step(
     let mut walk = Walk::new(alloc)?;
     match request {
         Request::Mknod { .. } => {
-            let op = effect(alloc, request)?;
+            let op = effect(request.copied(alloc)?);
             Ok(make(script, files, base, op, &mut walk))
         }
-        Request::SetXattr { name, .. } => Ok(set(base, name.items(), effect(alloc, request)?)),
+        Request::SetXattr { name, .. } => {
+            let op = effect(request.copied(alloc)?);
+            Ok(set(base, name.items(), op))
+        }
         Request::OpenAt { path, .. } => {
             Ok(open(script, files, group, base, path.items(), &mut walk))
         }

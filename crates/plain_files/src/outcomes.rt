@@ -4,7 +4,7 @@ ghost use Rattle.std.specs.Prelude.{◌≡◌, ℕ, List, Option, is_some, IfOk}
 ghost use Rattle.hist_model.specs.Trees as trees;
 ghost use Rattle.hist_model.specs.Trees.{ordinal_of};
 ghost use Rattle.hist_model.specs.Paths.{Follow, Create, reaches};
-ghost use Rattle.hist_model.specs.Effects.{making, effect, made, mounted, attr_set, attributed, opened, perform};
+ghost use Rattle.hist_model.specs.Effects.{making, mounting, effect, made, mounted, attr_set, attributed, opened, perform};
 ghost use Rattle.hist_model.specs.Legal.{done, outcome};
 ghost use Rattle.hist_model.specs.Files as after;
 ghost use Rattle.hist_model.specs.declared.event.Event.{Event};
@@ -17,6 +17,7 @@ use hist_model::request::{Kind, MountRow, Node, NodeRef, Request, TreeOp};
 use hist_model::script::Script;
 use hist_model::text::Text;
 use mount_tree::tree::Tree;
+use path_walk::effects::follow;
 use path_walk::places::{Last, Place};
 use path_walk::resolution::{Walk, resolve};
 use std::alloc::Global;
@@ -27,13 +28,6 @@ use sys_abi::wire::O_CLOEXEC;
 
 /// The flags that setxattr(2) knows are below this.
 const ATTR_FLAGS: u32 = 4;
-
-/// A copy of a text.
-fn copy_text(alloc: Global, text: &Text) -> Result<Text, NoMemory>
-    ensures { IfOk result (λ t. t ≡ text.now) }
-{
-    Ok(Text::new(Vec::from_slice(alloc, text.items())?))
-}
 
 /// A node of this kind and device at a path: EPERM for a directory, and EINVAL for a mode without a kind.
 fn making(path: Text, dev: u32, kind: Kind) -> TreeOp
@@ -52,18 +46,28 @@ fn making(path: Text, dev: u32, kind: Kind) -> TreeOp
     TreeOp::Make { path, node }
 }
 
+/// A mount: EINVAL where it has no type.
+fn mounting(target: Text, row: MountRow) -> TreeOp
+    ensures { result ≡ mounting target row row.fstype }
+{
+    if row.fstype.items().is_empty() {
+        return TreeOp::Fail(Errno::EINVAL);
+    }
+    TreeOp::Mount { target, row }
+}
+
 /// What a request does to the tree: EINVAL for a mount without a type and for flags of an attribute that there aren't,
 /// and ENOSYS for a request that has nothing to do with the tree.
-pub fn effect(alloc: Global, request: &Request) -> Result<TreeOp, NoMemory>
-    ensures { IfOk result (λ op. op ≡ effect request.now) }
+pub fn effect(request: Request) -> TreeOp
+    ensures { result ≡ effect request }
 {
-    Ok(match request {
+    match request {
         Request::Mknod {
             path,
             mode,
             dev,
             ..
-        } => making(copy_text(alloc, path)?, *dev, Kind::of_mode(*mode)),
+        } => making(path, dev, Kind::of_mode(mode)),
         Request::Mount {
             source,
             target,
@@ -73,20 +77,15 @@ pub fn effect(alloc: Global, request: &Request) -> Result<TreeOp, NoMemory>
             flags,
             shift,
         } => {
-            if fstype.items().is_empty() {
-                return Ok(TreeOp::Fail(Errno::EINVAL));
-            }
-            TreeOp::Mount {
-                target: copy_text(alloc, target)?,
-                row: MountRow {
-                    source: copy_text(alloc, source)?,
-                    fstype: copy_text(alloc, fstype)?,
-                    flags: *flags,
-                    options: copy_text(alloc, options)?,
-                    via: copy_text(alloc, via)?,
-                    shift: *shift,
-                },
-            }
+            let row = MountRow {
+                source,
+                fstype,
+                flags,
+                options,
+                via,
+                shift,
+            };
+            mounting(target, row)
         }
         Request::SetXattr {
             path,
@@ -94,22 +93,22 @@ pub fn effect(alloc: Global, request: &Request) -> Result<TreeOp, NoMemory>
             value,
             flags,
         } => {
-            if *flags >= ATTR_FLAGS {
-                return Ok(TreeOp::Fail(Errno::EINVAL));
+            if flags >= ATTR_FLAGS {
+                return TreeOp::Fail(Errno::EINVAL);
             }
             TreeOp::SetAttr {
-                path: copy_text(alloc, path)?,
-                name: copy_text(alloc, name)?,
-                value: copy_text(alloc, value)?,
-                flags: *flags,
+                path,
+                name,
+                value,
+                flags,
             }
         }
         Request::OpenAt { path, flags, .. } => TreeOp::Open {
-            path: copy_text(alloc, path)?,
-            cloexec: *flags / O_CLOEXEC % 2 == 1,
+            path,
+            cloexec: flags / O_CLOEXEC % 2 == 1,
         },
         _ => TreeOp::Fail(Errno::ENOSYS),
-    })
+    }
 }
 
 /// What is answered when a node is made at a path.
@@ -142,16 +141,11 @@ fn mount_answer(
 ) -> Result<(), Errno>
     ensures { (row : MountRow) → result ≡ done (mounted tree.now.tree row (reaches tree.now.tree root.ordinal (ordinal_of base) path.now Follow)) }
 {
-    match resolve(tree, root, base, path, Last::Follow, walk) {
-        Ok(Place::At(node)) => {
-            if tree.is_dir(node) {
-                Ok(())
-            } else {
-                Err(Errno::ENOTDIR)
-            }
-        }
-        Ok(Place::New { .. }) => Err(Errno::ENOENT),
-        Err(error) => Err(error.errno()),
+    let node = follow(tree, root, base, path, walk)?;
+    if tree.is_dir(node) {
+        Ok(())
+    } else {
+        Err(Errno::ENOTDIR)
     }
 }
 
@@ -181,11 +175,8 @@ fn attr_answer(
 ) -> Result<(), Errno>
     ensures { (value : List ℕ) → result ≡ done (attributed tree.now.tree name.now value flags (reaches tree.now.tree root.ordinal (ordinal_of base) path.now Follow)) }
 {
-    match resolve(tree, root, base, path, Last::Follow, walk) {
-        Ok(Place::At(node)) => set_answer(tree.has_attr(node, name), flags),
-        Ok(Place::New { .. }) => Err(Errno::ENOENT),
-        Err(error) => Err(error.errno()),
-    }
+    let node = follow(tree, root, base, path, walk)?;
+    set_answer(tree.has_attr(node, name), flags)
 }
 
 /// What is answered when the node at a path is opened.
@@ -198,11 +189,8 @@ fn open_answer(
 ) -> Result<(), Errno>
     ensures { result ≡ done (opened tree.now.tree (reaches tree.now.tree root.ordinal (ordinal_of base) path.now Follow)) }
 {
-    match resolve(tree, root, base, path, Last::Follow, walk) {
-        Ok(Place::At(_)) => Ok(()),
-        Ok(Place::New { .. }) => Err(Errno::ENOENT),
-        Err(error) => Err(error.errno()),
-    }
+    follow(tree, root, base, path, walk)?;
+    Ok(())
 }
 
 /// What would be answered if this were done to the tree, with paths from a container's root and from a base: each error
@@ -247,7 +235,7 @@ pub fn outcome(
     ensures value { IfOk result (λ r. r ≡ outcome script.now (files_of files.now) worker request.now) }
     ensures stands { IfOk result (λ r. (K : List Event) → StandsFor script.now K files.now → r ≡ outcome script.now (after.files script.now K) worker request.now) }
 {
-    let op = effect(alloc, request)?;
+    let op = effect(request.copied(alloc)?);
     let mut walk = Walk::new(alloc)?;
     let base = files.base(worker);
     Ok(answer(&files.tree, script.root, base, &op, &mut walk))

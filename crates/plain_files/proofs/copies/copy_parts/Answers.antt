@@ -1,4 +1,4 @@
-use Rattle.std.proofs.Common.{◌≡◌, ◌∙◌, sym, reverse, Option, Some, None, Result, Ok, Err, arith}
+use Rattle.std.proofs.Common.{◌≡◌, ◌∙◌, sym, reverse, Option, Some, None, Err, arith}
 use Rattle.hist_model.specs.Memory.{mapped_byte}
 use Rattle.hist_model.specs.Copies.{copy_part}
 use Rattle.hist_model.specs.declared.copy.Part.{Part}

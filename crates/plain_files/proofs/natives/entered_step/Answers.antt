@@ -1,4 +1,4 @@
-use Rattle.std.proofs.Common.{◌≡◌, reverse, rules, to_z, of_z, w32, ℤ}
+use Rattle.std.proofs.Common.{◌≡◌, reverse, rules, to_z, of_z, w32}
 use Rattle.hist_model.specs.Natives.{root}
 use Rattle.plain_files.specs.Kept.{files_of}
 use Rattle.plain_files.proofs.Calls.{step_of_entry}

@@ -1,8 +1,7 @@
-use Rattle.std.proofs.Common.{◌≡◌, ◌∙◌, ap, sym, Option, Some, ℕ}
+use Rattle.std.proofs.Common.{◌∙◌, ap, sym}
 use Rattle.std.specs.Prelude.{not}
 use Rattle.hist_model.specs.Natives.{is_open, lowest_free}
 use Rattle.look_back.proofs.Past.{oldest_here}
-use Rattle.plain_files.specs.Kept.{files_of}
 use Rattle.plain_files.specs.Logs.{slots_of}
 use Rattle.plain_files.proofs.files.Files.lowest_free.Goals as goal
 
