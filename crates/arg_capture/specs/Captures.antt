@@ -1,5 +1,6 @@
 -- What contracts see of a capture, and what it comes to.
 use Rattle.std.specs.Prelude.{◌≡◌, ℕ, ◌≤◌, List, [], ◌∷◌, ◌++◌, length, Option, Some, None, Result, Ok, Err, ⊤}
+use Rattle.sys_abi.specs.Errnos.{efault}
 use Rattle.hist_model.specs.Copies.{Progress, Wants, Complete, Faulty, progress, progress_with}
 pub use Rattle.hist_model.specs.Copies.{wanted}
 use Rattle.hist_model.specs.declared.copy.Part.{Part}
@@ -65,7 +66,7 @@ Finishes _ _ = ⊥
 -- the answer of a read
 abbrev pub answer_of : Result (Bor (List ℕ)) Fault → Result (List ℕ) ℕ
 answer_of (Ok bytes) = Ok bytes.now
-answer_of (Err fault) = Err 14
+answer_of (Err fault) = Err efault
 
 -- ---- steps of a reading
 

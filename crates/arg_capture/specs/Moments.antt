@@ -1,5 +1,6 @@
 -- Reads of memory that doesn't change. The byte at an address is given by a function, which is none where it isn't mapped.
 use Rattle.std.specs.Prelude.{◌≡◌, ℕ, zero, suc, ◌<◌, ◌^◌, List, [], ◌∷◌, ◌++◌, Option, Some, None, Result, Ok, Err, ⊤}
+use Rattle.sys_abi.specs.Errnos.{efault}
 use Rattle.hist_model.specs.Copies.{Progress, Wants, Complete, Faulty, progress, further}
 use Rattle.hist_model.specs.declared.copy.Part.{Part}
 use Rattle.hist_model.specs.declared.copy.Part.TheVariants.{Text, Value}
@@ -14,7 +15,7 @@ run_at byte zero address = []
 run_at byte (suc n) address = run_after (byte address) (run_at byte n) address
 
 abbrev pub read_after : Option ℕ → List ℕ → Result (List ℕ) ℕ
-read_after None run = Err 14
+read_after None run = Err efault
 read_after (Some b) run = Ok run
 
 -- what a read at an address, of a length, answers: EFAULT where the first byte isn't mapped

@@ -175,7 +175,7 @@ wanted _ = None
 -- it answers the piece: some bytes, at most as many as were asked for, or EFAULT
 abbrev pub fits_piece : Option (ℕ × ℕ) → Result (List ℕ) ℕ → Bool
 fits_piece (Some asked) (Ok bytes) = nat_le 1 (length bytes) && nat_le (length bytes) asked.1
-fits_piece (Some asked) (Err e) = e == 14
+fits_piece (Some asked) (Err e) = e == efault
 fits_piece None answer = false
 
 -- one more answer, where it answers the piece that is wanted

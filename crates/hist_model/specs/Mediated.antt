@@ -36,7 +36,7 @@ use Rattle.hist_model.specs.Copies.{Complete}
 use Rattle.hist_model.specs.Decisions.{cap_of, decide}
 use Rattle.hist_model.specs.Requests.{request}
 use Rattle.hist_model.specs.ReportAudit.{audit_of, judging_by, judged_as, finding_of, is_spent}
-use Rattle.sys_abi.specs.Errnos.{enoent, ebadf, ebusy, emfile, einprogress}
+use Rattle.sys_abi.specs.Errnos.{enoent, ebadf, ebusy, emfile, einprogress, esrch}
 use Rattle.sys_abi.specs.declared.wire.Addfd.{Addfd}
 use Rattle.sys_abi.specs.declared.wire.Notif.{Notif}
 
@@ -104,7 +104,7 @@ NamesOwn K e = is_accepted e.what ≡ true → (w c : ℕ) × (e.who ≡ Worker 
 
 -- EINPROGRESS and EBUSY: the call is in the way of an answer or a request
 abbrev pub is_busy : What → Bool
-is_busy (Send x b (Err e)) = e == 115
+is_busy (Send x b (Err e)) = e == einprogress
 is_busy (AddfdPut q (Err e)) = (e == einprogress) || (e == ebusy)
 is_busy _ = false
 
@@ -114,8 +114,8 @@ NeverBusy K e = is_busy e.what ≡ false
 
 -- of the errors of a worker's steps: ENOENT of a check and of an answer, EBADF too of a request for a descriptor, and EMFILE too of its take
 abbrev pub is_known_error : What → Bool
-is_known_error (Check x (Err e)) = e == 2
-is_known_error (Send x b (Err e)) = e == 2
+is_known_error (Check x (Err e)) = e == enoent
+is_known_error (Send x b (Err e)) = e == enoent
 is_known_error (AddfdPut q (Err e)) = (e == ebadf) || (e == enoent)
 is_known_error (AddfdTake (Err e)) = (e == ebadf) || ((e == emfile) || (e == enoent))
 is_known_error _ = true
@@ -232,12 +232,12 @@ AuditNames P H = (s w x : ℕ) (b : Back) (a : Result (Unit {0}) ℕ) (n : Notif
 
 -- the step answers that the call, or its task, is not there
 abbrev pub is_lost : What → Bool
-is_lost (OpenMem p (Err e)) = e == 3
-is_lost (OpenBase p d (Err e)) = e == 3
-is_lost (Check x (Err e)) = e == 2
-is_lost (AddfdPut q (Err e)) = e == 2
-is_lost (AddfdTake (Err e)) = e == 2
-is_lost (Send x b (Err e)) = e == 2
+is_lost (OpenMem p (Err e)) = e == esrch
+is_lost (OpenBase p d (Err e)) = e == esrch
+is_lost (Check x (Err e)) = e == enoent
+is_lost (AddfdPut q (Err e)) = e == enoent
+is_lost (AddfdTake (Err e)) = e == enoent
+is_lost (Send x b (Err e)) = e == enoent
 is_lost _ = false
 
 -- so only where the session's call is not listed

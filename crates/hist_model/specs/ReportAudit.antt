@@ -2,6 +2,7 @@
 use Rattle.std.specs.Prelude.{ℕ, Bool, true, false, ◌&&◌, ◌||◌, not, if◌then◌else◌, ◌==◌, nat_le, List, [], ◌∷◌, ◌++◌, length, Option, Some, None, Result, Ok, Err, pos, codes, decimal, count_by, is_some}
 use Rattle.std.specs.List.{list_any}
 use Rattle.sys_abi.specs.declared.wire.Notif.{Notif}
+use Rattle.sys_abi.specs.Errnos.{edquot, enoent, esrch}
 use Rattle.hist_model.specs.Look.{Name, is_task, is_worker, task_name, event_at}
 use Rattle.hist_model.specs.Calls.{caller}
 use Rattle.hist_model.specs.Sessions.{skips, is_letgo}
@@ -82,22 +83,22 @@ session_at w r (e ∷ K) = session_step (length K == r) (is_worker e.who w && no
 
 -- the step shows that the caller, or its call, is gone
 abbrev pub is_gone : What → Bool
-is_gone (OpenMem pid (Err e)) = e == 3
-is_gone (OpenBase pid dirfd (Err e)) = e == 3
-is_gone (Check id (Err e)) = e == 2
+is_gone (OpenMem pid (Err e)) = e == esrch
+is_gone (OpenBase pid dirfd (Err e)) = e == esrch
+is_gone (Check id (Err e)) = e == enoent
 is_gone _ = false
 
 -- the step was refused since its rule's times were spent
 abbrev pub is_spent : What → Bool
-is_spent (Act request cap (Err e)) = e == 122
-is_spent (Plant addr bytes cap (Err e)) = e == 122
+is_spent (Act request cap (Err e)) = e == edquot
+is_spent (Plant addr bytes cap (Err e)) = e == edquot
 is_spent _ = false
 
 -- the step should have reached a call, and its call is no longer listed
 abbrev pub misses_call : What → Bool
-misses_call (AddfdPut asked (Err e)) = e == 2
-misses_call (AddfdTake (Err e)) = e == 2
-misses_call (Send id back (Err e)) = e == 2
+misses_call (AddfdPut asked (Err e)) = e == enoent
+misses_call (AddfdTake (Err e)) = e == enoent
+misses_call (Send id back (Err e)) = e == enoent
 misses_call _ = false
 
 -- the step sent an answer that was taken

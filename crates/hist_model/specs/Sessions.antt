@@ -8,7 +8,7 @@ use Rattle.hist_model.specs.declared.event.Back.{Back}
 use Rattle.hist_model.specs.declared.event.Back.TheVariants.{Value, Fail, Continue}
 use Rattle.hist_model.specs.declared.request.Request.{Request}
 use Rattle.hist_model.specs.declared.policy.Cap.{Cap}
-use Rattle.sys_abi.specs.Errnos.{emfile}
+use Rattle.sys_abi.specs.Errnos.{emfile, enoent, esrch}
 use Rattle.sys_abi.specs.declared.wire.Notif.{Notif}
 use Rattle.sys_abi.specs.declared.wire.Addfd.{Addfd}
 
@@ -37,11 +37,11 @@ is_letgo _ = false
 -- the step ends the session's work: the worker then lets go
 abbrev pub gives_up : What → Bool
 gives_up (OpenMem pid (Err e)) = true
-gives_up (OpenBase pid d (Err e)) = e == 3
+gives_up (OpenBase pid d (Err e)) = e == esrch
 gives_up (Check x (Err e)) = true
-gives_up (AddfdPut asked (Err e)) = e == 2
+gives_up (AddfdPut asked (Err e)) = e == enoent
 gives_up (AddfdTake (Ok n)) = true
-gives_up (AddfdTake (Err e)) = e == 2
+gives_up (AddfdTake (Err e)) = e == enoent
 gives_up (Send x back answer) = true
 gives_up _ = false
 

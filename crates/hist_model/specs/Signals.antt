@@ -9,6 +9,19 @@ use Rattle.hist_model.specs.declared.event.Delivered.TheVariants.{End, Run, Rest
 use Rattle.hist_model.specs.declared.event.Mode.{Mode}
 use Rattle.hist_model.specs.declared.event.Mode.TheVariants.{Default, Restart as RestartMode, Plain}
 
+-- the signals that programs send, by their numbers on x86-64
+abbrev pub sigkill : ℕ
+sigkill = 9
+
+abbrev pub sigusr1 : ℕ
+sigusr1 = 10
+
+abbrev pub sigusr2 : ℕ
+sigusr2 = 12
+
+abbrev pub sigterm : ℕ
+sigterm = 15
+
 -- the call in which a task waits
 unfoldable pub call_of : List Event → Name → Option ℕ
 call_of K n = newest (λ c. listed K c && name_eq (caller K c) n) (length K)
@@ -25,30 +38,30 @@ abbrev pub is_default : Mode → Bool
 is_default Default = true
 is_default _ = false
 
--- the signal ends the task: 9, or one without a handler
+-- the signal ends the task: SIGKILL, or one without a handler
 abbrev pub is_fatal : List Event → Name → ℕ → Bool
-is_fatal K n sig = (sig == 9) || is_default (mode K n sig)
+is_fatal K n sig = (sig == sigkill) || is_default (mode K n sig)
 
 -- the signal is pending, and may be delivered now
 abbrev pub due : Bool → List Event → Name → ℕ → Bool
 due killable K n sig = pending K n sig && (not (held killable K n) || is_fatal K n sig)
 
--- the signal that is delivered next: 9 if it is due, else the smallest one
+-- the signal that is delivered next: SIGKILL if it is due, else the smallest one
 unfoldable pub next_signal : Bool → List Event → Name → Option ℕ
 next_signal killable K n =
-    if due killable K n 9 then Some 9 else (
-    if due killable K n 10 then Some 10 else (
-    if due killable K n 12 then Some 12 else (
-    if due killable K n 15 then Some 15 else None)))
+    if due killable K n sigkill then Some sigkill else (
+    if due killable K n sigusr1 then Some sigusr1 else (
+    if due killable K n sigusr2 then Some sigusr2 else (
+    if due killable K n sigterm then Some sigterm else None)))
 
 -- what a signal does to a task that waits in a listed call
 abbrev pub effect_in_call : ℕ → Mode → Delivered
 effect_in_call sig Default = End
-effect_in_call sig RestartMode = if sig == 9 then End else Restart
-effect_in_call sig Plain = if sig == 9 then End else Eintr
+effect_in_call sig RestartMode = if sig == sigkill then End else Restart
+effect_in_call sig Plain = if sig == sigkill then End else Eintr
 
 -- and elsewhere
 abbrev pub effect_outside : ℕ → Mode → Delivered
 effect_outside sig Default = End
-effect_outside sig RestartMode = if sig == 9 then End else Run
-effect_outside sig Plain = if sig == 9 then End else Run
+effect_outside sig RestartMode = if sig == sigkill then End else Run
+effect_outside sig Plain = if sig == sigkill then End else Run

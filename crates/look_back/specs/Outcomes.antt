@@ -1,5 +1,6 @@
 -- What a wait and a take find (wait(2); seccomp_unotify(2) on SECCOMP_IOCTL_NOTIF_ADDFD).
 use Rattle.std.specs.Prelude.{ℕ, List, Option, Some, None, Result, Ok, Err}
+use Rattle.sys_abi.specs.Errnos.{echild}
 use Rattle.hist_model.specs.Tasks.{name_of}
 use Rattle.hist_model.specs.declared.event.Event.{Event}
 use Rattle.hist_model.specs.declared.event.What.{What}
@@ -7,7 +8,7 @@ use Rattle.hist_model.specs.declared.event.What.TheVariants.{Reap, AddfdTake, Sk
 
 -- from the oldest child and the oldest ended child: the ended one; nothing while none is ended; ECHILD where there is no child
 abbrev pub waited : Option ℕ → Option ℕ → Option (Result ℕ ℕ)
-waited None ended = Some (Err 10)
+waited None ended = Some (Err echild)
 waited (Some child) None = None
 waited (Some child) (Some t) = Some (Ok t)
 

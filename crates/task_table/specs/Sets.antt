@@ -2,7 +2,7 @@
 use Rattle.std.specs.Prelude.{ℕ, Bool, ◌==◌, ◌&&◌, ◌||◌, not, if◌then◌else◌, List, Option, Some, None}
 use Rattle.hist_model.specs.Look.{Name}
 use Rattle.hist_model.specs.Tasks.{pending, mode}
-use Rattle.hist_model.specs.Signals.{is_default}
+use Rattle.hist_model.specs.Signals.{is_default, sigkill, sigusr1, sigusr2, sigterm}
 use Rattle.hist_model.specs.declared.event.Event.{Event}
 use Rattle.hist_model.specs.declared.event.Mode.{Mode}
 use Rattle.task_table.specs.declared.signals.BySignal.{BySignal}
@@ -12,18 +12,18 @@ all_signals v = record { kill = v; usr1 = v; usr2 = v; term = v }
 
 abbrev pub with_signal : {T : Type 0} → BySignal T → ℕ → T → BySignal T
 with_signal b s v = record {
-  kill = if s == 9 then v else b.kill;
-  usr1 = if s == 10 then v else b.usr1;
-  usr2 = if s == 12 then v else b.usr2;
-  term = if s == 15 then v else b.term;
+  kill = if s == sigkill then v else b.kill;
+  usr1 = if s == sigusr1 then v else b.usr1;
+  usr2 = if s == sigusr2 then v else b.usr2;
+  term = if s == sigterm then v else b.term;
 }
 
 -- the signals that are pending for a task, and what it does at each
 abbrev pub pending_of : List Event → Name → BySignal Bool
-pending_of K n = record { kill = pending K n 9; usr1 = pending K n 10; usr2 = pending K n 12; term = pending K n 15 }
+pending_of K n = record { kill = pending K n sigkill; usr1 = pending K n sigusr1; usr2 = pending K n sigusr2; term = pending K n sigterm }
 
 abbrev pub modes_of : List Event → Name → BySignal Mode
-modes_of K n = record { kill = mode K n 9; usr1 = mode K n 10; usr2 = mode K n 12; term = mode K n 15 }
+modes_of K n = record { kill = mode K n sigkill; usr1 = mode K n sigusr1; usr2 = mode K n sigusr2; term = mode K n sigterm }
 
 abbrev pub may_come : Mode → Bool → Bool
 may_come m held = not held || is_default m
@@ -31,10 +31,10 @@ may_come m held = not held || is_default m
 -- the signal that comes next of those that are pending, with its mode
 abbrev pub next_of : BySignal Bool → BySignal Mode → Bool → Option (ℕ × Mode)
 next_of p m held =
-    if p.kill then Some (9, m.kill) else (
-    if p.usr1 && may_come m.usr1 held then Some (10, m.usr1) else (
-    if p.usr2 && may_come m.usr2 held then Some (12, m.usr2) else (
-    if p.term && may_come m.term held then Some (15, m.term) else None)))
+    if p.kill then Some (sigkill, m.kill) else (
+    if p.usr1 && may_come m.usr1 held then Some (sigusr1, m.usr1) else (
+    if p.usr2 && may_come m.usr2 held then Some (sigusr2, m.usr2) else (
+    if p.term && may_come m.term held then Some (sigterm, m.term) else None)))
 
 -- a signal with what the task of this name does at it
 abbrev pub with_mode : List Event → Name → Option ℕ → Option (ℕ × Mode)
