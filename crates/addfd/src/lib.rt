@@ -19,6 +19,3 @@ mod requests;
 pub use flags::AddfdFlags;
 pub use put::{admit_put, parse_put};
 pub use requests::{Requests, TakeError};
-
-#[cfg(test)]
-mod tests;

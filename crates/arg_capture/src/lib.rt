@@ -20,6 +20,3 @@ pub use capture::Capture;
 pub use hist_model::copy::Part;
 pub use hist_model::request::{ArgCopy, Fault};
 pub use plan::Plan;
-
-#[cfg(test)]
-mod tests;

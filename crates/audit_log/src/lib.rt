@@ -20,6 +20,4 @@ mod part;
 mod request;
 pub mod session;
 pub mod summary;
-#[cfg(test)]
-mod tests;
 mod words;

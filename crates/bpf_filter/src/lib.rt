@@ -27,6 +27,3 @@ pub use hist_model::filter::{BadFilter, FilterReason};
 pub use hist_model::script::Insn;
 pub use text::read_text;
 pub use words::is_script_word;
-
-#[cfg(test)]
-mod tests;

@@ -17,6 +17,4 @@ pub mod laws;
 pub mod policies;
 pub mod scripts;
 pub mod status;
-#[cfg(test)]
-mod tests;
 pub mod words;

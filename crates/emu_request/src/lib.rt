@@ -18,9 +18,6 @@ use std::vec::IntoIter;
 use sys_abi::calls;
 use sys_abi::wire::AT_FDCWD;
 
-#[cfg(test)]
-mod tests;
-
 /// The request of the call `nr` with these arguments. The copy has the texts of the call's plan, in its order, and is
 /// moved; a text that it lacks is empty. A call that has no request of its own gives `Request::Other`.
 #[tactic(auto, using(crate::proofs::Numbers::of_sysinfo, crate::proofs::Numbers::of_mknod, crate::proofs::Numbers::of_mount, crate::proofs::Numbers::of_setxattr, crate::proofs::Numbers::of_openat, crate::proofs::Numbers::of_mknodat, crate::proofs::Numbers::of_other, crate::proofs::Numbers::second, crate::proofs::Numbers::third, crate::proofs::Numbers::fourth))]

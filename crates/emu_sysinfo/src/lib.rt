@@ -12,9 +12,6 @@ ghost use Rattle.hist_model.specs.Sysinfo.{container_sysinfo, host_sysinfo, told
 use hist_model::script::Figures;
 use sys_abi::wire::Sysinfo;
 
-#[cfg(test)]
-mod tests;
-
 /// What a container is told: its limits, and of them what isn't used, not below 0.
 #[tactic(auto, unfolding(hist_model::specs::Sysinfo::container_sysinfo))]
 pub fn container(f: &Figures) -> [u8; 112]

@@ -15,6 +15,3 @@ pub mod laws;
 mod tables;
 
 pub use tables::{InstallError, NR_OPEN, NotOpen, OverLimit, TableRef, Tables};
-
-#[cfg(test)]
-mod tests;

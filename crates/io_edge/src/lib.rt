@@ -17,6 +17,4 @@ pub mod machine;
 pub mod memory;
 mod plan;
 pub mod sink;
-#[cfg(test)]
-mod tests;
 pub mod whole;

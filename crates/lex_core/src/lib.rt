@@ -19,8 +19,6 @@ mod lines;
 mod numbers;
 mod quotes;
 pub mod reason;
-#[cfg(test)]
-mod tests;
 mod tokens;
 
 pub use line::{Line, Token, TokenBytes, Tokens};

@@ -12,5 +12,3 @@ pub mod calls;
 pub mod signals;
 pub mod steps;
 pub mod tasks;
-#[cfg(test)]
-mod tests;

@@ -8,7 +8,5 @@
 
 pub mod errors;
 mod search;
-#[cfg(test)]
-mod tests;
 mod texts;
 pub mod tree;

@@ -14,6 +14,3 @@ mod ioctl;
 pub mod laws;
 
 pub use ioctl::{admit_send, check_recv, check_valid, parse_send, response};
-
-#[cfg(test)]
-mod tests;

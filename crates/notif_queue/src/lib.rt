@@ -16,6 +16,3 @@ mod order;
 mod queue;
 
 pub use queue::{FetchError, Queue};
-
-#[cfg(test)]
-mod tests;

@@ -10,6 +10,4 @@ mod components;
 pub mod effects;
 pub mod places;
 pub mod resolution;
-#[cfg(test)]
-mod tests;
 mod turns;

@@ -18,5 +18,3 @@ pub mod memory;
 pub mod natives;
 pub mod outcomes;
 pub mod programs;
-#[cfg(test)]
-mod tests;

@@ -13,8 +13,6 @@ ghost use Rattle.hist_model.specs.Decisions.{decide, decide_from, rule_name, gra
 
 mod conditions;
 mod defaults;
-#[cfg(test)]
-mod tests;
 
 use conditions::fits;
 pub use defaults::{denying_policy, lxd_mknod_policy};

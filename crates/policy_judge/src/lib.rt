@@ -10,7 +10,5 @@
 
 mod judge;
 mod reads;
-#[cfg(test)]
-mod tests;
 
 pub use judge::PolicyJudge;

@@ -19,6 +19,4 @@ pub mod errno;
 pub mod flags;
 pub mod memory;
 mod names;
-#[cfg(test)]
-mod tests;
 pub mod wire;

@@ -1,6 +1,6 @@
 //! Numbers that are drawn.
 
-ghost use Rattle.std.specs.Prelude.{◌<◌};
+ghost use Rattle.std.specs.Prelude.{◌<◌, length, IfSome};
 
 /// A linear congruential generator modulo 2^64, whose high bits are drawn.
 #[derive(Drop)]
@@ -26,12 +26,22 @@ impl Draws {
         (self.state >> 33) as usize % bound
     }
 
-    /// One of these.
-    pub fn one_of<T: Copy>(&mut self, items: &[T]) -> Option<T> {
+    /// A place of these, if there are any.
+    pub fn place_of<T>(&mut self, items: &[T]) -> Option<usize>
+        ensures { IfSome result (λ place. place < length items.now) }
+    {
         if items.is_empty() {
             None
         } else {
-            Some(items[self.below(items.len())])
+            Some(self.below(items.len()))
+        }
+    }
+
+    /// One of these, if there are any.
+    pub fn one_of<T: Copy>(&mut self, items: &[T]) -> Option<T> {
+        match self.place_of(items) {
+            Some(place) => Some(items[place]),
+            None => None,
         }
     }
 }

@@ -16,6 +16,3 @@ mod pages;
 mod spaces;
 
 pub use spaces::{MemHandle, SpaceRef, Spaces};
-
-#[cfg(test)]
-mod tests;

@@ -16,6 +16,3 @@ mod table;
 
 pub use signals::{SIGKILL, SIGTERM, SIGUSR1, SIGUSR2};
 pub use table::{NoChild, NoPid, NoTask, TaskTable};
-
-#[cfg(test)]
-mod tests;

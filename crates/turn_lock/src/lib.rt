@@ -12,8 +12,6 @@
 #![tactic(auto)]
 
 mod lock;
-#[cfg(test)]
-mod tests;
 mod turn;
 mod view;
 

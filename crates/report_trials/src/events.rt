@@ -1,0 +1,77 @@
+//! Events that are added to a history: the first task's and the first worker's, for calls of mknod(2).
+
+use hist_model::event::{Actor, Entered, Event, SpawnKind, What};
+use hist_model::history::History;
+use hist_model::text::TaskName;
+use std::alloc::Global;
+use std::test::Fail;
+use sys_abi::memory::NoMemory;
+use sys_abi::wire::{Notif, SeccompData};
+
+/// A call's arguments: the path at 65536, the mode of a character device, and the device 1:3.
+const NULL_DEVICE: [u64; 6] = [65536, 8630, 259, 0, 0, 0];
+
+/// The first task's name.
+fn first(alloc: Global) -> Result<TaskName, NoMemory> {
+    Ok(TaskName::new([0].to_vec(alloc)?))
+}
+
+/// Adds an event.
+pub fn add(history: &mut History, who: Actor, what: What) -> Result<(), Fail> {
+    history.ready(1)?;
+    history.push(Event { who, what });
+    Ok(())
+}
+
+/// A history in which the first task starts.
+pub fn started(alloc: Global) -> Result<History, Fail> {
+    let mut history = History::new(alloc);
+    let spawn = What::Spawn {
+        child: first(alloc)?,
+        answer: Ok((1, SpawnKind::New)),
+    };
+    add(&mut history, Actor::Start, spawn)?;
+    Ok(history)
+}
+
+/// Adds a step of the first task.
+pub fn task(history: &mut History, alloc: Global, what: What) -> Result<(), Fail> {
+    add(history, Actor::Task(first(alloc)?), what)
+}
+
+/// Adds a step of the first worker.
+pub fn worker(history: &mut History, what: What) -> Result<(), Fail> {
+    add(history, Actor::Worker(0), what)
+}
+
+/// The first task's notification for a call with this id.
+pub fn notification(id: u64) -> Notif {
+    Notif {
+        id,
+        pid: 1,
+        flags: 0,
+        call: SeccompData {
+            nr: 133,
+            arch: 0xc000_003e,
+            ip: 0,
+            args: NULL_DEVICE,
+        },
+    }
+}
+
+/// Adds the call with this id, and that the worker receives its notification.
+pub fn call(history: &mut History, alloc: Global, id: u64) -> Result<(), Fail> {
+    let enter = What::Enter {
+        nr: 133,
+        args: NULL_DEVICE,
+        verdict: Entered::Notify { id },
+    };
+    task(history, alloc, enter)?;
+    let answer = Ok(notification(id));
+    worker(history, What::Recv { answer })
+}
+
+/// Adds a check of an id, which is valid.
+pub fn check(history: &mut History, id: u64) -> Result<(), Fail> {
+    worker(history, What::Check { id, answer: Ok(()) })
+}

@@ -1,0 +1,49 @@
+//! A report whose sessions are judged by LXD's rules for device nodes, compared with one that was worked out by hand.
+
+use crate::events::{add, notification, worker};
+use crate::granted::{asked, expect_report, read};
+use crate::texts::text;
+use audit_log::judge::Judge;
+use hist_model::event::Actor;
+use hist_model::policy::Verdict;
+use hist_model::report::Judged;
+use policy_eval::lxd_mknod_policy;
+use policy_judge::PolicyJudge;
+use std::test::Fail;
+use sys_abi::errno::Errno;
+
+#[test]
+fn reports_a_grant(rt: HostRuntime) -> Result<(), Fail> {
+    let alloc = rt.alloc();
+    let policy = lxd_mknod_policy(alloc)?;
+    expect_report(&rt, alloc, &PolicyJudge::new(&policy))
+}
+
+#[test]
+fn judges_what_was_read(rt: HostRuntime) -> Result<(), Fail> {
+    let alloc = rt.alloc();
+    let policy = lxd_mknod_policy(alloc)?;
+    let judge = PolicyJudge::new(&policy);
+    let notif = notification(1);
+    // An error that no read has counts for nothing, and neither does another worker's read.
+    let mut history = asked(alloc)?;
+    worker(&mut history, read(Err(Errno::EPERM)))?;
+    add(&mut history, Actor::Worker(1), read(Err(Errno::EFAULT)))?;
+    assert_eq!(rt;
+        judge.judge(alloc, &notif, history.events(), 0, 3)?,
+        Judged::Unfinished
+    );
+    worker(&mut history, read(Ok(text(alloc, b"/null\0")?)))?;
+    assert_eq!(rt;
+        judge.judge(alloc, &notif, history.events(), 0, 3)?,
+        Judged::Decided(3, Verdict::Grant)
+    );
+    let mut unmapped = asked(alloc)?;
+    worker(&mut unmapped, read(Err(Errno::EFAULT)))?;
+    assert_eq!(rt;
+        judge.judge(alloc, &notif, unmapped.events(), 0, 3)?,
+        Judged::Faulty(Errno::EFAULT)
+    );
+    assert_eq!(rt; judge.rule_name(1000), b"".as_slice());
+    Ok(())
+}

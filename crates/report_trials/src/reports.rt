@@ -1,0 +1,152 @@
+//! The text of a report, compared with reports that were worked out by hand.
+
+use crate::events::{call, check, started, task, worker};
+use crate::granted::{expect_report, granted};
+use audit_log::audit::write_audit;
+use audit_log::calls::write_calls;
+use audit_log::error::ReportError;
+use audit_log::journal::write_journal;
+use audit_log::judge::Judge;
+use audit_log::summary::write_summary;
+use hist_model::event::{Back, Delivered, Event, Mode, What};
+use hist_model::history::History;
+use hist_model::policy::Verdict;
+use hist_model::report::Judged;
+use io_edge::memory::MemSink;
+use std::alloc::Global;
+use std::test::Fail;
+use sys_abi::errno::Errno;
+use sys_abi::memory::NoMemory;
+use sys_abi::wire::{Addfd, Notif};
+
+/// Judges every session alike, by rules that have one name.
+#[derive(Drop)]
+struct Always {
+    judged: Judged,
+    name: &'static str,
+}
+
+impl Judge for Always {
+    ghost judging = { λ a. record { judge = λ notif answers. a.judged; name = λ place. a.name.now } };
+
+    fn judge(
+        &self,
+        _alloc: Global,
+        _notif: &Notif,
+        _events: &[Event],
+        _worker: u8,
+        _place: usize,
+    ) -> Result<Judged, NoMemory> {
+        Ok(self.judged)
+    }
+
+    fn rule_name(&self, _place: usize) -> &[u8] {
+        self.name.as_bytes()
+    }
+}
+
+#[test]
+fn reports_a_grant(rt: HostRuntime) -> Result<(), Fail> {
+    let judge = Always {
+        judged: Judged::Decided(3, Verdict::Grant),
+        name: "lxd.mknod.1:3",
+    };
+    expect_report(&rt, rt.alloc(), &judge)
+}
+
+#[test]
+fn stops_at_a_write_fault(rt: HostRuntime) -> Result<(), Fail> {
+    let alloc = rt.alloc();
+    let history = granted(alloc)?;
+    let failing = [3].to_vec(alloc)?;
+    let mut out = MemSink::new(alloc, 4096, failing)?;
+    assert_eq!(rt;
+        write_journal(alloc, &history, &mut out),
+        Err(ReportError::WriteFault)
+    );
+    assert_eq!(rt;
+        out.taken(),
+        b"journal 15\n0 - spawn 0 pid=1 new\n".as_slice()
+    );
+    Ok(())
+}
+
+/// Asks for a descriptor, for a call that is entered and received first.
+fn ask(history: &mut History, alloc: Global, id: u64) -> Result<(), Fail> {
+    call(history, alloc, id)?;
+    check(history, id)?;
+    check(history, id)?;
+    let asked = Addfd {
+        id,
+        flags: 2,
+        srcfd: 5,
+        newfd: 0,
+        newfd_flags: 0,
+    };
+    let answer = Ok(());
+    worker(history, What::AddfdPut { asked, answer })
+}
+
+/// Adds a call that gets a descriptor.
+fn add_injected(history: &mut History, alloc: Global) -> Result<(), Fail> {
+    ask(history, alloc, 1)?;
+    task(history, alloc, What::Install { answer: Ok(3) })?;
+    worker(history, What::AddfdTake { answer: Ok(3) })?;
+    worker(history, What::LetGo)?;
+    let back = Back::Value(3);
+    task(history, alloc, What::Resume { back })
+}
+
+/// Adds a call that is interrupted before it gets a descriptor.
+fn add_interrupted(history: &mut History, alloc: Global) -> Result<(), Fail> {
+    ask(history, alloc, 2)?;
+    let signal = What::Signal {
+        pid: 1,
+        sig: 10,
+        answer: Ok(()),
+    };
+    task(history, alloc, signal)?;
+    let effect = Delivered::Eintr;
+    task(history, alloc, What::Deliver { sig: 10, effect })?;
+    let answer = Err(Errno::ENOENT);
+    worker(history, What::AddfdTake { answer })?;
+    worker(history, What::LetGo)
+}
+
+/// A call that gets a descriptor, one that is interrupted before, and one whose descriptor is installed before the worker took its number.
+fn injected(alloc: Global) -> Result<History, Fail> {
+    let mut history = started(alloc)?;
+    let mode = Mode::Plain;
+    task(&mut history, alloc, What::Handler { sig: 10, mode })?;
+    add_injected(&mut history, alloc)?;
+    add_interrupted(&mut history, alloc)?;
+    ask(&mut history, alloc, 3)?;
+    task(&mut history, alloc, What::Install { answer: Ok(4) })?;
+    Ok(history)
+}
+
+#[test]
+fn tells_lost_and_installed(rt: HostRuntime) -> Result<(), Fail> {
+    let alloc = rt.alloc();
+    let judge = Always {
+        judged: Judged::Decided(0, Verdict::Inject { src: 5, at: None }),
+        name: "feed",
+    };
+    let history = injected(alloc)?;
+    let mut out = MemSink::new(alloc, 4096, Vec::new(alloc))?;
+    write_calls(alloc, &history, &mut out)?;
+    write_audit(alloc, &judge, &history, &mut out)?;
+    write_summary(alloc, &judge, &history, &mut out)?;
+    let want = "calls 3
+2 t0 pid=1 mknod 3
+11 t0 pid=1 mknod EINTR
+20 t0 pid=1 mknod open
+audit 3
+3 w0 id=1 mknod rule=feed verdict=inject answer=3 reply=sent
+12 w0 id=2 mknod rule=feed verdict=inject answer=- reply=lost
+21 w0 id=3 mknod rule=feed verdict=inject answer=4 reply=sent
+summary events=26 calls=3 notified=3 answered=2 granted=0 denied=0 passed=0 injected=3 faults=0 gone=0 lost=1
+";
+    assert_eq!(rt; out.taken(), want.as_bytes());
+    Ok(())
+}
