@@ -1,6 +1,6 @@
 //! Filters that were accepted.
 
-ghost use Rattle.std.specs.Prelude.{◌≡◌, ◌≤◌, ◌==◌, length, true, false, MatchResult, IfOk, None, Some};
+ghost use Rattle.std.specs.Prelude.{◌≡◌, ◌+◌, ◌≤◌, ◌==◌, ◌++◌, length, true, false, vec_len, vec_capacity, MatchResult, IfOk, None, Some};
 ghost use Rattle.hist_model.specs.Filters as definitions;
 ghost use Rattle.bpf_filter.specs.Accepted.{IsAccepted, IsFirstFault, has_return};
 
@@ -73,7 +73,6 @@ fn insn(code: u16, k: u32, jt: u8) -> Insn
 }
 
 /// The filter that kills on another architecture, notifies on these calls, at most 64, and allows all others.
-#[tactic(auto, using(crate::proofs::Notifies::tests_more, crate::proofs::Notifies::tests_end, crate::proofs::Notifies::notify_is_accepted, crate::proofs::Notifies::notify_answers))]
 pub fn notify_on(alloc: Global, calls: &[i32]) -> Result<Filter, NoMemory>
     requires { length calls.now ≤ 64 }
     ensures insns { IfOk result (λ f. f ≡ definitions.notify_filter calls.now) }
@@ -84,6 +83,16 @@ pub fn notify_on(alloc: Global, calls: &[i32]) -> Result<Filter, NoMemory>
     insns.push_reserved(insn(JUMP_EQUAL, ARCH, 1));
     insns.push_reserved(insn(RETURN, KILL_PROCESS, 0));
     insns.push_reserved(insn(LOAD, 0, 0));
+    push_call_tests(&mut insns, calls);
+    Ok(Filter { insns })
+}
+
+/// Adds the tests that notify on these calls, and allow all others.
+fn push_call_tests(insns: &mut Vec<Insn>, calls: &[i32])
+    requires few { length calls.now ≤ 64 }
+    requires room { vec_len insns.old + length calls.now + 2 ≤ vec_capacity insns.old }
+    ensures { insns.new.items ≡ insns.old.items ++ definitions.call_tests calls.now }
+{
     for place in 0..calls.len() {
         insns.push_reserved(insn(
             JUMP_EQUAL,
@@ -93,5 +102,4 @@ pub fn notify_on(alloc: Global, calls: &[i32]) -> Result<Filter, NoMemory>
     }
     insns.push_reserved(insn(RETURN, ALLOW, 0));
     insns.push_reserved(insn(RETURN, USER_NOTIF, 0));
-    Ok(Filter { insns })
 }

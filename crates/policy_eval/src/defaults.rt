@@ -1,7 +1,7 @@
 //! The rules that LXD's switches make, a rule that denies one device, and the defaults behind them.
 
 ghost use Rattle.std.specs.Prelude.{◌≡◌, ◌++◌, ◌∷◌, [], codes, pos, string_bytes, IfOk, OnOk};
-ghost use Rattle.hist_model.specs.Decisions.{lxd_mknod_rules, lxd_mknod_rule, default_rules, plain_rule};
+ghost use Rattle.hist_model.specs.Decisions.{lxd_mknod_rules, lxd_mknod_rule, default_rule, default_rules, plain_rule};
 ghost use Rattle.hist_model.specs.FirstPath.{denying_policy};
 ghost use Rattle.hist_model.specs.declared.policy.Calls.TheVariants.{Named};
 ghost use Rattle.hist_model.specs.declared.policy.Cond.TheVariants.{Dev};
@@ -27,7 +27,7 @@ const SAFE_DEVICES: [(u32, u32); 8] = [
 ];
 
 /// The calls that have a default of their own, by name and number.
-const CALLS: [(&str, i32); 8] = [
+const CALLS: &[(&str, i32)] = &[
     ("close", calls::CLOSE),
     ("getpid", calls::GETPID),
     ("sysinfo", calls::SYSINFO),
@@ -42,7 +42,7 @@ const CALLS: [(&str, i32); 8] = [
 pub fn lxd_mknod_policy(alloc: Global) -> Result<Policy, NoMemory>
     ensures { IfOk result (λ p. p.rules ≡ lxd_mknod_rules ++ default_rules) }
 {
-    let mut rules = Vec::with_capacity(alloc, SAFE_DEVICES.len() + CALLS.len() + 1)?;
+    let mut rules = Vec::new(alloc);
     push_mknod_rules(&mut rules)?;
     push_default_rules(&mut rules)?;
     Ok(Policy {
@@ -61,7 +61,7 @@ pub fn denying_policy(
     ensures { IfOk result (λ p. p ≡ denying_policy name.now device error) }
 {
     let (major, minor) = device;
-    let mut rules = Vec::with_capacity(alloc, CALLS.len() + 2)?;
+    let mut rules = Vec::new(alloc);
     rules.push(denying_rule(alloc, name, major, minor, error)?)?;
     push_default_rules(&mut rules)?;
     Ok(Policy {
@@ -90,7 +90,6 @@ fn denying_rule(
 }
 
 /// Adds the rules of the safe devices.
-#[tactic(auto, using(crate::proofs::Lists::map_take_more))]
 fn push_mknod_rules(rules: &mut Vec<Rule>) -> Result<(), NoMemory>
     ensures { OnOk result (rules.new.items ≡ rules.old.items ++ lxd_mknod_rules) }
 {
@@ -117,25 +116,31 @@ fn mknod_rule(alloc: Global, major: u32, minor: u32) -> Result<Rule, NoMemory>
 }
 
 /// Adds the rules that pass what no other rule decides.
-#[tactic(auto, using(crate::proofs::Lists::map_take_more))]
 fn push_default_rules(rules: &mut Vec<Rule>) -> Result<(), NoMemory>
     ensures { OnOk result (rules.new.items ≡ rules.old.items ++ default_rules) }
 {
-    let alloc = *rules.allocator();
     for (name, nr) in CALLS {
-        let calls = vec![in alloc; nr]?;
-        rules.push(default_rule(alloc, name, Calls::Named(Sequence::new(calls)))?)?;
+        push_call_rule(rules, name, *nr)?;
     }
-    rules.push(default_rule(alloc, "other", Calls::Other)?)?;
-    Ok(())
+    push_default_rule(rules, "other", Calls::Other)
 }
 
-/// The rule that passes these calls.
-fn default_rule(alloc: Global, name: &str, calls: Calls) -> Result<Rule, NoMemory>
-    ensures { IfOk result (λ r. r ≡ plain_rule (codes "default." ++ name.now) calls [] Verdict.Pass) }
+/// Adds the rule that passes this call.
+fn push_call_rule(rules: &mut Vec<Rule>, name: &str, nr: i32) -> Result<(), NoMemory>
+    ensures { OnOk result (rules.new.items ≡ rules.old.items ++ default_rule name.now nr ∷ []) }
 {
+    let calls = vec![in *rules.allocator(); nr]?;
+    push_default_rule(rules, name, Calls::Named(Sequence::new(calls)))
+}
+
+/// Adds the rule that passes these calls.
+fn push_default_rule(rules: &mut Vec<Rule>, name: &str, calls: Calls) -> Result<(), NoMemory>
+    ensures { OnOk result (rules.new.items ≡ rules.old.items ++ plain_rule (codes "default." ++ name.now) calls [] Verdict.Pass ∷ []) }
+{
+    let alloc = *rules.allocator();
     let name = format!(in alloc; "default.{name}")?;
-    Ok(plain_rule(name, calls, Vec::new(alloc), Verdict::Pass))
+    rules.push(plain_rule(name, calls, Vec::new(alloc), Verdict::Pass))?;
+    Ok(())
 }
 
 /// A rule without a program, a shift or a limit.

@@ -1,12 +1,13 @@
-use Rattle.std.proofs.Common.{◌≡◌, ◌++◌, List, [], ◌∷◌, arith, append_assoc}
-use Rattle.hist_model.specs.declared.policy.Rule.{Rule}
+use Rattle.std.proofs.Common.{◌≡◌, [], pos, rules, arith, append_assoc}
+use Rattle.policy_eval.proofs.Lists.{one_more}
+use Rattle.hist_model.specs.Decisions.{default_rule}
+use Rattle.policy_eval.specs.declared.defaults.TheConstants.{CALLS}
 use Rattle.policy_eval.proofs.defaults.push_default_rules.Goals as goal
 
-closed : (old named looped all : List Rule) (one other : Rule) → looped ≡ old ++ named → one ≡ other → all ≡ looped ++ one ∷ [] → all ≡ old ++ (named ++ other ∷ [])
-closed old named looped all one other a b e = rw (e, a, b, append_assoc)
+pub loop-name-preserved : goal.loop-name-preserved
+loop-name-preserved c = one_more (λ p. default_rule p.0.now p.1) CALLS.now c.loop-name.name-index (record { now = [] }, pos 0) _ _ _ _ c.loop-name-test.true c.loop-name.invariant c.in_ok-push_call_rule.ensures (search rules)
 
--- src/defaults.rt:62:1
 pub returns : goal.returns
 returns c =
     let q : c.loop-name.name-index ≡ 8 = omega arith in
-    closed _ _ _ _ _ _ (rw q at c.loop-name.invariant) c.in_ok-default_rule-2.ensures c.in_ok-push-2.ensures.items
+    rw (c.loop-name.invariant, q, append_assoc) at c.push_default_rule.ensures
