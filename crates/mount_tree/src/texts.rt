@@ -57,13 +57,6 @@ pub fn texts_in(
     }
 }
 
-/// A copy of a text.
-pub fn copy_text(alloc: Global, text: &Text) -> Result<Text, NoMemory>
-    ensures { IfOk result (λ t. t ≡ text.now) }
-{
-    Ok(Text::new(Vec::from_slice(alloc, text.items())?))
-}
-
 /// A copy of a node.
 pub fn copy_node(alloc: Global, node: &Node) -> Result<Node, NoMemory>
     ensures { IfOk result (λ n. n ≡ node.now) }
@@ -71,7 +64,7 @@ pub fn copy_node(alloc: Global, node: &Node) -> Result<Node, NoMemory>
     Ok(match node {
         Node::Dir => Node::Dir,
         Node::Reg => Node::Reg,
-        Node::Link(target) => Node::Link(copy_text(alloc, target)?),
+        Node::Link(target) => Node::Link(target.copied(alloc)?),
         Node::Fifo => Node::Fifo,
         Node::Sock => Node::Sock,
         Node::Chr(major, minor) => Node::Chr(*major, *minor),
