@@ -1,7 +1,12 @@
 use Rattle.hist_model.specs.ReportJournal.{lines_of, title}
-use Rattle.std.proofs.Common.{reverse}
-use Rattle.audit_log.proofs.Writing.{wrote_more}
+use Rattle.std.proofs.Common.{◌≡◌, Err, reverse, rules}
+use Rattle.audit_log.proofs.Writing.{wrote_front, wrote_more}
 use Rattle.audit_log.proofs.part.write_part.Goals as goal
+
+pub returns-in_err-write_title : goal.returns-in_err-write_title
+returns-in_err-write_title g c =
+    let failed : c.from_residual.result ≡ Err c.in_err-write_title.field-0.0 = search rules in
+    rw failed (wrote_front _ _ _ _ _ c.in_err-write_title.ensures)
 
 pub returns : goal.returns
 returns g c =
