@@ -1,7 +1,7 @@
 //! Cases of descriptors, by the rules of the manual pages, and drawn calls beside a list of all changes.
 
-ghost use Rattle.std.specs.Prelude.{◌≡◌, ◌<◌};
-ghost use Rattle.fd_table.specs.Tables.{IsHeld, holders_of};
+ghost use Rattle.std.specs.Prelude.{◌<◌};
+ghost use Rattle.fd_table.specs.Tables.{IsHeld};
 
 use crate::draws::Draws;
 use fd_table::{InstallError, NR_OPEN, NotOpen, OverLimit, TableRef, Tables};
@@ -27,16 +27,21 @@ fn numbers_are_given_and_closed(rt: HostRuntime) -> Result<(), Fail> {
     let mut tables = Tables::new(rt.alloc(), 64)?;
     let t = tables.fresh()?;
     check_console(&rt, &tables, t);
-    assert_eq!(rt; tables.close(t, 7), Err(NotOpen));
-    assert_eq!(rt; tables.close(t, 1), Ok(()));
-    assert_eq!(rt; tables.close(t, 1), Err(NotOpen));
+    check_numbers(&rt, &mut tables, t)
+}
+
+/// A number of a fresh table is closed once, and is given again before higher ones.
+fn check_numbers<R: Abort>(rt: &R, tables: &mut Tables, t: TableRef) -> Result<(), Fail>
+    requires { IsHeld tables.old t }
+{
+    let closed = [tables.close(t, 7), tables.close(t, 1), tables.close(t, 1)];
+    assert_eq!(rt; closed, [Err(NotOpen), Ok(()), Err(NotOpen)]);
     assert_eq!(rt; tables.lowest_free(t), Ok(1));
-    assert_eq!(rt; tables.install(t, Obj::Broker(7), true)?, 1);
-    assert_eq!(rt;
-        (tables.get(t, 1), tables.closes_on_exec(t, 1)),
-        (Some(Obj::Broker(7)), Some(true))
-    );
-    assert_eq!(rt; tables.install(t, Obj::Broker(8), false)?, 3);
+    let closed_one = tables.install(t, Obj::Broker(7), true)?;
+    let entry = (tables.get(t, 1), tables.closes_on_exec(t, 1));
+    assert_eq!(rt; entry, (Some(Obj::Broker(7)), Some(true)));
+    let next = tables.install(t, Obj::Broker(8), false)?;
+    assert_eq!(rt; [closed_one, next], [1, 3]);
     Ok(())
 }
 
@@ -88,24 +93,38 @@ fn check_copy<R: Abort>(
     requires first { IsHeld tables.old first }
     requires copy { IsHeld tables.old copy }
 {
-    assert_eq!(rt; tables.closes_on_exec(copy, 9), Some(true));
-    assert_eq!(rt; tables.close(first, 9), Ok(()));
+    let mark = tables.closes_on_exec(copy, 9);
+    let closed = tables.close(first, 9);
+    assert_eq!(rt; (mark, closed), (Some(true), Ok(())));
     assert_eq!(rt; tables.get(copy, 9), Some(Obj::Broker(1)));
-    assert_eq!(rt; tables.install(copy, Obj::Broker(2), false)?, 3);
-    assert_eq!(rt; tables.get(first, 3), None);
+    let number = tables.install(copy, Obj::Broker(2), false)?;
+    assert_eq!(rt; (number, tables.get(first, 3)), (3, None));
     Ok(())
 }
 
 /// A table is kept for the second holder where the first lets go, with what either changed.
-fn check_share<R: Abort>(rt: &R, tables: &mut Tables, t: TableRef)
-    requires { holders_of tables.old t ≡ 1 }
-{
+fn check_share<R: Abort>(rt: &R, tables: &mut Tables, t: TableRef) {
+    assert_eq!(rt; tables.holders(t), 1);
     tables.share(t);
-    assert_eq!(rt; tables.holders(t), 2);
-    assert_eq!(rt; tables.close(t, 0), Ok(()));
+    let shared = (tables.holders(t), tables.close(t, 0));
+    assert_eq!(rt; shared, (2, Ok(())));
     tables.release(t);
     assert_eq!(rt; (tables.holders(t), tables.get(t, 0)), (1, None));
     tables.release(t);
+}
+
+/// The slot of a table that nobody holds is used again, and the old reference doesn't reach the new table.
+fn check_slot<R: Abort>(
+    rt: &R,
+    tables: &mut Tables,
+    old: TableRef,
+    copy: TableRef,
+) -> Result<(), Fail> {
+    assert_eq!(rt; [tables.holders(old), tables.holders(copy)], [0, 1]);
+    let next = tables.fresh()?;
+    assert_eq!(rt; (next.slot, next.ordinal), (old.slot, 2));
+    assert_eq!(rt; [tables.holders(old), tables.holders(next)], [0, 1]);
+    Ok(())
 }
 
 #[test]
@@ -114,16 +133,10 @@ fn a_copy_is_apart_and_a_share_is_not(rt: HostRuntime) -> Result<(), Fail> {
     let first = tables.fresh()?;
     tables.install_at(first, 9, Obj::Broker(1), true)?;
     let second = tables.copy(first)?;
-    assert_eq!(rt; (first.ordinal, second.ordinal), (0, 1));
+    assert_eq!(rt; [first.ordinal, second.ordinal], [0, 1]);
     check_copy(&rt, &mut tables, first, second)?;
-    assert_eq!(rt; tables.holders(first), 1);
     check_share(&rt, &mut tables, first);
-    assert_eq!(rt; (tables.holders(first), tables.holders(second)), (0, 1));
-    // The slot is used again, and the old reference doesn't reach its new table.
-    let third = tables.fresh()?;
-    assert_eq!(rt; (third.slot, third.ordinal), (first.slot, 2));
-    assert_eq!(rt; (tables.holders(first), tables.holders(third)), (0, 1));
-    Ok(())
+    check_slot(&rt, &mut tables, first, second)
 }
 
 #[test]

@@ -102,10 +102,10 @@ fn a_call_that_left_unfetched_is_gone_once(rt: HostRuntime) -> Result<(), Fail> 
 
 /// A fetched call takes this reply and then no other, and is reopened once.
 fn check_answer<R: Abort>(rt: &R, queue: &mut Queue, id: u64, reply: Reply) {
-    assert!(rt; answer(queue, id, reply));
-    assert_eq!(rt; queue.state_of(id), Some(State::Answered));
-    assert!(rt; !answer(queue, id, Reply::Value(1)));
-    assert_eq!(rt; reply_of(queue, id), Some(reply));
+    let first = (answer(queue, id, reply), queue.state_of(id));
+    assert_eq!(rt; first, (true, Some(State::Answered)));
+    let second = (answer(queue, id, Reply::Value(1)), reply_of(queue, id));
+    assert_eq!(rt; second, (false, Some(reply)));
     assert!(rt; reopen(queue, id) && !reopen(queue, id));
     assert_eq!(rt; queue.state_of(id), Some(State::Fetched));
 }
@@ -130,25 +130,34 @@ fn a_call_is_answered_once(rt: HostRuntime) -> Result<(), Fail> {
 #[test]
 fn an_old_id_never_reaches_a_later_call(rt: HostRuntime) -> Result<(), Fail> {
     let mut queue = Queue::new(rt.alloc(), 0);
+    let last = check_old_ids(&rt, &mut queue)?;
+    check_close(&rt, &mut queue, last);
+    Ok(())
+}
+
+/// Three calls leave before the next one comes: unfetched, fetched and answered. Gives the one that comes last.
+fn check_old_ids<R: Abort>(rt: &R, queue: &mut Queue) -> Result<u64, Fail> {
     let unfetched = queue.enter(task(0))?;
-    assert!(rt; finish(&mut queue, unfetched));
+    assert!(rt; finish(queue, unfetched));
     let fetched = queue.enter(task(0))?;
     assert!(rt; queue.fetch().is_ok());
     assert_eq!(rt;
         [queue.state_of(unfetched), queue.state_of(fetched)],
         [None, Some(State::Fetched)]
     );
-    assert!(rt; finish(&mut queue, fetched));
+    assert!(rt; finish(queue, fetched));
     let answered = queue.enter(task(0))?;
-    assert!(rt; queue.fetch().is_ok() && answer(&mut queue, answered, Reply::Value(0)));
-    assert!(rt; finish(&mut queue, answered));
+    assert!(rt; queue.fetch().is_ok() && answer(queue, answered, Reply::Value(0)));
+    assert!(rt; finish(queue, answered));
     let last = queue.enter(task(0))?;
-    for id in [unfetched, fetched, answered] {
-        assert_eq!(rt; queue.state_of(id), None);
-    }
+    let old = [
+        queue.state_of(unfetched),
+        queue.state_of(fetched),
+        queue.state_of(answered),
+    ];
+    assert_eq!(rt; old, [None, None, None]);
     assert_eq!(rt; queue.state_of(last), Some(State::Unfetched));
-    check_close(&rt, &mut queue, last);
-    Ok(())
+    Ok(last)
 }
 
 /// After a close no call is listed, and none can be fetched.

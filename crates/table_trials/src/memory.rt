@@ -72,68 +72,57 @@ fn what_was_not_written_is_zero(rt: HostRuntime) -> Result<(), Fail> {
 #[test]
 fn bytes_are_kept_across_the_border_of_a_page(rt: HostRuntime) -> Result<(), Fail> {
     let mut spaces = Spaces::new(rt.alloc(), &MAP)?;
-    let space = spaces.fresh()?;
-    let handle = spaces.open(space);
     let mut out = Vec::new(rt.alloc());
-    spaces.poke(space, 69630, &[1, 2, 3, 4])?;
-    expect_bytes(&rt, &spaces, &handle, 69629, &mut out, &[0, 1, 2, 3, 4, 0])?;
-    spaces.plant(&handle, 69631, &[7, 8])?;
-    expect_bytes(&rt, &spaces, &handle, 69630, &mut out, &[1, 7, 8, 4])?;
-    Ok(())
+    check_border(&rt, &mut spaces, &mut out)
 }
 
-/// Five bytes are asked for, and so many are read; none is a fault.
-fn check_read<R: Abort>(
-    rt: &R,
+/// A store by the task and one by the listener, each across the border, are read from both sides of it.
+fn check_border<R: Abort>(rt: &R, spaces: &mut Spaces, out: &mut Vec<u8>) -> Result<(), Fail> {
+    let space = spaces.fresh()?;
+    let handle = spaces.open(space);
+    spaces.poke(space, 69630, &[1, 2, 3, 4])?;
+    expect_bytes(rt, spaces, &handle, 69629, out, &[0, 1, 2, 3, 4, 0])?;
+    spaces.plant(&handle, 69631, &[7, 8])?;
+    expect_bytes(rt, spaces, &handle, 69630, out, &[1, 7, 8, 4])
+}
+
+/// How many bytes are read of those that are asked for, or why none is.
+fn count_read(
     spaces: &Spaces,
     handle: &MemHandle,
     addr: u64,
+    asked: u16,
     out: &mut Vec<u8>,
-    count: Option<usize>,
-) {
-    let answered = answer_of(spaces.read(handle, addr, 5, out));
-    match count {
-        Some(count) => {
-            assert_eq!(rt; answered, Answer::Done);
-            assert_eq!(rt; out.len(), count);
-        }
-        None => assert_eq!(rt; answered, Answer::Faulted),
+) -> Result<usize, Answer> {
+    match answer_of(spaces.read(handle, addr, asked, out)) {
+        Answer::Done => Ok(out.len()),
+        refused => Err(refused),
     }
 }
 
-/// A read of no bytes looks at its first address all the same; a store doesn't.
-fn check_no_bytes<R: Abort>(rt: &R, spaces: &Spaces, handle: &MemHandle, out: &mut Vec<u8>) {
-    let mapped = answer_of(spaces.read(handle, 65536, 0, out));
-    assert_eq!(rt; mapped, Answer::Done);
-    assert!(rt; out.is_empty());
-    let unmapped = answer_of(spaces.read(handle, 0, 0, out));
-    assert_eq!(rt; unmapped, Answer::Faulted);
-}
-
-#[test]
-fn what_is_not_mapped_faults(rt: HostRuntime) -> Result<(), Fail> {
-    let mut spaces = Spaces::new(rt.alloc(), &MAP)?;
-    let space = spaces.fresh()?;
-    let handle = spaces.open(space);
-    let mut out = Vec::new(rt.alloc());
-    // The address, and how many bytes are read there of five that are asked for; None is a fault.
+/// Reads stop behind the mapped bytes, and one that begins there is a fault.
+fn check_reads<R: Abort>(rt: &R, spaces: &Spaces, handle: &MemHandle, out: &mut Vec<u8>) {
+    // The address, and how many bytes are read there of five that are asked for.
     let reads = [
-        (65535, None),
-        (65536, Some(5)),
-        (77823, Some(5)),
-        (81917, Some(3)),
-        (81920, None),
-        (86015, None),
-        (86016, Some(5)),
-        (90111, Some(1)),
-        (90112, None),
-        (u64::MAX, None),
+        (65535, Err(Answer::Faulted)),
+        (65536, Ok(5)),
+        (77823, Ok(5)),
+        (81917, Ok(3)),
+        (81920, Err(Answer::Faulted)),
+        (86015, Err(Answer::Faulted)),
+        (86016, Ok(5)),
+        (90111, Ok(1)),
+        (90112, Err(Answer::Faulted)),
+        (u64::MAX, Err(Answer::Faulted)),
     ];
     for (addr, count) in reads {
-        check_read(&rt, &spaces, &handle, addr, &mut out, count);
+        assert_eq!(rt; count_read(spaces, handle, addr, 5, out), count);
     }
-    // A store writes all its bytes, or none: the third one has one byte behind the mapped ones.
-    let pokes = [
+}
+
+/// A store writes all its bytes, or none: the third one has one byte behind the mapped ones.
+fn check_stores<R: Abort>(rt: &R, spaces: &mut Spaces, space: SpaceRef) {
+    let stores = [
         (77822, Answer::Done),
         (65535, Answer::Faulted),
         (81917, Answer::Faulted),
@@ -141,61 +130,102 @@ fn what_is_not_mapped_faults(rt: HostRuntime) -> Result<(), Fail> {
         (86014, Answer::Faulted),
         (u64::MAX, Answer::Faulted),
     ];
-    for (addr, expected) in pokes {
+    for (addr, expected) in stores {
         assert_eq!(rt;
             answer_of(spaces.poke(space, addr, &[9, 9, 9, 9])),
             expected
         );
     }
-    expect_bytes(&rt, &spaces, &handle, 77821, &mut out, &[0, 9, 9, 9, 9, 0])?;
-    expect_bytes(&rt, &spaces, &handle, 65536, &mut out, &[0, 0, 0, 0])?;
-    check_no_bytes(&rt, &spaces, &handle, &mut out);
+}
+
+/// A read of no bytes looks at its first address all the same; a store doesn't.
+fn check_no_bytes<R: Abort>(
+    rt: &R,
+    spaces: &mut Spaces,
+    space: SpaceRef,
+    handle: &MemHandle,
+    out: &mut Vec<u8>,
+) {
+    let reads = [
+        count_read(spaces, handle, 65536, 0, out),
+        count_read(spaces, handle, 0, 0, out),
+    ];
+    assert_eq!(rt; reads, [Ok(0), Err(Answer::Faulted)]);
     assert_eq!(rt; answer_of(spaces.poke(space, 0, &[])), Answer::Done);
+}
+
+#[test]
+fn what_is_not_mapped_faults(rt: HostRuntime) -> Result<(), Fail> {
+    let mut spaces = Spaces::new(rt.alloc(), &MAP)?;
+    let mut out = Vec::new(rt.alloc());
+    check_faults(&rt, &mut spaces, &mut out)
+}
+
+/// Reads, stores, what the stores left, and then both of no bytes.
+fn check_faults<R: Abort>(rt: &R, spaces: &mut Spaces, out: &mut Vec<u8>) -> Result<(), Fail> {
+    let space = spaces.fresh()?;
+    let handle = spaces.open(space);
+    check_reads(rt, spaces, &handle, out);
+    check_stores(rt, spaces, space);
+    expect_bytes(rt, spaces, &handle, 77821, out, &[0, 9, 9, 9, 9, 0])?;
+    expect_bytes(rt, spaces, &handle, 65536, out, &[0, 0, 0, 0])?;
+    check_no_bytes(rt, spaces, space, &handle, out);
     Ok(())
 }
 
 #[test]
 fn a_copy_is_independent(rt: HostRuntime) -> Result<(), Fail> {
     let mut spaces = Spaces::new(rt.alloc(), &MAP)?;
+    let mut out = Vec::new(rt.alloc());
+    check_copy(&rt, &mut spaces, &mut out)
+}
+
+/// What is stored in a space after it was copied isn't in the copy, and the other way round.
+fn check_copy<R: Abort>(rt: &R, spaces: &mut Spaces, out: &mut Vec<u8>) -> Result<(), Fail> {
     let parent = spaces.fresh()?;
     spaces.poke(parent, 65536, &[1, 2, 3])?;
     let child = spaces.copy_for_child(parent)?;
     spaces.poke(parent, 65536, &[4])?;
     spaces.poke(child, 65537, &[5])?;
     let (of_parent, of_child) = (spaces.open(parent), spaces.open(child));
-    let mut out = Vec::new(rt.alloc());
-    expect_bytes(&rt, &spaces, &of_parent, 65536, &mut out, &[4, 2, 3])?;
-    expect_bytes(&rt, &spaces, &of_child, 65536, &mut out, &[1, 5, 3])?;
-    Ok(())
+    expect_bytes(rt, spaces, &of_parent, 65536, out, &[4, 2, 3])?;
+    expect_bytes(rt, spaces, &of_child, 65536, out, &[1, 5, 3])
 }
 
 #[test]
 fn a_space_lives_while_it_is_held(rt: HostRuntime) -> Result<(), Fail> {
     let mut spaces = Spaces::new(rt.alloc(), &MAP)?;
     let mut out = Vec::new(rt.alloc());
+    let space = check_handle(&rt, &mut spaces, &mut out)?;
+    check_stale(&rt, &mut spaces, space, &mut out)
+}
+
+/// A handle still reads where both tasks of its space have ended. Gives the space, which nothing holds any more.
+fn check_handle<R: Abort>(
+    rt: &R,
+    spaces: &mut Spaces,
+    out: &mut Vec<u8>,
+) -> Result<SpaceRef, Fail> {
     let space = spaces.fresh()?;
     spaces.share(space);
     spaces.poke(space, 65536, &[1])?;
     let handle = spaces.open(space);
     spaces.release(space);
     spaces.release(space);
-    // Both tasks have ended, and the handle still reads.
-    expect_bytes(&rt, &spaces, &handle, 65536, &mut out, &[1])?;
+    expect_bytes(rt, spaces, &handle, 65536, out, &[1])?;
     spaces.close(handle);
-    // The slot is used again, and the old reference doesn't reach the new space.
-    let next = spaces.fresh()?;
-    assert_eq!(rt; (next.slot, next.ordinal), (space.slot, 1));
-    check_stale(&rt, &mut spaces, space, next, &mut out)
+    Ok(space)
 }
 
-/// What is done by an old reference leaves the space that has its slot now.
+/// The slot is used again, and what is done by the old reference leaves the space that has it now.
 fn check_stale<R: Abort>(
     rt: &R,
     spaces: &mut Spaces,
     old: SpaceRef,
-    next: SpaceRef,
     out: &mut Vec<u8>,
 ) -> Result<(), Fail> {
+    let next = spaces.fresh()?;
+    assert_eq!(rt; (next.slot, next.ordinal), (old.slot, 1));
     spaces.poke(old, 65536, &[2])?;
     spaces.release(old);
     let stale = spaces.open(old);

@@ -103,14 +103,48 @@ fn a_call_takes_requests_while_it_waits(rt: HostRuntime) -> Result<(), Fail> {
     Ok(())
 }
 
-/// The request for the call 7 that waits, if there is one; a send is admitted where none does.
-fn check_waiting<R: Abort>(rt: &R, requests: &Requests, waiting: Option<(u8, Addfd)>) {
+/// What a worker does with its request.
+#[derive(Clone, Copy)]
+enum Call {
+    Put(Addfd),
+    Done(Result<u32, Errno>),
+    Take(bool, Result<u32, TakeError>),
+}
+
+/// Plays a worker's call where it may be made, and tells whether it was made and answered as it should be.
+fn play(requests: &mut Requests, worker: u8, call: Call) -> bool {
+    let asks = requests.has_request(worker);
+    match call {
+        Call::Put(a) if worker <= 16 && !asks => {
+            requests.put(worker, a);
+            true
+        }
+        Call::Done(result) if asks => {
+            requests.done(worker, result);
+            true
+        }
+        Call::Take(listed, answer) if asks => requests.take(worker, listed) == answer,
+        _ => false,
+    }
+}
+
+/// The requests of the workers 0 and 1, of which each is for the call 7, and the one that waits, if one does; a send is
+/// admitted where none does.
+fn check_requests<R: Abort>(
+    rt: &R,
+    requests: &Requests,
+    own: [Option<Addfd>; 2],
+    waiting: Option<(u8, Addfd)>,
+) {
+    let has = [requests.has_request(0), requests.has_request(1)];
+    assert_eq!(rt; has, [own[0].is_some(), own[1].is_some()]);
+    assert_eq!(rt; [requests.asked_by(0), requests.asked_by(1)], own);
     let (count, answer) = match waiting {
         Some(_) => (1, Err(Errno::EBUSY)),
         None => (0, Ok(())),
     };
     assert_eq!(rt; requests.oldest(7), waiting);
-    assert_eq!(rt; (requests.queued(7), requests.queued(8)), (count, 0));
+    assert_eq!(rt; [requests.queued(7), requests.queued(8)], [count, 0]);
     let admitted = admit_put(&asked(2), Some(State::Fetched), requests.queued(7));
     assert_eq!(rt; admitted, answer);
 }
@@ -118,29 +152,38 @@ fn check_waiting<R: Abort>(rt: &R, requests: &Requests, waiting: Option<(u8, Add
 #[test]
 fn a_send_waits_for_the_others(rt: HostRuntime) -> Result<(), Fail> {
     let mut requests = Requests::new(rt.alloc())?;
-    check_waiting(&rt, &requests, None);
-    assert!(rt; !requests.has_request(0));
-    requests.put(0, asked(0));
-    assert!(rt; requests.has_request(0) && !requests.has_request(1));
-    check_waiting(&rt, &requests, Some((0, asked(0))));
-    assert_eq!(rt;
-        (requests.asked_by(0), requests.asked_by(1)),
-        (Some(asked(0)), None)
-    );
-    assert_eq!(rt; requests.take(0, true), Err(TakeError::Pending));
-    check_waiting(&rt, &requests, Some((0, asked(0))));
-    requests.done(0, Ok(3));
-    check_waiting(&rt, &requests, None);
-    requests.put(1, asked(2));
-    check_waiting(&rt, &requests, Some((1, asked(2))));
-    assert_eq!(rt; requests.take(0, true), Ok(3));
-    assert!(rt; !requests.has_request(0) && requests.has_request(1));
-    requests.done(1, Err(Errno::EBADF));
-    assert_eq!(rt;
-        requests.take(1, false),
-        Err(TakeError::Fault(Errno::EBADF))
-    );
-    assert!(rt; !requests.has_request(1));
+    let (add, send) = (asked(0), asked(2));
+    let failed = Errno::EBADF;
+    // A worker and its call, then the requests of the workers 0 and 1, and the one that waits.
+    let steps = [
+        (0, Call::Put(add), [Some(add), None], Some((0, add))),
+        (
+            0,
+            Call::Take(true, Err(TakeError::Pending)),
+            [Some(add), None],
+            Some((0, add)),
+        ),
+        (0, Call::Done(Ok(3)), [Some(add), None], None),
+        (1, Call::Put(send), [Some(add), Some(send)], Some((1, send))),
+        (
+            0,
+            Call::Take(true, Ok(3)),
+            [None, Some(send)],
+            Some((1, send)),
+        ),
+        (1, Call::Done(Err(failed)), [None, Some(send)], None),
+        (
+            1,
+            Call::Take(false, Err(TakeError::Fault(failed))),
+            [None, None],
+            None,
+        ),
+    ];
+    check_requests(&rt, &requests, [None, None], None);
+    for (worker, call, own, waiting) in steps {
+        assert!(rt; play(&mut requests, worker, call));
+        check_requests(&rt, &requests, own, waiting);
+    }
     Ok(())
 }
 

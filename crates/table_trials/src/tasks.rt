@@ -36,20 +36,38 @@ fn the_only_number_is_given_once(rt: HostRuntime) -> Result<(), Fail> {
 #[test]
 fn numbers_go_on_from_the_last_one(rt: HostRuntime) -> Result<(), Fail> {
     let mut table = TaskTable::new(rt.alloc(), 10, 3)?;
+    let (first, second) = check_three(&rt, &mut table)?;
+    let third = check_fourth(&rt, &mut table, first, second)?;
+    // The third one has the second one's slot and number, and is another task.
+    check_next_holder(&rt, &mut table, 12, second, third);
+    Ok(())
+}
+
+/// Three tasks get the three numbers that there are. Gives the first one and its elder child.
+fn check_three<R: Abort>(rt: &R, table: &mut TaskTable) -> Result<(TaskRef, TaskRef), Fail> {
     let (first, own) = table.spawn(None)?;
     let (second, freed) = table.spawn(Some(first))?;
     let (_, last) = table.spawn(Some(first))?;
     assert_eq!(rt; [own, freed, last], [11, 12, 13]);
-    assert_eq!(rt; pid(&table.spawn(Some(first))), None);
+    Ok((first, second))
+}
+
+/// A number is free again when the task that had it was reaped, and not before. Gives the task that gets it then.
+fn check_fourth<R: Abort>(
+    rt: &R,
+    table: &mut TaskTable,
+    first: TaskRef,
+    second: TaskRef,
+) -> Result<TaskRef, Fail> {
+    let living = pid(&table.spawn(Some(first)));
     table.exit(second);
-    assert_eq!(rt; pid(&table.spawn(Some(first))), None);
-    assert_eq!(rt; table.reap(first), Ok(Some(second)));
-    assert_eq!(rt; table.by_pid(12), Err(NoTask));
+    let ended = pid(&table.spawn(Some(first)));
+    assert_eq!(rt; [living, ended], [None, None]);
+    let reaped = (table.reap(first), table.by_pid(12));
+    assert_eq!(rt; reaped, (Ok(Some(second)), Err(NoTask)));
     let (third, again) = table.spawn(Some(first))?;
     assert_eq!(rt; (again, third.ordinal), (12, 3));
-    // The third one has the second one's slot and number, and is another task.
-    check_next_holder(&rt, &mut table, 12, second, third);
-    Ok(())
+    Ok(third)
 }
 
 /// A number's next holder gets what is sent to it, and an old reference doesn't reach that task.
@@ -63,8 +81,8 @@ fn check_next_holder<R: Abort>(
     assert!(rt; table.alive(next) && !table.alive(old) && next != old);
     table.set_handler(old, SIGUSR1, Mode::Plain);
     assert_eq!(rt; table.signal(pid, SIGUSR1), Ok(next));
-    assert_eq!(rt; table.deliver(old, false), None);
-    assert_eq!(rt; table.deliver(next, false), Some((SIGUSR1, Mode::Default)));
+    let delivered = [table.deliver(old, false), table.deliver(next, false)];
+    assert_eq!(rt; delivered, [None, Some((SIGUSR1, Mode::Default))]);
     assert!(rt; !table.alive(next));
 }
 
@@ -73,11 +91,29 @@ fn check_held<R: Abort>(rt: &R, alloc: Global) -> Result<(), Fail> {
     let mut table = TaskTable::new(alloc, 0, 4)?;
     let (held, own) = table.spawn(None)?;
     table.set_handler(held, SIGUSR1, Mode::Plain);
-    assert_eq!(rt; table.signal(own, SIGUSR1), Ok(held));
-    assert_eq!(rt; table.deliver(held, true), None);
-    assert_eq!(rt; table.signal(own, SIGTERM), Ok(held));
-    assert_eq!(rt; table.deliver(held, true), Some((SIGTERM, Mode::Default)));
+    let answers = [
+        (table.signal(own, SIGUSR1), table.deliver(held, true)),
+        (table.signal(own, SIGTERM), table.deliver(held, true)),
+    ];
+    assert_eq!(rt;
+        answers,
+        [(Ok(held), None), (Ok(held), Some((SIGTERM, Mode::Default)))]
+    );
     Ok(())
+}
+
+/// Where none is held back the smallest signal of a child comes, and SIGKILL before all.
+fn check_order<R: Abort>(rt: &R, table: &mut TaskTable, first: TaskRef, child: TaskRef, own: u32) {
+    for sig in [SIGTERM, SIGUSR2, SIGUSR1] {
+        assert_eq!(rt; table.signal(own, sig), Ok(child));
+    }
+    assert_eq!(rt; table.deliver(child, false), Some((SIGUSR1, Mode::Restart)));
+    let killed = (table.signal(own, SIGKILL), table.deliver(child, true));
+    assert_eq!(rt; killed, (Ok(child), Some((SIGKILL, Mode::Default))));
+    assert_eq!(rt; [table.alive(first), table.alive(child)], [true, false]);
+    // An ended task takes a signal, and no other number is held.
+    let sent = [table.signal(own, SIGTERM), table.signal(3, SIGTERM)];
+    assert_eq!(rt; sent, [Ok(child), Err(NoTask)]);
 }
 
 #[test]
@@ -87,24 +123,18 @@ fn the_signal_that_kills_comes_first(rt: HostRuntime) -> Result<(), Fail> {
     table.set_handler(first, SIGUSR1, Mode::Restart);
     let (child, own) = table.spawn(Some(first))?;
     table.set_handler(child, SIGUSR2, Mode::Plain);
-    for sig in [SIGTERM, SIGUSR2, SIGUSR1] {
-        assert_eq!(rt; table.signal(own, sig), Ok(child));
-    }
-    check_held(&rt, rt.alloc())?;
-    // Where none is held back the smallest comes, and SIGKILL before all.
-    assert_eq!(rt; table.deliver(child, false), Some((SIGUSR1, Mode::Restart)));
-    assert_eq!(rt; table.signal(own, SIGKILL), Ok(child));
-    assert_eq!(rt; table.deliver(child, true), Some((SIGKILL, Mode::Default)));
-    assert_eq!(rt; [table.alive(first), table.alive(child)], [true, false]);
-    // An ended task takes a signal, and no other number is held.
-    assert_eq!(rt; table.signal(own, SIGTERM), Ok(child));
-    assert_eq!(rt; table.signal(3, SIGTERM), Err(NoTask));
-    Ok(())
+    check_order(&rt, &mut table, first, child, own);
+    check_held(&rt, rt.alloc())
 }
 
 #[test]
 fn the_first_child_that_ended_is_reaped(rt: HostRuntime) -> Result<(), Fail> {
     let mut table = TaskTable::new(rt.alloc(), 0, 9)?;
+    check_reaped(&rt, &mut table)
+}
+
+/// A task reaps its two children in the order in which they ended, and nobody waits for the child of one of them.
+fn check_reaped<R: Abort>(rt: &R, table: &mut TaskTable) -> Result<(), Fail> {
     let first = table.spawn(None)?.0;
     let one = table.spawn(Some(first))?.0;
     let two = table.spawn(Some(first))?.0;
@@ -117,9 +147,9 @@ fn the_first_child_that_ended_is_reaped(rt: HostRuntime) -> Result<(), Fail> {
         [Ok(Some(one)), Ok(Some(two)), Err(NoChild)]
     );
     // Nobody is left to wait for a task whose parent ended before it.
-    assert_eq!(rt; table.by_pid(4), Ok(three));
+    let living = table.by_pid(4);
     table.exit(three);
-    assert_eq!(rt; table.by_pid(4), Err(NoTask));
+    assert_eq!(rt; [living, table.by_pid(4)], [Ok(three), Err(NoTask)]);
     Ok(())
 }
 
