@@ -1,4 +1,5 @@
 pub mod Look
+pub mod Names
 pub mod Histories
 pub mod Tasks
 pub mod Calls
