@@ -2,10 +2,11 @@
 -- each effect is what the policy grants on one copy of its call's arguments found valid afterwards, and each denial names its rule (seccomp_unotify(2)).
 use Rattle.std.specs.Prelude.{◌≡◌, ℕ, ◌+◌, ◌≤◌, Bool, true, false, ◌&&◌, ◌||◌, not, if◌then◌else◌, ◌==◌, List, [], ◌∷◌, length, filter, Option, Some, None, Result, Ok, Err, ◌⊎◌, nat_le, nat_eq, codes, ℤ}
 use Rattle.std.specs.List.{list_any, starts_with}
-use Rattle.hist_model.specs.Look.{Name, ev, before, event_at, is_worker, is_task}
-use Rattle.hist_model.specs.Calls.{listed, caller, fetched, fetches, id, is_call, answers, puts_to, settled, waiting, closes}
-use Rattle.hist_model.specs.Sessions.{Rules, session, notif_of, reads_of, first_some, outcome_in, put_in, Acts, Plants, Injects, addfd_of, number_of, checks}
-use Rattle.hist_model.specs.Steps.{session_call, mem, task_place, times_spent, opened, notif}
+use Rattle.hist_model.specs.Look.{Name, ev, before, event_at, is_worker, is_task, task_name}
+use Rattle.hist_model.specs.Calls.{listed, caller, fetched, fetches, id, is_call, answers, puts_to, settled, waiting, closes, receives as is_receive}
+use Rattle.hist_model.specs.Sessions.{Rules, session, notif_of, reads_of, first_some, outcome_in, put_in, Acts, Plants, Injects, addfd_of, number_of, checks, is_letgo}
+use Rattle.hist_model.specs.Steps.{session_call, mem, task_place, times_spent, opened, notif, owes_native, slot_answer, is_spent as has_spent}
+use Rattle.hist_model.specs.Systems.{Slot}
 use Rattle.hist_model.specs.Laws.{AnsweredOnce, count_below, empty_recvs, fetcher}
 use Rattle.hist_model.specs.Settlers.{InstallsOwn, ResumesOwn, ReturnsInstalled}
 use Rattle.hist_model.specs.Orders.{InOrder, is_good_check}
@@ -13,9 +14,9 @@ use Rattle.hist_model.specs.Causes.{Cause}
 use Rattle.hist_model.specs.Trees.{Tree}
 use Rattle.hist_model.specs.Memory.{own_group}
 use Rattle.hist_model.specs.Signals.{call_of}
-use Rattle.hist_model.specs.Natives.{base_of}
-use Rattle.hist_model.specs.Files.{files, request_for}
-use Rattle.hist_model.specs.Legal.{rules_of, tree, copied}
+use Rattle.hist_model.specs.Natives.{base_of, native_step, native_answer}
+use Rattle.hist_model.specs.Files.{files, request_for, slot_in}
+use Rattle.hist_model.specs.Legal.{rules_of, tree, copied, is_open_session}
 use Rattle.hist_model.specs.declared.event.Back.{Back}
 use Rattle.hist_model.specs.declared.event.Event.{Event}
 use Rattle.hist_model.specs.declared.event.Actor.{Actor}
@@ -27,15 +28,16 @@ use Rattle.hist_model.specs.declared.policy.Verdict.TheVariants.{Grant}
 use Rattle.hist_model.specs.declared.policy.Cap.{Cap}
 use Rattle.hist_model.specs.declared.request.Node.{Node}
 use Rattle.hist_model.specs.declared.request.Node.TheVariants.{Chr, Blk}
-use Rattle.hist_model.specs.declared.request.Obj.TheVariants.{Broker}
 use Rattle.hist_model.specs.declared.request.Request.{Request}
 use Rattle.hist_model.specs.declared.script.Script.{Script}
 use Rattle.hist_model.specs.declared.tree.NodeRow.{NodeRow}
 use Rattle.hist_model.specs.declared.tree.AttrRow.{AttrRow}
-use Rattle.hist_model.specs.Copies.{Complete}
+use Rattle.hist_model.specs.Copies.{Progress, Wants, Complete, Faulty}
 use Rattle.hist_model.specs.Decisions.{cap_of, decide}
 use Rattle.hist_model.specs.Requests.{request}
 use Rattle.hist_model.specs.ReportAudit.{audit_of, judging_by, judged_as, finding_of, is_spent}
+use Rattle.hist_model.specs.declared.report.Finding.{Finding}
+use Rattle.hist_model.specs.declared.report.Finding.TheVariants.{Fault}
 use Rattle.sys_abi.specs.Errnos.{enoent, ebadf, ebusy, emfile, einprogress, esrch}
 use Rattle.sys_abi.specs.declared.wire.Addfd.{Addfd}
 use Rattle.sys_abi.specs.declared.wire.Notif.{Notif}
@@ -123,14 +125,13 @@ is_known_error _ = true
 abbrev pub ErrorsKnown : List Event → Event → Type 0
 ErrorsKnown K e = is_known_error e.what ≡ true
 
--- an installation that gave a number puts the request's file there, and leaves every other slot of every group as it was
-abbrev pub InstallsAlone : Script → List Event → Event → Type 0
-InstallsAlone S K e = (n : Name) (m : ℕ) → e.who ≡ Task n → e.what ≡ Install (Ok m) → (f j : ℕ)
-    → (files S (e ∷ K)).slot f j ≡ (if (f == own_group K e.who) && (j == m) then Some (Broker (request_for K (call_of K n)).srcfd) else (files S K).slot f j)
+-- where the request that a task installs next goes in the task's table: to the number that it names, else to the lowest free one
+abbrev pub slot_next : Script → List Event → Actor → Slot
+slot_next S K a = slot_in S.rlimit (files S K) (own_group K a) (request_for K (call_of K (task_name a)))
 
--- one that failed leaves every slot as it was
-abbrev pub FailsAlone : Script → List Event → Event → Type 0
-FailsAlone S K e = (x : ℕ) → e.what ≡ Install (Err x) → (f j : ℕ) → (files S (e ∷ K)).slot f j ≡ (files S K).slot f j
+-- an installation answers the number where its request goes in the table before it, or why there is none
+abbrev pub InstallsThere : Script → List Event → Event → Type 0
+InstallsThere S K e = (x : Result ℕ ℕ) → e.what ≡ Install x → x ≡ slot_answer (slot_next S K e.who)
 
 -- the event is the return of this call, or the close of the listener
 abbrev pub returns : What → Bool
@@ -215,20 +216,48 @@ ReadsOwn K e = (w addr len : ℕ) (a : Result (List ℕ) ℕ) → e.who ≡ Work
 abbrev pub TimesKept : Policy → List Event → Type 0
 TimesKept P K = (i : ℕ) (cap : Cap) → cap_of P.rules i ≡ Some cap → times_spent K i ≤ cap.times
 
+-- the cap of an effect
+abbrev pub cap_in : What → Option Cap
+cap_in (Act q cap a) = cap
+cap_in (Plant x b cap a) = cap
+cap_in _ = None
+
+-- an effect answers EDQUOT exactly where as many effects under its cap were done before it as may be
+abbrev pub SpentExactly : List Event → Event → Type 0
+SpentExactly K e = is_spent e.what ≡ has_spent K (cap_in e.what)
+
+-- with each step of a worker the steps of its session stand in order: openings, a good check, reads, a good check, uses
+abbrev pub KeepsOrder : List Event → Event → Type 0
+KeepsOrder K e = (w : ℕ) → e.who ≡ Worker w → InOrder (session (e ∷ K) w)
+
 -- ---- Each answer has its cause
 
--- an answer stands after two good checks, and carries what the session's copy and the policy make of it
-abbrev pub HasCause : Rules → List Event → Event → Type 0
-HasCause R K e = (w x : ℕ) (b : Back) (a : Result (Unit {0}) ℕ) → e.who ≡ Worker w → e.what ≡ Send x b a
-    → (c : ℕ) × (n : Notif) × (session_call K w ≡ Some c) × (notif_of (session K w) ≡ Some n) × (n ≡ notif K c) × (x ≡ n.id) × (number_of is_good_check (session K w) ≡ 2) × Cause R (session K w) n b
+-- what holds of an answer to a notification: it is its session's, stands after two good checks, and carries what the one whole copy and the policy make of it
+pub record IsCaused (R : Rules) (K : List Event) (w c : ℕ) (n : Notif) (x : ℕ) (b : Back) : Type 0 where
+  pub of_call : session_call K w ≡ Some c
+  pub notif_is : notif_of (session K w) ≡ Some n
+  pub of_notif : n ≡ notif K c
+  pub id_is : x ≡ n.id
+  pub checked : number_of is_good_check (session K w) ≡ 2
+  pub whole : R.next_piece n (reads_of (session K w)) ≡ None
+  pub cause : Cause R (session K w) n b
 
--- where a session answered and its copy has no fault, its audit names the rule that decided and its verdict: or, of a rule that grants, that its times were spent
+abbrev pub HasCause : Rules → List Event → Event → Type 0
+HasCause R K e = (w x : ℕ) (b : Back) (a : Result (Unit {0}) ℕ) → e.who ≡ Worker w → e.what ≡ Send x b a → (c : ℕ) × (n : Notif) × IsCaused R K w c n x b
+
+-- what an audit finds of a session with these steps, by how far its copy is: its fault; else the rule that decided and its verdict, or, of a rule that grants, that its times were spent;
+-- and there is no answer without a whole copy
+abbrev pub Finds : Policy → List What → Notif → Finding → Progress → Type 0
+Finds P own n found (Wants a l) = ⊥
+Finds P own n found (Faulty e) = found ≡ Fault
+Finds P own n found (Complete texts) = (found ≡ finding_of (judged_as (decide P.rules (request n.call.nr n.call.args texts))) (list_any is_spent own))
+    × (list_any is_spent own ≡ true → (decide P.rules (request n.call.nr n.call.args texts)).1 ≡ Grant)
+
+-- the audit of each session that answered
 abbrev pub AuditNames : Policy → List Event → Type 0
-AuditNames P H = (s w x : ℕ) (b : Back) (a : Result (Unit {0}) ℕ) (n : Notif) (texts : List (List ℕ)) → event_at H s ≡ Some (ev (Worker w) (Send x b a))
-    → notif_of (session (before H s) w) ≡ Some n → copied n (reads_of (session (before H s) w)) ≡ Complete texts
+AuditNames P H = (s w x : ℕ) (b : Back) (a : Result (Unit {0}) ℕ) (n : Notif) → event_at H s ≡ Some (ev (Worker w) (Send x b a)) → notif_of (session (before H s) w) ≡ Some n
     → (r : ℕ) × (event_at H r ≡ Some (ev (Worker w) (Recv (Ok n))))
-    × ((audit_of (judging_by P.rules) H (before H r) w n).finding ≡ finding_of (judged_as (decide P.rules (request n.call.nr n.call.args texts))) (list_any is_spent (session (before H s) w)))
-    × (list_any is_spent (session (before H s) w) ≡ true → (decide P.rules (request n.call.nr n.call.args texts)).1 ≡ Grant)
+    × Finds P (session (before H s) w) n (audit_of (judging_by P.rules) H (before H r) w n).finding (copied n (reads_of (session (before H s) w)))
 
 -- the step answers that the call, or its task, is not there
 abbrev pub is_lost : What → Bool
@@ -243,6 +272,25 @@ is_lost _ = false
 -- so only where the session's call is not listed
 abbrev pub LostIfGone : List Event → Event → Type 0
 LostIfGone K e = (w : ℕ) → e.who ≡ Worker w → is_lost e.what ≡ true → (c : ℕ) × (session_call K w ≡ Some c) × (listed K c ≡ false)
+
+-- ---- A session ends for its reasons
+
+-- the step answered, took the number that its request got, or found the call or its task gone
+abbrev pub ends_work : What → Bool
+ends_work (Send x b a) = true
+ends_work (AddfdTake (Ok n)) = true
+ends_work what = is_lost what
+
+-- the session's last step is one of these
+abbrev pub has_ended : List What → Bool
+has_ended [] = false
+has_ended (a ∷ own) = ends_work a
+
+-- a worker lets go only right after such a step, and receives only where it has let go, or has had no session
+abbrev pub EndsForReason : List Event → Event → Type 0
+EndsForReason K e = (w : ℕ) → e.who ≡ Worker w → (is_letgo e.what ≡ true → has_ended (session K w) ≡ true) × (is_receive e.what ≡ true → is_open_session (session K w) ≡ false)
+
+-- ---- Receives
 
 -- the receives that found nothing are at most as many as the calls that left the list unfetched
 abbrev pub left_unfetched : List Event → ℕ
@@ -268,14 +316,23 @@ abbrev pub is_effect : What → Bool
 is_effect (Act q cap a) = true
 is_effect _ = false
 
--- no event but an act adds or changes a device, a mount, or an attribute whose name doesn't begin with user.
+-- the devices, the mounts, and the attributes whose names don't begin with user. stay
 pub record KeepsPrivileged (T U : Tree) : Type 0 where
   pub devices : filter is_device_row U.nodes ≡ filter is_device_row T.nodes
   pub mounts : U.mounts ≡ T.mounts
   pub attributes : filter is_others_row U.attrs ≡ filter is_others_row T.attrs
 
+-- they stay at each event but an act
 abbrev pub ActsAlone : Script → List Event → Event → Type 0
 ActsAlone S K e = is_effect e.what ≡ false → KeepsPrivileged (tree S K) (tree S (e ∷ K))
+
+-- a native call is one that its task owes, and is answered as a call without rights
+abbrev pub RunsNatively : Script → List Event → Event → Type 0
+RunsNatively S K e = (n : Name) (a : Result ℕ ℕ) → e.who ≡ Task n → e.what ≡ Native a → (owes_native K n ≡ true) × (a ≡ native_answer (native_step S K (files S K) n))
+
+-- so a passed call runs without the broker's rights, and only an act does what takes them
+abbrev pub WithoutRights : Script → List Event → Event → Type 0
+WithoutRights S K e = RunsNatively S K e × ActsAlone S K e
 
 -- ---- All of it
 
@@ -291,8 +348,7 @@ pub record Mediated (P : Policy) (S : Script) (K : List Event) : Type 0 where
   pub busy : Each NeverBusy K
   pub errors : Each ErrorsKnown K
   pub installs : Each InstallsOwn K
-  pub installs_alone : Each (InstallsAlone S) K
-  pub fails_alone : Each (FailsAlone S) K
+  pub installs_there : Each (InstallsThere S) K
   pub arrives : Each Arrives K
   -- each effect is what the policy grants on one copy, found valid afterwards
   pub acts : Each (ActIsGranted P S) K
@@ -300,13 +356,14 @@ pub record Mediated (P : Policy) (S : Script) (K : List Event) : Type 0 where
   pub puts : Each (PutIsInjected P S) K
   pub reads : Each ReadsOwn K
   pub times : TimesKept P K
-  -- each worker's session stands in order: openings, a good check, reads, a good check, uses
-  pub ordered : (w : ℕ) → InOrder (session K w)
+  pub spent : Each SpentExactly K
+  pub ordered : Each KeepsOrder K
   -- each answer has its cause
   pub cause : Each (HasCause (rules_of P S.figures)) K
   pub audit : AuditNames P K
-  -- what is lost was gone
+  -- what is lost was gone, and a session ends for its reasons
   pub lost : Each LostIfGone K
+  pub ended : Each EndsForReason K
   pub receives : Each ReceivesFor K
   -- a passed call runs without the broker's rights
-  pub acts_alone : Each (ActsAlone S) K
+  pub unprivileged : Each (WithoutRights S) K

@@ -4,10 +4,12 @@ use Rattle.mediation.proofs.Common.{eq-eqb, ev, Event, event_at, event_at-below,
 use Rattle.mediation.proofs.Common.{inr, is_acting, is_gone, is_good_check, is_letgo, is_worker, IsLegal, judged_as, judging_by, length, LetGo, List, list_any, mem, ne_eqb, not, not-true, Notif}
 use Rattle.mediation.proofs.Common.{notif_of, number_of, Ok, Option, plan, Policy, progress, Read, read_answer, read_answers, reads, reads_of, Recv, refl, request, Result, reverse, reverse-append}
 use Rattle.mediation.proofs.Common.{Rules, rules_of, Script, Send, session, session_call, session_step, skips, Some, starts, sym, System, system_of, true, wanted, What, with_heard, Worker, ℕ, ◌&&◌}
-use Rattle.mediation.proofs.Common.{◌++◌, ◌<◌, ◌^◌, ◌∙◌, ◌∷◌, ◌≡◌, ◌≤◌}
+use Rattle.mediation.proofs.Common.{Finds, None, Progress, ◌++◌, ◌<◌, ◌^◌, ◌∙◌, ◌∷◌, ◌≡◌, ◌≤◌}
 use Rattle.hist_model.proofs.MappedBytes.{bytes_fit}
 use Rattle.hist_model.proofs.Pieces.{piece_wanted, wanted_some}
+use Rattle.hist_model.specs.Copies.{Wants, Faulty}
 use Rattle.hist_model.specs.Decisions.{decide}
+use Rattle.hist_model.specs.declared.report.Finding.TheVariants.{Fault}
 use Rattle.hist_model.specs.ReportAudit.{session_at}
 use Rattle.hist_model.specs.declared.copy.Part.{Part}
 use Rattle.hist_model.specs.declared.policy.Verdict.{Verdict}
@@ -152,6 +154,7 @@ module _ (S : System) (R : Rules) where
     pub receive : event_at H place ≡ Some (ev (Worker w) (Recv (Ok n)))
     pub work : AtWork (session (before H s) w) n
     pub two : number_of is_good_check (session (before H s) w) ≡ 2
+    pub whole : R.next_piece n (reads_of (session (before H s) w)) ≡ None
     pub ends : Ends H w place (Send x b a ∷ session (before H s) w)
 
   sent-now : (K : List Event) (w x : ℕ) (b : Back) (a : Result (Unit {0}) ℕ) → IsLegal S R K → length K < 2 ^ 64 → WorkerRow S R K w (Send x b a) → Sent (ev (Worker w) (Send x b a) ∷ K) (length K) w x b a
@@ -170,6 +173,7 @@ module _ (S : System) (R : Rules) where
         receive = rw event_at-older g.receive;
         work = rw (before-newest e K, v) t.1;
         two = rw (before-newest e K) (used-two R (session K w) t.0 t.1 t.3 (ordered R (session K w) (is-own S R K legal w)));
+        whole = rw (before-newest e K, v) t.3.copied;
         ends = rw (before-newest e K) (answered (rw (at-later e K w g.place l, m, g.same) (extended-open (session K w) (Send x b a) t.0 t.1.notif_is t.1.no_letgo)) own);
       }
 
@@ -183,6 +187,7 @@ module _ (S : System) (R : Rules) where
         receive = rw event_at-older t.receive;
         work = rw q t.work;
         two = rw q t.two;
+        whole = rw q t.whole;
         ends = rw q (ends-later K e w t.place (Send x b a ∷ session (before K s) w) t.n r m t.work.notif_is t.work.no_letgo refl t.ends);
       }
 
@@ -213,20 +218,29 @@ names-rule : (P : Policy) (n : Notif) (x : ℕ) (b : Back) (a : Result (Unit {0}
     → finding (judging_by P.rules) n (Send x b a ∷ own) ≡ finding_of (judged_as (decide P.rules (request n.call.nr n.call.args texts))) (list_any is_spent own)
 names-rule P n x b a own texts g two c v = grind (arith, reads-are, twice-valid, append-nil, none-gone)
 
+-- and where the copy has a fault, it finds this
+names-fault : (P : Policy) (n : Notif) (x e : ℕ) (b : Back) (a : Result (Unit {0}) ℕ) (own : List What) → any_of gives_up own ≡ false → number_of is_good_check own ≡ 2
+    → copied n (reads_of own) ≡ Faulty e → heard (plan n.call.nr n.call.args) [] (reads own) ≡ reads own → finding (judging_by P.rules) n (Send x b a ∷ own) ≡ Fault
+names-fault P n x e b a own g two c v = grind (arith, reads-are, twice-valid, append-nil, none-gone)
+
+-- that it lets go then changes nothing
+ends-same : (S : System) (R : Rules) (P : Policy) (H : List Event) (w r x : ℕ) (b : Back) (a : Result (Unit {0}) ℕ) (n : Notif) (own : List What) → Ends S R H w r (Send x b a ∷ own)
+    → finding (judging_by P.rules) n (session_at w r H) ≡ finding (judging_by P.rules) n (Send x b a ∷ own)
+ends-same S R P H w r x b a n own (answered k j) = rw k
+ends-same S R P H w r x b a n own (over k) = rw (k, append-nil (reads (Send x b a ∷ own)))
+
 -- a decision that acts is a grant
 acting-grants : (P : Policy) (F : Figures) (q : Request) (i : ℕ) (v : Verdict) → is_acting (decision P F q i v) ≡ true → v ≡ Grant
 acting-grants P F q i v h = grind arith
 
 pub audit-names : (P : Policy) (F : Figures) (T : Script) (H : List Event) → IsLegal (system_of T) (rules_of P F) H → length H < 2 ^ 64 → AuditNames P H
-audit-names P F T H legal room s w x b a n texts h m c =
-    let t = sent-by S (rules_of P F) H legal room s w x b a h in
+audit-names P F T H legal room s w x b a n h m =
+    let t = sent-by S Q H legal room s w x b a h in
     let q : t.n ≡ n = cc (t.work.notif_is, m) in
     let l = event_at-below H t.place _ t.receive in
     let z : length (before H t.place) ≡ t.place = (length-before H t.place).1 (omega arith) in
-    let i = legal_before S Q H s legal in
-    let v = all-heard P F (session (before H s) w) (is-own S Q (before H s) i w) n m (fit-reads P F T (before H s) i w) in
-    let r = names-rule P n x b a (session (before H s) w) texts t.work.no_end t.two c v in
-    (t.place, rw q at t.receive, go (length (before H t.place)) z r t.ends, λ e. grants (session (before H s) w) (is-own S Q (before H s) i w) m c e)
+    let e = ends-same S Q P H w t.place x b a n own t.ends in
+    (t.place, rw q at t.receive, rw (z, e) (finds (copied n (reads_of own)) refl t.work.no_end t.two (rw q at t.whole)))
   where
     S : System
     S = system_of T
@@ -234,15 +248,19 @@ audit-names P F T H legal room s w x b a n texts h m c =
     Q : Rules
     Q = rules_of P F
 
-    grants : (own : List What) → IsOwn Q own → notif_of own ≡ Some n → copied n (reads_of own) ≡ Complete texts → list_any is_spent own ≡ true
-        → (decide P.rules (request n.call.nr n.call.args texts)).1 ≡ Grant
-    grants own i h k e =
-        let f = spent-fixed Q own i n h e in
+    own : List What
+    own = session (before H s) w
+
+    all-read : heard (plan n.call.nr n.call.args) [] (reads own) ≡ reads own
+    all-read = let i = legal_before S Q H s legal in all-heard P F own (is-own S Q (before H s) i w) n m (fit-reads P F T (before H s) i w)
+
+    grants : (texts : List (List ℕ)) → copied n (reads_of own) ≡ Complete texts → list_any is_spent own ≡ true → (decide P.rules (request n.call.nr n.call.args texts)).1 ≡ Grant
+    grants texts k e =
+        let f = spent-fixed Q own (is-own S Q (before H s) (legal_before S Q H s legal) w) n m e in
         acting-grants P F (request n.call.nr n.call.args texts) _ _ (rw k at f.decided)
 
-    go : {r : ℕ} (p : ℕ) → p ≡ r
-        → finding (judging_by P.rules) n (Send x b a ∷ session (before H s) w) ≡ finding_of (judged_as (decide P.rules (request n.call.nr n.call.args texts))) (list_any is_spent (session (before H s) w))
-        → Ends S (rules_of P F) H w r (Send x b a ∷ session (before H s) w)
-        → finding (judging_by P.rules) n (session_at w p H) ≡ finding_of (judged_as (decide P.rules (request n.call.nr n.call.args texts))) (list_any is_spent (session (before H s) w))
-    go p q r (answered k j) = rw (q, k) r
-    go p q r (over k) = rw (q, k, append-nil (reads (Send x b a ∷ session (before H s) w))) r
+    finds : (p : Progress) → copied n (reads_of own) ≡ p → any_of gives_up own ≡ false → number_of is_good_check own ≡ 2 → wanted (copied n (reads_of own)) ≡ None
+        → Finds P own n (finding (judging_by P.rules) n (Send x b a ∷ own)) p
+    finds (Wants y k) c g two v = absurd (cc (rw c at v))
+    finds (Complete texts) c g two v = (names-rule P n x b a own texts g two c all-read, grants texts c)
+    finds (Faulty e) c g two v = names-fault P n x e b a own g two c all-read

@@ -18,18 +18,19 @@ unfoldable pub use Rattle.hist_model.specs.Files.{files}
 pub use Rattle.hist_model.specs.Files.{after_native, files_after}
 unfoldable pub use Rattle.hist_model.specs.Laws.{answers_to, count_below, empty_recvs, fetcher, last_own}
 pub use Rattle.hist_model.specs.Laws.{AnsweredOnce, CallsAreLast, CountIs, IdsDiffer, is_passive, PidsDiffer, worker_of}
-pub use Rattle.hist_model.specs.Legal.{copied, decision, Finished, is_open_session, judged, played, read_answers, rules_of, started, system_of, with_step}
+pub use Rattle.hist_model.specs.Legal.{copied, decision, Finished, is_open_session, judged, outcome, played, read_answers, rules_of, started, system_of, with_step}
 unfoldable pub use Rattle.hist_model.specs.Look.{before, event_at, newest, oldest}
 pub use Rattle.hist_model.specs.Look.{ev, is_place, is_task, is_worker, Name, name_eq, task_name}
-pub use Rattle.hist_model.specs.Mediated.{ActIsGranted, ActsAlone, Arrives, AuditNames, BaseIs, Each, ends_with_check, ErrorsKnown, FailsAlone, HasCause, HasMemory, InstallsAlone, is_accepted}
-pub use Rattle.hist_model.specs.Mediated.{is_busy, is_effect, is_known_error, is_lost, is_others_row, is_until_checked, IsMediated, KeepsPrivileged, left_unfetched, LostIfGone, Mediated, NamesOwn}
-pub use Rattle.hist_model.specs.Mediated.{NeverBusy, OneSession, PlantIsGranted, PutIsInjected, ReadsOwn, ReceivesFor, returns, TakenByItsActor, takes, TimesKept, WaitedUntilChecked}
+pub use Rattle.hist_model.specs.Mediated.{ActIsGranted, ActsAlone, Arrives, AuditNames, BaseIs, Each, ends_with_check, ends_work, EndsForReason, ErrorsKnown, Finds, has_ended, HasCause, HasMemory, InstallsThere, is_accepted}
+pub use Rattle.hist_model.specs.Mediated.{is_busy, is_effect, is_known_error, is_lost, is_others_row, is_until_checked, IsCaused, IsMediated, KeepsOrder, KeepsPrivileged, left_unfetched, LostIfGone, Mediated, NamesOwn}
+pub use Rattle.hist_model.specs.Mediated.{NeverBusy, OneSession, PlantIsGranted, PutIsInjected, ReadsOwn, ReceivesFor, returns, RunsNatively, slot_next, SpentExactly, TakenByItsActor, takes, TimesKept, WaitedUntilChecked}
+pub use Rattle.hist_model.specs.Mediated.{WithoutRights}
 pub use Rattle.hist_model.specs.Natives.{base_of, call_natively, changed, Changes, close_natively, copied_natively, Fails, Files, Gives, has_base, native_step, NativeStep, Writes}
 pub use Rattle.hist_model.specs.Orders.{InOrder, is_good_check, is_opening}
 pub use Rattle.hist_model.specs.ReportAudit.{checked_twice, finding, finding_of, is_gone, judged_as, judging_by, reads, session_step}
 unfoldable pub use Rattle.hist_model.specs.Requests.{base_dirfd, request}
 unfoldable pub use Rattle.hist_model.specs.Sessions.{deed, session}
-pub use Rattle.hist_model.specs.Sessions.{Acts, addfd_of, any_of, based_deed, checked_deed, checks, Decision, fetched_by, first_some, gives_up, Injects, is_letgo, joined, judged_deed, notif_of}
+pub use Rattle.hist_model.specs.Sessions.{Acts, addfd_of, Answer, any_of, based_deed, checked_deed, checks, Decision, fetched_by, first_some, gives_up, Injects, is_letgo, joined, judged_deed, notif_of}
 pub use Rattle.hist_model.specs.Sessions.{number_of, open_deed, opens, opens_base, outcome_in, Plants, put_in, reads_of, Rules, skips, starts, take_in}
 unfoldable pub use Rattle.hist_model.specs.Signals.{call_of, next_signal}
 unfoldable pub use Rattle.hist_model.specs.Steps.{base, call_at, group, install_of, mem, oldest_unfetched, owes_native, reply, request_of, session_call, step, steps_of, task_place, task_step}
@@ -53,5 +54,5 @@ pub use Rattle.hist_model.specs.declared.script.Figures.{Figures}
 pub use Rattle.hist_model.specs.declared.script.Script.{Script}
 pub use Rattle.hist_model.proofs.Look.{below_or_last, event_at-above, event_at-below, event_at-here, event_at-older, name_eq-refl, name_eq-true, newest-found, newest-some, oldest-found, oldest-same}
 pub use Rattle.hist_model.proofs.Look.{oldest-some, oldest-stays}
-pub use Rattle.mediation.specs.Facts.{CallIdsDiffer, changes_answered, changes_list, changes_tasks, Frame, NamesDiffer, SessionsSettle, StaysFinished}
+pub use Rattle.mediation.specs.Facts.{CallIdsDiffer, changes_answered, changes_list, changes_tasks, FailsAlone, Frame, InstallsAlone, NamesDiffer, SessionsSettle, StaysFinished}
 pub use Rattle.mediation.specs.Journals.{actors, AreNamed, FixedByJournal, IsLegalByPlace, IsNamed, IsWritten, SharesJournal}

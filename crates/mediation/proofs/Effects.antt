@@ -6,7 +6,7 @@ use Rattle.mediation.proofs.Common.{inl, inr, is_effect, is_good_check, is_other
 use Rattle.mediation.proofs.Common.{listed, Name, name_eq-true, nat_eq, nat_le, native_step, NativeStep, None, Notif, number_entered, number_of, Ok, oldest_unfetched, Option, or_parts, pid_named}
 use Rattle.mediation.proofs.Common.{place_or, plan, Plant, PlantIsGranted, Plants, Policy, Progress, put_in, PutIsInjected, Read, reads_of, ReadsOwn, Recv, refl, Result, Rules, rules_of, Script}
 use Rattle.mediation.proofs.Common.{session, session_call, Some, spends, starts_with, suc, sym, System, system_of, task_name, times_spent, TimesKept, true, WaitedUntilChecked, waiting, What, Worker}
-use Rattle.mediation.proofs.Common.{Writes, ℕ, ◌%◌, ◌<◌, ◌==◌, ◌^◌, ◌∙◌, ◌∷◌, ◌≡◌, ◌≤◌, ◌⊎◌}
+use Rattle.mediation.proofs.Common.{Writes, call_of, caller, FailsAlone, Install, install_step, InstallsAlone, InstallsThere, Native, queue, slot_answer, slot_next, Task, WithoutRights, ℕ, ◌%◌, ◌<◌, ◌==◌, ◌^◌, ◌∙◌, ◌∷◌, ◌≡◌, ◌≤◌, ◌⊎◌}
 use Rattle.hist_model.specs.Decisions.{cap_of}
 use Rattle.hist_model.specs.Effects.{attributed}
 use Rattle.hist_model.specs.Memory.{all_mapped, argument, group_named, is_number, last_call, mapped_byte, own_group, sysinfo_size}
@@ -15,8 +15,8 @@ use Rattle.hist_model.specs.Trees.{attr_replaced, is_attr, Tree, with_attr}
 use Rattle.hist_model.specs.declared.policy.Cap.{Cap}
 use Rattle.hist_model.specs.declared.request.Obj.{Obj}
 use Rattle.hist_model.specs.declared.tree.AttrRow.{AttrRow}
-use Rattle.mediation.proofs.Rows.{AtWork, HasOpened, HasCopied, WorkerRow, Row, row-of, by-steps, each}
-use Rattle.mediation.proofs.Tasks.{listed-older, listed-was}
+use Rattle.mediation.proofs.Rows.{AtWork, HasOpened, HasCopied, TaskRow, WorkerRow, Row, row-of, by-steps, each}
+use Rattle.mediation.proofs.Tasks.{listed-older, listed-was, waits-in-call}
 use Rattle.mediation.proofs.Calls.{is_call-below, fetching, before-all, before-older, length-before, legal_before, fetched-before}
 use Rattle.mediation.proofs.Hands.{worker-row, moved, session-grows, InSession, works, at-work, works-keep, in-hand, hand, in-hand-of, FetchKept, WorkKept, StillKept, by-session}
 use Rattle.mediation.proofs.Order.{is-own, put-fixed, goods, used-two, ordered}
@@ -256,6 +256,31 @@ after-keeps S K F a what h =
     let n = native-keeps F (own_group K a) (native_step S K F (task_name a)) c in
     grind arith
 
-pub acts-alone : (S : Script) (K : List Event) (e : Event) → ActsAlone S K e
+acts-alone : (S : Script) (K : List Event) (e : Event) → ActsAlone S K e
 unfolding files
 acts-alone S K e h = after-keeps S K (files S K) e.who e.what h
+
+pub runs-without-rights : (P : Policy) (S : Script) (K : List Event) → IsLegal (system_of S) (rules_of P S.figures) K → length K < 2 ^ 64 → Each (WithoutRights S) K
+runs-without-rights P S = each (system_of S) (rules_of P S.figures) (WithoutRights S) (λ K e legal room row.
+    (λ n a who what. let r : TaskRow (system_of S) K n (Native a) = rw (who, what) at row in (r.2, r.3), acts-alone S K e))
+
+-- ---- an installation goes where its request goes in the table before, and changes that slot alone
+
+pub installs-there : (P : Policy) (S : Script) (K : List Event) → IsLegal (system_of S) (rules_of P S.figures) K → length K < 2 ^ 64 → Each (InstallsThere S) K
+installs-there P S = each (system_of S) (rules_of P S.figures) (InstallsThere S) (λ K e legal room row x what. there K e.who x (rw what at row))
+  where
+    first-slot : (K : List Event) (n : Name) (c : ℕ) (x : Result ℕ ℕ) (rs : List ℕ) → caller K c ≡ n → call_of K n ≡ Some c → queue K c ≡ rs
+        → Install x ≡ install_step (system_of S) K c rs → x ≡ slot_answer (slot_next S K (Task n))
+    first-slot K n c x rs m q z h = grind arith
+
+    there : (K : List Event) (a : Actor) (x : Result ℕ ℕ) → Row (system_of S) (rules_of P S.figures) K a (Install x) → x ≡ slot_answer (slot_next S K a)
+    there K (Task n) x row = let c = row.1.0 in first-slot K n c x (queue K c) (waits-in-call K n c row.1.1).1 row.1.1 refl row.1.3
+    there K a x row = absurd (grind arith)
+
+pub installs_alone : (S : Script) (K : List Event) (e : Event) → InstallsAlone S K e
+unfolding files
+installs_alone S K e m what f j = rw what
+
+pub fails_alone : (S : Script) (K : List Event) (e : Event) → FailsAlone S K e
+unfolding files
+fails_alone S K e x what f j = rw what

@@ -7,6 +7,8 @@ pub mod Order
 pub mod Handles
 pub mod Phases
 pub mod Replies
+pub mod Causes
+pub mod Spent
 pub mod Effects
 pub mod Audited
 pub mod Mediation

@@ -1,10 +1,11 @@
 -- Every legal history is mediated.
-use Rattle.mediation.proofs.Common.{ActsAlone, Event, FailsAlone, files, InstallsAlone, IsLegal, length, List, Mediated, Policy, rules_of, Script, system_of, ◌<◌, ◌^◌}
-use Rattle.mediation.proofs.Rows.{each}
+use Rattle.mediation.proofs.Common.{Event, IsLegal, length, List, Mediated, Policy, rules_of, Script, system_of, ◌<◌, ◌^◌}
 use Rattle.mediation.proofs.Calls.{answered_once, receives-are-for}
-use Rattle.mediation.proofs.Order.{in_order}
-use Rattle.mediation.proofs.Replies.{installs_own, resumes_own, returns_installed, taken_by_its_actor, names_own, lost_if_gone, has_cause, errors_known, never_busy, arrives, one_session}
-use Rattle.mediation.proofs.Effects.{times-kept, acts-are-granted, plants-are-granted, puts-are-injected, reads-are-own, acts-alone}
+use Rattle.mediation.proofs.Order.{keeps_order}
+use Rattle.mediation.proofs.Replies.{installs_own, resumes_own, returns_installed, taken_by_its_actor, names_own, lost_if_gone, errors_known, never_busy, arrives, one_session}
+use Rattle.mediation.proofs.Causes.{has_cause, ends_for_reason}
+use Rattle.mediation.proofs.Spent.{spent-exactly}
+use Rattle.mediation.proofs.Effects.{times-kept, acts-are-granted, plants-are-granted, puts-are-injected, reads-are-own, runs-without-rights, installs-there}
 use Rattle.mediation.proofs.Audited.{audit-names}
 
 pub mediated : (P : Policy) (S : Script) (K : List Event) → IsLegal (system_of S) (rules_of P S.figures) K → length K < 2 ^ 64 → Mediated P S K
@@ -21,18 +22,19 @@ mediated P S K legal room =
       busy = never_busy T R K legal room;
       errors = errors_known T R K legal room;
       installs = installs_own T R K legal room;
-      installs_alone = each T R (InstallsAlone S) (λ K e l r row n m who what f j. unfold files in rw (who, what)) K legal room;
-      fails_alone = each T R (FailsAlone S) (λ K e l r row x what f j. unfold files in rw what) K legal room;
+      installs_there = installs-there P S K legal room;
       arrives = arrives T R K legal room;
       acts = acts-are-granted P S K legal room;
       plants = plants-are-granted P S K legal room;
       puts = puts-are-injected P S K legal room;
       reads = reads-are-own T R K legal room;
       times = times-kept P S K legal;
-      ordered = in_order T R K legal;
+      spent = spent-exactly P S K legal room;
+      ordered = keeps_order T R K legal;
       cause = has_cause T R K legal room;
       audit = audit-names P S.figures S K legal room;
       lost = lost_if_gone T R K legal room;
+      ended = ends_for_reason T R K legal room;
       receives = receives-are-for T R K legal room;
-      acts_alone = each T R (ActsAlone S) (λ K e l r row. acts-alone S K e) K legal room;
+      unprivileged = runs-without-rights P S K legal room;
     }

@@ -1,6 +1,6 @@
 -- The steps of a session stand in order, and what it decided stays.
-use Rattle.mediation.proofs.Common.{[], and_parts, any_of, arith, Bool, cases_Bool, checks, Decision, Event, false, first_some, gives_up, Injects, inl, InOrder, inr, is_acting}
-use Rattle.mediation.proofs.Common.{is_good_check, is_worker, IsLegal, joined, List, list_any, nat_le, None, not, not-true, Notif, notif_of, number_of, Ok, opens, opens_base, Option, put_in}
+use Rattle.mediation.proofs.Common.{[], and_parts, any_of, arith, Bool, cases_Bool, checks, Decision, Each, Event, false, first_some, gives_up, Injects, inl, InOrder, inr, is_acting}
+use Rattle.mediation.proofs.Common.{is_good_check, is_letgo, is_worker, IsLegal, joined, KeepsOrder, List, list_any, nat_le, None, not, not-true, Notif, notif_of, number_of, Ok, opens, opens_base, Option, put_in}
 use Rattle.mediation.proofs.Common.{reads_of, refl, Result, Rules, session, skips, Some, starts, System, take_in, true, What, ℕ, ◌&&◌, ◌<◌, ◌∷◌, ◌≡◌, ◌≤◌, ◌⊎◌}
 use Rattle.mediation.proofs.Rows.{AtWork, HasCopied, Told, WorkerRow, by-steps}
 use Rattle.mediation.proofs.Hands.{worker-row}
@@ -105,5 +105,26 @@ ordered R = by-own R (Checked R) (record { most = omega arith; complete = λ n h
   order = (λ h. grind (arith, goods), λ h. grind (arith, goods, any-number), λ h. grind (arith, used-two), ih.order);
 })
 
+-- a session that gave up, and has not let go, did so with its last step
+pub gave-up-last : (R : Rules) (own : List What) (n : Notif) → IsOwn R own → notif_of own ≡ Some n → any_of is_letgo own ≡ false → any_of gives_up own ≡ true
+    → (a : What) × (rest : List What) × (own ≡ a ∷ rest) × (gives_up a ≡ true)
+gave-up-last R [] n i h l g = cc
+gave-up-last R (a ∷ own) n i h l g = (a, own, refl, last a i.0 h l g)
+  where
+    last : (a : What) → Follows R own a → notif_of (a ∷ own) ≡ Some n → any_of is_letgo (a ∷ own) ≡ false → any_of gives_up (a ∷ own) ≡ true → gives_up a ≡ true
+    last a s h l g = grind arith
+
+-- a session that has a step has a notification
+pub begun : (S : System) (R : Rules) (K : List Event) → IsLegal S R K → (w : ℕ) → notif_of (session K w) ≡ None → session K w ≡ []
+begun S R = by-joins S R (λ own. notif_of own ≡ None → own ≡ []) (λ h. refl) (λ K w what r k ih h. more (session K w) what ih h)
+  where
+    more : (own : List What) (what : What) → (notif_of own ≡ None → own ≡ []) → notif_of (joined what own) ≡ None → joined what own ≡ []
+    more own what ih h = grind arith
+
 pub in_order : (S : System) (R : Rules) (K : List Event) → IsLegal S R K → (w : ℕ) → InOrder (session K w)
 in_order S R K legal w = (ordered R (session K w) (is-own S R K legal w)).order
+
+-- at each step too
+pub keeps_order : (S : System) (R : Rules) (K : List Event) → IsLegal S R K → Each KeepsOrder K
+keeps_order S R [] legal = tt
+keeps_order S R (e ∷ K) legal = (λ w who. in_order S R (e ∷ K) legal w, keeps_order S R K legal.1)

@@ -1,7 +1,7 @@
 -- Answers, installations and returns: whose they are, what causes them, and that they arrive.
 use Rattle.mediation.proofs.Common.{[], Actor, and_parts, answers, ap, arith, Arrives, Back, back_of, Bool, both_ways, call_at, caller, cases_Bool, cases_order, closes, Each, eq-eqb, Err}
 use Rattle.mediation.proofs.Common.{ErrorsKnown, ev, Event, event_at-below, event_at-here, event_at-older, false, false_from_ne_true, fetched, fetcher, fetches, first_sends, gave, has_send}
-use Rattle.mediation.proofs.Common.{HasCause, id, if◌then◌else◌, inl, inr, Install, install_of, installed, installs_for, is_accepted, is_busy, is_first, is_known_error, is_lost, is_send, is_task}
+use Rattle.mediation.proofs.Common.{id, if◌then◌else◌, inl, inr, Install, install_of, installed, installs_for, is_accepted, is_busy, is_first, is_known_error, is_lost, is_send, is_task}
 use Rattle.mediation.proofs.Common.{IsLegal, leaves, length, List, listed, LostIfGone, named, NamesOwn, NeverBusy, None, Notif, notif_of, Ok, OneSession, or_cases, or_left, or_right, pos, puts_to}
 use Rattle.mediation.proofs.Common.{queue, refl, reply, Resume, returns, Rules, Send, session, session_call, settled, settles, Some, subst, sym, System, TakenByItsActor, takes, true, What}
 use Rattle.mediation.proofs.Common.{Worker, worker_of, ℕ, ◌&&◌, ◌++◌, ◌<◌, ◌==◌, ◌^◌, ◌||◌, ◌∙◌, ◌∷◌, ◌≡◌, ◌≤◌, ◌⊎◌}
@@ -12,7 +12,6 @@ use Rattle.mediation.proofs.Rows.{WorkerRow, TaskRow, Row, by-steps, by-few-step
 use Rattle.mediation.proofs.Tasks.{same-name, listed-below, listed-older, waits-in-call, waits-here}
 use Rattle.mediation.proofs.Calls.{settles-once, once-more, before-older, before-newest}
 use Rattle.mediation.proofs.Hands.{InSession, works, at-work, in-hand, hand, named-own}
-use Rattle.mediation.proofs.Order.{is-own, used-two, ordered}
 use Rattle.mediation.proofs.Phases.{install-first, installing, call-at-older, call-at-above, call-at-here, install-above, fetcher-fetched, refetch, fetcher-stays, hand-fetcher, actor-acts, fine}
 use Rattle.mediation.proofs.Phases.{at-call}
 
@@ -196,13 +195,6 @@ module _ (S : System) (R : Rules) where
       let j = in-hand K w (session_call K w) g.0 g.1 (hand S R K legal w) in
       (j.0, j.1, false_from_ne_true (listed K j.0) (λ l. both_ways (is_lost e.what) (fine S R K e.who w j.0 legal room l j.2 (at-call S R K legal room w j.0 j.1 l) e.what r v).0 z)))
 
-  pub has_cause : (K : List Event) → IsLegal S R K → length K < 2 ^ 64 → Each (HasCause R) K
-  has_cause = each S R (HasCause R) (λ K e legal room row w x b y who what.
-      let r : WorkerRow S R K w (Send x b y) = rw (who, what) at row in
-      let t = r.0 in
-      let j = in-hand K w (session_call K w) t.0 t.1 (hand S R K legal w) in
-      (j.0, t.0, j.1, t.1.notif_is, sym j.3 ∙ j.2.whole_is, t.4, used-two R (session K w) t.0 t.1 t.3 (ordered R (session K w) (is-own S R K legal w)), t.5))
-
   install-known : (K : List Event) → IsLegal S R K → (p x : ℕ) → install_of K p ≡ Some (Err x) → ((x == 9) || ((x == 24) || (x == 2))) ≡ true
   unfolding install_of
   install-known = by-steps S R (λ K. (p x : ℕ) → install_of K p ≡ Some (Err x) → ((x == 9) || ((x == 24) || (x == 2))) ≡ true) (λ p x h. cc) (λ K e legal row ih p x h. let y = ih p x in grind arith)
@@ -212,7 +204,7 @@ module _ (S : System) (R : Rules) where
   gone-known K w c what legal r i q = let k = install-known K legal in grind arith
 
   -- no error of a worker's step is unknown
-  error-known : (K : List Event) (a : Actor) (what : What) → IsLegal S R K → length K < 2 ^ 64 → Row S R K a what → is_known_error what ≡ true
+  pub error-known : (K : List Event) (a : Actor) (what : What) → IsLegal S R K → length K < 2 ^ 64 → Row S R K a what → is_known_error what ≡ true
   error-known K (Worker w) what legal room row = elim (cases_Bool (works what)) [
     | inl v ↦
         let g = at-work S R K w what row v in

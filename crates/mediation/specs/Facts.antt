@@ -1,6 +1,11 @@
 -- Facts of legal histories, beside those that mediation asks for, and which kinds of event can change which definitions.
-use Rattle.std.specs.Prelude.{◌≡◌, ◌<◌, ◌⊎◌, ℕ, true, false, List, [], ◌∷◌, ◌++◌, length, Some, None, Bool}
-use Rattle.hist_model.specs.Look.{event_at, Name, is_worker}
+use Rattle.std.specs.Prelude.{◌≡◌, ◌<◌, ◌⊎◌, ◌&&◌, ◌==◌, if◌then◌else◌, ℕ, true, false, List, [], ◌∷◌, ◌++◌, length, Some, None, Ok, Err, Bool}
+use Rattle.hist_model.specs.Look.{event_at, Name, is_worker, task_name}
+use Rattle.hist_model.specs.Memory.{own_group}
+use Rattle.hist_model.specs.Files.{files, request_for}
+use Rattle.hist_model.specs.Signals.{call_of}
+use Rattle.hist_model.specs.declared.request.Obj.TheVariants.{Broker}
+use Rattle.hist_model.specs.declared.script.Script.{Script}
 use Rattle.hist_model.specs.Tasks.{name_of, ended, reaped, holder, next_pid}
 use Rattle.hist_model.specs.Calls.{is_call, id, caller, listed, settled, waiting, closes, named, fetched, answered, count}
 use Rattle.hist_model.specs.Sessions.{Rules, session, any_of, gives_up, first_some, put_in}
@@ -43,6 +48,17 @@ pub record SessionSettles (K : List Event) (w c : ℕ) : Type 0 where
 
 abbrev pub SessionsSettle : List Event → Type 0
 SessionsSettle K = (w c : ℕ) → listed K c ≡ true → fetcher K c ≡ Some w → SessionSettles K w c
+
+-- ---- what an installation changes, in any list of events
+
+-- one that gave a number puts its request's file there, and leaves every other slot of every group as it was
+abbrev pub InstallsAlone : Script → List Event → Event → Type 0
+InstallsAlone S K e = (m : ℕ) → e.what ≡ Install (Ok m) → (f j : ℕ)
+    → (files S (e ∷ K)).slot f j ≡ (if (f == own_group K e.who) && (j == m) then Some (Broker (request_for K (call_of K (task_name e.who))).srcfd) else (files S K).slot f j)
+
+-- one that failed leaves every slot as it was
+abbrev pub FailsAlone : Script → List Event → Event → Type 0
+FailsAlone S K e = (x : ℕ) → e.what ≡ Install (Err x) → (f j : ℕ) → (files S (e ∷ K)).slot f j ≡ (files S K).slot f j
 
 -- ---- which kinds of event can change which definitions
 

@@ -13,9 +13,9 @@ ghost use Rattle.hist_model.specs.Orders.{InOrder};
 ghost use Rattle.hist_model.specs.Legal.{Legal, played};
 ghost use Rattle.hist_model.specs.declared.policy.Policy.{Policy};
 ghost use Rattle.hist_model.specs.declared.script.Script.{Script};
-ghost use Rattle.hist_model.specs.Mediated.{Mediated, Each, TakenByItsActor, NamesOwn, NeverBusy, ErrorsKnown, LostIfGone, HasCause};
+ghost use Rattle.hist_model.specs.Mediated.{Mediated, Each, TakenByItsActor, NamesOwn, NeverBusy, ErrorsKnown, LostIfGone, HasCause, KeepsOrder, EndsForReason};
 ghost use Rattle.mediation.specs.Journals.{actors, IsLegalByPlace, FixedByJournal, SharesJournal};
-ghost use Rattle.mediation.specs.Facts.{CallIdsDiffer, NamesDiffer, HandlesOwn, SessionsSettle, StaysFinished, Frame};
+ghost use Rattle.mediation.specs.Facts.{CallIdsDiffer, NamesDiffer, HandlesOwn, SessionsSettle, StaysFinished, InstallsAlone, FailsAlone, Frame};
 ghost use Rattle.mediation.specs.Scheduled.{AllScheduled};
 
 /// Every legal history is mediated: each notification is answered at most once; each reply or descriptor reaches the
@@ -106,14 +106,31 @@ pub fn never_busy()
     ensures { (S : System) (R : Rules) (K : List Event) → IsLegal S R K → length K < 2 ^ 64 → Each NeverBusy K }
 {}
 
-/// Each session's steps stand in order: openings, a good check, reads, a good check, uses.
-#[tactic(auto, using(crate::proofs::Order::in_order))]
+/// Each session's steps stand in order: openings, a good check, reads, a good check, uses. This holds at the end, and at
+/// each step of a worker, so of each session and not of each worker's last one alone.
+#[tactic(auto, using(crate::proofs::Order::in_order, crate::proofs::Order::keeps_order))]
 pub fn ordered()
-    ensures { (S : System) (R : Rules) (K : List Event) → IsLegal S R K → (w : ℕ) → InOrder (session K w) }
+    ensures last { (S : System) (R : Rules) (K : List Event) → IsLegal S R K → (w : ℕ) → InOrder (session K w) }
+    ensures each { (S : System) (R : Rules) (K : List Event) → IsLegal S R K → Each KeepsOrder K }
 {}
 
-/// Each answer stands after two good checks, and has its cause in the session's copy and the policy.
-#[tactic(auto, using(crate::proofs::Replies::has_cause))]
+/// A worker lets go only right after it answered, took the number that its request got, or found the call or its task gone;
+/// and it receives only where it has let go, or has had no session.
+#[tactic(auto, using(crate::proofs::Causes::ends_for_reason))]
+pub fn ends_for_reason()
+    ensures { (S : System) (R : Rules) (K : List Event) → IsLegal S R K → length K < 2 ^ 64 → Each EndsForReason K }
+{}
+
+/// An installation that gave a number changes the slot of this number in its task's group alone, and one that failed changes
+/// none. This follows from what the tables are, for any list of events.
+#[tactic(auto, using(crate::proofs::Effects::installs_alone, crate::proofs::Effects::fails_alone))]
+pub fn installs_alone()
+    ensures gave { (S : Script) (K : List Event) (e : Event) → InstallsAlone S K e }
+    ensures failed { (S : Script) (K : List Event) (e : Event) → FailsAlone S K e }
+{}
+
+/// Each answer stands after two good checks and a whole copy, and has its cause in the copy and the policy.
+#[tactic(auto, using(crate::proofs::Causes::has_cause))]
 pub fn has_cause()
     ensures { (S : System) (R : Rules) (K : List Event) → IsLegal S R K → length K < 2 ^ 64 → Each (HasCause R) K }
 {}
