@@ -1,7 +1,7 @@
 //! The top call of the program: from words and two files to a report, an exit status and a line on standard error.
 //!
-//! `broker::broker` reads the words (`words`), the policy and the script (`inputs`), plays, and writes the report to its
-//! output, one write a line. `status` has the exit statuses and their lines.
+//! `broker::broker` reads the words (`words`), the policy (`policies`) and the script (`scripts`), plays, and writes the
+//! report to its output, one write a line. `status` has the exit statuses and their lines.
 //!
 //! It works over the traits of `io_edge`, so its contract tells for any files and outputs what each answer means: with
 //! status 0 the output took the report of the history that the policy and the script play, and that history is mediated;
