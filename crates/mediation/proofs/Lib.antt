@@ -15,3 +15,4 @@ pub mod Mediation
 pub mod Framed
 pub mod Journals
 pub mod Played
+pub mod Unmediated

@@ -1,4 +1,5 @@
 pub mod Journals
 pub mod Facts
 pub mod Refused
+pub mod Unmediated
 pub mod Scheduled
