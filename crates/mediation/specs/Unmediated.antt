@@ -1,5 +1,5 @@
--- Small histories of one policy and one script that are not mediated: each breaks one clause, and as few others as can be. They differ from the history that
--- the script's schedule plays in one step, or in few, and the same worker goes on behind them where a wrong broker could hide its step so.
+-- Small histories of one policy and one script that are not mediated: each breaks a clause, and is chosen to break few others. They differ from the history that
+-- the script's schedule plays in a step or a few, and the same worker goes on behind them where a wrong broker could hide its step so.
 use Rattle.std.specs.Prelude.{◌≡◌, ℕ, ℤ, false, true, List, [], ◌∷◌, ◌++◌, Some, None, Ok, Err, pos, negsuc, codes}
 use Rattle.hist_model.specs.Look.{ev}
 use Rattle.hist_model.specs.Filters.{notify_filter}
