@@ -36,7 +36,7 @@ module _ (path : List ℕ) (dev a b c : ℕ) (x : a ≤ 99) (y : b ≤ 99) (z : 
   making_is_mediated P =
       let S = script_making path dev (three_turns a b c) in
       let short : length (played P S) < 2 ^ 64 = omega (arith, length_is P S refl) in
-      mediated P S (played P S) (played_is_legal P S (tt, (omega arith, (tt, tt)))) short
+      mediated P S (played P S) (played_is_legal P S (refl, (omega arith, (refl, tt)))) short
 
   making_is_playable : IsPlayable (script_making path dev (three_turns a b c))
   making_is_playable = record { pids = omega arith; first = omega arith; schedule = (tt, (omega arith, (tt, tt))) }

@@ -117,9 +117,9 @@ rules_of P F = record {
   decide = λ n reads. judged P F n (copied n reads);
 }
 
--- each event is the step of its actor after those before it, and nothing follows the close of the listener
+-- the history has its first event, which is the script's start; each later event is the step of its actor after those before it, and nothing follows the close of the listener
 abbrev pub Legal : Policy → Script → List Event → Type 0
-Legal P S K = IsLegal (system_of S) (rules_of P S.figures) K × (length K < 2 ^ 64)
+Legal P S K = IsLegal (system_of S) (rules_of P S.figures) K × (length K < 2 ^ 64) × (0 < length K)
 
 -- a history with one more step of an actor
 abbrev pub with_step : Policy → Script → Actor → List Event → List Event
@@ -148,8 +148,9 @@ abbrev pub is_open_session : List What → Bool
 is_open_session [] = false
 is_open_session (a ∷ own) = not (any_of is_letgo (a ∷ own))
 
--- every task has ended, no call is listed, and each worker has let go
+-- the history has its first event, every task has ended, no call is listed, and each worker has let go
 pub record Finished (K : List Event) : Type 0 where
+  pub begun : 0 < length K
   pub tasks : (n : Name) → is_made K n ≡ true → ended K n ≡ true
   pub calls : (c : ℕ) → listed K c ≡ false
   pub sessions : (w : ℕ) → is_open_session (session K w) ≡ false

@@ -1,6 +1,7 @@
 -- The one step of an actor after a history, and legal histories.
 use Rattle.std.specs.Prelude.{◌≡◌, ℕ, ◌+◌, ◌-◌, ◌%◌, ◌^◌, Bool, true, false, ◌&&◌, not, if◌then◌else◌, ◌==◌, List, [], ◌∷◌, ◌++◌, length, slice_get, replicate, nat_le, Option, Some, None, Result, Ok, Err, pos, ℤ}
 use Rattle.hist_model.specs.Look.{Name, ev, name_eq, is_task, is_worker, task_name, newest, oldest, event_at}
+use Rattle.hist_model.specs.Names.{is_task_name}
 use Rattle.hist_model.specs.Tasks.{ended, reaped, holder, next_pid, alive, mode, name_of, has_parent, parent, makes, pid_of}
 use Rattle.hist_model.specs.Signals.{call_of, next_signal, effect_in_call, effect_outside}
 use Rattle.hist_model.specs.Calls.{listed, caller, id, named, fetched, settled, settles, waiting, calls, count, closes, queue, installs_for, has_send_flag}
@@ -396,8 +397,9 @@ abbrev pub is_start : Actor → Bool
 is_start Start = true
 is_start _ = false
 
--- workers have the numbers from 0 to 16
+-- tasks have the names of the form, and workers the numbers from 0 to 16
 abbrev pub is_actor : Actor → Bool
+is_actor (Task n) = is_task_name n
 is_actor (Worker w) = nat_le w 16
 is_actor _ = true
 

@@ -55,4 +55,4 @@ pub use Rattle.hist_model.specs.declared.script.Script.{Script}
 pub use Rattle.hist_model.proofs.Look.{below_or_last, event_at-above, event_at-below, event_at-here, event_at-older, name_eq-refl, name_eq-true, newest-found, newest-some, oldest-found, oldest-same}
 pub use Rattle.hist_model.proofs.Look.{oldest-some, oldest-stays}
 pub use Rattle.mediation.specs.Facts.{CallIdsDiffer, changes_answered, changes_list, changes_tasks, FailsAlone, Frame, InstallsAlone, NamesDiffer, SessionsSettle, StaysFinished}
-pub use Rattle.mediation.specs.Journals.{actors, AreNamed, FixedByJournal, IsLegalByPlace, IsNamed, IsWritten, SharesJournal}
+pub use Rattle.mediation.specs.Journals.{actors, FixedByJournal, IsLegalByPlace}

@@ -1,13 +1,14 @@
 -- A legal history is fixed by its actors, and by the text of its journal; legality reads the same by places.
-use Rattle.mediation.proofs.Common.{[], Actor, actors, add-one, ap, append_assoc, append_cancel_left, ap₂, AreNamed, arith, below_or_last, codes, eqb-false, ev, Event, FixedByJournal, flat_map}
-use Rattle.mediation.proofs.Common.{get_or, inl, inr, is_actor, is_made, IsLegal, IsLegalByPlace, IsNamed, IsStep, IsWritten, leb-true, length, List, Listener, Name, Policy, refl, reverse}
-use Rattle.mediation.proofs.Common.{reverse-append, Rules, Script, SharesJournal, Skip, start, Start, step, suc, sym, System, take, take_more, Task, task_step, true, Worker, zero, ℕ, ◌%◌, ◌*◌, ◌++◌}
-use Rattle.mediation.proofs.Common.{◌+◌, ◌<◌, ◌^◌, ◌∙◌, ◌∷◌, ◌≡◌, ◌≤◌}
+use Rattle.mediation.proofs.Common.{[], Actor, actors, add-one, and_parts, ap, append_assoc, append_cancel_left, ap₂, arith, below_or_last, codes, eqb-true, Event, FixedByJournal, flat_map, get_or}
+use Rattle.mediation.proofs.Common.{inl, inr, is_actor, IsLegal, IsLegalByPlace, IsStep, leb-true, length, List, Listener, Name, nat_le, Policy, refl, reverse, reverse-append, Rules, Script, Start}
+use Rattle.mediation.proofs.Common.{suc, sym, System, take, take_more, Task, true, Worker, zero, ℕ, ◌%◌, ◌&&◌, ◌*◌, ◌++◌, ◌+◌, ◌<◌, ◌==◌, ◌^◌, ◌∙◌, ◌∷◌, ◌≡◌, ◌≤◌}
+use Rattle.hist_model.specs.Names.{is_child_number, is_task_name}
 use Rattle.hist_model.specs.ReportJournal.{event_line, journal_line, lines_of, what_text}
 use Rattle.hist_model.specs.ReportWords.{actor_text, name_text}
 use Rattle.std.proofs.Math.Seq.{take-length}
-use Rattle.std.proofs.lemmas.Fmt.{decimal_by_steps, decimal_injective, decimal_nonempty}
-use Rattle.std.specs.Fmt.{decimal, digits}
+use Rattle.std.proofs.lemmas.Fmt.{decimal_by_steps, decimal_injective}
+use Rattle.std.specs.Fmt.{decimal}
+use Rattle.std.specs.List.{list_all}
 
 -- ---- a legal history is fixed by its actors, and legality reads the same by places
 
@@ -95,97 +96,81 @@ unfolding Low
 low-more [] p = omega arith
 low-more (k ∷ n) p = omega arith
 
-more-same : (n m : Name) (p q : List ℕ) → IsWritten n → IsWritten m → more_text n ++ 32 ∷ p ≡ more_text m ++ 32 ∷ q → n ≡ m
+child-low : (k : ℕ) → is_child_number k ≡ true → k < 2 ^ 64
+child-low k h = let p = and_parts (nat_le 1 k) (nat_le k 100000) h in omega (arith, leb-true k 100000 p.1)
+
+more-same : (n m : Name) (p q : List ℕ) → list_all is_child_number n ≡ true → list_all is_child_number m ≡ true → more_text n ++ 32 ∷ p ≡ more_text m ++ 32 ∷ q → n ≡ m
 more-same [] [] p q h g e = refl
 more-same [] (k ∷ m) p q h g e = cc
 more-same (k ∷ n) [] p q h g e = cc
 more-same (k ∷ n) (j ∷ m) p q h g e =
+    let a = and_parts (is_child_number k) (list_all is_child_number n) h in
+    let b = and_parts (is_child_number j) (list_all is_child_number m) g in
     let t : (decimal k ++ more_text n) ++ 32 ∷ p ≡ (decimal j ++ more_text m) ++ 32 ∷ q = cc in
-    let s = number-same k j (more_text n ++ 32 ∷ p) (more_text m ++ 32 ∷ q) h.0 g.0 (low-more n p) (low-more m q) (simp append_assoc at t) in
-    let r = more-same n m p q h.1 g.1 s.1 in
+    let s = number-same k j (more_text n ++ 32 ∷ p) (more_text m ++ 32 ∷ q) (child-low k a.0) (child-low j b.0) (low-more n p) (low-more m q) (simp append_assoc at t) in
+    let r = more-same n m p q a.1 b.1 s.1 in
     ap₂ (λ x xs. x ∷ xs) s.0 r
 
-no-number : (k : ℕ) (p q : List ℕ) → k < 2 ^ 64 → Low p → Low q → p ≡ decimal k ++ q → ⊥
-unfolding High
-no-number k p q l a b e = let s = digits-same [] (decimal k) p q tt (high-decimal k l) a b e in omega (arith, decimal_nonempty k l, ap length s)
-
-name-same : (n m : Name) (p q : List ℕ) → IsWritten n → IsWritten m → name_text n ++ 32 ∷ p ≡ name_text m ++ 32 ∷ q → n ≡ m
-unfolding Low
-name-same [] [] p q h g e = refl
-name-same [] (k ∷ m) p q h g e = absurd (no-number k (32 ∷ p) (more_text m ++ 32 ∷ q) g.0 (omega arith) (low-more m q) (simp append_assoc at e))
-name-same (k ∷ n) [] p q h g e = absurd (no-number k (32 ∷ q) (more_text n ++ 32 ∷ p) h.0 (omega arith) (low-more n p) (simp append_assoc at (sym e)))
-name-same (k ∷ n) (j ∷ m) p q h g e = more-same (k ∷ n) (j ∷ m) p q h g (ap (λ xs. 46 ∷ xs) e)
+name-same : (n m : Name) (p q : List ℕ) → is_task_name n ≡ true → is_task_name m ≡ true → name_text n ++ 32 ∷ p ≡ name_text m ++ 32 ∷ q → n ≡ m
+name-same [] m p q h g e = cc
+name-same (k ∷ n) [] p q h g e = cc
+name-same (k ∷ n) (j ∷ m) p q h g e =
+    let a = and_parts (k == 0) (nat_le (length n) 64 && list_all is_child_number n) h in
+    let b = and_parts (j == 0) (nat_le (length m) 64 && list_all is_child_number m) g in
+    let same : k ≡ j = eqb-true k 0 a.0 ∙ sym (eqb-true j 0 b.0) in
+    let t : decimal k ++ (more_text n ++ 32 ∷ p) ≡ decimal j ++ (more_text m ++ 32 ∷ q) = simp append_assoc at e in
+    let u = append_cancel_left (decimal k) _ _ (rw (← same) at t) in
+    let n-children = (and_parts (nat_le (length n) 64) (list_all is_child_number n) a.1).1 in
+    let m-children = (and_parts (nat_le (length m) 64) (list_all is_child_number m) b.1).1 in
+    ap₂ (λ x xs. x ∷ xs) same (more-same n m p q n-children m-children u)
 
 abbrev first-byte : List ℕ → ℕ
 first-byte [] = 0
 first-byte (b ∷ bs) = b
 
 -- a word of an actor, and a space after it
-actor-same : (a b : Actor) (p q : List ℕ) → IsNamed a → IsNamed b → is_actor a ≡ true → is_actor b ≡ true → actor_text a ++ 32 ∷ p ≡ actor_text b ++ 32 ∷ q → a ≡ b
+actor-same : (a b : Actor) (p q : List ℕ) → is_actor a ≡ true → is_actor b ≡ true → actor_text a ++ 32 ∷ p ≡ actor_text b ++ 32 ∷ q → a ≡ b
 unfolding Low
-actor-same Start Start p q h g k l e = refl
-actor-same Listener Listener p q h g k l e = refl
-actor-same (Task n) (Task m) p q h g k l e = let t : name_text n ++ 32 ∷ p ≡ name_text m ++ 32 ∷ q = cc in ap Task (name-same n m p q h g t)
-actor-same (Worker v) (Worker w) p q h g k l e =
+actor-same Start Start p q k l e = refl
+actor-same Listener Listener p q k l e = refl
+actor-same (Task n) (Task m) p q k l e = let t : name_text n ++ 32 ∷ p ≡ name_text m ++ 32 ∷ q = cc in ap Task (name-same n m p q k l t)
+actor-same (Worker v) (Worker w) p q k l e =
     let t : decimal v ++ 32 ∷ p ≡ decimal w ++ 32 ∷ q = cc in
     let x = leb-true v 16 k in
     let y = leb-true w 16 l in
     ap Worker (number-same v w (32 ∷ p) (32 ∷ q) (omega arith) (omega arith) (omega arith) (omega arith) t).0
-actor-same a b p q h g k l e = absurd (omega (arith, ap first-byte e))
+actor-same a b p q k l e = absurd (omega (arith, ap first-byte e))
 
-line-same : (place : ℕ) (d e : Event) (x y : List ℕ) → IsNamed d.who → IsNamed e.who → is_actor d.who ≡ true → is_actor e.who ≡ true → event_line place d ++ x ≡ event_line place e ++ y → d.who ≡ e.who
-line-same place d e x y h g k l q =
+line-same : (place : ℕ) (d e : Event) (x y : List ℕ) → is_actor d.who ≡ true → is_actor e.who ≡ true → event_line place d ++ x ≡ event_line place e ++ y → d.who ≡ e.who
+line-same place d e x y k l q =
     let t : decimal place ++ (32 ∷ (actor_text d.who ++ (32 ∷ (what_text d.what ++ 10 ∷ x)))) ≡ decimal place ++ (32 ∷ (actor_text e.who ++ (32 ∷ (what_text e.what ++ 10 ∷ y)))) = simp append_assoc at q in
     let u = append_cancel_left (decimal place) _ _ t in
     let v : actor_text d.who ++ (32 ∷ (what_text d.what ++ 10 ∷ x)) ≡ actor_text e.who ++ (32 ∷ (what_text e.what ++ 10 ∷ y)) = cc in
-    actor-same d.who e.who (what_text d.what ++ 10 ∷ x) (what_text e.what ++ 10 ∷ y) h g k l v
+    actor-same d.who e.who (what_text d.what ++ 10 ∷ x) (what_text e.what ++ 10 ∷ y) k l v
 
 is-actor : (S : System) (R : Rules) (K : List Event) (e : Event) → IsStep S R K e → is_actor e.who ≡ true
 is-actor S R K e r = grind arith
 
 -- from the oldest line on: equal events so far, and an equal actor, make an equal event
-lines-fix : (S : System) (R : Rules) (K L : List Event) (x y : List ℕ) → IsLegal S R K → IsLegal S R L → AreNamed K → AreNamed L → length K ≡ length L
+lines-fix : (S : System) (R : Rules) (K L : List Event) (x y : List ℕ) → IsLegal S R K → IsLegal S R L → length K ≡ length L
     → lines_of journal_line K ++ x ≡ lines_of journal_line L ++ y → K ≡ L
 unfolding lines_of
-lines-fix S R [] [] x y p q h g l t = refl
-lines-fix S R [] (e ∷ L) x y p q h g l t = absurd (omega arith)
-lines-fix S R (d ∷ K) [] x y p q h g l t = absurd (omega arith)
-lines-fix S R (d ∷ K) (e ∷ L) x y p q h g l t =
+lines-fix S R [] [] x y p q l t = refl
+lines-fix S R [] (e ∷ L) x y p q l t = absurd (omega arith)
+lines-fix S R (d ∷ K) [] x y p q l t = absurd (omega arith)
+lines-fix S R (d ∷ K) (e ∷ L) x y p q l t =
     let u : lines_of journal_line K ++ (event_line (length K) d ++ x) ≡ lines_of journal_line L ++ (event_line (length L) e ++ y) =
     sym (append_assoc (lines_of journal_line K) _ _) ∙ (t ∙ append_assoc (lines_of journal_line L) _ _) in
-    let r = lines-fix S R K L (event_line (length K) d ++ x) (event_line (length L) e ++ y) p.1 q.1 h.1 g.1 (omega arith) u in
+    let r = lines-fix S R K L (event_line (length K) d ++ x) (event_line (length L) e ++ y) p.1 q.1 (omega arith) u in
     let v : IsStep S R K e = rw (← r) at q.0 in
     let w = append_cancel_left (lines_of journal_line K) _ _ (rw (← r) at u) in
-    ap₂ (λ z zs. z ∷ zs) (same-step S R K d e p.0 v (line-same (length K) d e x y h.0 g.0 (is-actor S R K d p.0) (is-actor S R K e v) w)) r
+    ap₂ (λ z zs. z ∷ zs) (same-step S R K d e p.0 v (line-same (length K) d e x y (is-actor S R K d p.0) (is-actor S R K e v) w)) r
 
 pub fixed_by_journal : (P : Policy) (S : Script) → FixedByJournal P S
 unfolding Low
-fixed_by_journal P S K L p q h g t =
+fixed_by_journal P S K L p q t =
     let u : codes "journal " ++ (decimal (length K) ++ (10 ∷ lines_of journal_line K)) ≡ codes "journal " ++ (decimal (length L) ++ (10 ∷ lines_of journal_line L)) = simp append_assoc at t in
     let v = append_cancel_left (codes "journal ") _ _ u in
     let n = number-same (length K) (length L) _ _ p.1 q.1 (omega arith) (omega arith) v in
     let w : lines_of journal_line K ≡ lines_of journal_line L = cc in
-    lines-fix _ _ K L [] [] p.0 q.0 h g n.0 (ap (λ x. x ++ []) w)
-
--- without the bound: two tasks whose numbers end in 64 zeros, and that do nothing, since they are not there
-absent : System → ℕ → List Event
-absent S k = ev (Task (k ∷ [])) Skip ∷ start S ∷ []
-
-number-of : Actor → ℕ
-number-of (Task (k ∷ n)) = k
-number-of a = 0
-
-newest-number : List Event → ℕ
-newest-number [] = 0
-newest-number (e ∷ K) = number-of e.who
-
-pub shares_journal : (S : System) (R : Rules) → SharesJournal S R
-unfolding absent newest-number number-of step task_step is_made lines_of digits
-shares_journal S R = (
-  absent S (10 ^ 64),
-  absent S (2 * 10 ^ 64),
-  ((refl, refl, refl, refl), (refl, tt)),
-  ((refl, refl, refl, refl), (refl, tt)),
-  refl,
-  λ h. eqb-false (10 ^ 64) (2 * 10 ^ 64) refl (ap newest-number h),
-)
+    lines-fix _ _ K L [] [] p.0 q.0 n.0 (ap (λ x. x ++ []) w)

@@ -79,15 +79,14 @@ stays : (e : Event) (K : List Event) → idles e.what ≡ true → Finished K �
 unfolding listed is_made ended session
 stays e K h f = grind arith
 
-filled : (L K : List Event) → 0 < length K → L ++ K ≡ [] → ⊥
-filled [] K l q = omega (arith, ap length q)
-filled (e ∷ L) K l q = cc
+filled : (K : List Event) → 0 < length K → K ≡ [] → ⊥
+filled K l q = omega (arith, ap length q)
 
 pub stays_finished : (S : System) (R : Rules) → StaysFinished S R
-stays_finished S R K [] l legal f n = f
-stays_finished S R K (e ∷ L) l legal f n =
-    let ih = stays_finished S R K L l legal.1 f n.1 in
-    stays e (L ++ K) (row-idles S R (L ++ K) e.who e.what ih (row-of S R (L ++ K) e legal.0) (filled L K l) n.0) ih
+stays_finished S R K [] legal f n = f
+stays_finished S R K (e ∷ L) legal f n =
+    let ih = stays_finished S R K L legal.1 f n.1 in
+    stays e (L ++ K) (row-idles S R (L ++ K) e.who e.what ih (row-of S R (L ++ K) e legal.0) (filled (L ++ K) ih.begun) n.0) ih
 
 -- ---- the small histories are not legal
 

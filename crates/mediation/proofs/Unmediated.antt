@@ -50,7 +50,7 @@ unfolding combine run_from step task_step worker_step event_at newest oldest end
 granted_is_played = refl
 
 pub granted_is_mediated : Mediated rules container (history granted)
-granted_is_mediated = mediated rules container (history granted) (subst (IsLegal (system_of container) (rules_of rules container.figures)) granted_is_played (played_is_legal rules container (tt, (omega arith, (tt, tt))))) (omega arith)
+granted_is_mediated = mediated rules container (history granted) (subst (IsLegal (system_of container) (rules_of rules container.figures)) granted_is_played (played_is_legal rules container (refl, (omega arith, (refl, tt))))) (omega arith)
 
 -- ---- each notification is answered at most once
 

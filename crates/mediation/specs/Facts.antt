@@ -27,9 +27,9 @@ abbrev pub NoClose : List Event → Type 0
 NoClose [] = Unit {0}
 NoClose (e ∷ L) = (closes e.what ≡ false) × NoClose L
 
--- a legal history that continues a finished one, without its close, is finished; the empty list is no history yet
+-- a legal history that continues a finished one, without its close, is finished
 abbrev pub StaysFinished : System → Rules → Type 0
-StaysFinished S R = (K L : List Event) → 0 < length K → IsLegal S R (L ++ K) → Finished K → NoClose L → Finished (L ++ K)
+StaysFinished S R = (K L : List Event) → IsLegal S R (L ++ K) → Finished K → NoClose L → Finished (L ++ K)
 
 -- two tasks have different names
 abbrev pub NamesDiffer : List Event → Type 0

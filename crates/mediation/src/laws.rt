@@ -14,7 +14,7 @@ ghost use Rattle.hist_model.specs.Legal.{Legal, played};
 ghost use Rattle.hist_model.specs.declared.policy.Policy.{Policy};
 ghost use Rattle.hist_model.specs.declared.script.Script.{Script};
 ghost use Rattle.hist_model.specs.Mediated.{Mediated, Each, TakenByItsActor, NamesOwn, NeverBusy, ErrorsKnown, LostIfGone, HasCause, KeepsOrder, EndsForReason};
-ghost use Rattle.mediation.specs.Journals.{actors, IsLegalByPlace, FixedByJournal, SharesJournal};
+ghost use Rattle.mediation.specs.Journals.{actors, IsLegalByPlace, FixedByJournal};
 ghost use Rattle.mediation.specs.Facts.{CallIdsDiffer, NamesDiffer, HandlesOwn, SessionsSettle, StaysFinished, InstallsAlone, FailsAlone, Frame};
 ghost use Rattle.mediation.specs.Scheduled.{AllScheduled};
 
@@ -68,12 +68,9 @@ pub fn fixed_by_actors()
 {}
 
 /// Two legal histories of one policy and script with the same journal are one: what a report prints tells the whole history.
-/// The names of tasks have numbers below 2^64, as every name of a program has. Without that it isn't so, since a number is
-/// written with at most 64 digits.
-#[tactic(auto, using(crate::proofs::Journals::fixed_by_journal, crate::proofs::Journals::shares_journal))]
+#[tactic(auto, using(crate::proofs::Journals::fixed_by_journal))]
 pub fn fixed_by_journal()
-    ensures same { (P : Policy) (S : Script) → FixedByJournal P S }
-    ensures only_so { (S : System) (R : Rules) → SharesJournal S R }
+    ensures { (P : Policy) (S : Script) → FixedByJournal P S }
 {}
 
 /// Legality reads the same by the places of a list that begins with the oldest event.
