@@ -18,8 +18,11 @@ pub(crate) fn gives_up(what: &What) -> bool
     ensures { result ≡ gives_up what.now }
 {
     match what {
-        What::OpenMem { answer: Err(_), .. } | What::Check { answer: Err(_), .. } => true,
-        What::OpenBase {
+        What::OpenMem {
+            answer: Err(error),
+            ..
+        }
+        | What::OpenBase {
             answer: Err(error),
             ..
         } => error.number() == 3,
@@ -28,7 +31,9 @@ pub(crate) fn gives_up(what: &What) -> bool
             ..
         }
         | What::AddfdTake { answer: Err(error) } => error.number() == 2,
-        What::AddfdTake { answer: Ok(_) } | What::Send { .. } => true,
+        What::Check { answer: Err(_), .. }
+        | What::AddfdTake { answer: Ok(_) }
+        | What::Send { .. } => true,
         _ => false,
     }
 }

@@ -36,7 +36,7 @@ is_letgo _ = false
 
 -- the step ends the session's work: the worker then lets go
 abbrev pub gives_up : What → Bool
-gives_up (OpenMem pid (Err e)) = true
+gives_up (OpenMem pid (Err e)) = e == esrch
 gives_up (OpenBase pid d (Err e)) = e == esrch
 gives_up (Check x (Err e)) = true
 gives_up (AddfdPut asked (Err e)) = e == enoent
