@@ -64,10 +64,6 @@ Remembers P own w = KnowsIf P w.figures own w.session
 
 -- ---- What may be taken as the next step
 
-abbrev pub answer_in : What → Option (Result (List ℕ) ℕ)
-answer_in (Read addr len answer) = Some answer
-answer_in _ = None
-
 -- a piece of the arguments may be taken: it answers the piece that is wanted
 abbrev pub FitsPiece : Arguments → Result (List ℕ) ℕ → Type 0
 FitsPiece (Reading c) (Ok bytes) = Answers (wanted (continued c [])) (Ok bytes)

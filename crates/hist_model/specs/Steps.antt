@@ -228,13 +228,13 @@ abbrev pub shares_now : What → Bool
 shares_now (Spawn n (Ok a)) = is_shared a.1
 shares_now _ = false
 
+-- where no event stands: a history has fewer than 2 ^ 64 events
+abbrev pub no_place : ℕ
+no_place = 2 ^ 64 - 1
+
 abbrev pub place_or : Option ℕ → ℕ
 place_or (Some t) = t
-place_or None = 0
-
-abbrev pub call_or : Option ℕ → ℕ
-call_or (Some t) = t
-call_or None = 2 ^ 64
+place_or None = no_place
 
 abbrev pub is_empty : List ℕ → Bool
 is_empty [] = true
@@ -250,7 +250,7 @@ installed _ = None
 
 -- the group of the task at a place: one address space with one descriptor table
 unfoldable pub group : List Event → ℕ → ℕ
-group [] t = 0
+group [] t = no_place
 group (e ∷ K) t = if t == length K then (if shares_now e.what then group K (place_or (task_place K (task_name e.who))) else t) else group K t
 
 -- the call of the worker's open session

@@ -9,6 +9,9 @@ use std::alloc::Global;
 use std::marker::Model;
 use sys_abi::memory::NoMemory;
 
+/// Where no event stands: a history has fewer than 2^64 events.
+pub const NO_PLACE: usize = usize::MAX;
+
 /// The events so far. Contracts see them as a list, the newest first, beside the room that is made for more.
 #[derive(Drop)]
 pub struct History {

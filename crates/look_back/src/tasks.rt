@@ -7,6 +7,7 @@ ghost use Rattle.look_back.specs.Outcomes.{waited, reap_step};
 ghost use Rattle.hist_model.specs.Steps.{task_place, pid_at, pid_named, group, opened, is_child, is_ended_child, names_child, names_ended_child, shares_now, makes_in, place_or, wait_step};
 
 use hist_model::event::{Actor, Delivered, Entered, Event, Mode, SpawnKind, What};
+use hist_model::history::NO_PLACE;
 use sys_abi::errno::Errno;
 
 /// Two names are one.
@@ -467,7 +468,7 @@ pub fn group_from(older: &[Event], event: &Event, place: usize) -> Option<usize>
     if place != older.len() {
         Some(place)
     } else if shares(&event.what) {
-        Some(task_place(older, task_name(&event.who)).unwrap_or(0))
+        Some(task_place(older, task_name(&event.who)).unwrap_or(NO_PLACE))
     } else {
         None
     }
@@ -487,7 +488,7 @@ pub fn group(events: &[Event], place: usize) -> usize
         }
         left = older;
     }
-    0
+    NO_PLACE
 }
 
 /// The group of the task at a place, if there is one.

@@ -18,6 +18,7 @@ use crate::memory::own_group;
 use crate::natives::{NativeStep, native_step};
 use crate::outcomes::effect;
 use hist_model::event::{Actor, Event, SpawnKind, What};
+use hist_model::history::NO_PLACE;
 use hist_model::request::{NodeRef, Obj, Request, TreeOp};
 use hist_model::script::Script;
 use look_back::calls::{call_of, first_in_queue};
@@ -214,7 +215,7 @@ impl Files {
         let Actor::Worker(worker) = who else {
             return Ok(());
         };
-        let group = opened(events, holder(events, pid)).unwrap_or(0);
+        let group = opened(events, holder(events, pid)).unwrap_or(NO_PLACE);
         let base = self.base_of(script, group, dirfd);
         self.change_base(*worker, base)
     }

@@ -8,6 +8,7 @@ ghost use Rattle.plain_files.specs.Kept.{files_of, StandsFor};
 use crate::changes::asked_at;
 use crate::files::Files;
 use hist_model::event::Event;
+use hist_model::history::NO_PLACE;
 use hist_model::script::Script;
 use look_back::calls::caller;
 use look_back::steps::group_named;
@@ -49,6 +50,6 @@ pub fn slot_for(
     requires { StandsFor script.now (reverse events.now) files.now }
     ensures { result ≡ slot_answer (slot_for script.now (reverse events.now) call request) }
 {
-    let group = group_named(events, caller(events, call)).unwrap_or(0);
+    let group = group_named(events, caller(events, call)).unwrap_or(NO_PLACE);
     slot_in(script.rlimit, files, group, &asked_at(events, request))
 }

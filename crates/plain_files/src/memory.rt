@@ -7,6 +7,7 @@ ghost use Rattle.plain_files.specs.Sources.{is_within, byte_from};
 
 use emu_sysinfo::host;
 use hist_model::event::{Actor, Event, SpawnKind, What};
+use hist_model::history::NO_PLACE;
 use hist_model::script::{MapRange, Script};
 use hist_model::text::Text;
 use look_back::steps::{group_named, last_call, mem};
@@ -53,11 +54,11 @@ pub fn all_mapped(map: &[MapRange], addr: u64, len: u16) -> bool
     true
 }
 
-/// The group of the task that takes a step; 0 where there is none.
+/// The group of the task that takes a step; a place without an event where there is none.
 pub fn own_group(events: &[Event], who: &Actor) -> usize
     ensures { result ≡ own_group (reverse events.now) who.now }
 {
-    group_named(events, task_name(who)).unwrap_or(0)
+    group_named(events, task_name(who)).unwrap_or(NO_PLACE)
 }
 
 /// In whose memory the actor stores: its own group's, or that which the worker has opened.

@@ -22,6 +22,7 @@ use crate::memory::all_mapped;
 use crate::outcomes::{answer, effect};
 use emu_request::{base_dirfd, request};
 use hist_model::event::{Event, What};
+use hist_model::history::NO_PLACE;
 use hist_model::request::{Node, NodeRef, Request, TreeOp};
 use hist_model::script::Script;
 use look_back::steps::{group_named, last_call};
@@ -262,7 +263,7 @@ pub(crate) fn native_step(
 ) -> Result<NativeStep, NoMemory>
     ensures { IfOk result (λ s. step_of files.now.tree (root script.now) s ≡ native_step script.now (reverse events.now) (files_of files.now) name.now) }
 {
-    let group = group_named(events, name).unwrap_or(0);
+    let group = group_named(events, name).unwrap_or(NO_PLACE);
     match last_call(events, name) {
         Some(call) => entered_step(alloc, script, events, files, name, group, call),
         None => Ok(NativeStep::Fails(Errno::ENOSYS)),
