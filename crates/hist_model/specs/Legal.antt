@@ -1,10 +1,10 @@
 -- Legal histories of a policy and a script, the history that a schedule plays, and finished histories.
-use Rattle.std.specs.Prelude.{◌≡◌, ℕ, zero, suc, ◌<◌, ◌^◌, ◌*◌, ◌/◌, ◌%◌, Bool, true, false, ◌&&◌, not, if◌then◌else◌, ◌==◌, List, [], ◌∷◌, length, reverse, slice_get, Option, Some, None, Result, Ok, Err, ℤ}
+use Rattle.std.specs.Prelude.{◌≡◌, ℕ, zero, suc, ◌<◌, ◌≤◌, ◌^◌, ◌*◌, ◌/◌, ◌%◌, Bool, true, false, ◌&&◌, not, if◌then◌else◌, ◌==◌, List, [], ◌∷◌, length, reverse, slice_get, Option, Some, None, Result, Ok, Err, ℤ}
 use Rattle.std.specs.List.{list_any}
 use Rattle.hist_model.specs.Look.{Name, ev}
 use Rattle.hist_model.specs.Tasks.{ended, is_made}
 use Rattle.hist_model.specs.Calls.{listed}
-use Rattle.hist_model.specs.Sessions.{Rules, Decision, Denies, Passes, Acts, Plants, Injects, session, any_of, is_letgo}
+use Rattle.hist_model.specs.Sessions.{Rules, Decision, Denies, Passes, Acts, Plants, Injects, session, skips, any_of, is_letgo}
 use Rattle.hist_model.specs.Systems.{System}
 use Rattle.hist_model.specs.Steps.{IsLegal, start, step}
 use Rattle.hist_model.specs.Programs.{program}
@@ -20,7 +20,7 @@ use Rattle.hist_model.specs.Decisions.{decide, cap_of, granted_by}
 use Rattle.hist_model.specs.Sysinfo.{container_sysinfo}
 use Rattle.hist_model.specs.declared.event.Event.{Event}
 use Rattle.hist_model.specs.declared.event.Actor.{Actor}
-use Rattle.hist_model.specs.declared.event.Actor.TheVariants.{Listener}
+use Rattle.hist_model.specs.declared.event.Actor.TheVariants.{Worker, Listener}
 use Rattle.hist_model.specs.declared.event.What.{What}
 use Rattle.hist_model.specs.declared.event.What.TheVariants.{Read, Close}
 use Rattle.hist_model.specs.declared.policy.Policy.{Policy}
@@ -154,3 +154,18 @@ pub record Finished (K : List Event) : Type 0 where
   pub tasks : (n : Name) → is_made K n ≡ true → ended K n ≡ true
   pub calls : (c : ℕ) → listed K c ≡ false
   pub sessions : (w : ℕ) → is_open_session (session K w) ≡ false
+
+-- no event is a Skip
+abbrev pub NoSkip : List Event → Type 0
+NoSkip [] = Unit {0}
+NoSkip (e ∷ K) = (skips e.what ≡ false) × NoSkip K
+
+-- the actor is no worker whose number is above the limit
+abbrev pub IsWithin : ℕ → Actor → Type 0
+IsWithin limit (Worker w) = w ≤ limit
+IsWithin limit _ = Unit {0}
+
+-- no event is a step of a worker whose number is above the limit
+abbrev pub NoWorkerAbove : ℕ → List Event → Type 0
+NoWorkerAbove limit [] = Unit {0}
+NoWorkerAbove limit (e ∷ K) = IsWithin limit e.who × NoWorkerAbove limit K
