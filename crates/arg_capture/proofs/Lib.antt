@@ -3,3 +3,4 @@ pub mod Zeros
 pub mod Steps
 pub mod Following
 pub mod Moments
+pub mod Answering

@@ -8,13 +8,17 @@ use Rattle.hist_model.specs.declared.event.Event.{Event}
 use Rattle.hist_model.specs.declared.event.What.{What}
 use Rattle.audit_log.specs.Sessions.{facts_of, facts_with, facts_after}
 
-joined_by : (shut : Bool) (own : List What) (a : What) → facts_of (if shut then own else (a ∷ own)) ≡ (if shut then facts_of own else facts_with (facts_of own) a)
-joined_by true own a = refl
-joined_by false own a = refl
+joined_by : (own : List What) (a : What) → facts_of (if is_shut own then own else (a ∷ own)) ≡ (if is_shut own then facts_of own else facts_with true (facts_of own) a)
+joined_by [] a = refl
+joined_by (b ∷ own) a = by-shut (is_shut (b ∷ own))
+  where
+    by-shut : (shut : Bool) → facts_of (if shut then (b ∷ own) else (a ∷ b ∷ own)) ≡ (if shut then facts_of (b ∷ own) else facts_with true (facts_of (b ∷ own)) a)
+    by-shut true = refl
+    by-shut false = refl
 
 step_told : (first own : Bool) (before : List What) (a : What) → facts_of (session_step first own before a) ≡ facts_after first own (facts_of before) a
 step_told true own before a = refl
-step_told false true before a = joined_by (is_shut before) before a
+step_told false true before a = joined_by before a
 step_told false false before a = refl
 
 -- of one more event

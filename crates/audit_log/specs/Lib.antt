@@ -1,2 +1,4 @@
+pub mod Calls
+pub mod Laws
 pub mod Sessions
 pub mod Written

@@ -2,7 +2,7 @@
 use Rattle.std.specs.Prelude.{Bool, true, false, ◌&&◌, ◌||◌, if◌then◌else◌, List, None}
 use Rattle.std.specs.List.{list_any}
 use Rattle.hist_model.specs.Orders.{is_good_check}
-use Rattle.hist_model.specs.Sessions.{is_letgo}
+use Rattle.hist_model.specs.Sessions.{is_letgo, starts}
 use Rattle.hist_model.specs.ReportAudit.{is_gone, misses_call, is_sent, is_shut, is_spent, back_in, or_back, sent_back, checked_twice}
 use Rattle.hist_model.specs.declared.event.What.{What}
 use Rattle.audit_log.specs.declared.session.Facts.{Facts}
@@ -24,10 +24,10 @@ facts_of own = record {
   back = sent_back own;
 }
 
--- with one more step
-abbrev pub facts_with : Facts → What → Facts
-facts_with f a = record {
-  shut = is_letgo a;
+-- with one more step, and whether the session has begun before it
+abbrev pub facts_with : Bool → Facts → What → Facts
+facts_with begun f a = record {
+  shut = is_letgo a || (starts a && begun);
   gone = is_gone a || f.gone;
   checked = is_good_check a || f.checked;
   checked_twice = (is_good_check a && f.checked) || f.checked_twice;
@@ -39,10 +39,10 @@ facts_with f a = record {
 
 -- with one more step of its worker
 abbrev pub facts_joined : Facts → What → Facts
-facts_joined f a = if f.shut then f else facts_with f a
+facts_joined f a = if f.shut then f else facts_with true f a
 
 -- with one more step of anyone
 abbrev pub facts_after : Bool → Bool → Facts → What → Facts
-facts_after true own f a = facts_with no_facts a
+facts_after true own f a = facts_with false no_facts a
 facts_after false true f a = facts_joined f a
 facts_after false false f a = f

@@ -4,7 +4,7 @@ ghost use Rattle.std.specs.Prelude.{◌≡◌, count_by, reverse};
 ghost use Rattle.hist_model.specs.Calls.{notifies};
 ghost use Rattle.hist_model.specs.Memory.{enters};
 ghost use Rattle.hist_model.specs.ReportAudit.{begins};
-ghost use Rattle.hist_model.specs.Report.{denies, faults, grants, injects, is_answer, is_gone_session, loses, passes};
+ghost use Rattle.hist_model.specs.Report.{denies, faults, grants, injects, is_gone_session, loses, passes};
 
 use hist_model::event::{Actor, Entered, Event, What};
 use hist_model::report::{Arrival, Audit, Finding};
@@ -41,23 +41,6 @@ pub(crate) fn notified(events: &[Event]) -> usize
     ensures { result ≡ count_by (λ e. notifies e.what) (reverse events.now) }
 {
     events.iter().filter(|event| notifies(&event.what)).count()
-}
-
-/// Whether the step answers a call: a send that was taken, or an installation that gave a number.
-fn is_answer(what: &What) -> bool
-    ensures { result ≡ is_answer what.now }
-{
-    matches!(
-        what,
-        What::Send { answer: Ok(()), .. } | What::Install { answer: Ok(_) }
-    )
-}
-
-/// How many calls were answered.
-pub(crate) fn answered(events: &[Event]) -> usize
-    ensures { result ≡ count_by (λ e. is_answer e.what) (reverse events.now) }
-{
-    events.iter().filter(|event| is_answer(&event.what)).count()
 }
 
 /// Whether the event begins a session.

@@ -7,6 +7,7 @@
 //! writes the report of what it played.
 #![tactic(auto)]
 
+mod answer;
 pub mod audit;
 pub mod calls;
 mod count;
@@ -14,6 +15,7 @@ pub mod error;
 mod event;
 pub mod journal;
 pub mod judge;
+pub mod laws;
 mod line;
 mod outcome;
 mod part;

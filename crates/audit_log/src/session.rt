@@ -3,41 +3,47 @@
 ghost use Rattle.std.specs.Prelude.{◌≡◌, ◌<◌, ◌&&◌, IfSome, length, not, reverse};
 ghost use Rattle.hist_model.specs.Look.{is_worker};
 ghost use Rattle.hist_model.specs.Orders.{is_good_check};
-ghost use Rattle.hist_model.specs.Sessions.{is_letgo, skips};
-ghost use Rattle.hist_model.specs.ReportAudit.{call_with_id, installed, installed_at, is_gone, misses_call, is_notified, is_pending, is_sent, is_spent, back_in, number_given, number_step, session_at};
+ghost use Rattle.hist_model.specs.Sessions.{is_letgo, skips, starts};
+ghost use Rattle.hist_model.specs.ReportAudit.{call_with_id, installed, installed_at, is_gone, misses_call, is_notified, is_sent, is_spent, back_in, number_given, session_at};
 ghost use Rattle.audit_log.specs.Sessions.{facts_after, facts_joined, facts_of, facts_with, no_facts};
 
-use crate::outcome::{outcome_step, same_task, task_numbers};
+use crate::outcome::{CallFacts, same_task, task_numbers};
 use hist_model::event::{Actor, Back, Entered, Event, What};
-use hist_model::report::Outcome;
 use sys_abi::errno::Errno;
 
 /// What is kept of a session while its steps are gone through.
 #[derive(Clone, Copy, PartialEq, Eq, Debug)]
-pub(crate) struct Facts {
-    /// It hasn't begun, or it let go.
-    pub(crate) shut: bool,
+pub struct Facts {
+    /// It hasn't begun, or its worker let go or received again.
+    pub shut: bool,
     /// Its caller, or its call, was found gone.
-    pub(crate) gone: bool,
+    pub gone: bool,
     /// A check found its notification valid.
-    pub(crate) checked: bool,
+    pub checked: bool,
     /// So did another.
-    pub(crate) checked_twice: bool,
+    pub checked_twice: bool,
     /// Its effect was refused since the rule's times were spent.
-    pub(crate) spent: bool,
+    pub spent: bool,
     /// An answer was taken.
-    pub(crate) sent: bool,
+    pub sent: bool,
     /// An answer or a descriptor found no listed call.
-    pub(crate) lost: bool,
+    pub lost: bool,
     /// What was sent last.
-    pub(crate) back: Option<Back>,
+    pub back: Option<Back>,
 }
 
 /// Whether the step lets go of what was opened for a notification.
-pub fn is_letgo(what: &What) -> bool
+fn is_letgo(what: &What) -> bool
     ensures { result ≡ is_letgo what.now }
 {
     matches!(what, What::LetGo)
+}
+
+/// Whether the step begins a session.
+fn starts(what: &What) -> bool
+    ensures { result ≡ starts what.now }
+{
+    matches!(what, What::Recv { answer: Ok(_) })
 }
 
 /// Whether the step shows that the caller, or its call, is gone.
@@ -122,7 +128,7 @@ fn back_in(what: &What) -> Option<Back>
 
 impl Facts {
     /// Of no step.
-    const NONE: Facts = Facts {
+    pub const NONE: Facts = Facts {
         shut: true,
         gone: false,
         checked: false,
@@ -133,13 +139,13 @@ impl Facts {
         back: None,
     };
 
-    /// With one more step.
-    fn with(self, what: &What) -> Facts
-        ensures { result ≡ facts_with self what.now }
+    /// With one more step, and whether the session has begun before it.
+    fn with(self, begun: bool, what: &What) -> Facts
+        ensures { result ≡ facts_with begun self what.now }
     {
         let good = is_good_check(what);
         Facts {
-            shut: is_letgo(what),
+            shut: is_letgo(what) || (starts(what) && begun),
             gone: is_gone(what) | self.gone,
             checked: good | self.checked,
             checked_twice: (good & self.checked) | self.checked_twice,
@@ -154,15 +160,15 @@ impl Facts {
     fn joined(self, what: &What) -> Facts
         ensures { result ≡ facts_joined self what.now }
     {
-        if self.shut { self } else { self.with(what) }
+        if self.shut { self } else { self.with(true, what) }
     }
 
     /// With one more step of anyone: whether it is the session's first, and whether it is its worker's.
-    fn after(self, first: bool, own: bool, what: &What) -> Facts
+    pub fn after(self, first: bool, own: bool, what: &What) -> Facts
         ensures { result ≡ facts_after first own self what.now }
     {
         if first {
-            Facts::NONE.with(what)
+            Facts::NONE.with(false, what)
         } else if own {
             self.joined(what)
         } else {
@@ -195,7 +201,7 @@ pub fn is_own(event: &Event, worker: u8) -> bool
 }
 
 /// Whether the step enters a call that is listed with this id.
-fn is_notified(what: &What, id: u64) -> bool
+pub(crate) fn is_notified(what: &What, id: u64) -> bool
     ensures { result ≡ is_notified what.now id }
 {
     match what {
@@ -232,37 +238,18 @@ fn number_given(counts: bool, what: &What, before: Option<u32>) -> Option<u32>
     }
 }
 
-/// The number with one more step: nothing counts before the call's entry.
-fn number_step(entry: bool, counts: bool, what: &What, before: Option<u32>) -> Option<u32>
-    ensures { result ≡ number_step entry counts what.now before }
-{
-    if entry {
-        None
-    } else {
-        number_given(counts, what, before)
-    }
-}
-
-/// Whether nothing came of a call yet.
-fn is_pending(outcome: &Outcome) -> bool
-    ensures { result ≡ is_pending outcome.now }
-{
-    matches!(outcome, Outcome::Open)
-}
-
 /// The number that was installed for the call that a task entered at a place.
-#[tactic(auto, using(crate::proofs::Past::past_more, crate::proofs::Past::length_taken), unfolding(hist_model::specs::ReportAudit::installed, hist_model::specs::ReportCalls::outcome))]
+#[tactic(auto, using(crate::proofs::Past::past_more, crate::proofs::Past::length_taken, crate::proofs::Entered::call_more, crate::proofs::Entered::call_none), unfolding(hist_model::specs::ReportAudit::installed))]
 fn installed(events: &[Event], task: &[u32], call: usize) -> Option<u32>
     ensures { result ≡ installed task.now call (reverse events.now) }
 {
-    let mut outcome = Outcome::Open;
+    let mut facts = CallFacts::NONE;
     let mut number = None;
     for place in 0..events.len() {
         let event = &events[place];
         let own = same_task(&event.who, task);
-        let counts = own && is_pending(&outcome);
-        number = number_step(place == call, counts, &event.what, number);
-        outcome = outcome_step(place == call, own, outcome, &event.what);
+        number = number_given(facts.counts(own), &event.what, number);
+        facts = facts.after(place == call, own, &event.what);
     }
     number
 }

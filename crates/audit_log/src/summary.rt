@@ -3,12 +3,14 @@
 ghost use Rattle.std.specs.Prelude.{◌≡◌, ◌++◌, IfOk, OnOk, count_by, decimal, length, reverse};
 ghost use Rattle.hist_model.specs.Calls.{notifies};
 ghost use Rattle.hist_model.specs.Memory.{enters};
-ghost use Rattle.hist_model.specs.Report.{audits, audits_by, counts_text, findings_text, is_answer, summary};
+ghost use Rattle.hist_model.specs.Report.{audits, audits_by, counts_text, findings_text, summary};
+ghost use Rattle.hist_model.specs.ReportRequests.{answer_count};
 ghost use Rattle.audit_log.specs.Written.{Wrote};
 
+use crate::answer::answered;
 use crate::audit::audit_of;
 use crate::count::{
-    answered, denied, entered, faulty, gone, granted, injected, lost, notified, passed,
+    denied, entered, faulty, gone, granted, injected, lost, notified, passed,
 };
 use crate::error::ReportError;
 use crate::judge::Judge;
@@ -43,7 +45,7 @@ fn summary_line<J: Judge>(alloc: Global, judge: &J, events: &[Event]) -> Result<
 {
     let found = audits(alloc, judge, events)?;
     let mut line = Line::new(alloc);
-    push_counts(&mut line, events)?;
+    push_counts(&mut line, alloc, events)?;
     push_findings(&mut line, found.as_slice())?;
     Ok(line)
 }
@@ -90,17 +92,17 @@ fn push_audit<J: Judge>(
 
 /// Adds the numbers of events, calls, listed calls and answers.
 #[tactic(auto, unfolding(hist_model::specs::Report::counts_text))]
-fn push_counts(line: &mut Line, events: &[Event]) -> Result<(), NoMemory>
+fn push_counts(line: &mut Line, alloc: Global, events: &[Event]) -> Result<(), NoMemory>
     ensures { OnOk result (line.new ≡ line.old ++ counts_text (length events.now)
         (count_by (λ e. enters e.what) (reverse events.now))
         (count_by (λ e. notifies e.what) (reverse events.now))
-        (count_by (λ e. is_answer e.what) (reverse events.now))) }
+        (answer_count (reverse events.now))) }
 {
     line.push("summary")?;
     push_count(line, " events=", events.len())?;
     push_count(line, " calls=", entered(events))?;
     push_count(line, " notified=", notified(events))?;
-    push_count(line, " answered=", answered(events))
+    push_count(line, " answered=", answered(alloc, events)?)
 }
 
 /// Adds a word and a count.

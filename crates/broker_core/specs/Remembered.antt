@@ -1,7 +1,8 @@
 -- What a worker remembers of its session, against the session's own steps.
 use Rattle.std.specs.Prelude.{◌≡◌, ℕ, ◌+◌, ◌<◌, ◌≤◌, Bool, true, false, List, [], length, reverse, Option, Some, None, Result, Ok, Err, ◌⊎◌, ◌||◌, suc, if◌then◌else◌}
-use Rattle.hist_model.specs.Sessions.{Rules, Deed, Fetch, Open, OpenB, Ask, ReadD, ActD, PlantD, Put, Take, Answer, Let, any_of, number_of, first_some, notif_of, reads_of, is_letgo, gives_up, opens, opens_base, checks, outcome_in, put_in, take_in, or_some}
+use Rattle.hist_model.specs.Sessions.{Rules, Deed, Fetch, Open, OpenB, Ask, ReadD, ActD, PlantD, Put, Take, Answer, Let, deed, any_of, number_of, first_some, notif_of, reads_of, is_letgo, gives_up, opens, opens_base, checks, outcome_in, put_in, take_in, or_some}
 use Rattle.hist_model.specs.Copies.{Progress, Wants, Complete, Faulty, plan}
+use Rattle.hist_model.specs.Fitting.{fits}
 use Rattle.hist_model.specs.Legal.{rules_of, read_answers, judged as judgement}
 use Rattle.hist_model.specs.declared.event.What.{What}
 use Rattle.hist_model.specs.declared.event.What.TheVariants.{Recv, OpenMem, OpenBase, Check, Read, Act, Plant, AddfdPut, AddfdTake, Send, LetGo, Skip}
@@ -64,6 +65,10 @@ Remembers P own w = KnowsIf P w.figures own w.session
 
 -- ---- What may be taken as the next step
 
+-- the step answers the deed that is due after the steps that the worker remembers
+abbrev pub Fits : Policy → Worker → What → Type 0
+Fits P w what = (own : List What) × Remembers P own w × (fits (deed (rules_of P w.figures) own) what ≡ true)
+
 -- a piece of the arguments may be taken: it answers the piece that is wanted
 abbrev pub FitsPiece : Arguments → Result (List ℕ) ℕ → Type 0
 FitsPiece (Reading c) (Ok bytes) = Answers (wanted (continued c [])) (Ok bytes)
@@ -79,14 +84,6 @@ abbrev pub FitsSession : Session → What → Type 0
 FitsSession s (Check id answer) = FitsCheck s.checks s.arguments
 FitsSession s (Read addr len answer) = FitsPiece s.arguments answer
 FitsSession s _ = Unit {0}
-
-abbrev pub FitsIf : Option Session → What → Type 0
-FitsIf None what = Unit {0}
-FitsIf (Some s) what = FitsSession s what
-
--- the step may be taken as the worker's next
-abbrev pub Fits : Worker → What → Type 0
-Fits w what = FitsIf w.session what
 
 -- ---- The start of a session
 

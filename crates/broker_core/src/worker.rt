@@ -69,10 +69,10 @@ impl Worker {
         }
     }
 
-    /// Takes the worker's step, as the history has it. After want of memory the worker can only be dropped.
+    /// Takes the worker's step, as the history has it: one that answers the deed of `next`. After want of memory the worker can only be dropped.
     #[tactic(auto, using(crate::proofs::Workers::idle_after, crate::proofs::Workers::stays_idle, crate::proofs::Workers::begins_anew, crate::proofs::Workers::goes_on))]
     pub fn took(&mut self, alloc: Global, policy: &Policy, what: &What) -> Result<(), NoMemory>
-        requires fits { Fits self.old what.now }
+        requires fits { Fits policy.now self.old what.now }
         requires own { skips what.now ≡ false }
         ensures figures { self.new.figures ≡ self.old.figures }
         ensures known { (own : List What) → Remembers policy.now own self.old → OnOk result (Remembers policy.now (joined what.now own) self.new) }

@@ -1,6 +1,7 @@
 pub mod CopyCases
 pub mod Decided
 pub mod FilterCases
+pub mod Fitting
 pub mod Look
 pub mod MappedBytes
 pub mod Pieces

@@ -4,8 +4,9 @@ use Rattle.std.specs.Prelude.{Ok, Err, Result, pos, negsuc, codes}
 use Rattle.std.specs.Fmt.{digits}
 use Rattle.hist_model.specs.Look.{ev, event_at}
 use Rattle.hist_model.specs.ReportJournal.{lines_of, what_text}
-use Rattle.hist_model.specs.ReportCalls.{outcome, first_pid, calls}
+use Rattle.hist_model.specs.ReportCalls.{newest_call, outcome, first_pid, calls}
 use Rattle.hist_model.specs.ReportAudit.{Judging, session_at, call_with_id, installed, audit}
+use Rattle.hist_model.specs.ReportRequests.{requests, answer_count}
 use Rattle.hist_model.specs.Report.{report, audits, counts_text, findings_text, summary}
 use Rattle.hist_model.specs.declared.event.Event.{Event}
 use Rattle.hist_model.specs.declared.event.Actor.TheVariants.{Start, Task, Worker, Listener}
@@ -96,7 +97,7 @@ granted_report : report (always (Decided 3 Grant) (codes "lxd.mknod.1:3")) grant
     ++ codes "audit 1\n"
     ++ codes "3 w0 id=1 mknod rule=lxd.mknod.1:3 verdict=grant answer=0 reply=sent\n"
     ++ codes "summary events=15 calls=1 notified=1 answered=1 granted=1 denied=0 passed=0 injected=0 faults=0 gone=0 lost=0\n"
-unfolding onto history task worker ok null read_null mknod fetched null_device first always granted event_at lines_of outcome first_pid session_at call_with_id installed audits counts_text findings_text digits
+unfolding onto history task worker ok null read_null mknod fetched null_device first always granted event_at lines_of newest_call outcome first_pid session_at call_with_id installed requests answer_count audits counts_text findings_text digits
 granted_report = refl
 
 -- a call that is passed runs natively, with its caller's rights
@@ -111,7 +112,7 @@ passed_parts : calls passed ++ audit (always (Decided 3 Pass) (codes "default.mk
     ++ codes "audit 1\n"
     ++ codes "2 w0 id=1 mknod rule=default.mknod verdict=pass answer=continue reply=sent\n"
     ++ codes "summary events=13 calls=1 notified=1 answered=1 granted=0 denied=0 passed=1 injected=0 faults=0 gone=0 lost=0\n"
-unfolding onto history task worker ok null read_null mknod fetched null_device first always passed event_at lines_of outcome first_pid session_at call_with_id installed audits counts_text findings_text digits
+unfolding onto history task worker ok null read_null mknod fetched null_device first always passed event_at lines_of newest_call outcome first_pid session_at call_with_id installed requests answer_count audits counts_text findings_text digits
 passed_parts = refl
 
 -- a call that is denied, and one whose rule's times were spent; both count as denied
@@ -124,7 +125,7 @@ refused_parts : audit (always (Decided 3 (Deny 1)) (codes "no-mem")) refused ++ 
     ≡ codes "audit 1\n"
     ++ codes "2 w0 id=1 mknod rule=no-mem verdict=deny answer=EPERM reply=sent\n"
     ++ codes "summary events=8 calls=1 notified=1 answered=1 granted=0 denied=1 passed=0 injected=0 faults=0 gone=0 lost=0\n"
-unfolding onto history task worker ok null read_null mknod fetched null_device first always refused event_at lines_of outcome first_pid session_at call_with_id installed audits counts_text findings_text digits
+unfolding onto history task worker ok null read_null mknod fetched null_device first always refused event_at lines_of newest_call outcome first_pid session_at call_with_id installed requests answer_count audits counts_text findings_text digits
 refused_parts = refl
 
 spent : List Event
@@ -136,7 +137,7 @@ spent_parts : audit (always (Decided 3 Grant) (codes "one")) spent ++ summary (a
     ≡ codes "audit 1\n"
     ++ codes "2 w0 id=2 mknod rule=one verdict=spent answer=EDQUOT reply=sent\n"
     ++ codes "summary events=8 calls=1 notified=1 answered=1 granted=0 denied=1 passed=0 injected=0 faults=0 gone=0 lost=0\n"
-unfolding onto history task worker ok null read_null mknod fetched null_device first always spent event_at lines_of outcome first_pid session_at call_with_id installed audits counts_text findings_text digits
+unfolding onto history task worker ok null read_null mknod fetched null_device first always spent event_at lines_of newest_call outcome first_pid session_at call_with_id installed requests answer_count audits counts_text findings_text digits
 spent_parts = refl
 
 -- a caller that a signal interrupted before the second check, and whose call is entered again; its second session finds a fault
@@ -155,7 +156,7 @@ restarted_parts : calls restarted ++ audit (always (Faulty 14) []) restarted ++ 
     ++ codes "3 w0 id=1 mknod rule=- verdict=gone answer=- reply=none\n"
     ++ codes "12 w0 id=2 mknod rule=- verdict=fault answer=EFAULT reply=sent\n"
     ++ codes "summary events=20 calls=2 notified=2 answered=1 granted=0 denied=0 passed=0 injected=0 faults=1 gone=1 lost=0\n"
-unfolding onto history task child worker ok null read_null mknod fetched null_device first always restarted event_at lines_of outcome first_pid session_at call_with_id installed audits counts_text findings_text digits
+unfolding onto history task child worker ok null read_null mknod fetched null_device first always restarted event_at lines_of newest_call outcome first_pid session_at call_with_id installed requests answer_count audits counts_text findings_text digits
 restarted_parts = refl
 
 -- the caller ends between the second check and the effect: the answer reaches nobody
@@ -170,7 +171,7 @@ lost_parts : calls lost ++ audit (always (Decided 3 Grant) (codes "lxd.mknod.1:3
     ++ codes "audit 1\n"
     ++ codes "3 w0 id=1 mknod rule=lxd.mknod.1:3 verdict=grant answer=0 reply=lost\n"
     ++ codes "summary events=11 calls=1 notified=1 answered=0 granted=1 denied=0 passed=0 injected=0 faults=0 gone=0 lost=1\n"
-unfolding onto history task child worker ok null read_null mknod fetched null_device first always lost event_at lines_of outcome first_pid session_at call_with_id installed audits counts_text findings_text digits
+unfolding onto history task child worker ok null read_null mknod fetched null_device first always lost event_at lines_of newest_call outcome first_pid session_at call_with_id installed requests answer_count audits counts_text findings_text digits
 lost_parts = refl
 
 put : What
@@ -187,7 +188,7 @@ injected_parts : calls injected ++ audit (always (Decided 3 (Inject 5 None)) (co
     ++ codes "audit 1\n"
     ++ codes "2 w0 id=1 mknod rule=feed verdict=inject answer=3 reply=sent\n"
     ++ codes "summary events=7 calls=1 notified=1 answered=1 granted=0 denied=0 passed=0 injected=1 faults=0 gone=0 lost=0\n"
-unfolding onto history task child worker ok null read_null mknod fetched null_device first always put injected event_at lines_of outcome first_pid session_at call_with_id installed audits counts_text findings_text digits
+unfolding onto history task child worker ok null read_null mknod fetched null_device first always put injected event_at lines_of newest_call outcome first_pid session_at call_with_id installed requests answer_count audits counts_text findings_text digits
 injected_parts = refl
 
 -- a descriptor goes to the session whose call was in hand: one before and one after an interrupted call are other sessions'
@@ -204,8 +205,49 @@ interrupted_parts : calls interrupted ++ audit (always (Decided 3 (Inject 5 None
     ++ codes "10 t0 pid=1 mknod open\n"
     ++ codes "audit 1\n"
     ++ codes "5 w0 id=1 mknod rule=feed verdict=inject answer=- reply=lost\n"
-unfolding onto history task child worker ok null read_null mknod fetched null_device first always put interrupted event_at lines_of outcome first_pid session_at call_with_id installed audits digits
+unfolding onto history task child worker ok null read_null mknod fetched null_device first always put interrupted event_at lines_of newest_call outcome first_pid session_at call_with_id installed requests answer_count audits digits
 interrupted_parts = refl
+
+-- a worker that receives again before it let go: its session ends there, and what it does later is the second one's
+received_again : List Event
+received_again = history (
+    ev Start first ∷ task (mknod (Notify 1)) ∷ worker (fetched 1 1) ∷ worker (Check 1 ok) ∷ task (Deliver 10 Restart) ∷ task (mknod (Notify 2))
+    ∷ worker (fetched 2 1) ∷ worker (Check 2 ok) ∷ worker (Check 2 ok) ∷ worker (Send 2 (Fail 1) ok) ∷ worker LetGo ∷ [])
+
+received_again_parts : audit (always (Decided 3 (Deny 1)) (codes "no-mem")) received_again ++ summary (always (Decided 3 (Deny 1)) []) received_again
+    ≡ codes "audit 2\n"
+    ++ codes "2 w0 id=1 mknod rule=- verdict=open answer=- reply=none\n"
+    ++ codes "6 w0 id=2 mknod rule=no-mem verdict=deny answer=EPERM reply=sent\n"
+    ++ codes "summary events=11 calls=2 notified=2 answered=1 granted=0 denied=1 passed=0 injected=0 faults=0 gone=0 lost=0\n"
+unfolding onto history task worker ok null read_null mknod fetched null_device first always received_again event_at lines_of newest_call outcome first_pid session_at call_with_id installed requests answer_count audits counts_text findings_text digits
+received_again_parts = refl
+
+-- a call whose task enters another one while it waits: it is over then, and the number that is installed later is not its answer
+overtaken : List Event
+overtaken = history (
+    ev Start first ∷ task (mknod (Notify 1)) ∷ worker (fetched 1 1) ∷ worker (Check 1 ok) ∷ worker (Check 1 ok) ∷ worker put
+    ∷ task (mknod Allow) ∷ task (Install (Ok 3)) ∷ task (Native (Ok 7)) ∷ task (Resume (Value (pos 3))) ∷ [])
+
+overtaken_parts : calls overtaken ++ audit (always (Decided 3 (Inject 5 None)) (codes "feed")) overtaken ++ summary (always (Decided 3 (Inject 5 None)) []) overtaken
+    ≡ codes "calls 2\n"
+    ++ codes "1 t0 pid=1 mknod open\n"
+    ++ codes "6 t0 pid=1 mknod 7\n"
+    ++ codes "audit 1\n"
+    ++ codes "2 w0 id=1 mknod rule=feed verdict=inject answer=- reply=none\n"
+    ++ codes "summary events=10 calls=2 notified=1 answered=0 granted=0 denied=0 passed=0 injected=1 faults=0 gone=0 lost=0\n"
+unfolding onto history task child worker ok null read_null mknod fetched null_device first always put overtaken event_at lines_of newest_call outcome first_pid session_at call_with_id installed requests answer_count audits counts_text findings_text digits
+overtaken_parts = refl
+
+-- a request without SEND: its descriptor is installed, and answers nothing
+unsent : List Event
+unsent = history (
+    ev Start first ∷ task (mknod (Notify 1)) ∷ worker (fetched 1 1) ∷ worker (AddfdPut (record { id = 1; flags = 0; srcfd = 5; newfd = 0; newfd_flags = 0 }) ok) ∷ worker put
+    ∷ task (Install (Ok 3)) ∷ task (Install (Ok 4)) ∷ [])
+
+unsent_answers : summary (always (Decided 3 (Inject 5 None)) []) unsent
+    ≡ codes "summary events=7 calls=1 notified=1 answered=1 granted=0 denied=0 passed=0 injected=0 faults=0 gone=0 lost=0\n"
+unfolding onto history task child worker ok null read_null mknod fetched null_device first always put unsent event_at lines_of newest_call outcome first_pid session_at call_with_id installed requests answer_count audits counts_text findings_text digits
+unsent_answers = refl
 
 -- what the filters alone make of calls
 filtered : List Event
@@ -220,7 +262,7 @@ filtered_calls : calls filtered
     ++ codes "5 t0 pid=1 mknod ENOSYS\n"
     ++ codes "6 t0 pid=1 mknod open\n"
     ++ codes "7 t0 pid=1 mknod ended\n"
-unfolding onto history task child worker mknod first filtered lines_of outcome first_pid digits
+unfolding onto history task child worker mknod first filtered lines_of newest_call outcome first_pid digits
 filtered_calls = refl
 
 each_line : List What → List (List ℕ)

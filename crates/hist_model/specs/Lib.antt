@@ -5,6 +5,7 @@ pub mod Tasks
 pub mod Calls
 pub mod Signals
 pub mod Sessions
+pub mod Fitting
 pub mod Systems
 pub mod Programs
 pub mod Steps
@@ -31,4 +32,5 @@ pub mod Report
 pub mod ReportAudit
 pub mod ReportCalls
 pub mod ReportJournal
+pub mod ReportRequests
 pub mod ReportWords

@@ -1,28 +1,24 @@
--- The report of a history: its journal, its calls, the audit of its sessions, and a summary. It is told of any list of events.
--- Of a list that no rules allow, each part tells what its definition makes of it.
+-- The report of a history: its journal, its calls, the audit of its sessions, and a summary. It is told of any list of events, whose
+-- workers may have any of the 256 numbers of a byte. Of a list that is no legal history, each part tells what its definition makes of
+-- it, and one pass from the oldest event on can follow each: a task is in one call at most, and a worker in one session.
 use Rattle.std.specs.Prelude.{ℕ, Bool, true, false, List, [], ◌∷◌, ◌++◌, length, Ok, codes, decimal, count_by}
 use Rattle.hist_model.specs.ReportJournal.{journal}
 use Rattle.hist_model.specs.Calls.{notifies}
 use Rattle.hist_model.specs.Memory.{enters}
 use Rattle.hist_model.specs.ReportCalls.{calls}
 use Rattle.hist_model.specs.ReportAudit.{Judging, audit, audit_of}
+use Rattle.hist_model.specs.ReportRequests.{answer_count}
 use Rattle.hist_model.specs.declared.event.Actor.{Actor}
 use Rattle.hist_model.specs.declared.event.Actor.TheVariants.{Worker}
 use Rattle.hist_model.specs.declared.event.Event.{Event}
 use Rattle.hist_model.specs.declared.event.What.{What}
-use Rattle.hist_model.specs.declared.event.What.TheVariants.{Enter, Install, Recv, Send}
+use Rattle.hist_model.specs.declared.event.What.TheVariants.{Recv}
 use Rattle.hist_model.specs.declared.event.Entered.TheVariants.{Notify}
 use Rattle.hist_model.specs.declared.report.Finding.{Finding}
 use Rattle.hist_model.specs.declared.report.Finding.TheVariants.{Gone, Fault, Spent, Granted, Denied, Passed, Injected}
 use Rattle.hist_model.specs.declared.report.Arrival.{Arrival}
 use Rattle.hist_model.specs.declared.report.Arrival.TheVariants.{Lost}
 use Rattle.hist_model.specs.declared.report.Audit.{Audit}
-
--- the step answers a call: a send that was taken, or an installation that gave a number
-abbrev pub is_answer : What → Bool
-is_answer (Send id back (Ok u)) = true
-is_answer (Install (Ok n)) = true
-is_answer _ = false
 
 abbrev pub grants : Finding → Bool
 grants (Granted i) = true
@@ -79,7 +75,7 @@ findings_text found =
 -- the summary's line
 abbrev pub summary : Judging → List Event → List ℕ
 summary J H =
-    counts_text (length H) (count_by (λ e. enters e.what) H) (count_by (λ e. notifies e.what) H) (count_by (λ e. is_answer e.what) H)
+    counts_text (length H) (count_by (λ e. enters e.what) H) (count_by (λ e. notifies e.what) H) (answer_count H)
     ++ findings_text (audits J H H)
 
 -- the whole report

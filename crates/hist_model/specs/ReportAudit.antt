@@ -3,16 +3,16 @@ use Rattle.std.specs.Prelude.{ℕ, Bool, true, false, ◌&&◌, ◌||◌, not, i
 use Rattle.std.specs.List.{list_any}
 use Rattle.sys_abi.specs.declared.wire.Notif.{Notif}
 use Rattle.sys_abi.specs.Errnos.{edquot, enoent, esrch}
-use Rattle.hist_model.specs.Look.{Name, is_task, is_worker, task_name, event_at}
+use Rattle.hist_model.specs.Look.{Name, is_worker, task_name, event_at}
 use Rattle.hist_model.specs.Calls.{caller}
-use Rattle.hist_model.specs.Sessions.{skips, is_letgo}
+use Rattle.hist_model.specs.Sessions.{skips, starts, is_letgo}
 use Rattle.hist_model.specs.Orders.{is_good_check}
 use Rattle.hist_model.specs.Copies.{Progress, Wants, Complete, Faulty as Broken, plan, progress, heard}
 use Rattle.hist_model.specs.Requests.{request}
 use Rattle.hist_model.specs.Decisions.{decide, rule_name}
 use Rattle.hist_model.specs.ReportWords.{call_text, back_text}
 use Rattle.hist_model.specs.ReportJournal.{lines_of, title}
-use Rattle.hist_model.specs.ReportCalls.{outcome}
+use Rattle.hist_model.specs.ReportCalls.{is_inside}
 use Rattle.hist_model.specs.declared.event.Actor.{Actor}
 use Rattle.hist_model.specs.declared.event.Actor.TheVariants.{Worker}
 use Rattle.hist_model.specs.declared.event.Event.{Event}
@@ -24,8 +24,6 @@ use Rattle.hist_model.specs.declared.event.Back.TheVariants.{Value}
 use Rattle.hist_model.specs.declared.policy.Rule.{Rule}
 use Rattle.hist_model.specs.declared.policy.Verdict.{Verdict}
 use Rattle.hist_model.specs.declared.policy.Verdict.TheVariants.{Grant, Deny, Pass, Inject}
-use Rattle.hist_model.specs.declared.report.Outcome.{Outcome}
-use Rattle.hist_model.specs.declared.report.Outcome.TheVariants.{Open as Pending}
 use Rattle.hist_model.specs.declared.report.Judged.{Judged}
 use Rattle.hist_model.specs.declared.report.Judged.TheVariants.{Unfinished, Faulty, Decided}
 use Rattle.hist_model.specs.declared.report.Finding.{Finding}
@@ -61,12 +59,16 @@ judging_by rules = record {
   name = rule_name rules;
 }
 
--- a session that hasn't begun, or that let go
+abbrev pub has_begun : List What → Bool
+has_begun [] = false
+has_begun (a ∷ own) = true
+
+-- a session that hasn't begun, or that is over: its worker let go, or received another notification
 abbrev pub is_shut : List What → Bool
 is_shut [] = true
-is_shut (a ∷ own) = is_letgo a
+is_shut (a ∷ own) = is_letgo a || (starts a && has_begun own)
 
--- one more step of a session; none before its first, and none after it let go
+-- one more step of a session; none before its first, and none after the one that ended it
 abbrev pub joined : List What → What → List What
 joined own a = if is_shut own then own else (a ∷ own)
 
@@ -76,7 +78,8 @@ session_step true own before a = a ∷ []
 session_step false true before a = joined before a
 session_step false false before a = before
 
--- the steps of the session that worker w began at place r, the newest first: all its later ones but Skip, until it let go
+-- the steps of the session that worker w began at place r, the newest first: all its later ones but Skip, up to the one that ends
+-- it, by which the worker lets go or receives another notification
 unfoldable pub session_at : ℕ → ℕ → List Event → List What
 session_at w r [] = []
 session_at w r (e ∷ K) = session_step (length K == r) (is_worker e.who w && not (skips e.what)) (session_at w r K) e.what
@@ -125,10 +128,15 @@ abbrev pub read_in : What → List (Result (List ℕ) ℕ)
 read_in (Read addr len answer) = answer ∷ []
 read_in _ = []
 
--- what the session's reads answered, the oldest first
+-- the session found its notification valid twice: a good check came after a good check
+abbrev pub checked_twice : List What → Bool
+checked_twice [] = false
+checked_twice (a ∷ own) = (is_good_check a && list_any is_good_check own) || checked_twice own
+
+-- what the session's reads answered up to its second good check, the oldest first
 abbrev pub reads : List What → List (Result (List ℕ) ℕ)
 reads [] = []
-reads (a ∷ own) = reads own ++ read_in a
+reads (a ∷ own) = if checked_twice own then reads own else (reads own ++ read_in a)
 
 -- the step enters a call that is listed with this id
 abbrev pub is_notified : What → ℕ → Bool
@@ -140,24 +148,15 @@ unfoldable pub call_with_id : ℕ → List Event → Option ℕ
 call_with_id x [] = None
 call_with_id x (e ∷ K) = if is_notified e.what x then Some (length K) else call_with_id x K
 
-abbrev pub is_pending : Outcome → Bool
-is_pending Pending = true
-is_pending _ = false
-
 -- the number that a step of the task gave while nothing had come of its call, else the one before
 abbrev pub number_given : Bool → What → Option ℕ → Option ℕ
 number_given true (Install (Ok n)) before = Some n
 number_given _ _ before = before
 
--- one more step: whether it is the call's entry, before which nothing counts, and whether what it gives counts
-abbrev pub number_step : Bool → Bool → What → Option ℕ → Option ℕ
-number_step true counts a before = None
-number_step false counts a before = number_given counts a before
-
 -- the number of the descriptor that was installed for the call that task n entered at place c
 unfoldable pub installed : Name → ℕ → List Event → Option ℕ
 installed n c [] = None
-installed n c (e ∷ K) = number_step (length K == c) (is_task e.who n && is_pending (outcome n c K)) e.what (installed n c K)
+installed n c (e ∷ K) = number_given (is_inside n c K e) e.what (installed n c K)
 
 -- in the history H, the number that was installed for the call that was fetched after K
 abbrev pub installed_at : List Event → List Event → Option ℕ → Option ℕ
@@ -183,12 +182,7 @@ finding_by true checked judged spent = Gone
 finding_by false true judged spent = finding_of judged spent
 finding_by false false judged spent = Open
 
--- the session found its notification valid twice: a good check came after a good check
-abbrev pub checked_twice : List What → Bool
-checked_twice [] = false
-checked_twice (a ∷ own) = (is_good_check a && list_any is_good_check own) || checked_twice own
-
--- what a session came to
+-- what a session came to: it is judged at its second good check
 abbrev pub finding : Judging → Notif → List What → Finding
 finding J notif own = finding_by (list_any is_gone own) (checked_twice own) (J.judge notif (reads own)) (list_any is_spent own)
 

@@ -1,8 +1,8 @@
 -- The calls of a report: one line for each call that a task entered, with what came of it.
-use Rattle.std.specs.Prelude.{ℕ, Bool, true, false, if◌then◌else◌, ◌==◌, min, List, [], ◌∷◌, ◌++◌, length, Option, Some, None, Ok, Err, ℤ, pos, codes, decimal, count_by}
+use Rattle.std.specs.Prelude.{ℕ, Bool, true, false, ◌&&◌, if◌then◌else◌, ◌==◌, min, List, [], ◌∷◌, ◌++◌, length, Option, Some, None, Ok, Err, ℤ, pos, codes, decimal, count_by}
 use Rattle.std.specs.Fmt.{signed_decimal}
 use Rattle.hist_model.specs.Memory.{enters}
-use Rattle.hist_model.specs.Look.{Name, name_eq, is_task, task_name, or_else}
+use Rattle.hist_model.specs.Look.{Name, name_eq, is_task, is_place, task_name, or_else}
 use Rattle.hist_model.specs.ReportWords.{errno_text, call_text, actor_text}
 use Rattle.hist_model.specs.ReportJournal.{lines_of, title}
 use Rattle.hist_model.specs.declared.event.Actor.{Actor}
@@ -46,16 +46,33 @@ outcome_next (Failed e) a = Failed e
 outcome_next Restarted a = Restarted
 outcome_next Ended a = Ended
 
--- one more step: whether it is the call's entry, whether it is its task's, and what came of the call before
+-- one more step: whether it is the call's entry, whether it is its task's in this call, and what came of the call before
 abbrev pub outcome_step : Bool → Bool → Outcome → What → Outcome
 outcome_step true own before a = outcome_at_entry a
 outcome_step false true before a = outcome_next before a
 outcome_step false false before a = before
 
--- what came of the call that task n entered at place c
+-- the place of the newest call that task n entered
+unfoldable pub newest_call : Name → List Event → Option ℕ
+newest_call n [] = None
+newest_call n (e ∷ K) = if is_task e.who n && enters e.what then Some (length K) else newest_call n K
+
+-- after K, the step is one of task n in the call that it entered at place c: it has entered no later one
+abbrev pub is_in_call : Name → ℕ → List Event → Event → Bool
+is_in_call n c K e = is_task e.who n && is_place (newest_call n K) c
+
+-- what came of the call that task n entered at place c, at the latest when it enters the next one
 unfoldable pub outcome : Name → ℕ → List Event → Outcome
 outcome n c [] = Open
-outcome n c (e ∷ K) = outcome_step (length K == c) (is_task e.who n) (outcome n c K) e.what
+outcome n c (e ∷ K) = outcome_step (length K == c) (is_in_call n c K e) (outcome n c K) e.what
+
+abbrev pub is_pending : Outcome → Bool
+is_pending Open = true
+is_pending _ = false
+
+-- after K, the step is one of task n in the call that it entered at place c, of which nothing came yet
+abbrev pub is_inside : Name → ℕ → List Event → Event → Bool
+is_inside n c K e = is_in_call n c K e && is_pending (outcome n c K)
 
 abbrev pub outcome_text : Outcome → List ℕ
 outcome_text Open = codes "open"

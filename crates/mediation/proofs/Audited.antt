@@ -20,7 +20,8 @@ use Rattle.mediation.proofs.Tasks.{event_at-last}
 use Rattle.mediation.proofs.Calls.{before-older, before-newest, length-before, legal_before}
 use Rattle.mediation.proofs.Hands.{worker-row, worker-is, still, session-grows, works-keep, in-hand, hand, FetchKept, WorkKept, StillKept, by-session}
 use Rattle.mediation.proofs.Order.{Follows, IsOwn, by-joins, is-own, by-own, spent-fixed, used-two, ordered}
-use Rattle.hist_model.specs.ReportAudit.{joined as extended, is_spent}
+use Rattle.hist_model.specs.ReportAudit.{joined as extended, is_shut, is_spent, read_in}
+use Rattle.hist_model.specs.Orders.{InOrder}
 
 -- ---- what a session reads answers the piece that was wanted, so all of it is heard
 
@@ -47,10 +48,15 @@ step-fits P F S K w what row = tt
 fit-reads : (P : Policy) (F : Figures) (S : Script) (K : List Event) → IsLegal (system_of S) (rules_of P F) K → (w : ℕ) → FitReads (session K w)
 fit-reads P F S = by-joins (system_of S) (rules_of P F) FitReads tt (λ K w what r z h. let s = step-fits P F S K w what r in grind arith)
 
-reads-are : (own : List What) → reads own ≡ reverse (read_answers (reads_of own))
+-- what all its reads answered, the oldest first
+abbrev all-reads : List What → List (Result (List ℕ) ℕ)
+all-reads [] = []
+all-reads (a ∷ own) = all-reads own ++ read_in a
+
+reads-are : (own : List What) → all-reads own ≡ reverse (read_answers (reads_of own))
 reads-are [] = refl
 reads-are (Read x l a ∷ own) = ap (λ xs. xs ++ a ∷ []) (reads-are own) ∙ sym (reverse-append (a ∷ []) (read_answers (reads_of own)))
-reads-are (a ∷ own) = append-nil (reads own) ∙ reads-are own
+reads-are (a ∷ own) = append-nil (all-reads own) ∙ reads-are own
 
 heard-more : (parts : List Part) (before answers : List (Result (List ℕ) ℕ)) (a : Result (List ℕ) ℕ) → heard parts before (answers ++ a ∷ []) ≡ with_heard parts (heard parts before answers) a
 unfolding heard
@@ -59,13 +65,13 @@ heard-more parts before (b ∷ answers) a = heard-more parts (with_heard parts b
 
 -- the reads of a session are heard one and all
 abbrev AllHeard : List What → Type 0
-AllHeard own = (n : Notif) → notif_of own ≡ Some n → FitReads own → heard (plan n.call.nr n.call.args) [] (reads own) ≡ reads own
+AllHeard own = (n : Notif) → notif_of own ≡ Some n → FitReads own → heard (plan n.call.nr n.call.args) [] (all-reads own) ≡ all-reads own
 
 notif-before : (a : What) (own : List What) → starts a ≡ false → notif_of (a ∷ own) ≡ notif_of own
 notif-before a own h = grind arith
 
 heard-below : (P : Policy) (F : Figures) (own : List What) (a : What) (n : Notif) → Follows (rules_of P F) own a → notif_of (a ∷ own) ≡ Some n → FitReads own → AllHeard own
-    → heard (plan n.call.nr n.call.args) [] (reads own) ≡ reads own
+    → heard (plan n.call.nr n.call.args) [] (all-reads own) ≡ all-reads own
 unfolding heard
 heard-below P F own a n s m f ih = elim s [ inl q ↦ rw q.1 | inr t ↦ ih n (sym (notif-before a own t.0) ∙ m) f ]
 
@@ -75,19 +81,24 @@ heard-step P F own (Read x l y) (inr t) ih n m f =
     let parts = plan n.call.nr n.call.args in
     let q : t.1.0 ≡ n = cc (t.1.1.notif_is, m) in
     let g : wanted (copied n (reads_of own)) ≡ Some (x, l) = rw q at t.1.4 in
-    let k : wanted (progress parts (reads own)) ≡ Some (x, l) = ap (λ xs. wanted (progress parts xs)) (reads-are own) ∙ g in
-    let taken : with_heard parts (reads own) y ≡ reads own ++ y ∷ [] = rw (k, f.0) refl in
-    heard-more parts [] (reads own) y ∙ (ap (λ xs. with_heard parts xs y) (ih n m f.1) ∙ taken)
-heard-step P F own a s ih n m f = let e = append-nil (reads own) in ap (heard (plan n.call.nr n.call.args) []) e ∙ (heard-below P F own a n s m f.1 ih ∙ sym e)
+    let k : wanted (progress parts (all-reads own)) ≡ Some (x, l) = ap (λ xs. wanted (progress parts xs)) (reads-are own) ∙ g in
+    let taken : with_heard parts (all-reads own) y ≡ all-reads own ++ y ∷ [] = rw (k, f.0) refl in
+    heard-more parts [] (all-reads own) y ∙ (ap (λ xs. with_heard parts xs y) (ih n m f.1) ∙ taken)
+heard-step P F own a s ih n m f = let e = append-nil (all-reads own) in ap (heard (plan n.call.nr n.call.args) []) e ∙ (heard-below P F own a n s m f.1 ih ∙ sym e)
 
 all-heard : (P : Policy) (F : Figures) (own : List What) → IsOwn (rules_of P F) own → AllHeard own
 all-heard P F = by-own (rules_of P F) AllHeard (λ n m. cc) (heard-step P F)
 
 -- ---- the audit of a session that answered names the rule that decided
 
+-- a session at work isn't over: it received once, and hasn't let go
+at-work-open : (R : Rules) (own : List What) (n : Notif) → IsOwn R own → notif_of own ≡ Some n → any_of is_letgo own ≡ false → is_shut own ≡ false
+at-work-open R [] n i h g = cc
+at-work-open R (a ∷ own) n i h g = grind arith
+
 -- one more step of an open session
-extended-open : (own : List What) (a : What) (n : Notif) → notif_of own ≡ Some n → any_of is_letgo own ≡ false → extended own a ≡ a ∷ own
-extended-open own a n h g = grind arith
+extended-open : (own : List What) (a : What) → is_shut own ≡ false → extended own a ≡ a ∷ own
+extended-open own a h = rw h refl
 
 stepped : (b : Bool) (own : List What) (a : What) → session_step false b own a ≡ (if b then extended own a else own)
 stepped b own a = grind arith
@@ -115,7 +126,7 @@ module _ (S : System) (R : Rules) where
   work-began K a w c what legal room q row v i s own b =
       let l = event_at-below K b.place _ b.receive in
       let k = works-keep K what v in
-      let joins : extended (session K w) what ≡ what ∷ session K w = extended-open (session K w) what i.n i.notif_is i.no_letgo in
+      let joins : extended (session K w) what ≡ what ∷ session K w = extended-open (session K w) what (at-work-open R (session K w) i.n (is-own S R K legal.1 w) i.notif_is i.no_letgo) in
       record { place = b.place; n = b.n; receive = rw event_at-older b.receive; notif_is = rw (own, k.no_notif) b.notif_is; same = rw (at-later (ev a what) K w b.place l, q, k.no_skip, b.same) (joins ∙ sym own) }
 
   still-began : StillKept S R (λ K w c. Began K w)
@@ -137,13 +148,13 @@ module _ (S : System) (R : Rules) where
   lets-go K w what n h g u row z = grind arith
 
   ends-later : (K : List Event) (e : Event) (w r : ℕ) (own : List What) (n : Notif) → Row S R K e.who e.what → r < length K → notif_of own ≡ Some n → any_of is_letgo own ≡ false
-      → any_of gives_up own ≡ true → Ends K w r own → Ends (e ∷ K) w r own
-  ends-later K e w r own n row l h g u (over x) = over (at-later e K w r l ∙ rw x (grind arith))
-  ends-later K e w r own n row l h g u (answered x y) = elim (cases_Bool (is_worker e.who w && not (skips e.what))) [
+      → any_of gives_up own ≡ true → is_shut own ≡ false → Ends K w r own → Ends (e ∷ K) w r own
+  ends-later K e w r own n row l h g u o (over x) = over (at-later e K w r l ∙ rw x (grind arith))
+  ends-later K e w r own n row l h g u o (answered x y) = elim (cases_Bool (is_worker e.who w && not (skips e.what))) [
     | inl q ↦
         let p = and_parts (is_worker e.who w) (not (skips e.what)) q in
         let z = lets-go K w e.what n (rw y h) (rw y g) (rw y u) (worker-row S R K e.who e.what w row p.0) (not-true (skips e.what) p.1) in
-        over (rw (at-later e K w r l, q, x, z) (extended-open own LetGo n h g))
+        over (rw (at-later e K w r l, q, x, z) (extended-open own LetGo o))
     | inr q ↦ answered (rw (at-later e K w r l, q) x) ((still e K w q).0 ∙ y)
   ]
 
@@ -174,7 +185,7 @@ module _ (S : System) (R : Rules) where
         work = rw (before-newest e K, v) t.1;
         two = rw (before-newest e K) (used-two R (session K w) t.0 t.1 t.3 (ordered R (session K w) (is-own S R K legal w)));
         whole = rw (before-newest e K, v) t.3.copied;
-        ends = rw (before-newest e K) (answered (rw (at-later e K w g.place l, m, g.same) (extended-open (session K w) (Send x b a) t.0 t.1.notif_is t.1.no_letgo)) own);
+        ends = rw (before-newest e K) (answered (rw (at-later e K w g.place l, m, g.same) (extended-open (session K w) (Send x b a) (at-work-open R (session K w) t.0 (is-own S R K legal w) t.1.notif_is t.1.no_letgo))) own);
       }
 
   sent-later : (K : List Event) (e : Event) (s w x : ℕ) (b : Back) (a : Result (Unit {0}) ℕ) → Row S R K e.who e.what → s < length K → Sent K s w x b a → Sent (e ∷ K) s w x b a
@@ -188,7 +199,7 @@ module _ (S : System) (R : Rules) where
         work = rw q t.work;
         two = rw q t.two;
         whole = rw q t.whole;
-        ends = rw q (ends-later K e w t.place (Send x b a ∷ session (before K s) w) t.n r m t.work.notif_is t.work.no_letgo refl t.ends);
+        ends = rw q (ends-later K e w t.place (Send x b a ∷ session (before K s) w) t.n r m t.work.notif_is t.work.no_letgo refl refl t.ends);
       }
 
   sent-by : (H : List Event) → IsLegal S R H → length H < 2 ^ 64 → (s w x : ℕ) (b : Back) (a : Result (Unit {0}) ℕ) → event_at H s ≡ Some (ev (Worker w) (Send x b a)) → Sent H s w x b a
@@ -204,6 +215,10 @@ none-gone : (own : List What) → any_of gives_up own ≡ false → list_any is_
 none-gone [] h = refl
 none-gone (a ∷ own) h = let ih = none-gone own in grind arith
 
+none-valid : (own : List What) → number_of is_good_check own ≡ 0 → list_any is_good_check own ≡ false
+none-valid [] h = refl
+none-valid (a ∷ own) h = let ih = none-valid own in grind arith
+
 some-valid : (own : List What) → 1 ≤ number_of is_good_check own → list_any is_good_check own ≡ true
 some-valid [] h = absurd (omega arith)
 some-valid (a ∷ own) h = let ih = some-valid own in grind arith
@@ -213,21 +228,40 @@ twice-valid : (own : List What) → 2 ≤ number_of is_good_check own → checke
 twice-valid [] h = absurd (omega arith)
 twice-valid (a ∷ own) h = let ih = twice-valid own in let v = some-valid own in grind arith
 
+-- and no good check or one is not
+not-twice : (own : List What) → number_of is_good_check own ≤ 1 → checked_twice own ≡ false
+not-twice [] h = refl
+not-twice (a ∷ own) h = let ih = not-twice own in let v = none-valid own in grind arith
+
+-- in order nothing is read after the second good check, so the audit sees all reads
+sees-all : (own : List What) → InOrder own → reads own ≡ all-reads own
+sees-all [] i = refl
+sees-all (a ∷ own) i = let ih = sees-all own i.3 in by-read a own i ih
+  where
+    by-read : (a : What) (own : List What) → InOrder (a ∷ own) → reads own ≡ all-reads own → reads (a ∷ own) ≡ all-reads (a ∷ own)
+    by-read (Read x l y) own i ih = let one : number_of is_good_check own ≡ 1 = i.1 refl in rw (not-twice own (omega arith), ih) refl
+    by-read a own i ih = elim (cases_Bool (checked_twice own)) [ inl h ↦ rw (h, append-nil) ih | inr h ↦ rw h (ap (λ xs. xs ++ read_in a) ih) ]
+
+-- letting go after an answer changes nothing of it
+letting-go : (P : Policy) (n : Notif) (x : ℕ) (b : Back) (a : Result (Unit {0}) ℕ) (own : List What) → checked_twice own ≡ true
+    → finding (judging_by P.rules) n (LetGo ∷ Send x b a ∷ own) ≡ finding (judging_by P.rules) n (Send x b a ∷ own)
+letting-go P n x b a own h = rw h refl
+
 names-rule : (P : Policy) (n : Notif) (x : ℕ) (b : Back) (a : Result (Unit {0}) ℕ) (own : List What) (texts : List (List ℕ)) → any_of gives_up own ≡ false → number_of is_good_check own ≡ 2
-    → copied n (reads_of own) ≡ Complete texts → heard (plan n.call.nr n.call.args) [] (reads own) ≡ reads own
+    → InOrder own → copied n (reads_of own) ≡ Complete texts → heard (plan n.call.nr n.call.args) [] (all-reads own) ≡ all-reads own
     → finding (judging_by P.rules) n (Send x b a ∷ own) ≡ finding_of (judged_as (decide P.rules (request n.call.nr n.call.args texts))) (list_any is_spent own)
-names-rule P n x b a own texts g two c v = grind (arith, reads-are, twice-valid, append-nil, none-gone)
+names-rule P n x b a own texts g two o c v = let s = sees-all own o in let w = twice-valid own in let z = none-gone own g in grind (arith, reads-are)
 
 -- and where the copy has a fault, it finds this
 names-fault : (P : Policy) (n : Notif) (x e : ℕ) (b : Back) (a : Result (Unit {0}) ℕ) (own : List What) → any_of gives_up own ≡ false → number_of is_good_check own ≡ 2
-    → copied n (reads_of own) ≡ Faulty e → heard (plan n.call.nr n.call.args) [] (reads own) ≡ reads own → finding (judging_by P.rules) n (Send x b a ∷ own) ≡ Fault
-names-fault P n x e b a own g two c v = grind (arith, reads-are, twice-valid, append-nil, none-gone)
+    → InOrder own → copied n (reads_of own) ≡ Faulty e → heard (plan n.call.nr n.call.args) [] (all-reads own) ≡ all-reads own → finding (judging_by P.rules) n (Send x b a ∷ own) ≡ Fault
+names-fault P n x e b a own g two o c v = let s = sees-all own o in let w = twice-valid own in let z = none-gone own g in grind (arith, reads-are)
 
 -- that it lets go then changes nothing
-ends-same : (S : System) (R : Rules) (P : Policy) (H : List Event) (w r x : ℕ) (b : Back) (a : Result (Unit {0}) ℕ) (n : Notif) (own : List What) → Ends S R H w r (Send x b a ∷ own)
+ends-same : (S : System) (R : Rules) (P : Policy) (H : List Event) (w r x : ℕ) (b : Back) (a : Result (Unit {0}) ℕ) (n : Notif) (own : List What) → number_of is_good_check own ≡ 2 → Ends S R H w r (Send x b a ∷ own)
     → finding (judging_by P.rules) n (session_at w r H) ≡ finding (judging_by P.rules) n (Send x b a ∷ own)
-ends-same S R P H w r x b a n own (answered k j) = rw k
-ends-same S R P H w r x b a n own (over k) = rw (k, append-nil (reads (Send x b a ∷ own)))
+ends-same S R P H w r x b a n own two (answered k j) = rw k
+ends-same S R P H w r x b a n own two (over k) = rw k (letting-go P n x b a own (twice-valid own (omega (arith, two))))
 
 -- a decision that acts is a grant
 acting-grants : (P : Policy) (F : Figures) (q : Request) (i : ℕ) (v : Verdict) → is_acting (decision P F q i v) ≡ true → v ≡ Grant
@@ -239,7 +273,7 @@ audit-names P F T H legal room s w x b a n h m =
     let q : t.n ≡ n = cc (t.work.notif_is, m) in
     let l = event_at-below H t.place _ t.receive in
     let z : length (before H t.place) ≡ t.place = (length-before H t.place).1 (omega arith) in
-    let e = ends-same S Q P H w t.place x b a n own t.ends in
+    let e = ends-same S Q P H w t.place x b a n own t.two t.ends in
     (t.place, rw q at t.receive, rw (z, e) (finds (copied n (reads_of own)) refl t.work.no_end t.two (rw q at t.whole)))
   where
     S : System
@@ -251,7 +285,10 @@ audit-names P F T H legal room s w x b a n h m =
     own : List What
     own = session (before H s) w
 
-    all-read : heard (plan n.call.nr n.call.args) [] (reads own) ≡ reads own
+    order : InOrder own
+    order = (ordered Q own (is-own S Q (before H s) (legal_before S Q H s legal) w)).order
+
+    all-read : heard (plan n.call.nr n.call.args) [] (all-reads own) ≡ all-reads own
     all-read = let i = legal_before S Q H s legal in all-heard P F own (is-own S Q (before H s) i w) n m (fit-reads P F T (before H s) i w)
 
     grants : (texts : List (List ℕ)) → copied n (reads_of own) ≡ Complete texts → list_any is_spent own ≡ true → (decide P.rules (request n.call.nr n.call.args texts)).1 ≡ Grant
@@ -262,5 +299,5 @@ audit-names P F T H legal room s w x b a n h m =
     finds : (p : Progress) → copied n (reads_of own) ≡ p → any_of gives_up own ≡ false → number_of is_good_check own ≡ 2 → wanted (copied n (reads_of own)) ≡ None
         → Finds P own n (finding (judging_by P.rules) n (Send x b a ∷ own)) p
     finds (Wants y k) c g two v = absurd (cc (rw c at v))
-    finds (Complete texts) c g two v = (names-rule P n x b a own texts g two c all-read, grants texts c)
-    finds (Faulty e) c g two v = names-fault P n x e b a own g two c all-read
+    finds (Complete texts) c g two v = (names-rule P n x b a own texts g two order c all-read, grants texts c)
+    finds (Faulty e) c g two v = names-fault P n x e b a own g two order c all-read

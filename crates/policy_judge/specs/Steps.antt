@@ -1,6 +1,7 @@
--- Which steps join a session.
+-- Which steps are heard for the copy of a session.
 use Rattle.std.specs.Prelude.{Bool, ◌&&◌, ◌||◌, not}
 
--- whether a step joins a session, by whether it is its first, whether it is its worker's, and whether the session is shut
-abbrev pub joins : Bool → Bool → Bool → Bool
-joins first own shut = first || (own && not shut)
+-- whether a step is heard, by whether it is the session's first, whether it is its worker's, and whether before it the session was
+-- shut, or its second check had been good
+abbrev pub hears : Bool → Bool → Bool → Bool → Bool
+hears first own shut checked_twice = first || (own && not (shut || checked_twice))

@@ -3,7 +3,8 @@ use Rattle.std.proofs.Common.{rules, ◌≡◌, [], true, ap, ◌∙◌, sym}
 use Rattle.std.specs.Prelude.{Err, Ok}
 use Rattle.hist_model.specs.Copies.{fits_piece, wanted}
 use Rattle.arg_capture.specs.Captures.{continued}
-use Rattle.policy_judge.proofs.Heard.{fit_fault, follows_taken}
+use Rattle.arg_capture.proofs.Answering.{fit_fault}
+use Rattle.policy_judge.proofs.Heard.{follows_taken}
 use Rattle.policy_judge.proofs.reads.take.Goals as goal
 
 pub returns-in-Ok : goal.returns-in-Ok

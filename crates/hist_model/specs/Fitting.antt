@@ -1,0 +1,59 @@
+-- Which steps answer a worker's deed: a step of the deed's kind, with all that the deed names, and with an answer that a deed of this
+-- kind can have.
+use Rattle.std.specs.Prelude.{ℕ, Bool, true, false, ◌&&◌, not, if◌then◌else◌, ◌==◌, List, Option, Some, None, Ok, Err, bytes_eq}
+use Rattle.std.specs.Ordering.{int_eq}
+use Rattle.std.specs.Option.{option_eq}
+use Rattle.hist_model.specs.Copies.{fits_piece}
+use Rattle.hist_model.specs.Sessions.{Deed, Fetch, Open, OpenB, Ask, ReadD, ActD, PlantD, Put, Take, Answer, Let}
+use Rattle.hist_model.specs.declared.event.Back.{Back}
+use Rattle.hist_model.specs.declared.event.Back.TheVariants.{Value, Fail, Continue}
+use Rattle.hist_model.specs.declared.event.What.{What}
+use Rattle.hist_model.specs.declared.event.What.TheVariants.{Recv, OpenMem, OpenBase, Check, Read, Act, Plant, AddfdPut, AddfdTake, Send, LetGo}
+use Rattle.hist_model.specs.declared.policy.Cap.{Cap}
+use Rattle.hist_model.specs.declared.request.Request.{Request}
+use Rattle.hist_model.specs.declared.request.Request.TheVariants.{Mknod, Mount, SetXattr, OpenAt, Sysinfo, Other}
+use Rattle.sys_abi.specs.Errnos.{enoent}
+use Rattle.sys_abi.specs.declared.wire.Addfd.{Addfd}
+
+-- two requests are one
+abbrev pub request_eq : Request → Request → Bool
+request_eq (Mknod dirfd path mode dev) (Mknod d p m v) = option_eq int_eq dirfd d && (bytes_eq path p && ((mode == m) && (dev == v)))
+request_eq (Mount source target fstype options via flags shift) (Mount s t f o v n b) =
+    bytes_eq source s && (bytes_eq target t && (bytes_eq fstype f && (bytes_eq options o && (bytes_eq via v && ((flags == n) && (if shift then b else not b))))))
+request_eq (SetXattr path name value flags) (SetXattr p n v f) = bytes_eq path p && (bytes_eq name n && (bytes_eq value v && (flags == f)))
+request_eq (OpenAt dirfd path flags) (OpenAt d p f) = int_eq dirfd d && (bytes_eq path p && (flags == f))
+request_eq (Sysinfo addr) (Sysinfo a) = addr == a
+request_eq (Other nr) (Other n) = int_eq nr n
+request_eq _ _ = false
+
+-- two caps are one
+abbrev pub cap_eq : Cap → Cap → Bool
+cap_eq a b = (a.rule == b.rule) && (a.times == b.times)
+
+-- two requests for a descriptor are one
+abbrev pub addfd_eq : Addfd → Addfd → Bool
+addfd_eq a b = (a.id == b.id) && ((a.flags == b.flags) && ((a.srcfd == b.srcfd) && ((a.newfd == b.newfd) && (a.newfd_flags == b.newfd_flags))))
+
+-- two answers to a notification are one
+abbrev pub back_eq : Back → Back → Bool
+back_eq (Value v) (Value w) = int_eq v w
+back_eq (Fail e) (Fail f) = e == f
+back_eq Continue Continue = true
+back_eq _ _ = false
+
+-- the step answers the deed: a receive with a notification or ENOENT, a read with some bytes, at most as many as were asked for, or
+-- EFAULT, and each other deed as it may
+abbrev pub fits : Deed → What → Bool
+fits Fetch (Recv (Ok notif)) = true
+fits Fetch (Recv (Err e)) = e == enoent
+fits (Open pid) (OpenMem p answer) = pid == p
+fits (OpenB pid dirfd) (OpenBase p d answer) = (pid == p) && int_eq dirfd d
+fits (Ask id) (Check x answer) = id == x
+fits (ReadD addr len) (Read a l answer) = (addr == a) && ((len == l) && fits_piece (Some (addr, len)) answer)
+fits (ActD request cap) (Act q c answer) = request_eq request q && option_eq cap_eq cap c
+fits (PlantD addr bytes cap) (Plant a b c answer) = (addr == a) && (bytes_eq bytes b && option_eq cap_eq cap c)
+fits (Put asked) (AddfdPut a answer) = addfd_eq asked a
+fits Take (AddfdTake answer) = true
+fits (Answer id back) (Send x b answer) = (id == x) && back_eq back b
+fits Let LetGo = true
+fits _ _ = false
