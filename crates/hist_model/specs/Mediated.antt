@@ -242,6 +242,7 @@ pub record IsCaused (R : Rules) (K : List Event) (w c : ℕ) (n : Notif) (x : �
   pub whole : R.next_piece n (reads_of (session K w)) ≡ None
   pub cause : Cause R (session K w) n b
 
+-- each answer is so of some call and its notification
 abbrev pub HasCause : Rules → List Event → Event → Type 0
 HasCause R K e = (w x : ℕ) (b : Back) (a : Result (Unit {0}) ℕ) → e.who ≡ Worker w → e.what ≡ Send x b a → (c : ℕ) × (n : Notif) × IsCaused R K w c n x b
 
