@@ -1,5 +1,6 @@
 -- How a play ends.
-use Rattle.std.proofs.Common.{◌≡◌, ℕ, true, List, ◌++◌, ◌∙◌, ap, refl, sym}
+use Rattle.std.proofs.Common.{◌≡◌, ℕ, true, List, ◌++◌, length, take, ◌∙◌, ap, refl, sym, arith}
+use Rattle.std.proofs.lemmas.List.{take_all}
 use Rattle.std.specs.Prelude.{Result, Ok, Err}
 use Rattle.hist_model.specs.Legal.{played}
 use Rattle.hist_model.specs.Report.{report}
@@ -7,12 +8,13 @@ use Rattle.hist_model.specs.ReportAudit.{judging_by}
 use Rattle.hist_model.specs.declared.event.Event.{Event}
 use Rattle.hist_model.specs.declared.policy.Policy.{Policy}
 use Rattle.hist_model.specs.declared.script.Script.{Script}
-use Rattle.io_edge.specs.SinkState.{SinkState, AddsPrefix}
+use Rattle.io_edge.proofs.Laws.{then_rose}
+use Rattle.io_edge.specs.SinkState.{SinkState, AddsPrefix, Flushes}
 use Rattle.audit_log.proofs.Writing.{adds_nothing, wrote_front, wrote_more}
 use Rattle.audit_log.specs.Written.{Wrote}
 use Rattle.audit_log.specs.declared.error.ReportError.{ReportError}
 use Rattle.audit_log.specs.declared.error.ReportError.TheVariants.{WriteFault, NoMemory}
-use Rattle.broker_app.specs.Answers.{Reported, report_of}
+use Rattle.broker_app.specs.Answers.{Reported, Stands, report_of}
 use Rattle.broker_app.specs.Lines.{status_of_report}
 use Rattle.broker_app.specs.declared.status.Status.{Status}
 use Rattle.broker_app.specs.declared.status.Status.TheVariants.{NoMemory as OutOfMemory}
@@ -36,9 +38,33 @@ told_part text same x old new e w t = rw (sym e) (w.part t)
 same_report : (P : Policy) (K L : List Event) → K ≡ L → report (judging_by P.rules) K ≡ report (judging_by P.rules) L
 same_report P K L e = ap (λ xs. report (judging_by P.rules) xs) e
 
--- the whole report was written
-pub ends_written : (P : Policy) (S : Script) (K : List Event) (old new : SinkState) → K ≡ played P S → Wrote old (report (judging_by P.rules) K) (Ok tt) new → Reported P S old new (Ok tt)
-ends_written P S K old new e w = told_whole _ _ old new (same_report P K (played P S) e) w
+-- a text that was written whole, and then flushed
+pub flushed : {E : Type 0} (old mid new : SinkState) (text : List ℕ) (u v : Unit {0}) → Wrote old text (Ok u) mid → Flushes {T = Unit {0}} {E = E} mid (Ok v) new → Wrote old text (Ok tt) new
+flushed old mid new text u v w f = record {
+  tells = f.tells ∙ w.tells;
+  faults = omega (arith, w.faults, f.faults);
+  cause = λ p. cc;
+  whole = λ t. f.taken (w.tells ∙ t) ∙ w.whole t;
+  part = tt;
+}
+
+-- or whose flush failed: it is a prefix of itself
+pub unflushed : {E : Type 0} (old mid new : SinkState) (text : List ℕ) (u : Unit {0}) (x : E) (e : ReportError) (r : Result (Unit {0}) ReportError) → r ≡ Err e
+    → Wrote old text (Ok u) mid → Flushes {T = Unit {0}} {E = E} mid (Err x) new → Wrote old text r new
+unflushed old mid new text u x e r is w f = rw is failed
+  where
+    failed : Wrote old text (Err e) new
+    failed = record {
+      tells = f.tells ∙ w.tells;
+      faults = omega (arith, w.faults, f.faults);
+      cause = λ p. then_rose old.faults mid.faults new.faults w.faults f.cause;
+      whole = tt;
+      part = λ t. (length text, omega arith, f.taken (w.tells ∙ t) ∙ w.whole t ∙ ap (λ xs. old.taken ++ xs) (sym (take_all (length text) text (omega arith))));
+    }
+
+-- the whole report was written, and stands
+pub ends_written : (P : Policy) (S : Script) (K : List Event) (old new : SinkState) → K ≡ played P S → Wrote old (report (judging_by P.rules) K) (Ok tt) new → Stands new → Reported P S old new (Ok tt)
+ends_written P S K old new e w stands = (told_whole _ _ old new (same_report P K (played P S) e) w, stands)
 
 -- a part of it was
 pub ends_cut : (P : Policy) (S : Script) (K : List Event) (old new : SinkState) (x : ReportError) → K ≡ played P S → Wrote old (report (judging_by P.rules) K) (Err x) new → Reported P S old new (Err (status_of_report x))

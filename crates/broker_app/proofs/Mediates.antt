@@ -1,4 +1,4 @@
--- The scripts that are built can be played, and what they play is mediated, whatever the policy.
+-- What the scripts that are built play is mediated, whatever the policy.
 use Rattle.std.proofs.Common.{◌≡◌, ℕ, zero, suc, ◌+◌, ◌-◌, ◌<◌, ◌≤◌, ◌^◌, List, [], ◌∷◌, Option, Some, None, if◌then◌else◌, Bool, true, false, ◌&&◌, nat_le, bytes_eq, length, refl, sym, arith}
 use Rattle.std.proofs.lemmas.Bool.{leb-true}
 use Rattle.hist_model.specs.FirstPath.{script_of, script_by, unless_passed, scheduled, script_making, three_turns, script_text, script_fields, ScriptFields, is_made_path, passes, count_of, decimal_between, leads_with_zero}
@@ -12,7 +12,6 @@ use Rattle.hist_model.specs.declared.policy.Policy.{Policy}
 use Rattle.hist_model.specs.declared.script.Script.{Script}
 use Rattle.mediation.proofs.Mediation.{mediated}
 use Rattle.mediation.proofs.Played.{played_is_legal}
-use Rattle.plain_play.specs.Playable.{IsPlayable}
 
 -- so many steps add so many events
 steps_add : (P : Policy) (S : Script) (a : Actor) (n : ℕ) (K : List Event) → length (with_steps P S a n K) ≡ n + length K
@@ -37,9 +36,6 @@ module _ (path : List ℕ) (dev a b c : ℕ) (x : a ≤ 99) (y : b ≤ 99) (z : 
       let S = script_making path dev (three_turns a b c) in
       let short : length (played P S) < 2 ^ 64 = omega (arith, length_is P S refl) in
       mediated P S (played P S) (played_is_legal P S (refl, (omega arith, (refl, tt)))) short
-
-  making_is_playable : IsPlayable (script_making path dev (three_turns a b c))
-  making_is_playable = record { pids = omega arith; first = omega arith; schedule = (tt, (omega arith, (tt, tt))) }
 
 -- a number that was read is within its bound
 within : (z t l h : Bool) (v n : ℕ) → (h ≡ true → v ≤ 99) → (if z then None else (if t && (l && h) then Some v else None)) ≡ Some n → n ≤ 99
@@ -86,7 +82,3 @@ module _ (C : Script → Type 0) (holds : (path : List ℕ) (dev a b c : ℕ) �
 -- each script that is read plays mediated histories
 pub built_is_mediated : (Q : Policy) (text : List ℕ) (S : Script) → Some S ≡ script_of Q text → (P : Policy) → Mediated P S (played P S)
 built_is_mediated = of_read (λ S. (P : Policy) → Mediated P S (played P S)) making_is_mediated
-
--- and it can be played
-pub built_is_playable : (Q : Policy) (text : List ℕ) (S : Script) → Some S ≡ script_of Q text → IsPlayable S
-built_is_playable = of_read IsPlayable making_is_playable

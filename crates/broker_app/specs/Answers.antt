@@ -1,5 +1,5 @@
 -- What the program's answer means: what it read, what it wrote, and why it stopped.
-use Rattle.std.specs.Prelude.{◌≡◌, ℕ, ◌<◌, ◌≤◌, ◌++◌, ◌∷◌, [], true, List, length, Option, Some, None, Result, Ok, Err, ◌⊎◌}
+use Rattle.std.specs.Prelude.{◌≡◌, ℕ, ◌<◌, ◌≤◌, ◌++◌, ◌∷◌, [], true, false, List, length, Option, Some, None, Result, Ok, Err, ◌⊎◌}
 use Rattle.hist_model.specs.FirstPath.{policy_of, script_of}
 use Rattle.hist_model.specs.Legal.{played}
 use Rattle.hist_model.specs.Mediated.{Mediated}
@@ -41,9 +41,13 @@ TookPrefix files policy script old new = (P : Policy) × (S : Script) × AreRead
 abbrev pub TookReport : FileState → List ℕ → List ℕ → SinkState → SinkState → Type 0
 TookReport files policy script old new = (P : Policy) × (S : Script) × AreRead files policy script P S × (old.tells ≡ true → new.taken ≡ old.taken ++ report_of P S)
 
+-- all that the sink took stands where it belongs
+abbrev pub Stands : SinkState → Type 0
+Stands sink = sink.pending ≡ false
+
 -- what a play of a policy and a script wrote
 abbrev pub Reported : Policy → Script → SinkState → SinkState → Result (Unit {0}) Status → Type 0
-Reported P S old new (Ok u) = old.tells ≡ true → new.taken ≡ old.taken ++ report_of P S
+Reported P S old new (Ok u) = (old.tells ≡ true → new.taken ≡ old.taken ++ report_of P S) × Stands new
 Reported P S old new (Err WriteFault) = Rose old.faults new.faults × (old.tells ≡ true → AddsPrefix old.taken (report_of P S) new.taken)
 Reported P S old new (Err NoMemory) = old.tells ≡ true → AddsPrefix old.taken (report_of P S) new.taken
 Reported P S old new (Err status) = ⊥
@@ -73,7 +77,7 @@ OnlyPolicy files after policy script status = (P : Policy) × (files.tells ≡ t
 
 -- how the play of a policy's and a script's files ended
 abbrev pub PlayEnds : FileState → FileState → SinkState → SinkState → List ℕ → List ℕ → Status → Type 0
-PlayEnds files after old new policy script Done = TookReport files policy script old new
+PlayEnds files after old new policy script Done = TookReport files policy script old new × Stands new
 PlayEnds files after old new policy script WriteFault = Rose old.faults new.faults × TookPrefix files policy script old new
 PlayEnds files after old new policy script NoMemory = TookNothing old new ⊎ TookPrefix files policy script old new
 PlayEnds files after old new policy script (ReadFault PolicyFile) = PolicyRefused files after policy (ReadFault PolicyFile) × TookNothing old new
@@ -102,9 +106,9 @@ abbrev pub status_of : Result (Unit {0}) Status → Status
 status_of (Ok u) = Done
 status_of (Err status) = status
 
--- standard error took the whole line, and nothing where it is empty, or its count of faults rose, and it took a prefix of the line
+-- standard error took the whole line, and nothing where it is empty, and it stands if all before it did; or its count of faults rose, and it took a prefix of the line
 pub record Said (old : SinkState) (line : List ℕ) (new : SinkState) : Type 0 where
   pub tells : new.tells ≡ old.tells
   pub faults : old.faults ≤ new.faults
-  pub whole : Rose old.faults new.faults ⊎ (old.tells ≡ true → new.taken ≡ old.taken ++ line)
+  pub whole : Rose old.faults new.faults ⊎ ((old.tells ≡ true → new.taken ≡ old.taken ++ line) × (Stands old → Stands new))
   pub part : old.tells ≡ true → AddsPrefix old.taken line new.taken

@@ -1,6 +1,6 @@
 //! The top call.
 
-ghost use Rattle.std.specs.Prelude.{◌≡◌, ◌++◌, true, Some, None, IfOk, IfErr, Err};
+ghost use Rattle.std.specs.Prelude.{◌≡◌, ◌++◌, true, Some, None, OnOk, IfOk, IfErr, Err};
 ghost use Rattle.hist_model.specs.Legal.{played};
 ghost use Rattle.hist_model.specs.Mediated.{Mediated};
 ghost use Rattle.hist_model.specs.declared.policy.Policy.{Policy};
@@ -12,10 +12,9 @@ ghost use Rattle.hist_model.specs.Words.{form};
 ghost use Rattle.io_edge.specs.Faults.{Rose};
 ghost use Rattle.io_edge.specs.FileState.{SameFiles};
 ghost use Rattle.audit_log.specs.Written.{Wrote};
-ghost use Rattle.plain_play.specs.Playable.{IsPlayable};
 ghost use Rattle.broker_app.specs.Forms.{texts};
 ghost use Rattle.broker_app.specs.Inputs.{policy_in, script_in};
-ghost use Rattle.broker_app.specs.Answers.{PolicyRefused, ScriptRefused, Reported, PlayEnds, Answers, Said, status_of};
+ghost use Rattle.broker_app.specs.Answers.{PolicyRefused, ScriptRefused, Reported, PlayEnds, Stands, Answers, Said, status_of};
 ghost use Rattle.broker_app.specs.Lines.{line_of};
 ghost use Rattle.broker_app.specs.declared.status.InputFile.TheVariants.{Policy as PolicyFile, Script as ScriptFile};
 ghost use Rattle.broker_app.specs.declared.status.Status.TheVariants.{ReadFault};
@@ -32,6 +31,7 @@ use audit_log::summary::write_summary;
 use hist_model::history::History;
 use hist_model::policy::Policy;
 use hist_model::script::Script;
+use io_edge::fault::Failed;
 use io_edge::files::Files;
 use io_edge::sink::Sink;
 use io_edge::whole::{ReadAllError, read_all};
@@ -73,7 +73,6 @@ fn read_script<F: Files>(
 ) -> Result<Script, Status>
     ensures same { SameFiles (F.state files.old) (F.state files.new) }
     ensures read { IfOk result (λ s. (F.state files.old).tells ≡ true → script_in policy.now (F.state files.old) name.now ≡ Some s) }
-    ensures playable { IfOk result IsPlayable }
     ensures mediated { IfOk result (λ s. (P : Policy) → Mediated P s (played P s)) }
     ensures refused { IfErr result (λ s. ScriptRefused policy.now (F.state files.old) (F.state files.new) name.now s) }
     ensures absent { (F.state files.old).sound ≡ true → (F.state files.old).bytes name.now ≡ None → result ≡ Err (ReadFault ScriptFile) }
@@ -126,6 +125,22 @@ fn write_report<O: Sink>(
     write_summary(alloc, &PolicyJudge::new(policy), history, out)
 }
 
+/// Writes the report, and sees that it stands.
+#[tactic(auto, using(crate::proofs::Ends::flushed))]
+fn print_report<O: Sink>(
+    alloc: Global,
+    policy: &Policy,
+    history: &History,
+    out: &mut O,
+) -> Result<(), ReportError>
+    ensures wrote { Wrote (O.state out.old) (report (judging_by policy.now.rules) history.now.events) result (O.state out.new) }
+    ensures stands { OnOk result (Stands (O.state out.new)) }
+{
+    write_report(alloc, policy, history, out)?;
+    out.flush()?;
+    Ok(())
+}
+
 /// Plays a script under a policy and writes the report.
 #[tactic(auto, using(crate::proofs::Ends::ends_written, crate::proofs::Ends::ends_cut, crate::proofs::Ends::ends_unplayed))]
 fn report_play<O: Sink>(
@@ -134,11 +149,10 @@ fn report_play<O: Sink>(
     script: &Script,
     out: &mut O,
 ) -> Result<(), Status>
-    requires { IsPlayable script.now }
     ensures { Reported policy.now script.now (O.state out.old) (O.state out.new) result }
 {
     let history = play(alloc, policy, script)?;
-    write_report(alloc, policy, &history, out)?;
+    print_report(alloc, policy, &history, out)?;
     Ok(())
 }
 
@@ -200,5 +214,14 @@ fn say<E: Sink>(line: &[u8], err: &mut E)
     if line.is_empty() {
         return;
     }
-    let _ = err.write(line);
+    let _ = write_line(line, err);
+}
+
+/// Writes a line, and sees that it stands.
+#[tactic(auto, using(crate::proofs::Saying::said_cut, crate::proofs::Saying::said_flushed))]
+fn write_line<E: Sink>(line: &[u8], err: &mut E) -> Result<(), Failed>
+    ensures said { Said (E.state err.old) line.now (E.state err.new) }
+{
+    err.write(line)?;
+    err.flush()
 }

@@ -3,6 +3,7 @@
 ghost use Rattle.std.specs.Prelude.{◌≡◌, ◌∷◌, [], ◌++◌, IfOk, pos, true};
 ghost use Rattle.std.specs.List.{list_all};
 ghost use Rattle.hist_model.specs.FirstPath.{script_of, script_text, script_fields, script_by, unless_passed, scheduled, script_making, three_turns, mknod_args, is_made_path, is_lower_or_digit, asked, passes, is_pass, count_of};
+ghost use Rattle.hist_model.specs.ScriptRules.{can_be_scheduled};
 ghost use Rattle.hist_model.specs.Filters.{notify_filter};
 ghost use Rattle.hist_model.specs.declared.script.Instr.TheVariants.{Poke, Call};
 ghost use Rattle.hist_model.specs.declared.event.Actor.TheVariants.{Task};
@@ -284,6 +285,7 @@ fn script_making(
     device: u64,
     schedule: Sequence<Step>,
 ) -> Result<Script, NoMemory>
+    requires { list_all (λ s. can_be_scheduled s.who) schedule ≡ true }
     ensures { IfOk result (λ s. s ≡ script_making path.now device schedule) }
 {
     Ok(Script {

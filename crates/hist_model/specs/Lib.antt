@@ -1,3 +1,6 @@
+pub mod Records
+pub mod PolicyRules
+pub mod ScriptRules
 pub mod Look
 pub mod Names
 pub mod Histories

@@ -2,6 +2,7 @@
 
 use crate::request::Kind;
 use crate::text::{Sequence, Text};
+use std::marker::Model;
 use sys_abi::errno::Errno;
 
 /// What a rule answers a call that it fits.
@@ -71,4 +72,15 @@ pub struct Cap {
 #[derive(Debug, Drop)]
 pub struct Policy {
     pub rules: Sequence<Rule>,
+}
+
+impl Model for Policy {
+    ghost use Rattle.hist_model.specs.Records.{PolicyRecord};
+    ghost use Rattle.hist_model.specs.PolicyRules.{IsPolicy};
+
+    ghost Value = { PolicyRecord };
+
+    ghost view = { λ p. record { rules = p.rules } };
+
+    ghost invariant = { λ p. IsPolicy (record { rules = p.rules }) };
 }

@@ -5,6 +5,7 @@ ghost use Rattle.std.specs.Prelude.{◌≡◌, []};
 use crate::event::{Actor, Mode};
 use crate::request::{Node, NodeRef};
 use crate::text::{Sequence, Text};
+use std::marker::Model;
 
 /// A line of the tree: a node below a stated directory, or an attribute of a stated node.
 #[derive(Debug, Drop)]
@@ -117,6 +118,17 @@ pub struct Script {
     pub filters: Sequence<FilterLine>,
     pub programs: Sequence<Sequence<Instr>>,
     pub schedule: Sequence<Step>,
+}
+
+impl Model for Script {
+    ghost use Rattle.hist_model.specs.Records.{ScriptRecord};
+    ghost use Rattle.hist_model.specs.ScriptRules.{IsScript};
+
+    ghost Value = { ScriptRecord };
+
+    ghost view = { λ s. record { pidbase = s.pidbase; pidmax = s.pidmax; firstid = s.firstid; rlimit = s.rlimit; killable = s.killable; root = s.root; figures = s.figures; tree = s.tree; broker = s.broker; map = s.map; filters = s.filters; programs = s.programs; schedule = s.schedule } };
+
+    ghost invariant = { λ s. IsScript (record { pidbase = s.pidbase; pidmax = s.pidmax; firstid = s.firstid; rlimit = s.rlimit; killable = s.killable; root = s.root; figures = s.figures; tree = s.tree; broker = s.broker; map = s.map; filters = s.filters; programs = s.programs; schedule = s.schedule }) };
 }
 
 impl Script {

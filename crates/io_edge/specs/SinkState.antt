@@ -1,5 +1,5 @@
--- What is known of a sink, and what a write does to that.
-use Rattle.std.specs.Prelude.{◌≡◌, ℕ, ◌≤◌, Bool, true, List, ◌++◌, length, take, Result, OnOk, OnErr}
+-- What is known of a sink, and what a write and a flush do to that.
+use Rattle.std.specs.Prelude.{◌≡◌, ℕ, ◌≤◌, Bool, true, false, List, ◌++◌, length, take, Result, OnOk, OnErr}
 use Rattle.io_edge.specs.Faults.{Rose}
 
 -- What is known of a sink.
@@ -10,6 +10,8 @@ pub record SinkState : Type 0 where
   pub taken : List ℕ
   -- how often it failed
   pub faults : ℕ
+  -- whether it took something since the last good flush that may not stand yet where it belongs
+  pub pending : Bool
 
 -- A prefix of this piece was added.
 abbrev pub AddsPrefix : List ℕ → List ℕ → List ℕ → Type 0
@@ -22,3 +24,11 @@ pub record Writes {T E : Type 0} (old : SinkState) (piece : List ℕ) (result : 
   pub cause : OnErr result (Rose old.faults new.faults)
   pub whole : OnOk result (old.tells ≡ true → new.taken ≡ old.taken ++ piece)
   pub part : OnErr result (old.tells ≡ true → AddsPrefix old.taken piece new.taken)
+
+-- What `flush` did: what was taken stands, or it failed. It takes nothing.
+pub record Flushes {T E : Type 0} (old : SinkState) (result : Result T E) (new : SinkState) : Type 0 where
+  pub tells : new.tells ≡ old.tells
+  pub faults : old.faults ≤ new.faults
+  pub cause : OnErr result (Rose old.faults new.faults)
+  pub taken : old.tells ≡ true → new.taken ≡ old.taken
+  pub stands : OnOk result (new.pending ≡ false)

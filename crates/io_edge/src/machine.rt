@@ -1,12 +1,15 @@
 //! The machine's files and writers. What they hold isn't known to any proof: this is the trusted edge.
 
-ghost use Rattle.std.specs.Prelude.{◌≡◌, List, [], None, false, option_map, ℕ};
+ghost use Rattle.std.specs.Prelude.{◌≡◌, ◌≤◌, List, [], None, false, option_map, ℕ, vec_len, vec_capacity, IfOk, OnErr, is_ok};
+ghost use Rattle.io_edge.specs.Faults.{Rose};
 
 use crate::fault::Failed;
 use crate::files::Files;
 use crate::sink::Sink;
+use std::alloc::Global;
 use std::io::{Read, Write};
 use std::{fs, rt};
+use sys_abi::memory::NoMemory;
 
 /// The machine's files. Each error of the machine is a fault. It tells no bytes, and so isn't sound.
 #[derive(Drop)]
@@ -82,41 +85,99 @@ impl<R: rt::Files> Files for RealFiles<'_, R> {
     }
 }
 
-/// A sink over a writer, as standard output. Each error of the writer is a fault, and so is a write that
-/// takes nothing of a piece that isn't empty. A piece is flushed before it counts as taken. It tells no
-/// bytes.
+/// How many bytes are gathered before they are written.
+const GATHERED: usize = 65536;
+
+/// A sink over a writer, as standard output. It gathers what it takes and writes large pieces; what is
+/// gathered is written at `flush` at the latest. Each error of the writer is a fault, and so is a write
+/// that takes nothing of a piece that isn't empty. What couldn't be written isn't written again. It tells
+/// no bytes.
 #[derive(Drop)]
 pub struct RealSink<W: Write + Drop> {
     inner: W,
+    // what was taken and not written yet
+    gathered: Vec<u8>,
+    // something was taken since the last good flush
+    pending: bool,
     faults: u64,
+    ghost reserved: { 65536 ≤ vec_capacity gathered },
+    ghost within: { vec_len gathered ≤ 65536 },
 }
 
 impl<W: Write + Drop> RealSink<W> {
-    /// A sink over this writer.
-    pub fn new(inner: W) -> RealSink<W>
-        ensures { ⟦<RealSink<W> as Sink>⟧.state result
-            ≡ record { tells = false; taken = []; faults = 0 } }
+    /// A sink over this writer. All its memory is taken here; `NoMemory` comes where there is none.
+    pub fn new(alloc: Global, inner: W) -> Result<RealSink<W>, NoMemory>
+        ensures { IfOk result (λ sink. ⟦<RealSink<W> as Sink>⟧.state sink
+            ≡ record { tells = false; taken = []; faults = 0; pending = false }) }
     {
-        RealSink { inner, faults: 0 }
+        let gathered = Vec::with_capacity(alloc, GATHERED)?;
+        Ok(RealSink {
+            inner,
+            gathered,
+            pending: false,
+            faults: 0,
+        })
     }
+
+    /// Writes what was gathered.
+    fn write_gathered(&mut self) -> Result<(), Failed>
+        ensures faults { self.old.faults ≤ self.new.faults }
+        ensures cause { OnErr result (Rose self.old.faults self.new.faults) }
+        ensures emptied { self.new.gathered.items ≡ [] }
+        ensures pending { self.new.pending ≡ self.old.pending }
+    {
+        let written = write_whole(&mut self.inner, self.gathered.as_slice());
+        self.gathered.clear();
+        counted(written, &mut self.faults)
+    }
+}
+
+/// The answer of an act of the writer, which was good or failed; a failure is counted.
+fn counted(good: bool, faults: &mut u64) -> Result<(), Failed>
+    ensures good { is_ok result ≡ good }
+    ensures faults { faults.old ≤ faults.new }
+    ensures cause { OnErr result (Rose faults.old faults.new) }
+{
+    if good {
+        Ok(())
+    } else {
+        Err(Failed::counted(faults))
+    }
+}
+
+/// Writes all of the bytes, and tells whether the writer took them.
+fn write_whole<W: Write>(inner: &mut W, bytes: &[u8]) -> bool {
+    let mut rest = bytes;
+    'pieces: while !rest.is_empty() {
+        match inner.write(rest) {
+            Ok(count) if count != 0 => rest = &rest[count..],
+            _ => return false,
+        }
+    }
+    true
 }
 
 impl<W: Write + Drop> Sink for RealSink<W> {
     ghost use Rattle.io_edge.specs.SinkState.{SinkState};
 
-    ghost state = { λ s. record { tells = false; taken = []; faults = s.faults } };
+    ghost state = { λ s. record { tells = false; taken = []; faults = s.faults; pending = s.pending } };
 
     fn write(&mut self, piece: &[u8]) -> Result<(), Failed> {
-        let mut rest = piece;
-        'piece: while !rest.is_empty() {
-            match self.inner.write(rest) {
-                Ok(count) if count != 0 => rest = &rest[count..],
-                _ => return Err(Failed::counted(&mut self.faults)),
-            }
+        self.pending = true;
+        if piece.len() > GATHERED - self.gathered.len() {
+            self.write_gathered()?;
         }
-        if self.inner.flush().is_err() {
-            return Err(Failed::counted(&mut self.faults));
+        if piece.len() > GATHERED {
+            return counted(write_whole(&mut self.inner, piece), &mut self.faults);
         }
+        self.gathered.extend_from_slice(piece).unwrap();
+        Ok(())
+    }
+
+    fn flush(&mut self) -> Result<(), Failed> {
+        self.write_gathered()?;
+        counted(self.inner.flush().is_ok(), &mut self.faults)?;
+        self.pending = false;
         Ok(())
     }
 }

@@ -1,10 +1,10 @@
 //! Files and sinks in memory, which fail where they are asked to.
 
-ghost use Rattle.std.specs.Prelude.{◌≡◌, ◌<◌, ◌≤◌, ◌==◌, ◌||◌, true, refl, [], None, length, min, take, drop, ◌-◌, ◌++◌, vec_len, vec_capacity, IfOk, IfSome, IsSome, is_err, is_none, nat_lt, option_map, if◌then◌else◌};
+ghost use Rattle.std.specs.Prelude.{◌≡◌, ◌<◌, ◌≤◌, ◌==◌, ◌||◌, true, false, refl, [], None, Ok, length, min, take, drop, ◌-◌, ◌++◌, vec_len, vec_capacity, IfOk, IfSome, IsSome, is_err, is_none, nat_lt, option_map, if◌then◌else◌};
 ghost use Rattle.std.specs.Option.{ForSome};
 ghost use Rattle.io_edge.specs.Named.{bytes_at, bytes_named, name_at, left_at, place_named};
 ghost use Rattle.io_edge.specs.FileState.{Opens, Reads};
-ghost use Rattle.io_edge.specs.SinkState.{Writes};
+ghost use Rattle.io_edge.specs.SinkState.{Flushes, Writes};
 ghost use Rattle.io_edge.specs.Planned.{fails_next, after_call};
 
 use crate::fault::Failed;
@@ -148,6 +148,7 @@ impl MemSink {
           tells = true;
           taken = [];
           faults = 0;
+          pending = false;
         }) }
         ensures room { IfOk result (λ sink. sink.room ≡ room) }
         ensures plan { IfOk result
@@ -172,7 +173,7 @@ impl MemSink {
 impl Sink for MemSink {
     ghost use Rattle.io_edge.specs.SinkState.{SinkState};
 
-    ghost state = { λ s. record { tells = true; taken = s.taken.items; faults = s.plan.faults } };
+    ghost state = { λ s. record { tells = true; taken = s.taken.items; faults = s.plan.faults; pending = false } };
 
     fn write(&mut self, piece: &[u8]) -> Result<(), Failed>
         ensures writes { Writes (⟦<MemSink as Sink>⟧.state self.old) piece.now result
@@ -192,6 +193,14 @@ impl Sink for MemSink {
         if fits < piece.len() {
             return Err(self.plan.fail());
         }
+        Ok(())
+    }
+    /// What was taken stands at once, so this does nothing, and isn't counted.
+    fn flush(&mut self) -> Result<(), Failed>
+        ensures flushes { Flushes (⟦<MemSink as Sink>⟧.state self.old) result (⟦<MemSink as Sink>⟧.state self.new) }
+        ensures good { result ≡ Ok tt }
+        ensures same { self.new ≡ self.old }
+    {
         Ok(())
     }
 }

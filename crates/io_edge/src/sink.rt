@@ -1,12 +1,13 @@
 //! Sinks.
 
-ghost use Rattle.io_edge.specs.SinkState.{SinkState, Writes};
+ghost use Rattle.io_edge.specs.SinkState.{Flushes, SinkState, Writes};
 
 use crate::fault::Failed;
 
 /// A place for output.
 ///
-/// Contracts see the bytes taken, where the sink tells them, and a count of faults, which never falls.
+/// Contracts see the bytes taken, where the sink tells them, a count of faults, which never falls, and
+/// whether something that was taken may not stand yet where it belongs.
 pub trait Sink {
     /// What is known of the sink.
     ghost state: { Self → SinkState };
@@ -15,4 +16,9 @@ pub trait Sink {
     /// count of faults rose in this call; a count at 2^64 - 1 counts as risen.
     fn write(&mut self, piece: &[u8]) -> Result<(), Failed>
         ensures { Writes (state self.old) piece.now result (state self.new) };
+
+    /// Sees that all that was taken stands where it belongs. `Failed` comes only where the count of
+    /// faults rose in this call, as for `write`.
+    fn flush(&mut self) -> Result<(), Failed>
+        ensures { Flushes (state self.old) result (state self.new) };
 }

@@ -107,9 +107,11 @@ fn takes_what_fits(rt: HostRuntime) -> Result<(), Fail> {
         assert_eq!(rt; sink.write(piece.as_bytes()), want, "{piece}");
         assert_eq!(rt; sink.taken(), taken.as_bytes(), "{piece}");
     }
-    let mut small = MemSink::new(alloc, 3, Vec::new(alloc))?;
+    let mut small = MemSink::new(alloc, 3, vec![in alloc; 2]?)?;
+    assert_eq!(rt; small.flush(), Ok(()));
     assert_eq!(rt; small.write(b"abcd"), Err(Failed));
     assert_eq!(rt; small.taken(), b"abc".as_slice());
+    assert_eq!(rt; small.flush(), Ok(()));
     Ok(())
 }
 
@@ -150,15 +152,19 @@ fn reaches_the_machine(rt: HostRuntime) -> Result<(), Fail> {
     assert_eq!(rt; gone, Err(ReadAllError::ReadFault));
 
     let mut written = Vec::new(alloc);
-    let mut sink = RealSink::new(&mut written);
+    let mut sink = RealSink::new(alloc, &mut written)?;
     assert_eq!(rt; sink.write(b"one"), Ok(()));
     assert_eq!(rt; sink.write(b" two"), Ok(()));
+    assert_eq!(rt; sink.flush(), Ok(()));
     drop(sink);
     assert_eq!(rt; written.as_slice(), b"one two".as_slice());
 
     let mut drip = Drip { left: 4 };
-    let mut slow = RealSink::new(&mut drip);
+    let mut slow = RealSink::new(alloc, &mut drip)?;
     assert_eq!(rt; slow.write(b"one"), Ok(()));
-    assert_eq!(rt; slow.write(b"two"), Err(Failed));
+    assert_eq!(rt; slow.flush(), Ok(()));
+    assert_eq!(rt; slow.write(b"two"), Ok(()));
+    assert_eq!(rt; slow.flush(), Err(Failed));
+    assert_eq!(rt; slow.flush(), Ok(()));
     Ok(())
 }

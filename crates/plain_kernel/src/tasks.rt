@@ -41,7 +41,6 @@ fn spawn(
     name: &[u32],
     kind: SpawnKind,
 ) -> Result<What, NoMemory>
-    requires { script.now.pidbase + script.now.pidmax < 2 ^ 32 }
     ensures { IfOk result (λ w. w ≡ Spawn (next_child (reverse events.now) name.now) (spawn_answer (next_pid script.now.pidbase script.now.pidmax (reverse events.now)) kind)) }
 {
     if events.len() >= u32::MAX as usize {
@@ -109,7 +108,6 @@ fn instr_step(
     name: &[u32],
     instr: Option<&Instr>,
 ) -> Result<What, NoMemory>
-    requires { script.now.pidbase + script.now.pidmax < 2 ^ 32 }
     ensures { IfOk result (λ w. w ≡ instr_step (system_of script.now) (reverse events.now) name.now (option_copied instr.entry)) }
 {
     match instr {
@@ -176,7 +174,6 @@ fn outside(
     name: &[u32],
 ) -> Result<What, NoMemory>
     requires stands { StandsFor script.now (reverse events.now) files.now }
-    requires pids { script.now.pidbase + script.now.pidmax < 2 ^ 32 }
     ensures { IfOk result (λ w. w ≡ living_step (system_of script.now) (reverse events.now) name.now None) }
 {
     if owes_native(events, name) {
@@ -209,7 +206,6 @@ pub fn task_step(
     name: &[u32],
 ) -> Result<What, NoMemory>
     requires stands { StandsFor script.now (reverse events.now) files.now }
-    requires pids { script.now.pidbase + script.now.pidmax < 2 ^ 32 }
     ensures { IfOk result (λ w. w ≡ task_step (system_of script.now) (reverse events.now) name.now) }
 {
     if !alive(events, name) {

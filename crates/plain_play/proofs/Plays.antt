@@ -1,6 +1,11 @@
 -- The turns of a schedule, one after another.
 use Rattle.std.proofs.Common.{◌≡◌, ℕ, zero, suc, ◌+◌, ◌-◌, ◌<◌, ◌≤◌, List, [], ◌∷◌, length, drop, get_or, refl, ap, sym, ◌∙◌, add-one, drop-cons, arith}
+use Rattle.std.proofs.Common.{rules, Bool, true, nat_lt}
+use Rattle.std.proofs.lemmas.Bool.{and_parts, ltb-true}
 use Rattle.std.proofs.lemmas.List.{drop_all}
+use Rattle.std.specs.List.{list_all}
+use Rattle.hist_model.specs.ScriptRules.{can_be_scheduled}
+use Rattle.hist_model.specs.declared.event.Actor.TheVariants.{Task, Worker, Listener, Start}
 use Rattle.hist_model.specs.Legal.{with_step, with_steps, with_schedule}
 use Rattle.hist_model.specs.declared.event.Event.{Event}
 use Rattle.hist_model.specs.declared.event.Actor.{Actor}
@@ -8,7 +13,7 @@ use Rattle.hist_model.specs.declared.policy.Policy.{Policy}
 use Rattle.hist_model.specs.declared.script.Script.{Script}
 use Rattle.hist_model.specs.declared.script.Step.{Step}
 use Rattle.plain_play.specs.Running.{IsAt}
-use Rattle.plain_play.specs.Playable.{CanStep, AllCanStep}
+use Rattle.plain_play.specs.Actors.{CanStep, AllCanStep}
 use Rattle.plain_play.specs.declared.machine.Machine.{Machine}
 
 module _ (P : Policy) (S : Script) where
@@ -47,3 +52,16 @@ pub can_left : (steps : List Step) (i : ℕ) (s : Step) → i < length steps →
 can_left steps i s h e a =
     let d : drop i steps ≡ s ∷ drop (i + 1) steps = rw (add-one, drop-cons steps i s) (ap (λ (t : Step). t ∷ drop (suc i) steps) (sym e)) in
     rw d at a
+
+-- what a script may schedule can take a turn
+pub scheduled_can : (steps : List Step) → list_all (λ (s : Step). can_be_scheduled s.who) steps ≡ true → AllCanStep steps
+scheduled_can [] h = tt
+scheduled_can (s ∷ more) h =
+    let parts = and_parts (can_be_scheduled s.who) (list_all (λ (t : Step). can_be_scheduled t.who) more) h in
+    (one s.who parts.0, scheduled_can more parts.1)
+  where
+    one : (a : Actor) → can_be_scheduled a ≡ true → CanStep a
+    one (Worker w) h = ltb-true w 16 h
+    one (Task n) h = tt
+    one Listener h = tt
+    one Start h = tt

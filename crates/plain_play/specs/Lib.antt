@@ -1,3 +1,3 @@
+pub mod Actors
 pub mod Workers
-pub mod Playable
 pub mod Running

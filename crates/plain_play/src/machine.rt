@@ -14,7 +14,6 @@ ghost use Rattle.broker_core.specs.Deeds.{deed_of};
 ghost use Rattle.plain_files.specs.Kept.{StandsFor};
 ghost use Rattle.broker_core.specs.Remembered.{Remembers};
 ghost use Rattle.plain_play.specs.Workers.{AllRemember};
-ghost use Rattle.plain_play.specs.Playable.{IsPlayable};
 
 use broker_core::deed::Deed;
 use broker_core::worker::Worker;
@@ -78,7 +77,6 @@ fn is_skip(what: &What) -> bool
 
 /// The first event's step: the first task gets the first process number, and memory and descriptors of its own.
 fn first_step(alloc: Global, script: &Script) -> Result<What, NoMemory>
-    requires { script.now.pidbase + 1 < 2 ^ 32 }
     ensures { IfOk result (λ w. w ≡ Spawn (0 ∷ []) (Ok (script.now.pidbase + 1, New))) }
 {
     let mut name = Vec::new(alloc);
@@ -129,7 +127,7 @@ fn idle_workers(alloc: Global, figures: Figures) -> Result<Vec<Worker>, NoMemory
 
 impl Machine {
     ghost use Rattle.plain_play.specs.Running.{IsAt};
-    ghost use Rattle.plain_play.specs.Playable.{CanStep, AllCanStep};
+    ghost use Rattle.plain_play.specs.Actors.{CanStep, AllCanStep};
 
     /// The history with one more event, and the files after it.
     fn append(&mut self, script: &Script, who: Actor, what: What) -> Result<(), NoMemory>
@@ -147,7 +145,6 @@ impl Machine {
 
     /// The machine at the start of a script.
     pub fn start(alloc: Global, script: &Script) -> Result<Machine, NoMemory>
-        requires { script.now.pidbase + 1 < 2 ^ 32 }
         ensures { IfOk result (λ m. (P : Policy) → IsAt P script.now (started script.now) m) }
     {
         let mut machine = Machine {
@@ -169,7 +166,6 @@ impl Machine {
         name: &TaskName,
     ) -> Result<(), NoMemory>
         requires at { IsAt policy.now script.now self.old.history.events self.old }
-        requires pids { script.now.pidbase + script.now.pidmax < 2 ^ 32 }
         ensures { OnOk result (IsAt policy.now script.now (with_step policy.now script.now (Task name.now) self.old.history.events) self.new) }
     {
         let what = task_step(
@@ -219,7 +215,6 @@ impl Machine {
         who: &Actor,
     ) -> Result<(), NoMemory>
         requires at { IsAt policy.now script.now self.old.history.events self.old }
-        requires pids { script.now.pidbase + script.now.pidmax < 2 ^ 32 }
         requires can_step { CanStep who.now }
         ensures { OnOk result (IsAt policy.now script.now (with_step policy.now script.now who.now self.old.history.events) self.new) }
     {
@@ -241,7 +236,6 @@ impl Machine {
         count: u32,
     ) -> Result<(), NoMemory>
         requires at { IsAt policy.now script.now self.old.history.events self.old }
-        requires pids { script.now.pidbase + script.now.pidmax < 2 ^ 32 }
         requires can_step { CanStep who.now }
         ensures { OnOk result (IsAt policy.now script.now (with_steps policy.now script.now who.now count self.old.history.events) self.new) }
     {
@@ -260,7 +254,6 @@ impl Machine {
         steps: &[Step],
     ) -> Result<(), NoMemory>
         requires at { IsAt policy.now script.now self.old.history.events self.old }
-        requires pids { script.now.pidbase + script.now.pidmax < 2 ^ 32 }
         requires can_step { AllCanStep steps.now }
         ensures { OnOk result (IsAt policy.now script.now (with_schedule policy.now script.now steps.now self.old.history.events) self.new) }
     {
@@ -273,7 +266,6 @@ impl Machine {
 
 /// Plays the schedule of a script on a kernel and its workers, and closes the listener.
 pub fn play(alloc: Global, policy: &Policy, script: &Script) -> Result<History, NoMemory>
-    requires { IsPlayable script.now }
     ensures { IfOk result (λ h. h.events ≡ played policy.now script.now) }
 {
     let mut machine = Machine::start(alloc, script)?;

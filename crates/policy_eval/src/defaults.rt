@@ -39,6 +39,7 @@ const CALLS: &[(&str, i32)] = &[
 ];
 
 /// The policy whose one switch is mknod: the rules of the eight safe devices, and the defaults.
+#[tactic(auto, using(crate::proofs::Kept::lxd_kept))]
 pub fn lxd_mknod_policy(alloc: Global) -> Result<Policy, NoMemory>
     ensures { IfOk result (λ p. p.rules ≡ lxd_mknod_rules ++ default_rules) }
 {
@@ -52,6 +53,7 @@ pub fn lxd_mknod_policy(alloc: Global) -> Result<Policy, NoMemory>
 
 /// The policy whose one rule has this name and denies mknod of the device with these major and minor numbers, character
 /// or block; behind it stand the defaults.
+#[tactic(auto, using(crate::proofs::Kept::denying_kept))]
 pub fn denying_policy(
     alloc: Global,
     name: &[u8],

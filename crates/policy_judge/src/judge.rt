@@ -76,8 +76,9 @@ impl Judge for PolicyJudge<'_> {
     }
 
     fn rule_name(&self, place: usize) -> &[u8] {
-        if place < self.policy.rules.items().len() {
-            rule_name(self.policy, place)
+        let policy = self.policy;
+        if place < policy.rules.items().len() {
+            rule_name(policy, place)
         } else {
             &[]
         }

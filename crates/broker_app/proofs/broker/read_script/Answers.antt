@@ -1,6 +1,6 @@
 use Rattle.std.proofs.Common.{rules, ◌≡◌, Some, None}
 use Rattle.hist_model.specs.FirstPath.{script_of}
-use Rattle.broker_app.proofs.Mediates.{built_is_mediated, built_is_playable}
+use Rattle.broker_app.proofs.Mediates.{built_is_mediated}
 use Rattle.broker_app.proofs.Reading.{taken, untaken}
 use Rattle.broker_app.proofs.broker.read_script.Goals as goal
 
@@ -8,11 +8,6 @@ pub returns-in-Ok-Some-clause-mediated : goal.returns-in-Ok-Some-clause-mediated
 returns-in-Ok-Some-clause-mediated g c =
     let is : Some c.in-Ok-Some.script ≡ script_of c.args.policy.now c.as_slice.result.now = search rules in
     built_is_mediated c.args.policy.now c.as_slice.result.now c.in-Ok-Some.script is
-
-pub returns-in-Ok-Some-clause-playable : goal.returns-in-Ok-Some-clause-playable
-returns-in-Ok-Some-clause-playable g c =
-    let is : Some c.in-Ok-Some.script ≡ script_of c.args.policy.now c.as_slice.result.now = search rules in
-    built_is_playable c.args.policy.now c.as_slice.result.now c.in-Ok-Some.script is
 
 pub returns-in-Ok-Some-clause-read : goal.returns-in-Ok-Some-clause-read
 returns-in-Ok-Some-clause-read g c = λ t.

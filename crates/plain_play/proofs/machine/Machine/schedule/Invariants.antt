@@ -1,6 +1,6 @@
 use Rattle.std.proofs.Common.{◌≡◌, drop}
 use Rattle.hist_model.specs.Legal.{with_schedule}
-use Rattle.plain_play.specs.Playable.{AllCanStep}
+use Rattle.plain_play.specs.Actors.{AllCanStep}
 use Rattle.plain_play.specs.Running.{IsAt}
 use Rattle.plain_play.proofs.machine.Machine.schedule.Given as goal
 
