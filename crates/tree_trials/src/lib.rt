@@ -1,10 +1,9 @@
-//! Trials of a container's tree and of small histories: nodes, attributes and mounts, paths and the requests that go
-//! by them, memory and descriptors after a history, and what looking back answers.
+//! Trials of a container's tree and of small histories: nodes, attributes and mounts, the requests that go by paths, and
+//! memory and descriptors after a history.
 //!
-//! A case is a tree or a history that was written down by hand, with the answers of the manual pages. So a trial fails
-//! where a definition that the code is proved to meet doesn't say what was meant, and it shows that an answer comes,
-//! and not want of memory alone. There is no code but tests: the model of a tree and of a history stands in the
-//! definitions of `hist_model`.
+//! What these answer is proved. The trials show what no clause says: that each call which takes memory answers where
+//! there is memory. There is no code but tests: the model of a tree and of a history stands in the definitions of
+//! `hist_model`.
 //!
 //! Below stand the crates that the trials call (`mount_tree`, `path_walk`, `plain_files`, `look_back`), the plain
 //! types of `hist_model`, and the numbers of `sys_abi`; nothing stands above.

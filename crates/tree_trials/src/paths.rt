@@ -1,12 +1,11 @@
-//! Paths and requests in a small container, by path_resolution(7), mount(2) and setxattr(2).
+//! Requests in a small container, by path_resolution(7), mount(2) and setxattr(2).
 
 use crate::nodes::{mount_row, node_ref};
 use crate::texts::text;
 use hist_model::request::{Node, TreeOp};
 use mount_tree::tree::Tree;
 use path_walk::effects::{AttrChange, follow, make, mount, perform, set_attr};
-use path_walk::places::{Last, Place, WalkError};
-use path_walk::resolution::{Walk, resolve};
+use path_walk::resolution::Walk;
 use std::alloc::Global;
 use std::test::Fail;
 use sys_abi::errno::Errno;
@@ -27,58 +26,6 @@ fn container(alloc: Global) -> Result<Tree, Fail> {
         let _ = tree.make_node(node_ref(dir), name.as_bytes(), node);
     }
     Ok(tree)
-}
-
-#[test]
-fn paths_of_a_container(rt: HostRuntime) -> Result<(), Fail> {
-    let tree = container(rt.alloc())?;
-    let mut walk = Walk::new(rt.alloc())?;
-    let new = |dir| Ok(Place::New { dir: node_ref(dir) });
-    for (path, last, want) in [
-        ("/l/x", Last::Create, new(2)),
-        ("/../../y", Last::Create, new(1)),
-        ("l", Last::Create, new(1)),
-        ("l", Last::Follow, Ok(Place::At(node_ref(2)))),
-        ("/s/z", Last::Create, Err(WalkError::Loop)),
-        ("/f/..", Last::Follow, Err(WalkError::NotDir)),
-        ("/none/.", Last::Follow, Err(WalkError::NoEntry)),
-        ("", Last::Follow, Err(WalkError::NoEntry)),
-        ("//", Last::Create, Err(WalkError::Exists)),
-        ("/etc/..", Last::Create, Err(WalkError::Exists)),
-    ] {
-        let base = Some(node_ref(1));
-        let place = resolve(&tree, node_ref(1), base, path.as_bytes(), last, &mut walk);
-        assert_eq!(rt; place, want, "at {path}");
-    }
-    let relative = resolve(&tree, node_ref(1), None, b"etc", Last::Follow, &mut walk);
-    assert_eq!(rt; relative, Err(WalkError::NoBase));
-    let made = resolve(
-        &tree,
-        node_ref(1),
-        None,
-        b"/etc//name/",
-        Last::Create,
-        &mut walk,
-    );
-    assert_eq!(rt; made, new(2));
-    assert_eq!(rt; walk.name(), b"name".as_slice());
-    Ok(())
-}
-
-#[test]
-fn names_by_their_length(rt: HostRuntime) -> Result<(), Fail> {
-    let tree = container(rt.alloc())?;
-    let mut walk = Walk::new(rt.alloc())?;
-    let root = node_ref(1);
-    let name = vec![in rt.alloc(); b'n'; 256]?;
-    let path = name.as_slice();
-    assert_eq!(rt; path.len(), 256);
-    let long = resolve(&tree, root, Some(root), path, Last::Create, &mut walk);
-    assert_eq!(rt; long, Err(WalkError::NameTooLong));
-    let longest = resolve(&tree, root, Some(root), &path[1..], Last::Create, &mut walk);
-    assert_eq!(rt; longest, Ok(Place::New { dir: root }));
-    assert_eq!(rt; walk.name(), &path[1..]);
-    Ok(())
 }
 
 #[test]
@@ -112,18 +59,16 @@ fn requests_of_a_container(rt: HostRuntime) -> Result<(), Fail> {
     let change = AttrChange {
         name: b"user.a",
         value: b"1",
-        flags: 2,
+        flags: 1,
     };
-    let absent = set_attr(&mut tree, root, None, b"/etc", change, &mut walk);
-    assert_eq!(rt; refusal(absent), 61);
+    let set = set_attr(&mut tree, root, None, b"/etc", change, &mut walk);
+    assert_eq!(rt; set.is_ok(), true);
     let opened = TreeOp::Open {
-        path: text(alloc, b"/f/x")?,
+        path: text(alloc, b"/f")?,
         cloexec: false,
     };
-    assert_eq!(rt;
-        refusal(perform(&mut tree, root, None, opened, &mut walk)),
-        20
-    );
+    let performed = perform(&mut tree, root, None, opened, &mut walk);
+    assert_eq!(rt; performed.is_ok(), true);
     Ok(())
 }
 
