@@ -5,7 +5,7 @@ ghost use Rattle.std.specs.Prelude.{◌≡◌, ◌-◌, ◌<◌, ◌^◌, ◌≤
 use io_edge::fault::Failed;
 use io_edge::files::Files;
 use io_edge::machine::{RealFiles, RealSink};
-use io_edge::memory::{MemFiles, MemSink};
+use io_edge::memory::MemFiles;
 use io_edge::sink::Sink;
 use io_edge::whole::{ReadAllError, read_all};
 use std::alloc::{AllocError, Global};
@@ -13,12 +13,11 @@ use std::io::Write;
 use std::test::Fail;
 use std::{env, fs, io};
 
-/// Files of 5, no and `long` bytes, and a second one with the first one's name.
-fn three_files(alloc: Global, long: usize) -> Result<Vec<(String, Vec<u8>)>, AllocError> {
+/// Files of 5 and no bytes, and a second one with the first one's name.
+fn three_files(alloc: Global) -> Result<Vec<(String, Vec<u8>)>, AllocError> {
     let mut files = Vec::new(alloc);
     files.push((String::from_str(alloc, "five")?, b"hello".to_vec(alloc)?))?;
     files.push((String::from_str(alloc, "none")?, Vec::new(alloc)))?;
-    files.push((String::from_str(alloc, "long")?, vec![in alloc; 7; long]?))?;
     files.push((String::from_str(alloc, "five")?, b"second".to_vec(alloc)?))?;
     Ok(files)
 }
@@ -56,7 +55,7 @@ fn reads_whole_files_under_a_limit(rt: HostRuntime) -> Result<(), Fail> {
         ("five", 9, 4, Ok(()), "hello"),
         ("five", 4, 3, Err(ReadAllError::TooLong), ""),
     ] {
-        let mut files = MemFiles::new(three_files(alloc, 1)?, vec![in alloc; failing]?);
+        let mut files = MemFiles::new(three_files(alloc)?, vec![in alloc; failing]?);
         assert_eq!(rt;
             read_all(&mut files, name, limit, &mut into),
             want,
@@ -68,50 +67,8 @@ fn reads_whole_files_under_a_limit(rt: HostRuntime) -> Result<(), Fail> {
             "{name} {limit} {failing}"
         );
     }
-    Ok(())
-}
-
-#[test]
-fn reads_long_files(rt: HostRuntime) -> Result<(), Fail> {
-    let alloc = rt.alloc();
-    let mut into = Vec::new(alloc);
-    for long in [4095, 4096, 4097, 10000] {
-        let mut files = MemFiles::new(three_files(alloc, long)?, Vec::new(alloc));
-        assert_eq!(rt;
-            read_all(&mut files, "long", long as u64, &mut into),
-            Ok(()),
-            "{long}"
-        );
-        assert_eq!(rt; into.len(), long);
-        let less = read_all(&mut files, "long", long as u64 - 1, &mut into);
-        assert_eq!(rt; less, Err(ReadAllError::TooLong), "{long}");
-        assert_eq!(rt; into.len(), 0);
-        assert_eq!(rt; read_sound(&mut files, "five", 5, &mut into), Ok(()));
-    }
-    Ok(())
-}
-
-#[test]
-fn takes_what_fits(rt: HostRuntime) -> Result<(), Fail> {
-    let alloc = rt.alloc();
-    let mut sink = MemSink::new(alloc, 5, vec![in alloc; 2, 5]?)?;
-    for (piece, want, taken) in [
-        ("ab", Ok(()), "ab"),
-        ("cd", Err(Failed), "ab"),
-        ("", Ok(()), "ab"),
-        ("cde", Ok(()), "abcde"),
-        ("", Err(Failed), "abcde"),
-        ("f", Err(Failed), "abcde"),
-        ("", Ok(()), "abcde"),
-    ] {
-        assert_eq!(rt; sink.write(piece.as_bytes()), want, "{piece}");
-        assert_eq!(rt; sink.taken(), taken.as_bytes(), "{piece}");
-    }
-    let mut small = MemSink::new(alloc, 3, vec![in alloc; 2]?)?;
-    assert_eq!(rt; small.flush(), Ok(()));
-    assert_eq!(rt; small.write(b"abcd"), Err(Failed));
-    assert_eq!(rt; small.taken(), b"abc".as_slice());
-    assert_eq!(rt; small.flush(), Ok(()));
+    let mut files = MemFiles::new(three_files(alloc)?, Vec::new(alloc));
+    assert_eq!(rt; read_sound(&mut files, "five", 5, &mut into), Ok(()));
     Ok(())
 }
 

@@ -1,6 +1,6 @@
 //! Lines, tokens and numbers of a script, and the longest script.
 
-use lex_core::{LexError, Line, Lines, Reason, Token, TokenBytes, Tokens, read_number};
+use lex_core::{LexError, Line, Lines, Reason, Token, read_number};
 use std::alloc::Global;
 use std::process::Abort;
 use std::test::Fail;
@@ -195,21 +195,6 @@ fn the_first_fault_is_told(rt: HostRuntime) {
 }
 
 #[test]
-fn lines_come_in_order(rt: HostRuntime) -> Result<(), Fail> {
-    let alloc = rt.alloc();
-    let text =
-        b"notify mknod # all\n\n# a program\nprog main\r\n  poke 0x10000 \"/null\\0\"\nend \"\\q\"\nend\n";
-    let mut lines = lines_of(&rt, alloc, text);
-    expect_line(&rt, alloc, &mut lines, 1, b"b:notify|b:mknod|b:#|b:all|")?;
-    expect_line(&rt, alloc, &mut lines, 4, b"b:prog|b:main|")?;
-    expect_line(&rt, alloc, &mut lines, 5, b"b:poke|b:0x10000|q:/null\0|")?;
-    expect_fault(&rt, &mut lines, 6, Reason::BadQuote);
-    expect_end(&rt, &mut lines_of(&rt, alloc, b""));
-    expect_end(&rt, &mut lines_of(&rt, alloc, b"\n \r\n\t# a\n#"));
-    Ok(())
-}
-
-#[test]
 fn numbers_are_read(rt: HostRuntime) {
     for (text, number) in [
         ("0", 0),
@@ -265,24 +250,6 @@ fn numbers_are_read(rt: HostRuntime) {
     ] {
         assert!(rt; read_number(text.as_bytes()).is_none(), "{text}");
     }
-}
-
-#[test]
-fn lists_are_given_back(rt: HostRuntime) -> Result<(), Fail> {
-    let alloc = rt.alloc();
-    let bytes = TokenBytes::new(b"end".to_vec(alloc)?);
-    assert_eq!(rt; bytes.items(), b"end".as_slice());
-    let mut tokens = Vec::new(alloc);
-    tokens.push(Token::Bare(bytes))?;
-    let mut left = Tokens::new(tokens).into_items();
-    match left.pop() {
-        Some(Token::Bare(bytes)) => assert_eq!(rt;
-            bytes.into_items().as_slice(),
-            b"end".as_slice()
-        ),
-        _ => panic!(rt; "no token"),
-    }
-    Ok(())
 }
 
 #[test]

@@ -2,12 +2,12 @@
 //! lines of a script, and filters.
 //!
 //! A case has its expected value from outside: the manual pages, the kernel's headers, or a script that was read by
-//! hand. So a trial fails where a definition that the code is proved to meet doesn't say what was meant, and it shows
-//! what no clause says: texts that are printed, files of the machine, and that an answer comes, and not want of memory
-//! alone. There is no code but tests, and no model: what is tried stands in the definitions of each crate.
+//! hand. So a trial fails where a table or a definition that the code is proved to meet doesn't say what was meant, and
+//! it shows what no clause says: texts that are printed, files of the machine, faults of files, and that an answer comes,
+//! and not want of memory alone. There is no code but tests, and no model: what is tried stands in the definitions of
+//! each crate.
 //!
-//! Below stand `sys_abi`, `io_edge`, `lex_core` and `bpf_filter`, which the trials call, and the plain types of
-//! `hist_model`; nothing stands above.
+//! Below stand `sys_abi`, `io_edge`, `lex_core` and `bpf_filter`, which the trials call; nothing stands above.
 #![tactic(auto)]
 
 #[cfg(test)]
