@@ -1,10 +1,12 @@
 //! Events that are added to a history: the first task's and the first worker's, for calls of mknod(2).
 
+use crate::texts::text;
 use hist_model::event::{Actor, Entered, Event, SpawnKind, What};
 use hist_model::history::History;
-use hist_model::text::TaskName;
+use hist_model::text::{TaskName, Text};
 use std::alloc::Global;
 use std::test::Fail;
+use sys_abi::errno::Errno;
 use sys_abi::memory::NoMemory;
 use sys_abi::wire::{Notif, SeccompData};
 
@@ -69,6 +71,24 @@ pub fn call(history: &mut History, alloc: Global, id: u64) -> Result<(), Fail> {
     task(history, alloc, enter)?;
     let answer = Ok(notification(id));
     worker(history, What::Recv { answer })
+}
+
+/// A task that stores a path and calls mknod, and a worker that receives the call's notification.
+pub fn asked(alloc: Global) -> Result<History, Fail> {
+    let mut history = started(alloc)?;
+    let bytes = text(alloc, b"/null\0")?;
+    task(&mut history, alloc, What::Poke { addr: 65536, bytes })?;
+    call(&mut history, alloc, 1)?;
+    Ok(history)
+}
+
+/// A read of the path.
+pub fn read(answer: Result<Text, Errno>) -> What {
+    What::Read {
+        addr: 65536,
+        len: 256,
+        answer,
+    }
 }
 
 /// Adds a check of an id, which is valid.

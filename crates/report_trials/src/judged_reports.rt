@@ -1,7 +1,6 @@
-//! A report whose sessions are judged by LXD's rules for device nodes, compared with one that was worked out by hand.
+//! What LXD's rules for device nodes say of a session, by what was read in it.
 
-use crate::events::{add, notification, worker};
-use crate::granted::{asked, expect_report, read};
+use crate::events::{add, asked, notification, read, worker};
 use crate::texts::text;
 use audit_log::judge::Judge;
 use hist_model::event::Actor;
@@ -11,13 +10,6 @@ use policy_eval::lxd_mknod_policy;
 use policy_judge::PolicyJudge;
 use std::test::Fail;
 use sys_abi::errno::Errno;
-
-#[test]
-fn reports_a_grant(rt: HostRuntime) -> Result<(), Fail> {
-    let alloc = rt.alloc();
-    let policy = lxd_mknod_policy(alloc)?;
-    expect_report(&rt, alloc, &PolicyJudge::new(&policy))
-}
 
 #[test]
 fn judges_what_was_read(rt: HostRuntime) -> Result<(), Fail> {

@@ -1,9 +1,8 @@
-//! Trials of the report: its text for small histories, with judges that judge alike and with the rules of a policy.
+//! Trials of the report: its text for a small history, and a judge by the rules of a policy.
 //!
-//! A case is a history that was written down by hand, and the report that was worked out for it. So a trial fails where a
-//! definition that the code is proved to meet doesn't say what was meant; and it shows that the text comes whole, and
-//! not want of memory or a failed write alone. There is no code but tests: the model of the report, a text for each
-//! history, stands in the definitions of `hist_model`.
+//! What is written is proved, and `cases` runs the program on whole reports. The trials show what neither does: that
+//! events which no script of the program makes are written too, and not want of memory alone. There is no code but
+//! tests: the model of the report, a text for each history, stands in the definitions of `hist_model`.
 //!
 //! Below stand the writers (`audit_log`), the judge by a policy (`policy_judge`, `policy_eval`), the sinks in memory
 //! (`io_edge`), the plain types of `hist_model`, and the numbers of `sys_abi`; nothing stands above.
@@ -11,8 +10,6 @@
 
 #[cfg(test)]
 mod events;
-#[cfg(test)]
-mod granted;
 #[cfg(test)]
 mod judged_reports;
 #[cfg(test)]

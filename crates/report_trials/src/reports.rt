@@ -1,10 +1,8 @@
-//! The text of a report, compared with reports that were worked out by hand.
+//! The report of a history with injected descriptors, compared with one that was worked out by hand.
 
 use crate::events::{call, check, started, task, worker};
-use crate::granted::{expect_report, granted};
 use audit_log::audit::write_audit;
 use audit_log::calls::write_calls;
-use audit_log::error::ReportError;
 use audit_log::journal::write_journal;
 use audit_log::judge::Judge;
 use audit_log::summary::write_summary;
@@ -43,32 +41,6 @@ impl Judge for Always {
     fn rule_name(&self, _place: usize) -> &[u8] {
         self.name.as_bytes()
     }
-}
-
-#[test]
-fn reports_a_grant(rt: HostRuntime) -> Result<(), Fail> {
-    let judge = Always {
-        judged: Judged::Decided(3, Verdict::Grant),
-        name: "lxd.mknod.1:3",
-    };
-    expect_report(&rt, rt.alloc(), &judge)
-}
-
-#[test]
-fn stops_at_a_write_fault(rt: HostRuntime) -> Result<(), Fail> {
-    let alloc = rt.alloc();
-    let history = granted(alloc)?;
-    let failing = [3].to_vec(alloc)?;
-    let mut out = MemSink::new(alloc, 4096, failing)?;
-    assert_eq!(rt;
-        write_journal(alloc, &history, &mut out),
-        Err(ReportError::WriteFault)
-    );
-    assert_eq!(rt;
-        out.taken(),
-        b"journal 15\n0 - spawn 0 pid=1 new\n".as_slice()
-    );
-    Ok(())
 }
 
 /// Asks for a descriptor, for a call that is entered and received first.
@@ -133,6 +105,8 @@ fn tells_lost_and_installed(rt: HostRuntime) -> Result<(), Fail> {
         name: "feed",
     };
     let history = injected(alloc)?;
+    let mut journal = MemSink::new(alloc, 4096, Vec::new(alloc))?;
+    write_journal(alloc, &history, &mut journal)?;
     let mut out = MemSink::new(alloc, 4096, Vec::new(alloc))?;
     write_calls(alloc, &history, &mut out)?;
     write_audit(alloc, &judge, &history, &mut out)?;
