@@ -1,9 +1,8 @@
 //! Trials of the top call over files and sinks in memory.
 //!
-//! A case is words, a policy and a script, some with a read or a write that fails, and the status, the line on
-//! standard error and the report that were worked out by hand. So a trial fails where a definition that the program is
-//! proved to meet doesn't say what was meant; and it shows that each status comes, and not want of memory alone. There
-//! is no code but tests: what an answer means stands in the definitions of `broker_app`.
+//! What the top call answers is proved, and `cases` runs the program on whole reports. The trials show what neither does:
+//! each call of the files and a write that fail, over files and sinks that tell what was read and written. There is no
+//! code but tests: what an answer means stands in the definitions of `broker_app`.
 //!
 //! Below stand the top call (`broker_app`) and the files and sinks in memory (`io_edge`); nothing stands above.
 #![tactic(auto)]

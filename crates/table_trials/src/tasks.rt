@@ -2,11 +2,10 @@
 
 use hist_model::event::Mode;
 use hist_model::request::TaskRef;
-use std::alloc::Global;
 use std::process::Abort;
 use std::test::Fail;
 use sys_abi::memory::OrNoMemory;
-use task_table::{NoChild, NoPid, NoTask, SIGKILL, SIGTERM, SIGUSR1, SIGUSR2, TaskTable};
+use task_table::{NoChild, NoPid, NoTask, SIGUSR1, TaskTable};
 
 /// The number of a task that was made.
 fn pid(made: &Result<(TaskRef, u32), OrNoMemory<NoPid>>) -> Option<u32> {
@@ -84,89 +83,4 @@ fn check_next_holder<R: Abort>(
     let delivered = [table.deliver(old, false), table.deliver(next, false)];
     assert_eq!(rt; delivered, [None, Some((SIGUSR1, Mode::Default))]);
     assert!(rt; !table.alive(next));
-}
-
-/// A signal with a handler is held back, and one without is not.
-fn check_held<R: Abort>(rt: &R, alloc: Global) -> Result<(), Fail> {
-    let mut table = TaskTable::new(alloc, 0, 4)?;
-    let (held, own) = table.spawn(None)?;
-    table.set_handler(held, SIGUSR1, Mode::Plain);
-    let answers = [
-        (table.signal(own, SIGUSR1), table.deliver(held, true)),
-        (table.signal(own, SIGTERM), table.deliver(held, true)),
-    ];
-    assert_eq!(rt;
-        answers,
-        [(Ok(held), None), (Ok(held), Some((SIGTERM, Mode::Default)))]
-    );
-    Ok(())
-}
-
-/// Where none is held back the smallest signal of a child comes, and SIGKILL before all.
-fn check_order<R: Abort>(rt: &R, table: &mut TaskTable, first: TaskRef, child: TaskRef, own: u32) {
-    for sig in [SIGTERM, SIGUSR2, SIGUSR1] {
-        assert_eq!(rt; table.signal(own, sig), Ok(child));
-    }
-    assert_eq!(rt; table.deliver(child, false), Some((SIGUSR1, Mode::Restart)));
-    let killed = (table.signal(own, SIGKILL), table.deliver(child, true));
-    assert_eq!(rt; killed, (Ok(child), Some((SIGKILL, Mode::Default))));
-    assert_eq!(rt; [table.alive(first), table.alive(child)], [true, false]);
-    // An ended task takes a signal, and no other number is held.
-    let sent = [table.signal(own, SIGTERM), table.signal(3, SIGTERM)];
-    assert_eq!(rt; sent, [Ok(child), Err(NoTask)]);
-}
-
-#[test]
-fn the_signal_that_kills_comes_first(rt: HostRuntime) -> Result<(), Fail> {
-    let mut table = TaskTable::new(rt.alloc(), 0, 4)?;
-    let (first, _) = table.spawn(None)?;
-    table.set_handler(first, SIGUSR1, Mode::Restart);
-    let (child, own) = table.spawn(Some(first))?;
-    table.set_handler(child, SIGUSR2, Mode::Plain);
-    check_order(&rt, &mut table, first, child, own);
-    check_held(&rt, rt.alloc())
-}
-
-#[test]
-fn the_first_child_that_ended_is_reaped(rt: HostRuntime) -> Result<(), Fail> {
-    let mut table = TaskTable::new(rt.alloc(), 0, 9)?;
-    check_reaped(&rt, &mut table)
-}
-
-/// A task reaps its two children in the order in which they ended, and nobody waits for the child of one of them.
-fn check_reaped<R: Abort>(rt: &R, table: &mut TaskTable) -> Result<(), Fail> {
-    let first = table.spawn(None)?.0;
-    let one = table.spawn(Some(first))?.0;
-    let two = table.spawn(Some(first))?.0;
-    let three = table.spawn(Some(two))?.0;
-    assert_eq!(rt; table.reap(first), Ok(None));
-    table.exit(two);
-    table.exit(one);
-    assert_eq!(rt;
-        [table.reap(first), table.reap(first), table.reap(first)],
-        [Ok(Some(one)), Ok(Some(two)), Err(NoChild)]
-    );
-    // Nobody is left to wait for a task whose parent ended before it.
-    let living = table.by_pid(4);
-    table.exit(three);
-    assert_eq!(rt; [living, table.by_pid(4)], [Ok(three), Err(NoTask)]);
-    Ok(())
-}
-
-#[test]
-fn an_end_reaps_the_children_that_ended(rt: HostRuntime) -> Result<(), Fail> {
-    let mut table = TaskTable::new(rt.alloc(), 0, 9)?;
-    let first = table.spawn(None)?.0;
-    let parent = table.spawn(Some(first))?.0;
-    let ended = table.spawn(Some(parent))?.0;
-    let living = table.spawn(Some(parent))?.0;
-    table.exit(ended);
-    assert_eq!(rt; table.by_pid(3), Ok(ended));
-    table.exit(parent);
-    assert_eq!(rt;
-        [table.by_pid(2), table.by_pid(3), table.by_pid(4)],
-        [Ok(parent), Err(NoTask), Ok(living)]
-    );
-    assert_eq!(rt; table.reap(first), Ok(Some(parent)));
-    Ok(())
 }
