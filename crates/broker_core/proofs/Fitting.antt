@@ -7,7 +7,8 @@ use Rattle.hist_model.specs.Copies.{fits_piece}
 use Rattle.hist_model.specs.Fitting.{fits}
 use Rattle.hist_model.specs.Legal.{rules_of}
 use Rattle.hist_model.specs.Requests.{base_dirfd}
-use Rattle.hist_model.specs.Sessions.{Deed, Fetch, Open, OpenB, Ask, ReadD, ActD, PlantD, Put, Take, Answer, Let, deed, after_act, inject_deed, addfd_of}
+use Rattle.hist_model.specs.Deeds.{Deed}
+use Rattle.hist_model.specs.Sessions.{deed, after_act, inject_deed, addfd_of}
 use Rattle.hist_model.specs.Sysinfo.{container_sysinfo}
 use Rattle.hist_model.specs.declared.event.What.{What}
 use Rattle.hist_model.specs.declared.event.What.TheVariants.{Check, Read}
@@ -28,8 +29,8 @@ use Rattle.broker_core.specs.declared.worker.Worker.{Worker}
 
 -- the deed neither checks nor reads
 abbrev is_plain : Deed → Bool
-is_plain (Ask id) = false
-is_plain (ReadD addr len) = false
+is_plain (Deed.Check id) = false
+is_plain (Deed.Read addr len) = false
 is_plain _ = true
 
 plain-act : (x : ℕ) (o : Option (Result (Unit {0}) ℕ)) (d : Deed) → is_plain d ≡ true → is_plain (after_act x o d) ≡ true
@@ -46,8 +47,8 @@ plain-judgement : (F : Figures) (s : Session) (j : Judgement) → is_plain (judg
 plain-judgement F s (Faulty e) = refl
 plain-judgement F s (Denies e) = refl
 plain-judgement F s Passes = refl
-plain-judgement F s (Acts q cap) = plain-act s.notif.id s.outcome (ActD q cap) refl
-plain-judgement F s (Plants addr cap) = plain-act s.notif.id s.outcome (PlantD addr (container_sysinfo F) cap) refl
+plain-judgement F s (Acts q cap) = plain-act s.notif.id s.outcome (Deed.Act q cap) refl
+plain-judgement F s (Plants addr cap) = plain-act s.notif.id s.outcome (Deed.Plant addr (container_sysinfo F) cap) refl
 plain-judgement F s (Injects src at flags) = plain-injection s.notif.id (addfd_of s.notif.id src at flags) s.put s.take
 
 -- what answers a deed can be taken
@@ -70,7 +71,7 @@ take-plain s d p (Read addr len answer) h = absurd (no-read d addr len answer p 
 take-plain s d p what h = tt
 
 -- a check
-take-check : (s : Session) (x : ℕ) → FitsCheck s.checks s.arguments → CanTake s (Ask x)
+take-check : (s : Session) (x : ℕ) → FitsCheck s.checks s.arguments → CanTake s (Deed.Check x)
 take-check s x c (Check id answer) h = c
 take-check s x c (Read addr len answer) h = cc
 take-check s x c what h = tt
@@ -80,7 +81,7 @@ piece-taken : (c : Captured) (q : ℕ × ℕ) (answer : Result (List ℕ) ℕ) �
 piece-taken c q (Ok bytes) e h = rw e (fit_answers (Some q) (Ok bytes) h)
 piece-taken c q (Err x) e h = rw e (tt, fit_fault (Some q) x h)
 
-take-piece : (s : Session) (c : Captured) (q : ℕ × ℕ) → s.arguments ≡ Reading c → wanted (continued c []) ≡ Some q → CanTake s (ReadD q.0 q.1)
+take-piece : (s : Session) (c : Captured) (q : ℕ × ℕ) → s.arguments ≡ Reading c → wanted (continued c []) ≡ Some q → CanTake s (Deed.Read q.0 q.1)
 take-piece s c q a e (Check id answer) h = cc
 take-piece s c q a e (Read addr len answer) h =
     let p = and_parts (q.0 == addr) _ h in
@@ -115,12 +116,12 @@ module _ (P : Policy) (F : Figures) (own : List What) (s : Session) (k : Knows P
 
   take-based : (d : Option ℤ) → CanTake s (based_deed F s d)
   take-based None = take-checked
-  take-based (Some d) = take-if s (not s.based) (OpenB s.notif.pid d) (checked_deed F s) (take-plain s (OpenB s.notif.pid d) refl) take-checked
+  take-based (Some d) = take-if s (not s.based) (Deed.OpenBase s.notif.pid d) (checked_deed F s) (take-plain s (Deed.OpenBase s.notif.pid d) refl) take-checked
 
   take-session : CanTake s (session_deed F s)
   take-session =
-      take-if s s.gave_up Let _ (take-plain s Let refl)
-      (take-if s (not s.opened) (Open s.notif.pid) _ (take-plain s (Open s.notif.pid) refl) (take-based (base_dirfd s.notif.call.nr s.notif.call.args)))
+      take-if s s.gave_up Deed.LetGo _ (take-plain s Deed.LetGo refl)
+      (take-if s (not s.opened) (Deed.OpenMem s.notif.pid) _ (take-plain s (Deed.OpenMem s.notif.pid) refl) (take-based (base_dirfd s.notif.call.nr s.notif.call.args)))
 
   pub can_take : CanTake s (deed (rules_of P F) own)
   can_take = rw (known_deed P F own s k) take-session

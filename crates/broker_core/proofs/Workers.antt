@@ -6,7 +6,8 @@ use Rattle.std.proofs.lemmas.List.{append-nil}
 use Rattle.hist_model.specs.Copies.{Progress, plan, progress}
 use Rattle.hist_model.specs.Requests.{base_dirfd}
 use Rattle.hist_model.specs.Legal.{rules_of}
-use Rattle.hist_model.specs.Sessions.{Rules, Deed, Fetch, Ask, deed_for, notif_of, OpenB, Open, Let, deed, any_of, number_of, checks, reads_of, joined, starts, is_letgo, copied_deed, based_deed as based, checked_deed as checked}
+use Rattle.hist_model.specs.Deeds.{Deed}
+use Rattle.hist_model.specs.Sessions.{Rules, deed_for, notif_of, deed, any_of, number_of, checks, reads_of, joined, starts, is_letgo, copied_deed, based_deed as based, checked_deed as checked}
 use Rattle.hist_model.specs.declared.event.What.{What}
 use Rattle.hist_model.specs.declared.event.What.TheVariants.{Recv, LetGo}
 use Rattle.hist_model.specs.declared.policy.Policy.{Policy}
@@ -69,24 +70,24 @@ module _ (P : Policy) (F : Figures) (own : List What) (s : Session) (k : Knows P
 
   based-known : (d : Option ℤ) → based (rules_of P F) s.notif own d ≡ based_deed F s d
   based-known None = checked-known
-  based-known (Some d) = rw k.based (ap (λ x. if not s.based then OpenB s.notif.pid d else x) checked-known)
+  based-known (Some d) = rw k.based (ap (λ x. if not s.based then Deed.OpenBase s.notif.pid d else x) checked-known)
 
   -- the deed by the definitions is the one by what is remembered
   pub known_deed : deed (rules_of P F) own ≡ session_deed F s
   unfolding deed
-  known_deed = rw (k.notif, k.stays, k.gave_up, k.opened) (ap (λ d. if s.gave_up then Let else (if not s.opened then Open s.notif.pid else d)) (based-known (base_dirfd s.notif.call.nr s.notif.call.args)))
+  known_deed = rw (k.notif, k.stays, k.gave_up, k.opened) (ap (λ d. if s.gave_up then Deed.LetGo else (if not s.opened then Deed.OpenMem s.notif.pid else d)) (based-known (base_dirfd s.notif.call.nr s.notif.call.args)))
 
 -- no session is open at the start
 pub idle_start : Idle []
 idle_start = inl refl
 
-idle-deed : (R : Rules) (own : List What) → Idle own → deed R own ≡ Fetch
+idle-deed : (R : Rules) (own : List What) → Idle own → deed R own ≡ Deed.Recv
 unfolding deed
 idle-deed R [] h = refl
 idle-deed R (a ∷ own) (inl h) = cc
 idle-deed R (a ∷ own) (inr h) = by-notif (notif_of (a ∷ own))
   where
-    by-notif : (o : Option Notif) → deed_for R o (a ∷ own) ≡ Fetch
+    by-notif : (o : Option Notif) → deed_for R o (a ∷ own) ≡ Deed.Recv
     by-notif None = refl
     by-notif (Some n) = rw h refl
 

@@ -1,6 +1,7 @@
 -- What a worker remembers of its session, against the session's own steps.
 use Rattle.std.specs.Prelude.{◌≡◌, ℕ, ◌+◌, ◌<◌, ◌≤◌, Bool, true, false, List, [], length, reverse, Option, Some, None, Result, Ok, Err, ◌⊎◌, ◌||◌, suc, if◌then◌else◌}
-use Rattle.hist_model.specs.Sessions.{Rules, Deed, Fetch, Open, OpenB, Ask, ReadD, ActD, PlantD, Put, Take, Answer, Let, deed, any_of, number_of, first_some, notif_of, reads_of, is_letgo, gives_up, opens, opens_base, checks, outcome_in, put_in, take_in, or_some}
+use Rattle.hist_model.specs.Deeds.{Deed}
+use Rattle.hist_model.specs.Sessions.{Rules, deed, any_of, number_of, first_some, notif_of, reads_of, is_letgo, gives_up, opens, opens_base, checks, outcome_in, put_in, take_in, or_some}
 use Rattle.hist_model.specs.Copies.{Progress, Wants, Complete, Faulty, plan}
 use Rattle.hist_model.specs.Fitting.{fits}
 use Rattle.hist_model.specs.Legal.{rules_of, read_answers, judged as judgement}

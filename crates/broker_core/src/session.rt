@@ -1,7 +1,7 @@
 //! What a worker remembers of the notification that it works on.
 
 ghost use Rattle.std.specs.Prelude.{◌≡◌, [], None};
-ghost use Rattle.hist_model.specs.Sessions.{after_act, inject_deed, addfd_of, back_of_outcome, Deed as Meaning};
+ghost use Rattle.hist_model.specs.Sessions.{after_act, inject_deed, addfd_of, back_of_outcome};
 ghost use Rattle.arg_capture.specs.Captures.{continued, wanted};
 ghost use Rattle.broker_core.specs.Deeds.{deed_of, judgement_deed, arguments_deed, checked_deed, session_deed};
 

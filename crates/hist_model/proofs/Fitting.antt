@@ -10,7 +10,8 @@ use Rattle.std.proofs.lemmas.Slice.Eq.{bytes_eq-Decides}
 use Rattle.hist_model.specs.Copies.{fits_piece, wanted, plan, progress}
 use Rattle.hist_model.specs.Fitting.{fits, request_eq, cap_eq, addfd_eq, back_eq}
 use Rattle.hist_model.specs.Legal.{system_of, rules_of, copied, read_answers}
-use Rattle.hist_model.specs.Sessions.{Rules, Deed, Fetch, Open, OpenB, Ask, ReadD, ActD, PlantD, Put, Take, Answer, Let, Decision, Denies, Passes, Acts, Plants, Injects, after_act, inject_deed, addfd_of, decided_deed, judged_deed, copied_deed, checked_deed, based_deed, open_deed, deed_for, deed, notif_of, reads_of, first_some, outcome_in, put_in, take_in, any_of, is_letgo, gives_up, opens, opens_base, checks, number_of, skips}
+use Rattle.hist_model.specs.Deeds.{Deed}
+use Rattle.hist_model.specs.Sessions.{Rules, Decision, Denies, Passes, Acts, Plants, Injects, after_act, inject_deed, addfd_of, decided_deed, judged_deed, copied_deed, checked_deed, based_deed, open_deed, deed_for, deed, notif_of, reads_of, first_some, outcome_in, put_in, take_in, any_of, is_letgo, gives_up, opens, opens_base, checks, number_of, skips}
 use Rattle.hist_model.specs.Steps.{deed_step, mem, read_answer, recv_answer, take_step, install_at, request_of, request_listed, oldest_unfetched}
 use Rattle.hist_model.specs.Calls.{count}
 use Rattle.hist_model.specs.declared.event.Back.{Back}
@@ -71,7 +72,7 @@ same-back Continue = refl
 -- ---- a read that is due asks for at least one byte
 
 abbrev pub IsSized : Deed → Type 0
-IsSized (ReadD addr len) = 1 ≤ len
+IsSized (Deed.Read addr len) = 1 ≤ len
 IsSized _ = Unit {0}
 
 sized-if : (b : Bool) (x y : Deed) → IsSized x → IsSized y → IsSized (if b then x else y)
@@ -91,8 +92,8 @@ sized-injection x a (Some (Ok u)) (Some t) = tt
 sized-decided : (x : ℕ) (own : List What) (d : Decision) → IsSized (decided_deed x own d)
 sized-decided x own (Denies e) = tt
 sized-decided x own Passes = tt
-sized-decided x own (Acts q cap) = sized-act x (first_some outcome_in own) (ActD q cap) tt
-sized-decided x own (Plants a b cap) = sized-act x (first_some outcome_in own) (PlantD a b cap) tt
+sized-decided x own (Acts q cap) = sized-act x (first_some outcome_in own) (Deed.Act q cap) tt
+sized-decided x own (Plants a b cap) = sized-act x (first_some outcome_in own) (Deed.Plant a b cap) tt
 sized-decided x own (Injects src at flags) = sized-injection x (addfd_of x src at flags) (first_some put_in own) (first_some take_in own)
 
 module _ (P : Policy) (F : Figures) (n : Notif) (own : List What) where
@@ -102,19 +103,19 @@ module _ (P : Policy) (F : Figures) (n : Notif) (own : List What) where
 
   sized-copied : (o : Option (ℕ × ℕ)) → (rules_of P F).next_piece n (reads_of own) ≡ o → IsSized (copied_deed (rules_of P F) n own o)
   sized-copied (Some q) e = wanted_some (copied n (reads_of own)) q (piece_wanted n.call.nr n.call.args _) e
-  sized-copied None e = sized-if (number_of checks own == 1) (Ask n.id) _ tt (sized-judged ((rules_of P F).fault n (reads_of own)))
+  sized-copied None e = sized-if (number_of checks own == 1) (Deed.Check n.id) _ tt (sized-judged ((rules_of P F).fault n (reads_of own)))
 
   sized-checked : IsSized (checked_deed (rules_of P F) n own)
-  sized-checked = sized-if (not (any_of checks own)) (Ask n.id) _ tt (sized-copied ((rules_of P F).next_piece n (reads_of own)) refl)
+  sized-checked = sized-if (not (any_of checks own)) (Deed.Check n.id) _ tt (sized-copied ((rules_of P F).next_piece n (reads_of own)) refl)
 
   sized-based : (d : Option ℤ) → IsSized (based_deed (rules_of P F) n own d)
-  sized-based (Some d) = sized-if (not (any_of opens_base own)) (OpenB n.pid d) _ tt sized-checked
+  sized-based (Some d) = sized-if (not (any_of opens_base own)) (Deed.OpenBase n.pid d) _ tt sized-checked
   sized-based None = sized-checked
 
   sized-open : IsSized (open_deed (rules_of P F) n own)
   sized-open =
-      sized-if (any_of is_letgo own) Fetch _ tt
-      (sized-if (any_of gives_up own) Let _ tt (sized-if (not (any_of opens own)) (Open n.pid) _ tt (sized-based ((rules_of P F).dirfd n))))
+      sized-if (any_of is_letgo own) Deed.Recv _ tt
+      (sized-if (any_of gives_up own) Deed.LetGo _ tt (sized-if (not (any_of opens own)) (Deed.OpenMem n.pid) _ tt (sized-based ((rules_of P F).dirfd n))))
 
 pub deed_sized : (P : Policy) (F : Figures) (own : List What) → IsSized (deed (rules_of P F) own)
 unfolding deed
@@ -127,31 +128,31 @@ deed_sized P F own = by (notif_of own)
 -- ---- the kernel's step answers the deed
 
 module _ (S : Script) (K : List Event) (w : ℕ) where
-  received : (c : Option ℕ) → fits Fetch (Recv (recv_answer K c)) ≡ true
+  received : (c : Option ℕ) → fits Deed.Recv (Recv (recv_answer K c)) ≡ true
   received None = refl
   received (Some c) = refl
 
-  receive-fits : (b : Bool) → skips (if b then Skip else Recv (recv_answer K (oldest_unfetched K))) ≡ false → fits Fetch (if b then Skip else Recv (recv_answer K (oldest_unfetched K))) ≡ true
+  receive-fits : (b : Bool) → skips (if b then Skip else Recv (recv_answer K (oldest_unfetched K))) ≡ false → fits Deed.Recv (if b then Skip else Recv (recv_answer K (oldest_unfetched K))) ≡ true
   receive-fits true h = cc
   receive-fits false h = received (oldest_unfetched K)
 
   piece-read : (m : Option ℕ) (addr len : ℕ) → 1 ≤ len → fits_piece (Some (addr, len)) (read_answer (system_of S) K m addr len) ≡ true
   piece-read m addr len h = grind (arith, bytes_fit)
 
-  take-fits : (a : Option (Result ℕ ℕ)) (b : Bool) → skips (take_step a b) ≡ false → fits Take (take_step a b) ≡ true
+  take-fits : (a : Option (Result ℕ ℕ)) (b : Bool) → skips (take_step a b) ≡ false → fits Deed.AddfdTake (take_step a b) ≡ true
   take-fits (Some a) b h = refl
   take-fits None true h = cc
   take-fits None false h = refl
 
   pub step_fits : (d : Deed) → IsSized d → skips (deed_step (system_of S) K w d) ≡ false → fits d (deed_step (system_of S) K w d) ≡ true
-  step_fits Fetch l h = receive-fits (count K == 0) h
-  step_fits (Open pid) l h = same-number pid
-  step_fits (OpenB pid dirfd) l h = rw (same-number pid, same-int dirfd) refl
-  step_fits (Ask id) l h = same-number id
-  step_fits (ReadD addr len) l h = rw (same-number addr, same-number len) (piece-read (mem K w) addr len l)
-  step_fits (ActD request cap) l h = rw (same-request request, same-cap cap) refl
-  step_fits (PlantD addr bytes cap) l h = rw (same-number addr, same-bytes bytes, same-cap cap) refl
-  step_fits (Put asked) l h = same-addfd asked
-  step_fits Take l h = take-fits (install_at K (request_of K w)) (request_listed K (request_of K w)) h
-  step_fits (Answer id back) l h = rw (same-number id, same-back back) refl
-  step_fits Let l h = refl
+  step_fits Deed.Recv l h = receive-fits (count K == 0) h
+  step_fits (Deed.OpenMem pid) l h = same-number pid
+  step_fits (Deed.OpenBase pid dirfd) l h = rw (same-number pid, same-int dirfd) refl
+  step_fits (Deed.Check id) l h = same-number id
+  step_fits (Deed.Read addr len) l h = rw (same-number addr, same-number len) (piece-read (mem K w) addr len l)
+  step_fits (Deed.Act request cap) l h = rw (same-request request, same-cap cap) refl
+  step_fits (Deed.Plant addr bytes cap) l h = rw (same-number addr, same-bytes bytes, same-cap cap) refl
+  step_fits (Deed.AddfdPut asked) l h = same-addfd asked
+  step_fits Deed.AddfdTake l h = take-fits (install_at K (request_of K w)) (request_listed K (request_of K w)) h
+  step_fits (Deed.Send id back) l h = rw (same-number id, same-back back) refl
+  step_fits Deed.LetGo l h = refl

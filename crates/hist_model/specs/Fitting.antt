@@ -4,7 +4,7 @@ use Rattle.std.specs.Prelude.{ℕ, Bool, true, false, ◌&&◌, not, if◌then�
 use Rattle.std.specs.Ordering.{int_eq}
 use Rattle.std.specs.Option.{option_eq}
 use Rattle.hist_model.specs.Copies.{fits_piece}
-use Rattle.hist_model.specs.Sessions.{Deed, Fetch, Open, OpenB, Ask, ReadD, ActD, PlantD, Put, Take, Answer, Let}
+use Rattle.hist_model.specs.Deeds.{Deed}
 use Rattle.hist_model.specs.declared.event.Back.{Back}
 use Rattle.hist_model.specs.declared.event.Back.TheVariants.{Value, Fail, Continue}
 use Rattle.hist_model.specs.declared.event.What.{What}
@@ -44,16 +44,16 @@ back_eq _ _ = false
 -- the step answers the deed: a receive with a notification or ENOENT, a read with some bytes, at most as many as were asked for, or
 -- EFAULT, and each other deed as it may
 abbrev pub fits : Deed → What → Bool
-fits Fetch (Recv (Ok notif)) = true
-fits Fetch (Recv (Err e)) = e == enoent
-fits (Open pid) (OpenMem p answer) = pid == p
-fits (OpenB pid dirfd) (OpenBase p d answer) = (pid == p) && int_eq dirfd d
-fits (Ask id) (Check x answer) = id == x
-fits (ReadD addr len) (Read a l answer) = (addr == a) && ((len == l) && fits_piece (Some (addr, len)) answer)
-fits (ActD request cap) (Act q c answer) = request_eq request q && option_eq cap_eq cap c
-fits (PlantD addr bytes cap) (Plant a b c answer) = (addr == a) && (bytes_eq bytes b && option_eq cap_eq cap c)
-fits (Put asked) (AddfdPut a answer) = addfd_eq asked a
-fits Take (AddfdTake answer) = true
-fits (Answer id back) (Send x b answer) = (id == x) && back_eq back b
-fits Let LetGo = true
+fits Deed.Recv (Recv (Ok notif)) = true
+fits Deed.Recv (Recv (Err e)) = e == enoent
+fits (Deed.OpenMem pid) (OpenMem p answer) = pid == p
+fits (Deed.OpenBase pid dirfd) (OpenBase p d answer) = (pid == p) && int_eq dirfd d
+fits (Deed.Check id) (Check x answer) = id == x
+fits (Deed.Read addr len) (Read a l answer) = (addr == a) && ((len == l) && fits_piece (Some (addr, len)) answer)
+fits (Deed.Act request cap) (Act q c answer) = request_eq request q && option_eq cap_eq cap c
+fits (Deed.Plant addr bytes cap) (Plant a b c answer) = (addr == a) && (bytes_eq bytes b && option_eq cap_eq cap c)
+fits (Deed.AddfdPut asked) (AddfdPut a answer) = addfd_eq asked a
+fits Deed.AddfdTake (AddfdTake answer) = true
+fits (Deed.Send id back) (Send x b answer) = (id == x) && back_eq back b
+fits Deed.LetGo LetGo = true
 fits _ _ = false

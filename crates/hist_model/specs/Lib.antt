@@ -7,6 +7,7 @@ pub mod Histories
 pub mod Tasks
 pub mod Calls
 pub mod Signals
+pub mod Deeds
 pub mod Sessions
 pub mod Fitting
 pub mod Systems

@@ -1,6 +1,7 @@
 -- A worker's session, and its next deed: the order of seccomp_unotify(2) (open the memory, check, read, check again, use).
 use Rattle.std.specs.Prelude.{ℕ, suc, Bool, true, false, ◌&&◌, ◌||◌, not, if◌then◌else◌, ◌==◌, List, [], ◌∷◌, Option, Some, None, Result, Ok, Err, ℤ, pos}
 use Rattle.hist_model.specs.Look.{is_worker}
+use Rattle.hist_model.specs.Deeds.{Deed}
 use Rattle.hist_model.specs.declared.event.Event.{Event}
 use Rattle.hist_model.specs.declared.event.What.{What}
 use Rattle.hist_model.specs.declared.event.What.TheVariants.{Recv, OpenMem, OpenBase, Check, Read, Act, Plant, AddfdPut, AddfdTake, Send, LetGo, Skip}
@@ -109,21 +110,6 @@ abbrev pub reads_of : List What → List What
 reads_of [] = []
 reads_of (a ∷ own) = if is_read a then a ∷ reads_of own else reads_of own
 
--- what a worker does next: fetch a notification, open a memory and a base, ask whether an id is valid, read, act, plant
--- the answer of sysinfo, put and take a descriptor, answer, let go
-pub data Deed : Type 0 where
-  Fetch : Deed
-  Open : ℕ → Deed
-  OpenB : ℕ → ℤ → Deed
-  Ask : ℕ → Deed
-  ReadD : ℕ → ℕ → Deed
-  ActD : Request → Option Cap → Deed
-  PlantD : ℕ → List ℕ → Option Cap → Deed
-  Put : Addfd → Deed
-  Take : Deed
-  Answer : ℕ → Back → Deed
-  Let : Deed
-
 -- what the deciding rule makes of a copy: an errno, a native call, an act or a plant with the rule's cap, a descriptor
 pub data Decision : Type 0 where
   Denies : ℕ → Decision
@@ -145,7 +131,7 @@ back_of_outcome (Err e) = Fail e
 
 abbrev pub after_act : ℕ → Option (Result (Unit {0}) ℕ) → Deed → Deed
 after_act x None d = d
-after_act x (Some r) d = Answer x (back_of_outcome r)
+after_act x (Some r) d = Deed.Send x (back_of_outcome r)
 
 -- the request of an injection: with SEND, and with SETFD where a number is asked for
 abbrev pub addfd_of : ℕ → ℕ → Option ℕ → ℕ → Addfd
@@ -153,41 +139,41 @@ addfd_of x src None flags = record { id = x; flags = 2; srcfd = src; newfd = 0; 
 addfd_of x src (Some at) flags = record { id = x; flags = 3; srcfd = src; newfd = at; newfd_flags = flags }
 
 abbrev pub inject_deed : ℕ → Addfd → Option (Result (Unit {0}) ℕ) → Option (Result ℕ ℕ) → Deed
-inject_deed x a None t = Put a
-inject_deed x a (Some (Err e)) t = Answer x (Fail e)
-inject_deed x a (Some (Ok u)) None = Take
-inject_deed x a (Some (Ok u)) (Some t) = Answer x (Fail emfile)
+inject_deed x a None t = Deed.AddfdPut a
+inject_deed x a (Some (Err e)) t = Deed.Send x (Fail e)
+inject_deed x a (Some (Ok u)) None = Deed.AddfdTake
+inject_deed x a (Some (Ok u)) (Some t) = Deed.Send x (Fail emfile)
 
 abbrev pub decided_deed : ℕ → List What → Decision → Deed
-decided_deed x own (Denies e) = Answer x (Fail e)
-decided_deed x own Passes = Answer x Continue
-decided_deed x own (Acts q cap) = after_act x (first_some outcome_in own) (ActD q cap)
-decided_deed x own (Plants a b cap) = after_act x (first_some outcome_in own) (PlantD a b cap)
+decided_deed x own (Denies e) = Deed.Send x (Fail e)
+decided_deed x own Passes = Deed.Send x Continue
+decided_deed x own (Acts q cap) = after_act x (first_some outcome_in own) (Deed.Act q cap)
+decided_deed x own (Plants a b cap) = after_act x (first_some outcome_in own) (Deed.Plant a b cap)
 decided_deed x own (Injects src at flags) = inject_deed x (addfd_of x src at flags) (first_some put_in own) (first_some take_in own)
 
 abbrev pub judged_deed : Rules → Notif → List What → Option ℕ → Deed
-judged_deed R n own (Some f) = Answer n.id (Fail f)
+judged_deed R n own (Some f) = Deed.Send n.id (Fail f)
 judged_deed R n own None = decided_deed n.id own (R.decide n (reads_of own))
 
 abbrev pub copied_deed : Rules → Notif → List What → Option (ℕ × ℕ) → Deed
-copied_deed R n own (Some a) = ReadD a.0 a.1
-copied_deed R n own None = if number_of checks own == 1 then Ask n.id else judged_deed R n own (R.fault n (reads_of own))
+copied_deed R n own (Some a) = Deed.Read a.0 a.1
+copied_deed R n own None = if number_of checks own == 1 then Deed.Check n.id else judged_deed R n own (R.fault n (reads_of own))
 
 abbrev pub checked_deed : Rules → Notif → List What → Deed
-checked_deed R n own = if not (any_of checks own) then Ask n.id else copied_deed R n own (R.next_piece n (reads_of own))
+checked_deed R n own = if not (any_of checks own) then Deed.Check n.id else copied_deed R n own (R.next_piece n (reads_of own))
 
 abbrev pub based_deed : Rules → Notif → List What → Option ℤ → Deed
-based_deed R n own (Some d) = if not (any_of opens_base own) then OpenB n.pid d else checked_deed R n own
+based_deed R n own (Some d) = if not (any_of opens_base own) then Deed.OpenBase n.pid d else checked_deed R n own
 based_deed R n own None = checked_deed R n own
 
 abbrev pub open_deed : Rules → Notif → List What → Deed
 open_deed R n own =
-    if any_of is_letgo own then Fetch else (
-    if any_of gives_up own then Let else (
-    if not (any_of opens own) then Open n.pid else based_deed R n own (R.dirfd n)))
+    if any_of is_letgo own then Deed.Recv else (
+    if any_of gives_up own then Deed.LetGo else (
+    if not (any_of opens own) then Deed.OpenMem n.pid else based_deed R n own (R.dirfd n)))
 
 abbrev pub deed_for : Rules → Option Notif → List What → Deed
-deed_for R None own = Fetch
+deed_for R None own = Deed.Recv
 deed_for R (Some n) own = open_deed R n own
 
 -- what a worker does next, by its own steps

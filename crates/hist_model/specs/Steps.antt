@@ -5,7 +5,8 @@ use Rattle.hist_model.specs.Names.{is_task_name}
 use Rattle.hist_model.specs.Tasks.{ended, reaped, holder, next_pid, alive, mode, name_of, has_parent, parent, makes, pid_of}
 use Rattle.hist_model.specs.Signals.{call_of, next_signal, effect_in_call, effect_outside}
 use Rattle.hist_model.specs.Calls.{listed, caller, id, named, fetched, settled, settles, waiting, calls, count, closes, queue, installs_for, has_send_flag}
-use Rattle.hist_model.specs.Sessions.{session, skips, deed, Rules, Deed, Fetch, Open, OpenB, Ask, ReadD, ActD, PlantD, Put, Take, Answer, Let}
+use Rattle.hist_model.specs.Deeds.{Deed}
+use Rattle.hist_model.specs.Sessions.{session, skips, deed, Rules}
 use Rattle.hist_model.specs.Systems.{System, Slot, Number, Full, Over}
 use Rattle.hist_model.specs.declared.event.Event.{Event}
 use Rattle.hist_model.specs.declared.event.Actor.{Actor}
@@ -368,17 +369,17 @@ is_spent K (Some cap) = nat_le cap.times (times_spent K cap.rule)
 
 -- the step of a worker's deed: receive, open, check, read and so on, each with its answer
 abbrev pub deed_step : System → List Event → ℕ → Deed → What
-deed_step S K w Fetch = if count K == 0 then Skip else Recv (recv_answer K (oldest_unfetched K))
-deed_step S K w (Open p) = OpenMem p (if lives K (holder K p) then Ok tt else Err esrch)
-deed_step S K w (OpenB p d) = OpenBase p d (base_answer S K (holder K p) d)
-deed_step S K w (Ask x) = Check x (check_answer K (named K x))
-deed_step S K w (ReadD a n) = Read a n (read_answer S K (mem K w) a n)
-deed_step S K w (ActD q cap) = Act q cap (if is_spent K cap then Err edquot else S.outcome K w q)
-deed_step S K w (PlantD a b cap) = Plant a b cap (if is_spent K cap then Err edquot else (if S.writable a then Ok tt else Err efault))
-deed_step S K w (Put a) = AddfdPut a (if not (S.source a.srcfd) then Err ebadf else put_answer S K a (named K a.id))
-deed_step S K w Take = take_step (install_at K (request_of K w)) (request_listed K (request_of K w))
-deed_step S K w (Answer x back) = Send x back (send_answer K (named K x))
-deed_step S K w Let = LetGo
+deed_step S K w Deed.Recv = if count K == 0 then Skip else Recv (recv_answer K (oldest_unfetched K))
+deed_step S K w (Deed.OpenMem p) = OpenMem p (if lives K (holder K p) then Ok tt else Err esrch)
+deed_step S K w (Deed.OpenBase p d) = OpenBase p d (base_answer S K (holder K p) d)
+deed_step S K w (Deed.Check x) = Check x (check_answer K (named K x))
+deed_step S K w (Deed.Read a n) = Read a n (read_answer S K (mem K w) a n)
+deed_step S K w (Deed.Act q cap) = Act q cap (if is_spent K cap then Err edquot else S.outcome K w q)
+deed_step S K w (Deed.Plant a b cap) = Plant a b cap (if is_spent K cap then Err edquot else (if S.writable a then Ok tt else Err efault))
+deed_step S K w (Deed.AddfdPut a) = AddfdPut a (if not (S.source a.srcfd) then Err ebadf else put_answer S K a (named K a.id))
+deed_step S K w Deed.AddfdTake = take_step (install_at K (request_of K w)) (request_listed K (request_of K w))
+deed_step S K w (Deed.Send x back) = Send x back (send_answer K (named K x))
+deed_step S K w Deed.LetGo = LetGo
 
 unfoldable pub worker_step : System → Rules → List Event → ℕ → What
 worker_step S R K w = deed_step S K w (deed R (session K w))

@@ -1,6 +1,6 @@
 -- Each answer has its cause, and each session ends for one.
 -- By the errors that its session met: each step's is known, and what a step told of the steps before it.
-use Rattle.mediation.proofs.Common.{[], Actor, Answer, any_of, arith, Back, cases_Bool, Cause, denied, done, Each, EndsForReason, ends_work, Err, Event, false, faulty, first_some, gives_up, has_ended, HasCause, inl, inr}
+use Rattle.mediation.proofs.Common.{[], Actor, any_of, arith, Back, cases_Bool, Cause, Deed, denied, done, Each, EndsForReason, ends_work, Err, Event, false, faulty, first_some, gives_up, has_ended, HasCause, inl, inr}
 use Rattle.mediation.proofs.Common.{is_known_error, is_letgo, is_open_session, IsLegal, joined, judged_deed, length, LetGo, List, not_put, not_taken, Notif, passed, put_in, reads_of}
 use Rattle.mediation.proofs.Common.{Recv, Result, Rules, Send, session, session_call, Some, starts, sym, System, take_in, true, What, ℕ, ◌<◌, ◌==◌, ◌^◌, ◌||◌, ◌∙◌, ◌∷◌, ◌≡◌}
 use Rattle.hist_model.specs.Calls.{receives}
@@ -43,7 +43,7 @@ module _ (S : System) (R : Rules) where
   take-known (a ∷ own) t k g h = let ih = take-known own t k.1 in grind arith
 
   -- why the deed is this answer
-  cause-of : (own : List What) (n : Notif) (b : Back) → AllKnown own → any_of gives_up own ≡ false → judged_deed R n own (R.fault n (reads_of own)) ≡ Answer n.id b → Cause R own n b
+  cause-of : (own : List What) (n : Notif) (b : Back) → AllKnown own → any_of gives_up own ≡ false → judged_deed R n own (R.fault n (reads_of own)) ≡ Deed.Send n.id b → Cause R own n b
   cause-of own n b k g d = let p = λ (e : ℕ). put-known own e k g in let t = λ (x : Result ℕ ℕ). take-known own x k g in grind (arith, faulty, denied, passed, done, not_put, not_taken)
 
   pub has_cause : (K : List Event) → IsLegal S R K → length K < 2 ^ 64 → Each (HasCause R) K

@@ -29,8 +29,9 @@ pub use Rattle.hist_model.specs.Natives.{base_of, call_natively, changed, Change
 pub use Rattle.hist_model.specs.Orders.{InOrder, is_good_check, is_opening}
 pub use Rattle.hist_model.specs.ReportAudit.{checked_twice, finding, finding_of, is_gone, judged_as, judging_by, reads, session_step}
 unfoldable pub use Rattle.hist_model.specs.Requests.{base_dirfd, request}
+pub use Rattle.hist_model.specs.Deeds.{Deed}
 unfoldable pub use Rattle.hist_model.specs.Sessions.{deed, session}
-pub use Rattle.hist_model.specs.Sessions.{Acts, addfd_of, Answer, any_of, based_deed, checked_deed, checks, Decision, fetched_by, first_some, gives_up, Injects, is_letgo, joined, judged_deed, notif_of}
+pub use Rattle.hist_model.specs.Sessions.{Acts, addfd_of, any_of, based_deed, checked_deed, checks, Decision, fetched_by, first_some, gives_up, Injects, is_letgo, joined, judged_deed, notif_of}
 pub use Rattle.hist_model.specs.Sessions.{number_of, open_deed, opens, opens_base, outcome_in, Plants, put_in, reads_of, Rules, skips, starts, take_in}
 unfoldable pub use Rattle.hist_model.specs.Signals.{call_of, next_signal}
 unfoldable pub use Rattle.hist_model.specs.Steps.{base, call_at, group, install_of, mem, oldest_unfetched, owes_native, reply, request_of, session_call, step, steps_of, task_place, task_step}

@@ -1,6 +1,6 @@
 -- What the step of an actor can be, kind by kind, and what it then tells.
-use Rattle.mediation.proofs.Common.{[], Act, Actor, Acts, Addfd, addfd_of, AddfdPut, AddfdTake, alive, Answer, any_of, arith, base_answer, based_deed, call_of, calls, Check, check_answer}
-use Rattle.mediation.proofs.Common.{checked_deed, checks, Close, count, deed, deed_step, Deliver, Each, Enter, Err, Event, Exit, false, first_some, found, gives_up}
+use Rattle.mediation.proofs.Common.{[], Act, Actor, Acts, Addfd, addfd_of, AddfdPut, AddfdTake, alive, any_of, arith, base_answer, based_deed, call_of, calls, Check, check_answer}
+use Rattle.mediation.proofs.Common.{checked_deed, checks, Close, count, Deed, deed, deed_step, Deliver, Each, Enter, Err, Event, Exit, false, first_some, found, gives_up}
 use Rattle.mediation.proofs.Common.{Handler, holder, if◌then◌else◌, Injects, Install, install_at, install_step, instr_step, is_child, is_ended_child, is_letgo, is_spent, is_start, IsLegal, IsStep}
 use Rattle.mediation.proofs.Common.{judged_deed, length, LetGo, List, Listener, lives, mem, Name, named, Native, next_child, next_instr, next_pid, next_signal, None, not, Notif}
 use Rattle.mediation.proofs.Common.{notif_of, number_of, Ok, oldest, oldest_unfetched, open_deed, OpenBase, OpenMem, opens, opens_base, Option, outcome_in, owes_native, Plant, Plants, Poke}
@@ -48,7 +48,7 @@ Told R own (Act q cap a) = (n : Notif) × AtWork own n × HasOpened R own n × H
 Told R own (Plant x bs cap a) = (n : Notif) × AtWork own n × HasOpened R own n × HasCopied R own n × (R.decide n (reads_of own) ≡ Plants x bs cap) × (first_some outcome_in own ≡ None) × (R.fault n (reads_of own) ≡ None)
 Told R own (AddfdPut q a) = (n : Notif) × AtWork own n × HasOpened R own n × HasCopied R own n × IsInjected R own n q × (first_some put_in own ≡ None)
 Told R own (AddfdTake a) = (n : Notif) × AtWork own n × HasOpened R own n × HasCopied R own n × ((u : Unit {0}) × (first_some put_in own ≡ Some (Ok u))) × (first_some take_in own ≡ None)
-Told R own (Send x b a) = (n : Notif) × AtWork own n × HasOpened R own n × HasCopied R own n × (x ≡ n.id) × (judged_deed R n own (R.fault n (reads_of own)) ≡ Answer n.id b)
+Told R own (Send x b a) = (n : Notif) × AtWork own n × HasOpened R own n × HasCopied R own n × (x ≡ n.id) × (judged_deed R n own (R.fault n (reads_of own)) ≡ Deed.Send n.id b)
 Told R own _ = ⊥
 
 -- what a worker's step is answered

@@ -5,7 +5,7 @@ ghost use Rattle.hist_model.specs.Calls.{named};
 ghost use Rattle.hist_model.specs.Tasks.{holder};
 ghost use Rattle.plain_files.specs.Kept.{StandsFor};
 ghost use Rattle.hist_model.specs.Legal.{system_of};
-ghost use Rattle.hist_model.specs.Sessions.{Fetch, Open, Ask, ReadD, ActD, PlantD, Put, Take, Answer};
+ghost use Rattle.hist_model.specs.Deeds.{Deed};
 ghost use Rattle.hist_model.specs.Steps.{deed_step, put_answer, base_answer, is_spent};
 ghost use Rattle.hist_model.specs.declared.event.What.TheVariants.{OpenBase};
 ghost use Rattle.hist_model.specs.declared.script.Script.{Script as ScriptData};
@@ -30,7 +30,7 @@ use sys_abi::wire::Addfd;
 
 /// A receive; no step where the request count is 0.
 pub fn recv(events: &[Event]) -> What
-    ensures { (S : ScriptData) (w : ℕ) → result ≡ deed_step (system_of S) (reverse events.now) w Fetch }
+    ensures { (S : ScriptData) (w : ℕ) → result ≡ deed_step (system_of S) (reverse events.now) w Deed.Recv }
 {
     if count(events) == 0 {
         What::Skip
@@ -43,7 +43,7 @@ pub fn recv(events: &[Event]) -> What
 
 /// The opening of a task's memory.
 pub fn open_mem(events: &[Event], pid: u32) -> What
-    ensures { (S : ScriptData) (w : ℕ) → result ≡ deed_step (system_of S) (reverse events.now) w (Open pid) }
+    ensures { (S : ScriptData) (w : ℕ) → result ≡ deed_step (system_of S) (reverse events.now) w (Deed.OpenMem pid) }
 {
     What::OpenMem {
         pid,
@@ -53,7 +53,7 @@ pub fn open_mem(events: &[Event], pid: u32) -> What
 
 /// The question whether an id is valid.
 pub fn check(events: &[Event], id: u64) -> What
-    ensures { (S : ScriptData) (w : ℕ) → result ≡ deed_step (system_of S) (reverse events.now) w (Ask id) }
+    ensures { (S : ScriptData) (w : ℕ) → result ≡ deed_step (system_of S) (reverse events.now) w (Deed.Check id) }
 {
     What::Check {
         id,
@@ -70,7 +70,7 @@ pub fn read(
     addr: u64,
     len: u16,
 ) -> Result<What, NoMemory>
-    ensures { IfOk result (λ w. w ≡ deed_step (system_of script.now) (reverse events.now) worker (ReadD addr len)) }
+    ensures { IfOk result (λ w. w ≡ deed_step (system_of script.now) (reverse events.now) worker (Deed.Read addr len)) }
 {
     let answer = match mem(events, worker) {
         None => Err(Errno::EFAULT),
@@ -98,7 +98,7 @@ fn asked_answer(script: &Script, events: &[Event], asked: &Addfd) -> Result<(), 
 
 /// A request for a descriptor in the caller.
 pub fn addfd_put(script: &Script, events: &[Event], asked: Addfd) -> What
-    ensures { (w : ℕ) → result ≡ deed_step (system_of script.now) (reverse events.now) w (Put asked) }
+    ensures { (w : ℕ) → result ≡ deed_step (system_of script.now) (reverse events.now) w (Deed.AddfdPut asked) }
 {
     What::AddfdPut {
         asked,
@@ -108,7 +108,7 @@ pub fn addfd_put(script: &Script, events: &[Event], asked: Addfd) -> What
 
 /// What came of it; no step while the call is listed and nothing is installed.
 pub fn addfd_take(events: &[Event], worker: u8) -> What
-    ensures { (S : ScriptData) → result ≡ deed_step (system_of S) (reverse events.now) worker Take }
+    ensures { (S : ScriptData) → result ≡ deed_step (system_of S) (reverse events.now) worker Deed.AddfdTake }
 {
     match take(events, worker) {
         Some(answer) => What::AddfdTake { answer },
@@ -118,7 +118,7 @@ pub fn addfd_take(events: &[Event], worker: u8) -> What
 
 /// An answer.
 pub fn send(events: &[Event], id: u64, back: Back) -> What
-    ensures { (S : ScriptData) (w : ℕ) → result ≡ deed_step (system_of S) (reverse events.now) w (Answer id back) }
+    ensures { (S : ScriptData) (w : ℕ) → result ≡ deed_step (system_of S) (reverse events.now) w (Deed.Send id back) }
 {
     What::Send {
         id,
@@ -191,7 +191,7 @@ pub fn act(
     cap: Option<Cap>,
 ) -> Result<What, NoMemory>
     requires { StandsFor script.now (reverse events.now) files.now }
-    ensures { IfOk result (λ w. w ≡ deed_step (system_of script.now) (reverse events.now) worker (ActD request.now cap)) }
+    ensures { IfOk result (λ w. w ≡ deed_step (system_of script.now) (reverse events.now) worker (Deed.Act request.now cap)) }
 {
     let answer = act_answer(alloc, script, events, files, worker, request, cap)?;
     Ok(What::Act {
@@ -222,7 +222,7 @@ pub fn plant(
     bytes: [u8; 112],
     cap: Option<Cap>,
 ) -> What
-    ensures { (w : ℕ) → result ≡ deed_step (system_of script.now) (reverse events.now) w (PlantD addr bytes cap) }
+    ensures { (w : ℕ) → result ≡ deed_step (system_of script.now) (reverse events.now) w (Deed.Plant addr bytes cap) }
 {
     What::Plant {
         addr,
