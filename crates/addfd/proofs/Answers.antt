@@ -5,7 +5,8 @@ use Rattle.std.proofs.lemmas.Bool.{cases_Bool, or_left, eq-eqb, ne_eqb}
 use Rattle.std.proofs.lemmas.List.{length-map}
 use Rattle.std.proofs.lemmas.List.Elements.{All-filter, All-head}
 use Rattle.hist_model.specs.Look.{event_at}
-use Rattle.hist_model.specs.Calls.{listed, id, queue, named, fetched, answered, state_at, has_send_flag}
+use Rattle.hist_model.specs.Kinds.{has_send_flag}
+use Rattle.hist_model.specs.Calls.{listed, id, queue, named, fetched, answered, state_at}
 use Rattle.hist_model.specs.Steps.{put_answer, is_empty}
 use Rattle.hist_model.specs.Systems.{System}
 use Rattle.hist_model.specs.Files.{asked_in}
@@ -21,6 +22,7 @@ use Rattle.addfd.proofs.Lists.{has-filter}
 use Rattle.addfd.proofs.Calls.{place-is}
 use Rattle.addfd.proofs.Installed.{row-worker}
 use Rattle.addfd.proofs.Flagged.{known-sends}
+use Rattle.sys_abi.specs.Errnos.{einprogress, ebusy}
 
 pub queued-is : (K : List Event) (qs : List Request) (c x : ℕ) → StandsFor K qs → listed K c ≡ true → id K c ≡ x → length (waiting x qs) ≡ length (queue K c)
 queued-is K qs c x S h i = ap (λ y. length (waiting y qs)) (sym i) ∙ (sym (length-map (waiting (id K c) qs) (place_of K)) ∙ ap length (S.queues c h))
@@ -67,7 +69,7 @@ admitted S K qs asked (Some c) T k h =
     let l = n.0 in
     rw (l, queued-is K qs c asked.id T l n.1, empty-is (queue K c)) (by_state (fetched K c) (answered K c) (has_send_flag asked) (length (queue K c)) (known-sends asked k))
   where
-    by_state : (f a s : Bool) (n : ℕ) → sends asked ≡ s → (if not (f && not a) then Err 115 else (if s && not (n == 0) then Err 16 else Ok tt)) ≡ admission asked (Some (if not f then Unfetched else (if a then Answered else Fetched))) n
+    by_state : (f a s : Bool) (n : ℕ) → sends asked ≡ s → (if not (f && not a) then Err einprogress else (if s && not (n == 0) then Err ebusy else Ok tt)) ≡ admission asked (Some (if not f then Unfetched else (if a then Answered else Fetched))) n
     by_state true true s n e = refl
     by_state true false s n e = rw e
     by_state false a s n e = refl

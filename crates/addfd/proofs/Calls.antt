@@ -3,7 +3,8 @@ use Rattle.std.proofs.Common.{◌≡◌, inl, inr, ℕ, ◌<◌, true, false, Li
 use Rattle.std.specs.Prelude.{map, All, ◌==◌, is_none}
 use Rattle.std.proofs.lemmas.Bool.{both_ways, eqb-true, and_parts}
 use Rattle.std.proofs.lemmas.List.Elements.{All-filter, All-weaker}
-use Rattle.hist_model.specs.Calls.{listed, id, caller, is_call, notifies, is_install}
+use Rattle.hist_model.specs.Kinds.{notifies, is_install}
+use Rattle.hist_model.specs.Calls.{listed, id, caller, is_call}
 use Rattle.hist_model.specs.Steps.{request_of, install_of, place_or}
 use Rattle.hist_model.specs.Files.{asked_in}
 use Rattle.hist_model.specs.declared.event.Event.{Event}

@@ -4,7 +4,8 @@ use Rattle.std.specs.Prelude.{map, slice_index_or, Result}
 use Rattle.std.proofs.lemmas.Bool.{both_ways, eqb-true, eq-eqb, cases_Bool, false_from_ne_true, and_parts, and_from}
 use Rattle.std.proofs.lemmas.List.Elements.{All-map, All-weaker, All-filter, All-head}
 use Rattle.hist_model.specs.Look.{event_at, is_task}
-use Rattle.hist_model.specs.Calls.{listed, id, caller, is_call, notifies, is_install, queue, puts_to, installs_for, rest_of}
+use Rattle.hist_model.specs.Kinds.{notifies, is_install}
+use Rattle.hist_model.specs.Calls.{listed, id, caller, is_call, queue, puts_to, installs_for, rest_of}
 use Rattle.hist_model.specs.Steps.{request_of, request_after, place_or, install_of, installed, is_first, call_at}
 use Rattle.hist_model.specs.declared.event.Event.{Event}
 use Rattle.hist_model.specs.declared.event.Actor.{Actor}

@@ -3,7 +3,8 @@ use Rattle.std.proofs.Common.{◌≡◌, inl, inr, ℕ, true, false, List, [], �
 use Rattle.std.specs.Prelude.{map, All, Ok, ◌==◌, is_none}
 use Rattle.std.proofs.lemmas.Bool.{eqb-true, and_parts, cases_Bool}
 use Rattle.std.proofs.lemmas.List.Elements.{All-weaker, All-filter, All-head, filter_passes}
-use Rattle.hist_model.specs.Calls.{listed, id, notifies, notify_id, is_install, queue, puts_to}
+use Rattle.hist_model.specs.Kinds.{notifies, is_install}
+use Rattle.hist_model.specs.Calls.{listed, id, notify_id, queue, puts_to}
 use Rattle.hist_model.specs.Steps.{request_of, request_after}
 use Rattle.hist_model.specs.declared.event.Event.{Event}
 use Rattle.hist_model.specs.declared.event.What.{What}

@@ -5,7 +5,8 @@ use Rattle.std.proofs.lemmas.Bool.{both_ways, eqb-true, eq-eqb, cases_Bool, fals
 use Rattle.std.proofs.lemmas.List.{map-append, append-nil}
 use Rattle.std.proofs.lemmas.List.Elements.{All-push, filter-append}
 use Rattle.hist_model.specs.Look.{is_worker, is_place}
-use Rattle.hist_model.specs.Calls.{listed, id, notifies, named, is_install, queue, puts_to}
+use Rattle.hist_model.specs.Kinds.{notifies, is_install}
+use Rattle.hist_model.specs.Calls.{listed, id, named, queue, puts_to}
 use Rattle.hist_model.specs.Steps.{request_of, request_after, asked_call, place_or}
 use Rattle.hist_model.specs.Files.{asked_in, asked_by}
 use Rattle.hist_model.specs.declared.event.Event.{Event}

@@ -4,7 +4,8 @@ use Rattle.std.specs.Prelude.{is_some, find, map, All, Ok, Err, ◌==◌, is_non
 use Rattle.std.proofs.lemmas.Bool.{both_ways, eqb-true, eq-eqb, cases_Bool, false_from_ne_true, and_parts, not-true}
 use Rattle.std.proofs.lemmas.List.Elements.{All-filter, filter_passes}
 use Rattle.hist_model.specs.Look.{is_worker}
-use Rattle.hist_model.specs.Calls.{listed, named, id, notifies, is_install, queue, puts_to}
+use Rattle.hist_model.specs.Kinds.{notifies, is_install}
+use Rattle.hist_model.specs.Calls.{listed, named, id, queue, puts_to}
 use Rattle.hist_model.specs.Steps.{request_of, request_after, install_at, call_listed, request_listed, take_step}
 use Rattle.hist_model.specs.declared.event.Event.{Event}
 use Rattle.hist_model.specs.declared.event.What.TheVariants.{AddfdTake, Skip}

@@ -8,6 +8,7 @@ use Rattle.hist_model.specs.declared.copy.Part.TheVariants.{Text, Value}
 use Rattle.arg_capture.specs.Captures.{with_taken}
 use Rattle.arg_capture.specs.Moments.{run_at, run_after, read_at, AreRead, IsCopy, ArePlaced}
 use Rattle.arg_capture.proofs.Steps.{text_whole, text_long, text_on, value_whole, value_on, value_empty, value_big, text_asks, value_asks, text_fails, value_fails}
+use Rattle.sys_abi.specs.Errnos.{efault, e2big}
 
 -- ---- bytes at one moment
 
@@ -123,7 +124,7 @@ value-goes byte (suc n) (suc s) a h m =
 read-some : (byte : ℕ → Option ℕ) (a n b : ℕ) → byte a ≡ Some b → read_at byte a n ≡ Ok (run_at byte n a)
 read-some byte a n b e = rw e refl
 
-read-none : (byte : ℕ → Option ℕ) (a n : ℕ) → byte a ≡ None → read_at byte a n ≡ Err 14
+read-none : (byte : ℕ → Option ℕ) (a n : ℕ) → byte a ≡ None → read_at byte a n ≡ Err efault
 read-none byte a n e = rw e refl
 
 copy-at : (byte : ℕ → Option ℕ) (part : Part) (parts : List Part) → copy_of byte (part ∷ parts) ≡ with_text (copy_part byte part) (copy_of byte parts)
@@ -165,7 +166,7 @@ text-none : (byte : ℕ → Option ℕ) (f l : ℕ) → text_from byte f 0 l ≡
 unfolding text_from
 text-none byte f l = refl
 
-text-unmapped : (byte : ℕ → Option ℕ) (f l a : ℕ) → 0 < l → byte a ≡ None → text_from byte f l a ≡ Err 14
+text-unmapped : (byte : ℕ → Option ℕ) (f l a : ℕ) → 0 < l → byte a ≡ None → text_from byte f l a ≡ Err efault
 text-unmapped byte f zero a p e = absurd (omega arith)
 text-unmapped byte f (suc l) a p e = text-at byte f l a ∙ ap (λ o. text_after o (text_from byte f l) a) e
 
@@ -203,7 +204,7 @@ module _ (byte : ℕ → Option ℕ) (a l f : ℕ) (ps : List Part) (later : Lis
       let c = copy-at byte (Text a l f) ps ∙ ap (λ t. with_text t (copy_of byte ps)) t' in
       rw (p, c) refl
 
-  text-fault : 0 < l → byte a ≡ None → IsCopy (progress (Text a l f ∷ ps) (Err 14 ∷ later)) (copy_of byte (Text a l f ∷ ps))
+  text-fault : 0 < l → byte a ≡ None → IsCopy (progress (Text a l f ∷ ps) (Err efault ∷ later)) (copy_of byte (Text a l f ∷ ps))
   text-fault p e =
       let c = copy-at byte (Text a l f) ps ∙ ap (λ t. with_text t (copy_of byte ps)) (text-unmapped byte f l a p e) in
       rw (text_fails a l f 14 ps later, c) refl
@@ -212,7 +213,7 @@ value-none : (byte : ℕ → Option ℕ) (a : ℕ) → value_from byte 0 a ≡ O
 unfolding value_from
 value-none byte a = refl
 
-value-unmapped : (byte : ℕ → Option ℕ) (s a : ℕ) → 0 < s → byte a ≡ None → value_from byte s a ≡ Err 14
+value-unmapped : (byte : ℕ → Option ℕ) (s a : ℕ) → 0 < s → byte a ≡ None → value_from byte s a ≡ Err efault
 value-unmapped byte zero a p e = absurd (omega arith)
 value-unmapped byte (suc s) a p e = value-at byte s a ∙ ap (λ o. value_after o (value_from byte s) a) e
 
@@ -247,7 +248,7 @@ module _ (byte : ℕ → Option ℕ) (a s : ℕ) (ps : List Part) (later : List 
       let i : IsCopy (progress (left ∷ ps) later) (with_text (value_from byte (s - length bytes) (further a (length bytes))) (copy_of byte ps)) = rw d at (ih r) in
       rw (q, c) (copy-taken bytes (progress (left ∷ ps) later) (value_from byte (s - length bytes) (further a (length bytes))) (copy_of byte ps) i)
 
-  value-fault : 0 < s → s ≤ 4096 → byte a ≡ None → IsCopy (progress (Value a s ∷ ps) (Err 14 ∷ later)) (copy_of byte (Value a s ∷ ps))
+  value-fault : 0 < s → s ≤ 4096 → byte a ≡ None → IsCopy (progress (Value a s ∷ ps) (Err efault ∷ later)) (copy_of byte (Value a s ∷ ps))
   value-fault p l e =
       let c = copy-at byte (Value a s) ps ∙ ap (λ t. with_text t (copy_of byte ps)) (value-copied byte a s l ∙ value-unmapped byte s a p e) in
       rw (value_fails a s 14 ps later p l, c) refl
@@ -260,7 +261,7 @@ piece-within a l = omega arith
 text-step : (byte : ℕ → Option ℕ) (a l f : ℕ) (ps : List Part) (x : Result (List ℕ) ℕ) (later : List (Result (List ℕ) ℕ)) (o : Option ℕ) → byte a ≡ o → Claim byte later
     → a < 2 ^ 64 → 0 < l → ArePlaced ps → AreRead byte (Text a l f ∷ ps) (x ∷ later) → IsCopy (progress (Text a l f ∷ ps) (x ∷ later)) (copy_of byte (Text a l f ∷ ps))
 text-step byte a l f ps x later None o ih h p placed r =
-    let e : x ≡ Err 14 = first-read byte (Text a l f ∷ ps) x later a (piece a l) r (text_asks a l f ps) ∙ read-none byte a (piece a l) o in
+    let e : x ≡ Err efault = first-read byte (Text a l f ∷ ps) x later a (piece a l) r (text_asks a l f ps) ∙ read-none byte a (piece a l) o in
     rw e (text-fault byte a l f ps later p o)
 text-step byte a l f ps x later (Some b) o ih h p placed r =
     let run = run_at byte (piece a l) a in
@@ -281,7 +282,7 @@ text-step byte a l f ps x later (Some b) o ih h p placed r =
 value-step : (byte : ℕ → Option ℕ) (a s : ℕ) (ps : List Part) (x : Result (List ℕ) ℕ) (later : List (Result (List ℕ) ℕ)) (o : Option ℕ) → byte a ≡ o → Claim byte later
     → a < 2 ^ 64 → 0 < s → s ≤ 4096 → ArePlaced ps → AreRead byte (Value a s ∷ ps) (x ∷ later) → IsCopy (progress (Value a s ∷ ps) (x ∷ later)) (copy_of byte (Value a s ∷ ps))
 value-step byte a s ps x later None o ih h p l placed r =
-    let e : x ≡ Err 14 = first-read byte (Value a s ∷ ps) x later a (piece a s) r (value_asks a s ps p l) ∙ read-none byte a (piece a s) o in
+    let e : x ≡ Err efault = first-read byte (Value a s ∷ ps) x later a (piece a s) r (value_asks a s ps p l) ∙ read-none byte a (piece a s) o in
     rw e (value-fault byte a s ps later p l o)
 value-step byte a s ps x later (Some b) o ih h p l placed r =
     let run = run_at byte (piece a s) a in
@@ -304,7 +305,7 @@ value-nothing byte a ps answers r ih =
     let c = copy-at byte (Value a 0) ps ∙ ap (λ t. with_text t (copy_of byte ps)) (copied-empty byte a) in
     rw (value_empty a ps answers, c) (copy-with [] (progress ps answers) (copy_of byte ps) (ih r'))
 
-copied-great : (byte : ℕ → Option ℕ) (a s : ℕ) → 4096 < s → copy_part byte (Value a s) ≡ Err 7
+copied-great : (byte : ℕ → Option ℕ) (a s : ℕ) → 4096 < s → copy_part byte (Value a s) ≡ Err e2big
 copied-great byte a s h = let t : nat_lt 4096 s ≡ true = grind arith in rw t refl
 
 value-great : (byte : ℕ → Option ℕ) (a s : ℕ) (ps : List Part) (answers : List (Result (List ℕ) ℕ)) → 4096 < s → IsCopy (progress (Value a s ∷ ps) answers) (copy_of byte (Value a s ∷ ps))

@@ -9,6 +9,7 @@ use Rattle.hist_model.specs.declared.request.ArgCopy.{ArgCopy}
 use Rattle.sys_abi.specs.declared.memory.NoMemory.{NoMemory}
 use Rattle.arg_capture.proofs.Zeros.{zero_found, zero_place, zero_missing}
 use Rattle.arg_capture.specs.Plans.{IsSettled, first_part, rest_parts}
+use Rattle.sys_abi.specs.Errnos.{efault}
 
 -- ---- one part
 
@@ -268,26 +269,26 @@ value_fails a s e parts later p l =
 
 -- EFAULT ends the reading of the part in hand
 faults-in : (texts : List (List ℕ)) (taken : List ℕ) (parts : List Part) (later : List (Result (List ℕ) ℕ)) → IsSettled (length taken) parts
-    → Answers (wanted (with_texts texts (with_taken taken (progress parts [])))) (Err 14)
-    → Faulty 14 ≡ with_texts texts (with_taken taken (progress parts (Err 14 ∷ later)))
+    → Answers (wanted (with_texts texts (with_taken taken (progress parts [])))) (Err efault)
+    → Faulty efault ≡ with_texts texts (with_taken taken (progress parts (Err efault ∷ later)))
 faults-in texts taken [] later t h = absurd (rw (none-left []) at h)
 faults-in texts taken (Text a l f ∷ parts) later t h =
-    sym (ap (λ p. with_texts texts (with_taken taken p)) (progress-at (Text a l f) parts (Err 14 ∷ later) ∙ ap (λ q. progress_after q (progress parts)) (text-faults f a l 14 later)))
+    sym (ap (λ p. with_texts texts (with_taken taken p)) (progress-at (Text a l f) parts (Err efault ∷ later) ∙ ap (λ q. progress_after q (progress parts)) (text-faults f a l 14 later)))
 faults-in texts taken (Value a s ∷ parts) later t h =
     let u : (0 < s) × (length taken + s ≤ 4096) = t in
-    sym (ap (λ p. with_texts texts (with_taken taken p)) (progress-at (Value a s) parts (Err 14 ∷ later)
-    ∙ ap (λ q. progress_after q (progress parts)) (value-read a s (Err 14 ∷ later) u.0 (omega arith) ∙ value-faults a s 14 later)))
+    sym (ap (λ p. with_texts texts (with_taken taken p)) (progress-at (Value a s) parts (Err efault ∷ later)
+    ∙ ap (λ q. progress_after q (progress parts)) (value-read a s (Err efault ∷ later) u.0 (omega arith) ∙ value-faults a s efault later)))
 
 faults-if : (fault : Option ℕ) (r : Reached) (later : List (Result (List ℕ) ℕ)) → (fault ≡ None → IsSettled (length r.taken) r.parts)
-    → Answers (wanted (unless_faulty fault (reached_progress r []))) (Err 14) → Faulty 14 ≡ unless_faulty fault (reached_progress r (Err 14 ∷ later))
+    → Answers (wanted (unless_faulty fault (reached_progress r []))) (Err efault) → Faulty efault ≡ unless_faulty fault (reached_progress r (Err efault ∷ later))
 faults-if (Some e) r later t h = absurd h
 faults-if None r later t h = faults-in r.texts r.taken r.parts later (t refl) h
 
 pub faults : (c v : Captured) (later : List (Result (List ℕ) ℕ)) → v ≡ c → (v.fault ≡ None → IsSettled (length v.reached.taken) v.reached.parts)
-    → Answers (wanted (continued c [])) (Err 14) → Faulty 14 ≡ continued c (Err 14 ∷ later)
+    → Answers (wanted (continued c [])) (Err efault) → Faulty efault ≡ continued c (Err efault ∷ later)
 faults c v later e t h =
-    let h' : Answers (wanted (continued v [])) (Err 14) = rw (← e) at h in
-    faults-if v.fault v.reached later t h' ∙ ap (λ (d : Captured). continued d (Err 14 ∷ later)) e
+    let h' : Answers (wanted (continued v [])) (Err efault) = rw (← e) at h in
+    faults-if v.fault v.reached later t h' ∙ ap (λ (d : Captured). continued d (Err efault ∷ later)) e
 
 none-some : {A : Type 0} {a : A} → ◌≡◌ {A = Option A} (Some a) None → ⊥
 none-some e = cc

@@ -5,7 +5,7 @@ ghost use Rattle.hist_model.specs.Copies as copies;
 ghost use Rattle.hist_model.specs.declared.copy.Part.{Part};
 ghost use Rattle.arg_capture.specs.Captures.{continued, wanted, answer_of, Answers, Finishes, Follows, HasRoom, IsKept};
 
-use crate::plan::{Plan, errno};
+use crate::plan::Plan;
 use crate::reading::Reading;
 use hist_model::request::{ArgCopy, Fault};
 use hist_model::text::Sequence;
@@ -13,9 +13,6 @@ use std::alloc::Global;
 use std::marker::Model;
 use sys_abi::errno::Errno;
 use sys_abi::memory::NoMemory;
-
-/// The error of a read that no byte is mapped for.
-const EFAULT: u16 = 14;
 
 /// A copy of a call's texts that is read in pieces.
 #[derive(Drop)]
@@ -78,7 +75,7 @@ impl Capture {
     {
         match got {
             Ok(bytes) => self.fault = self.reading.take(bytes)?,
-            Err(_) => self.fault = Some(errno(EFAULT)),
+            Err(_) => self.fault = Some(Errno::EFAULT),
         }
         Ok(())
     }

@@ -7,6 +7,7 @@ ghost use Rattle.arg_capture.specs.Plans.{IsSound, first_part, rest_parts};
 
 use hist_model::copy::Part;
 use std::marker::Model;
+use sys_abi::calls::{MKNOD, MKNODAT, MOUNT, OPENAT, SETXATTR};
 use sys_abi::errno::Errno;
 
 /// The parts that are left to be read, at most four. Contracts see it as their list, in the order in which they are read.
@@ -29,37 +30,8 @@ impl Model for Plan {
     ghost invariant = { λ p. (p.left ≤ 4) × (p.left ≤ length p.parts) × All IsSound p.parts };
 }
 
-// Numbers of the calls that have texts.
-const MKNOD: i32 = 133;
-
-const MOUNT: i32 = 165;
-
-const SETXATTR: i32 = 188;
-
-const OPENAT: i32 = 257;
-
-const MKNODAT: i32 = 259;
-
-// Errors of texts that don't end.
-const EINVAL: u16 = 22;
-
-const ERANGE: u16 = 34;
-
-const ENAMETOOLONG: u16 = 36;
-
 /// Stands behind the parts of a plan.
 const BLANK: Part = Part::Value { addr: 0, size: 0 };
-
-/// The error of this number.
-pub(crate) fn errno(code: u16) -> Errno
-    requires { (1 ≤ code) × (code ≤ 4095) }
-    ensures { result ≡ code }
-{
-    match Errno::of(code) {
-        Some(errno) => errno,
-        None => unreachable!(),
-    }
-}
 
 fn path_at(addr: u64) -> Part
     ensures { result ≡ copies.path_at addr }
@@ -67,7 +39,7 @@ fn path_at(addr: u64) -> Part
     Part::Text {
         addr,
         limit: 4096,
-        fault: errno(ENAMETOOLONG),
+        fault: Errno::ENAMETOOLONG,
     }
 }
 
@@ -77,7 +49,7 @@ fn name_at(addr: u64) -> Part
     Part::Text {
         addr,
         limit: 256,
-        fault: errno(ERANGE),
+        fault: Errno::ERANGE,
     }
 }
 
@@ -90,7 +62,7 @@ fn option_at(addr: u64) -> Part
     Part::Text {
         addr,
         limit: 4096,
-        fault: errno(EINVAL),
+        fault: Errno::EINVAL,
     }
 }
 

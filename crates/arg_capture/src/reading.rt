@@ -7,16 +7,13 @@ ghost use Rattle.arg_capture.specs.Captures.{reached_progress, unless_faulty, wa
 ghost use Rattle.arg_capture.specs.Plans.{IsReadable, IsSettled, IsSound, first_part, rest_parts};
 
 use crate::buffers::{Buffers, MOST_BYTES};
-use crate::plan::{Plan, errno};
+use crate::plan::Plan;
 use hist_model::copy::Part;
 use hist_model::text::Text;
 use std::alloc::Global;
 use std::marker::Model;
 use sys_abi::errno::Errno;
 use sys_abi::memory::NoMemory;
-
-/// The error of a value that is too great.
-const E2BIG: u16 = 7;
 
 /// The texts that are whole, the bytes of the part in hand, and the parts that are left.
 #[derive(Drop)]
@@ -127,7 +124,7 @@ impl Reading {
                 self.finish_part();
                 self.settle()
             }
-            Some(Part::Value { addr: _, size }) if size > MOST_BYTES as u64 => Some(errno(E2BIG)),
+            Some(Part::Value { addr: _, size }) if size > MOST_BYTES as u64 => Some(Errno::E2BIG),
             _ => None,
         }
     }

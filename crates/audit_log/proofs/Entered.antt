@@ -3,7 +3,7 @@
 use Rattle.std.proofs.Common.{◌≡◌, ℕ, Bool, true, false, ◌&&◌, List, [], ◌∷◌, length, refl, Option, Some, None}
 use Rattle.std.specs.Prelude.{if◌then◌else◌, ◌==◌}
 use Rattle.hist_model.specs.Look.{Name, is_task, is_place}
-use Rattle.hist_model.specs.Memory.{enters}
+use Rattle.hist_model.specs.Kinds.{enters}
 use Rattle.hist_model.specs.ReportCalls.{newest_call, outcome}
 use Rattle.hist_model.specs.ReportAudit.{call_with_id, is_notified}
 use Rattle.hist_model.specs.declared.event.Event.{Event}

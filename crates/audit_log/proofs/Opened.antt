@@ -4,7 +4,8 @@ use Rattle.std.proofs.Common.{◌≡◌, ◌⊎◌, inl, inr, ℕ, ◌<◌, ◌�
 use Rattle.std.specs.Prelude.{if◌then◌else◌, ◌==◌, Ok}
 use Rattle.std.proofs.lemmas.Bool.{cases_Bool, cases_order, eq-eqb, ne_eqb}
 use Rattle.hist_model.specs.Look.{ev, event_at, is_worker}
-use Rattle.hist_model.specs.Sessions.{session, skips, starts, joined as with_own}
+use Rattle.hist_model.specs.Kinds.{skips, starts}
+use Rattle.hist_model.specs.Sessions.{session, joined as with_own}
 use Rattle.hist_model.specs.ReportAudit.{session_at, session_step, joined, is_shut}
 use Rattle.hist_model.specs.declared.event.Actor.TheVariants.{Worker}
 use Rattle.hist_model.specs.declared.event.Event.{Event}

@@ -2,7 +2,7 @@
 use Rattle.std.proofs.Common.{◌≡◌, ℕ, Bool, true, false, List, [], ◌∷◌, length, refl}
 use Rattle.std.specs.Prelude.{if◌then◌else◌, ◌==◌, ◌&&◌, not}
 use Rattle.hist_model.specs.Look.{is_worker}
-use Rattle.hist_model.specs.Sessions.{skips}
+use Rattle.hist_model.specs.Kinds.{skips}
 use Rattle.hist_model.specs.ReportAudit.{session_at, session_step, is_shut}
 use Rattle.hist_model.specs.declared.event.Event.{Event}
 use Rattle.hist_model.specs.declared.event.What.{What}

@@ -1,7 +1,7 @@
 -- What is kept of a call while the events are gone through.
 use Rattle.std.specs.Prelude.{ℕ, Bool, false, ◌&&◌, if◌then◌else◌, List}
 use Rattle.hist_model.specs.Look.{Name, is_place}
-use Rattle.hist_model.specs.Memory.{enters}
+use Rattle.hist_model.specs.Kinds.{enters}
 use Rattle.hist_model.specs.ReportCalls.{newest_call, outcome, outcome_step, is_pending}
 use Rattle.hist_model.specs.declared.event.Event.{Event}
 use Rattle.hist_model.specs.declared.event.What.{What}

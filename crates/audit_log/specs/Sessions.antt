@@ -1,9 +1,8 @@
 -- What is kept of a session while its steps are gone through.
 use Rattle.std.specs.Prelude.{Bool, true, false, ◌&&◌, ◌||◌, if◌then◌else◌, List, None}
 use Rattle.std.specs.List.{list_any}
-use Rattle.hist_model.specs.Orders.{is_good_check}
-use Rattle.hist_model.specs.Sessions.{is_letgo, starts}
-use Rattle.hist_model.specs.ReportAudit.{is_gone, misses_call, is_sent, is_shut, is_spent, back_in, or_back, sent_back, checked_twice}
+use Rattle.hist_model.specs.Kinds.{is_good_check, is_letgo, starts, is_gone, misses_call, is_sent, is_spent}
+use Rattle.hist_model.specs.ReportAudit.{is_shut, back_in, or_back, sent_back, checked_twice}
 use Rattle.hist_model.specs.declared.event.What.{What}
 use Rattle.audit_log.specs.declared.session.Facts.{Facts}
 

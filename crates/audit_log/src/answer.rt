@@ -1,7 +1,8 @@
 //! The answers that a summary counts: sends that were taken, and installations for requests with SEND.
 
 ghost use Rattle.std.specs.Prelude.{◌≡◌, IfOk, OnOk, reverse};
-ghost use Rattle.hist_model.specs.Calls.{has_send_flag, notify_id};
+ghost use Rattle.hist_model.specs.Kinds.{has_send_flag};
+ghost use Rattle.hist_model.specs.Calls.{notify_id};
 ghost use Rattle.hist_model.specs.ReportRequests.{answer_count, first_has_send, installs_for_send, is_answer, requests, requests_step, without_first};
 ghost use Rattle.hist_model.specs.ReportCalls.{newest_call};
 ghost use Rattle.hist_model.specs.Look.{task_name};

@@ -1,8 +1,7 @@
 //! Counts of events, and of what sessions came to.
 
 ghost use Rattle.std.specs.Prelude.{◌≡◌, count_by, reverse};
-ghost use Rattle.hist_model.specs.Calls.{notifies};
-ghost use Rattle.hist_model.specs.Memory.{enters};
+ghost use Rattle.hist_model.specs.Kinds.{notifies, enters};
 ghost use Rattle.hist_model.specs.ReportAudit.{begins};
 ghost use Rattle.hist_model.specs.Report.{denies, faults, grants, injects, is_gone_session, loses, passes};
 

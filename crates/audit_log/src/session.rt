@@ -2,9 +2,8 @@
 
 ghost use Rattle.std.specs.Prelude.{◌≡◌, ◌<◌, ◌&&◌, IfSome, length, not, reverse};
 ghost use Rattle.hist_model.specs.Look.{is_worker};
-ghost use Rattle.hist_model.specs.Orders.{is_good_check};
-ghost use Rattle.hist_model.specs.Sessions.{is_letgo, skips, starts};
-ghost use Rattle.hist_model.specs.ReportAudit.{call_with_id, installed, installed_at, is_gone, misses_call, is_notified, is_sent, is_spent, back_in, number_given, session_at};
+ghost use Rattle.hist_model.specs.Kinds.{is_good_check, is_letgo, skips, starts, is_gone, misses_call, is_sent, is_spent};
+ghost use Rattle.hist_model.specs.ReportAudit.{call_with_id, installed, installed_at, is_notified, back_in, number_given, session_at};
 ghost use Rattle.audit_log.specs.Sessions.{facts_after, facts_joined, facts_of, facts_with, no_facts};
 
 use crate::outcome::{CallFacts, same_task, task_numbers};
@@ -160,7 +159,11 @@ impl Facts {
     fn joined(self, what: &What) -> Facts
         ensures { result ≡ facts_joined self what.now }
     {
-        if self.shut { self } else { self.with(true, what) }
+        if self.shut {
+            self
+        } else {
+            self.with(true, what)
+        }
     }
 
     /// With one more step of anyone: whether it is the session's first, and whether it is its worker's.

@@ -1,17 +1,14 @@
 //! The summary: one line of counts.
 
 ghost use Rattle.std.specs.Prelude.{◌≡◌, ◌++◌, IfOk, OnOk, count_by, decimal, length, reverse};
-ghost use Rattle.hist_model.specs.Calls.{notifies};
-ghost use Rattle.hist_model.specs.Memory.{enters};
+ghost use Rattle.hist_model.specs.Kinds.{notifies, enters};
 ghost use Rattle.hist_model.specs.Report.{audits, audits_by, counts_text, findings_text, summary};
 ghost use Rattle.hist_model.specs.ReportRequests.{answer_count};
 ghost use Rattle.audit_log.specs.Written.{Wrote};
 
 use crate::answer::answered;
 use crate::audit::audit_of;
-use crate::count::{
-    denied, entered, faulty, gone, granted, injected, lost, notified, passed,
-};
+use crate::count::{denied, entered, faulty, gone, granted, injected, lost, notified, passed};
 use crate::error::ReportError;
 use crate::judge::Judge;
 use crate::line::Line;

@@ -7,6 +7,7 @@ ghost use Rattle.hist_model.specs.ScriptRules.{can_be_scheduled};
 ghost use Rattle.hist_model.specs.Filters.{notify_filter};
 ghost use Rattle.hist_model.specs.declared.script.Instr.TheVariants.{Poke, Call};
 ghost use Rattle.hist_model.specs.declared.event.Actor.TheVariants.{Task};
+ghost use Rattle.sys_abi.specs.Calls.{nr_mknod};
 ghost use Rattle.broker_app.specs.Fields.{script_bytes};
 
 use crate::fields::{decimal_between, is_lower_or_digit, piece};
@@ -204,7 +205,7 @@ fn stored(alloc: Global, path: &[u8]) -> Result<Text, NoMemory>
 
 /// The program that stores the path and makes the device node there.
 fn program(alloc: Global, path: &[u8], device: u64) -> Result<Sequence<Instr>, NoMemory>
-    ensures { IfOk result (λ p. p ≡ Poke 65536 (path.now ++ 0 ∷ []) ∷ Call (pos 133) (mknod_args device) ∷ []) }
+    ensures { IfOk result (λ p. p ≡ Poke 65536 (path.now ++ 0 ∷ []) ∷ Call (pos nr_mknod) (mknod_args device) ∷ []) }
 {
     let mut instrs = Vec::with_capacity(alloc, 2)?;
     instrs.push(Instr::Poke {
@@ -246,7 +247,7 @@ fn schedule(alloc: Global, before: u32, worker: u32, after: u32) -> Result<Seque
 
 /// The filter that notifies on mknod, with the listener.
 fn filters(alloc: Global) -> Result<Sequence<FilterLine>, NoMemory>
-    ensures { IfOk result (λ f. f ≡ record { insns = notify_filter (pos 133 ∷ []); listener = true } ∷ []) }
+    ensures { IfOk result (λ f. f ≡ record { insns = notify_filter (pos nr_mknod ∷ []); listener = true } ∷ []) }
 {
     let insns = notify_on(alloc, &[calls::MKNOD])?.into_insns();
     let mut lines = Vec::with_capacity(alloc, 1)?;
@@ -271,7 +272,7 @@ fn map(alloc: Global) -> Result<Sequence<MapRange>, NoMemory>
 
 /// The programs of the script: one.
 fn programs(alloc: Global, path: &[u8], device: u64) -> Result<Sequence<Sequence<Instr>>, NoMemory>
-    ensures { IfOk result (λ p. p ≡ (Poke 65536 (path.now ++ 0 ∷ []) ∷ Call (pos 133) (mknod_args device) ∷ []) ∷ []) }
+    ensures { IfOk result (λ p. p ≡ (Poke 65536 (path.now ++ 0 ∷ []) ∷ Call (pos nr_mknod) (mknod_args device) ∷ []) ∷ []) }
 {
     let mut programs = Vec::with_capacity(alloc, 1)?;
     programs.push(program(alloc, path, device)?)?;

@@ -3,7 +3,8 @@ use Rattle.std.proofs.Common.{◌≡◌, ℕ, ◌≤◌, List, [], ◌∷◌, �
 use Rattle.std.specs.Prelude.{Result, Ok, Err, ◌||◌, if◌then◌else◌}
 use Rattle.std.proofs.lemmas.List.{reverse-append, append-nil}
 use Rattle.hist_model.specs.Copies.{Progress, Wants, Complete, Faulty, plan, progress}
-use Rattle.hist_model.specs.Sessions.{reads_of, number_of, checks, starts, is_letgo, fetched_by, gives_up, opens, opens_base, outcome_in, put_in, take_in, or_some}
+use Rattle.hist_model.specs.Kinds.{checks, starts, is_letgo, gives_up, opens, opens_base}
+use Rattle.hist_model.specs.Sessions.{reads_of, number_of, fetched_by, outcome_in, put_in, take_in, or_some}
 use Rattle.hist_model.specs.Legal.{read_answers, copy_fault, judged}
 use Rattle.hist_model.specs.declared.event.What.{What}
 use Rattle.hist_model.specs.declared.event.What.TheVariants.{Read, Check, Recv}

@@ -7,7 +7,8 @@ use Rattle.hist_model.specs.Copies.{Progress, plan, progress}
 use Rattle.hist_model.specs.Requests.{base_dirfd}
 use Rattle.hist_model.specs.Legal.{rules_of}
 use Rattle.hist_model.specs.Deeds.{Deed}
-use Rattle.hist_model.specs.Sessions.{Rules, deed_for, notif_of, deed, any_of, number_of, checks, reads_of, joined, starts, is_letgo, copied_deed, based_deed as based, checked_deed as checked}
+use Rattle.hist_model.specs.Kinds.{checks, starts, is_letgo}
+use Rattle.hist_model.specs.Sessions.{Rules, deed_for, notif_of, deed, any_of, number_of, reads_of, joined, copied_deed, based_deed as based, checked_deed as checked}
 use Rattle.hist_model.specs.declared.event.What.{What}
 use Rattle.hist_model.specs.declared.event.What.TheVariants.{Recv, LetGo}
 use Rattle.hist_model.specs.declared.policy.Policy.{Policy}

@@ -1,15 +1,15 @@
 -- What a worker remembers of its session, against the session's own steps.
-use Rattle.std.specs.Prelude.{◌≡◌, ℕ, ◌+◌, ◌<◌, ◌≤◌, Bool, true, false, List, [], length, reverse, Option, Some, None, Result, Ok, Err, ◌⊎◌, ◌||◌, suc, if◌then◌else◌}
-use Rattle.hist_model.specs.Deeds.{Deed}
-use Rattle.hist_model.specs.Sessions.{Rules, deed, any_of, number_of, first_some, notif_of, reads_of, is_letgo, gives_up, opens, opens_base, checks, outcome_in, put_in, take_in, or_some}
+use Rattle.std.specs.Prelude.{◌≡◌, ℕ, ◌+◌, ◌<◌, ◌≤◌, true, false, List, [], reverse, Option, Some, None, Result, Ok, Err, ◌⊎◌, ◌||◌, suc, if◌then◌else◌}
+use Rattle.hist_model.specs.Kinds.{is_letgo, gives_up, opens, opens_base, checks}
+use Rattle.hist_model.specs.Sessions.{deed, any_of, number_of, first_some, notif_of, reads_of, outcome_in, put_in, take_in, or_some}
 use Rattle.hist_model.specs.Copies.{Progress, Wants, Complete, Faulty, plan}
 use Rattle.hist_model.specs.Fitting.{fits}
 use Rattle.hist_model.specs.Legal.{rules_of, read_answers, judged as judgement}
 use Rattle.hist_model.specs.declared.event.What.{What}
-use Rattle.hist_model.specs.declared.event.What.TheVariants.{Recv, OpenMem, OpenBase, Check, Read, Act, Plant, AddfdPut, AddfdTake, Send, LetGo, Skip}
+use Rattle.hist_model.specs.declared.event.What.TheVariants.{Check, Read}
 use Rattle.hist_model.specs.declared.policy.Policy.{Policy}
 use Rattle.hist_model.specs.declared.script.Figures.{Figures}
-use Rattle.arg_capture.specs.Captures.{Captured, continued, wanted, Follows, Answers}
+use Rattle.arg_capture.specs.Captures.{continued, wanted, Follows, Answers}
 use Rattle.broker_core.specs.declared.judgement.Judgement.{Judgement}
 use Rattle.broker_core.specs.Judged.{fault_of, decision_of}
 use Rattle.broker_core.specs.declared.session.Arguments.{Arguments}
@@ -17,6 +17,7 @@ use Rattle.broker_core.specs.declared.session.Arguments.TheVariants.{Reading, Ju
 use Rattle.broker_core.specs.declared.session.Session.{Session}
 use Rattle.broker_core.specs.declared.worker.Worker.{Worker}
 use Rattle.sys_abi.specs.declared.wire.Notif.{Notif}
+use Rattle.sys_abi.specs.Errnos.{efault}
 
 -- the answers of the session's reads, the oldest first
 abbrev pub answers_of : List What → List (Result (List ℕ) ℕ)
@@ -73,7 +74,7 @@ Fits P w what = (own : List What) × Remembers P own w × (fits (deed (rules_of 
 -- a piece of the arguments may be taken: it answers the piece that is wanted
 abbrev pub FitsPiece : Arguments → Result (List ℕ) ℕ → Type 0
 FitsPiece (Reading c) (Ok bytes) = Answers (wanted (continued c [])) (Ok bytes)
-FitsPiece (Reading c) (Err e) = Answers (wanted (continued c [])) (Err e) × (e ≡ 14)
+FitsPiece (Reading c) (Err e) = Answers (wanted (continued c [])) (Err e) × (e ≡ efault)
 FitsPiece (Judged j) answer = ⊥
 
 -- a check may be taken: the first, or the second, after which nothing more is read

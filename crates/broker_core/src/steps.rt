@@ -1,7 +1,8 @@
 //! What a worker's step tells of its session.
 
 ghost use Rattle.std.specs.Prelude.{◌≡◌};
-ghost use Rattle.hist_model.specs.Sessions.{is_letgo, gives_up, opens, opens_base, checks, outcome_in, put_in, take_in};
+ghost use Rattle.hist_model.specs.Kinds.{is_letgo, gives_up, opens, opens_base, checks};
+ghost use Rattle.hist_model.specs.Sessions.{outcome_in, put_in, take_in};
 
 use hist_model::event::What;
 use sys_abi::errno::Errno;
@@ -25,12 +26,12 @@ pub(crate) fn gives_up(what: &What) -> bool
         | What::OpenBase {
             answer: Err(error),
             ..
-        } => error.number() == 3,
+        } => *error == Errno::ESRCH,
         What::AddfdPut {
             answer: Err(error),
             ..
         }
-        | What::AddfdTake { answer: Err(error) } => error.number() == 2,
+        | What::AddfdTake { answer: Err(error) } => *error == Errno::ENOENT,
         What::Check { answer: Err(_), .. }
         | What::AddfdTake { answer: Ok(_) }
         | What::Send { .. } => true,

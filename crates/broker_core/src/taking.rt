@@ -1,7 +1,8 @@
 //! How a session takes its worker's steps.
 
 ghost use Rattle.std.specs.Prelude.{◌≡◌, ◌≤◌, [], ◌∷◌, List, OnOk, IfOk, None, false, true};
-ghost use Rattle.hist_model.specs.Sessions.{starts, is_letgo, checks, number_of};
+ghost use Rattle.hist_model.specs.Kinds.{starts, is_letgo, checks};
+ghost use Rattle.hist_model.specs.Sessions.{number_of};
 ghost use Rattle.hist_model.specs.declared.event.What.{What};
 ghost use Rattle.hist_model.specs.declared.event.What.TheVariants.{Read};
 ghost use Rattle.hist_model.specs.declared.script.Figures.{Figures};

@@ -1,7 +1,8 @@
 //! A worker of the broker.
 
 ghost use Rattle.std.specs.Prelude.{◌≡◌, List, [], OnOk, IfOk, false};
-ghost use Rattle.hist_model.specs.Sessions.{starts, joined, skips, deed};
+ghost use Rattle.hist_model.specs.Kinds.{starts, skips};
+ghost use Rattle.hist_model.specs.Sessions.{joined, deed};
 ghost use Rattle.hist_model.specs.Legal.{rules_of};
 ghost use Rattle.hist_model.specs.declared.event.What.{What};
 ghost use Rattle.hist_model.specs.declared.policy.Policy.{Policy};

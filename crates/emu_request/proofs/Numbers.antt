@@ -4,34 +4,35 @@ use Rattle.std.proofs.lemmas.Int.{to_z-of_z}
 use Rattle.std.proofs.lemmas.Bool.{ne_eqb}
 use Rattle.hist_model.specs.Requests.{request, low_16, low_32, signed_32}
 use Rattle.hist_model.specs.declared.request.Request.TheVariants.{Mknod, Mount, SetXattr, OpenAt, Sysinfo, Other}
+use Rattle.sys_abi.specs.Calls.{nr_sysinfo, nr_mknod, nr_mount, nr_setxattr, nr_openat, nr_mknodat}
 
 module _ (args : List ℕ) (texts : List (List ℕ)) where
-  pub of_sysinfo : (nr : ℤ) → nr ≡ pos 99 → request nr args texts ≡ Sysinfo (get_or args 0 0)
+  pub of_sysinfo : (nr : ℤ) → nr ≡ pos nr_sysinfo → request nr args texts ≡ Sysinfo (get_or args 0 0)
   unfolding request
   of_sysinfo nr e = rw e
 
-  pub of_mknod : (nr : ℤ) → nr ≡ pos 133 → request nr args texts ≡ Mknod None (get_or texts 0 []) (low_16 (get_or args 1 0)) (low_32 (get_or args 2 0))
+  pub of_mknod : (nr : ℤ) → nr ≡ pos nr_mknod → request nr args texts ≡ Mknod None (get_or texts 0 []) (low_16 (get_or args 1 0)) (low_32 (get_or args 2 0))
   unfolding request
   of_mknod nr e = rw e
 
-  pub of_mount : (nr : ℤ) → nr ≡ pos 165 → request nr args texts ≡ Mount (get_or texts 0 []) (get_or texts 1 []) (get_or texts 2 []) (get_or texts 3 []) [] (get_or args 3 0) false
+  pub of_mount : (nr : ℤ) → nr ≡ pos nr_mount → request nr args texts ≡ Mount (get_or texts 0 []) (get_or texts 1 []) (get_or texts 2 []) (get_or texts 3 []) [] (get_or args 3 0) false
   unfolding request
   of_mount nr e = rw e
 
-  pub of_setxattr : (nr : ℤ) → nr ≡ pos 188 → request nr args texts ≡ SetXattr (get_or texts 0 []) (get_or texts 1 []) (get_or texts 2 []) (low_32 (get_or args 4 0))
+  pub of_setxattr : (nr : ℤ) → nr ≡ pos nr_setxattr → request nr args texts ≡ SetXattr (get_or texts 0 []) (get_or texts 1 []) (get_or texts 2 []) (low_32 (get_or args 4 0))
   unfolding request
   of_setxattr nr e = rw e
 
-  pub of_openat : (nr : ℤ) → nr ≡ pos 257 → request nr args texts ≡ OpenAt (signed_32 (get_or args 0 0)) (get_or texts 0 []) (low_32 (get_or args 2 0))
+  pub of_openat : (nr : ℤ) → nr ≡ pos nr_openat → request nr args texts ≡ OpenAt (signed_32 (get_or args 0 0)) (get_or texts 0 []) (low_32 (get_or args 2 0))
   unfolding request
   of_openat nr e = rw e
 
-  pub of_mknodat : (nr : ℤ) → nr ≡ pos 259 → request nr args texts ≡ Mknod (Some (signed_32 (get_or args 0 0))) (get_or texts 0 []) (low_16 (get_or args 2 0)) (low_32 (get_or args 3 0))
+  pub of_mknodat : (nr : ℤ) → nr ≡ pos nr_mknodat → request nr args texts ≡ Mknod (Some (signed_32 (get_or args 0 0))) (get_or texts 0 []) (low_16 (get_or args 2 0)) (low_32 (get_or args 3 0))
   unfolding request
   of_mknodat nr e = rw e
 
   -- a number that is none of these; the code compares its 32 bits
-  pub of_other : (nr : ℤ) → SFits w32 nr → (of_z w32 nr ≡ 99 → ⊥) → (of_z w32 nr ≡ 133 → ⊥) → (of_z w32 nr ≡ 165 → ⊥) → (of_z w32 nr ≡ 188 → ⊥) → (of_z w32 nr ≡ 257 → ⊥) → (of_z w32 nr ≡ 259 → ⊥) → request nr args texts ≡ Other (to_z w32 (of_z w32 nr))
+  pub of_other : (nr : ℤ) → SFits w32 nr → (of_z w32 nr ≡ nr_sysinfo → ⊥) → (of_z w32 nr ≡ nr_mknod → ⊥) → (of_z w32 nr ≡ nr_mount → ⊥) → (of_z w32 nr ≡ nr_setxattr → ⊥) → (of_z w32 nr ≡ nr_openat → ⊥) → (of_z w32 nr ≡ nr_mknodat → ⊥) → request nr args texts ≡ Other (to_z w32 (of_z w32 nr))
   unfolding request
   of_other (pos n) fits a b c d e f = rw (to_z-of_z w32 (pos n) fits, ne_eqb n 99 a, ne_eqb n 133 b, ne_eqb n 165 c, ne_eqb n 188 d, ne_eqb n 257 e, ne_eqb n 259 f)
   of_other (negsuc n) fits a b c d e f = rw (to_z-of_z w32 (negsuc n) fits)

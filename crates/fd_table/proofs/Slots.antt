@@ -2,7 +2,7 @@
 use Rattle.std.proofs.Common.{◌≡◌, ℕ, true, false, List, ◌∷◌, length, Some, None, Ok, refl, ap, ◌∙◌}
 use Rattle.hist_model.specs.Look.{Name, task_name}
 use Rattle.hist_model.specs.Memory.{own_group}
-use Rattle.hist_model.specs.Steps.{is_shared}
+use Rattle.hist_model.specs.Kinds.{is_shared}
 use Rattle.hist_model.specs.Natives.{Files, NativeStep, Opens, Closes, native_step}
 use Rattle.hist_model.specs.Signals.{call_of}
 use Rattle.hist_model.specs.Files.{files, files_after, after_spawn, after_native, with_group, console_slot, request_for}

@@ -1,7 +1,8 @@
 -- Which histories the tables stand for.
 use Rattle.std.specs.Prelude.{◌≡◌, ℕ, ◌<◌, Bool, true, false, List, [], ◌∷◌, Option, Some, Ok}
 use Rattle.hist_model.specs.Natives.{NativeStep, Opens, Closes, native_step}
-use Rattle.hist_model.specs.Steps.{place_or, is_shared}
+use Rattle.hist_model.specs.Kinds.{is_shared}
+use Rattle.hist_model.specs.Steps.{place_or}
 use Rattle.hist_model.specs.Memory.{own_group}
 use Rattle.hist_model.specs.Files.{files, with_slot}
 use Rattle.hist_model.specs.declared.event.Event.{Event}

@@ -11,7 +11,8 @@ use Rattle.hist_model.specs.Copies.{fits_piece, wanted, plan, progress}
 use Rattle.hist_model.specs.Fitting.{fits, request_eq, cap_eq, addfd_eq, back_eq}
 use Rattle.hist_model.specs.Legal.{system_of, rules_of, copied, read_answers}
 use Rattle.hist_model.specs.Deeds.{Deed}
-use Rattle.hist_model.specs.Sessions.{Rules, Decision, Denies, Passes, Acts, Plants, Injects, after_act, inject_deed, addfd_of, decided_deed, judged_deed, copied_deed, checked_deed, based_deed, open_deed, deed_for, deed, notif_of, reads_of, first_some, outcome_in, put_in, take_in, any_of, is_letgo, gives_up, opens, opens_base, checks, number_of, skips}
+use Rattle.hist_model.specs.Kinds.{is_letgo, gives_up, opens, opens_base, checks, skips}
+use Rattle.hist_model.specs.Sessions.{Rules, Decision, Denies, Passes, Acts, Plants, Injects, after_act, inject_deed, addfd_of, decided_deed, judged_deed, copied_deed, checked_deed, based_deed, open_deed, deed_for, deed, notif_of, reads_of, first_some, outcome_in, put_in, take_in, any_of, number_of}
 use Rattle.hist_model.specs.Steps.{deed_step, mem, read_answer, recv_answer, take_step, install_at, request_of, request_listed, oldest_unfetched}
 use Rattle.hist_model.specs.Calls.{count}
 use Rattle.hist_model.specs.declared.event.Back.{Back}

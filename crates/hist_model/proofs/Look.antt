@@ -1,4 +1,5 @@
--- Lemmas on looking back.
+-- What looking back finds: the event at a place, and the newest and the oldest place that passes a test.
+-- By induction on the events, or on the places below the bound.
 use Rattle.std.proofs.Common.{◌≡◌, ◌⊎◌, inl, inr, ℕ, zero, suc, ◌<◌, ◌≤◌, Bool, true, false, List, [], ◌∷◌, length, Option, Some, None, refl, sym, ◌∙◌, arith}
 use Rattle.std.specs.Prelude.{if◌then◌else◌, ◌==◌}
 use Rattle.std.proofs.lemmas.Bool.{eqb-true, eq-eqb, ne_eqb, cases_Bool, cases_order, both_ways, and_parts, and_from}

@@ -1,4 +1,5 @@
 -- A piece that is wanted has at least one byte.
+-- By induction on the plan and on the answers: each part of a plan asks for some bytes, and a text goes on with what is left.
 use Rattle.std.proofs.Common.{inl, inr, ◌≡◌, ℕ, ◌+◌, ◌-◌, ◌%◌, ◌<◌, ◌≤◌, Bool, true, false, List, [], ◌∷◌, ◌++◌, length, refl, ap, sym, ◌∙◌, Option, Some, None, arith, lit<}
 use Rattle.std.specs.Prelude.{Result, Ok, Err, ℤ, pos, negsuc, nat_le, nat_lt, ◌==◌, if◌then◌else◌, min}
 use Rattle.std.proofs.lemmas.Bool.{cases_Bool}
@@ -6,6 +7,7 @@ use Rattle.std.proofs.lemmas.Bool.Decides.{nat_tests}
 use Rattle.hist_model.specs.Copies.{Reading, Asks, Whole, Fails, Progress, Wants, Complete, Faulty, further, piece, has_zero, begun_with, text_goes_on, text_piece, read_text, value_piece, read_value, read_sized, read_part, progress_with, progress_after, progress, wanted, plan, path_at, option_at, name_at, arg}
 use Rattle.hist_model.specs.declared.copy.Part.{Part}
 use Rattle.hist_model.specs.declared.copy.Part.TheVariants.{Text, Value}
+use Rattle.sys_abi.specs.Calls.{nr_mknod, nr_mknodat, nr_openat, nr_mount, nr_setxattr}
 
 abbrev IsAsking : Reading → Type 0
 IsAsking (Asks a n) = 1 ≤ n
@@ -94,11 +96,11 @@ option-sound a = elim (cases_Bool (a == 0)) [ inl h ↦ rw h tt | inr h ↦ rw h
 
 plan-sound : (nr : ℤ) (args : List ℕ) → AllSound (plan nr args)
 plan-sound (pos nr) args =
-    sound-if (nr == 133) _ _ (lit< tt, tt) (
-    sound-if (nr == 259) _ _ (lit< tt, tt) (
-    sound-if (nr == 257) _ _ (lit< tt, tt) (
-    sound-if (nr == 165) _ _ (option-sound (arg args 0), (lit< tt, (option-sound (arg args 2), (option-sound (arg args 4), tt)))) (
-    sound-if (nr == 188) _ _ (lit< tt, (lit< tt, (tt, tt))) tt))))
+    sound-if (nr == nr_mknod) _ _ (lit< tt, tt) (
+    sound-if (nr == nr_mknodat) _ _ (lit< tt, tt) (
+    sound-if (nr == nr_openat) _ _ (lit< tt, tt) (
+    sound-if (nr == nr_mount) _ _ (option-sound (arg args 0), (lit< tt, (option-sound (arg args 2), (option-sound (arg args 4), tt)))) (
+    sound-if (nr == nr_setxattr) _ _ (lit< tt, (lit< tt, (tt, tt))) tt))))
 plan-sound (negsuc nr) args = tt
 
 -- no piece of a call's arguments is empty

@@ -1,4 +1,5 @@
 -- A list that is kept the oldest first, seen the newest first.
+-- By what the library says of reversed lists and of their parts.
 use Rattle.std.proofs.Common.{◌≡◌, ℕ, zero, suc, ◌+◌, ◌<◌, ◌≤◌, Bool, true, false, None, ◌||◌, List, [], ◌∷◌, ◌++◌, length, reverse, take, get_or, Some, inl, inr, add-one, refl, sym, ap, ◌∙◌, arith}
 use Rattle.std.proofs.Math.Seq.{take-length}
 use Rattle.std.proofs.lemmas.List.{take_more, reverse-append, length-reverse, length-take}

@@ -1,18 +1,13 @@
 -- States of calls, their ids and the request count (seccomp_unotify(2)).
-use Rattle.std.specs.Prelude.{ℕ, ◌+◌, ◌-◌, Bool, true, false, ◌&&◌, ◌||◌, not, if◌then◌else◌, ◌==◌, List, [], ◌∷◌, length, Option, Some, None, Ok, nat_le, ◌++◌}
+use Rattle.std.specs.Prelude.{ℕ, ◌+◌, ◌-◌, Bool, false, ◌&&◌, ◌||◌, not, if◌then◌else◌, ◌==◌, List, [], ◌∷◌, length, Option, Some, None, Ok, ◌++◌}
+use Rattle.hist_model.specs.Kinds.{notifies, leaves, closes, is_install, gave, has_send, receives}
 use Rattle.hist_model.specs.Look.{Name, is_task, task_name, event_at, oldest, is_place}
 use Rattle.hist_model.specs.declared.event.Event.{Event}
 use Rattle.hist_model.specs.declared.event.What.{What}
-use Rattle.hist_model.specs.declared.event.What.TheVariants.{Enter, Deliver, Resume, Recv, Send, Close, AddfdPut, Install}
+use Rattle.hist_model.specs.declared.event.What.TheVariants.{Enter, Recv, Send, AddfdPut}
 use Rattle.hist_model.specs.declared.event.Entered.TheVariants.{Notify}
 use Rattle.hist_model.specs.declared.notification.State.{State}
 use Rattle.hist_model.specs.declared.notification.State.TheVariants.{Unfetched, Fetched, Answered}
-use Rattle.sys_abi.specs.declared.wire.Addfd.{Addfd}
-
--- the step enters a call that is listed, and its id
-abbrev pub notifies : What → Bool
-notifies (Enter nr args (Notify id)) = true
-notifies _ = false
 
 abbrev pub notify_id : What → ℕ
 notify_id (Enter nr args (Notify id)) = id
@@ -39,16 +34,6 @@ id K c = id_in (event_at K c)
 
 abbrev pub is_call : List Event → ℕ → Bool
 is_call K c = notifies_in (event_at K c)
-
--- the step takes its own task's call off the list
-abbrev pub leaves : What → Bool
-leaves (Resume back) = true
-leaves (Deliver sig effect) = true
-leaves _ = false
-
-abbrev pub closes : What → Bool
-closes Close = true
-closes _ = false
 
 -- the event takes the call of this task off the list
 abbrev pub unlists : Event → Name → Bool
@@ -81,14 +66,6 @@ abbrev pub puts_to : List Event → What → ℕ → Bool
 puts_to K (AddfdPut asked (Ok u)) c = is_place (named K asked.id) c
 puts_to K _ c = false
 
-abbrev pub is_install : What → Bool
-is_install (Install answer) = true
-is_install _ = false
-
-abbrev pub gave : What → Bool
-gave (Install (Ok n)) = true
-gave _ = false
-
 -- after K, the event installs for this call
 abbrev pub installs_for : List Event → Event → ℕ → Bool
 installs_for K e c = is_install e.what && (is_task e.who (caller K c) && listed K c)
@@ -101,15 +78,6 @@ rest_of (r ∷ rs) = rs
 unfoldable pub queue : List Event → ℕ → List ℕ
 queue [] c = []
 queue (e ∷ K) c = if puts_to K e.what c then queue K c ++ length K ∷ [] else (if installs_for K e c then rest_of (queue K c) else queue K c)
-
--- the flag SECCOMP_ADDFD_FLAG_SEND is set; the only other flag is SECCOMP_ADDFD_FLAG_SETFD, of value 1
-abbrev pub has_send_flag : Addfd → Bool
-has_send_flag asked = nat_le 2 asked.flags
-
--- the request has SEND
-abbrev pub has_send : What → Bool
-has_send (AddfdPut asked answer) = has_send_flag asked
-has_send _ = false
 
 abbrev pub has_send_in : Option Event → Bool
 has_send_in (Some e) = has_send e.what
@@ -153,10 +121,6 @@ state_at K None = None
 unfoldable pub calls : List Event → ℕ
 calls [] = 0
 calls (e ∷ K) = calls K + (if notifies e.what then 1 else 0)
-
-abbrev pub receives : What → Bool
-receives (Recv answer) = true
-receives _ = false
 
 unfoldable pub recvs : List Event → ℕ
 recvs [] = 0

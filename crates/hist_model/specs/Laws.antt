@@ -1,19 +1,12 @@
 -- What holds of every legal history: ids, callers, process numbers, answers and the request count.
-use Rattle.std.specs.Prelude.{◌≡◌, ℕ, zero, suc, ◌+◌, ◌≤◌, Bool, true, false, ◌&&◌, not, if◌then◌else◌, List, [], ◌∷◌, length, Option, Some, None, Err}
+use Rattle.std.specs.Prelude.{◌≡◌, ℕ, zero, suc, ◌+◌, ◌≤◌, Bool, true, ◌&&◌, not, if◌then◌else◌, List, [], ◌∷◌, length, Option, Some, None}
+use Rattle.hist_model.specs.Kinds.{is_passive, gets_nothing}
 use Rattle.hist_model.specs.Look.{Name, is_task}
 use Rattle.hist_model.specs.Tasks.{alive, holds}
 use Rattle.hist_model.specs.Calls.{listed, fetched, fetches, caller, id, is_call, count, settles}
 use Rattle.hist_model.specs.declared.event.Event.{Event}
 use Rattle.hist_model.specs.declared.event.Actor.{Actor}
 use Rattle.hist_model.specs.declared.event.Actor.TheVariants.{Worker}
-use Rattle.hist_model.specs.declared.event.What.{What}
-use Rattle.hist_model.specs.declared.event.What.TheVariants.{Install, Skip, Recv}
-
--- the step leaves a call as it is
-abbrev pub is_passive : What → Bool
-is_passive (Install answer) = true
-is_passive Skip = true
-is_passive _ = false
 
 -- a task's last own event but Install and Skip
 unfoldable pub last_own : List Event → Name → Option ℕ
@@ -44,10 +37,6 @@ AnsweredOnce K = (c : ℕ) → answers_to K c ≤ 1
 unfoldable pub count_below : (ℕ → Bool) → ℕ → ℕ
 count_below test zero = 0
 count_below test (suc n) = count_below test n + (if test n then 1 else 0)
-
-abbrev pub gets_nothing : What → Bool
-gets_nothing (Recv (Err e)) = true
-gets_nothing _ = false
 
 unfoldable pub empty_recvs : List Event → ℕ
 empty_recvs [] = 0

@@ -1,10 +1,11 @@
 -- Legal histories of a policy and a script, the history that a schedule plays, and finished histories.
-use Rattle.std.specs.Prelude.{◌≡◌, ℕ, zero, suc, ◌<◌, ◌≤◌, ◌^◌, ◌*◌, ◌/◌, ◌%◌, Bool, true, false, ◌&&◌, not, if◌then◌else◌, ◌==◌, List, [], ◌∷◌, length, reverse, slice_get, Option, Some, None, Result, Ok, Err, ℤ}
+use Rattle.std.specs.Prelude.{◌≡◌, ℕ, zero, suc, ◌<◌, ◌≤◌, ◌^◌, ◌*◌, ◌/◌, ◌%◌, Bool, true, false, ◌&&◌, not, if◌then◌else◌, ◌==◌, List, [], ◌∷◌, length, reverse, Option, Some, None, Result, Ok, Err, ℤ}
 use Rattle.std.specs.List.{list_any}
 use Rattle.hist_model.specs.Look.{Name, ev}
 use Rattle.hist_model.specs.Tasks.{ended, is_made}
 use Rattle.hist_model.specs.Calls.{listed}
-use Rattle.hist_model.specs.Sessions.{Rules, Decision, Denies, Passes, Acts, Plants, Injects, session, skips, any_of, is_letgo}
+use Rattle.hist_model.specs.Kinds.{skips, is_letgo}
+use Rattle.hist_model.specs.Sessions.{Rules, Decision, Denies, Passes, Acts, Plants, Injects, session, any_of}
 use Rattle.hist_model.specs.Systems.{System}
 use Rattle.hist_model.specs.Steps.{IsLegal, start, step}
 use Rattle.hist_model.specs.Programs.{program}
@@ -22,10 +23,8 @@ use Rattle.hist_model.specs.declared.event.Event.{Event}
 use Rattle.hist_model.specs.declared.event.Actor.{Actor}
 use Rattle.hist_model.specs.declared.event.Actor.TheVariants.{Worker, Listener}
 use Rattle.hist_model.specs.declared.event.What.{What}
-use Rattle.hist_model.specs.declared.event.What.TheVariants.{Read, Close}
+use Rattle.hist_model.specs.declared.event.What.TheVariants.{Read}
 use Rattle.hist_model.specs.declared.policy.Policy.{Policy}
-use Rattle.hist_model.specs.declared.policy.Rule.{Rule}
-use Rattle.hist_model.specs.declared.policy.Cap.{Cap}
 use Rattle.hist_model.specs.declared.policy.Verdict.{Verdict}
 use Rattle.hist_model.specs.declared.policy.Verdict.TheVariants.{Grant, Deny, Pass, Inject}
 use Rattle.hist_model.specs.declared.request.Request.{Request}

@@ -1,6 +1,7 @@
 pub mod Records
 pub mod PolicyRules
 pub mod ScriptRules
+pub mod Kinds
 pub mod Look
 pub mod Names
 pub mod Histories

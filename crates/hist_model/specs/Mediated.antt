@@ -1,15 +1,16 @@
 -- What mediation means: a history in which each notification is answered at most once, each reply or descriptor reaches the waiting call it was meant for or nobody,
 -- each effect is what the policy grants on one copy of its call's arguments found valid afterwards, and each denial names its rule (seccomp_unotify(2)).
-use Rattle.std.specs.Prelude.{◌≡◌, ℕ, ◌+◌, ◌≤◌, Bool, true, false, ◌&&◌, ◌||◌, not, if◌then◌else◌, ◌==◌, List, [], ◌∷◌, length, filter, Option, Some, None, Result, Ok, Err, ◌⊎◌, nat_le, nat_eq, codes, ℤ}
+use Rattle.std.specs.Prelude.{◌≡◌, ℕ, ◌+◌, ◌≤◌, Bool, true, false, ◌&&◌, ◌||◌, not, if◌then◌else◌, ◌==◌, List, [], ◌∷◌, length, filter, Option, Some, None, Result, Ok, ◌⊎◌, nat_le, nat_eq, codes, ℤ}
 use Rattle.std.specs.List.{list_any, starts_with}
 use Rattle.hist_model.specs.Look.{Name, ev, before, event_at, is_worker, is_task, task_name}
-use Rattle.hist_model.specs.Calls.{listed, caller, fetched, fetches, id, is_call, answers, puts_to, settled, waiting, closes, receives as is_receive}
-use Rattle.hist_model.specs.Sessions.{Rules, session, notif_of, reads_of, first_some, outcome_in, put_in, Acts, Plants, Injects, addfd_of, number_of, checks, is_letgo}
+use Rattle.hist_model.specs.Kinds.{closes, receives as is_receive, checks, is_letgo, is_good_check, is_spent, is_accepted, is_busy, is_known_error, returns, is_lost, ends_work, is_effect}
+use Rattle.hist_model.specs.Calls.{listed, caller, fetched, fetches, id, is_call, answers, puts_to, settled, waiting}
+use Rattle.hist_model.specs.Sessions.{Rules, session, notif_of, reads_of, first_some, outcome_in, put_in, Acts, Plants, Injects, addfd_of, number_of}
 use Rattle.hist_model.specs.Steps.{session_call, mem, task_place, times_spent, opened, notif, owes_native, slot_answer, is_spent as has_spent}
 use Rattle.hist_model.specs.Systems.{Slot}
 use Rattle.hist_model.specs.Laws.{AnsweredOnce, count_below, empty_recvs, fetcher}
 use Rattle.hist_model.specs.Settlers.{InstallsOwn, ResumesOwn, ReturnsInstalled}
-use Rattle.hist_model.specs.Orders.{InOrder, is_good_check}
+use Rattle.hist_model.specs.Orders.{InOrder}
 use Rattle.hist_model.specs.Causes.{Cause}
 use Rattle.hist_model.specs.Trees.{Tree}
 use Rattle.hist_model.specs.Memory.{own_group}
@@ -35,10 +36,9 @@ use Rattle.hist_model.specs.declared.tree.AttrRow.{AttrRow}
 use Rattle.hist_model.specs.Copies.{Progress, Wants, Complete, Faulty}
 use Rattle.hist_model.specs.Decisions.{cap_of, decide}
 use Rattle.hist_model.specs.Requests.{request}
-use Rattle.hist_model.specs.ReportAudit.{audit_of, judging_by, judged_as, finding_of, is_spent}
+use Rattle.hist_model.specs.ReportAudit.{audit_of, judging_by, judged_as, finding_of}
 use Rattle.hist_model.specs.declared.report.Finding.{Finding}
 use Rattle.hist_model.specs.declared.report.Finding.TheVariants.{Fault}
-use Rattle.sys_abi.specs.Errnos.{enoent, ebadf, ebusy, emfile, einprogress, esrch}
 use Rattle.sys_abi.specs.declared.wire.Addfd.{Addfd}
 use Rattle.sys_abi.specs.declared.wire.Notif.{Notif}
 
@@ -94,33 +94,13 @@ OneSession K = (c : ℕ) → fetches_of K c ≤ 1
 
 -- ---- Each reply or descriptor reaches the call it was meant for, or nobody
 
--- the step is an answer or a request for a descriptor that was accepted
-abbrev pub is_accepted : What → Bool
-is_accepted (Send x b (Ok u)) = true
-is_accepted (AddfdPut q (Ok u)) = true
-is_accepted _ = false
-
 -- it is a worker's, for the call of its own session
 abbrev pub NamesOwn : List Event → Event → Type 0
 NamesOwn K e = is_accepted e.what ≡ true → (w c : ℕ) × (e.who ≡ Worker w) × (session_call K w ≡ Some c) × ((puts_to K e.what c || answers K e.what c) ≡ true)
 
--- EINPROGRESS and EBUSY: the call is in the way of an answer or a request
-abbrev pub is_busy : What → Bool
-is_busy (Send x b (Err e)) = e == einprogress
-is_busy (AddfdPut q (Err e)) = (e == einprogress) || (e == ebusy)
-is_busy _ = false
-
 -- nobody is answered so
 abbrev pub NeverBusy : List Event → Event → Type 0
 NeverBusy K e = is_busy e.what ≡ false
-
--- of the errors of a worker's steps: ENOENT of a check and of an answer, EBADF too of a request for a descriptor, and EMFILE too of its take
-abbrev pub is_known_error : What → Bool
-is_known_error (Check x (Err e)) = e == enoent
-is_known_error (Send x b (Err e)) = e == enoent
-is_known_error (AddfdPut q (Err e)) = (e == ebadf) || (e == enoent)
-is_known_error (AddfdTake (Err e)) = (e == ebadf) || ((e == emfile) || (e == enoent))
-is_known_error _ = true
 
 abbrev pub ErrorsKnown : List Event → Event → Type 0
 ErrorsKnown K e = is_known_error e.what ≡ true
@@ -132,11 +112,6 @@ slot_next S K a = slot_in S.rlimit (files S K) (own_group K a) (request_for K (c
 -- an installation answers the number where its request goes in the table before it, or why there is none
 abbrev pub InstallsThere : Script → List Event → Event → Type 0
 InstallsThere S K e = (x : Result ℕ ℕ) → e.what ≡ Install x → x ≡ slot_answer (slot_next S K e.who)
-
--- the event is the return of this call, or the close of the listener
-abbrev pub returns : What → Bool
-returns (Resume b) = true
-returns _ = false
 
 abbrev pub is_arrival : List Event → Event → ℕ → Bool
 is_arrival K e c = closes e.what || (returns e.what && is_task e.who (caller K c))
@@ -260,27 +235,11 @@ AuditNames P H = (s w x : ℕ) (b : Back) (a : Result (Unit {0}) ℕ) (n : Notif
     → (r : ℕ) × (event_at H r ≡ Some (ev (Worker w) (Recv (Ok n))))
     × Finds P (session (before H s) w) n (audit_of (judging_by P.rules) H (before H r) w n).finding (copied n (reads_of (session (before H s) w)))
 
--- the step answers that the call, or its task, is not there
-abbrev pub is_lost : What → Bool
-is_lost (OpenMem p (Err e)) = e == esrch
-is_lost (OpenBase p d (Err e)) = e == esrch
-is_lost (Check x (Err e)) = e == enoent
-is_lost (AddfdPut q (Err e)) = e == enoent
-is_lost (AddfdTake (Err e)) = e == enoent
-is_lost (Send x b (Err e)) = e == enoent
-is_lost _ = false
-
 -- so only where the session's call is not listed
 abbrev pub LostIfGone : List Event → Event → Type 0
 LostIfGone K e = (w : ℕ) → e.who ≡ Worker w → is_lost e.what ≡ true → (c : ℕ) × (session_call K w ≡ Some c) × (listed K c ≡ false)
 
 -- ---- A session ends for its reasons
-
--- the step answered, took the number that its request got, or found the call or its task gone
-abbrev pub ends_work : What → Bool
-ends_work (Send x b a) = true
-ends_work (AddfdTake (Ok n)) = true
-ends_work what = is_lost what
 
 -- the session's last step is one of these
 abbrev pub has_ended : List What → Bool
@@ -312,10 +271,6 @@ is_device_row row = is_device_node row.node
 
 abbrev pub is_others_row : AttrRow → Bool
 is_others_row row = not (starts_with nat_eq row.name (codes "user."))
-
-abbrev pub is_effect : What → Bool
-is_effect (Act q cap a) = true
-is_effect _ = false
 
 -- the devices, the mounts, and the attributes whose names don't begin with user. stay
 pub record KeepsPrivileged (T U : Tree) : Type 0 where

@@ -1,15 +1,14 @@
 -- Memory of groups: a group is one address space together with one descriptor table, and is named by the place of the spawn that made it (clone(2), mmap(2)).
 use Rattle.std.specs.Prelude.{ℕ, zero, suc, ◌+◌, ◌-◌, ◌*◌, Bool, true, false, ◌&&◌, ◌||◌, if◌then◌else◌, ◌==◌, List, [], ◌∷◌, length, slice_get, Option, Some, None, Result, Ok, Err, ℤ, pos, negsuc, nat_le, nat_lt}
+use Rattle.hist_model.specs.Kinds.{enters, copies}
 use Rattle.hist_model.specs.Look.{Name, is_task, task_name, is_place}
-use Rattle.hist_model.specs.Steps.{group, task_place, opened, mem, place_or, number_entered, entered}
+use Rattle.hist_model.specs.Steps.{task_place, opened, mem, place_or, number_entered, entered}
 use Rattle.hist_model.specs.Sysinfo.{host_sysinfo}
 use Rattle.hist_model.specs.declared.event.Event.{Event}
 use Rattle.hist_model.specs.declared.event.Actor.{Actor}
 use Rattle.hist_model.specs.declared.event.Actor.TheVariants.{Task, Worker}
 use Rattle.hist_model.specs.declared.event.What.{What}
-use Rattle.hist_model.specs.declared.event.What.TheVariants.{Spawn, Poke, Enter, Native, Plant, Skip}
-use Rattle.hist_model.specs.declared.event.SpawnKind.{SpawnKind}
-use Rattle.hist_model.specs.declared.event.SpawnKind.TheVariants.{New, Copied}
+use Rattle.hist_model.specs.declared.event.What.TheVariants.{Poke, Native, Plant, Skip}
 use Rattle.hist_model.specs.declared.script.MapRange.{MapRange}
 use Rattle.hist_model.specs.declared.script.Script.{Script}
 use Rattle.sys_abi.specs.Calls.{nr_sysinfo}
@@ -32,10 +31,6 @@ sysinfo_size = 112
 -- the group of the task of this name, if there is one
 abbrev pub group_named : List Event → Name → Option ℕ
 group_named K n = opened K (task_place K n)
-
-abbrev pub enters : What → Bool
-enters (Enter nr args v) = true
-enters _ = false
 
 -- the call that a task entered last; Skip where there is none
 unfoldable pub last_call : List Event → Name → What
@@ -83,15 +78,6 @@ written_to K who m (Some b) = if is_place (storing_group K who) m then Some b el
 -- the byte that the event leaves at an address of a group, if it writes one
 abbrev pub written : Script → List Event → Event → ℕ → ℕ → Option ℕ
 written S K e m a = written_to K e.who m (byte_stored (stored S K e.who e.what) a)
-
-abbrev pub is_copied : SpawnKind → Bool
-is_copied Copied = true
-is_copied _ = false
-
--- the step makes a task with a copy of its parent's group
-abbrev pub copies : What → Bool
-copies (Spawn n (Ok a)) = is_copied a.1
-copies _ = false
 
 -- the group of the task that takes the step
 abbrev pub own_group : List Event → Actor → ℕ

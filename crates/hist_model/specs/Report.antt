@@ -3,8 +3,7 @@
 -- it, and one pass from the oldest event on can follow each: a task is in one call at most, and a worker in one session.
 use Rattle.std.specs.Prelude.{ℕ, Bool, true, false, List, [], ◌∷◌, ◌++◌, length, Ok, codes, decimal, count_by}
 use Rattle.hist_model.specs.ReportJournal.{journal}
-use Rattle.hist_model.specs.Calls.{notifies}
-use Rattle.hist_model.specs.Memory.{enters}
+use Rattle.hist_model.specs.Kinds.{notifies, enters}
 use Rattle.hist_model.specs.ReportCalls.{calls}
 use Rattle.hist_model.specs.ReportAudit.{Judging, audit, audit_of}
 use Rattle.hist_model.specs.ReportRequests.{answer_count}
@@ -13,7 +12,6 @@ use Rattle.hist_model.specs.declared.event.Actor.TheVariants.{Worker}
 use Rattle.hist_model.specs.declared.event.Event.{Event}
 use Rattle.hist_model.specs.declared.event.What.{What}
 use Rattle.hist_model.specs.declared.event.What.TheVariants.{Recv}
-use Rattle.hist_model.specs.declared.event.Entered.TheVariants.{Notify}
 use Rattle.hist_model.specs.declared.report.Finding.{Finding}
 use Rattle.hist_model.specs.declared.report.Finding.TheVariants.{Gone, Fault, Spent, Granted, Denied, Passed, Injected}
 use Rattle.hist_model.specs.declared.report.Arrival.{Arrival}

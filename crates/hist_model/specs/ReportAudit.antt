@@ -1,12 +1,10 @@
 -- The audit of a report: one line for each session, with the rule that decided, what was answered, and whether that reached the call.
-use Rattle.std.specs.Prelude.{ℕ, Bool, true, false, ◌&&◌, ◌||◌, not, if◌then◌else◌, ◌==◌, nat_le, List, [], ◌∷◌, ◌++◌, length, Option, Some, None, Result, Ok, Err, pos, codes, decimal, count_by, is_some}
+use Rattle.std.specs.Prelude.{ℕ, Bool, true, false, ◌&&◌, ◌||◌, not, if◌then◌else◌, ◌==◌, List, [], ◌∷◌, ◌++◌, length, Option, Some, None, Result, Ok, pos, codes, decimal, count_by, is_some}
 use Rattle.std.specs.List.{list_any}
 use Rattle.sys_abi.specs.declared.wire.Notif.{Notif}
-use Rattle.sys_abi.specs.Errnos.{edquot, enoent, esrch}
-use Rattle.hist_model.specs.Look.{Name, is_worker, task_name, event_at}
+use Rattle.hist_model.specs.Look.{Name, is_worker}
 use Rattle.hist_model.specs.Calls.{caller}
-use Rattle.hist_model.specs.Sessions.{skips, starts, is_letgo}
-use Rattle.hist_model.specs.Orders.{is_good_check}
+use Rattle.hist_model.specs.Kinds.{skips, starts, is_letgo, is_good_check, is_gone, is_spent, misses_call, is_sent}
 use Rattle.hist_model.specs.Copies.{Progress, Wants, Complete, Faulty as Broken, plan, progress, heard}
 use Rattle.hist_model.specs.Requests.{request}
 use Rattle.hist_model.specs.Decisions.{decide, rule_name}
@@ -17,7 +15,7 @@ use Rattle.hist_model.specs.declared.event.Actor.{Actor}
 use Rattle.hist_model.specs.declared.event.Actor.TheVariants.{Worker}
 use Rattle.hist_model.specs.declared.event.Event.{Event}
 use Rattle.hist_model.specs.declared.event.What.{What}
-use Rattle.hist_model.specs.declared.event.What.TheVariants.{Enter, Install, Recv, OpenMem, OpenBase, Check, Read, Act, Plant, AddfdPut, AddfdTake, Send, LetGo, Skip}
+use Rattle.hist_model.specs.declared.event.What.TheVariants.{Enter, Install, Recv, Read, Send}
 use Rattle.hist_model.specs.declared.event.Entered.TheVariants.{Notify}
 use Rattle.hist_model.specs.declared.event.Back.{Back}
 use Rattle.hist_model.specs.declared.event.Back.TheVariants.{Value}
@@ -83,31 +81,6 @@ session_step false false before a = before
 unfoldable pub session_at : ℕ → ℕ → List Event → List What
 session_at w r [] = []
 session_at w r (e ∷ K) = session_step (length K == r) (is_worker e.who w && not (skips e.what)) (session_at w r K) e.what
-
--- the step shows that the caller, or its call, is gone
-abbrev pub is_gone : What → Bool
-is_gone (OpenMem pid (Err e)) = e == esrch
-is_gone (OpenBase pid dirfd (Err e)) = e == esrch
-is_gone (Check id (Err e)) = e == enoent
-is_gone _ = false
-
--- the step was refused since its rule's times were spent
-abbrev pub is_spent : What → Bool
-is_spent (Act request cap (Err e)) = e == edquot
-is_spent (Plant addr bytes cap (Err e)) = e == edquot
-is_spent _ = false
-
--- the step should have reached a call, and its call is no longer listed
-abbrev pub misses_call : What → Bool
-misses_call (AddfdPut asked (Err e)) = e == enoent
-misses_call (AddfdTake (Err e)) = e == enoent
-misses_call (Send id back (Err e)) = e == enoent
-misses_call _ = false
-
--- the step sent an answer that was taken
-abbrev pub is_sent : What → Bool
-is_sent (Send id back (Ok u)) = true
-is_sent _ = false
 
 -- what the step sent
 abbrev pub back_in : What → Option Back

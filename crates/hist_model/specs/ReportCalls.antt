@@ -1,7 +1,7 @@
 -- The calls of a report: one line for each call that a task entered, with what came of it.
 use Rattle.std.specs.Prelude.{ℕ, Bool, true, false, ◌&&◌, if◌then◌else◌, ◌==◌, min, List, [], ◌∷◌, ◌++◌, length, Option, Some, None, Ok, Err, ℤ, pos, codes, decimal, count_by}
 use Rattle.std.specs.Fmt.{signed_decimal}
-use Rattle.hist_model.specs.Memory.{enters}
+use Rattle.hist_model.specs.Kinds.{enters}
 use Rattle.hist_model.specs.Look.{Name, name_eq, is_task, is_place, task_name, or_else}
 use Rattle.hist_model.specs.ReportWords.{errno_text, call_text, actor_text}
 use Rattle.hist_model.specs.ReportJournal.{lines_of, title}

@@ -1,9 +1,10 @@
 -- The answers that a summary counts: each send that was taken, and each installation that gave the number of a request with SEND.
 -- The requests for descriptors of one call wait in a queue: the n-th installation in the call belongs to the n-th of them.
-use Rattle.std.specs.Prelude.{ℕ, ◌+◌, Bool, true, false, ◌&&◌, ◌||◌, if◌then◌else◌, ◌==◌, List, [], ◌∷◌, ◌++◌, Option, Some, None, Ok}
+use Rattle.std.specs.Prelude.{ℕ, ◌+◌, Bool, false, ◌&&◌, ◌||◌, if◌then◌else◌, ◌==◌, List, [], ◌∷◌, ◌++◌, Option, Some, None, Ok}
 use Rattle.hist_model.specs.Look.{Name, is_place, task_name}
-use Rattle.hist_model.specs.Calls.{id, gave, has_send_flag}
-use Rattle.hist_model.specs.ReportAudit.{call_with_id, is_sent}
+use Rattle.hist_model.specs.Kinds.{gave, has_send_flag, is_sent}
+use Rattle.hist_model.specs.Calls.{id}
+use Rattle.hist_model.specs.ReportAudit.{call_with_id}
 use Rattle.hist_model.specs.ReportCalls.{newest_call, is_inside}
 use Rattle.hist_model.specs.declared.event.Event.{Event}
 use Rattle.hist_model.specs.declared.event.What.{What}

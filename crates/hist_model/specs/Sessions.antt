@@ -1,25 +1,18 @@
 -- A worker's session, and its next deed: the order of seccomp_unotify(2) (open the memory, check, read, check again, use).
-use Rattle.std.specs.Prelude.{ℕ, suc, Bool, true, false, ◌&&◌, ◌||◌, not, if◌then◌else◌, ◌==◌, List, [], ◌∷◌, Option, Some, None, Result, Ok, Err, ℤ, pos}
+use Rattle.std.specs.Prelude.{ℕ, suc, Bool, false, ◌&&◌, ◌||◌, not, if◌then◌else◌, ◌==◌, List, [], ◌∷◌, Option, Some, None, Result, Ok, Err, ℤ, pos}
+use Rattle.hist_model.specs.Kinds.{starts, skips, is_letgo, gives_up, opens, opens_base, checks, is_read}
 use Rattle.hist_model.specs.Look.{is_worker}
 use Rattle.hist_model.specs.Deeds.{Deed}
 use Rattle.hist_model.specs.declared.event.Event.{Event}
 use Rattle.hist_model.specs.declared.event.What.{What}
-use Rattle.hist_model.specs.declared.event.What.TheVariants.{Recv, OpenMem, OpenBase, Check, Read, Act, Plant, AddfdPut, AddfdTake, Send, LetGo, Skip}
+use Rattle.hist_model.specs.declared.event.What.TheVariants.{Recv, Act, Plant, AddfdPut, AddfdTake}
 use Rattle.hist_model.specs.declared.event.Back.{Back}
 use Rattle.hist_model.specs.declared.event.Back.TheVariants.{Value, Fail, Continue}
 use Rattle.hist_model.specs.declared.request.Request.{Request}
 use Rattle.hist_model.specs.declared.policy.Cap.{Cap}
-use Rattle.sys_abi.specs.Errnos.{emfile, enoent, esrch}
+use Rattle.sys_abi.specs.Errnos.{emfile}
 use Rattle.sys_abi.specs.declared.wire.Notif.{Notif}
 use Rattle.sys_abi.specs.declared.wire.Addfd.{Addfd}
-
-abbrev pub starts : What → Bool
-starts (Recv (Ok notif)) = true
-starts _ = false
-
-abbrev pub skips : What → Bool
-skips Skip = true
-skips _ = false
 
 -- one more step of a session; none where there is no session yet
 abbrev pub joined : What → List What → List What
@@ -30,33 +23,6 @@ joined a (b ∷ own) = if starts a then a ∷ [] else (a ∷ b ∷ own)
 unfoldable pub session : List Event → ℕ → List What
 session [] w = []
 session (e ∷ K) w = if is_worker e.who w && not (skips e.what) then joined e.what (session K w) else session K w
-
-abbrev pub is_letgo : What → Bool
-is_letgo LetGo = true
-is_letgo _ = false
-
--- the step ends the session's work: the worker then lets go
-abbrev pub gives_up : What → Bool
-gives_up (OpenMem pid (Err e)) = e == esrch
-gives_up (OpenBase pid d (Err e)) = e == esrch
-gives_up (Check x (Err e)) = true
-gives_up (AddfdPut asked (Err e)) = e == enoent
-gives_up (AddfdTake (Ok n)) = true
-gives_up (AddfdTake (Err e)) = e == enoent
-gives_up (Send x back answer) = true
-gives_up _ = false
-
-abbrev pub opens : What → Bool
-opens (OpenMem pid answer) = true
-opens _ = false
-
-abbrev pub opens_base : What → Bool
-opens_base (OpenBase pid d answer) = true
-opens_base _ = false
-
-abbrev pub checks : What → Bool
-checks (Check x answer) = true
-checks _ = false
 
 abbrev pub any_of : (What → Bool) → List What → Bool
 any_of p [] = false
@@ -100,10 +66,6 @@ or_some None b = b
 abbrev pub first_some : {A : Type 0} → (What → Option A) → List What → Option A
 first_some f [] = None
 first_some f (a ∷ own) = or_some (f a) (first_some f own)
-
-abbrev pub is_read : What → Bool
-is_read (Read a l answer) = true
-is_read _ = false
 
 -- the session's reads
 abbrev pub reads_of : List What → List What

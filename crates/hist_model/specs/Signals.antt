@@ -1,5 +1,6 @@
 -- Which signal is delivered next, and what its delivery does (signal(7); seccomp(2) on WAIT_KILLABLE_RECV).
 use Rattle.std.specs.Prelude.{ℕ, Bool, true, false, ◌&&◌, ◌||◌, not, if◌then◌else◌, ◌==◌, List, length, Option, Some, None}
+use Rattle.sys_abi.specs.Signals.{sigkill, sigusr1, sigusr2, sigterm}
 use Rattle.hist_model.specs.Look.{Name, name_eq, newest}
 use Rattle.hist_model.specs.Tasks.{pending, mode}
 use Rattle.hist_model.specs.Calls.{listed, caller, fetched}
@@ -8,19 +9,6 @@ use Rattle.hist_model.specs.declared.event.Delivered.{Delivered}
 use Rattle.hist_model.specs.declared.event.Delivered.TheVariants.{End, Run, Restart, Eintr}
 use Rattle.hist_model.specs.declared.event.Mode.{Mode}
 use Rattle.hist_model.specs.declared.event.Mode.TheVariants.{Default, Restart as RestartMode, Plain}
-
--- the signals that programs send, by their numbers on x86-64
-abbrev pub sigkill : ℕ
-sigkill = 9
-
-abbrev pub sigusr1 : ℕ
-sigusr1 = 10
-
-abbrev pub sigusr2 : ℕ
-sigusr2 = 12
-
-abbrev pub sigterm : ℕ
-sigterm = 15
 
 -- the call in which a task waits
 unfoldable pub call_of : List Event → Name → Option ℕ

@@ -1,12 +1,13 @@
 -- The one step of an actor after a history, and legal histories.
 use Rattle.std.specs.Prelude.{◌≡◌, ℕ, ◌+◌, ◌-◌, ◌%◌, ◌^◌, Bool, true, false, ◌&&◌, not, if◌then◌else◌, ◌==◌, List, [], ◌∷◌, ◌++◌, length, slice_get, replicate, nat_le, Option, Some, None, Result, Ok, Err, pos, ℤ}
-use Rattle.hist_model.specs.Look.{Name, ev, name_eq, is_task, is_worker, task_name, newest, oldest, event_at}
+use Rattle.hist_model.specs.Look.{Name, ev, name_eq, is_task, is_worker, task_name, oldest, event_at}
 use Rattle.hist_model.specs.Names.{is_task_name}
-use Rattle.hist_model.specs.Tasks.{ended, reaped, holder, next_pid, alive, mode, name_of, has_parent, parent, makes, pid_of}
+use Rattle.hist_model.specs.Kinds.{makes, closes, has_send_flag, skips, owes, shares_now}
+use Rattle.hist_model.specs.Tasks.{ended, reaped, holder, next_pid, alive, mode, name_of, has_parent, parent, pid_of}
 use Rattle.hist_model.specs.Signals.{call_of, next_signal, effect_in_call, effect_outside}
-use Rattle.hist_model.specs.Calls.{listed, caller, id, named, fetched, settled, settles, waiting, calls, count, closes, queue, installs_for, has_send_flag}
+use Rattle.hist_model.specs.Calls.{listed, caller, id, named, fetched, settled, settles, waiting, calls, count, queue, installs_for}
 use Rattle.hist_model.specs.Deeds.{Deed}
-use Rattle.hist_model.specs.Sessions.{session, skips, deed, Rules}
+use Rattle.hist_model.specs.Sessions.{session, deed, Rules}
 use Rattle.hist_model.specs.Systems.{System, Slot, Number, Full, Over}
 use Rattle.hist_model.specs.declared.event.Event.{Event}
 use Rattle.hist_model.specs.declared.event.Actor.{Actor}
@@ -16,7 +17,7 @@ use Rattle.hist_model.specs.declared.event.What.TheVariants.{Spawn, Enter, Resum
 use Rattle.hist_model.specs.declared.event.SpawnKind.{SpawnKind}
 use Rattle.hist_model.specs.declared.event.SpawnKind.TheVariants.{New, Copied, Shared}
 use Rattle.hist_model.specs.declared.event.Entered.{Entered}
-use Rattle.hist_model.specs.declared.event.Entered.TheVariants.{Notify, Allow, Log}
+use Rattle.hist_model.specs.declared.event.Entered.TheVariants.{Notify}
 use Rattle.hist_model.specs.declared.event.Back.{Back}
 use Rattle.hist_model.specs.declared.event.Back.TheVariants.{Continue, Value}
 use Rattle.hist_model.specs.declared.event.Delivered.{Delivered}
@@ -148,13 +149,6 @@ unfoldable pub reply : List Event → ℕ → Back
 reply [] c = Continue
 reply (e ∷ K) c = if settles K e c then back_of e.what else reply K c
 
--- the step of a task leaves it a native call to make
-abbrev pub owes : What → Bool
-owes (Enter nr args Allow) = true
-owes (Enter nr args Log) = true
-owes (Resume Continue) = true
-owes _ = false
-
 -- a task's last own step but Skip leaves it a native call to make
 unfoldable pub owes_native : List Event → Name → Bool
 owes_native [] n = false
@@ -220,14 +214,6 @@ check_answer K (Some c) = if waiting K c then Ok tt else Err enoent
 abbrev pub send_answer : List Event → Option ℕ → Result (Unit {0}) ℕ
 send_answer K None = Err enoent
 send_answer K (Some c) = if waiting K c then Ok tt else Err einprogress
-
-abbrev pub is_shared : SpawnKind → Bool
-is_shared Shared = true
-is_shared _ = false
-
-abbrev pub shares_now : What → Bool
-shares_now (Spawn n (Ok a)) = is_shared a.1
-shares_now _ = false
 
 -- where no event stands: a history has fewer than 2 ^ 64 events
 abbrev pub no_place : ℕ

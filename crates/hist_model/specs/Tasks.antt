@@ -1,20 +1,12 @@
 -- Tasks, process numbers and signals (clone(2), wait(2), kill(2), signal(7)).
 use Rattle.std.specs.Prelude.{ℕ, zero, suc, ◌+◌, ◌-◌, Bool, true, false, ◌&&◌, ◌||◌, not, if◌then◌else◌, ◌==◌, List, [], ◌∷◌, length, take, Option, Some, None, Ok, nat_le}
+use Rattle.hist_model.specs.Kinds.{ends, makes}
 use Rattle.hist_model.specs.Look.{Name, name_eq, is_task, event_at, newest, or_else}
 use Rattle.hist_model.specs.declared.event.Event.{Event}
 use Rattle.hist_model.specs.declared.event.What.{What}
-use Rattle.hist_model.specs.declared.event.What.TheVariants.{Spawn, Enter, Exit, Deliver, Reap, Signal, Handler}
-use Rattle.hist_model.specs.declared.event.Entered.TheVariants.{Kill}
-use Rattle.hist_model.specs.declared.event.Delivered.TheVariants.{End}
+use Rattle.hist_model.specs.declared.event.What.TheVariants.{Spawn, Deliver, Reap, Signal, Handler}
 use Rattle.hist_model.specs.declared.event.Mode.{Mode}
 use Rattle.hist_model.specs.declared.event.Mode.TheVariants.{Default}
-
--- the step ends the task that takes it
-abbrev pub ends : What → Bool
-ends Exit = true
-ends (Deliver sig End) = true
-ends (Enter nr args Kill) = true
-ends _ = false
 
 unfoldable pub ended : List Event → Name → Bool
 ended [] n = false
@@ -95,11 +87,6 @@ last_pid base (e ∷ K) = or_number (given e.what) (last_pid base K)
 -- the next number: the first free one after the last one given, and then from the first one on
 unfoldable pub next_pid : ℕ → ℕ → List Event → Option ℕ
 next_pid base pidmax K = or_else (free_from K (base + pidmax - last_pid base K) (last_pid base K + 1)) (free_from K (last_pid base K - base) (base + 1))
-
--- the step makes a task
-abbrev pub makes : What → Bool
-makes (Spawn m (Ok a)) = true
-makes _ = false
 
 -- a task of this name was made
 unfoldable pub is_made : List Event → Name → Bool

@@ -1,9 +1,11 @@
 -- Groups after one more event, by their ordinals.
+-- By the lemmas on ordinals, and since what was made before an event stays at its place.
 use Rattle.std.proofs.Common.{◌≡◌, ℕ, ◌<◌, Bool, true, false, ◌&&◌, not, List, ◌∷◌, length, Option, Some, None, refl, ap, sym, ◌∙◌, arith}
 use Rattle.std.proofs.lemmas.Bool.{and_parts, eq-eqb, ne_eqb}
 use Rattle.hist_model.specs.Look.{Name, name_eq, event_at, task_name}
-use Rattle.hist_model.specs.Tasks.{makes, name_of}
-use Rattle.hist_model.specs.Steps.{group, makes_in, opened, place_or, shares_now, task_place}
+use Rattle.hist_model.specs.Kinds.{makes, shares_now}
+use Rattle.hist_model.specs.Tasks.{name_of}
+use Rattle.hist_model.specs.Steps.{group, makes_in, opened, place_or, task_place}
 use Rattle.hist_model.specs.Memory.{group_named}
 use Rattle.hist_model.specs.declared.event.Event.{Event}
 use Rattle.hist_model.proofs.Look.{event_at-older, oldest-same, oldest-some, oldest-stays}

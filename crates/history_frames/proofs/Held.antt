@@ -1,9 +1,11 @@
 -- Who has ended and who is reaped after an event, and who holds a process number.
+-- By the one event that each definition looks at first, and by induction on the search of a free number.
 use Rattle.std.proofs.Common.{◌≡◌, inl, inr, ℕ, zero, suc, ◌+◌, ◌<◌, ◌≤◌, Bool, true, false, ◌&&◌, not, List, [], ◌∷◌, length, Option, Some, None, refl, sym, ap, ◌∙◌, arith}
 use Rattle.std.specs.Prelude.{Ok, ◌-◌, if◌then◌else◌}
 use Rattle.std.proofs.lemmas.Bool.{cases_Bool, cases_order, cases_lt, eqb-true, or_right, both_ways, false_from_ne_true}
 use Rattle.hist_model.specs.Look.{Name, name_eq, newest, is_task, event_at, or_else, oldest}
-use Rattle.hist_model.specs.Tasks.{ended, was_waited_for, reaped, ends, reaps, holds, holder, pid_of, name_of, given, given_in, is_some_of, makes, is_made, child_of, parent, free_from, next_pid, last_pid, is_none}
+use Rattle.hist_model.specs.Kinds.{ends, makes}
+use Rattle.hist_model.specs.Tasks.{ended, was_waited_for, reaped, reaps, holds, holder, pid_of, name_of, given, given_in, is_some_of, is_made, child_of, parent, free_from, next_pid, last_pid, is_none}
 use Rattle.hist_model.specs.Steps.{makes_in}
 use Rattle.hist_model.specs.Laws.{PidsDiffer}
 use Rattle.hist_model.specs.declared.event.Event.{Event}

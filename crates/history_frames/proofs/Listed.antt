@@ -1,9 +1,11 @@
 -- Calls after an event: which are listed and fetched, which ids name them, and how many were entered.
+-- By the one event that each definition looks at first, and by induction on the events.
 use Rattle.std.proofs.Common.{◌≡◌, ◌⊎◌, inl, inr, ℕ, suc, ◌+◌, ◌<◌, ◌≤◌, Bool, true, false, ◌&&◌, ◌||◌, not, List, [], ◌∷◌, ◌++◌, length, Option, Some, None, refl, sym, ap, ◌∙◌, arith}
 use Rattle.std.specs.Prelude.{◌==◌, Ok}
 use Rattle.std.proofs.lemmas.Bool.{cases_Bool, eqb-true, eq-eqb, ne_eqb, and_parts, and_from, or_right, or_cases, false_from_ne_true, not-true}
 use Rattle.hist_model.specs.Look.{is_place}
-use Rattle.hist_model.specs.Calls.{notifies, caller, id, is_call, unlists, listed, fetches, fetched, named, answers, puts_to, installs_for, rest_of, queue, some_sends, has_send, settles, settled, calls, receives, recvs}
+use Rattle.hist_model.specs.Kinds.{notifies, has_send, receives}
+use Rattle.hist_model.specs.Calls.{caller, id, is_call, unlists, listed, fetches, fetched, named, answers, puts_to, installs_for, rest_of, queue, some_sends, settles, settled, calls, recvs}
 use Rattle.hist_model.specs.Steps.{reply, back_of}
 use Rattle.hist_model.specs.declared.event.Event.{Event}
 use Rattle.hist_model.specs.declared.event.What.{What}

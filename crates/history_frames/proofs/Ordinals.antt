@@ -1,9 +1,11 @@
--- Ordinals and places.
+-- Ordinals and places: what is made keeps its ordinal, each place has one, and they rise together.
+-- By induction on the events, and by whether the newest one makes something.
 use Rattle.std.proofs.Common.{◌≡◌, ◌⊎◌, inl, inr, ℕ, ◌+◌, ◌<◌, ◌≤◌, Bool, true, false, ◌&&◌, List, [], ◌∷◌, length, Some, None, refl, sym, ap, ◌∙◌, arith}
 use Rattle.std.specs.Prelude.{◌==◌}
 use Rattle.std.proofs.lemmas.Bool.{cases_Bool, cases_order, eqb-true, eq-eqb, ne_eqb, and_parts}
 use Rattle.hist_model.specs.Look.{event_at}
-use Rattle.hist_model.specs.Tasks.{makes, name_of, pid_of}
+use Rattle.hist_model.specs.Kinds.{makes}
+use Rattle.hist_model.specs.Tasks.{name_of, pid_of}
 use Rattle.hist_model.specs.Steps.{makes_in}
 use Rattle.hist_model.specs.declared.event.Event.{Event}
 use Rattle.hist_model.proofs.Look.{event_at-here, event_at-older, event_at-above, below_or_last}

@@ -1,9 +1,11 @@
 -- Requests for descriptors after an event: whose they are, for which call they were put, and what their installation answered.
+-- By induction on the events: an event puts a request, installs one, or leaves the queue as it is.
 use Rattle.std.proofs.Common.{◌≡◌, ◌⊎◌, inl, inr, ℕ, ◌<◌, ◌≤◌, true, false, ◌&&◌, List, [], ◌∷◌, ◌++◌, length, Option, Some, None, refl, sym, ◌∙◌, arith}
 use Rattle.std.specs.Prelude.{Ok}
 use Rattle.std.proofs.lemmas.Bool.{cases_Bool, cases_order, eq-eqb, eqb-true, ne_eqb}
 use Rattle.hist_model.specs.Look.{event_at, is_worker}
-use Rattle.hist_model.specs.Calls.{listed, id, is_call, queue, puts_to, installs_for, is_install, rest_of}
+use Rattle.hist_model.specs.Kinds.{is_install}
+use Rattle.hist_model.specs.Calls.{listed, id, is_call, queue, puts_to, installs_for, rest_of}
 use Rattle.hist_model.specs.Steps.{request_of, request_after, call_at, asked_call, install_of, installs_request, installed, is_first}
 use Rattle.hist_model.specs.Files.{asked_in, asked_by}
 use Rattle.hist_model.specs.declared.event.Event.{Event}
@@ -16,7 +18,7 @@ use Rattle.history_frames.proofs.Listed.{listed-below, is_call-below, listed-is_
 
 -- ---- whose a request is
 
-worker-is : (a : Actor) (w : ℕ) → is_worker a w ≡ true → a ≡ Worker w
+pub worker-is : (a : Actor) (w : ℕ) → is_worker a w ≡ true → a ≡ Worker w
 worker-is (Worker v) w h = let q : v ≡ w = eqb-true v w h in cc
 worker-is a w h = cc
 

@@ -1,8 +1,8 @@
 -- Ordinals: what was made after n others of its kind has the ordinal n. Tables know by it what events know by a place or a name.
 use Rattle.std.specs.Prelude.{ℕ, ◌+◌, ◌==◌, ◌&&◌, Bool, not, if◌then◌else◌, List, [], ◌∷◌, length, Option, Some, None}
 use Rattle.hist_model.specs.Look.{Name}
-use Rattle.hist_model.specs.Tasks.{makes, name_of}
-use Rattle.hist_model.specs.Steps.{shares_now}
+use Rattle.hist_model.specs.Kinds.{makes, shares_now}
+use Rattle.hist_model.specs.Tasks.{name_of}
 use Rattle.hist_model.specs.declared.event.Event.{Event}
 use Rattle.hist_model.specs.declared.event.What.{What}
 

@@ -2,7 +2,8 @@
 use Rattle.std.proofs.Common.{◌≡◌, inl, inr, ℕ, zero, suc, ◌+◌, ◌-◌, ◌<◌, Bool, true, false, ◌||◌, List, [], ◌∷◌, ◌++◌, length, Some, None, refl, sym, ap, ◌∙◌, arith, length-append}
 use Rattle.std.specs.Prelude.{if◌then◌else◌, ◌==◌}
 use Rattle.std.proofs.lemmas.Bool.{cases_Bool, ne_eqb}
-use Rattle.hist_model.specs.Calls.{queue, puts_to, installs_for, rest_of, some_sends, first_sends, is_send, has_send}
+use Rattle.hist_model.specs.Kinds.{has_send}
+use Rattle.hist_model.specs.Calls.{queue, puts_to, installs_for, rest_of, some_sends, first_sends, is_send}
 use Rattle.hist_model.specs.Steps.{is_first, is_empty}
 use Rattle.hist_model.specs.Look.{is_place}
 use Rattle.hist_model.proofs.Look.{event_at-here, event_at-older}

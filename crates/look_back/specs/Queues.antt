@@ -1,6 +1,7 @@
 -- The requests of a call that have no installation yet: they are its last ones.
 use Rattle.std.specs.Prelude.{ℕ, ◌-◌, Bool, false, ◌||◌, if◌then◌else◌, ◌==◌, List, [], ◌∷◌, ◌++◌, length, Option, Some, None}
-use Rattle.hist_model.specs.Calls.{puts_to, has_send}
+use Rattle.hist_model.specs.Kinds.{has_send}
+use Rattle.hist_model.specs.Calls.{puts_to}
 use Rattle.hist_model.specs.declared.event.Event.{Event}
 
 abbrev pub first_of : List ℕ → Option ℕ

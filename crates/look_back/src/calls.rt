@@ -2,10 +2,10 @@
 
 ghost use Rattle.std.specs.Prelude.{◌≡◌, ℕ, Bool, List, Option, Result, Some, None, ◌+◌, ◌-◌, ◌<◌, ◌≤◌, ◌==◌, ◌^◌, ◌&&◌, ◌||◌, not, reverse, length, if◌then◌else◌};
 ghost use Rattle.hist_model.specs.Look.{name_eq, is_task, task_name, oldest, newest, event_at, is_place};
-ghost use Rattle.hist_model.specs.Calls.{notifies, notify_id, leaves, closes, unlists, listed, caller, id, is_call, fetches, fetched, named, answers, puts_to, is_install, gave, installs_for, queue, has_send_flag, has_send, is_send, first_sends, some_sends, settles, settled, answered, waiting, calls, receives, recvs, count};
+ghost use Rattle.hist_model.specs.Kinds.{notifies, leaves, closes, is_install, gave, has_send_flag, has_send, receives, owes, skips};
+ghost use Rattle.hist_model.specs.Calls.{notify_id, unlists, listed, caller, id, is_call, fetches, fetched, named, answers, puts_to, installs_for, queue, is_send, first_sends, some_sends, settles, settled, answered, waiting, calls, recvs, count};
 ghost use Rattle.hist_model.specs.Signals.{call_of};
-ghost use Rattle.hist_model.specs.Steps.{back_of, reply, owes, owes_native, oldest_unfetched, asked_call, call_at, installed, installs_request, install_of, is_first, is_empty};
-ghost use Rattle.hist_model.specs.Sessions.{skips};
+ghost use Rattle.hist_model.specs.Steps.{back_of, reply, owes_native, oldest_unfetched, asked_call, call_at, installed, installs_request, install_of, is_first, is_empty};
 ghost use Rattle.look_back.specs.Queues.{first_of, nth_put, last_puts_send};
 
 use crate::tasks::{is_task, same_name, task_name};

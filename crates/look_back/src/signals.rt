@@ -8,18 +8,7 @@ ghost use Rattle.hist_model.specs.Tasks.{mode};
 use crate::calls::{call_of, fetched};
 use crate::tasks::{mode, pending};
 use hist_model::event::{Delivered, Event, Mode};
-
-/// The signal that no handler can catch.
-pub const SIGKILL: u8 = 9;
-
-/// The first signal for a program's own use.
-pub const SIGUSR1: u8 = 10;
-
-/// The second signal for a program's own use.
-pub const SIGUSR2: u8 = 12;
-
-/// The signal that asks a program to end.
-pub const SIGTERM: u8 = 15;
+use sys_abi::signals::{SIGKILL, SIGTERM, SIGUSR1, SIGUSR2};
 
 /// The call at this place, if there is one, was fetched.
 pub fn is_fetched_call(events: &[Event], call: Option<usize>) -> bool

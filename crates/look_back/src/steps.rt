@@ -5,11 +5,13 @@ ghost use Rattle.hist_model.specs.Look.{is_task, is_worker, event_at};
 ghost use Rattle.hist_model.specs.Tasks.{holder, next_pid};
 ghost use Rattle.hist_model.specs.Calls.{is_call, named};
 ghost use Rattle.hist_model.specs.Steps.{counts, recounts, steps_of, is_spawn, next_child, signalled, spawn_answer, found, oldest_unfetched, notif, recv_answer, lives, check_answer, send_answer, call_after, session_call, opened, mem_after, mem, base_after, base, put_answer, request_after, request_of, call_listed, install_at, request_listed, take_step, is_cap_of, spends, times_spent, is_spent};
-ghost use Rattle.hist_model.specs.Memory.{enters, last_call, group_named};
+ghost use Rattle.hist_model.specs.Kinds.{enters};
+ghost use Rattle.hist_model.specs.Memory.{last_call, group_named};
 ghost use Rattle.hist_model.specs.Systems.{System};
 ghost use Rattle.hist_model.specs.declared.event.What.TheVariants.{Skip};
 ghost use Rattle.look_back.specs.Tallies.{tally};
 ghost use Rattle.look_back.specs.Outcomes.{taken_step};
+ghost use Rattle.sys_abi.specs.Errnos.{esrch};
 
 use crate::calls::{
     call_at, has_send_flag, id_at, install_of, listed, named, oldest_unfetched, queue_is_empty,
@@ -430,7 +432,7 @@ pub fn lives(events: &[Event], pid: u32) -> bool
 
 /// The answer of opening the memory of the task that holds a number: ESRCH where no living task holds it.
 pub fn open_answer(events: &[Event], pid: u32) -> Result<(), Errno>
-    ensures { result ≡ (if lives (reverse events.now) (holder (reverse events.now) pid) then Ok tt else Err 3) }
+    ensures { result ≡ (if lives (reverse events.now) (holder (reverse events.now) pid) then Ok tt else Err esrch) }
 {
     if lives(events, pid) {
         Ok(())

@@ -2,9 +2,10 @@
 
 ghost use Rattle.std.specs.Prelude.{◌≡◌, ℕ, Some, None, ◌==◌, ◌+◌, ◌-◌, ◌<◌, ◌^◌, ◌&&◌, ◌||◌, not, [], ◌∷◌, ◌++◌, reverse, length, if◌then◌else◌};
 ghost use Rattle.hist_model.specs.Look.{name_eq, is_task, task_name, oldest, event_at};
-ghost use Rattle.hist_model.specs.Tasks.{ends, ended, reaps, was_waited_for, parent, has_parent, reaped, child_of, given, name_of, holds, holder, free_from, last_pid, next_pid, or_number, makes, is_made, alive, handles, mode, sends_signal, is_named, delivers, pending};
+ghost use Rattle.hist_model.specs.Kinds.{ends, makes, shares_now};
+ghost use Rattle.hist_model.specs.Tasks.{ended, reaps, was_waited_for, parent, has_parent, reaped, child_of, given, name_of, holds, holder, free_from, last_pid, next_pid, or_number, is_made, alive, handles, mode, sends_signal, is_named, delivers, pending};
 ghost use Rattle.look_back.specs.Outcomes.{waited, reap_step};
-ghost use Rattle.hist_model.specs.Steps.{task_place, pid_at, pid_named, group, opened, is_child, is_ended_child, names_child, names_ended_child, shares_now, makes_in, place_or, wait_step};
+ghost use Rattle.hist_model.specs.Steps.{task_place, pid_at, pid_named, group, opened, is_child, is_ended_child, names_child, names_ended_child, makes_in, place_or, wait_step};
 
 use hist_model::event::{Actor, Delivered, Entered, Event, Mode, SpawnKind, What};
 use hist_model::history::NO_PLACE;

@@ -1,10 +1,12 @@
 -- The audit of a session that answered names the rule that decided.
+-- By induction on the events since its receive, along which the audit's own steps of the session are those of the worker.
 use Rattle.mediation.proofs.Common.{[], and_parts, answers, any_of, ap, append-nil, arith, AuditNames, Back, before, below_or_last, Bool, cases_Bool, checked_twice, Complete, copied, decision}
 use Rattle.mediation.proofs.Common.{eq-eqb, ev, Event, event_at, event_at-below, event_at-here, event_at-older, false, Figures, finding, finding_of, fits_piece, gives_up, heard, if◌then◌else◌, inl}
 use Rattle.mediation.proofs.Common.{inr, is_acting, is_gone, is_good_check, is_letgo, is_worker, IsLegal, judged_as, judging_by, length, LetGo, List, list_any, mem, ne_eqb, not, not-true, Notif}
 use Rattle.mediation.proofs.Common.{notif_of, number_of, Ok, Option, plan, Policy, progress, Read, read_answer, read_answers, reads, reads_of, Recv, refl, request, Result, reverse, reverse-append}
 use Rattle.mediation.proofs.Common.{Rules, rules_of, Script, Send, session, session_call, session_step, skips, Some, starts, sym, System, system_of, true, wanted, What, with_heard, Worker, ℕ, ◌&&◌}
 use Rattle.mediation.proofs.Common.{Finds, None, Progress, ◌++◌, ◌<◌, ◌^◌, ◌∙◌, ◌∷◌, ◌≡◌, ◌≤◌}
+use Rattle.history_frames.proofs.Queued.{worker-is}
 use Rattle.hist_model.proofs.MappedBytes.{bytes_fit}
 use Rattle.hist_model.proofs.Pieces.{piece_wanted, wanted_some}
 use Rattle.hist_model.specs.Copies.{Wants, Faulty}
@@ -18,9 +20,10 @@ use Rattle.hist_model.specs.declared.request.Request.{Request}
 use Rattle.mediation.proofs.Rows.{AtWork, WorkerRow, Row, by-few-steps}
 use Rattle.mediation.proofs.Tasks.{event_at-last}
 use Rattle.mediation.proofs.Calls.{before-older, before-newest, length-before, legal_before}
-use Rattle.mediation.proofs.Hands.{worker-row, worker-is, still, session-grows, works-keep, in-hand, hand, FetchKept, WorkKept, StillKept, by-session}
+use Rattle.mediation.proofs.Hands.{worker-row, still, session-grows, works-keep, in-hand, hand, FetchKept, WorkKept, StillKept, by-session}
 use Rattle.mediation.proofs.Order.{Follows, IsOwn, by-joins, is-own, by-own, spent-fixed, used-two, ordered}
-use Rattle.hist_model.specs.ReportAudit.{joined as extended, is_shut, is_spent, read_in}
+use Rattle.hist_model.specs.Kinds.{is_spent}
+use Rattle.hist_model.specs.ReportAudit.{joined as extended, is_shut, read_in}
 use Rattle.hist_model.specs.Orders.{InOrder}
 
 -- ---- what a session reads answers the piece that was wanted, so all of it is heard

@@ -1,11 +1,13 @@
 -- Calls: their ids, the request count, one answer for each, and the events before a place.
+-- By induction on a legal history, with the row of its newest step.
 use Rattle.mediation.proofs.Common.{[], Actor, AnsweredOnce, answers_to, arith, before, below_or_last, Bool, caller, CallIdsDiffer, calls, count, count_below, CountIs, Each, empty_recvs, eq-eqb, ev}
 use Rattle.mediation.proofs.Common.{Event, event_at, event_at-above, event_at-here, event_at-older, false, fetched, fetches, id, IdsDiffer, if◌then◌else◌, inl, inr, is_call, is_install, is_task}
 use Rattle.mediation.proofs.Common.{IsLegal, le-leb, left_unfetched, length, List, listed, lt-leb, None, not, Notif, notif, notifies, notify_id, Ok, oldest, oldest-some, oldest_unfetched, Option}
 use Rattle.mediation.proofs.Common.{ReceivesFor, Recv, recv_answer, recvs, refl, Rules, settled, settles, Some, suc, sym, System, true, What, zero, ℕ, ◌%◌, ◌&&◌, ◌+◌, ◌<◌, ◌^◌, ◌||◌, ◌∙◌, ◌∷◌, ◌≡◌}
 use Rattle.mediation.proofs.Common.{◌≤◌}
+use Rattle.history_frames.proofs.Listed.{listed-below, listed-older, is_call-below, listed-is_call, fetched-new}
 use Rattle.mediation.proofs.Rows.{Row, by-steps, by-few-steps}
-use Rattle.mediation.proofs.Tasks.{same-name, event_at-last, listed-below, listed-older, waits-here}
+use Rattle.mediation.proofs.Tasks.{same-name, event_at-last, waits-here}
 
 -- ---- two calls have different ids
 
@@ -17,14 +19,6 @@ calls-le-length : (K : List Event) → calls K ≤ length K
 unfolding calls
 calls-le-length [] = omega arith
 calls-le-length (e ∷ K) = let ih = calls-le-length K in grind arith
-
-pub listed-is_call : (K : List Event) (c : ℕ) → listed K c ≡ true → is_call K c ≡ true
-unfolding listed event_at
-listed-is_call [] c h = cc
-listed-is_call (e ∷ K) c h = let ih = listed-is_call K c in grind arith
-
-pub is_call-below : (K : List Event) (c : ℕ) → is_call K c ≡ true → c < length K
-is_call-below K c h = grind (arith, event_at-above K c)
 
 new-id : (S : System) (R : Rules) (K : List Event) (a : Actor) (w : What) → Row S R K a w → notifies w ≡ true → notify_id w ≡ (S.firstid + calls K) % 2 ^ 64
 new-id S R K a w r h = grind arith
@@ -109,15 +103,6 @@ count_below-none p (suc n) h = let ih = count_below-none p n in grind arith
 
 abbrev unfetched : List Event → ℕ → Bool
 unfetched K c = is_call K c && not (fetched K c)
-
-pub fetched-below : (K : List Event) (c : ℕ) → fetched K c ≡ true → c < length K
-unfolding fetched
-fetched-below [] c h = cc
-fetched-below (e ∷ K) c h = let ih = fetched-below K c in grind (arith, listed-below)
-
-pub fetched-new : (e : Event) (K : List Event) → fetched (e ∷ K) (length K) ≡ false
-unfolding fetched
-fetched-new e K = grind (arith, fetched-below, listed-below)
 
 -- the calls that are not fetched, below the newest event
 unfetched-step : (e : Event) (K : List Event) → count_below (unfetched (e ∷ K)) (length (e ∷ K)) ≡ count_below (unfetched (e ∷ K)) (length K) + (if notifies e.what then 1 else 0)

@@ -3,11 +3,12 @@
 use Rattle.mediation.proofs.Common.{[], Actor, any_of, arith, Back, cases_Bool, Cause, Deed, denied, done, Each, EndsForReason, ends_work, Err, Event, false, faulty, first_some, gives_up, has_ended, HasCause, inl, inr}
 use Rattle.mediation.proofs.Common.{is_known_error, is_letgo, is_open_session, IsLegal, joined, judged_deed, length, LetGo, List, not_put, not_taken, Notif, passed, put_in, reads_of}
 use Rattle.mediation.proofs.Common.{Recv, Result, Rules, Send, session, session_call, Some, starts, sym, System, take_in, true, What, ℕ, ◌<◌, ◌==◌, ◌^◌, ◌||◌, ◌∙◌, ◌∷◌, ◌≡◌}
-use Rattle.hist_model.specs.Calls.{receives}
+use Rattle.hist_model.specs.Kinds.{receives}
 use Rattle.mediation.proofs.Rows.{WorkerRow, Row, by-few-steps, each}
 use Rattle.mediation.proofs.Hands.{in-hand, hand}
 use Rattle.mediation.proofs.Order.{is-own, used-two, ordered, gave-up-last, begun}
 use Rattle.mediation.proofs.Replies.{error-known}
+use Rattle.sys_abi.specs.Errnos.{ebadf, emfile}
 
 -- ---- the errors that a session met
 
@@ -34,11 +35,11 @@ module _ (S : System) (R : Rules) where
   -- ---- answers
 
   -- a put that failed, in a session that goes on, found that the broker has no such file; and a take found no number
-  put-known : (own : List What) (e : ℕ) → AllKnown own → any_of gives_up own ≡ false → first_some put_in own ≡ Some (Err e) → e ≡ 9
+  put-known : (own : List What) (e : ℕ) → AllKnown own → any_of gives_up own ≡ false → first_some put_in own ≡ Some (Err e) → e ≡ ebadf
   put-known [] e k g h = cc
   put-known (a ∷ own) e k g h = let ih = put-known own e k.1 in grind arith
 
-  take-known : (own : List What) (t : Result ℕ ℕ) → AllKnown own → any_of gives_up own ≡ false → first_some take_in own ≡ Some t → (e : ℕ) × (t ≡ Err e) × (((e == 9) || (e == 24)) ≡ true)
+  take-known : (own : List What) (t : Result ℕ ℕ) → AllKnown own → any_of gives_up own ≡ false → first_some take_in own ≡ Some t → (e : ℕ) × (t ≡ Err e) × (((e == ebadf) || (e == emfile)) ≡ true)
   take-known [] t k g h = cc
   take-known (a ∷ own) t k g h = let ih = take-known own t k.1 in grind arith
 

@@ -9,7 +9,8 @@ pub use Rattle.std.specs.Prelude.{bytes_eq, codes, Err, filter, if◌then◌else
 pub use Rattle.sys_abi.specs.declared.wire.Addfd.{Addfd}
 pub use Rattle.sys_abi.specs.declared.wire.Notif.{Notif}
 unfoldable pub use Rattle.hist_model.specs.Calls.{calls, fetched, listed, named, queue, recvs, settled}
-pub use Rattle.hist_model.specs.Calls.{answered, answers, caller, closes, count, fetches, first_sends, gave, has_send, id, installs_for, is_call, is_install, is_send, leaves, notifies, notify_id}
+pub use Rattle.hist_model.specs.Kinds.{closes, gave, has_send, is_install, leaves, notifies, is_passive, ends_work, is_accepted, is_busy, is_effect, is_known_error, is_lost, returns, is_good_check, is_opening, is_gone, checks, gives_up, is_letgo, opens, opens_base, skips, starts, ends, makes}
+pub use Rattle.hist_model.specs.Calls.{answered, answers, caller, count, fetches, first_sends, id, installs_for, is_call, is_send, notify_id}
 pub use Rattle.hist_model.specs.Calls.{puts_to, settles, some_sends, unlists, waiting}
 pub use Rattle.hist_model.specs.Causes.{Cause, denied, done, faulty, is_acting, not_put, not_taken, passed}
 unfoldable pub use Rattle.hist_model.specs.Copies.{copy_of, heard, progress}
@@ -17,22 +18,22 @@ pub use Rattle.hist_model.specs.Copies.{Complete, fits_piece, plan, Progress, wa
 unfoldable pub use Rattle.hist_model.specs.Files.{files}
 pub use Rattle.hist_model.specs.Files.{after_native, files_after}
 unfoldable pub use Rattle.hist_model.specs.Laws.{answers_to, count_below, empty_recvs, fetcher, last_own}
-pub use Rattle.hist_model.specs.Laws.{AnsweredOnce, CallsAreLast, CountIs, IdsDiffer, is_passive, PidsDiffer, worker_of}
+pub use Rattle.hist_model.specs.Laws.{AnsweredOnce, CallsAreLast, CountIs, IdsDiffer, PidsDiffer, worker_of}
 pub use Rattle.hist_model.specs.Legal.{copied, decision, Finished, is_open_session, judged, outcome, played, read_answers, rules_of, started, system_of, with_step}
 unfoldable pub use Rattle.hist_model.specs.Look.{before, event_at, newest, oldest}
 pub use Rattle.hist_model.specs.Look.{ev, is_place, is_task, is_worker, Name, name_eq, task_name}
-pub use Rattle.hist_model.specs.Mediated.{ActIsGranted, ActsAlone, Arrives, AuditNames, BaseIs, Each, ends_with_check, ends_work, EndsForReason, ErrorsKnown, Finds, has_ended, HasCause, HasMemory, InstallsThere, is_accepted}
-pub use Rattle.hist_model.specs.Mediated.{is_busy, is_effect, is_known_error, is_lost, is_others_row, is_until_checked, IsCaused, IsMediated, KeepsOrder, KeepsPrivileged, left_unfetched, LostIfGone, Mediated, NamesOwn}
-pub use Rattle.hist_model.specs.Mediated.{NeverBusy, OneSession, PlantIsGranted, PutIsInjected, ReadsOwn, ReceivesFor, returns, RunsNatively, slot_next, SpentExactly, TakenByItsActor, takes, TimesKept, WaitedUntilChecked}
+pub use Rattle.hist_model.specs.Mediated.{ActIsGranted, ActsAlone, Arrives, AuditNames, BaseIs, Each, ends_with_check, EndsForReason, ErrorsKnown, Finds, has_ended, HasCause, HasMemory, InstallsThere}
+pub use Rattle.hist_model.specs.Mediated.{is_others_row, is_until_checked, IsCaused, IsMediated, KeepsOrder, KeepsPrivileged, left_unfetched, LostIfGone, Mediated, NamesOwn}
+pub use Rattle.hist_model.specs.Mediated.{NeverBusy, OneSession, PlantIsGranted, PutIsInjected, ReadsOwn, ReceivesFor, RunsNatively, slot_next, SpentExactly, TakenByItsActor, takes, TimesKept, WaitedUntilChecked}
 pub use Rattle.hist_model.specs.Mediated.{WithoutRights}
 pub use Rattle.hist_model.specs.Natives.{base_of, call_natively, changed, Changes, close_natively, copied_natively, Fails, Files, Gives, has_base, native_step, NativeStep, Writes}
-pub use Rattle.hist_model.specs.Orders.{InOrder, is_good_check, is_opening}
-pub use Rattle.hist_model.specs.ReportAudit.{checked_twice, finding, finding_of, is_gone, judged_as, judging_by, reads, session_step}
+pub use Rattle.hist_model.specs.Orders.{InOrder}
+pub use Rattle.hist_model.specs.ReportAudit.{checked_twice, finding, finding_of, judged_as, judging_by, reads, session_step}
 unfoldable pub use Rattle.hist_model.specs.Requests.{base_dirfd, request}
 pub use Rattle.hist_model.specs.Deeds.{Deed}
 unfoldable pub use Rattle.hist_model.specs.Sessions.{deed, session}
-pub use Rattle.hist_model.specs.Sessions.{Acts, addfd_of, any_of, based_deed, checked_deed, checks, Decision, fetched_by, first_some, gives_up, Injects, is_letgo, joined, judged_deed, notif_of}
-pub use Rattle.hist_model.specs.Sessions.{number_of, open_deed, opens, opens_base, outcome_in, Plants, put_in, reads_of, Rules, skips, starts, take_in}
+pub use Rattle.hist_model.specs.Sessions.{Acts, addfd_of, any_of, based_deed, checked_deed, Decision, fetched_by, first_some, Injects, joined, judged_deed, notif_of}
+pub use Rattle.hist_model.specs.Sessions.{number_of, open_deed, outcome_in, Plants, put_in, reads_of, Rules, take_in}
 unfoldable pub use Rattle.hist_model.specs.Signals.{call_of, next_signal}
 unfoldable pub use Rattle.hist_model.specs.Steps.{base, call_at, group, install_of, mem, oldest_unfetched, owes_native, reply, request_of, session_call, step, steps_of, task_place, task_step}
 unfoldable pub use Rattle.hist_model.specs.Steps.{times_spent, worker_step}
@@ -42,7 +43,7 @@ pub use Rattle.hist_model.specs.Steps.{opened, pid_at, pid_named, pid_or, place_
 pub use Rattle.hist_model.specs.Steps.{spends, start, take_step, wait_step, with_id}
 pub use Rattle.hist_model.specs.Systems.{System}
 unfoldable pub use Rattle.hist_model.specs.Tasks.{ended, free_from, holder, is_made, last_pid, mode, next_pid, pending, reaped, was_waited_for}
-pub use Rattle.hist_model.specs.Tasks.{alive, child_of, ends, given, given_in, holds, makes, name_of, pid_of, reaps}
+pub use Rattle.hist_model.specs.Tasks.{alive, child_of, given, given_in, holds, name_of, pid_of, reaps}
 pub use Rattle.hist_model.specs.declared.event.Actor.{Actor}
 pub use Rattle.hist_model.specs.declared.event.Actor.TheVariants.{Listener, Start, Task, Worker}
 pub use Rattle.hist_model.specs.declared.event.Back.{Back}

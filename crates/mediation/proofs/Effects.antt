@@ -1,4 +1,5 @@
 -- Each effect is what the policy grants on the one copy of its session, whose call waited up to the second good check.
+-- By induction on the steps since the call was fetched, with the order of the session and the row of each step.
 use Rattle.mediation.proofs.Common.{[], Act, ActIsGranted, Actor, Acts, ActsAlone, AddfdPut, after_native, and_parts, any_of, ap, arith, base_dirfd, before, below_or_last, Bool, both_ways, bytes_eq}
 use Rattle.mediation.proofs.Common.{call_natively, cases_Bool, changed, Changes, Check, checks, close_natively, codes, copied, copied_natively, copy_of, Decision, Each, ends_with_check, entered}
 use Rattle.mediation.proofs.Common.{eqb-true, Err, ev, Event, Fails, false, fetched, Figures, files, Files, files_after, filter, first_some, Gives, gives_up, has_base, if◌then◌else◌}
@@ -7,6 +8,7 @@ use Rattle.mediation.proofs.Common.{listed, Name, name_eq-true, nat_eq, nat_le, 
 use Rattle.mediation.proofs.Common.{place_or, plan, Plant, PlantIsGranted, Plants, Policy, Progress, put_in, PutIsInjected, Read, reads_of, ReadsOwn, Recv, refl, Result, Rules, rules_of, Script}
 use Rattle.mediation.proofs.Common.{session, session_call, Some, spends, starts_with, suc, sym, System, system_of, task_name, times_spent, TimesKept, true, WaitedUntilChecked, waiting, What, Worker}
 use Rattle.mediation.proofs.Common.{Writes, call_of, caller, FailsAlone, Install, install_step, InstallsAlone, InstallsThere, Native, queue, slot_answer, slot_next, Task, WithoutRights, ℕ, ◌%◌, ◌<◌, ◌==◌, ◌^◌, ◌∙◌, ◌∷◌, ◌≡◌, ◌≤◌, ◌⊎◌}
+use Rattle.history_frames.proofs.Listed.{listed-older, is_call-below}
 use Rattle.hist_model.specs.Decisions.{cap_of}
 use Rattle.hist_model.specs.Effects.{attributed}
 use Rattle.hist_model.specs.Memory.{all_mapped, argument, group_named, is_number, last_call, mapped_byte, own_group, sysinfo_size}
@@ -16,12 +18,14 @@ use Rattle.hist_model.specs.declared.policy.Cap.{Cap}
 use Rattle.hist_model.specs.declared.request.Obj.{Obj}
 use Rattle.hist_model.specs.declared.tree.AttrRow.{AttrRow}
 use Rattle.mediation.proofs.Rows.{AtWork, HasOpened, HasCopied, TaskRow, WorkerRow, Row, row-of, by-steps, each}
-use Rattle.mediation.proofs.Tasks.{listed-older, listed-was, waits-in-call}
-use Rattle.mediation.proofs.Calls.{is_call-below, fetching, before-all, before-older, length-before, legal_before, fetched-before}
+use Rattle.mediation.proofs.Tasks.{listed-was, waits-in-call}
+use Rattle.mediation.proofs.Calls.{fetching, before-all, before-older, length-before, legal_before, fetched-before}
 use Rattle.mediation.proofs.Hands.{worker-row, moved, session-grows, InSession, works, at-work, works-keep, in-hand, hand, in-hand-of, FetchKept, WorkKept, StillKept, by-session}
 use Rattle.mediation.proofs.Order.{is-own, put-fixed, goods, used-two, ordered}
 use Rattle.mediation.proofs.Handles.{check-listed, own-memory, base-is}
 use Rattle.mediation.proofs.Phases.{fetcher-fetched, hand-fetcher, waits-now}
+use Rattle.sys_abi.specs.Errnos.{edquot, efault, enosys}
+use Rattle.sys_abi.specs.Calls.{nr_sysinfo}
 
 -- ---- a session's call waits up to the second good check
 
@@ -129,7 +133,7 @@ judged-cap P F n p k h = grind arith
 
 -- an effect that was done had times left
 cap-left : (P : Policy) (K : List Event) (k cap : Cap) (i : ℕ) (u : Unit {0}) (other : Result (Unit {0}) ℕ) → (k.rule == i) ≡ true → cap_of P.rules k.rule ≡ Some k → cap_of P.rules i ≡ Some cap
-    → ◌≡◌ {A = Result (Unit {0}) ℕ} (Ok u) (if is_spent K (Some k) then Err 122 else other) → times_spent K i < cap.times
+    → ◌≡◌ {A = Result (Unit {0}) ℕ} (Ok u) (if is_spent K (Some k) then Err edquot else other) → times_spent K i < cap.times
 cap-left P K k cap i u other h z c r = let m = eqb-true k.rule i h in let q : k ≡ cap = cc (rw m at z, c) in let y : times_spent K k.rule < k.times = grind arith in rw (← m, ← q) y
 
 spends-left : (P : Policy) (S : Script) (K : List Event) (a : Actor) (what : What) (i : ℕ) (cap : Cap) → Row (system_of S) (rules_of P S.figures) K a what → spends what i ≡ true
@@ -244,8 +248,8 @@ call-keeps S K F n g call =
     let low = argument call 0 % 2 ^ 32 in
     either F.tree (is_number nr 3) _ _ (close-keeps F.tree low (F.slot g low)) (
     either F.tree (is_number nr 39) (Gives (pid_named K n)) _ tt (
-    either F.tree (is_number nr 99) _ _ (either F.tree (all_mapped S.map (argument call 0) sysinfo_size) Writes (Fails 14) tt tt) (
-    either F.tree (has_base (base_dirfd nr (entered call))) _ (Fails 38) (copied-keeps S F g call (copy_of (mapped_byte S K g) (plan nr (entered call)))) tt)))
+    either F.tree (is_number nr nr_sysinfo) _ _ (either F.tree (all_mapped S.map (argument call 0) sysinfo_size) Writes (Fails efault) tt tt) (
+    either F.tree (has_base (base_dirfd nr (entered call))) _ (Fails enosys) (copied-keeps S F g call (copy_of (mapped_byte S K g) (plan nr (entered call)))) tt)))
 
 native-keeps : (F : Files) (g : ℕ) (s : NativeStep) → Keeping F.tree s → KeepsPrivileged F.tree (after_native F g s).tree
 native-keeps F g s h = grind arith

@@ -1,8 +1,9 @@
--- The frame law.
+-- The frame law: a step of a kind that a definition doesn't look at leaves what it says.
+-- By the one event that each definition looks at first.
 use Rattle.mediation.proofs.Common.{[], answered, arith, base, Bool, calls, changes_answered, changes_list, changes_tasks, ended, eq-eqb, Event, event_at-here, event_at-older, false, fetched, Frame}
 use Rattle.mediation.proofs.Common.{free_from, given, holder, holds, inl, inr, last_pid, length, List, listed, Name, name_of, named, newest, next_pid, None, oldest, oldest-same, or_left, or_right}
 use Rattle.mediation.proofs.Common.{queue, reaped, recvs, refl, session, settled, some_sends, suc, true, was_waited_for, zero, ℕ, ◌+◌, ◌-◌, ◌<◌, ◌==◌, ◌∷◌, ◌≡◌}
-use Rattle.mediation.proofs.Tasks.{listed-below, listed-here}
+use Rattle.history_frames.proofs.Listed.{listed-below, listed-here}
 use Rattle.mediation.proofs.Replies.{has, queue-has}
 
 newest-same : (p q : ℕ → Bool) (n : ℕ) → ((c : ℕ) → c < n → p c ≡ q c) → newest p n ≡ newest q n

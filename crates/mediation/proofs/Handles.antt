@@ -1,13 +1,17 @@
 -- What a session has opened is its call's task's.
+-- By induction on the steps since the call was fetched, and since a listed call's task lives and waits in it.
 use Rattle.mediation.proofs.Common.{Actor, after_native, alive, and_parts, any_of, ap, arith, base, base_after, base_answer, base_of, BaseIs, before, Bool, caller, cases_Bool, Check, checks, eq-eqb}
 use Rattle.mediation.proofs.Common.{ev, Event, event_at, event_at-below, event_at-here, event_at-older, false, files, Files, gives_up, group, HasMemory, holder, inl, InOrder, inr, is_good_check}
 use Rattle.mediation.proofs.Common.{is_opening, is_worker, IsLegal, length, LetGo, List, listed, mem, mem_after, NativeStep, None, Notif, notif_of, Ok, OpenBase, opened, opens, Option}
 use Rattle.mediation.proofs.Common.{place_or, Recv, refl, Result, Rules, Script, session, session_call, Some, sym, System, system_of, task_place, true, waiting, What, Worker, ℕ, ℤ, ◌&&◌, ◌<◌, ◌^◌}
 use Rattle.mediation.proofs.Common.{◌∙◌, ◌∷◌, ◌≡◌, ◌⊎◌}
+use Rattle.history_frames.proofs.Groups.{group-kept, place-kept}
+use Rattle.history_frames.proofs.Listed.{is_call-below}
+use Rattle.history_frames.proofs.Queued.{worker-is}
 use Rattle.mediation.proofs.Rows.{WorkerRow, Row, by-steps}
-use Rattle.mediation.proofs.Tasks.{listed-was, calls_are_last, place-stays, place-is, group-older, living-holder}
-use Rattle.mediation.proofs.Calls.{is_call-below, before-older, before-newest}
-use Rattle.mediation.proofs.Hands.{worker-row, worker-is, still, moved, session-grows, InSession, Hand, works, idle-of, hand, in-hand-of, FetchKept, WorkKept, StillKept, by-session, named-own}
+use Rattle.mediation.proofs.Tasks.{listed-was, calls_are_last, place-is, living-holder}
+use Rattle.mediation.proofs.Calls.{before-older, before-newest}
+use Rattle.mediation.proofs.Hands.{worker-row, still, moved, session-grows, InSession, Hand, works, idle-of, hand, in-hand-of, FetchKept, WorkKept, StillKept, by-session, named-own}
 use Rattle.mediation.proofs.Order.{goods, any-number, in_order}
 
 -- ---- what a session has opened is its call's task's
@@ -34,8 +38,8 @@ later : (e : Event) (K : List Event) (w c t : ℕ) (i : InSession K w c) → tas
 later e K w c t i p =
     let l = is_call-below K c i.call in
     let q : task_place (e ∷ K) (caller K c) ≡ Some t = rw event_at-older at p in
-    let m : t ≡ i.t = cc (place-stays e K (caller K c) i.t i.task_is, q) in
-    (m, rw m (group-older e K i.t (place-is K (caller K c) i.t i.task_is).2))
+    let m : t ≡ i.t = cc (place-kept e K (caller K c) i.t i.task_is, q) in
+    (m, rw m (group-kept e K i.t (place-is K (caller K c) i.t i.task_is).2))
 
 -- while the call is listed, its number leads to its task
 pub opens-own : (S : System) (R : Rules) (K : List Event) (w c : ℕ) → IsLegal S R K → (i : InSession K w c) → listed K c ≡ true → (holder K i.n.pid ≡ Some i.t) × (alive K (caller K c) ≡ true)

@@ -1,21 +1,21 @@
 -- A worker's open session and the call that it has in hand.
+-- By induction on a legal history: a receive takes a call in hand, a let-go drops it, and each other step keeps it.
 use Rattle.mediation.proofs.Common.{[], Act, Actor, AddfdPut, AddfdTake, and_from, and_parts, any_of, ap, arith, base, base_after, Bool, call_after, caller, cases_Bool, Check, ended, eq-eqb, ev}
 use Rattle.mediation.proofs.Common.{Event, event_at, event_at-older, false, fetched, fetched_by, id, if◌then◌else◌, inl, inr, is_call, is_letgo, is_made, is_worker, IsLegal, length, List, listed}
 use Rattle.mediation.proofs.Common.{mem, mem_after, named, None, not, not-true, Notif, notif, notif_of, Ok, oldest-found, oldest-some, oldest_unfetched, OpenBase, OpenMem, Option, or_left, or_right}
 use Rattle.mediation.proofs.Common.{pid_at, pid_of, pid_or, Plant, Read, Recv, refl, Rules, Send, session, session_call, skips, Some, starts, sym, System, task_place, true, What, Worker, ℕ, ◌&&◌}
 use Rattle.mediation.proofs.Common.{◌<◌, ◌==◌, ◌^◌, ◌∙◌, ◌∷◌, ◌≡◌, ◌⊎◌}
+use Rattle.history_frames.proofs.Groups.{place-kept}
+use Rattle.history_frames.proofs.Listed.{listed-below, is_call-below, listed-is_call, named-listed}
 use Rattle.mediation.proofs.Rows.{AtWork, WorkerRow, Row, row-of, by-steps}
-use Rattle.mediation.proofs.Tasks.{listed-below, calls_are_last, place-stays, place-is, made-place, makes-pid}
-use Rattle.mediation.proofs.Calls.{listed-is_call, is_call-below, call_ids, fetching}
+use Rattle.mediation.proofs.Tasks.{calls_are_last, place-is, made-place, makes-pid}
+use Rattle.mediation.proofs.Calls.{call_ids, fetching}
 
 -- ---- a worker's open session, and its call
 
 -- the row of a worker's step
 pub worker-row : (S : System) (R : Rules) (K : List Event) (a : Actor) (what : What) (w : ℕ) → Row S R K a what → is_worker a w ≡ true → WorkerRow S R K w what
 worker-row S R K a what w r h = grind arith
-
-pub worker-is : (a : Actor) (w : ℕ) → is_worker a w ≡ true → a ≡ Worker w
-worker-is a w h = grind arith
 
 -- a step of another, or a skip, changes nothing of a worker's session
 pub still : (e : Event) (K : List Event) (w : ℕ) → (is_worker e.who w && not (skips e.what)) ≡ false
@@ -93,7 +93,7 @@ in-session-kept : (e : Event) (K : List Event) (w c : ℕ) (i : InSession K w c)
 in-session-kept e K w c i h g =
     let l = is_call-below K c i.call in
     let u : i.t < length K = (place-is K (caller K c) i.t i.task_is).2 in
-    let q = place-stays e K (caller K c) i.t i.task_is in
+    let q = place-kept e K (caller K c) i.t i.task_is in
     record {
       n = i.n;
       t = i.t;
@@ -140,7 +140,7 @@ module _ (S : System) (R : Rules) (K : List Event) (a : Actor) (w : ℕ) (legal 
       let q = place-is K (caller K d) m.0 m.1 in
       let u : m.0 < length K = q.2 in
       let v : d < length K = listed-below K d f.2 in
-      let p = place-stays e K (caller K d) m.0 m.1 in
+      let p = place-kept e K (caller K d) m.0 m.1 in
       let x : n.id ≡ id K d = ap (λ (x : Notif). x.id) f.1 in
       let pid : n.pid ≡ pid_or (pid_of K m.0) = ap (λ (x : Notif). x.pid) f.1 ∙ ap (pid_at K) m.1 in
       let s : session (e ∷ K) w ≡ Recv (Ok n) ∷ [] = session-begins e K w is_mine refl in
@@ -230,10 +230,6 @@ module _ (S : System) (R : Rules) (P : List Event → ℕ → ℕ → Type 0) (f
 
 -- ---- what a session names is its own call, or nothing once the call has left the list
 
-named-is : (K : List Event) (x d : ℕ) → named K x ≡ Some d → (listed K d ≡ true) × (id K d ≡ x)
-unfolding named
-named-is K x d q = grind (arith, oldest-some)
-
 named-some : (K : List Event) (c x : ℕ) → listed K c ≡ true → id K c ≡ x → (d : ℕ) × (named K x ≡ Some d)
 unfolding named
 named-some K c x l q = oldest-found (λ d. listed K d && (id K d == x)) (length K) c (listed-below K c l) (and_from (listed K c) (id K c == x) l (eq-eqb (id K c) x q))
@@ -244,6 +240,6 @@ named-own S R K w c legal room i = go (named K i.n.id) refl
     go : (o : Option ℕ) → named K i.n.id ≡ o → named K i.n.id ≡ (if listed K c then Some c else None)
     go None q = let f = named-some K c i.n.id in let d = i.id_is in elim (cases_Bool (listed K c)) [ inl l ↦ absurd (cc ((f l (sym d)).1, q)) | inr l ↦ rw l q ]
     go (Some d) q =
-        let s = named-is K i.n.id d q in
+        let s = named-listed K i.n.id d q in
         let m : d ≡ c = call_ids S R K legal room d c (listed-is_call K d s.0) i.call (s.1 ∙ i.id_is) in
         rw (rw m at s.0) (q ∙ ap Some m)

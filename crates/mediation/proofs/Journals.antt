@@ -1,4 +1,5 @@
 -- A legal history is fixed by its actors, and by the text of its journal; legality reads the same by places.
+-- By induction from the oldest event on: equal events so far and an equal actor make an equal event.
 use Rattle.mediation.proofs.Common.{[], Actor, actors, add-one, and_parts, ap, append_assoc, append_cancel_left, ap₂, arith, below_or_last, codes, eqb-true, Event, FixedByJournal, flat_map, get_or}
 use Rattle.mediation.proofs.Common.{inl, inr, is_actor, IsLegal, IsLegalByPlace, IsStep, leb-true, length, List, Listener, Name, nat_le, Policy, refl, reverse, reverse-append, Rules, Script, Start}
 use Rattle.mediation.proofs.Common.{suc, sym, System, take, take_more, Task, true, Worker, zero, ℕ, ◌%◌, ◌&&◌, ◌*◌, ◌++◌, ◌+◌, ◌<◌, ◌==◌, ◌^◌, ◌∙◌, ◌∷◌, ◌≡◌, ◌≤◌}

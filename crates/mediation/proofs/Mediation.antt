@@ -1,4 +1,5 @@
 -- Every legal history is mediated.
+-- Each clause by its own theorem in the files beside this one.
 use Rattle.mediation.proofs.Common.{Event, IsLegal, length, List, Mediated, Policy, rules_of, Script, system_of, ◌<◌, ◌^◌}
 use Rattle.mediation.proofs.Calls.{answered_once, receives-are-for}
 use Rattle.mediation.proofs.Order.{keeps_order}

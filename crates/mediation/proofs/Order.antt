@@ -1,10 +1,11 @@
 -- The steps of a session stand in order, and what it decided stays.
+-- By induction on the session's steps, each of which answers the deed that was due.
 use Rattle.mediation.proofs.Common.{[], and_parts, any_of, arith, Bool, cases_Bool, checks, Decision, Each, Event, false, first_some, gives_up, Injects, inl, InOrder, inr, is_acting}
 use Rattle.mediation.proofs.Common.{is_good_check, is_letgo, is_worker, IsLegal, joined, KeepsOrder, List, list_any, nat_le, None, not, not-true, Notif, notif_of, number_of, Ok, opens, opens_base, Option, put_in}
 use Rattle.mediation.proofs.Common.{reads_of, refl, Result, Rules, session, skips, Some, starts, System, take_in, true, What, ℕ, ◌&&◌, ◌<◌, ◌∷◌, ◌≡◌, ◌≤◌, ◌⊎◌}
 use Rattle.mediation.proofs.Rows.{AtWork, HasCopied, Told, WorkerRow, by-steps}
 use Rattle.mediation.proofs.Hands.{worker-row}
-use Rattle.hist_model.specs.ReportAudit.{is_spent}
+use Rattle.hist_model.specs.Kinds.{is_spent}
 
 -- ---- a session by itself: each of its steps is one that may follow those before it
 

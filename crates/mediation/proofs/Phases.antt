@@ -1,16 +1,20 @@
 -- How far a listed call is: not fetched, in hand, or answered.
+-- By induction on a legal history, through the worker that has the call in hand.
 use Rattle.mediation.proofs.Common.{[], Actor, Addfd, AddfdPut, AddfdTake, answers, any_of, arith, asked_call, below_or_last, Bool, both_ways, call_at, call_of, caller, cases_Bool, Check}
 use Rattle.mediation.proofs.Common.{eq-eqb, Err, ev, Event, event_at-here, event_at-older, false, false_from_ne_true, fetched, fetcher, fetches, first_some, gives_up, id, inl, inr, Install}
 use Rattle.mediation.proofs.Common.{install_of, install_step, installs_for, is_first, is_known_error, is_lost, is_place, is_send, is_worker, IsLegal, length, List, listed, name_eq-true, name_of}
 use Rattle.mediation.proofs.Common.{named, ne_eqb, None, Ok, oldest_unfetched, OpenBase, OpenMem, Option, or_left, or_parts, or_right, put_in, puts_to, queue, Recv, refl, request_after, request_of}
 use Rattle.mediation.proofs.Common.{Result, Rules, Send, session, session_call, SessionsSettle, settled, settles, slot_answer, Some, sym, System, take_in, take_step, Task, true, waiting, What}
 use Rattle.mediation.proofs.Common.{Worker, ℕ, ◌&&◌, ◌+◌, ◌<◌, ◌==◌, ◌^◌, ◌||◌, ◌∙◌, ◌∷◌, ◌≡◌, ◌≤◌}
+use Rattle.history_frames.proofs.Listed.{listed-below, is_call-below, fetched-new}
+use Rattle.history_frames.proofs.Queued.{call-older, call-above, call-here}
 use Rattle.mediation.proofs.Rows.{WorkerRow, Row, row-of, by-few-steps}
-use Rattle.mediation.proofs.Tasks.{same-name, listed-below, listed-was, waits-here, place-is}
-use Rattle.mediation.proofs.Calls.{is_call-below, ids_differ, fetched-new, fetching}
+use Rattle.mediation.proofs.Tasks.{same-name, listed-was, waits-here, place-is}
+use Rattle.mediation.proofs.Calls.{ids_differ, fetching}
 use Rattle.mediation.proofs.Hands.{InSession, works, at-work, no-fetch, in-hand, hand, in-hand-of, FetchKept, WorkKept, StillKept, by-session, named-own}
 use Rattle.mediation.proofs.Order.{is-own, put-fixed, take-after_put}
 use Rattle.mediation.proofs.Handles.{opens-own}
+use Rattle.sys_abi.specs.Errnos.{ebadf, emfile}
 
 -- ---- what changes a call's requests and its answer
 
@@ -58,24 +62,11 @@ installing S R K (Task n) (Install x) c legal r f =
     install-first S K x c (queue K c) refl (rw m at r.1.3) (rw m at r.1.2)
 installing S R K a w c legal r f = grind arith
 
-pub call-at-older : (e : Event) (K : List Event) (r : ℕ) → r < length K → call_at (e ∷ K) r ≡ call_at K r
-unfolding call_at
-call-at-older e K r l = let n : (r ≡ length K → ⊥) = omega arith in rw (ne_eqb r (length K) n)
-
-pub call-at-above : (K : List Event) (r : ℕ) → length K ≤ r → call_at K r ≡ None
-unfolding call_at
-call-at-above [] r h = refl
-call-at-above (e ∷ K) r h = let n : (r ≡ length K → ⊥) = omega arith in rw (ne_eqb r (length K) n) (call-at-above K r (omega arith))
-
-pub call-at-here : (e : Event) (K : List Event) → call_at (e ∷ K) (length K) ≡ asked_call K e.what
-unfolding call_at
-call-at-here e K = rw (eq-eqb (length K) (length K) refl)
-
 -- a request that is put now, or still to come, has no install
 pub install-above : (K : List Event) (r : ℕ) → length K ≤ r + 1 → install_of K r ≡ None
 unfolding install_of
 install-above [] r h = refl
-install-above (e ∷ K) r h = rw (call-at-above K r (omega arith)) (install-above K r (omega arith))
+install-above (e ∷ K) r h = rw (call-above K r (omega arith)) (install-above K r (omega arith))
 
 -- ---- a call has one session
 
@@ -143,7 +134,7 @@ module _ (S : System) (R : Rules) where
   abbrev pub Placed : List Event → ℕ → ℕ → Option (Result ℕ ℕ) → Type 0
   Placed K c r None = (queue K c ≡ r ∷ []) × (settled K c ≡ false)
   Placed K c r (Some (Ok n)) = settled K c ≡ true
-  Placed K c r (Some (Err x)) = ((x == 9) || (x == 24)) ≡ true × Clean K c
+  Placed K c r (Some (Err x)) = ((x == ebadf) || (x == emfile)) ≡ true × Clean K c
 
   pub record Asked (K : List Event) (c w : ℕ) : Type 0 where
     pub r : ℕ
@@ -166,7 +157,7 @@ module _ (S : System) (R : Rules) where
   asked-later : (e : Event) (K : List Event) (c w : ℕ) → request_of (e ∷ K) w ≡ request_of K w → (a : Asked K c w) → Placed (e ∷ K) c a.r (install_of (e ∷ K) a.r) → Asked (e ∷ K) c w
   asked-later e K c w q a d =
       let l : a.r < length K = a.below in
-      record { r = a.r; mine = q ∙ a.mine; below = omega arith; sends = rw event_at-older a.sends; for_call = call-at-older e K a.r l ∙ a.for_call; placed = d }
+      record { r = a.r; mine = q ∙ a.mine; below = omega arith; sends = rw event_at-older a.sends; for_call = call-older e K a.r l ∙ a.for_call; placed = d }
 
   placed-calm : (e : Event) (K : List Event) (c r : ℕ) → Calm K e c → call_at K r ≡ Some c → Placed K c r (install_of K r) → Placed (e ∷ K) c r (install_of (e ∷ K) r)
   unfolding install_of
@@ -254,7 +245,7 @@ module _ (S : System) (R : Rules) where
           mine = rw m;
           below = omega arith;
           sends = rw event_at-here (let g = r.0.4.is in grind arith);
-          for_call = call-at-here e K ∙ n;
+          for_call = call-here e K ∙ n;
           placed = rw (install-above (e ∷ K) (length K) (omega arith)) (rw (n, eq-eqb c c refl, k.empty), k.unsettled);
         })
 

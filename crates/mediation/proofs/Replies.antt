@@ -1,19 +1,23 @@
 -- Answers, installations and returns: whose they are, what causes them, and that they arrive.
+-- By how far the call is, and the row of the step.
 use Rattle.mediation.proofs.Common.{[], Actor, and_parts, answers, ap, arith, Arrives, Back, back_of, Bool, both_ways, call_at, caller, cases_Bool, cases_order, closes, Each, eq-eqb, Err}
 use Rattle.mediation.proofs.Common.{ErrorsKnown, ev, Event, event_at-below, event_at-here, event_at-older, false, false_from_ne_true, fetched, fetcher, fetches, first_sends, gave, has_send}
 use Rattle.mediation.proofs.Common.{id, if◌then◌else◌, inl, inr, Install, install_of, installed, installs_for, is_accepted, is_busy, is_first, is_known_error, is_lost, is_send, is_task}
 use Rattle.mediation.proofs.Common.{IsLegal, leaves, length, List, listed, LostIfGone, named, NamesOwn, NeverBusy, None, Notif, notif_of, Ok, OneSession, or_cases, or_left, or_right, pos, puts_to}
 use Rattle.mediation.proofs.Common.{queue, refl, reply, Resume, returns, Rules, Send, session, session_call, settled, settles, Some, subst, sym, System, TakenByItsActor, takes, true, What}
 use Rattle.mediation.proofs.Common.{Worker, worker_of, ℕ, ◌&&◌, ◌++◌, ◌<◌, ◌==◌, ◌^◌, ◌||◌, ◌∙◌, ◌∷◌, ◌≡◌, ◌≤◌, ◌⊎◌}
+use Rattle.history_frames.proofs.Listed.{listed-below, listed-older}
+use Rattle.history_frames.proofs.Queued.{call-older, call-above, call-here}
 use Rattle.hist_model.specs.Mediated.{fetches_of}
 use Rattle.hist_model.specs.Settlers.{installed_for, InstallsOwn, IsRequestOf, ResumesOwn, ReturnsInstalled, sent, Source}
 use Rattle.hist_model.specs.declared.event.Back.TheVariants.{Value}
 use Rattle.mediation.proofs.Rows.{WorkerRow, TaskRow, Row, by-steps, by-few-steps, each}
-use Rattle.mediation.proofs.Tasks.{same-name, listed-below, listed-older, waits-in-call, waits-here}
+use Rattle.mediation.proofs.Tasks.{same-name, waits-in-call, waits-here}
 use Rattle.mediation.proofs.Calls.{settles-once, once-more, before-older, before-newest}
 use Rattle.mediation.proofs.Hands.{InSession, works, at-work, in-hand, hand, named-own}
-use Rattle.mediation.proofs.Phases.{install-first, installing, call-at-older, call-at-above, call-at-here, install-above, fetcher-fetched, refetch, fetcher-stays, hand-fetcher, actor-acts, fine}
+use Rattle.mediation.proofs.Phases.{install-first, installing, install-above, fetcher-fetched, refetch, fetcher-stays, hand-fetcher, actor-acts, fine}
 use Rattle.mediation.proofs.Phases.{at-call}
+use Rattle.sys_abi.specs.Errnos.{enoent, ebadf, emfile}
 
 -- ---- each request of a call is its session's
 
@@ -35,7 +39,7 @@ module _ (S : System) (R : Rules) where
   request-later K e c r w legal room row i =
       let l : r < length K = i.below in
       let f = fetcher-stays S R K e c legal room row (fetcher-fetched K c w i.session_of) in
-      record { below = omega arith; for_call = call-at-older e K r l ∙ i.for_call; sends = rw event_at-older i.sends; put_by = rw event_at-older i.put_by; session_of = f ∙ i.session_of }
+      record { below = omega arith; for_call = call-older e K r l ∙ i.for_call; sends = rw event_at-older i.sends; put_by = rw event_at-older i.put_by; session_of = f ∙ i.session_of }
 
   -- each request of a worker has SEND
   puts-send : (K : List Event) (a : Actor) (what : What) (c : ℕ) → Row S R K a what → puts_to K what c ≡ true → has_send what ≡ true
@@ -48,7 +52,7 @@ module _ (S : System) (R : Rules) where
         v.0,
         record {
           below = omega arith;
-          for_call = call-at-here e K ∙ grind arith;
+          for_call = call-here e K ∙ grind arith;
           sends = rw event_at-here (puts-send K e.who e.what c row h);
           put_by = rw event_at-here (ap worker_of v.1);
           session_of = fetcher-stays S R K e c legal room row (fetcher-fetched K c v.0 f) ∙ f;
@@ -153,11 +157,11 @@ module _ (S : System) (R : Rules) where
 
   gave-number : (K : List Event) → IsLegal S R K → length K < 2 ^ 64 → (c r m : ℕ) → call_at K r ≡ Some c → install_of K r ≡ Some (Ok m) → (settled K c ≡ true) × (reply K c ≡ Value (pos m))
   gave-number = by-few-steps S R (λ K. (c r m : ℕ) → call_at K r ≡ Some c → install_of K r ≡ Some (Ok m) → (settled K c ≡ true) × (reply K c ≡ Value (pos m)))
-      (λ c r m q h. absurd (cc (call-at-above [] r (omega arith), q)))
+      (λ c r m q h. absurd (cc (call-above [] r (omega arith), q)))
       (λ K e legal room row ih c r m q h. elim (cases_order r (length K)) [
         | inl z ↦ absurd (cc (install-above (e ∷ K) (length K) (omega arith), rw z at h))
-        | inr (inl l) ↦ let p = sym (call-at-older e K r l) ∙ q in gave-more K e c r m (λ z. (all-own K legal room c r z).1.sends) (settles-once S R K e c legal row) p (ih c r m p) h
-        | inr (inr l) ↦ absurd (cc (call-at-above (e ∷ K) r (omega arith), q))
+        | inr (inl l) ↦ let p = sym (call-older e K r l) ∙ q in gave-more K e c r m (λ z. (all-own K legal room c r z).1.sends) (settles-once S R K e c legal row) p (ih c r m p) h
+        | inr (inr l) ↦ absurd (cc (call-above (e ∷ K) r (omega arith), q))
       ])
 
   pub returns_installed : (K : List Event) → IsLegal S R K → length K < 2 ^ 64 → Each ReturnsInstalled K
@@ -195,9 +199,9 @@ module _ (S : System) (R : Rules) where
       let j = in-hand K w (session_call K w) g.0 g.1 (hand S R K legal w) in
       (j.0, j.1, false_from_ne_true (listed K j.0) (λ l. both_ways (is_lost e.what) (fine S R K e.who w j.0 legal room l j.2 (at-call S R K legal room w j.0 j.1 l) e.what r v).0 z)))
 
-  install-known : (K : List Event) → IsLegal S R K → (p x : ℕ) → install_of K p ≡ Some (Err x) → ((x == 9) || ((x == 24) || (x == 2))) ≡ true
+  install-known : (K : List Event) → IsLegal S R K → (p x : ℕ) → install_of K p ≡ Some (Err x) → ((x == ebadf) || ((x == emfile) || (x == enoent))) ≡ true
   unfolding install_of
-  install-known = by-steps S R (λ K. (p x : ℕ) → install_of K p ≡ Some (Err x) → ((x == 9) || ((x == 24) || (x == 2))) ≡ true) (λ p x h. cc) (λ K e legal row ih p x h. let y = ih p x in grind arith)
+  install-known = by-steps S R (λ K. (p x : ℕ) → install_of K p ≡ Some (Err x) → ((x == ebadf) || ((x == emfile) || (x == enoent))) ≡ true) (λ p x h. cc) (λ K e legal row ih p x h. let y = ih p x in grind arith)
 
   -- where the call is gone, its id names nothing
   gone-known : (K : List Event) (w c : ℕ) (what : What) → IsLegal S R K → WorkerRow S R K w what → (i : InSession K w c) → named K i.n.id ≡ None → is_known_error what ≡ true

@@ -1,4 +1,5 @@
 -- What the step of an actor can be, kind by kind, and what it then tells.
+-- By the cases of the definition of the step.
 use Rattle.mediation.proofs.Common.{[], Act, Actor, Acts, Addfd, addfd_of, AddfdPut, AddfdTake, alive, any_of, arith, base_answer, based_deed, call_of, calls, Check, check_answer}
 use Rattle.mediation.proofs.Common.{checked_deed, checks, Close, count, Deed, deed, deed_step, Deliver, Each, Enter, Err, Event, Exit, false, first_some, found, gives_up}
 use Rattle.mediation.proofs.Common.{Handler, holder, if◌then◌else◌, Injects, Install, install_at, install_step, instr_step, is_child, is_ended_child, is_letgo, is_spent, is_start, IsLegal, IsStep}
@@ -9,6 +10,7 @@ use Rattle.mediation.proofs.Common.{session, settled, Signal, Skip, Some, Spawn,
 use Rattle.mediation.proofs.Common.{worker_step, ℕ, ◌%◌, ◌+◌, ◌<◌, ◌==◌, ◌^◌, ◌∷◌, ◌≡◌, ◌⊎◌}
 use Rattle.hist_model.specs.declared.event.SpawnKind.{SpawnKind}
 use Rattle.hist_model.specs.declared.event.SpawnKind.TheVariants.{New}
+use Rattle.sys_abi.specs.Errnos.{esrch, edquot, efault, ebadf}
 
 -- the session is at work, for this notification
 pub record AtWork (own : List What) (n : Notif) : Type 0 where
@@ -54,13 +56,13 @@ Told R own _ = ⊥
 -- what a worker's step is answered
 abbrev pub Answered : System → List Event → ℕ → What → Type 0
 Answered S K w (Recv a) = (count K == 0 ≡ false) × (a ≡ recv_answer K (oldest_unfetched K))
-Answered S K w (OpenMem p a) = a ≡ (if lives K (holder K p) then Ok tt else Err 3)
+Answered S K w (OpenMem p a) = a ≡ (if lives K (holder K p) then Ok tt else Err esrch)
 Answered S K w (OpenBase p d a) = a ≡ base_answer S K (holder K p) d
 Answered S K w (Check x a) = a ≡ check_answer K (named K x)
 Answered S K w (Read x n a) = a ≡ read_answer S K (mem K w) x n
-Answered S K w (Act q cap a) = a ≡ (if is_spent K cap then Err 122 else S.outcome K w q)
-Answered S K w (Plant x bs cap a) = a ≡ (if is_spent K cap then Err 122 else (if S.writable x then Ok tt else Err 14))
-Answered S K w (AddfdPut q a) = a ≡ (if not (S.source q.srcfd) then Err 9 else put_answer S K q (named K q.id))
+Answered S K w (Act q cap a) = a ≡ (if is_spent K cap then Err edquot else S.outcome K w q)
+Answered S K w (Plant x bs cap a) = a ≡ (if is_spent K cap then Err edquot else (if S.writable x then Ok tt else Err efault))
+Answered S K w (AddfdPut q a) = a ≡ (if not (S.source q.srcfd) then Err ebadf else put_answer S K q (named K q.id))
 Answered S K w (AddfdTake a) = AddfdTake a ≡ take_step (install_at K (request_of K w)) (request_listed K (request_of K w))
 Answered S K w (Send x b a) = a ≡ send_answer K (named K x)
 Answered S K w _ = Unit {0}

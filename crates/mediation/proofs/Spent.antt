@@ -6,7 +6,7 @@ use Rattle.hist_model.specs.Legal.{done}
 use Rattle.hist_model.specs.Natives.{root}
 use Rattle.hist_model.specs.Effects.{attributed, effect, made, mounted, opened, perform}
 use Rattle.hist_model.specs.Paths.{Place, Refused, Last, Create, Follow, Turn, Ends, Goes, Follows, turn, turned, walk_parts, walk, walked_from, reaches, creates, none_left, link_start, components, looped}
-use Rattle.hist_model.specs.ReportAudit.{is_spent as was_spent}
+use Rattle.hist_model.specs.Kinds.{is_spent as was_spent}
 use Rattle.hist_model.specs.declared.policy.Cap.{Cap}
 use Rattle.hist_model.specs.Trees.{are_attr_flags, Tree}
 use Rattle.hist_model.specs.declared.request.MountRow.{MountRow}
@@ -14,12 +14,12 @@ use Rattle.hist_model.specs.declared.request.Node.{Node}
 use Rattle.hist_model.specs.declared.request.Request.{Request}
 use Rattle.hist_model.specs.declared.request.TreeOp.{TreeOp}
 use Rattle.hist_model.specs.declared.request.TreeOp.TheVariants.{Fail, Make, Mount, SetAttr, Open}
-use Rattle.sys_abi.specs.Errnos.{efault, einval}
+use Rattle.sys_abi.specs.Errnos.{efault, einval, edquot}
 use Rattle.mediation.proofs.Rows.{Row, each}
 
 -- the walk ends with EDQUOT
 abbrev is_quota : Place → Bool
-is_quota (Refused e) = e == 122
+is_quota (Refused e) = e == edquot
 is_quota p = false
 
 abbrev is_quota_turn : Turn → Bool
@@ -27,7 +27,7 @@ is_quota_turn (Ends p) = is_quota p
 is_quota_turn t = false
 
 abbrev fails_quota : {A : Type 0} → Result A ℕ → Bool
-fails_quota (Err e) = e == 122
+fails_quota (Err e) = e == edquot
 fails_quota (Ok x) = false
 
 -- no component of a path has this error
@@ -64,7 +64,7 @@ reaches-other T root base (b ∷ bs) last = from (if b == 47 then Some root else
 
 -- nor a request
 abbrev fails_so : TreeOp → Bool
-fails_so (Fail e) = e == 122
+fails_so (Fail e) = e == edquot
 fails_so op = false
 
 effect-other : (q : Request) → fails_so (effect q) ≡ false
@@ -104,7 +104,7 @@ outcome-other S F w q = done-other (perform F.tree (root S) (F.base w) (effect q
     done-other (Err e) h = h
 
 -- so an effect has it exactly where it was answered before that
-answered-so : (s : Bool) (r a : Result (Unit {0}) ℕ) → fails_quota r ≡ false → a ≡ (if s then Err 122 else r) → fails_quota a ≡ s
+answered-so : (s : Bool) (r a : Result (Unit {0}) ℕ) → fails_quota r ≡ false → a ≡ (if s then Err edquot else r) → fails_quota a ≡ s
 answered-so true r a h q = rw q refl
 answered-so false r a h q = rw q h
 

@@ -1,9 +1,12 @@
 -- Tasks: their process numbers, their calls, their places, and their names.
+-- By induction on a legal history, with the row of its newest step.
 use Rattle.mediation.proofs.Common.{[], Actor, alive, and_from, ap, append_cancel_right, arith, below_or_last, call_of, caller, CallsAreLast, cases_Bool, child_of, ended, ends, eq-eqb, ev, Event}
 use Rattle.mediation.proofs.Common.{event_at, event_at-here, event_at-older, false, false_from_ne_true, given, given_in, group, holder, inl, inr, is_made, is_passive, is_spawn, is_task, IsLegal}
 use Rattle.mediation.proofs.Common.{last_own, length, List, listed, makes, makes_in, Name, name_eq, name_eq-refl, name_eq-true, name_of, NamesDiffer, ne_eqb, newest, newest-found, newest-some, None}
 use Rattle.mediation.proofs.Common.{not, notifies, oldest-found, oldest-same, oldest-some, oldest-stays, Option, or_cases, pid_of, pid_or, PidsDiffer, reaped, reaps, refl, reverse, reverse-append}
 use Rattle.mediation.proofs.Common.{Rules, Some, steps_of, System, task_name, task_place, true, unlists, was_waited_for, What, ℕ, ◌&&◌, ◌++◌, ◌+◌, ◌<◌, ◌∙◌, ◌∷◌, ◌≡◌, ◌≤◌, ◌⊎◌}
+use Rattle.history_frames.proofs.Groups.{place-kept}
+use Rattle.history_frames.proofs.Listed.{listed-below, listed-here, listed-older}
 use Rattle.history_frames.proofs.Held.{holder-is, holds-below, names-more, next-free, pids-more}
 use Rattle.history_frames.proofs.Ordinals.{makes-below}
 use Rattle.mediation.proofs.Rows.{Row, by-steps}
@@ -27,20 +30,6 @@ pub pids_differ : (S : System) (R : Rules) (K : List Event) → IsLegal S R K �
 pids_differ S R = by-steps S R PidsDiffer (λ p t u h g. absurd (omega (arith, holds-below [] p t h))) (λ K e legal r. pids-more e K (λ q. given-free S R K e.who e.what q r))
 
 -- ---- a listed call's task lives, and its last own event is that call
-
--- a listed call stands below
-pub listed-below : (K : List Event) (c : ℕ) → listed K c ≡ true → c < length K
-unfolding listed
-listed-below [] c h = cc
-listed-below (e ∷ K) c h = let ih = listed-below K c in grind arith
-
-pub listed-here : (e : Event) (K : List Event) → listed (e ∷ K) (length K) ≡ notifies e.what
-unfolding listed
-listed-here e K = rw (eq-eqb (length K) (length K) refl)
-
-pub listed-older : (e : Event) (K : List Event) (c : ℕ) → c < length K → listed (e ∷ K) c ≡ (listed K c && not (unlists e (caller K c)))
-unfolding listed
-listed-older e K c l = let n : (c ≡ length K → ⊥) = omega arith in rw (ne_eqb c (length K) n)
 
 pub listed-was : (e : Event) (K : List Event) (c : ℕ) → c < length K → listed (e ∷ K) c ≡ true → listed K c ≡ true
 listed-was e K c l h = grind (arith, listed-older)
@@ -85,13 +74,7 @@ waits-here S R K c legal l = go (call_of K (caller K c)) refl
     go None q = absurd (waits-in_some K c l q)
     go (Some d) q = let w = waits-in-call K (caller K c) d q in let k = (calls_are_last S R K legal d w.0).1 in cc (w.1, k, (calls_are_last S R K legal c l).1)
 
--- ---- the places of tasks, and their groups, stay
-
-pub place-stays : (e : Event) (K : List Event) (n : Name) (t : ℕ) → task_place K n ≡ Some t → task_place (e ∷ K) n ≡ Some t
-unfolding task_place
-place-stays e K n t q =
-    let same = oldest-same (λ u. makes_in (event_at (e ∷ K) u) && name_eq (name_of (e ∷ K) u) n) (λ u. makes_in (event_at K u) && name_eq (name_of K u) n) (length K) (λ u l. rw event_at-older) in
-    oldest-stays (λ u. makes_in (event_at (e ∷ K) u) && name_eq (name_of (e ∷ K) u) n) (length K) t (same ∙ q)
+-- ---- the places of tasks
 
 pub place-is : (K : List Event) (n : Name) (t : ℕ) → task_place K n ≡ Some t → (makes_in (event_at K t) ≡ true) × (name_eq (name_of K t) n ≡ true) × (t < length K)
 unfolding task_place
@@ -102,15 +85,11 @@ unfolding is_made task_place
 made-place [] n h = cc
 made-place (e ∷ K) n h = elim (or_cases (makes e.what && name_eq (child_of e.what) n) (is_made K n) h) [
   | inl q ↦ oldest-found (λ u. makes_in (event_at (e ∷ K) u) && name_eq (name_of (e ∷ K) u) n) (length (e ∷ K)) (length K) (omega arith) (rw event_at-here q)
-  | inr q ↦ let m = made-place K n q in (m.0, place-stays e K n m.0 m.1)
+  | inr q ↦ let m = made-place K n q in (m.0, place-kept e K n m.0 m.1)
 ]
 
 pub makes-pid : (o : Option Event) → makes_in o ≡ true → given_in o ≡ Some (pid_or (given_in o))
 makes-pid o h = grind arith
-
-pub group-older : (e : Event) (K : List Event) (t : ℕ) → t < length K → group (e ∷ K) t ≡ group K t
-unfolding group
-group-older e K t l = let n : (t ≡ length K → ⊥) = omega arith in rw (ne_eqb t (length K) n)
 
 -- ---- who holds a living task's number
 

@@ -1,5 +1,5 @@
 -- Facts of legal histories, beside those that mediation asks for, and which kinds of event can change which definitions.
-use Rattle.std.specs.Prelude.{◌≡◌, ◌<◌, ◌⊎◌, ◌&&◌, ◌==◌, if◌then◌else◌, ℕ, true, false, List, [], ◌∷◌, ◌++◌, length, Some, None, Ok, Err, Bool}
+use Rattle.std.specs.Prelude.{◌≡◌, ◌<◌, ◌⊎◌, ◌&&◌, ◌==◌, if◌then◌else◌, ℕ, true, false, List, [], ◌∷◌, ◌++◌, Some, None, Ok, Err, Bool}
 use Rattle.hist_model.specs.Look.{event_at, Name, is_worker, task_name}
 use Rattle.hist_model.specs.Memory.{own_group}
 use Rattle.hist_model.specs.Files.{files, request_for}
@@ -7,10 +7,10 @@ use Rattle.hist_model.specs.Signals.{call_of}
 use Rattle.hist_model.specs.declared.request.Obj.TheVariants.{Broker}
 use Rattle.hist_model.specs.declared.script.Script.{Script}
 use Rattle.hist_model.specs.Tasks.{name_of, ended, reaped, holder, next_pid}
-use Rattle.hist_model.specs.Calls.{is_call, id, caller, listed, settled, waiting, closes, named, fetched, answered, count}
-use Rattle.hist_model.specs.Sessions.{Rules, session, any_of, gives_up, first_some, put_in}
+use Rattle.hist_model.specs.Kinds.{closes, gives_up, is_good_check}
+use Rattle.hist_model.specs.Calls.{is_call, id, caller, listed, settled, waiting, named, fetched, answered, count}
+use Rattle.hist_model.specs.Sessions.{Rules, session, any_of, first_some, put_in}
 use Rattle.hist_model.specs.Systems.{System}
-use Rattle.hist_model.specs.Orders.{is_good_check}
 use Rattle.hist_model.specs.Laws.{fetcher}
 use Rattle.hist_model.specs.Steps.{IsLegal, makes_in, session_call, task_place, group, mem, base}
 use Rattle.hist_model.specs.Legal.{Finished}

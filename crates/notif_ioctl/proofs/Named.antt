@@ -8,6 +8,7 @@ use Rattle.hist_model.specs.declared.event.Event.{Event}
 use Rattle.hist_model.specs.declared.notification.State.TheVariants.{Unfetched, Fetched, Answered}
 use Rattle.hist_model.proofs.Look.{oldest-some}
 use Rattle.notif_ioctl.specs.Answers.{admission, validity}
+use Rattle.sys_abi.specs.Errnos.{einprogress, enoent}
 
 named-listed : (K : List Event) (x c : ℕ) → named K x ≡ Some c → listed K c ≡ true
 unfolding named
@@ -17,12 +18,12 @@ pub admitted : (K : List Event) (x : ℕ) (o : Option ℕ) → named K x ≡ o �
 admitted K x None h = refl
 admitted K x (Some c) h = rw (named-listed K x c h) (by_state (fetched K c) (answered K c))
   where
-    by_state : (f a : Bool) → (if f && not a then Ok tt else Err 115) ≡ admission (Some (if not f then Unfetched else (if a then Answered else Fetched)))
+    by_state : (f a : Bool) → (if f && not a then Ok tt else Err einprogress) ≡ admission (Some (if not f then Unfetched else (if a then Answered else Fetched)))
     by_state f a = grind arith
 
 pub answered-check : (K : List Event) (x : ℕ) (o : Option ℕ) → named K x ≡ o → check_answer K o ≡ validity (state_at K o)
 answered-check K x None h = refl
 answered-check K x (Some c) h = rw (named-listed K x c h) (by_state (fetched K c) (answered K c))
   where
-    by_state : (f a : Bool) → (if f && not a then Ok tt else Err 2) ≡ validity (Some (if not f then Unfetched else (if a then Answered else Fetched)))
+    by_state : (f a : Bool) → (if f && not a then Ok tt else Err enoent) ≡ validity (Some (if not f then Unfetched else (if a then Answered else Fetched)))
     by_state f a = grind arith

@@ -3,8 +3,8 @@ use Rattle.std.proofs.Common.{◌≡◌, inl, inr, ℕ, ◌+◌, ◌<◌, ◌%�
 use Rattle.std.specs.Prelude.{nat_lt}
 use Rattle.std.proofs.lemmas.Bool.{cases_eq, le-ltb}
 use Rattle.hist_model.specs.Look.{Name, task_name}
-use Rattle.hist_model.specs.Tasks.{makes}
-use Rattle.hist_model.specs.Calls.{notifies, caller, listed, some_sends, calls, recvs, unlists}
+use Rattle.hist_model.specs.Kinds.{makes, notifies}
+use Rattle.hist_model.specs.Calls.{caller, listed, some_sends, calls, recvs, unlists}
 use Rattle.hist_model.specs.declared.event.Event.{Event}
 use Rattle.hist_model.specs.declared.request.TaskRef.{TaskRef}
 use Rattle.hist_model.proofs.Look.{event_at-here}

@@ -3,8 +3,8 @@ use Rattle.std.proofs.Common.{◌≡◌, inl, inr, ℕ, ◌<◌, true, false, �
 use Rattle.std.specs.Prelude.{nat_lt, pos}
 use Rattle.std.proofs.lemmas.Bool.{cases_lt, both_ways, and_parts, eqb-true, false_from_ne_true, or_left}
 use Rattle.hist_model.specs.Look.{Name}
-use Rattle.hist_model.specs.Tasks.{makes}
-use Rattle.hist_model.specs.Calls.{notifies, caller, id, listed, fetched, fetches, leaves, closes, unlists, queue, answers, puts_to, is_install, installs_for, settles, some_sends, first_sends, is_send, rest_of, calls, recvs, receives}
+use Rattle.hist_model.specs.Kinds.{makes, notifies, leaves, closes, is_install, receives}
+use Rattle.hist_model.specs.Calls.{caller, id, listed, fetched, fetches, unlists, queue, answers, puts_to, installs_for, settles, some_sends, first_sends, is_send, rest_of, calls, recvs}
 use Rattle.hist_model.specs.Steps.{call_at, is_first}
 use Rattle.hist_model.specs.declared.event.Back.{Back}
 use Rattle.hist_model.specs.declared.event.Back.TheVariants.{Value as BackValue}
@@ -41,8 +41,8 @@ settled-kept e K c back s h = record {
   returns = reply-same e K c s.unsettled ∙ h.returns;
 }
 
-call-below : (K : List Event) (r c : ℕ) → call_at K r ≡ Some c → r < length K
-call-below K r c q = elim (cases_lt r (length K)) [
+request-below : (K : List Event) (r c : ℕ) → call_at K r ≡ Some c → r < length K
+request-below K r c q = elim (cases_lt r (length K)) [
   | inl l ↦ l
   | inr l ↦ let z : None ≡ Some c = sym (call-above K r l) ∙ q in cc
 ]
@@ -50,7 +50,7 @@ call-below K r c q = elim (cases_lt r (length K)) [
 -- what was installed stays, since no request with SEND waits
 installed-kept : (e : Event) (K : List Event) (c n : ℕ) → IsSame K e c → IsInstalled K c n → IsInstalled (e ∷ K) c n
 installed-kept e K c n s h =
-    let l = call-below K h.request c h.for in
+    let l = request-below K h.request c h.for in
     record {
       settled_is = settled-kept e K c (BackValue (pos n)) s h.settled_is;
       request = h.request;

@@ -4,7 +4,8 @@ use Rattle.std.specs.Prelude.{nat_lt}
 use Rattle.std.proofs.lemmas.Bool.{both_ways, false_from_ne_true, or_right}
 use Rattle.slab.specs.Slab.{Updates}
 use Rattle.hist_model.specs.Look.{name_eq}
-use Rattle.hist_model.specs.Calls.{notifies, caller, id, listed, fetches, leaves, closes, unlists, receives}
+use Rattle.hist_model.specs.Kinds.{notifies, leaves, closes, receives}
+use Rattle.hist_model.specs.Calls.{caller, id, listed, fetches, unlists}
 use Rattle.hist_model.specs.declared.event.Event.{Event}
 use Rattle.hist_model.specs.declared.event.What.{What}
 use Rattle.hist_model.specs.declared.event.What.TheVariants.{Resume, Deliver, Close}

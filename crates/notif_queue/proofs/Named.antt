@@ -1,7 +1,8 @@
 -- Which call an id names, and how far it is.
 use Rattle.std.proofs.Common.{◌≡◌, inl, inr, ℕ, ◌+◌, ◌-◌, ◌<◌, ◌%◌, ◌^◌, Bool, true, false, not, List, Option, Some, None, refl, sym, ap, subst, ◌∙◌, arith}
 use Rattle.std.specs.Prelude.{nat_lt, if◌then◌else◌}
-use Rattle.hist_model.specs.Calls.{notifies, id, listed, named, answered, state, state_at}
+use Rattle.hist_model.specs.Kinds.{notifies}
+use Rattle.hist_model.specs.Calls.{id, listed, named, answered, state, state_at}
 use Rattle.hist_model.specs.declared.event.Event.{Event}
 use Rattle.hist_model.specs.declared.notification.Reply.{Reply}
 use Rattle.hist_model.specs.declared.notification.Reply.TheVariants.{Value, Fail, Continue, Installing}

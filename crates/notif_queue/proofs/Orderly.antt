@@ -1,7 +1,8 @@
 -- A history of calls that holds one more event.
 use Rattle.std.proofs.Common.{◌≡◌, inl, inr, ℕ, ◌+◌, ◌<◌, ◌≤◌, ◌%◌, ◌^◌, true, List, [], ◌∷◌, length, Some, sym, ap, ◌∙◌}
 use Rattle.hist_model.specs.Look.{task_name}
-use Rattle.hist_model.specs.Calls.{notifies, notify_id, caller, id, listed, queue, calls, recvs}
+use Rattle.hist_model.specs.Kinds.{notifies}
+use Rattle.hist_model.specs.Calls.{notify_id, caller, id, listed, queue, calls, recvs}
 use Rattle.hist_model.specs.declared.event.Event.{Event}
 use Rattle.hist_model.proofs.Look.{event_at-here}
 use Rattle.history_frames.specs.Ordinals.{nth_of}

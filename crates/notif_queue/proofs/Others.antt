@@ -3,7 +3,8 @@ use Rattle.std.proofs.Common.{◌≡◌, inl, inr, ℕ, Bool, true, false, ◌&&
 use Rattle.std.specs.Prelude.{Ok, Err, pos}
 use Rattle.std.proofs.lemmas.Bool.{cases_Bool, cases_eq, both_ways, and_parts, eq-eqb}
 use Rattle.hist_model.specs.Look.{is_task}
-use Rattle.hist_model.specs.Calls.{caller, listed, named, queue, answers, puts_to, is_install, gave, installs_for, settles, some_sends, first_sends, has_send_flag, rest_of}
+use Rattle.hist_model.specs.Kinds.{is_install, gave, has_send_flag}
+use Rattle.hist_model.specs.Calls.{caller, listed, named, queue, answers, puts_to, installs_for, settles, some_sends, first_sends, rest_of}
 use Rattle.hist_model.specs.Steps.{back_of}
 use Rattle.hist_model.specs.declared.event.Back.TheVariants.{Value as BackValue}
 use Rattle.hist_model.specs.declared.event.Event.{Event}

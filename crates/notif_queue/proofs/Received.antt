@@ -5,7 +5,8 @@ use Rattle.sys_abi.specs.declared.wire.Notif.{Notif}
 use Rattle.std.proofs.lemmas.Bool.{cases_order, cases_lt, both_ways, and_parts, lt-ltb, le-ltb, not-true, eq-eqb, ne_eqb}
 use Rattle.slab.specs.Slab.{Slab, get}
 use Rattle.hist_model.specs.Look.{Name}
-use Rattle.hist_model.specs.Calls.{notifies, caller, id, listed, fetched, fetches, calls, recvs, count, unlists}
+use Rattle.hist_model.specs.Kinds.{notifies}
+use Rattle.hist_model.specs.Calls.{caller, id, listed, fetched, fetches, calls, recvs, count, unlists}
 use Rattle.hist_model.specs.Steps.{oldest_unfetched}
 use Rattle.hist_model.specs.declared.event.Event.{Event}
 use Rattle.hist_model.specs.declared.event.What.TheVariants.{Recv}

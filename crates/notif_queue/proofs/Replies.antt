@@ -3,7 +3,8 @@ use Rattle.std.proofs.Common.{◌≡◌, ◌≢◌, inl, inr, ℕ, ◌<◌, ◌^
 use Rattle.std.specs.Prelude.{Ok, Err, nat_lt}
 use Rattle.std.proofs.lemmas.Bool.{cases_eq, and_parts, both_ways, eq-eqb, ne_eqb, false_from_ne_true, or_right}
 use Rattle.hist_model.specs.Look.{Name, is_task}
-use Rattle.hist_model.specs.Calls.{notifies, caller, listed, named, queue, answers, puts_to, is_install, installs_for, settles, some_sends, has_send_flag, rest_of}
+use Rattle.hist_model.specs.Kinds.{notifies, is_install, has_send_flag}
+use Rattle.hist_model.specs.Calls.{caller, listed, named, queue, answers, puts_to, installs_for, settles, some_sends, rest_of}
 use Rattle.hist_model.specs.Steps.{back_of}
 use Rattle.hist_model.specs.declared.event.Actor.{Actor}
 use Rattle.hist_model.specs.declared.event.Actor.TheVariants.{Task}

@@ -2,7 +2,8 @@
 use Rattle.std.specs.Prelude.{◌≡◌, ◌⊎◌, ℕ, ◌+◌, ◌%◌, ◌^◌, ◌<◌, ◌≤◌, true, false, List, [], ◌∷◌, Option, Some, None, Ok, Err, pos, ℤ, nat_lt}
 use Rattle.hist_model.specs.Look.{is_task}
 use Rattle.hist_model.specs.Tasks.{name_of}
-use Rattle.hist_model.specs.Calls.{notifies, caller, id, listed, fetched, named, queue, settled, first_sends, some_sends, has_send_flag, is_send, calls, recvs, leaves}
+use Rattle.hist_model.specs.Kinds.{notifies, has_send_flag, leaves}
+use Rattle.hist_model.specs.Calls.{caller, id, listed, fetched, named, queue, settled, first_sends, some_sends, is_send, calls, recvs}
 use Rattle.hist_model.specs.Steps.{reply, call_at, install_of, oldest_unfetched}
 use Rattle.hist_model.specs.declared.event.Event.{Event}
 use Rattle.hist_model.specs.declared.event.Actor.TheVariants.{Task}

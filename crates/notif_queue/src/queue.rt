@@ -5,12 +5,14 @@ ghost use Rattle.hist_model.specs.declared.event.Event.{Event};
 ghost use Rattle.hist_model.specs.declared.event.What.TheVariants.{Recv};
 ghost use Rattle.hist_model.specs.declared.notification.Fetched.{Fetched as FetchedCall};
 ghost use Rattle.hist_model.specs.declared.notification.State.TheVariants.{Fetched as FetchedState, Answered};
-ghost use Rattle.hist_model.specs.Calls.{calls, closes, count, id as id_at, named, state_at};
+ghost use Rattle.hist_model.specs.Kinds.{closes};
+ghost use Rattle.hist_model.specs.Calls.{calls, count, id as id_at, named, state_at};
 ghost use Rattle.hist_model.specs.Steps.{oldest_unfetched};
 ghost use Rattle.notif_queue.specs.declared.queue.FetchError.TheVariants.{Empty, Gone};
 ghost use Rattle.notif_queue.specs.Entries.{slot_of, without};
 ghost use Rattle.notif_queue.specs.Stands.{StandsFor, IsReply, IsEntry, IsNext, IsReceipt, IsAnswer, IsFailure, IsLeaving};
 ghost use Rattle.notif_queue.specs.Table.{HasRoom, SameCalls, number_of, id_of, call_found, next_found, state_found, reply_found, IsReplied};
+ghost use Rattle.sys_abi.specs.Errnos.{enoent};
 
 use crate::order::Order;
 use hist_model::notification::{Fetched, Reply, State};
@@ -126,7 +128,7 @@ impl Queue {
         ensures next { IfOk result (λ f. (first : ℕ) (K : List Event) → StandsFor first K self.old → (0 < count K) × IsNext K f) }
         ensures step { IfOk result (λ f. (first : ℕ) (K : List Event) (e : Event) → StandsFor first K self.old → IsReceipt e f.id → StandsFor first (e ∷ K) self.new) }
         ensures gone { result ≡ Err Gone → (first : ℕ) (K : List Event) → StandsFor first K self.old → (0 < count K) × (oldest_unfetched K ≡ None) }
-        ensures gone_step { result ≡ Err Gone → (first : ℕ) (K : List Event) (e : Event) → StandsFor first K self.old → e.what ≡ Recv (Err 2) → StandsFor first (e ∷ K) self.new }
+        ensures gone_step { result ≡ Err Gone → (first : ℕ) (K : List Event) (e : Event) → StandsFor first K self.old → e.what ≡ Recv (Err enoent) → StandsFor first (e ∷ K) self.new }
         ensures empty { result ≡ Err Empty → (first : ℕ) (K : List Event) → StandsFor first K self.old → count K ≡ 0 }
         ensures same { result ≡ Err Empty → SameCalls self.old self.new }
     {

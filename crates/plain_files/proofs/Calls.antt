@@ -18,9 +18,10 @@ use Rattle.plain_files.specs.Kept.{Kept, files_of, StandsFor}
 use Rattle.hist_model.specs.Legal.{done}
 use Rattle.hist_model.specs.Natives as natives
 use Rattle.hist_model.specs.Natives.{changed, make_natively, set_natively}
+use Rattle.sys_abi.specs.Errnos.{enosys, eperm}
 
 -- a device is refused once the tree would take it
-pub device_allowed : (r : Result Tree ℕ) → ◌≡◌ {A = Result (Unit {0}) ℕ} (Ok tt) (done r) → make_natively true r ≡ natives.Fails 1
+pub device_allowed : (r : Result Tree ℕ) → ◌≡◌ {A = Result (Unit {0}) ℕ} (Ok tt) (done r) → make_natively true r ≡ natives.Fails eperm
 device_allowed (Ok T) q = refl
 device_allowed (Err e) q = cc
 
@@ -48,7 +49,7 @@ change_refused (Ok T) e q = cc
 change_refused (Err d) e q = cc
 
 -- a task that has entered no call has no call to make
-pub no_call : (S : Script) (K : List Event) (F : natives.Files) (n : Name) (g : ℕ) → natives.call_natively S K F n g Skip ≡ natives.Fails 38
+pub no_call : (S : Script) (K : List Event) (F : natives.Files) (n : Name) (g : ℕ) → natives.call_natively S K F n g Skip ≡ natives.Fails enosys
 unfolding base_dirfd
 no_call S K F n g = refl
 
@@ -70,7 +71,7 @@ step_entered S K F n g call T root (Ok s) p q h =
     ∙ ap (λ (c : What). natives.call_natively S K F n (place_or (group_named K n)) c) (sym q)
 step_entered S K F n g call T root (Err e) p q h = h
 
-pub step_of_none : (S : Script) (K : List Event) (F : natives.Files) (n : Name) → last_call K n ≡ Skip → natives.Fails 38 ≡ natives.native_step S K F n
+pub step_of_none : (S : Script) (K : List Event) (F : natives.Files) (n : Name) → last_call K n ≡ Skip → natives.Fails enosys ≡ natives.native_step S K F n
 step_of_none S K F n q =
     sym (no_call S K F n (place_or (group_named K n)))
     ∙ ap (λ (c : What). natives.call_natively S K F n (place_or (group_named K n)) c) (sym q)

@@ -4,6 +4,7 @@ use Rattle.hist_model.specs.Copies.{further, with_bytes, text_from, value_from, 
 use Rattle.hist_model.specs.declared.copy.Part.{Part}
 use Rattle.arg_capture.specs.Plans.{first_part, rest_parts}
 use Rattle.plain_files.specs.Copied.{after_texts}
+use Rattle.sys_abi.specs.Errnos.{efault}
 
 with_more : (read : List ℕ) (b : ℕ) (r : Result (List ℕ) ℕ) → with_bytes read (with_bytes (b ∷ []) r) ≡ with_bytes (read ++ b ∷ []) r
 with_more read b (Ok text) = rw append_assoc
@@ -25,7 +26,7 @@ unfolding text_from
 text_ends g fault zero a read q l = absurd (omega arith)
 text_ends g fault (suc n) a read q l = rw (q, append-nil)
 
-pub text_unmapped : (g : ℕ → Option ℕ) (fault n a : ℕ) (read : List ℕ) → g a ≡ None → 0 < n → with_bytes read (text_from g fault n a) ≡ Err 14
+pub text_unmapped : (g : ℕ → Option ℕ) (fault n a : ℕ) (read : List ℕ) → g a ≡ None → 0 < n → with_bytes read (text_from g fault n a) ≡ Err efault
 unfolding text_from
 text_unmapped g fault zero a read q l = absurd (omega arith)
 text_unmapped g fault (suc n) a read q l = rw q
@@ -44,7 +45,7 @@ value_more g (suc n) a b read q l =
     let e : suc n - 1 ≡ n = omega arith in
     rw (q, e) (with_more read b (value_from g n (further a 1)))
 
-pub value_unmapped : (g : ℕ → Option ℕ) (n a : ℕ) (read : List ℕ) → g a ≡ None → 0 < n → with_bytes read (value_from g n a) ≡ Err 14
+pub value_unmapped : (g : ℕ → Option ℕ) (n a : ℕ) (read : List ℕ) → g a ≡ None → 0 < n → with_bytes read (value_from g n a) ≡ Err efault
 unfolding value_from
 value_unmapped g zero a read q l = absurd (omega arith)
 value_unmapped g (suc n) a read q l = rw q

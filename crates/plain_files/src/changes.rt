@@ -263,9 +263,9 @@ impl Files {
         }
     }
 
-    /// Goes on from a history for which the files stand to that with one more event. After `NoMemory` they stand for no
+    /// Applies one more event: goes on from a history for which the files stand to the longer one. After `NoMemory` they stand for no
     /// history, and can only be dropped.
-    pub fn after(
+    pub fn apply(
         &mut self,
         script: &Script,
         events: &[Event],
@@ -284,7 +284,7 @@ impl Files {
     {
         let mut files = Files::stated(alloc, script)?;
         for (place, event) in events.iter().enumerate() {
-            files.after(script, &events[..place], event)?;
+            files.apply(script, &events[..place], event)?;
         }
         Ok(files)
     }

@@ -2,7 +2,8 @@
 
 ghost use Rattle.std.specs.Prelude.{◌≡◌, ◌∷◌, ◌+◌, Some, None, IfOk, reverse};
 ghost use Rattle.hist_model.specs.Look.{is_place};
-ghost use Rattle.hist_model.specs.Memory.{is_mapped, all_mapped, byte_stored, last_call, stored, stored_by_call, storing_group, written, copies, own_group, byte, mapped_bytes, bytes_read};
+ghost use Rattle.hist_model.specs.Kinds.{copies};
+ghost use Rattle.hist_model.specs.Memory.{is_mapped, all_mapped, byte_stored, last_call, stored, stored_by_call, storing_group, written, own_group, byte, mapped_bytes, bytes_read};
 ghost use Rattle.plain_files.specs.Sources.{is_within, byte_from};
 
 use emu_sysinfo::host;

@@ -30,6 +30,7 @@ use look_back::tasks::pid_named;
 use path_walk::effects::follow;
 use path_walk::resolution::Walk;
 use std::alloc::Global;
+use sys_abi::calls::{CLOSE, GETPID, SYSINFO};
 use sys_abi::errno::Errno;
 use sys_abi::memory::NoMemory;
 
@@ -220,10 +221,10 @@ fn call_step(
         call_natively script.now (reverse events.now) (files_of files.now) name.now group (What.Enter nr args.now v)) }
 {
     match nr {
-        3 => Ok(close(files, group, low_32(args[0]))),
-        39 => Ok(NativeStep::Gives(pid_named(events, name))),
-        99 if is_writable(script, args[0]) => Ok(NativeStep::Writes),
-        99 => Ok(NativeStep::Fails(Errno::EFAULT)),
+        CLOSE => Ok(close(files, group, low_32(args[0]))),
+        GETPID => Ok(NativeStep::Gives(pid_named(events, name))),
+        SYSINFO if is_writable(script, args[0]) => Ok(NativeStep::Writes),
+        SYSINFO => Ok(NativeStep::Fails(Errno::EFAULT)),
         _ if base_dirfd(nr, args).is_some() => {
             copied_step(alloc, script, events, files, group, nr, args)
         }

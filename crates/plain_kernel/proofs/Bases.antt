@@ -6,10 +6,11 @@ use Rattle.hist_model.specs.Steps.{lives, opened, base_answer, group}
 use Rattle.hist_model.specs.Systems.{System}
 use Rattle.hist_model.specs.Tasks.{ended, name_of}
 use Rattle.hist_model.specs.declared.event.Event.{Event}
+use Rattle.sys_abi.specs.Errnos.{esrch, ebadf}
 
 abbrev pub base_in : System → List Event → Option ℕ → ℤ → Result (Unit {0}) ℕ
-base_in S K None d = Err 3
-base_in S K (Some g) d = if S.directory K g d then Ok tt else Err 9
+base_in S K None d = Err esrch
+base_in S K (Some g) d = if S.directory K g d then Ok tt else Err ebadf
 
 -- ESRCH where no living task holds the number, else by the directory of its group
 pub base_in_group : (S : System) (K : List Event) (h : Option ℕ) (d : ℤ) (g : Option ℕ) → g ≡ (if lives K h then opened K h else None) → base_answer S K h d ≡ base_in S K g d

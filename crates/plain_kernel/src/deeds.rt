@@ -9,6 +9,7 @@ ghost use Rattle.hist_model.specs.Deeds.{Deed};
 ghost use Rattle.hist_model.specs.Steps.{deed_step, put_answer, base_answer, is_spent};
 ghost use Rattle.hist_model.specs.declared.event.What.TheVariants.{OpenBase};
 ghost use Rattle.hist_model.specs.declared.script.Script.{Script as ScriptData};
+ghost use Rattle.sys_abi.specs.Errnos.{ebadf, edquot, efault};
 
 use hist_model::event::{Back, Event, What};
 use hist_model::policy::Cap;
@@ -88,7 +89,7 @@ fn is_source(script: &Script, number: u32) -> bool
 
 /// The answer of a request for a descriptor: EBADF where its source isn't open in the broker, else the listener's.
 fn asked_answer(script: &Script, events: &[Event], asked: &Addfd) -> Result<(), Errno>
-    ensures { result ≡ (if not ((system_of script.now).source asked.now.srcfd) then Err 9 else put_answer (system_of script.now) (reverse events.now) asked.now (named (reverse events.now) asked.now.id)) }
+    ensures { result ≡ (if not ((system_of script.now).source asked.now.srcfd) then Err ebadf else put_answer (system_of script.now) (reverse events.now) asked.now (named (reverse events.now) asked.now.id)) }
 {
     if !is_source(script, asked.srcfd) {
         return Err(Errno::EBADF);
@@ -172,7 +173,7 @@ fn act_answer(
     cap: Option<Cap>,
 ) -> Result<Result<(), Errno>, NoMemory>
     requires { StandsFor script.now (reverse events.now) files.now }
-    ensures { IfOk result (λ r. r ≡ (if is_spent (reverse events.now) cap then Err 122 else (system_of script.now).outcome (reverse events.now) worker request.now)) }
+    ensures { IfOk result (λ r. r ≡ (if is_spent (reverse events.now) cap then Err edquot else (system_of script.now).outcome (reverse events.now) worker request.now)) }
 {
     if is_spent(events, cap) {
         return Ok(Err(Errno::EDQUOT));
@@ -203,7 +204,7 @@ pub fn act(
 
 /// The outcome of writing the answer of sysinfo: EDQUOT as for an effect, EFAULT where one of its bytes isn't mapped.
 fn plant_answer(script: &Script, events: &[Event], addr: u64, cap: Option<Cap>) -> Result<(), Errno>
-    ensures { result ≡ (if is_spent (reverse events.now) cap then Err 122 else (if (system_of script.now).writable addr then Ok tt else Err 14)) }
+    ensures { result ≡ (if is_spent (reverse events.now) cap then Err edquot else (if (system_of script.now).writable addr then Ok tt else Err efault)) }
 {
     if is_spent(events, cap) {
         Err(Errno::EDQUOT)

@@ -2,7 +2,8 @@
 -- steps of deeds, unless it is a skip.
 use Rattle.std.proofs.Common.{◌≡◌, ℕ, false, List}
 use Rattle.hist_model.specs.Legal.{system_of, rules_of}
-use Rattle.hist_model.specs.Sessions.{deed, session, skips}
+use Rattle.hist_model.specs.Kinds.{skips}
+use Rattle.hist_model.specs.Sessions.{deed, session}
 use Rattle.hist_model.specs.Steps.{deed_step}
 use Rattle.hist_model.specs.declared.event.Event.{Event}
 use Rattle.hist_model.specs.declared.event.What.{What}

@@ -2,7 +2,8 @@
 use Rattle.std.proofs.Common.{◌≡◌, ℕ, ◌<◌, ◌≤◌, Bool, true, false, not, ◌&&◌, List, [], ◌∷◌, length, refl, ap, sym, ◌∙◌, Option, Some, None, arith}
 use Rattle.std.specs.Prelude.{slice_get, slice_set, if◌then◌else◌, ◌==◌}
 use Rattle.hist_model.specs.Look.{ev, is_worker}
-use Rattle.hist_model.specs.Sessions.{session, joined, skips}
+use Rattle.hist_model.specs.Kinds.{skips}
+use Rattle.hist_model.specs.Sessions.{session, joined}
 use Rattle.hist_model.specs.declared.event.Event.{Event}
 
 -- an event of another actor leaves a worker's session as it is

@@ -7,7 +7,8 @@ use Rattle.std.specs.Prelude.{slice_set, get_or, if◌then◌else◌, ◌==◌, 
 use Rattle.std.proofs.lemmas.Bool.{cases_Bool, eqb-true, eq-eqb, ne_eqb, cases_lt}
 use Rattle.hist_model.specs.Look.{Name, ev, is_worker}
 use Rattle.hist_model.specs.Legal.{system_of, rules_of, with_step, started}
-use Rattle.hist_model.specs.Sessions.{session, joined, skips, deed}
+use Rattle.hist_model.specs.Kinds.{skips}
+use Rattle.hist_model.specs.Sessions.{session, joined, deed}
 use Rattle.hist_model.specs.Steps.{step, deed_step, task_step, worker_step, start}
 use Rattle.hist_model.specs.declared.event.Event.{Event}
 use Rattle.hist_model.specs.declared.event.Actor.{Actor}

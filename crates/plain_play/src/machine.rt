@@ -3,7 +3,8 @@
 ghost use Rattle.std.specs.Prelude.{◌≡◌, ℕ, ◌<◌, ◌+◌, ◌^◌, List, [], ◌∷◌, length, reverse, OnOk, IfOk, Ok};
 ghost use Rattle.hist_model.specs.Look.{ev};
 ghost use Rattle.hist_model.specs.Legal.{system_of, rules_of, with_step, with_steps, with_schedule, started, played};
-ghost use Rattle.hist_model.specs.Sessions.{session, skips};
+ghost use Rattle.hist_model.specs.Kinds.{skips};
+ghost use Rattle.hist_model.specs.Sessions.{session};
 ghost use Rattle.hist_model.specs.Steps.{deed_step, worker_step};
 ghost use Rattle.hist_model.specs.declared.event.Event.{Event};
 ghost use Rattle.hist_model.specs.declared.event.Actor.TheVariants.{Task, Worker as WorkerActor};
@@ -137,7 +138,7 @@ impl Machine {
         ensures workers { self.new.workers ≡ self.old.workers }
     {
         let event = Event { who, what };
-        self.files.after(script, self.history.events(), &event)?;
+        self.files.apply(script, self.history.events(), &event)?;
         self.history.ready(1)?;
         self.history.push(event);
         Ok(())

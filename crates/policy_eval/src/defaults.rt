@@ -5,6 +5,7 @@ ghost use Rattle.hist_model.specs.Decisions.{lxd_mknod_rules, lxd_mknod_rule, de
 ghost use Rattle.hist_model.specs.FirstPath.{denying_policy};
 ghost use Rattle.hist_model.specs.declared.policy.Calls.TheVariants.{Named};
 ghost use Rattle.hist_model.specs.declared.policy.Cond.TheVariants.{Dev};
+ghost use Rattle.sys_abi.specs.Calls.{nr_mknod};
 
 use hist_model::policy::{Calls, Cond, Policy, Rule, Verdict};
 use hist_model::request::Kind;
@@ -79,7 +80,7 @@ fn denying_rule(
     minor: u32,
     error: Errno,
 ) -> Result<Rule, NoMemory>
-    ensures { IfOk result (λ r. r ≡ plain_rule name.now (Named (pos 133 ∷ [])) (Dev major minor ∷ []) (Verdict.Deny error)) }
+    ensures { IfOk result (λ r. r ≡ plain_rule name.now (Named (pos nr_mknod ∷ [])) (Dev major minor ∷ []) (Verdict.Deny error)) }
 {
     let calls = vec![in alloc; calls::MKNOD]?;
     let conds = vec![in alloc; Cond::Dev(major, minor)]?;

@@ -6,7 +6,7 @@ use Rattle.std.proofs.lemmas.Bool.Decides.{nat_tests}
 use Rattle.std.proofs.lemmas.List.{length-reverse, length-take}
 use Rattle.hist_model.specs.Look.{is_worker}
 use Rattle.hist_model.specs.Copies.{progress, wanted, fits_piece, heard, with_heard}
-use Rattle.hist_model.specs.Sessions.{skips}
+use Rattle.hist_model.specs.Kinds.{skips}
 use Rattle.hist_model.specs.ReportAudit.{session_at, session_step, is_shut, checked_twice, read_in, reads}
 use Rattle.hist_model.specs.declared.copy.Part.{Part}
 use Rattle.hist_model.specs.declared.event.Event.{Event}
@@ -137,5 +137,5 @@ pub taken_at : (parts : List Part) (w r i : ℕ) (events : List Event) (e : Even
 taken_at parts w r i events e facts later old new own counts l is o k f s v step =
     let q : facts_of (session_at w r (reverse (take (i + 1) events))) ≡ facts_after (i == r) own facts e.what = rw (facts_at w r i events e l, ← is, o, s) refl in
     let p : reads (session_at w r (reverse (take (i + 1) events))) ≡ (if counts then (reads (session_at w r (reverse (take i events))) ++ read_in e.what) else reads (session_at w r (reverse (take i events)))) =
-        rw (reads_at w r i events e l, ← is, k, o, s) refl in
+    rw (reads_at w r i events e l, ← is, k, o, s) refl in
     (f ∙ sym q, subst (λ xs. Follows parts (heard parts [] xs) new) (sym p) (step (reads (session_at w r (reverse (take i events)))) v))

@@ -1,3 +1,4 @@
+-- The number of a call leads to its name and back: by the lemmas on tables, where the numbers and names of the table differ.
 use Rattle.std.specs.Prelude.{ℕ, ℤ, pos, negsuc, Option, Some, None, List, IfSome}
 use Rattle.std.specs.Option.{option_map, option_copied}
 use Rattle.std.proofs.Common.{◌≡◌, refl, sym, ap, subst, Bor, rules}

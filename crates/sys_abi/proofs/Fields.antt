@@ -1,4 +1,5 @@
 -- The fields of a structure in memory: what was written at an offset is read there, and what was read leads back to its bytes.
+-- By what the library says of the bytes of one number, one field after the other.
 use Rattle.std.specs.Prelude.{ℕ, zero, suc, ℤ, ◌+◌, ◌<◌, ◌≤◌, ◌^◌, List, [], ◌∷◌, ◌++◌, length, take, drop, get_or}
 use Rattle.std.specs.Int.{w32, w64, from_le_bytes, cast_signed, cast_unsigned}
 use Rattle.std.specs.Int.RustNames.{FitsSigned}

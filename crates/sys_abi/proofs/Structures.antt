@@ -1,4 +1,5 @@
 -- The structures in memory: their bytes stand for them, and what bytes stand for has these bytes.
+-- By the lemmas on fields, one after the other.
 use Rattle.std.specs.Prelude.{ℕ, ◌<◌, ◌^◌, List, [], ◌∷◌, ◌++◌, length, take, drop, get_or, replicate}
 use Rattle.std.specs.Int.{w32, w64}
 use Rattle.std.specs.Int.RustNames.{FitsSigned}

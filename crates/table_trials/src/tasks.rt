@@ -5,7 +5,8 @@ use hist_model::request::TaskRef;
 use std::process::Abort;
 use std::test::Fail;
 use sys_abi::memory::OrNoMemory;
-use task_table::{NoChild, NoPid, NoTask, SIGUSR1, TaskTable};
+use sys_abi::signals::SIGUSR1;
+use task_table::{NoChild, NoPid, NoTask, TaskTable};
 
 /// The number of a task that was made.
 fn pid(made: &Result<(TaskRef, u32), OrNoMemory<NoPid>>) -> Option<u32> {

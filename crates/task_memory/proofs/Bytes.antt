@@ -2,7 +2,8 @@
 use Rattle.std.proofs.Common.{◌≡◌, ◌≢◌, ℕ, ◌<◌, true, false, List, ◌∷◌, length, Option, Some, None, refl, sym, ap, ◌∙◌, arith}
 use Rattle.std.specs.Prelude.{if◌then◌else◌}
 use Rattle.std.proofs.lemmas.Bool.{eq-eqb, ne_eqb}
-use Rattle.hist_model.specs.Memory.{byte, byte_or, byte_stored, copies, own_group, stored, storing_group, written, written_to}
+use Rattle.hist_model.specs.Kinds.{copies}
+use Rattle.hist_model.specs.Memory.{byte, byte_or, byte_stored, own_group, stored, storing_group, written, written_to}
 use Rattle.hist_model.specs.Steps.{place_or}
 use Rattle.hist_model.specs.declared.event.Event.{Event}
 use Rattle.hist_model.specs.declared.event.Actor.{Actor}

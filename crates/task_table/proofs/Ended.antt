@@ -5,7 +5,8 @@ use Rattle.std.proofs.lemmas.Bool.{cases_Bool, cases_eq, both_ways, eq-eqb, eqb-
 use Rattle.std.proofs.lemmas.List.{length-take}
 use Rattle.slab.specs.Slab.{get}
 use Rattle.hist_model.specs.Look.{Name, name_eq, is_task}
-use Rattle.hist_model.specs.Tasks.{makes, ended, was_waited_for, reaped, ends, name_of, parent, has_parent, is_some_of, delivers, handles}
+use Rattle.hist_model.specs.Kinds.{makes, ends, exits}
+use Rattle.hist_model.specs.Tasks.{ended, was_waited_for, reaped, name_of, parent, has_parent, is_some_of, delivers, handles}
 use Rattle.hist_model.specs.declared.event.Event.{Event}
 use Rattle.hist_model.specs.Signals.{is_default}
 use Rattle.hist_model.specs.declared.event.What.{What}
@@ -22,13 +23,14 @@ use Rattle.task_table.specs.declared.table.Task.{Task}
 use Rattle.task_table.specs.declared.table.TaskTable.{TaskTable}
 use Rattle.task_table.specs.Sets.{pending_of, modes_of, with_signal}
 use Rattle.task_table.specs.Table.{IsRef, SameCounts, IsIndexed, IsPut, IsForgotten, IsOrphaned, IsEnded, IsEndedWith, ended_task, without_parent, orphaned, left, reached}
-use Rattle.task_table.specs.Stands.{StandsFor, IsTask, IsParent, IsOrderly, IsStepOf, IsDelivery, exits}
+use Rattle.task_table.specs.Stands.{StandsFor, IsTask, IsParent, IsOrderly, IsStepOf, IsDelivery}
 use Rattle.task_table.proofs.Found.{reached-some}
 use Rattle.task_table.proofs.Signalled.{own-delivery, delivery-ends, pending-left-by, modes-left-by}
 use Rattle.task_table.proofs.Kept.{task-step, task-left, parent-kept, never, pending-left, pending-same, mode-left, modes-same, names-apart, none-both}
 use Rattle.task_table.proofs.Spawned.{reaped-new}
 use Rattle.task_table.proofs.Changed.{put-indexed, forget-indexed, counts-on}
 use Rattle.task_table.proofs.Stepped.{Own, own-leaves, own-touches, by-name, orderly-more, stands-from, ref-back, other-name, row-made, row-named}
+use Rattle.sys_abi.specs.Signals.{sigkill}
 
 -- the table between the task's own end and what its children are told
 mid-back : (p : Option ℕ) (old mid : TaskTable) (t : TaskRef) (r q : Task) → IsEndedWith p old t r q mid → (s : ℕ) (y : Task) → get mid.tasks s ≡ Some y
@@ -307,7 +309,7 @@ stands-exit base pidmax K e old new t r S step x h d =
     (d f.0)
 
 -- after the delivery of a signal that ends the task
-pub stands-deliver-end : (base pidmax : ℕ) (K : List Event) (e : Event) (old new : TaskTable) (t : TaskRef) (r q : Task) (s : ℕ) (m : Mode) → StandsFor base pidmax K old → IsStepOf K e t → IsDelivery e.what s m → ((s == 9) || is_default m) ≡ true
+pub stands-deliver-end : (base pidmax : ℕ) (K : List Event) (e : Event) (old new : TaskTable) (t : TaskRef) (r q : Task) (s : ℕ) (m : Mode) → StandsFor base pidmax K old → IsStepOf K e t → IsDelivery e.what s m → ((s == sigkill) || is_default m) ≡ true
     → reached old.tasks t ≡ Some r → q ≡ record r { pending = with_signal r.pending s false } → (get old.tasks t.slot ≡ Some r → IsEnded old t r q new) → StandsFor base pidmax (e ∷ K) new
 stands-deliver-end base pidmax K e old new t r q s m S step dl fatal h qs d =
     let f = reached-some (get old.tasks t.slot) t.ordinal r h in

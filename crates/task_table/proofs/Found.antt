@@ -5,7 +5,8 @@ use Rattle.std.proofs.lemmas.Bool.{cases_Bool, both_ways, and_parts, eq-eqb, eqb
 use Rattle.std.proofs.lemmas.List.Elements.{Contains-get_or}
 use Rattle.slab.specs.Slab.{get}
 use Rattle.hist_model.specs.Look.{Name, or_else}
-use Rattle.hist_model.specs.Tasks.{makes, ended, was_waited_for, reaped, is_made, alive, holds, holder, name_of, pid_of, is_some_of, is_none, free_from, next_pid, has_parent, parent}
+use Rattle.hist_model.specs.Kinds.{makes}
+use Rattle.hist_model.specs.Tasks.{ended, was_waited_for, reaped, is_made, alive, holds, holder, name_of, pid_of, is_some_of, is_none, free_from, next_pid, has_parent, parent}
 use Rattle.hist_model.specs.declared.event.Event.{Event}
 use Rattle.history_frames.specs.Ordinals.{place_of, task_name_of, name_at}
 use Rattle.history_frames.proofs.Ordinals.{place-below, place-makes, make-place, made-place}

@@ -3,7 +3,8 @@ use Rattle.std.proofs.Common.{◌≡◌, ℕ, Bool, true, false, ◌&&◌, List,
 use Rattle.std.specs.Prelude.{if◌then◌else◌}
 use Rattle.std.proofs.lemmas.Bool.{false_from_ne_true}
 use Rattle.hist_model.specs.Look.{Name, name_eq, is_task}
-use Rattle.hist_model.specs.Tasks.{makes, ended, reaped, ends, reaps, name_of, parent, child_of, handles, mode, pending, sends_signal, delivers}
+use Rattle.hist_model.specs.Kinds.{makes, ends}
+use Rattle.hist_model.specs.Tasks.{ended, reaped, reaps, name_of, parent, child_of, handles, mode, pending, sends_signal, delivers}
 use Rattle.hist_model.specs.declared.event.Event.{Event}
 use Rattle.hist_model.specs.declared.event.Mode.{Mode}
 use Rattle.hist_model.proofs.Look.{name_eq-true}
@@ -13,6 +14,7 @@ use Rattle.history_frames.proofs.Held.{ended-same, waited-same, reaped-same}
 use Rattle.task_table.specs.declared.table.Task.{Task}
 use Rattle.task_table.specs.Sets.{pending_of, modes_of}
 use Rattle.task_table.specs.Stands.{IsTask, IsParent}
+use Rattle.sys_abi.specs.Signals.{sigkill, sigusr1, sigusr2, sigterm}
 
 pub place-stays : (e : Event) (K : List Event) (o t : ℕ) → place_of K o ≡ Some t → place_of (e ∷ K) o ≡ Some t
 place-stays e K o t q = place-old makes e K o (place-below makes K o t q).0 ∙ q
@@ -58,10 +60,10 @@ unfolding pending
 pending-left e K n s h d = rw (h, d)
 
 pub pending-same : (K L : List Event) (n m : Name) → ((s : ℕ) → pending K n s ≡ pending L m s) → pending_of K n ≡ pending_of L m
-pending-same K L n m h = rw (h 9, h 10, h 12, h 15)
+pending-same K L n m h = rw (h sigkill, h sigusr1, h sigusr2, h sigterm)
 
 pub modes-same : (K L : List Event) (n m : Name) → ((s : ℕ) → mode K n s ≡ mode L m s) → modes_of K n ≡ modes_of L m
-modes-same K L n m h = rw (h 9, h 10, h 12, h 15)
+modes-same K L n m h = rw (h sigkill, h sigusr1, h sigusr2, h sigterm)
 
 -- such a task is as before, unless its parent ends
 pub task-left : (e : Event) (K : List Event) (r : Task) → (i : IsTask K r) → Leaves e K (name_of K i.place) → (ends e.what && is_task e.who (parent (name_of K i.place))) ≡ false → IsTask (e ∷ K) r

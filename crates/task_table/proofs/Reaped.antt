@@ -6,7 +6,8 @@ use Rattle.std.proofs.lemmas.Bool.{cases_eq, cases_order, cases_lt, both_ways, a
 use Rattle.std.proofs.lemmas.List.{get_or_read, get_or_default}
 use Rattle.slab.specs.Slab.{get}
 use Rattle.hist_model.specs.Look.{Name, name_eq, is_task, oldest, event_at}
-use Rattle.hist_model.specs.Tasks.{ended, was_waited_for, reaped, ends, reaps, name_of, parent, has_parent, is_some_of, makes, is_made, child_of, delivers, handles, sends_signal}
+use Rattle.hist_model.specs.Kinds.{ends, makes}
+use Rattle.hist_model.specs.Tasks.{ended, was_waited_for, reaped, reaps, name_of, parent, has_parent, is_some_of, is_made, child_of, delivers, handles, sends_signal}
 use Rattle.hist_model.specs.Steps.{is_child, is_ended_child, names_child, names_ended_child, makes_in, wait_step}
 use Rattle.hist_model.specs.declared.event.Event.{Event}
 use Rattle.hist_model.specs.declared.event.What.{What}
@@ -29,6 +30,7 @@ use Rattle.task_table.proofs.Spawned.{children-rise, ordinal-below}
 use Rattle.task_table.proofs.Changed.{never-by_both, forget-pids, counts-on}
 use Rattle.task_table.proofs.Stepped.{orderly-more, stands-from, ref-back, other-name, row-named}
 use Rattle.task_table.proofs.Ended.{told, untold}
+use Rattle.sys_abi.specs.Errnos.{echild}
 
 -- the children are gone through from the first one of the task
 pub scan-start : (T : TaskTable) (q i : ℕ) → IsIndexed T → i ≤ length T.children.items → (KeysRise T.children.items → IsStart T.children.items q i)
@@ -233,10 +235,10 @@ abbrev waits : List Event → Name → What
 waits K n = wait_step K (oldest (is_child K n) (length K)) (oldest (is_ended_child K n) (length K))
 
 pub wait-none : (base pidmax : ℕ) (K : List Event) (T : TaskTable) (t : TaskRef) → StandsFor base pidmax K T → IsRef T t → IsAlive K t → ((e : Entry) → Contains T.children.items e → e.key ≡ t.ordinal → ⊥)
-    → Reap (Err 10) ≡ wait_step K (oldest (is_child K (task_name_of K t.ordinal)) (length K)) (oldest (is_ended_child K (task_name_of K t.ordinal)) (length K))
+    → Reap (Err echild) ≡ wait_step K (oldest (is_child K (task_name_of K t.ordinal)) (length K)) (oldest (is_ended_child K (task_name_of K t.ordinal)) (length K))
 wait-none base pidmax K T t S i a n =
     let p = alive-place base pidmax K T t S i a in
-    subst (λ x. Reap (Err 10) ≡ waits K x) (sym p.2) (let q = none-child base pidmax K T t p.0 S p.1 p.3 n in rw q)
+    subst (λ x. Reap (Err echild) ≡ waits K x) (sym p.2) (let q = none-child base pidmax K T t p.0 S p.1 p.3 n in rw q)
 
 pub wait-later : (base pidmax : ℕ) (K : List Event) (T : TaskTable) (t c : TaskRef) → StandsFor base pidmax K T → IsRef T t → IsAlive K t → Contains T.children.items (under t.ordinal c) → ((j : ℕ) → IsEndedAt T t.ordinal j → ⊥)
     → Skip ≡ wait_step K (oldest (is_child K (task_name_of K t.ordinal)) (length K)) (oldest (is_ended_child K (task_name_of K t.ordinal)) (length K))

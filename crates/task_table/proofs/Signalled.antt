@@ -4,7 +4,8 @@ use Rattle.std.specs.Prelude.{if◌then◌else◌, ◌==◌, Ok}
 use Rattle.std.proofs.lemmas.Bool.{both_ways, and_parts}
 use Rattle.slab.specs.Slab.{get}
 use Rattle.hist_model.specs.Look.{Name, name_eq, is_task}
-use Rattle.hist_model.specs.Tasks.{ends, reaps, name_of, parent, child_of, makes, handles, mode, pending, sends_signal, delivers, is_made, is_named, holder}
+use Rattle.hist_model.specs.Kinds.{ends, makes}
+use Rattle.hist_model.specs.Tasks.{reaps, name_of, parent, child_of, handles, mode, pending, sends_signal, delivers, is_made, is_named, holder}
 use Rattle.hist_model.specs.Signals.{effect_in_call, effect_outside, is_default, due, held, next_signal}
 use Rattle.hist_model.specs.declared.event.Event.{Event}
 use Rattle.hist_model.specs.declared.event.Actor.TheVariants.{Task as TaskActor}
@@ -26,6 +27,7 @@ use Rattle.task_table.specs.Stands.{StandsFor, IsTask, IsParent, IsStepOf, IsDel
 use Rattle.task_table.proofs.Found.{reached-some}
 use Rattle.task_table.proofs.Kept.{task-step, task-left, parent-kept, names-apart, never, none-both, mode-left, modes-same}
 use Rattle.task_table.proofs.Stepped.{Touches, Own, orderly-more, stands-put, own-leaves, own-touches, by-name, other-name, row-made, row-named}
+use Rattle.sys_abi.specs.Signals.{sigkill, sigusr1, sigusr2, sigterm}
 
 -- the signals that are pending after one was sent, and after one was delivered
 pending-sent : (e : Event) (K : List Event) (n : Name) (s : ℕ) (b : Bool) → sends_signal K e.what n s ≡ (b && true) → (delivers e.what s && is_task e.who n) ≡ false → pending (e ∷ K) n s ≡ (if b then true else pending K n s)
@@ -91,7 +93,7 @@ module _ (base pidmax : ℕ) (K : List Event) (e : Event) (old new : TaskTable) 
       stands-put base pidmax K e old new t r q S (put found.0) found.0 (ap (λ (x : Task). x.ordinal) qs) (ap (λ (x : Task). x.pid) qs) (ap (λ (x : Task). x.parent) qs) m (orderly-more e K m touches S.orderly)
       (task-step e K r q row (ap (λ (x : Task). x.ordinal) qs) (ap (λ (x : Task). x.pid) qs) (reaped-same e K n (waited-same e K n (no_reap n)) d a ∙ row.unreaped)
       (ap (λ (x : Task). x.ended) qs ∙ (row.ended_is ∙ sym d))
-      (ap (λ (x : Task). x.pending) qs ∙ (ap (λ x. with_signal x sig true) row.pending_is ∙ rw (set 9, set 10, set 12, set 15)))
+      (ap (λ (x : Task). x.pending) qs ∙ (ap (λ x. with_signal x sig true) row.pending_is ∙ rw (set sigkill, set sigusr1, set sigusr2, set sigterm)))
       (ap (λ (x : Task). x.modes) qs ∙ (row.modes_is ∙ sym (modes-same (e ∷ K) K n n (λ s. mode-left e K n s (no_handler n s) (unnamed n (row-named K r S.orderly row))))))
       (subst (λ x. IsParent (e ∷ K) n x) (sym (ap (λ (x : Task). x.parent) qs)) (parent-kept e K n r.parent a row.parent_is)))
       (λ s x g c.
@@ -108,10 +110,10 @@ module _ (base pidmax : ℕ) (K : List Event) (e : Event) (old new : TaskTable) 
       }) (no_end (parent k)))
 
 -- a delivery ends its task where it is of SIGKILL or of a signal without a handler
-pub delivery-ends : (w : What) (s : ℕ) (m : Mode) → IsDelivery w s m → ends w ≡ ((s == 9) || is_default m)
-delivery-ends w s m d = elim d [ inl h ↦ ap ends h ∙ in-call m (s == 9) refl | inr h ↦ ap ends h ∙ outside m (s == 9) refl ]
+pub delivery-ends : (w : What) (s : ℕ) (m : Mode) → IsDelivery w s m → ends w ≡ ((s == sigkill) || is_default m)
+delivery-ends w s m d = elim d [ inl h ↦ ap ends h ∙ in-call m (s == sigkill) refl | inr h ↦ ap ends h ∙ outside m (s == sigkill) refl ]
   where
-    in-call : (m : Mode) (b : Bool) → (s == 9) ≡ b → ends (Deliver s (effect_in_call s m)) ≡ ((s == 9) || is_default m)
+    in-call : (m : Mode) (b : Bool) → (s == sigkill) ≡ b → ends (Deliver s (effect_in_call s m)) ≡ ((s == sigkill) || is_default m)
     in-call Default true h = rw h
     in-call Default false h = rw h
     in-call Restart true h = rw h
@@ -119,7 +121,7 @@ delivery-ends w s m d = elim d [ inl h ↦ ap ends h ∙ in-call m (s == 9) refl
     in-call Plain true h = rw h
     in-call Plain false h = rw h
 
-    outside : (m : Mode) (b : Bool) → (s == 9) ≡ b → ends (Deliver s (effect_outside s m)) ≡ ((s == 9) || is_default m)
+    outside : (m : Mode) (b : Bool) → (s == sigkill) ≡ b → ends (Deliver s (effect_outside s m)) ≡ ((s == sigkill) || is_default m)
     outside Default true h = rw h
     outside Default false h = rw h
     outside Restart true h = rw h
@@ -144,7 +146,7 @@ pub pending-left-by : (e : Event) (K : List Event) (n : Name) (s : ℕ) (m : Mod
 pending-left-by e K n s m d w =
     let own = own-delivery e.what s m d in
     let set = λ (u : ℕ). pending-delivered e K n u (s == u) (own.not_sent K n u) (delivers-it e.what s m d u) w in
-    rw (set 9, set 10, set 12, set 15)
+    rw (set sigkill, set sigusr1, set sigusr2, set sigterm)
 
 pub modes-left-by : (e : Event) (K : List Event) (n : Name) (s : ℕ) (m : Mode) → IsDelivery e.what s m → (n ≡ [] → ⊥) → modes_of (e ∷ K) n ≡ modes_of K n
 modes-left-by e K n s m d h =
@@ -152,7 +154,7 @@ modes-left-by e K n s m d h =
     modes-same (e ∷ K) K n n (λ u. mode-left e K n u (let b = delivery-handles e.what s m d u in rw b (none-both (is_task e.who n))) (ap (λ x. name_eq x n) own.child_is ∙ names-apart [] n (λ q. h (sym q))))
 
 -- after the delivery of a signal that a handler catches
-pub stands-deliver : (base pidmax : ℕ) (K : List Event) (e : Event) (old new : TaskTable) (t : TaskRef) (r q : Task) (s : ℕ) (m : Mode) → StandsFor base pidmax K old → IsStepOf K e t → IsDelivery e.what s m → ((s == 9) || is_default m) ≡ false
+pub stands-deliver : (base pidmax : ℕ) (K : List Event) (e : Event) (old new : TaskTable) (t : TaskRef) (r q : Task) (s : ℕ) (m : Mode) → StandsFor base pidmax K old → IsStepOf K e t → IsDelivery e.what s m → ((s == sigkill) || is_default m) ≡ false
     → reached old.tasks t ≡ Some r → q ≡ record r { pending = with_signal r.pending s false } → (get old.tasks t.slot ≡ Some r → IsPut old t q new) → StandsFor base pidmax (e ∷ K) new
 stands-deliver base pidmax K e old new t r q s m S step dl fatal h qs put =
     let f = reached-some (get old.tasks t.slot) t.ordinal r h in
@@ -181,13 +183,13 @@ stands-deliver base pidmax K e old new t r q s m S step dl fatal h qs put =
 pub next-at : (killable : Bool) (K : List Event) (n : Name) → next_of (pending_of K n) (modes_of K n) (held killable K n) ≡ with_mode K n (next_signal killable K n)
 unfolding next_signal
 next-at killable K n =
-    let k : due killable K n 9 ≡ pending K n 9 = always (pending K n 9) (not (held killable K n)) in
-    rw k (first (pending K n 9) (due killable K n 10) (due killable K n 12) (due killable K n 15))
+    let k : due killable K n sigkill ≡ pending K n sigkill = always (pending K n sigkill) (not (held killable K n)) in
+    rw k (first (pending K n sigkill) (due killable K n sigusr1) (due killable K n sigusr2) (due killable K n sigterm))
   where
     always : (p h : Bool) → (p && (h || true)) ≡ p
     always p h = grind arith
 
-    first : (a b c d : Bool) → (if a then Some (9, mode K n 9) else (if b then Some (10, mode K n 10) else (if c then Some (12, mode K n 12) else (if d then Some (15, mode K n 15) else None)))) ≡ with_mode K n (if a then Some 9 else (if b then Some 10 else (if c then Some 12 else (if d then Some 15 else None))))
+    first : (a b c d : Bool) → (if a then Some (sigkill, mode K n sigkill) else (if b then Some (sigusr1, mode K n sigusr1) else (if c then Some (sigusr2, mode K n sigusr2) else (if d then Some (sigterm, mode K n sigterm) else None)))) ≡ with_mode K n (if a then Some sigkill else (if b then Some sigusr1 else (if c then Some sigusr2 else (if d then Some sigterm else None))))
     first true b c d = refl
     first false true c d = refl
     first false false true d = refl

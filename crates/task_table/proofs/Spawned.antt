@@ -5,7 +5,8 @@ use Rattle.std.proofs.lemmas.Bool.{cases_eq, both_ways, lt-ltb, eq-eqb, eqb-true
 use Rattle.std.proofs.lemmas.List.Elements.{Contains-get_or}
 use Rattle.slab.specs.Slab.{get}
 use Rattle.hist_model.specs.Look.{Name, name_eq, is_task}
-use Rattle.hist_model.specs.Tasks.{ended, was_waited_for, reaped, ends, reaps, name_of, parent, has_parent, child_of, given, makes, handles, mode, pending, sends_signal, delivers, is_made, is_none, holder, last_pid}
+use Rattle.hist_model.specs.Kinds.{ends, makes}
+use Rattle.hist_model.specs.Tasks.{ended, was_waited_for, reaped, reaps, name_of, parent, has_parent, child_of, given, handles, mode, pending, sends_signal, delivers, is_made, is_none, holder, last_pid}
 use Rattle.hist_model.specs.declared.event.Event.{Event}
 use Rattle.hist_model.specs.declared.event.SpawnKind.{SpawnKind}
 use Rattle.hist_model.specs.declared.event.What.TheVariants.{Spawn}
@@ -27,6 +28,7 @@ use Rattle.task_table.proofs.Mirrors.{mirrors-same, mirrors-insert, ordered-inse
 use Rattle.task_table.proofs.Found.{reached-from, is-held}
 use Rattle.task_table.proofs.Started.{ref-same}
 use Rattle.task_table.proofs.Kept.{Leaves, task-left, names-apart, never, none-both, mode-left, pending-left, modes-same, place-stays}
+use Rattle.sys_abi.specs.Signals.{sigkill, sigusr1, sigusr2, sigterm}
 
 pub less : (x y : ℕ) → x ≤ y → (x ≡ y → ⊥) → x < y
 less x y l n = omega arith
@@ -114,8 +116,8 @@ inherits : (base pidmax : ℕ) (K : List Event) (T : TaskTable) (n : Name) (pare
 inherits base pidmax K T n None S i c = sym (root n c)
   where
     root : (n : Name) → has_parent n ≡ false → modes_of K (parent n) ≡ all_signals Default
-    root [] c = rw (S.orderly.defaults 9, S.orderly.defaults 10, S.orderly.defaults 12, S.orderly.defaults 15)
-    root (x ∷ []) c = rw (S.orderly.defaults 9, S.orderly.defaults 10, S.orderly.defaults 12, S.orderly.defaults 15)
+    root [] c = rw (S.orderly.defaults sigkill, S.orderly.defaults sigusr1, S.orderly.defaults sigusr2, S.orderly.defaults sigterm)
+    root (x ∷ []) c = rw (S.orderly.defaults sigkill, S.orderly.defaults sigusr1, S.orderly.defaults sigusr2, S.orderly.defaults sigterm)
     root (x ∷ (y ∷ m)) c = absurd (omega (arith, leb-false 2 (length (x ∷ (y ∷ m))) c))
 inherits base pidmax K T n (Some p) S i c =
     let x = S.slots p.ordinal c.1 c.2 (unreaped-alive K (name_of K c.1) (ap (ended K) c.3 ∙ c.4) (S.orderly.waited (name_of K c.1))) in
@@ -236,7 +238,7 @@ module _ (base pidmax : ℕ) (K : List Event) (e : Event) (old new : TaskTable) 
       none-pending : (n : Name) → ((s : ℕ) → pending K n s ≡ false) → pending_of (e ∷ K) n ≡ all_signals false
       none-pending n h =
           let g = λ (s : ℕ). pending-left e K n s (facts.not_sent K n s) (facts.not_delivered n s) ∙ h s in
-          rw (g 9, g 10, g 12, g 15)
+          rw (g sigkill, g sigusr1, g sigusr2, g sigterm)
 
   tasks-spawn : (s : ℕ) (r : Task) → get new.tasks s ≡ Some r → IsTask (e ∷ K) r
   tasks-spawn s r g =

@@ -4,7 +4,8 @@ use Rattle.std.specs.Prelude.{if◌then◌else◌, ◌==◌}
 use Rattle.std.proofs.lemmas.Bool.{cases_eq, both_ways, and_parts, or_cases, false_from_ne_true}
 use Rattle.slab.specs.Slab.{get}
 use Rattle.hist_model.specs.Look.{Name, name_eq, is_task}
-use Rattle.hist_model.specs.Tasks.{ended, was_waited_for, reaped, ends, reaps, name_of, parent, child_of, given, makes, handles, mode, mode_or, pending, sends_signal, delivers, is_made, last_pid}
+use Rattle.hist_model.specs.Kinds.{ends, makes}
+use Rattle.hist_model.specs.Tasks.{ended, was_waited_for, reaped, reaps, name_of, parent, child_of, given, handles, mode, mode_or, pending, sends_signal, delivers, is_made, last_pid}
 use Rattle.hist_model.specs.declared.event.Event.{Event}
 use Rattle.hist_model.specs.declared.event.Actor.TheVariants.{Task as TaskActor}
 use Rattle.hist_model.specs.declared.event.What.{What}
@@ -23,6 +24,7 @@ use Rattle.task_table.specs.Stands.{StandsFor, IsTask, IsParent, IsOrderly, IsSt
 use Rattle.task_table.proofs.Found.{reaped-lost, reaped-ended, reached-some}
 use Rattle.task_table.proofs.Kept.{Leaves, task-step, task-left, parent-kept, names-apart, never, pending-left, pending-same}
 use Rattle.task_table.proofs.Changed.{put-indexed}
+use Rattle.sys_abi.specs.Signals.{sigkill, sigusr1, sigusr2, sigterm}
 
 -- what the event does, it does to tasks that were made
 pub record Touches (K : List Event) (e : Event) : Type 0 where
@@ -225,7 +227,7 @@ stands-handler base pidmax K e old new t r q sig m S step w h qs put =
     (task-step e K r q i (ap (λ (x : Task). x.ordinal) qs) (ap (λ (x : Task). x.pid) qs) (reaped-same e K n (waited-same e K n (own.not_reaped n)) d a ∙ i.unreaped)
     (ap (λ (x : Task). x.ended) qs ∙ (i.ended_is ∙ sym d))
     (ap (λ (x : Task). x.pending) qs ∙ (i.pending_is ∙ sym (pending-same (e ∷ K) K n n (λ s. pending-left e K n s (own.not_sent K n s) (let b : delivers e.what s ≡ false = ap (λ x. delivers x s) w in rw b)))))
-    (ap (λ (x : Task). x.modes) qs ∙ (ap (λ x. with_signal x sig m) i.modes_is ∙ rw (set 9, set 10, set 12, set 15)))
+    (ap (λ (x : Task). x.modes) qs ∙ (ap (λ x. with_signal x sig m) i.modes_is ∙ rw (set sigkill, set sigusr1, set sigusr2, set sigterm)))
     (subst (λ x. IsParent (e ∷ K) n x) (sym (ap (λ (x : Task). x.parent) qs)) (parent-kept e K n r.parent a i.parent_is)))
     (λ s x g' c. let j = S.tasks s x g' in
     task-left e K x j (own-leaves K e n who own (name_of K j.place) (other-name base pidmax K old t.slot s r x S g g' c) (row-named K x S.orderly j)) (no_end (parent (name_of K j.place))))

@@ -2,7 +2,8 @@
 use Rattle.std.specs.Prelude.{ℕ, Bool, ◌==◌, ◌&&◌, ◌||◌, not, if◌then◌else◌, List, Option, Some, None}
 use Rattle.hist_model.specs.Look.{Name}
 use Rattle.hist_model.specs.Tasks.{pending, mode}
-use Rattle.hist_model.specs.Signals.{is_default, sigkill, sigusr1, sigusr2, sigterm}
+use Rattle.hist_model.specs.Signals.{is_default}
+use Rattle.sys_abi.specs.Signals.{sigkill, sigusr1, sigusr2, sigterm}
 use Rattle.hist_model.specs.declared.event.Event.{Event}
 use Rattle.hist_model.specs.declared.event.Mode.{Mode}
 use Rattle.task_table.specs.declared.signals.BySignal.{BySignal}

@@ -101,12 +101,6 @@ pub record IsStepOf (K : List Event) (e : Event) (t : TaskRef) : Type 0 where
 abbrev pub IsAlive : List Event → TaskRef → Type 0
 IsAlive K t = ended K (task_name_of K t.ordinal) ≡ false
 
--- the step ends its task, and delivers no signal
-abbrev pub exits : What → Bool
-exits Exit = true
-exits (Enter nr args Kill) = true
-exits _ = false
-
 -- the step delivers this signal, in a listed call or elsewhere
 abbrev pub IsDelivery : What → ℕ → Mode → Type 0
 IsDelivery w s m = (w ≡ Deliver s (effect_in_call s m)) ⊎ (w ≡ Deliver s (effect_outside s m))

@@ -14,5 +14,4 @@ pub mod laws;
 mod signals;
 mod table;
 
-pub use signals::{SIGKILL, SIGTERM, SIGUSR1, SIGUSR2};
 pub use table::{NoChild, NoPid, NoTask, TaskTable};

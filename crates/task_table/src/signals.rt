@@ -3,17 +3,7 @@
 ghost use Rattle.std.specs.Prelude.{◌≡◌};
 ghost use Rattle.task_table.specs.Sets.{with_signal};
 
-/// The signal that no handler can catch.
-pub const SIGKILL: u8 = 9;
-
-/// The first signal for a program's own use.
-pub const SIGUSR1: u8 = 10;
-
-/// The second signal for a program's own use.
-pub const SIGUSR2: u8 = 12;
-
-/// The signal that asks a program to end.
-pub const SIGTERM: u8 = 15;
+use sys_abi::signals::{SIGKILL, SIGTERM, SIGUSR1, SIGUSR2};
 
 /// A value for each signal that a task can get.
 #[derive(Clone, Copy, PartialEq, Eq, Debug)]

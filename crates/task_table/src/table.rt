@@ -13,10 +13,12 @@ ghost use Rattle.task_table.specs.Index.{by_key, IsOrdered, KeysRise, first_free
 ghost use Rattle.sys_abi.specs.Memory.{was_refused, lacked_memory};
 ghost use Rattle.task_table.specs.Table.{reached, inherited, HasRoom, IsAdded, SameTasks, IsRef, IsParentRef, IsPut, IsForgotten, IsLeft, IsIndexed, IsOrphaned, IsEnded, IsEndedAt, has_ended};
 ghost use Rattle.task_table.specs.Sets.{next_of, may_come, with_mode};
-ghost use Rattle.task_table.specs.Stands.{StandsFor, IsSpawn, IsStepOf, IsAlive, IsDelivery, exits, place_found, reap_step};
+ghost use Rattle.hist_model.specs.Kinds.{exits};
+ghost use Rattle.task_table.specs.Stands.{StandsFor, IsSpawn, IsStepOf, IsAlive, IsDelivery, place_found, reap_step};
+ghost use Rattle.sys_abi.specs.Signals.{sigkill};
 
 use crate::index::{self, Entry};
-use crate::signals::{BySignal, SIGKILL, SIGTERM, SIGUSR1, SIGUSR2};
+use crate::signals::BySignal;
 use hist_model::event::Mode;
 use hist_model::request::TaskRef;
 use slab::Slab;
@@ -402,7 +404,7 @@ fn may_come(mode: Mode, held: bool) -> bool
 
 /// A signal of this mode ends its task.
 fn is_fatal(sig: u8, mode: Mode) -> bool
-    ensures { result ≡ ((sig == 9) || is_default mode) }
+    ensures { result ≡ ((sig == sigkill) || is_default mode) }
 {
     sig == SIGKILL || mode == Mode::Default
 }

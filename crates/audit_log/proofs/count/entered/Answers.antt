@@ -1,6 +1,6 @@
 use Rattle.std.proofs.Common.{rules, ◌≡◌, sym, ◌∙◌}
 use Rattle.std.specs.Prelude.{count_by}
-use Rattle.hist_model.specs.Memory.{enters}
+use Rattle.hist_model.specs.Kinds.{enters}
 use Rattle.hist_model.specs.declared.event.Event.{Event}
 use Rattle.audit_log.proofs.Counted.{count_reversed}
 use Rattle.audit_log.proofs.count.entered.Goals as goal

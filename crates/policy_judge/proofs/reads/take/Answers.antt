@@ -6,6 +6,7 @@ use Rattle.arg_capture.specs.Captures.{continued}
 use Rattle.arg_capture.proofs.Answering.{fit_fault}
 use Rattle.policy_judge.proofs.Heard.{follows_taken}
 use Rattle.policy_judge.proofs.reads.take.Goals as goal
+use Rattle.sys_abi.specs.Errnos.{efault}
 
 pub returns-in-Ok : goal.returns-in-Ok
 returns-in-Ok c = λ parts answers f.
@@ -16,4 +17,4 @@ pub returns-in-Err : goal.returns-in-Err
 returns-in-Err c = λ parts answers f.
     let h : fits_piece (wanted (continued c.args.capture.now [])) c.args.answer.now ≡ true = search rules in
     let k : fits_piece (wanted (continued c.args.capture.now [])) (Err c.in-Err.field-0) ≡ true = rw c.in-Err.is at h in
-    follows_taken parts answers c.args.capture.now c.feed-in-Err.new.self c.args.answer.now (Err 14) c.feed-in-Err.result f h (c.in-Err.is ∙ ap Err (fit_fault (wanted (continued c.args.capture.now [])) c.in-Err.field-0 k)) (c.feed-in-Err.ensures.follows parts answers f)
+    follows_taken parts answers c.args.capture.now c.feed-in-Err.new.self c.args.answer.now (Err efault) c.feed-in-Err.result f h (c.in-Err.is ∙ ap Err (fit_fault (wanted (continued c.args.capture.now [])) c.in-Err.field-0 k)) (c.feed-in-Err.ensures.follows parts answers f)

@@ -14,5 +14,4 @@ returns-in-Some-Value-default-eq0-clause-same t c = λ later.
 pub returns-in-Some-Value-clause-same : goal.returns-in-Some-Value-clause-same
 returns-in-Some-Value-clause-same t c = λ later.
     let e : first_part c.args.self.now.parts ≡ Some (part.Value c.in-Some-Value.field-0-0 c.in-Some-Value.size) = search rules in
-    let q : c.errno.result ≡ 7 = c.errno.ensures in
-    rw q (settles_big c.args.self.now c.in-Some-Value.field-0-0 c.in-Some-Value.size later e c.if-size.true)
+    settles_big c.args.self.now c.in-Some-Value.field-0-0 c.in-Some-Value.size later e c.if-size.true

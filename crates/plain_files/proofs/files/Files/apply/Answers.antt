@@ -1,6 +1,6 @@
 use Rattle.std.proofs.Common.{reverse}
 use Rattle.plain_files.proofs.Changed.{after_stands}
-use Rattle.plain_files.proofs.files.Files.after.Goals as goal
+use Rattle.plain_files.proofs.files.Files.apply.Goals as goal
 
 pub returns : goal.returns
 returns c =
