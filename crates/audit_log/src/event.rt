@@ -7,7 +7,7 @@ ghost use Rattle.hist_model.specs.ReportJournal.{request_text, spawn_kind_text, 
 use crate::line::Line;
 use crate::request::push_request;
 use crate::words::{
-    push_back, push_call, push_errno, push_hex, push_hex_or_dash, push_name, push_number_or_errno,
+    push_back, push_call, push_errno, push_hex_or_dash, push_name, push_number_or_errno,
     push_result,
 };
 use hist_model::event::{Back, Delivered, Entered, Mode, SpawnKind, What};
@@ -125,7 +125,7 @@ fn push_poke(line: &mut Line, addr: u64, bytes: &Text) -> Result<(), NoMemory>
     line.push("poke ")?;
     line.push_number(addr)?;
     line.push(" ")?;
-    push_hex(line, bytes.items())
+    line.push_hex(bytes.items())
 }
 
 /// Adds a word, a signal and another word.

@@ -2,8 +2,10 @@
 
 ghost use Rattle.std.specs.Prelude.{◌≡◌, ◌++◌, [], OnOk, decimal};
 ghost use Rattle.std.specs.Fmt.{signed_decimal};
+ghost use Rattle.hist_model.specs.ReportWords.{hex, quoted};
 
 use itoa::Buffer;
+use plain_words::{push_hex, push_quoted};
 use std::alloc::Global;
 use std::marker::Model;
 use sys_abi::memory::NoMemory;
@@ -59,6 +61,20 @@ impl Line {
         ensures { OnOk result (self.new ≡ self.old ++ text.now) }
     {
         self.push_bytes(text.as_bytes())
+    }
+
+    /// Adds bytes as digits of base 16.
+    pub(crate) fn push_hex(&mut self, bytes: &[u8]) -> Result<(), NoMemory>
+        ensures { OnOk result (self.new ≡ self.old ++ hex bytes.now) }
+    {
+        push_hex(&mut self.bytes, bytes)
+    }
+
+    /// Adds a text between quotes.
+    pub(crate) fn push_quoted(&mut self, text: &[u8]) -> Result<(), NoMemory>
+        ensures { OnOk result (self.new ≡ self.old ++ quoted text.now) }
+    {
+        push_quoted(&mut self.bytes, text)
     }
 
     /// Adds a number.

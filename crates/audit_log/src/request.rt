@@ -6,7 +6,7 @@ ghost use Rattle.hist_model.specs.ReportJournal.{maker_text, node_text, request_
 ghost use Rattle.sys_abi.specs.Devices.{major_of, minor_of};
 
 use crate::line::Line;
-use crate::words::{push_call, push_hex_or_dash, push_or_dash, push_quoted};
+use crate::words::{push_call, push_hex_or_dash, push_or_dash};
 use hist_model::request::{Kind, Request};
 use hist_model::text::Text;
 use sys_abi::device::split_dev;
@@ -58,7 +58,7 @@ fn push_mknod(
     ensures { OnOk result (line.new ≡ line.old ++ request_text (Request.Mknod dirfd path.now mode dev)) }
 {
     push_maker(line, dirfd)?;
-    push_quoted(line, path.items())?;
+    line.push_quoted(path.items())?;
     line.push(" ")?;
     push_node(line, Kind::of_mode(mode), dev)
 }
@@ -113,11 +113,11 @@ fn push_mount_point(
     ensures { OnOk result (line.new ≡ line.old ++ (codes "mount " ++ quoted source.now ++ codes " " ++ quoted target.now ++ codes " " ++ quoted fstype.now)) }
 {
     line.push("mount ")?;
-    push_quoted(line, source.items())?;
+    line.push_quoted(source.items())?;
     line.push(" ")?;
-    push_quoted(line, target.items())?;
+    line.push_quoted(target.items())?;
     line.push(" ")?;
-    push_quoted(line, fstype.items())
+    line.push_quoted(fstype.items())
 }
 
 /// Adds the other words of a mount.
@@ -133,7 +133,7 @@ fn push_mount_options(
     line.push(" flags=")?;
     line.push_number(flags)?;
     line.push(" data=")?;
-    push_quoted(line, options.items())?;
+    line.push_quoted(options.items())?;
     line.push(" via=")?;
     push_or_dash(line, via.items())?;
     line.push(" shift=")?;
@@ -151,9 +151,9 @@ fn push_setxattr(
     ensures { OnOk result (line.new ≡ line.old ++ request_text (Request.SetXattr path.now name.now value.now flags)) }
 {
     line.push("setxattr ")?;
-    push_quoted(line, path.items())?;
+    line.push_quoted(path.items())?;
     line.push(" ")?;
-    push_quoted(line, name.items())?;
+    line.push_quoted(name.items())?;
     line.push(" ")?;
     push_hex_or_dash(line, value.items())?;
     line.push(" flags=")?;

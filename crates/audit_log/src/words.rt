@@ -1,8 +1,8 @@
 //! The words of a report: bytes as text, names, errors, and who takes a step.
 
-ghost use Rattle.std.specs.Prelude.{◌≡◌, ◌++◌, ◌<◌, OnOk, codes, decimal};
+ghost use Rattle.std.specs.Prelude.{◌≡◌, ◌++◌, OnOk, codes, decimal};
 ghost use Rattle.std.specs.List.{flat_map};
-ghost use Rattle.hist_model.specs.ReportWords.{hex_digit, hex_byte, hex, hex_or_dash, quoted_byte, quoted, or_dash, name_text, errno_text, call_text, result_text, number_text, back_text, actor_text};
+ghost use Rattle.hist_model.specs.ReportWords.{hex_or_dash, or_dash, name_text, errno_text, call_text, result_text, number_text, back_text, actor_text};
 
 use crate::line::Line;
 use hist_model::event::{Actor, Back};
@@ -11,31 +11,6 @@ use sys_abi::calls::call_name;
 use sys_abi::errno::Errno;
 use sys_abi::memory::NoMemory;
 
-/// A digit of base 16.
-fn hex_digit(d: u8) -> u8
-    requires { d < 16 }
-    ensures { result ≡ hex_digit d }
-{
-    if d < 10 { b'0' + d } else { b'a' - 10 + d }
-}
-
-/// Adds a byte as two digits of base 16.
-fn push_hex_byte(line: &mut Line, byte: u8) -> Result<(), NoMemory>
-    ensures { OnOk result (line.new ≡ line.old ++ hex_byte byte) }
-{
-    line.push_bytes(&[hex_digit(byte / 16), hex_digit(byte % 16)])
-}
-
-/// Adds bytes as digits of base 16.
-pub(crate) fn push_hex(line: &mut Line, bytes: &[u8]) -> Result<(), NoMemory>
-    ensures { OnOk result (line.new ≡ line.old ++ hex bytes.now) }
-{
-    for byte in bytes {
-        push_hex_byte(line, *byte)?;
-    }
-    Ok(())
-}
-
 /// Adds bytes as digits of base 16, or `-` where there are none.
 pub(crate) fn push_hex_or_dash(line: &mut Line, bytes: &[u8]) -> Result<(), NoMemory>
     ensures { OnOk result (line.new ≡ line.old ++ hex_or_dash bytes.now) }
@@ -43,41 +18,8 @@ pub(crate) fn push_hex_or_dash(line: &mut Line, bytes: &[u8]) -> Result<(), NoMe
     if bytes.is_empty() {
         line.push("-")
     } else {
-        push_hex(line, bytes)
+        line.push_hex(bytes)
     }
-}
-
-/// Adds a byte of a quoted text.
-fn push_quoted_byte(line: &mut Line, byte: u8) -> Result<(), NoMemory>
-    ensures { OnOk result (line.new ≡ line.old ++ quoted_byte byte) }
-{
-    if byte == b'"' || byte == b'\\' {
-        line.push_bytes(&[b'\\', byte])
-    } else if 32 <= byte && byte <= 126 {
-        line.push_bytes(&[byte])
-    } else {
-        line.push("\\x")?;
-        push_hex_byte(line, byte)
-    }
-}
-
-/// Adds the bytes of a quoted text.
-fn push_quoted_bytes(line: &mut Line, text: &[u8]) -> Result<(), NoMemory>
-    ensures { OnOk result (line.new ≡ line.old ++ flat_map quoted_byte text.now) }
-{
-    for byte in text {
-        push_quoted_byte(line, *byte)?;
-    }
-    Ok(())
-}
-
-/// Adds a text between quotes.
-pub(crate) fn push_quoted(line: &mut Line, text: &[u8]) -> Result<(), NoMemory>
-    ensures { OnOk result (line.new ≡ line.old ++ quoted text.now) }
-{
-    line.push("\"")?;
-    push_quoted_bytes(line, text)?;
-    line.push("\"")
 }
 
 /// Adds a text as it is, or `-` where it is empty.

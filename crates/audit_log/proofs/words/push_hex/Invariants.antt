@@ -1,7 +1,0 @@
-use Rattle.std.proofs.Common.{◌≡◌, ◌++◌, take}
-use Rattle.std.specs.List.{flat_map}
-use Rattle.hist_model.specs.ReportWords.{hex_byte}
-use Rattle.audit_log.proofs.words.push_hex.Given as goal
-
-abbrev pub invariant-loop-byte : goal.invariant-loop-byte
-invariant-loop-byte l = l.line ≡ l.fn.line ++ flat_map hex_byte (take l.byte-index l.bytes)

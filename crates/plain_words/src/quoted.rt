@@ -1,0 +1,70 @@
+//! Bytes as digits of base 16, and text between quotes.
+
+ghost use Rattle.std.specs.Prelude.{◌≡◌, ◌++◌, ◌<◌, OnOk};
+ghost use Rattle.std.specs.List.{flat_map};
+ghost use Rattle.hist_model.specs.ReportWords.{hex_digit, hex_byte, hex, quoted_byte, quoted};
+
+use sys_abi::memory::NoMemory;
+
+/// A digit of base 16.
+fn hex_digit(d: u8) -> u8
+    requires { d < 16 }
+    ensures { result ≡ hex_digit d }
+{
+    if d < 10 { b'0' + d } else { b'a' - 10 + d }
+}
+
+/// Adds a byte as two digits of base 16.
+fn push_hex_byte(out: &mut Vec<u8>, byte: u8) -> Result<(), NoMemory>
+    ensures { OnOk result (out.new.items ≡ out.old.items ++ hex_byte byte) }
+{
+    out.extend_from_slice(&[hex_digit(byte / 16), hex_digit(byte % 16)])?;
+    Ok(())
+}
+
+/// Adds bytes as digits of base 16.
+pub fn push_hex(out: &mut Vec<u8>, bytes: &[u8]) -> Result<(), NoMemory>
+    ensures { OnOk result (out.new.items ≡ out.old.items ++ hex bytes.now) }
+{
+    for byte in bytes {
+        push_hex_byte(out, *byte)?;
+    }
+    Ok(())
+}
+
+/// Adds a byte of a quoted text.
+fn push_quoted_byte(out: &mut Vec<u8>, byte: u8) -> Result<(), NoMemory>
+    ensures { OnOk result (out.new.items ≡ out.old.items ++ quoted_byte byte) }
+{
+    if byte == b'"' || byte == b'\\' {
+        out.extend_from_slice(&[b'\\', byte])?;
+        Ok(())
+    } else if 32 <= byte && byte <= 126 {
+        out.push(byte)?;
+        Ok(())
+    } else {
+        out.extend_from_slice(b"\\x")?;
+        push_hex_byte(out, byte)
+    }
+}
+
+/// Adds the bytes of a quoted text.
+fn push_quoted_bytes(out: &mut Vec<u8>, text: &[u8]) -> Result<(), NoMemory>
+    ensures { OnOk result (out.new.items ≡ out.old.items ++ flat_map quoted_byte text.now) }
+{
+    for byte in text {
+        push_quoted_byte(out, *byte)?;
+    }
+    Ok(())
+}
+
+/// Adds a text between quotes. `"` and `\` stand after a `\`, and a byte that can't be printed as `\x` and two digits of
+/// base 16.
+pub fn push_quoted(out: &mut Vec<u8>, text: &[u8]) -> Result<(), NoMemory>
+    ensures { OnOk result (out.new.items ≡ out.old.items ++ quoted text.now) }
+{
+    out.push(b'"')?;
+    push_quoted_bytes(out, text)?;
+    out.push(b'"')?;
+    Ok(())
+}
