@@ -93,7 +93,7 @@ fn denying_rule(
 }
 
 /// Adds the rules of the safe devices.
-fn push_mknod_rules(rules: &mut Vec<Rule>) -> Result<(), NoMemory>
+pub fn push_mknod_rules(rules: &mut Vec<Rule>) -> Result<(), NoMemory>
     ensures { OnOk result (rules.new.items ≡ rules.old.items ++ lxd_mknod_rules) }
 {
     let alloc = *rules.allocator();
@@ -119,7 +119,7 @@ fn mknod_rule(alloc: Global, major: u32, minor: u32) -> Result<Rule, NoMemory>
 }
 
 /// Adds the rules that pass what no other rule decides.
-fn push_default_rules(rules: &mut Vec<Rule>) -> Result<(), NoMemory>
+pub fn push_default_rules(rules: &mut Vec<Rule>) -> Result<(), NoMemory>
     ensures { OnOk result (rules.new.items ≡ rules.old.items ++ default_rules) }
 {
     for (name, nr) in CALLS {

@@ -1,0 +1,10 @@
+pub mod Readings
+pub mod Tables
+pub mod Texts
+pub mod Settings
+pub mod NameSets
+pub mod Conditions
+pub mod Verdicts
+pub mod Rules
+pub mod Policies
+pub mod Switched

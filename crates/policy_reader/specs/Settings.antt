@@ -1,0 +1,129 @@
+-- The configuration: the keys by which LXD intercepts system calls (LXD's "System call interception"), and what their texts
+-- switch on.
+use Rattle.std.specs.Prelude.{ℕ, Bool, true, false, if◌then◌else◌, List, [], ◌∷◌, ◌++◌, Option, Some, None, option_map, option_and_then, Ok, Err, bytes_eq, codes}
+use Rattle.std.specs.List.{list_any}
+use Rattle.std.specs.Str.{str_eq_ignore_ascii_case}
+use Rattle.hist_model.specs.Decisions.{Switches}
+use Rattle.serde_json.specs.Data.{Data}
+use Rattle.serde_json.specs.Find.{as_str, as_object}
+use Rattle.policy_reader.specs.declared.error.PolicyError.TheVariants.{BadKey}
+use Rattle.policy_reader.specs.declared.settings.ConfigKey.{ConfigKey}
+use Rattle.policy_reader.specs.declared.settings.ConfigKey.TheVariants.{Ignored, Unknown, Known}
+use Rattle.policy_reader.specs.declared.settings.Setting.{Setting}
+use Rattle.policy_reader.specs.declared.settings.Setting.TheVariants.{Mknod, Mount, Shift, Allowed, Fuse, SetXattr, Sysinfo}
+use Rattle.policy_reader.specs.Readings.{Reading, and_then, good, walk, named, config_place}
+use Rattle.policy_reader.specs.Texts.{behind, cut_at, items_of, is_short_name, is_text_of}
+
+-- ---- Switches
+
+abbrev pub on_words : List (List ℕ)
+on_words = codes "true" ∷ codes "1" ∷ codes "yes" ∷ codes "on" ∷ []
+
+abbrev pub off_words : List (List ℕ)
+off_words = codes "false" ∷ codes "0" ∷ codes "no" ∷ codes "off" ∷ [] ∷ []
+
+-- the text is one of these words, with letters of either case
+abbrev pub is_word_of : List (List ℕ) → List ℕ → Bool
+is_word_of words text = list_any (λ word. str_eq_ignore_ascii_case word text) words
+
+-- whether a switch with this text is on
+abbrev pub switch_of : List ℕ → Option Bool
+switch_of text = if is_word_of on_words text then Some true else (if is_word_of off_words text then Some false else None)
+
+-- ---- Lists of file systems
+
+-- a list of items is all that its parts are, where each is something
+abbrev pub each : {A : Type 0} → (List ℕ → Option A) → List (List ℕ) → Option (List A)
+each read [] = Some []
+each read (text ∷ texts) = option_and_then (λ x. option_map (λ xs. x ∷ xs) (each read texts)) (read text)
+
+-- one of the items has this name
+abbrev pub has_named : {A : Type 0} → (A → List ℕ) → List A → List ℕ → Bool
+has_named name items text = list_any (λ x. bytes_eq (name x) text) items
+
+-- the items after those that are kept; one whose name is there already is left out
+abbrev pub kept : {A : Type 0} → (A → List ℕ) → List A → List A → List A
+kept name before [] = before
+kept name before (x ∷ xs) = kept name (if has_named name before (name x) then before else before ++ x ∷ []) xs
+
+-- a file system
+abbrev pub file_system : List ℕ → Option (List ℕ)
+file_system item = if is_short_name item then Some item else None
+
+-- file systems between commas, each named once
+abbrev pub file_systems : List ℕ → Option (List (List ℕ))
+file_systems text = option_map (kept (λ name. name) []) (each file_system (items_of text))
+
+-- a file system and its program, which stand before and behind the first `=`
+abbrev pub pair_of : List ℕ × Option (List ℕ) → Option (List ℕ × List ℕ)
+pair_of (name, None) = None
+pair_of (name, Some program) = if is_short_name name then (if is_short_name program then Some (name, program) else None) else None
+
+abbrev pub fuse_pair : List ℕ → Option (List ℕ × List ℕ)
+fuse_pair item = pair_of (cut_at 61 item)
+
+-- file systems with their programs between commas, each file system once
+abbrev pub fuse_pairs : List ℕ → Option (List (List ℕ × List ℕ))
+fuse_pairs text = option_map (kept (λ pair. pair.0) []) (each fuse_pair (items_of text))
+
+-- ---- Keys
+
+-- what keys of interception begin with
+abbrev pub intercept_prefix : List ℕ
+intercept_prefix = codes "security.syscalls.intercept."
+
+-- the settings that are read, by what stands behind that
+abbrev pub setting_names : List (List ℕ × Setting)
+setting_names = (codes "mknod", Mknod) ∷ (codes "mount", Mount) ∷ (codes "mount.shift", Shift) ∷ (codes "mount.allowed", Allowed) ∷ (codes "mount.fuse", Fuse) ∷ (codes "setxattr", SetXattr) ∷ (codes "sysinfo", Sysinfo) ∷ []
+
+-- settings that are known and say nothing here
+abbrev pub ignored_names : List (List ℕ)
+ignored_names = codes "bpf" ∷ codes "bpf.devices" ∷ codes "sched_setscheduler" ∷ []
+
+abbrev pub known_or_not : Option Setting → ConfigKey
+known_or_not (Some setting) = Known setting
+known_or_not None = Unknown
+
+abbrev pub is_ignored : List ℕ → Bool
+is_ignored name = is_text_of ignored_names name
+
+-- what a name behind the prefix is
+abbrev pub intercept_key : List ℕ → ConfigKey
+intercept_key name = if is_ignored name then Ignored else known_or_not (named setting_names name)
+
+abbrev pub behind_prefix : Option (List ℕ) → ConfigKey
+behind_prefix (Some name) = intercept_key name
+behind_prefix None = Ignored
+
+-- what a key is: those of other matters are ignored
+abbrev pub config_key : List ℕ → ConfigKey
+config_key key = behind_prefix (behind intercept_prefix key)
+
+-- ---- The configuration
+
+-- all switches off, and no file system
+abbrev pub all_off : Switches
+all_off = record { mknod = false; mount = false; shift = false; setxattr = false; sysinfo = false; fuse = []; allowed = [] }
+
+-- what the text at a key sets
+abbrev pub set : List ℕ → Setting → List ℕ → Switches → Reading Switches
+set key Mknod text s = and_then (good (config_place key) (switch_of text)) (λ on. Ok (record s { mknod = on }))
+set key Mount text s = and_then (good (config_place key) (switch_of text)) (λ on. Ok (record s { mount = on }))
+set key Shift text s = and_then (good (config_place key) (switch_of text)) (λ on. Ok (record s { shift = on }))
+set key SetXattr text s = and_then (good (config_place key) (switch_of text)) (λ on. Ok (record s { setxattr = on }))
+set key Sysinfo text s = and_then (good (config_place key) (switch_of text)) (λ on. Ok (record s { sysinfo = on }))
+set key Allowed text s = and_then (good (config_place key) (file_systems text)) (λ names. Ok (record s { allowed = names }))
+set key Fuse text s = and_then (good (config_place key) (fuse_pairs text)) (λ pairs. Ok (record s { fuse = pairs }))
+
+abbrev pub config_member_of : ConfigKey → List ℕ → Data → Switches → Reading Switches
+config_member_of Ignored key d s = Ok s
+config_member_of Unknown key d s = Err (BadKey (config_place key))
+config_member_of (Known setting) key d s = and_then (good (config_place key) (as_str d)) (λ text. set key setting text s)
+
+-- what one member of the configuration says: an ignored key says nothing, whatever its value, and the value of another is a text
+abbrev pub config_member : List ℕ → Data → Switches → Reading Switches
+config_member key d s = config_member_of (config_key key) key d s
+
+-- what the configuration switches on; it is an object
+abbrev pub config_of : Data → Reading Switches
+config_of d = and_then (good (codes "config") (as_object d)) (λ ms. walk config_member ms all_off)
