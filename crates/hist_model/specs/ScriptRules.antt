@@ -1,5 +1,5 @@
 -- What every script keeps. Each test computes.
-use Rattle.std.specs.Prelude.{ℕ, ◌+◌, ◌≤◌, ◌≡◌, Bool, true, false, ◌&&◌, nat_lt, List, [], ◌∷◌}
+use Rattle.std.specs.Prelude.{ℕ, ◌+◌, ◌≤◌, ◌≡◌, Bool, true, false, ◌&&◌, nat_lt, List, [], ◌∷◌, sum_by}
 use Rattle.std.specs.List.{list_all}
 use Rattle.hist_model.specs.Names.{is_task_name}
 use Rattle.hist_model.specs.Records.{ScriptRecord}
@@ -26,6 +26,10 @@ abbrev pub start_earlier : ℕ → List (List Instr) → Bool
 start_earlier n [] = true
 start_earlier n (p ∷ more) = list_all (λ i. starts_below n i) p && start_earlier (n + 1) more
 
+-- how many steps a schedule has
+abbrev pub steps_of : List Step → ℕ
+steps_of schedule = sum_by (λ (s : Step). s.count) schedule
+
 pub record IsScript (S : ScriptRecord) : Type 0 where
   -- process numbers are at most 4194304
   pub pids : S.pidbase + S.pidmax ≤ 4194304
@@ -33,3 +37,5 @@ pub record IsScript (S : ScriptRecord) : Type 0 where
   pub programs : start_earlier 0 S.programs ≡ true
   -- the schedule names tasks and workers alone
   pub schedule : list_all (λ (s : Step). can_be_scheduled s.who) S.schedule ≡ true
+  -- at most 200000 steps are scheduled
+  pub steps : steps_of S.schedule ≤ 200000

@@ -1,7 +1,7 @@
 -- Calls: their ids, the request count, one answer for each, and the events before a place.
 -- By induction on a legal history, with the row of its newest step.
 use Rattle.mediation.proofs.Common.{[], Actor, AnsweredOnce, answers_to, arith, before, below_or_last, Bool, caller, CallIdsDiffer, calls, count, count_below, CountIs, Each, empty_recvs, eq-eqb, ev}
-use Rattle.mediation.proofs.Common.{Event, event_at, event_at-above, event_at-here, event_at-older, false, fetched, fetches, id, IdsDiffer, if◌then◌else◌, inl, inr, is_call, is_install, is_task}
+use Rattle.mediation.proofs.Common.{Event, event_at-here, event_at-older, false, fetched, fetches, id, IdsDiffer, if◌then◌else◌, inl, inr, is_call, is_install, is_task}
 use Rattle.mediation.proofs.Common.{IsLegal, le-leb, left_unfetched, length, List, listed, lt-leb, None, not, Notif, notif, notifies, notify_id, Ok, oldest, oldest-some, oldest_unfetched, Option}
 use Rattle.mediation.proofs.Common.{ReceivesFor, Recv, recv_answer, recvs, refl, Rules, settled, settles, Some, suc, sym, System, true, What, zero, ℕ, ◌%◌, ◌&&◌, ◌+◌, ◌<◌, ◌^◌, ◌||◌, ◌∙◌, ◌∷◌, ◌≡◌}
 use Rattle.mediation.proofs.Common.{◌≤◌}

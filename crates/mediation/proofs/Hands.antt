@@ -2,8 +2,8 @@
 -- By induction on a legal history: a receive takes a call in hand, a let-go drops it, and each other step keeps it.
 use Rattle.mediation.proofs.Common.{[], Act, Actor, AddfdPut, AddfdTake, and_from, and_parts, any_of, ap, arith, base, base_after, Bool, call_after, caller, cases_Bool, Check, ended, eq-eqb, ev}
 use Rattle.mediation.proofs.Common.{Event, event_at, event_at-older, false, fetched, fetched_by, id, if◌then◌else◌, inl, inr, is_call, is_letgo, is_made, is_worker, IsLegal, length, List, listed}
-use Rattle.mediation.proofs.Common.{mem, mem_after, named, None, not, not-true, Notif, notif, notif_of, Ok, oldest-found, oldest-some, oldest_unfetched, OpenBase, OpenMem, Option, or_left, or_right}
-use Rattle.mediation.proofs.Common.{pid_at, pid_of, pid_or, Plant, Read, Recv, refl, Rules, Send, session, session_call, skips, Some, starts, sym, System, task_place, true, What, Worker, ℕ, ◌&&◌}
+use Rattle.mediation.proofs.Common.{mem, mem_after, named, None, not, not-true, Notif, notif, notif_of, Ok, oldest-found, oldest_unfetched, OpenBase, OpenMem, Option, or_left, or_right}
+use Rattle.mediation.proofs.Common.{pid_at, pid_of, pid_or, Plant, Read, Recv, refl, Rules, Send, session, session_call, skips, Some, starts, sym, System, task_place, true, What, ℕ, ◌&&◌}
 use Rattle.mediation.proofs.Common.{◌<◌, ◌==◌, ◌^◌, ◌∙◌, ◌∷◌, ◌≡◌, ◌⊎◌}
 use Rattle.history_frames.proofs.Groups.{place-kept}
 use Rattle.history_frames.proofs.Listed.{listed-below, is_call-below, listed-is_call, named-listed}

@@ -2,7 +2,7 @@
 -- By induction from the oldest event on: equal events so far and an equal actor make an equal event.
 use Rattle.mediation.proofs.Common.{[], Actor, actors, add-one, and_parts, ap, append_assoc, append_cancel_left, ap₂, arith, below_or_last, codes, eqb-true, Event, FixedByJournal, flat_map, get_or}
 use Rattle.mediation.proofs.Common.{inl, inr, is_actor, IsLegal, IsLegalByPlace, IsStep, leb-true, length, List, Listener, Name, nat_le, Policy, refl, reverse, reverse-append, Rules, Script, Start}
-use Rattle.mediation.proofs.Common.{suc, sym, System, take, take_more, Task, true, Worker, zero, ℕ, ◌%◌, ◌&&◌, ◌*◌, ◌++◌, ◌+◌, ◌<◌, ◌==◌, ◌^◌, ◌∙◌, ◌∷◌, ◌≡◌, ◌≤◌}
+use Rattle.mediation.proofs.Common.{suc, sym, System, take, take_more, Task, true, Worker, zero, ℕ, ◌%◌, ◌&&◌, ◌++◌, ◌+◌, ◌<◌, ◌==◌, ◌^◌, ◌∙◌, ◌∷◌, ◌≡◌, ◌≤◌}
 use Rattle.hist_model.specs.Names.{is_child_number, is_task_name}
 use Rattle.hist_model.specs.ReportJournal.{event_line, journal_line, lines_of, what_text}
 use Rattle.hist_model.specs.ReportWords.{actor_text, name_text}

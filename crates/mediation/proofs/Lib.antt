@@ -15,4 +15,5 @@ pub mod Mediation
 pub mod Framed
 pub mod Journals
 pub mod Played
+pub mod PlayedScripts
 pub mod Unmediated

@@ -1,9 +1,9 @@
 -- How far a listed call is: not fetched, in hand, or answered.
 -- By induction on a legal history, through the worker that has the call in hand.
-use Rattle.mediation.proofs.Common.{[], Actor, Addfd, AddfdPut, AddfdTake, answers, any_of, arith, asked_call, below_or_last, Bool, both_ways, call_at, call_of, caller, cases_Bool, Check}
+use Rattle.mediation.proofs.Common.{[], Actor, Addfd, AddfdPut, AddfdTake, answers, any_of, arith, below_or_last, Bool, both_ways, call_at, call_of, caller, cases_Bool, Check}
 use Rattle.mediation.proofs.Common.{eq-eqb, Err, ev, Event, event_at-here, event_at-older, false, false_from_ne_true, fetched, fetcher, fetches, first_some, gives_up, id, inl, inr, Install}
 use Rattle.mediation.proofs.Common.{install_of, install_step, installs_for, is_first, is_known_error, is_lost, is_place, is_send, is_worker, IsLegal, length, List, listed, name_eq-true, name_of}
-use Rattle.mediation.proofs.Common.{named, ne_eqb, None, Ok, oldest_unfetched, OpenBase, OpenMem, Option, or_left, or_parts, or_right, put_in, puts_to, queue, Recv, refl, request_after, request_of}
+use Rattle.mediation.proofs.Common.{named, None, Ok, oldest_unfetched, OpenBase, OpenMem, Option, or_left, or_parts, or_right, put_in, puts_to, queue, Recv, refl, request_after, request_of}
 use Rattle.mediation.proofs.Common.{Result, Rules, Send, session, session_call, SessionsSettle, settled, settles, slot_answer, Some, sym, System, take_in, take_step, Task, true, waiting, What}
 use Rattle.mediation.proofs.Common.{Worker, ℕ, ◌&&◌, ◌+◌, ◌<◌, ◌==◌, ◌^◌, ◌||◌, ◌∙◌, ◌∷◌, ◌≡◌, ◌≤◌}
 use Rattle.history_frames.proofs.Listed.{listed-below, is_call-below, fetched-new}

@@ -1,10 +1,10 @@
 -- Tasks: their process numbers, their calls, their places, and their names.
 -- By induction on a legal history, with the row of its newest step.
-use Rattle.mediation.proofs.Common.{[], Actor, alive, and_from, ap, append_cancel_right, arith, below_or_last, call_of, caller, CallsAreLast, cases_Bool, child_of, ended, ends, eq-eqb, ev, Event}
-use Rattle.mediation.proofs.Common.{event_at, event_at-here, event_at-older, false, false_from_ne_true, given, given_in, group, holder, inl, inr, is_made, is_passive, is_spawn, is_task, IsLegal}
-use Rattle.mediation.proofs.Common.{last_own, length, List, listed, makes, makes_in, Name, name_eq, name_eq-refl, name_eq-true, name_of, NamesDiffer, ne_eqb, newest, newest-found, newest-some, None}
-use Rattle.mediation.proofs.Common.{not, notifies, oldest-found, oldest-same, oldest-some, oldest-stays, Option, or_cases, pid_of, pid_or, PidsDiffer, reaped, reaps, refl, reverse, reverse-append}
-use Rattle.mediation.proofs.Common.{Rules, Some, steps_of, System, task_name, task_place, true, unlists, was_waited_for, What, ℕ, ◌&&◌, ◌++◌, ◌+◌, ◌<◌, ◌∙◌, ◌∷◌, ◌≡◌, ◌≤◌, ◌⊎◌}
+use Rattle.mediation.proofs.Common.{[], Actor, alive, and_from, ap, append_cancel_right, arith, below_or_last, call_of, caller, CallsAreLast, cases_Bool, child_of, ended, ends, ev, Event}
+use Rattle.mediation.proofs.Common.{event_at, event_at-here, event_at-older, false, false_from_ne_true, given, given_in, holder, inl, inr, is_made, is_passive, is_spawn, is_task, IsLegal}
+use Rattle.mediation.proofs.Common.{last_own, length, List, listed, makes, makes_in, Name, name_eq, name_eq-refl, name_eq-true, name_of, NamesDiffer, newest, newest-found, newest-some, None}
+use Rattle.mediation.proofs.Common.{notifies, oldest-found, oldest-some, Option, or_cases, pid_of, pid_or, PidsDiffer, reaped, reaps, refl, reverse, reverse-append}
+use Rattle.mediation.proofs.Common.{Rules, Some, steps_of, System, task_name, task_place, true, unlists, was_waited_for, What, ℕ, ◌&&◌, ◌++◌, ◌+◌, ◌<◌, ◌∷◌, ◌≡◌, ◌≤◌, ◌⊎◌}
 use Rattle.history_frames.proofs.Groups.{place-kept}
 use Rattle.history_frames.proofs.Listed.{listed-below, listed-here, listed-older}
 use Rattle.history_frames.proofs.Held.{holder-is, holds-below, names-more, next-free, pids-more}

@@ -1,5 +1,5 @@
 -- Facts of legal histories, beside those that mediation asks for, and which kinds of event can change which definitions.
-use Rattle.std.specs.Prelude.{◌≡◌, ◌<◌, ◌⊎◌, ◌&&◌, ◌==◌, if◌then◌else◌, ℕ, true, false, List, [], ◌∷◌, ◌++◌, Some, None, Ok, Err, Bool}
+use Rattle.std.specs.Prelude.{◌≡◌, ◌⊎◌, ◌&&◌, ◌==◌, if◌then◌else◌, ℕ, true, false, List, [], ◌∷◌, ◌++◌, Some, None, Ok, Err, Bool}
 use Rattle.hist_model.specs.Look.{event_at, Name, is_worker, task_name}
 use Rattle.hist_model.specs.Memory.{own_group}
 use Rattle.hist_model.specs.Files.{files, request_for}

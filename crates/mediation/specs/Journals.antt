@@ -2,7 +2,7 @@
 use Rattle.std.specs.Prelude.{◌≡◌, ℕ, ◌<◌, List, length, take, reverse, map, get_or}
 use Rattle.hist_model.specs.Sessions.{Rules}
 use Rattle.hist_model.specs.Systems.{System}
-use Rattle.hist_model.specs.Steps.{IsStep, IsLegal}
+use Rattle.hist_model.specs.Steps.{IsStep}
 use Rattle.hist_model.specs.Legal.{Legal}
 use Rattle.hist_model.specs.ReportJournal.{journal}
 use Rattle.hist_model.specs.declared.event.Event.{Event}

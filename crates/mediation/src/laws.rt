@@ -11,6 +11,7 @@ ghost use Rattle.hist_model.specs.Laws.{CallsAreLast, PidsDiffer, AnsweredOnce, 
 ghost use Rattle.hist_model.specs.Settlers.{InstallsOwn, ResumesOwn, ReturnsInstalled};
 ghost use Rattle.hist_model.specs.Orders.{InOrder};
 ghost use Rattle.hist_model.specs.Legal.{Legal, played};
+ghost use Rattle.hist_model.specs.ScriptRules.{IsScript};
 ghost use Rattle.hist_model.specs.declared.policy.Policy.{Policy};
 ghost use Rattle.hist_model.specs.declared.script.Script.{Script};
 ghost use Rattle.hist_model.specs.Mediated.{Mediated, Each, TakenByItsActor, NamesOwn, NeverBusy, ErrorsKnown, LostIfGone, HasCause, KeepsOrder, EndsForReason};
@@ -29,6 +30,11 @@ pub fn legal_is_mediated()
 /// The history that a schedule of tasks and workers plays is legal, and so mediated.
 pub fn played_is_legal()
     ensures { (P : Policy) (S : Script) → AllScheduled S.schedule → length (played P S) < 2 ^ 64 → Legal P S (played P S) }
+{}
+
+/// What a script plays under a policy is mediated: the schedule that a script's type keeps plays a legal history.
+pub fn played_is_mediated()
+    ensures { (P : Policy) (S : Script) → IsScript S → Mediated P S (played P S) }
 {}
 
 /// Two calls have different ids, whether listed or not.
