@@ -25,5 +25,5 @@ pub use answers::{combine, verdict};
 pub use filters::{Filter, notify_on, run};
 pub use hist_model::filter::{BadFilter, FilterReason};
 pub use hist_model::script::Insn;
-pub use text::read_text;
+pub use text::{number_at, read_text};
 pub use words::is_script_word;

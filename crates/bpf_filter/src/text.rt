@@ -26,8 +26,8 @@ fn number(token: &Token) -> Option<i128>
     }
 }
 
-/// The number at a place among the operands, and 0 behind the last one.
-fn number_at(operands: &[Token], place: usize) -> i128
+/// The number at a place among the operands, and 0 behind the last one and where a text or another word stands.
+pub fn number_at(operands: &[Token], place: usize) -> i128
     ensures { result ≡ number_at operands.now place }
 {
     match operands.get(place) {

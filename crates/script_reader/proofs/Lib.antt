@@ -1,0 +1,8 @@
+mod WorkedScripts
+pub mod Operands
+pub mod Maps
+pub mod Counts
+pub mod Tables
+pub mod KeptRules
+pub mod SoundStatements
+pub mod Readings

@@ -1,0 +1,181 @@
+-- What the accepted lines above a line state, part by part, and the faults that a statement shows beside them.
+use Rattle.std.specs.Prelude.{ℕ, ◌+◌, Bool, true, false, if◌then◌else◌, nat_lt, List, [], ◌∷◌, ◌++◌, not, Option, Some, None, is_some}
+use Rattle.lex_core.specs.declared.reason.Reason.TheVariants as reason
+use Rattle.hist_model.specs.Filters.{notify_filter}
+use Rattle.hist_model.specs.declared.script.MapRange.{MapRange}
+use Rattle.hist_model.specs.declared.script.Step.{Step}
+use Rattle.script_reader.specs.declared.error.Fault.{Fault}
+use Rattle.script_reader.specs.declared.settings.Settings.{Settings}
+use Rattle.script_reader.specs.declared.statement.Statement.{Statement}
+use Rattle.script_reader.specs.declared.statement.Statement.TheVariants as states
+use Rattle.script_reader.specs.declared.word.Part.{Part}
+use Rattle.script_reader.specs.declared.word.Part.TheVariants as part
+use Rattle.script_reader.specs.Blocks.{FiltersState, no_filters, with_filter, open_filter, with_insn, close_filter, filter_fault, insns_fault, killable_fault}
+use Rattle.script_reader.specs.Faults.{wrong_if, too_large_if, or_else, duplicate}
+use Rattle.script_reader.specs.Programs.{ProgramsState, no_programs, open_program, with_instr, with_start, close_program, prog_fault, start_fault, instr_fault, totals_fault}
+use Rattle.script_reader.specs.Ranges.{map_fault, broker_fault}
+use Rattle.script_reader.specs.Settings.{no_settings, pidbase_fault, with_group}
+use Rattle.script_reader.specs.Totals.{is_exit}
+use Rattle.script_reader.specs.Tree.{TreeState, bare_tree, node_at, with_node, with_attr, node_fault, attr_fault, leads_to_directory}
+
+-- an accepted line: its number, and what it states
+pub record Stated : Type 0 where
+  pub line : ℕ
+  pub what : Statement
+
+-- the lines of the schedule, and how often its actors step, all together
+pub record ScheduleState : Type 0 where
+  pub lines : List Step
+  pub steps : ℕ
+
+abbrev pub no_steps : ScheduleState
+no_steps = record { lines = []; steps = 0 }
+
+-- what lines state, from the first line on
+pub record Above : Type 0 where
+  -- where the next line stands
+  pub part : Part
+  -- the line that opened the last block
+  pub opened : ℕ
+  pub settings : Settings
+  pub tree : TreeState
+  pub broker : List ℕ
+  pub map : List MapRange
+  pub filters : FiltersState
+  pub programs : ProgramsState
+  pub schedule : ScheduleState
+
+-- before the first line
+abbrev pub nothing_above : Above
+nothing_above = record {
+  part = part.Settings;
+  opened = 0;
+  settings = no_settings;
+  tree = bare_tree;
+  broker = [];
+  map = [];
+  filters = no_filters;
+  programs = no_programs;
+  schedule = no_steps;
+}
+
+-- ---- one more line
+
+abbrev pub set : Settings → Above → Above
+set settings A = record A { settings = settings }
+
+abbrev pub with_tree : TreeState → Above → Above
+with_tree tree A = record A { tree = tree }
+
+abbrev pub with_filters : FiltersState → Above → Above
+with_filters filters A = record A { filters = filters }
+
+abbrev pub with_programs : ProgramsState → Above → Above
+with_programs programs A = record A { programs = programs }
+
+abbrev pub in_part : Part → Above → Above
+in_part part A = record A { part = part }
+
+abbrev pub with_step : Step → ScheduleState → ScheduleState
+with_step step schedule = record { lines = schedule.lines ++ step ∷ []; steps = schedule.steps + step.count }
+
+-- behind `exit` only the end of the block may stand
+abbrev pub part_behind : Bool → Part → Part
+part_behind exits p = if exits then part.Exited else p
+
+-- the block that is open is closed
+abbrev pub close_block : Part → Above → Above
+close_block part.Filter A = in_part part.Settings (with_filters (close_filter A.filters) A)
+close_block part.Program A = in_part part.Programs (with_programs (close_program false A.programs) A)
+close_block part.Exited A = in_part part.Programs (with_programs (close_program true A.programs) A)
+close_block part.Schedule A = in_part part.Over A
+close_block _ A = A
+
+-- the part of a program's block
+abbrev pub program_part : Bool → Part
+program_part true = part.Exited
+program_part false = part.Program
+
+-- what is stated with one more statement behind it
+abbrev pub with_statement : Statement → Above → Above
+with_statement (states.Pidmax n) A = set (record A.settings { pidmax = Some n }) A
+with_statement (states.Pidbase n) A = set (record A.settings { pidbase = Some n }) A
+with_statement (states.Firstid n) A = set (record A.settings { firstid = Some n }) A
+with_statement (states.Rlimit n) A = set (record A.settings { rlimit = Some n }) A
+with_statement states.Killable A = set (record A.settings { killable = true }) A
+with_statement (states.Node path kind) A = with_tree (with_node path kind A.tree) A
+with_statement (states.Attr path name value) A = with_tree (with_attr path name value A.tree) A
+with_statement (states.Root path) A = set (record A.settings { root = Some (node_at A.tree path) }) A
+with_statement (states.Broker n) A = record A { broker = A.broker ++ n ∷ [] }
+with_statement (states.Map range) A = record A { map = A.map ++ range ∷ [] }
+with_statement (states.Cgroup memory swap) A = set (record A.settings { limits = Some (with_group memory swap A.settings.limits) }) A
+with_statement (states.Figures figures) A = set (record A.settings { figures = Some figures }) A
+with_statement (states.Notify calls) A = with_filters (with_filter (notify_filter calls) true A.filters) A
+with_statement (states.Filter listener) A = in_part part.Filter (with_filters (open_filter listener A.filters) A)
+with_statement (states.Insn i) A = with_filters (with_insn i A.filters) A
+with_statement (states.Prog name) A = in_part part.Program (with_programs (open_program name A.programs) A)
+with_statement (states.Does i) A = in_part (part_behind (is_exit i) A.part) (with_programs (with_instr i A.programs) A)
+with_statement (states.Starts thread name) A = with_programs (with_start thread name A.programs) A
+with_statement states.Schedule A = in_part part.Schedule A
+with_statement (states.Takes step) A = record A { schedule = with_step step A.schedule }
+with_statement states.End A = close_block A.part A
+
+-- the line opens a block
+abbrev pub opens : Statement → Bool
+opens (states.Filter listener) = true
+opens (states.Prog name) = true
+opens states.Schedule = true
+opens _ = false
+
+abbrev pub opened_by : Bool → ℕ → ℕ → ℕ
+opened_by opens n before = if opens then n else before
+
+-- with one more line
+abbrev pub with_line : ℕ → Statement → Above → Above
+with_line n s A = record (with_statement s A) { opened = opened_by (opens s) n A.opened }
+
+-- what the lines above state, the newest line first
+unfoldable pub above : List Stated → Above
+above [] = nothing_above
+above (s ∷ older) = with_line s.line s.what (above older)
+
+-- ---- the fault of a statement beside the lines above
+
+-- a directory that is stated, or `/`, once
+abbrev pub root_fault : Above → List ℕ → Option Fault
+root_fault A path =
+    or_else (wrong_if (not (leads_to_directory A.tree path)) reason.BadPath) (duplicate (is_some A.settings.root))
+
+-- the actors of the schedule step at most 200000 times
+abbrev pub step_fault : ScheduleState → Step → Option Fault
+step_fault schedule step = too_large_if (nat_lt 200000 (schedule.steps + step.count))
+
+-- of the block that ends
+abbrev pub end_fault : Part → Above → Option Fault
+end_fault part.Filter A = insns_fault A.filters.insns
+end_fault part.Program A = totals_fault false A.programs
+end_fault part.Exited A = totals_fault true A.programs
+end_fault _ A = None
+
+abbrev pub statement_fault : Statement → Above → Option Fault
+statement_fault (states.Pidmax n) A = duplicate (is_some A.settings.pidmax)
+statement_fault (states.Pidbase n) A = pidbase_fault A.settings n
+statement_fault (states.Firstid n) A = duplicate (is_some A.settings.firstid)
+statement_fault (states.Rlimit n) A = duplicate (is_some A.settings.rlimit)
+statement_fault states.Killable A = killable_fault A.settings.killable A.filters
+statement_fault (states.Node path kind) A = node_fault A.tree path
+statement_fault (states.Attr path name value) A = attr_fault A.tree path
+statement_fault (states.Root path) A = root_fault A path
+statement_fault (states.Broker n) A = broker_fault A.broker n
+statement_fault (states.Map range) A = map_fault A.map range
+statement_fault (states.Cgroup memory swap) A = None
+statement_fault (states.Figures figures) A = duplicate (is_some A.settings.figures)
+statement_fault (states.Notify calls) A = filter_fault A.filters true
+statement_fault (states.Filter listener) A = filter_fault A.filters listener
+statement_fault (states.Insn i) A = None
+statement_fault (states.Prog name) A = prog_fault A.programs name
+statement_fault (states.Does i) A = instr_fault A.map i
+statement_fault (states.Starts thread name) A = start_fault A.programs name
+statement_fault states.Schedule A = None
+statement_fault (states.Takes step) A = step_fault A.schedule step
+statement_fault states.End A = end_fault A.part A

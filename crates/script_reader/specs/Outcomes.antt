@@ -1,0 +1,64 @@
+-- What reading a line comes to.
+use Rattle.std.specs.Prelude.{◌≡◌, ℕ, List, [], ◌∷◌, Result, Ok, Err, ⊤}
+use Rattle.lex_core.specs.Given.{FirstReads}
+use Rattle.lex_core.specs.Lexical.{tokens}
+use Rattle.lex_core.specs.Lines.{Numbered}
+use Rattle.sys_abi.specs.declared.memory.OrNoMemory.{OrNoMemory}
+use Rattle.sys_abi.specs.declared.memory.OrNoMemory.TheVariants.{Refused, NoMemory}
+use Rattle.hist_model.specs.declared.script.Script.{Script}
+use Rattle.script_reader.specs.declared.error.Fault.{Fault}
+use Rattle.script_reader.specs.declared.error.ScriptError.{ScriptError}
+use Rattle.script_reader.specs.declared.error.ScriptError.TheVariants as refused
+use Rattle.script_reader.specs.declared.statement.Statement.{Statement}
+use Rattle.script_reader.specs.Above.{Above, with_line}
+use Rattle.script_reader.specs.Lines.{line_statement}
+use Rattle.script_reader.specs.Scripts.{refusal, script_at_end}
+
+-- the answer is what the line states, or its fault; nothing is said of want of memory
+abbrev pub States : {T : Type 0} → Result T Fault → Result T (OrNoMemory Fault) → Type 0
+States reading (Ok s) = reading ≡ Ok s
+States reading (Err (Refused fault)) = reading ≡ Err fault
+States reading (Err NoMemory) = ⊤
+
+-- what is stated with one more line, or the line's fault
+abbrev pub with_reading : ℕ → Result Statement Fault → Above → Result Above Fault
+with_reading n (Ok s) A = Ok (with_line n s A)
+with_reading n (Err fault) A = Err fault
+
+-- the lines above state this with the line behind them, or the line has this fault
+abbrev pub Becomes : {T : Type 0} → Result Above Fault → Result T (OrNoMemory Fault) → Above → Type 0
+Becomes outcome (Ok t) new = outcome ≡ Ok new
+Becomes outcome (Err (Refused fault)) new = outcome ≡ Err fault
+Becomes outcome (Err NoMemory) new = ⊤
+
+-- the answer is the script that the bytes state, or why they are refused; nothing is said of want of memory
+abbrev pub Reads : Result Script ScriptError → Result Script ScriptError → Type 0
+Reads stated (Ok s) = stated ≡ Ok s
+Reads stated (Err (refused.BadLine line reason)) = stated ≡ Err (refused.BadLine line reason)
+Reads stated (Err (refused.TooLarge line)) = stated ≡ Err (refused.TooLarge line)
+Reads stated (Err refused.NoMemory) = ⊤
+
+-- the first line that is left can't be read; nothing is said of want of memory
+abbrev pub FirstRefused : List Numbered → ScriptError → Type 0
+FirstRefused lines (refused.BadLine n reason) = FirstReads lines n (Err reason)
+FirstRefused lines (refused.TooLarge n) = ⊥
+FirstRefused lines refused.NoMemory = ⊤
+
+-- the reading ends with the fault of a line with this number; nothing is said of want of memory
+abbrev pub EndsWith : ℕ → Result Above Fault → ScriptError → Type 0
+EndsWith n outcome refused.NoMemory = ⊤
+EndsWith n outcome error = (fault : Fault) × (outcome ≡ Err fault) × (error ≡ refusal n fault)
+
+-- the reading goes on with what is stated now, or ends
+abbrev pub GoesOn : {T : Type 0} → ℕ → Result Above Fault → Result T ScriptError → Above → Type 0
+GoesOn n outcome (Ok t) new = outcome ≡ Ok new
+GoesOn n outcome (Err error) new = EndsWith n outcome error
+
+abbrev pub rest_of : ℕ → Result Above Fault → (Above → Result Script ScriptError) → Result Script ScriptError
+rest_of n (Ok A) rest = rest A
+rest_of n (Err fault) rest = Err (refusal n fault)
+
+-- the lines that are left, behind lines that state this
+unfoldable pub reading_from : List Numbered → Above → Result Script ScriptError
+reading_from [] A = script_at_end A
+reading_from (line ∷ lines) A = rest_of line.number (with_reading line.number (line_statement A (tokens line.bytes)) A) (reading_from lines)

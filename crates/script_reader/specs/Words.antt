@@ -1,0 +1,110 @@
+-- The words that begin the lines of a script, and where each may stand.
+use Rattle.std.specs.Prelude.{ℕ, Bool, true, false, List, [], ◌∷◌, Option, codes, bytes_eq, find, map}
+use Rattle.std.specs.Option.{option_map}
+use Rattle.std.specs.Borrow.{Bor}
+use Rattle.script_reader.specs.declared.word.Word.{Word}
+use Rattle.script_reader.specs.declared.word.Word.TheVariants as word
+use Rattle.script_reader.specs.declared.word.Part.{Part}
+use Rattle.script_reader.specs.declared.word.Part.TheVariants as part
+
+-- each word as it is written
+abbrev pub words : List (List ℕ × Word)
+words =
+    (codes "pidmax", word.Pidmax) ∷
+    (codes "pidbase", word.Pidbase) ∷
+    (codes "firstid", word.Firstid) ∷
+    (codes "rlimit", word.Rlimit) ∷
+    (codes "dir", word.Dir) ∷
+    (codes "reg", word.Reg) ∷
+    (codes "fifo", word.Fifo) ∷
+    (codes "sock", word.Sock) ∷
+    (codes "link", word.Link) ∷
+    (codes "chr", word.Chr) ∷
+    (codes "blk", word.Blk) ∷
+    (codes "attr", word.Attr) ∷
+    (codes "root", word.Root) ∷
+    (codes "broker", word.Broker) ∷
+    (codes "map", word.Map) ∷
+    (codes "cgroup", word.Cgroup) ∷
+    (codes "figures", word.Figures) ∷
+    (codes "notify", word.Notify) ∷
+    (codes "filter", word.Filter) ∷
+    (codes "killable", word.Killable) ∷
+    (codes "prog", word.Prog) ∷
+    (codes "poke", word.Poke) ∷
+    (codes "fill", word.Fill) ∷
+    (codes "call", word.Call) ∷
+    (codes "spawn", word.Spawn) ∷
+    (codes "thread", word.Thread) ∷
+    (codes "kill", word.Kill) ∷
+    (codes "handler", word.Handler) ∷
+    (codes "wait", word.Wait) ∷
+    (codes "exit", word.Exit) ∷
+    (codes "schedule", word.Schedule) ∷
+    (codes "t", word.Task) ∷
+    (codes "w", word.Worker) ∷
+    (codes "end", word.End) ∷
+    []
+
+-- the word of a table that is written so
+abbrev pub word_in : List (List ℕ × Word) → List ℕ → Option Word
+word_in table bytes = option_map (λ row. row.1) (find (λ row. bytes_eq row.0 bytes) table)
+
+-- the word that is written so
+abbrev pub word_of : List ℕ → Option Word
+word_of bytes = word_in words bytes
+
+-- the table of the program as contracts read it, with the texts that it borrows
+abbrev pub rows_of : List (Bor (List ℕ) × Word) → List (List ℕ × Word)
+rows_of table = map (λ row. (row.0.now, row.1)) table
+
+-- ---- parts
+
+-- among the settings, outside the blocks of filters
+abbrev pub among_settings : Part → Bool
+among_settings part.Settings = true
+among_settings _ = false
+
+-- among the settings or behind a program
+abbrev pub between_blocks : Part → Bool
+between_blocks part.Settings = true
+between_blocks part.Programs = true
+between_blocks _ = false
+
+-- in the block of a program, before `exit`
+abbrev pub in_program : Part → Bool
+in_program part.Program = true
+in_program _ = false
+
+abbrev pub in_schedule : Part → Bool
+in_schedule part.Schedule = true
+in_schedule _ = false
+
+abbrev pub in_filter : Part → Bool
+in_filter part.Filter = true
+in_filter _ = false
+
+-- in a block of any kind
+abbrev pub in_block : Part → Bool
+in_block part.Settings = false
+in_block part.Programs = false
+in_block part.Over = false
+in_block _ = true
+
+-- the lines with this word belong to the part; all that aren't named are settings
+abbrev pub belongs : Word → Part → Bool
+belongs word.Prog p = between_blocks p
+belongs word.Schedule p = between_blocks p
+belongs word.Poke p = in_program p
+belongs word.Fill p = in_program p
+belongs word.Call p = in_program p
+belongs word.Spawn p = in_program p
+belongs word.Thread p = in_program p
+belongs word.Kill p = in_program p
+belongs word.Handler p = in_program p
+belongs word.Wait p = in_program p
+belongs word.Exit p = in_program p
+belongs word.Task p = in_schedule p
+belongs word.Worker p = in_schedule p
+belongs word.End p = in_block p
+belongs _ p = among_settings p

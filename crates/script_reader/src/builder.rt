@@ -1,0 +1,407 @@
+//! What the lines above state.
+
+ghost use Rattle.std.specs.Prelude.{◌≡◌};
+ghost use Rattle.script_reader.specs.Above.{opened_by, opens, part_behind};
+ghost use Rattle.script_reader.specs.Rules.{HasProcessNumbers};
+
+use crate::blocks::Filters;
+use crate::error::{Fault, ScriptError};
+use crate::fault::wrong_if;
+use crate::programs::{Programs, refuse_instr};
+use crate::ranges::{in_force, refuse_broker, refuse_range};
+use crate::reading::read_line;
+use crate::schedule::Schedule;
+use crate::settings::{
+    Settings, figures_of, no_settings, pidmax_of, refuse_again, refuse_pidbase, with_group,
+};
+use crate::statement::Statement;
+use crate::totals::is_exit;
+use crate::tree::Tree;
+use crate::word::{Part, in_block};
+use hist_model::request::{Node, NodeRef};
+use hist_model::script::{Figures, Insn, Instr, MapRange, Script, Step};
+use hist_model::text::{Sequence, Text};
+use lex_core::{Line, Reason, TokenBytes};
+use std::alloc::Global;
+use sys_abi::memory::{NoMemory, OrNoMemory};
+
+/// What the lines above state, part by part. The process numbers of their settings end at most at 4194304.
+#[derive(Drop)]
+pub struct Builder {
+    alloc: Global,
+    part: Part,
+    opened: u32,
+    settings: Settings,
+    tree: Tree,
+    broker: Vec<u32>,
+    map: Vec<MapRange>,
+    filters: Filters,
+    programs: Programs,
+    schedule: Schedule,
+    ghost pids: { HasProcessNumbers settings },
+}
+
+/// The answer of a step of the builder.
+type Admitted = Result<(), OrNoMemory<Fault>>;
+
+/// Whether a statement opens a block.
+fn opens(statement: &Statement) -> bool
+    ensures { result ≡ opens statement.now }
+{
+    matches!(
+        statement,
+        Statement::Filter { .. } | Statement::Prog { .. } | Statement::Schedule
+    )
+}
+
+impl Builder {
+    ghost use Rattle.std.specs.Prelude.{◌≤◌, false, true, length, is_some, IfOk, OnOk};
+    ghost use Rattle.hist_model.specs.ScriptRules.{can_be_scheduled};
+    ghost use Rattle.script_reader.specs.Faults.{Admits};
+    ghost use Rattle.script_reader.specs.Above.{with_statement, statement_fault, nothing_above, end_fault, close_block, program_part};
+    ghost use Rattle.script_reader.specs.Rules.{IsSound, starts_nothing};
+    ghost use Rattle.script_reader.specs.Views.{above_in};
+    ghost use Rattle.script_reader.specs.declared.statement.Statement.TheVariants as states;
+    ghost use Rattle.script_reader.specs.declared.word.Part.TheVariants as part;
+
+    /// Nothing is stated.
+    pub fn new(alloc: Global) -> Result<Builder, NoMemory>
+        ensures { IfOk result (λ b. above_in b ≡ nothing_above) }
+    {
+        Ok(Builder {
+            alloc,
+            part: Part::Settings,
+            opened: 0,
+            settings: no_settings(),
+            tree: Tree::new(alloc)?,
+            broker: Vec::new(alloc),
+            map: Vec::new(alloc),
+            filters: Filters::new(alloc),
+            programs: Programs::new(alloc),
+            schedule: Schedule::new(alloc),
+        })
+    }
+
+    fn pidmax(&mut self, n: u32) -> Admitted
+        requires within { n ≤ 4194304 }
+        requires before { is_some self.old.settings.pidbase ≡ false }
+        ensures { Admits (statement_fault (states.Pidmax n) (above_in self.old)) (with_statement (states.Pidmax n) (above_in self.old)) result (above_in self.new) }
+    {
+        refuse_again(self.settings.pidmax.is_some()).map_err(OrNoMemory::Refused)?;
+        self.settings.pidmax = Some(n);
+        Ok(())
+    }
+
+    fn pidbase(&mut self, n: u32) -> Admitted
+        ensures { Admits (statement_fault (states.Pidbase n) (above_in self.old)) (with_statement (states.Pidbase n) (above_in self.old)) result (above_in self.new) }
+    {
+        refuse_pidbase(&self.settings, n).map_err(OrNoMemory::Refused)?;
+        self.settings.pidbase = Some(n);
+        Ok(())
+    }
+
+    fn firstid(&mut self, n: u64) -> Admitted
+        ensures { Admits (statement_fault (states.Firstid n) (above_in self.old)) (with_statement (states.Firstid n) (above_in self.old)) result (above_in self.new) }
+    {
+        refuse_again(self.settings.firstid.is_some()).map_err(OrNoMemory::Refused)?;
+        self.settings.firstid = Some(n);
+        Ok(())
+    }
+
+    fn rlimit(&mut self, n: u32) -> Admitted
+        ensures { Admits (statement_fault (states.Rlimit n) (above_in self.old)) (with_statement (states.Rlimit n) (above_in self.old)) result (above_in self.new) }
+    {
+        refuse_again(self.settings.rlimit.is_some()).map_err(OrNoMemory::Refused)?;
+        self.settings.rlimit = Some(n);
+        Ok(())
+    }
+
+    fn killable(&mut self) -> Admitted
+        ensures { Admits (statement_fault states.Killable (above_in self.old)) (with_statement states.Killable (above_in self.old)) result (above_in self.new) }
+    {
+        refuse_again(self.settings.killable).map_err(OrNoMemory::Refused)?;
+        wrong_if(!self.filters.has_listener(), Reason::NoListener).map_err(OrNoMemory::Refused)?;
+        self.settings.killable = true;
+        Ok(())
+    }
+
+    fn figures(&mut self, figures: Figures) -> Admitted
+        ensures { Admits (statement_fault (states.Figures figures) (above_in self.old)) (with_statement (states.Figures figures) (above_in self.old)) result (above_in self.new) }
+    {
+        refuse_again(self.settings.figures.is_some()).map_err(OrNoMemory::Refused)?;
+        self.settings.figures = Some(figures);
+        Ok(())
+    }
+
+    fn cgroup(&mut self, memory: u64, swap: u64) -> Admitted
+        ensures { Admits (statement_fault (states.Cgroup memory swap) (above_in self.old)) (with_statement (states.Cgroup memory swap) (above_in self.old)) result (above_in self.new) }
+    {
+        self.settings.limits = Some(with_group(memory, swap, self.settings.limits));
+        Ok(())
+    }
+
+    fn root(&mut self, path: TokenBytes) -> Admitted
+        ensures { Admits (statement_fault (states.Root path) (above_in self.old)) (with_statement (states.Root path) (above_in self.old)) result (above_in self.new) }
+    {
+        wrong_if(!self.tree.leads_to_directory(path.items()), Reason::BadPath).map_err(
+            OrNoMemory::Refused,
+        )?;
+        refuse_again(self.settings.root.is_some()).map_err(OrNoMemory::Refused)?;
+        self.settings.root = Some(self.tree.node_at(path.items()));
+        Ok(())
+    }
+
+    fn node(&mut self, path: TokenBytes, node: Node) -> Admitted
+        ensures { Admits (statement_fault (states.Node path node) (above_in self.old)) (with_statement (states.Node path node) (above_in self.old)) result (above_in self.new) }
+    {
+        self.tree.add_node(self.alloc, path, node)
+    }
+
+    fn attr(&mut self, path: TokenBytes, name: Text, value: Text) -> Admitted
+        ensures { Admits (statement_fault (states.Attr path name value) (above_in self.old)) (with_statement (states.Attr path name value) (above_in self.old)) result (above_in self.new) }
+    {
+        self.tree.add_attr(path, name, value)
+    }
+
+    fn broker(&mut self, n: u32) -> Admitted
+        ensures { Admits (statement_fault (states.Broker n) (above_in self.old)) (with_statement (states.Broker n) (above_in self.old)) result (above_in self.new) }
+    {
+        refuse_broker(&self.broker, n).map_err(OrNoMemory::Refused)?;
+        self.broker.push(n)?;
+        Ok(())
+    }
+
+    fn map(&mut self, range: MapRange) -> Admitted
+        ensures { Admits (statement_fault (states.Map range) (above_in self.old)) (with_statement (states.Map range) (above_in self.old)) result (above_in self.new) }
+    {
+        refuse_range(&self.map, range).map_err(OrNoMemory::Refused)?;
+        self.map.push(range)?;
+        Ok(())
+    }
+
+    fn notify(&mut self, calls: &[i32]) -> Admitted
+        requires { length calls.now ≤ 64 }
+        ensures { Admits (statement_fault (states.Notify calls.now) (above_in self.old)) (with_statement (states.Notify calls.now) (above_in self.old)) result (above_in self.new) }
+    {
+        self.filters.add_notify(calls)
+    }
+
+    fn filter(&mut self, listener: bool) -> Admitted
+        ensures { Admits (statement_fault (states.Filter listener) (above_in self.old)) (with_statement (states.Filter listener) (above_in self.old)) result (above_in self.new) }
+    {
+        self.filters.open(listener)?;
+        self.part = Part::Filter;
+        Ok(())
+    }
+
+    fn insn(&mut self, insn: Insn) -> Admitted
+        ensures { Admits (statement_fault (states.Insn insn) (above_in self.old)) (with_statement (states.Insn insn) (above_in self.old)) result (above_in self.new) }
+    {
+        self.filters.push_insn(insn)?;
+        Ok(())
+    }
+
+    fn prog(&mut self, name: TokenBytes) -> Admitted
+        ensures { Admits (statement_fault (states.Prog name) (above_in self.old)) (with_statement (states.Prog name) (above_in self.old)) result (above_in self.new) }
+    {
+        self.programs.open(name)?;
+        self.part = Part::Program;
+        Ok(())
+    }
+
+    fn does(&mut self, instr: Instr) -> Admitted
+        requires { starts_nothing instr ≡ true }
+        ensures { Admits (statement_fault (states.Does instr) (above_in self.old)) (with_statement (states.Does instr) (above_in self.old)) result (above_in self.new) }
+    {
+        refuse_instr(&self.map, &instr).map_err(OrNoMemory::Refused)?;
+        let exits = is_exit(&instr);
+        self.programs.push(instr)?;
+        self.part = part_behind(exits, self.part);
+        Ok(())
+    }
+
+    fn starts(&mut self, thread: bool, name: TokenBytes) -> Admitted
+        ensures { Admits (statement_fault (states.Starts thread name) (above_in self.old)) (with_statement (states.Starts thread name) (above_in self.old)) result (above_in self.new) }
+    {
+        self.programs.push_start(thread, name.items())
+    }
+
+    fn schedule(&mut self) -> Admitted
+        ensures { Admits (statement_fault states.Schedule (above_in self.old)) (with_statement states.Schedule (above_in self.old)) result (above_in self.new) }
+    {
+        self.part = Part::Schedule;
+        Ok(())
+    }
+
+    fn takes(&mut self, step: Step) -> Admitted
+        requires { can_be_scheduled step.who ≡ true }
+        ensures { Admits (statement_fault (states.Takes step) (above_in self.old)) (with_statement (states.Takes step) (above_in self.old)) result (above_in self.new) }
+    {
+        self.schedule.push(step)
+    }
+
+    fn close_filter(&mut self) -> Admitted
+        ensures { Admits (end_fault part.Filter (above_in self.old)) (close_block part.Filter (above_in self.old)) result (above_in self.new) }
+    {
+        self.filters.close()?;
+        self.part = Part::Settings;
+        Ok(())
+    }
+
+    fn close_program(&mut self, exited: bool) -> Admitted
+        ensures { Admits (end_fault (program_part exited) (above_in self.old)) (close_block (program_part exited) (above_in self.old)) result (above_in self.new) }
+    {
+        self.programs.close(exited)?;
+        self.part = Part::Programs;
+        Ok(())
+    }
+
+    fn close_schedule(&mut self) -> Admitted
+        ensures { Admits (end_fault part.Schedule (above_in self.old)) (close_block part.Schedule (above_in self.old)) result (above_in self.new) }
+    {
+        self.part = Part::Over;
+        Ok(())
+    }
+
+    /// Closes the block that is open.
+    fn end(&mut self) -> Admitted
+        ensures { Admits (statement_fault states.End (above_in self.old)) (with_statement states.End (above_in self.old)) result (above_in self.new) }
+    {
+        match self.part {
+            Part::Filter => self.close_filter(),
+            Part::Program => self.close_program(false),
+            Part::Exited => self.close_program(true),
+            Part::Schedule => self.close_schedule(),
+            _ => Ok(()),
+        }
+    }
+
+    /// One more statement, or its fault beside the lines above. After an error nothing is said of the builder.
+    fn admit(&mut self, statement: Statement) -> Admitted
+        requires { IsSound (is_some self.old.settings.pidbase) statement }
+        ensures { Admits (statement_fault statement (above_in self.old)) (with_statement statement (above_in self.old)) result (above_in self.new) }
+    {
+        match statement {
+            Statement::Pidmax(n) => self.pidmax(n),
+            Statement::Pidbase(n) => self.pidbase(n),
+            Statement::Firstid(n) => self.firstid(n),
+            Statement::Rlimit(n) => self.rlimit(n),
+            Statement::Killable => self.killable(),
+            Statement::Node { path, node } => self.node(path, node),
+            Statement::Attr { path, name, value } => self.attr(path, name, value),
+            Statement::Root { path } => self.root(path),
+            Statement::Broker(n) => self.broker(n),
+            Statement::Map(range) => self.map(range),
+            Statement::Cgroup { memory, swap } => self.cgroup(memory, swap),
+            Statement::Figures(figures) => self.figures(figures),
+            Statement::Notify(calls) => self.notify(calls.items()),
+            Statement::Filter { listener } => self.filter(listener),
+            Statement::Insn(insn) => self.insn(insn),
+            Statement::Prog { name } => self.prog(name),
+            Statement::Does(instr) => self.does(instr),
+            Statement::Starts { thread, name } => self.starts(thread, name),
+            Statement::Schedule => self.schedule(),
+            Statement::Takes(step) => self.takes(step),
+            Statement::End => self.end(),
+        }
+    }
+}
+
+/// Where the lines behind an instruction stand.
+fn part_behind(exits: bool, part: Part) -> Part
+    ensures { result ≡ part_behind exits part }
+{
+    if exits { Part::Exited } else { part }
+}
+
+/// The line that opened the last block.
+fn opened_by(opens: bool, line: u32, before: u32) -> u32
+    ensures { result ≡ opened_by opens line before }
+{
+    if opens { line } else { before }
+}
+
+impl Builder {
+    ghost use Rattle.std.specs.Prelude.{Ok, is_some, IfOk};
+    ghost use Rattle.script_reader.specs.Above.{statement_fault};
+    ghost use Rattle.script_reader.specs.Lines.{line_statement, unless_faulty};
+    ghost use Rattle.script_reader.specs.Outcomes.{Becomes, Reads, with_reading};
+    ghost use Rattle.script_reader.specs.Rules.{IsSound};
+    ghost use Rattle.script_reader.specs.Scripts.{script_at_end, script_of};
+    ghost use Rattle.script_reader.specs.Views.{above_in};
+
+    /// A line with this number joins those above, where its statement has no fault beside them.
+    fn join(&mut self, number: u32, statement: Statement) -> Admitted
+        requires { IsSound (is_some self.old.settings.pidbase) statement }
+        ensures { Becomes (with_reading number (unless_faulty (statement_fault statement (above_in self.old)) statement) (above_in self.old)) result (above_in self.new) }
+    {
+        let opens = opens(&statement);
+        self.admit(statement)?;
+        self.opened = opened_by(opens, number, self.opened);
+        Ok(())
+    }
+
+    /// Reads a line behind those above. After an error nothing is said of the builder.
+    pub fn read(&mut self, line: Line) -> Admitted
+        ensures { Becomes (with_reading line.number (line_statement (above_in self.old) (Ok line.tokens)) (above_in self.old)) result (above_in self.new) }
+    {
+        let number = line.number;
+        let base_is_stated = self.settings.pidbase.is_some();
+        let statement = read_line(self.alloc, self.part, base_is_stated, line)?;
+        self.join(number, statement)
+    }
+
+    /// The script that the lines make, where all blocks are closed and there is a program.
+    pub fn finish(self) -> Result<Script, ScriptError>
+        ensures { Reads (script_at_end (above_in self)) result }
+    {
+        if in_block(self.part) {
+            return Err(ScriptError::BadLine {
+                line: self.opened,
+                reason: Reason::NotClosed,
+            });
+        }
+        if self.programs.is_empty() {
+            return Err(ScriptError::BadLine {
+                line: 0,
+                reason: Reason::NoProgram,
+            });
+        }
+        match self.into_script() {
+            Ok(script) => Ok(script),
+            Err(_) => Err(ScriptError::NoMemory),
+        }
+    }
+
+    /// The script of all settings, each that isn't stated having its default.
+    fn into_script(self) -> Result<Script, NoMemory>
+        ensures { IfOk result (λ s. s ≡ script_of (above_in self)) }
+    {
+        let Builder {
+            alloc,
+            settings,
+            tree,
+            broker,
+            map,
+            filters,
+            programs,
+            schedule,
+            ..
+        } = self;
+        Ok(Script {
+            pidbase: settings.pidbase.unwrap_or(0),
+            pidmax: pidmax_of(&settings),
+            firstid: settings.firstid.unwrap_or(1),
+            rlimit: settings.rlimit.unwrap_or(1024),
+            killable: settings.killable,
+            root: settings.root.unwrap_or(NodeRef { ordinal: 0 }),
+            figures: figures_of(&settings),
+            tree: Sequence::new(tree.into_lines()),
+            broker: Sequence::new(broker),
+            map: Sequence::new(Vec::from_slice(alloc, in_force(&map))?),
+            filters: Sequence::new(filters.into_closed()),
+            programs: Sequence::new(programs.into_bodies()),
+            schedule: Sequence::new(schedule.into_lines()),
+        })
+    }
+}

@@ -1,0 +1,170 @@
+//! What a line states by itself.
+
+ghost use Rattle.std.specs.Prelude.{◌≡◌, ◌∷◌, Bool, IfOk};
+ghost use Rattle.bpf_filter.specs.Text.{insn_text};
+ghost use Rattle.script_reader.specs.Lines as definitions;
+ghost use Rattle.script_reader.specs.Outcomes.{States};
+ghost use Rattle.script_reader.specs.Rules.{IsSound};
+ghost use Rattle.script_reader.specs.Words.{in_filter, word_of};
+
+use crate::error::Fault;
+use crate::operand::operands_fault;
+use crate::statement::{Statement, statement_of};
+use crate::word::{Part, Word, belongs, word_of};
+use bpf_filter::{is_script_word, read_text};
+use lex_core::{Line, Reason, Token};
+use std::alloc::Global;
+use sys_abi::memory::OrNoMemory;
+
+/// Whether a word comes behind one that it has to stand before.
+fn comes_late(base_is_stated: bool, word: Word) -> bool
+    ensures { result ≡ definitions.comes_late base_is_stated word }
+{
+    match word {
+        Word::Pidmax => base_is_stated,
+        _ => false,
+    }
+}
+
+/// Whether a word may stand in a part; `base_is_stated` is whether a `pidbase` stands above.
+fn is_in_place(part: Part, base_is_stated: bool, word: Word) -> bool
+    ensures { result ≡ definitions.is_in_place part base_is_stated word }
+{
+    belongs(word, part) && !comes_late(base_is_stated, word)
+}
+
+/// Why a word can't begin a line here that is none of the plain words.
+fn other_word(word: &[u8]) -> Reason
+    ensures { result ≡ definitions.other_word word.now }
+{
+    if is_script_word(word) {
+        Reason::OutOfPlace
+    } else {
+        Reason::UnknownWord
+    }
+}
+
+/// What a line with this word states.
+fn word_statement(
+    alloc: Global,
+    part: Part,
+    base_is_stated: bool,
+    word: Word,
+    operands: Vec<Token>,
+) -> Result<Statement, OrNoMemory<Fault>>
+    ensures reading { States (definitions.word_statement part base_is_stated word operands.items) result }
+    ensures sound { IfOk result (λ s. IsSound base_is_stated s) }
+{
+    if !is_in_place(part, base_is_stated, word) {
+        return Err(OrNoMemory::Refused(Fault::Wrong(Reason::OutOfPlace)));
+    }
+    if let Some(reason) = operands_fault(word, &operands) {
+        return Err(OrNoMemory::Refused(Fault::Wrong(reason)));
+    }
+    Ok(statement_of(alloc, word, operands)?)
+}
+
+/// What a line states with this word and these operands.
+fn bytes_statement(
+    alloc: Global,
+    part: Part,
+    base_is_stated: bool,
+    bytes: &[u8],
+    operands: Vec<Token>,
+) -> Result<Statement, OrNoMemory<Fault>>
+    ensures reading { States (definitions.bytes_statement part base_is_stated (word_of bytes.now) bytes.now operands.items) result }
+    ensures sound { IfOk result (λ s. IsSound base_is_stated s) }
+{
+    match word_of(bytes) {
+        Some(word) => word_statement(alloc, part, base_is_stated, word, operands),
+        None => Err(OrNoMemory::Refused(Fault::Wrong(other_word(bytes)))),
+    }
+}
+
+/// What a line states with this first token and these operands.
+fn token_statement(
+    alloc: Global,
+    part: Part,
+    base_is_stated: bool,
+    first: &Token,
+    operands: Vec<Token>,
+) -> Result<Statement, OrNoMemory<Fault>>
+    ensures reading { States (definitions.plain_statement part base_is_stated (first.now ∷ operands.items)) result }
+    ensures sound { IfOk result (λ s. IsSound base_is_stated s) }
+{
+    match first {
+        Token::Bare(bytes) => {
+            bytes_statement(alloc, part, base_is_stated, bytes.items(), operands)
+        }
+        Token::Quoted(_) => Err(OrNoMemory::Refused(Fault::Wrong(Reason::UnknownWord))),
+    }
+}
+
+/// What a line states that is no instruction of a filter.
+#[tactic(auto, using(crate::proofs::SoundStatements::first_removed))]
+fn plain_statement(
+    alloc: Global,
+    part: Part,
+    base_is_stated: bool,
+    tokens: Vec<Token>,
+) -> Result<Statement, OrNoMemory<Fault>>
+    ensures reading { States (definitions.plain_statement part base_is_stated tokens.items) result }
+    ensures sound { IfOk result (λ s. IsSound base_is_stated s) }
+{
+    let mut operands = tokens;
+    if operands.is_empty() {
+        return Err(OrNoMemory::Refused(Fault::Wrong(Reason::UnknownWord)));
+    }
+    let first = operands.remove(0);
+    token_statement(alloc, part, base_is_stated, &first, operands)
+}
+
+fn is_end(word: Option<Word>) -> bool
+    ensures { result ≡ definitions.is_end word }
+{
+    matches!(word, Some(Word::End))
+}
+
+/// Whether a line says that a block ends.
+fn ends_block(tokens: &[Token]) -> bool
+    ensures { result ≡ definitions.ends_block tokens.now }
+{
+    match tokens.first() {
+        Some(Token::Bare(bytes)) => is_end(word_of(bytes.items())),
+        _ => false,
+    }
+}
+
+/// What a line of a filter's block states.
+fn insn_statement(line: &Line) -> Result<Statement, OrNoMemory<Fault>>
+    ensures reading { States (definitions.insn_statement (insn_text line.now.tokens)) result }
+    ensures sound { IfOk result (λ s. (base_is_stated : Bool) → IsSound base_is_stated s) }
+{
+    match read_text(line) {
+        Ok(insn) => Ok(Statement::Insn(insn)),
+        Err(reason) => Err(OrNoMemory::Refused(Fault::Wrong(reason))),
+    }
+}
+
+fn in_filter(part: Part) -> bool
+    ensures { result ≡ in_filter part }
+{
+    matches!(part, Part::Filter)
+}
+
+/// What a line states by itself, where it stands in a part and `base_is_stated` is whether a `pidbase` stands above. Its faults
+/// are those that it shows without the lines above.
+pub fn read_line(
+    alloc: Global,
+    part: Part,
+    base_is_stated: bool,
+    line: Line,
+) -> Result<Statement, OrNoMemory<Fault>>
+    ensures reading { States (definitions.tokens_statement part base_is_stated line.tokens) result }
+    ensures sound { IfOk result (λ s. IsSound base_is_stated s) }
+{
+    if in_filter(part) && !ends_block(line.tokens.items()) {
+        return insn_statement(&line);
+    }
+    plain_statement(alloc, part, base_is_stated, line.tokens.into_items())
+}

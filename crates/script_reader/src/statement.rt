@@ -1,0 +1,408 @@
+//! What lines state.
+
+ghost use Rattle.std.specs.Prelude.{◌≡◌, ◌≢◌, ℕ, pos, IfOk, map};
+ghost use Rattle.script_reader.specs.Statements as definitions;
+ghost use Rattle.hist_model.specs.declared.event.Actor.TheVariants.{Task, Worker};
+ghost use Rattle.script_reader.specs.declared.statement.Statement.TheVariants.{Takes};
+
+use crate::operand::{Addressee, addressee_in, begins_number};
+use crate::paths::task_numbers;
+use crate::word::Word;
+use bpf_filter::number_at;
+use hist_model::event::{Actor, Mode};
+use hist_model::request::Node;
+use hist_model::script::{Figures, Insn, Instr, MapRange, Step, Whom};
+use hist_model::text::{Sequence, TaskName, Text};
+use lex_core::{Token, TokenBytes};
+use std::alloc::{AllocError, Global};
+use std::mem;
+use sys_abi::calls::call_number;
+use sys_abi::memory::NoMemory;
+
+/// What a line states, from its own tokens alone. Numbers keep the ranges of their operands.
+#[derive(Drop)]
+pub enum Statement {
+    /// `pidmax`, 1 to 4194304.
+    Pidmax(u32),
+    /// `pidbase`, 0 to 4194303.
+    Pidbase(u32),
+    /// `firstid`.
+    Firstid(u64),
+    /// `rlimit`, 0 to 4096.
+    Rlimit(u32),
+    /// `killable`: the listener has SECCOMP_FILTER_FLAG_WAIT_KILLABLE_RECV.
+    Killable,
+    /// A node of the tree.
+    Node {
+        path: TokenBytes,
+        node: Node,
+    },
+    /// `attr`, an attribute of a stated node.
+    Attr {
+        path: TokenBytes,
+        name: Text,
+        value: Text,
+    },
+    /// `root`, the container's root.
+    Root {
+        path: TokenBytes,
+    },
+    /// `broker`, a descriptor that is open in the broker.
+    Broker(u32),
+    /// `map`.
+    Map(MapRange),
+    /// `cgroup`, the limits of a control group, in bytes.
+    Cgroup {
+        memory: u64,
+        swap: u64,
+    },
+    /// `figures`. Those of the control groups are 0.
+    Figures(Figures),
+    /// `notify`, the filter with the listener that notifies on these calls.
+    Notify(Sequence<i32>),
+    /// `filter`, which opens the block of a filter.
+    Filter {
+        listener: bool,
+    },
+    /// An instruction of the filter that is open.
+    Insn(Insn),
+    /// `prog`, which opens the block of a program.
+    Prog {
+        name: TokenBytes,
+    },
+    /// An instruction of the program that is open, but for those that start programs.
+    Does(Instr),
+    /// `spawn`, or `thread`.
+    Starts {
+        thread: bool,
+        name: TokenBytes,
+    },
+    /// `schedule`, which opens the block of the schedule.
+    Schedule,
+    /// A line of the schedule.
+    Takes(Step),
+    /// `end`, of the block that is open.
+    End,
+}
+
+/// The bytes that a token stands for.
+fn into_bytes(token: Token) -> TokenBytes
+    ensures { result ≡ definitions.token_bytes token }
+{
+    match token {
+        Token::Bare(bytes) => bytes,
+        Token::Quoted(bytes) => bytes,
+    }
+}
+
+fn token_bytes(token: &Token) -> &[u8]
+    ensures { result.now ≡ definitions.token_bytes token.now }
+{
+    match token {
+        Token::Bare(bytes) => bytes.items(),
+        Token::Quoted(bytes) => bytes.items(),
+    }
+}
+
+/// The bytes of the operand at a place; none behind the last one.
+fn bytes_at(operands: &[Token], place: usize) -> &[u8]
+    ensures { result.now ≡ definitions.bytes_at operands.now place }
+{
+    match operands.get(place) {
+        Some(token) => token_bytes(token),
+        None => &[],
+    }
+}
+
+/// Takes the bytes of the operand at a place; none behind the last one.
+fn take_bytes(alloc: Global, operands: &mut Vec<Token>, place: usize) -> TokenBytes
+    ensures taken { result ≡ definitions.bytes_at operands.old.items place }
+    ensures others { (k : ℕ) → k ≢ place → definitions.bytes_at operands.new.items k ≡ definitions.bytes_at operands.old.items k }
+{
+    let none = TokenBytes::new(Vec::new(alloc));
+    if place >= operands.len() {
+        return none;
+    }
+    into_bytes(mem::replace(&mut operands[place], Token::Bare(none)))
+}
+
+/// Takes the text of the operand at a place; none behind the last one.
+fn take_text(alloc: Global, operands: &mut Vec<Token>, place: usize) -> Text
+    ensures taken { result ≡ definitions.bytes_at operands.old.items place }
+    ensures others { (k : ℕ) → k ≢ place → definitions.bytes_at operands.new.items k ≡ definitions.bytes_at operands.old.items k }
+{
+    Text::new(take_bytes(alloc, operands, place).into_items())
+}
+
+/// The number of 8 bits at a place, and 0 where there is none.
+fn byte_at(operands: &[Token], place: usize) -> u8
+    ensures { result ≡ definitions.byte_at operands.now place }
+{
+    u8::try_from(number_at(operands, place)).unwrap_or(0)
+}
+
+/// The number of 16 bits at a place, and 0 where there is none.
+fn half_at(operands: &[Token], place: usize) -> u16
+    ensures { result ≡ definitions.half_at operands.now place }
+{
+    u16::try_from(number_at(operands, place)).unwrap_or(0)
+}
+
+/// The number of 32 bits at a place, and 0 where there is none.
+fn word_at(operands: &[Token], place: usize) -> u32
+    ensures { result ≡ definitions.word_at operands.now place }
+{
+    u32::try_from(number_at(operands, place)).unwrap_or(0)
+}
+
+/// The number of 64 bits at a place, and 0 where there is none.
+fn wide_at(operands: &[Token], place: usize) -> u64
+    ensures { result ≡ definitions.wide_at operands.now place }
+{
+    u64::try_from(number_at(operands, place)).unwrap_or(0)
+}
+
+/// An argument of a call, modulo 2^64; 0 where it is missing.
+fn argument_at(operands: &[Token], place: usize) -> u64
+    ensures { result ≡ definitions.argument_at operands.now place }
+{
+    (number_at(operands, place).cast_unsigned() % (1 << 64)) as u64
+}
+
+/// The number of the call with this name, and 0 where there is none.
+fn call_named(name: &[u8]) -> i32
+    ensures { result ≡ definitions.call_named name.now }
+{
+    call_number(name).unwrap_or(0)
+}
+
+/// The number of a call at a place, below 2^31, and 0 where there is none.
+fn call_number_at(operands: &[Token], place: usize) -> i32
+    ensures { result ≡ pos (definitions.limited_at (2147483648) operands.now place) }
+{
+    match u32::try_from(number_at(operands, place)) {
+        Ok(number) if number < 0x8000_0000 => number as i32,
+        _ => 0,
+    }
+}
+
+/// The number of the call that an operand states by its number or its name.
+fn call_at(operands: &[Token], place: usize) -> i32
+    ensures { result ≡ definitions.call_at operands.now place }
+{
+    let word = bytes_at(operands, place);
+    if begins_number(word) {
+        call_number_at(operands, place)
+    } else {
+        call_named(word)
+    }
+}
+
+/// How often an actor of the schedule steps.
+fn count_at(operands: &[Token], place: usize) -> u32
+    ensures { result ≡ definitions.count_at operands.now place }
+{
+    if operands.len() == 1 {
+        1
+    } else {
+        word_at(operands, place)
+    }
+}
+
+fn mode_of(name: &[u8]) -> Mode
+    ensures { result ≡ definitions.mode_of name.now }
+{
+    if name == b"restart".as_slice() {
+        Mode::Restart
+    } else if name == b"plain".as_slice() {
+        Mode::Plain
+    } else {
+        Mode::Default
+    }
+}
+
+fn kill(operands: &[Token]) -> Instr
+    ensures { result ≡ definitions.kill_of (definitions.addressee_in operands.now) operands.now }
+{
+    let (whom, sig) = match addressee_in(operands) {
+        Addressee::Child => (Whom::Child(word_at(operands, 1)), byte_at(operands, 2)),
+        Addressee::Pid => (Whom::Pid(word_at(operands, 1)), byte_at(operands, 2)),
+        Addressee::Parent => (Whom::Parent, byte_at(operands, 1)),
+        _ => (Whom::Own, byte_at(operands, 1)),
+    };
+    Instr::Kill { whom, sig }
+}
+
+fn figures(operands: &[Token]) -> Figures
+    ensures { result ≡ definitions.stated_figures operands.now }
+{
+    Figures {
+        uptime: wide_at(operands, 0),
+        used: wide_at(operands, 1),
+        shared: wide_at(operands, 2),
+        buffers: wide_at(operands, 3),
+        swap_used: wide_at(operands, 4),
+        memory: 0,
+        swap: 0,
+        host_memory: 0,
+        host_swap: 0,
+        procs: half_at(operands, 5),
+    }
+}
+
+fn arguments(operands: &[Token]) -> [u64; 6]
+    ensures { result ≡ definitions.arguments operands.now }
+{
+    [
+        argument_at(operands, 1),
+        argument_at(operands, 2),
+        argument_at(operands, 3),
+        argument_at(operands, 4),
+        argument_at(operands, 5),
+        argument_at(operands, 6),
+    ]
+}
+
+fn call(operands: &[Token]) -> Instr
+    ensures { result ≡ definitions.call_of operands.now }
+{
+    Instr::Call {
+        nr: call_at(operands, 0),
+        args: arguments(operands),
+    }
+}
+
+fn node(alloc: Global, operands: &mut Vec<Token>, node: Node) -> Statement
+    ensures { result ≡ definitions.node_stated operands.old.items node }
+{
+    Statement::Node {
+        path: take_bytes(alloc, operands, 0),
+        node,
+    }
+}
+
+fn link(alloc: Global, operands: &mut Vec<Token>) -> Statement
+    ensures { result ≡ definitions.link_stated operands.old.items }
+{
+    let target = take_text(alloc, operands, 1);
+    node(alloc, operands, Node::Link(target))
+}
+
+fn attr(alloc: Global, operands: &mut Vec<Token>) -> Statement
+    ensures { result ≡ definitions.attr_stated operands.old.items }
+{
+    let value = take_text(alloc, operands, 2);
+    let name = take_text(alloc, operands, 1);
+    let path = take_bytes(alloc, operands, 0);
+    Statement::Attr { path, name, value }
+}
+
+fn poke(alloc: Global, operands: &mut Vec<Token>) -> Instr
+    ensures { result ≡ definitions.poke_of operands.old.items }
+{
+    let addr = wide_at(operands, 0);
+    let bytes = take_text(alloc, operands, 1);
+    Instr::Poke { addr, bytes }
+}
+
+fn call_numbers(alloc: Global, names: &[Token]) -> Result<Vec<i32>, AllocError>
+    ensures { IfOk result (λ numbers. numbers.items ≡ definitions.calls_named names.now) }
+{
+    names
+        .iter()
+        .map(|name| call_named(token_bytes(name)))
+        .collect(alloc)
+}
+
+fn task_step(alloc: Global, operands: &[Token]) -> Result<Step, NoMemory>
+    ensures { IfOk result (λ step. step ≡ definitions.task_step operands.now) }
+{
+    let name = TaskName::new(task_numbers(alloc, bytes_at(operands, 0))?);
+    Ok(Step {
+        who: Actor::Task(name),
+        count: count_at(operands, 1),
+    })
+}
+
+fn worker_step(operands: &[Token]) -> Step
+    ensures { result ≡ definitions.worker_step operands.now }
+{
+    Step {
+        who: Actor::Worker(byte_at(operands, 0)),
+        count: count_at(operands, 1),
+    }
+}
+
+/// What a line with this word states, where its operands have no fault. Texts are moved.
+pub fn statement_of(alloc: Global, word: Word, operands: Vec<Token>) -> Result<Statement, NoMemory>
+    ensures { IfOk result (λ s. s ≡ definitions.statement word operands.items) }
+{
+    let mut operands = operands;
+    Ok(match word {
+        Word::Pidmax => Statement::Pidmax(word_at(&operands, 0)),
+        Word::Pidbase => Statement::Pidbase(word_at(&operands, 0)),
+        Word::Firstid => Statement::Firstid(wide_at(&operands, 0)),
+        Word::Rlimit => Statement::Rlimit(word_at(&operands, 0)),
+        Word::Killable => Statement::Killable,
+        Word::Dir => node(alloc, &mut operands, Node::Dir),
+        Word::Reg => node(alloc, &mut operands, Node::Reg),
+        Word::Fifo => node(alloc, &mut operands, Node::Fifo),
+        Word::Sock => node(alloc, &mut operands, Node::Sock),
+        Word::Link => link(alloc, &mut operands),
+        Word::Chr => {
+            let device = Node::Chr(word_at(&operands, 1), word_at(&operands, 2));
+            node(alloc, &mut operands, device)
+        }
+        Word::Blk => {
+            let device = Node::Blk(word_at(&operands, 1), word_at(&operands, 2));
+            node(alloc, &mut operands, device)
+        }
+        Word::Attr => attr(alloc, &mut operands),
+        Word::Root => Statement::Root {
+            path: take_bytes(alloc, &mut operands, 0),
+        },
+        Word::Broker => Statement::Broker(word_at(&operands, 0)),
+        Word::Map => Statement::Map(MapRange {
+            start: wide_at(&operands, 0),
+            pages: word_at(&operands, 1),
+        }),
+        Word::Cgroup => Statement::Cgroup {
+            memory: wide_at(&operands, 0),
+            swap: wide_at(&operands, 1),
+        },
+        Word::Figures => Statement::Figures(figures(&operands)),
+        Word::Notify => Statement::Notify(Sequence::new(call_numbers(alloc, &operands)?)),
+        Word::Filter => Statement::Filter {
+            listener: !operands.is_empty(),
+        },
+        Word::Prog => Statement::Prog {
+            name: take_bytes(alloc, &mut operands, 0),
+        },
+        Word::Poke => Statement::Does(poke(alloc, &mut operands)),
+        Word::Fill => Statement::Does(Instr::Fill {
+            addr: wide_at(&operands, 0),
+            len: word_at(&operands, 1),
+            byte: byte_at(&operands, 2),
+        }),
+        Word::Call => Statement::Does(call(&operands)),
+        Word::Spawn => Statement::Starts {
+            thread: false,
+            name: take_bytes(alloc, &mut operands, 0),
+        },
+        Word::Thread => Statement::Starts {
+            thread: true,
+            name: take_bytes(alloc, &mut operands, 0),
+        },
+        Word::Kill => Statement::Does(kill(&operands)),
+        Word::Handler => Statement::Does(Instr::Handler {
+            sig: byte_at(&operands, 0),
+            mode: mode_of(bytes_at(&operands, 1)),
+        }),
+        Word::Wait => Statement::Does(Instr::Wait),
+        Word::Exit => Statement::Does(Instr::Exit),
+        Word::Schedule => Statement::Schedule,
+        Word::Task => Statement::Takes(task_step(alloc, &operands)?),
+        Word::Worker => Statement::Takes(worker_step(&operands)),
+        Word::End => Statement::End,
+    })
+}
