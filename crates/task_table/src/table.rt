@@ -24,6 +24,7 @@ use hist_model::request::TaskRef;
 use slab::Slab;
 use std::alloc::Global;
 use sys_abi::memory::{NoMemory, OrNoMemory};
+use sys_abi::signals::{SIGKILL, SIGTERM, SIGUSR1, SIGUSR2};
 use thiserror::Error;
 
 /// Every process number is held (fork(2), EAGAIN).
