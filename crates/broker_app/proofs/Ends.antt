@@ -1,5 +1,5 @@
 -- How a play ends.
-use Rattle.std.proofs.Common.{◌≡◌, ℕ, true, List, ◌++◌, length, take, ◌∙◌, ap, refl, sym, arith}
+use Rattle.std.proofs.Common.{◌≡◌, ℕ, true, List, ◌++◌, length, ◌∙◌, ap, refl, sym, arith}
 use Rattle.std.proofs.lemmas.List.{take_all}
 use Rattle.std.specs.Prelude.{Result, Ok, Err}
 use Rattle.hist_model.specs.Legal.{played}
@@ -16,7 +16,6 @@ use Rattle.audit_log.specs.declared.error.ReportError.{ReportError}
 use Rattle.audit_log.specs.declared.error.ReportError.TheVariants.{WriteFault, NoMemory}
 use Rattle.broker_app.specs.Answers.{Reported, Stands, report_of}
 use Rattle.broker_app.specs.Lines.{status_of_report}
-use Rattle.broker_app.specs.declared.status.Status.{Status}
 use Rattle.broker_app.specs.declared.status.Status.TheVariants.{NoMemory as OutOfMemory}
 
 -- a part that failed ends what it is a part of

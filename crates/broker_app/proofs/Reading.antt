@@ -1,13 +1,7 @@
--- What the bytes of a file are read as.
-use Rattle.std.proofs.Common.{◌≡◌, ℕ, List, Option, Some, None, inr, sym, ap, ◌∙◌, subst}
-use Rattle.broker_app.specs.Answers.{IsUnbuilt}
-use Rattle.broker_app.specs.Inputs.{read_from}
+-- What the bytes of a file are read as, where the file told them.
+-- By the equation that says which bytes they are.
+use Rattle.std.proofs.Common.{◌≡◌, ℕ, ◌≤◌, List, length, Option, Some, sym, subst}
+use Rattle.broker_app.specs.Inputs.{ReadsAs}
 
-module _ {A : Type 0} (read : List ℕ → Option A) (file : Option (List ℕ)) (text : List ℕ) (told : file ≡ Some text) where
-  -- the text was read
-  pub taken : (made : A) → Some made ≡ read text → read_from read file ≡ Some made
-  taken made is = ap (read_from read) told ∙ sym is
-
-  -- it has no form
-  pub untaken : None ≡ read text → IsUnbuilt read file
-  untaken is = subst (IsUnbuilt read) (sym told) (inr (sym is))
+pub reads_as : {A : Type 0} (read : List ℕ → A) (limit : ℕ) (file : Option (List ℕ)) (bytes : List ℕ) (reading : A) → file ≡ Some bytes → length bytes ≤ limit → read bytes ≡ reading → ReadsAs read limit file reading
+reads_as read limit file bytes reading told within is = subst (λ f. ReadsAs read limit f reading) (sym told) (within, is)

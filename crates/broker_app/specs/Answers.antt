@@ -1,32 +1,30 @@
 -- What the program's answer means: what it read, what it wrote, and why it stopped.
-use Rattle.std.specs.Prelude.{◌≡◌, ℕ, ◌<◌, ◌≤◌, ◌++◌, ◌∷◌, [], true, false, List, length, Option, Some, None, Result, Ok, Err, ◌⊎◌}
-use Rattle.hist_model.specs.FirstPath.{policy_of, script_of}
+use Rattle.std.specs.Prelude.{◌≡◌, ℕ, ◌≤◌, ◌++◌, true, false, List, Option, Some, None, Result, Ok, Err, ◌⊎◌}
 use Rattle.hist_model.specs.Legal.{played}
 use Rattle.hist_model.specs.Mediated.{Mediated}
 use Rattle.hist_model.specs.Report.{report}
 use Rattle.hist_model.specs.ReportAudit.{judging_by}
-use Rattle.hist_model.specs.Words.{Form, Play, form}
+use Rattle.hist_model.specs.Words.{Form, Play}
 use Rattle.hist_model.specs.declared.policy.Policy.{Policy}
 use Rattle.hist_model.specs.declared.script.Script.{Script}
 use Rattle.io_edge.specs.Faults.{Rose}
 use Rattle.io_edge.specs.FileState.{FileState}
 use Rattle.io_edge.specs.SinkState.{SinkState, AddsPrefix}
-use Rattle.broker_app.specs.Inputs.{policy_in, script_in, input_limit}
-use Rattle.broker_app.specs.declared.status.InputFile.{InputFile}
+use Rattle.broker_app.specs.Inputs.{PolicyIs, ScriptIs, IsLonger, policy_limit, script_limit}
 use Rattle.broker_app.specs.declared.status.InputFile.TheVariants.{Policy as PolicyFile, Script as ScriptFile}
-use Rattle.broker_app.specs.declared.status.Unbuilt.{Unbuilt}
-use Rattle.broker_app.specs.declared.status.Unbuilt.TheVariants.{Command, Policy as PolicyText, Script as ScriptText}
 use Rattle.broker_app.specs.declared.status.Status.{Status}
-use Rattle.broker_app.specs.declared.status.Status.TheVariants.{Done, Usage, ReadFault, WriteFault, NoMemory, NotBuilt}
+use Rattle.broker_app.specs.declared.status.Status.TheVariants.{Done, Usage, ReadFault, TooLong, BadPolicy, BadScript, WriteFault, NoMemory, NotBuilt}
+
+-- ---- What was printed
 
 -- the report of the history that a policy and a script play
 abbrev pub report_of : Policy → Script → List ℕ
 report_of P S = report (judging_by P.rules) (played P S)
 
--- these are the policy and the script of the named files, where the files tell their bytes, and what they play is mediated
+-- these are the policy and the script of the named files, and what they play is mediated
 pub record AreRead (files : FileState) (policy script : List ℕ) (P : Policy) (S : Script) : Type 0 where
-  pub policy_is : files.tells ≡ true → policy_in files policy ≡ Some P
-  pub script_is : files.tells ≡ true → script_in P files script ≡ Some S
+  pub policy_is : PolicyIs files policy (Ok P)
+  pub script_is : ScriptIs files script (Ok S)
   pub mediated : Mediated P S (played P S)
 
 -- the sink took nothing
@@ -52,28 +50,37 @@ Reported P S old new (Err WriteFault) = Rose old.faults new.faults × (old.tells
 Reported P S old new (Err NoMemory) = old.tells ≡ true → AddsPrefix old.taken (report_of P S) new.taken
 Reported P S old new (Err status) = ⊥
 
--- the file has more bytes than are read, or they are none of the texts that are built
-abbrev pub IsUnbuilt : {A : Type 0} → (List ℕ → Option A) → Option (List ℕ) → Type 0
-IsUnbuilt built None = ⊥
-IsUnbuilt built (Some bytes) = (input_limit < length bytes) ⊎ (built bytes ≡ None)
+-- ---- What was read
+
+-- the source failed: a sound one, only where it has no file of this name
+abbrev pub CannotRead : FileState → FileState → List ℕ → Type 0
+CannotRead files after name = Rose files.faults after.faults × (files.sound ≡ true → files.bytes name ≡ None)
+
+-- no file was opened after the one of this name
+abbrev pub OpenedLast : FileState → FileState → List ℕ → Type 0
+OpenedLast files after name = files.tells ≡ true → after.current ≡ Some name
 
 -- why the policy wasn't taken
 abbrev pub PolicyRefused : FileState → FileState → List ℕ → Status → Type 0
-PolicyRefused files after policy (ReadFault PolicyFile) = Rose files.faults after.faults × (files.sound ≡ true → files.bytes policy ≡ None)
-PolicyRefused files after policy (NotBuilt PolicyText) = files.tells ≡ true → IsUnbuilt policy_of (files.bytes policy)
+PolicyRefused files after policy (ReadFault PolicyFile) = CannotRead files after policy
+PolicyRefused files after policy (TooLong PolicyFile) = files.tells ≡ true → IsLonger policy_limit (files.bytes policy)
+PolicyRefused files after policy (BadPolicy error) = PolicyIs files policy (Err error) × OpenedLast files after policy
 PolicyRefused files after policy NoMemory = Unit {0}
 PolicyRefused files after policy _ = ⊥
 
--- why the script wasn't taken, where this policy was: a script whose call the policy passes isn't built either
-abbrev pub ScriptRefused : Policy → FileState → FileState → List ℕ → Status → Type 0
-ScriptRefused P files after script (ReadFault ScriptFile) = Rose files.faults after.faults × (files.sound ≡ true → files.bytes script ≡ None)
-ScriptRefused P files after script (NotBuilt ScriptText) = files.tells ≡ true → IsUnbuilt (script_of P) (files.bytes script)
-ScriptRefused P files after script NoMemory = Unit {0}
-ScriptRefused P files after script _ = ⊥
+-- why the script wasn't taken
+abbrev pub ScriptRefused : FileState → FileState → List ℕ → Status → Type 0
+ScriptRefused files after script (ReadFault ScriptFile) = CannotRead files after script
+ScriptRefused files after script (TooLong ScriptFile) = files.tells ≡ true → IsLonger script_limit (files.bytes script)
+ScriptRefused files after script (BadScript error) = ScriptIs files script (Err error)
+ScriptRefused files after script NoMemory = Unit {0}
+ScriptRefused files after script _ = ⊥
 
 -- a policy was taken, and then the script wasn't
 abbrev pub OnlyPolicy : FileState → FileState → List ℕ → List ℕ → Status → Type 0
-OnlyPolicy files after policy script status = (P : Policy) × (files.tells ≡ true → policy_in files policy ≡ Some P) × ScriptRefused P files after script status
+OnlyPolicy files after policy script status = (P : Policy) × PolicyIs files policy (Ok P) × ScriptRefused files after script status
+
+-- ---- How it ended
 
 -- how the play of a policy's and a script's files ended
 abbrev pub PlayEnds : FileState → FileState → SinkState → SinkState → List ℕ → List ℕ → Status → Type 0
@@ -81,9 +88,11 @@ PlayEnds files after old new policy script Done = TookReport files policy script
 PlayEnds files after old new policy script WriteFault = Rose old.faults new.faults × TookPrefix files policy script old new
 PlayEnds files after old new policy script NoMemory = TookNothing old new ⊎ TookPrefix files policy script old new
 PlayEnds files after old new policy script (ReadFault PolicyFile) = PolicyRefused files after policy (ReadFault PolicyFile) × TookNothing old new
-PlayEnds files after old new policy script (NotBuilt PolicyText) = PolicyRefused files after policy (NotBuilt PolicyText) × TookNothing old new
+PlayEnds files after old new policy script (TooLong PolicyFile) = PolicyRefused files after policy (TooLong PolicyFile) × TookNothing old new
+PlayEnds files after old new policy script (BadPolicy error) = PolicyRefused files after policy (BadPolicy error) × TookNothing old new
 PlayEnds files after old new policy script (ReadFault ScriptFile) = OnlyPolicy files after policy script (ReadFault ScriptFile) × TookNothing old new
-PlayEnds files after old new policy script (NotBuilt ScriptText) = OnlyPolicy files after policy script (NotBuilt ScriptText) × TookNothing old new
+PlayEnds files after old new policy script (TooLong ScriptFile) = OnlyPolicy files after policy script (TooLong ScriptFile) × TookNothing old new
+PlayEnds files after old new policy script (BadScript error) = OnlyPolicy files after policy script (BadScript error) × TookNothing old new
 PlayEnds files after old new policy script _ = ⊥
 
 -- the words have no form
@@ -91,15 +100,15 @@ abbrev pub IsUsage : Status → Type 0
 IsUsage Usage = Unit {0}
 IsUsage _ = ⊥
 
-abbrev pub IsUnbuiltCommand : Status → Type 0
-IsUnbuiltCommand (NotBuilt Command) = Unit {0}
-IsUnbuiltCommand _ = ⊥
+abbrev pub IsUnbuilt : Status → Type 0
+IsUnbuilt NotBuilt = Unit {0}
+IsUnbuilt _ = ⊥
 
 -- what the answer means, by the form of the words: usage exactly where they have none
 abbrev pub Answers : Option Form → FileState → FileState → SinkState → SinkState → Status → Type 0
 Answers None files after old new status = IsUsage status × TookNothing old new
 Answers (Some (Play policy script)) files after old new status = PlayEnds files after old new policy script status
-Answers (Some form) files after old new status = IsUnbuiltCommand status × TookNothing old new
+Answers (Some form) files after old new status = IsUnbuilt status × TookNothing old new
 
 -- the status that an outcome is
 abbrev pub status_of : Result (Unit {0}) Status → Status

@@ -1,22 +1,34 @@
 -- What the program reads: a policy and a script, each from the whole bytes of its file.
-use Rattle.std.specs.Prelude.{ℕ, List, Option, Some, None}
-use Rattle.hist_model.specs.FirstPath.{policy_of, script_of}
+use Rattle.std.specs.Prelude.{◌≡◌, ℕ, ◌<◌, ◌≤◌, true, List, length, Option, Some, None, Result}
 use Rattle.hist_model.specs.declared.policy.Policy.{Policy}
 use Rattle.hist_model.specs.declared.script.Script.{Script}
 use Rattle.io_edge.specs.FileState.{FileState}
+use Rattle.policy_reader.specs.Policies.{policy}
+use Rattle.policy_reader.specs.declared.error.PolicyError.{PolicyError}
+use Rattle.script_reader.specs.Scripts.{script}
+use Rattle.script_reader.specs.declared.error.ScriptError.{ScriptError}
 
--- the bytes that the program reads of a policy and of a script, at most, as long as it is built for these forms
-abbrev pub input_limit : ℕ
-input_limit = 4096
+-- the bytes that a policy has at most, and a script
+abbrev pub policy_limit : ℕ
+policy_limit = 1048576
 
--- what a text is read as, where there is one
-abbrev pub read_from : {A : Type 0} → (List ℕ → Option A) → Option (List ℕ) → Option A
-read_from read None = None
-read_from read (Some text) = read text
+abbrev pub script_limit : ℕ
+script_limit = 8388608
 
--- the policy of the file of a name, and the script that is to be played under a policy
-abbrev pub policy_in : FileState → List ℕ → Option Policy
-policy_in files name = read_from policy_of (files.bytes name)
+-- the file is there and within the limit, and its bytes are read as this
+abbrev pub ReadsAs : {A : Type 0} → (List ℕ → A) → ℕ → Option (List ℕ) → A → Type 0
+ReadsAs read limit None reading = ⊥
+ReadsAs read limit (Some bytes) reading = (length bytes ≤ limit) × (read bytes ≡ reading)
 
-abbrev pub script_in : Policy → FileState → List ℕ → Option Script
-script_in P files name = read_from (script_of P) (files.bytes name)
+-- the file is longer than it may be
+abbrev pub IsLonger : ℕ → Option (List ℕ) → Type 0
+IsLonger limit None = ⊥
+IsLonger limit (Some bytes) = limit < length bytes
+
+-- the file of this name is this policy, or has this refusal, where the files tell their bytes
+abbrev pub PolicyIs : FileState → List ℕ → Result Policy PolicyError → Type 0
+PolicyIs files name reading = files.tells ≡ true → ReadsAs policy policy_limit (files.bytes name) reading
+
+-- and this script
+abbrev pub ScriptIs : FileState → List ℕ → Result Script ScriptError → Type 0
+ScriptIs files name reading = files.tells ≡ true → ReadsAs script script_limit (files.bytes name) reading

@@ -1,27 +1,23 @@
 //! The top call.
 
-ghost use Rattle.std.specs.Prelude.{◌≡◌, ◌++◌, true, Some, None, OnOk, IfOk, IfErr, Err};
+ghost use Rattle.std.specs.Prelude.{◌≡◌, ◌++◌, true, None, OnOk, Err};
 ghost use Rattle.hist_model.specs.Legal.{played};
 ghost use Rattle.hist_model.specs.Mediated.{Mediated};
-ghost use Rattle.hist_model.specs.declared.policy.Policy.{Policy};
 ghost use Rattle.hist_model.specs.Report.{report};
 ghost use Rattle.hist_model.specs.ReportJournal.{journal};
 ghost use Rattle.hist_model.specs.ReportCalls.{calls};
 ghost use Rattle.hist_model.specs.ReportAudit.{judging_by, audit};
 ghost use Rattle.hist_model.specs.Words.{form};
-ghost use Rattle.io_edge.specs.Faults.{Rose};
-ghost use Rattle.io_edge.specs.FileState.{SameFiles};
 ghost use Rattle.audit_log.specs.Written.{Wrote};
 ghost use Rattle.broker_app.specs.Forms.{texts};
-ghost use Rattle.broker_app.specs.Inputs.{policy_in, script_in};
-ghost use Rattle.broker_app.specs.Answers.{PolicyRefused, ScriptRefused, Reported, PlayEnds, Stands, Answers, Said, status_of};
+ghost use Rattle.broker_app.specs.Answers.{Reported, PlayEnds, Stands, Answers, Said, status_of};
 ghost use Rattle.broker_app.specs.Lines.{line_of};
-ghost use Rattle.broker_app.specs.declared.status.InputFile.TheVariants.{Policy as PolicyFile, Script as ScriptFile};
+ghost use Rattle.broker_app.specs.declared.status.InputFile.TheVariants.{Policy as PolicyFile};
 ghost use Rattle.broker_app.specs.declared.status.Status.TheVariants.{ReadFault};
 
-use crate::policies::policy_of;
-use crate::scripts::script_of;
-use crate::status::{InputFile, Status, Unbuilt};
+use crate::inputs::{read_policy, read_script};
+use crate::lines::say;
+use crate::status::Status;
 use crate::words::{Form, read_form};
 use audit_log::audit::write_audit;
 use audit_log::calls::write_calls;
@@ -31,65 +27,11 @@ use audit_log::summary::write_summary;
 use hist_model::history::History;
 use hist_model::policy::Policy;
 use hist_model::script::Script;
-use io_edge::fault::Failed;
 use io_edge::files::Files;
 use io_edge::sink::Sink;
-use io_edge::whole::{ReadAllError, read_all};
 use plain_play::machine::play;
 use policy_judge::PolicyJudge;
 use std::alloc::Global;
-
-/// How many bytes of a policy or a script are read at most.
-const INPUT_LIMIT: u64 = 4096;
-
-/// Reads the policy of this name.
-fn read_policy<F: Files>(alloc: Global, files: &mut F, name: &str) -> Result<Policy, Status>
-    ensures same { SameFiles (F.state files.old) (F.state files.new) }
-    ensures read { IfOk result (λ p. (F.state files.old).tells ≡ true → policy_in (F.state files.old) name.now ≡ Some p) }
-    ensures refused { IfErr result (λ s. PolicyRefused (F.state files.old) (F.state files.new) name.now s) }
-    ensures absent { (F.state files.old).sound ≡ true → (F.state files.old).bytes name.now ≡ None → result ≡ Err (ReadFault PolicyFile) }
-{
-    let mut bytes = Vec::new(alloc);
-    match read_all(files, name, INPUT_LIMIT, &mut bytes) {
-        Err(ReadAllError::ReadFault) => return Err(Status::ReadFault(InputFile::Policy)),
-        Err(ReadAllError::TooLong) => return Err(Status::NotBuilt(Unbuilt::Policy)),
-        Err(ReadAllError::NoMemory) => return Err(Status::NoMemory),
-        Ok(()) => {}
-    }
-    match policy_of(alloc, bytes.as_slice()) {
-        Ok(Some(policy)) => Ok(policy),
-        Ok(None) => Err(Status::NotBuilt(Unbuilt::Policy)),
-        Err(_) => Err(Status::NoMemory),
-    }
-}
-
-/// Reads the script of this name, which is to be played under the policy.
-#[tactic(auto, using(crate::proofs::Mediates::built_is_mediated))]
-fn read_script<F: Files>(
-    alloc: Global,
-    files: &mut F,
-    policy: &Policy,
-    name: &str,
-) -> Result<Script, Status>
-    ensures same { SameFiles (F.state files.old) (F.state files.new) }
-    ensures read { IfOk result (λ s. (F.state files.old).tells ≡ true → script_in policy.now (F.state files.old) name.now ≡ Some s) }
-    ensures mediated { IfOk result (λ s. (P : Policy) → Mediated P s (played P s)) }
-    ensures refused { IfErr result (λ s. ScriptRefused policy.now (F.state files.old) (F.state files.new) name.now s) }
-    ensures absent { (F.state files.old).sound ≡ true → (F.state files.old).bytes name.now ≡ None → result ≡ Err (ReadFault ScriptFile) }
-{
-    let mut bytes = Vec::new(alloc);
-    match read_all(files, name, INPUT_LIMIT, &mut bytes) {
-        Err(ReadAllError::ReadFault) => return Err(Status::ReadFault(InputFile::Script)),
-        Err(ReadAllError::TooLong) => return Err(Status::NotBuilt(Unbuilt::Script)),
-        Err(ReadAllError::NoMemory) => return Err(Status::NoMemory),
-        Ok(()) => {}
-    }
-    match script_of(alloc, policy, bytes.as_slice()) {
-        Ok(Some(script)) => Ok(script),
-        Ok(None) => Err(Status::NotBuilt(Unbuilt::Script)),
-        Err(_) => Err(Status::NoMemory),
-    }
-}
 
 /// Writes the journal and the calls.
 fn write_events<O: Sink>(alloc: Global, history: &History, out: &mut O) -> Result<(), ReportError>
@@ -156,6 +98,14 @@ fn report_play<O: Sink>(
     Ok(())
 }
 
+/// What a script plays under a policy is mediated.
+#[tactic(auto, using(mediation::proofs::PlayedScripts::played_is_mediated))]
+fn is_mediated(policy: &Policy, script: &Script)
+    ensures { Mediated policy.now script.now (played policy.now script.now) }
+{
+    let _schedule = &script.schedule;
+}
+
 /// Plays the script of a file under the policy of another, and writes the report.
 fn play_files<F: Files, O: Sink>(
     alloc: Global,
@@ -168,7 +118,8 @@ fn play_files<F: Files, O: Sink>(
     ensures absent { (F.state files.old).sound ≡ true → (F.state files.old).bytes policy.now ≡ None → result ≡ Err (ReadFault PolicyFile) }
 {
     let policy = read_policy(alloc, files, policy)?;
-    let script = read_script(alloc, files, &policy, script)?;
+    let script = read_script(alloc, files, script)?;
+    is_mediated(&policy, &script);
     report_play(alloc, &policy, &script, out)
 }
 
@@ -184,7 +135,7 @@ fn answer<F: Files, O: Sink>(
     match read_form(words) {
         None => Err(Status::Usage),
         Some(Form::Play { policy, script }) => play_files(alloc, files, policy, script, out),
-        Some(_) => Err(Status::NotBuilt(Unbuilt::Command)),
+        Some(_) => Err(Status::NotBuilt),
     }
 }
 
@@ -203,25 +154,6 @@ pub fn broker<F: Files, O: Sink, E: Sink>(
         Ok(()) => Status::Done,
         Err(status) => status,
     };
-    say(status.line(), err);
+    say(&status, err);
     status
-}
-
-/// Says a line. Whether it could be written changes nothing of the answer.
-fn say<E: Sink>(line: &[u8], err: &mut E)
-    ensures { Said (E.state err.old) line.now (E.state err.new) }
-{
-    if line.is_empty() {
-        return;
-    }
-    let _ = write_line(line, err);
-}
-
-/// Writes a line, and sees that it stands.
-#[tactic(auto, using(crate::proofs::Saying::said_cut, crate::proofs::Saying::said_flushed))]
-fn write_line<E: Sink>(line: &[u8], err: &mut E) -> Result<(), Failed>
-    ensures said { Said (E.state err.old) line.now (E.state err.new) }
-{
-    err.write(line)?;
-    err.flush()
 }

@@ -7,14 +7,12 @@
 //! status 0 the output took the report of the history that the policy and the script play, and that history is mediated;
 //! each other status has its cause. `specs/Answers.antt` states it.
 //!
-//! Below stand the play (`plain_play`), the report (`audit_log`, `policy_judge`) and the law (`mediation`). Above stands
-//! `main`, which hands the machine's files and outputs over.
+//! Below stand the readers (`policy_reader`, `script_reader`), the play (`plain_play`), the report (`audit_log`,
+//! `policy_judge`) and the law (`mediation`). Above stands `main`, which hands the machine's files and outputs over.
 #![tactic(auto)]
 
 pub mod broker;
-mod fields;
-pub mod laws;
-pub mod policies;
-pub mod scripts;
+mod inputs;
+mod lines;
 pub mod status;
 pub mod words;

@@ -1,9 +1,11 @@
 //! How the program ends.
 
-ghost use Rattle.std.specs.Prelude.{◌≡◌, Some, option_map};
-ghost use Rattle.broker_app.specs.Lines.{code_of, line_of};
+ghost use Rattle.std.specs.Prelude.{◌≡◌};
+ghost use Rattle.broker_app.specs.Lines.{code_of};
 
 use audit_log::error::ReportError;
+use policy_reader::PolicyError;
+use script_reader::ScriptError;
 use sys_abi::memory;
 
 /// A file that the program reads.
@@ -13,16 +15,8 @@ pub enum InputFile {
     Script,
 }
 
-/// What the program isn't built for yet.
-#[derive(Clone, Copy, PartialEq, Eq, Debug)]
-pub enum Unbuilt {
-    Command,
-    Policy,
-    Script,
-}
-
 /// How the program ends.
-#[derive(Clone, Copy, PartialEq, Eq, Debug)]
+#[derive(PartialEq, Eq, Debug, Drop)]
 pub enum Status {
     /// The report was written whole.
     Done,
@@ -30,45 +24,35 @@ pub enum Status {
     Usage,
     /// A file couldn't be read.
     ReadFault(InputFile),
+    /// A file has more bytes than it may have: 1,048,576 of a policy, 8,388,608 of a script.
+    TooLong(InputFile),
+    /// The policy is refused.
+    BadPolicy(PolicyError),
+    /// The script is refused.
+    BadScript(ScriptError),
     /// The report couldn't be written.
     WriteFault,
     /// There was no memory.
     NoMemory,
-    /// The words, the policy or the script are of a kind that isn't built yet.
-    NotBuilt(Unbuilt),
+    /// The words have a form that isn't built yet.
+    NotBuilt,
 }
 
 impl Status {
     /// The exit status.
-    pub fn code(self) -> u8
-        ensures { result ≡ code_of self }
+    pub fn code(&self) -> u8
+        ensures { result ≡ code_of self.now }
     {
         match self {
             Status::Done => 0,
             Status::Usage => 1,
             Status::ReadFault(_) => 2,
+            Status::TooLong(_) => 3,
+            Status::BadPolicy(_) => 4,
+            Status::BadScript(_) => 5,
             Status::WriteFault => 6,
             Status::NoMemory => 7,
-            Status::NotBuilt(_) => 8,
-        }
-    }
-
-    /// The line on standard error, with the byte that ends it; empty for `Done`.
-    pub fn line(self) -> &'static [u8]
-        ensures { result.now ≡ line_of self }
-    {
-        match self {
-            Status::Done => b"",
-            Status::Usage => {
-                b"usage: play POLICY SCRIPT | run POLICY SCRIPT WORKERS CPUS | stress FROM COUNT\n"
-            }
-            Status::ReadFault(InputFile::Policy) => b"read fault: policy\n",
-            Status::ReadFault(InputFile::Script) => b"read fault: script\n",
-            Status::WriteFault => b"write fault\n",
-            Status::NoMemory => b"no memory\n",
-            Status::NotBuilt(Unbuilt::Command) => b"not built: command\n",
-            Status::NotBuilt(Unbuilt::Policy) => b"not built: policy\n",
-            Status::NotBuilt(Unbuilt::Script) => b"not built: script\n",
+            Status::NotBuilt => 8,
         }
     }
 }

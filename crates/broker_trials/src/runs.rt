@@ -28,7 +28,7 @@ fn file(alloc: Global, name: &str, bytes: &str) -> Result<(String, Vec<u8>), Fai
 }
 
 /// What a call is to answer: its status with its code, the line on `err`, and what `out` took.
-#[derive(Clone, Copy)]
+#[derive(Drop)]
 struct Want<'a> {
     status: Status,
     code: u8,
@@ -53,7 +53,8 @@ fn check<R: Abort>(
         words.push(String::from_str(alloc, word)?)?;
     }
     let status = broker(alloc, words.as_slice(), &mut files, &mut out, &mut err);
-    assert_eq!(rt; (status, status.code()), (want.status, want.code));
+    assert_eq!(rt; status.code(), want.code);
+    assert_eq!(rt; status, want.status);
     assert_eq!(rt; err.taken(), want.line.as_bytes());
     assert_eq!(rt; out.taken(), want.report.as_bytes());
     Ok(())

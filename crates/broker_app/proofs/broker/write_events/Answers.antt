@@ -1,4 +1,4 @@
-use Rattle.std.proofs.Common.{rules, ◌≡◌, ◌++◌, Err}
+use Rattle.std.proofs.Common.{rules, ◌≡◌, Err}
 use Rattle.hist_model.specs.ReportJournal.{journal}
 use Rattle.hist_model.specs.ReportCalls.{calls}
 use Rattle.audit_log.proofs.Writing.{wrote_more}

@@ -1,0 +1,151 @@
+//! The line that tells on standard error how the program ended.
+
+ghost use Rattle.std.specs.Prelude.{◌≡◌, ◌++◌, codes, decimal};
+ghost use Rattle.io_edge.specs.SinkState.{Writes};
+ghost use Rattle.broker_app.specs.Answers.{Said};
+ghost use Rattle.broker_app.specs.Lines.{line_of, policy_line, script_line, script_line_of, reason_text, file_named};
+
+use crate::status::{InputFile, Status};
+use io_edge::fault::Failed;
+use io_edge::sink::Sink;
+use lex_core::Reason;
+use policy_reader::PolicyError;
+use script_reader::ScriptError;
+
+/// The text of a reason.
+fn reason_text(reason: Reason) -> &'static [u8]
+    ensures { result.now ≡ reason_text reason }
+{
+    match reason {
+        Reason::BadByte => b"bad byte",
+        Reason::BadQuote => b"bad quote",
+        Reason::UnknownWord => b"unknown word",
+        Reason::OutOfPlace => b"out of place",
+        Reason::WrongCount => b"wrong count",
+        Reason::WrongForm => b"wrong form",
+        Reason::BadNumber => b"bad number",
+        Reason::OutOfRange => b"out of range",
+        Reason::BadPath => b"bad path",
+        Reason::UnknownName => b"unknown name",
+        Reason::Duplicate => b"duplicate",
+        Reason::Unmapped => b"unmapped",
+        Reason::SecondListener => b"second listener",
+        Reason::BadFilter => b"bad filter",
+        Reason::NotClosed => b"not closed",
+        Reason::NoProgram => b"no program",
+        Reason::NoListener => b"no listener",
+    }
+}
+
+/// The name of a file, with the byte that ends the line.
+fn file_named(file: InputFile) -> &'static [u8]
+    ensures { result.now ≡ file_named file }
+{
+    match file {
+        InputFile::Policy => b"policy\n",
+        InputFile::Script => b"script\n",
+    }
+}
+
+/// Writes what a line begins with, and what ends it.
+#[tactic(auto, using(crate::proofs::Saying::writes_front, crate::proofs::Saying::writes_more))]
+fn write_two<E: Sink>(beginning: &[u8], end: &[u8], err: &mut E) -> Result<(), Failed>
+    ensures { Writes (E.state err.old) (beginning.now ++ end.now) result (E.state err.new) }
+{
+    err.write(beginning)?;
+    err.write(end)
+}
+
+/// Writes what a line begins with, a text, and the byte that ends the line.
+#[tactic(auto, using(crate::proofs::Saying::writes_front, crate::proofs::Saying::writes_more))]
+fn write_ended<E: Sink>(beginning: &[u8], text: &[u8], err: &mut E) -> Result<(), Failed>
+    ensures { Writes (E.state err.old) (beginning.now ++ (text.now ++ codes "\n")) result (E.state err.new) }
+{
+    err.write(beginning)?;
+    write_two(text, b"\n", err)
+}
+
+/// Writes why a policy is refused.
+fn write_policy_line<E: Sink>(error: &PolicyError, err: &mut E) -> Result<(), Failed>
+    ensures { Writes (E.state err.old) (policy_line error.now) result (E.state err.new) }
+{
+    match error {
+        PolicyError::NotJson => err.write(b"policy: not JSON\n"),
+        PolicyError::BadKey { path } => {
+            write_ended(b"policy: unknown key at ", path.items(), err)
+        }
+        PolicyError::BadValue { path } => {
+            write_ended(b"policy: bad value at ", path.items(), err)
+        }
+        PolicyError::TooMany => err.write(b"policy: too many rules\n"),
+    }
+}
+
+/// Writes the number of a line, and what is wrong with it.
+#[tactic(auto, using(crate::proofs::Saying::writes_front, crate::proofs::Saying::writes_more))]
+fn write_numbered<E: Sink>(number: u32, reason: &[u8], err: &mut E) -> Result<(), Failed>
+    ensures { Writes (E.state err.old) (decimal number ++ (codes ": " ++ (reason.now ++ codes "\n"))) result (E.state err.new) }
+{
+    let mut digits = itoa::Buffer::new();
+    err.write(digits.format(number).as_bytes())?;
+    write_ended(b": ", reason, err)
+}
+
+/// Writes the line of a script's line.
+#[tactic(auto, using(crate::proofs::Saying::writes_front, crate::proofs::Saying::writes_more))]
+fn write_line_of<E: Sink>(number: u32, reason: &[u8], err: &mut E) -> Result<(), Failed>
+    ensures { Writes (E.state err.old) (script_line_of number reason.now) result (E.state err.new) }
+{
+    err.write(b"script: line ")?;
+    write_numbered(number, reason, err)
+}
+
+/// Writes why a script is refused.
+fn write_script_line<E: Sink>(error: &ScriptError, err: &mut E) -> Result<(), Failed>
+    ensures { Writes (E.state err.old) (script_line error.now) result (E.state err.new) }
+{
+    match *error {
+        ScriptError::BadLine { line, reason } => write_line_of(line, reason_text(reason), err),
+        ScriptError::TooLarge { line } => write_line_of(line, b"too large", err),
+        ScriptError::NoMemory => err.write(b"no memory\n"),
+    }
+}
+
+/// Writes the line of a status.
+fn write_status<E: Sink>(status: &Status, err: &mut E) -> Result<(), Failed>
+    ensures { Writes (E.state err.old) (line_of status.now) result (E.state err.new) }
+{
+    match status {
+        Status::Done => err.write(b""),
+        Status::Usage => err.write(
+            b"usage: play POLICY SCRIPT | run POLICY SCRIPT WORKERS CPUS | stress FROM COUNT\n",
+        ),
+        Status::ReadFault(file) => write_two(b"read fault: ", file_named(*file), err),
+        Status::TooLong(file) => write_two(b"too long: ", file_named(*file), err),
+        Status::BadPolicy(error) => write_policy_line(error, err),
+        Status::BadScript(error) => write_script_line(error, err),
+        Status::WriteFault => err.write(b"write fault\n"),
+        Status::NoMemory => err.write(b"no memory\n"),
+        Status::NotBuilt => err.write(b"not built: command\n"),
+    }
+}
+
+/// Writes the line of a status, and sees that it stands.
+#[tactic(auto, using(crate::proofs::Saying::said_cut, crate::proofs::Saying::said_flushed))]
+fn write_line<E: Sink>(status: &Status, err: &mut E) -> Result<(), Failed>
+    ensures { Said (E.state err.old) (line_of status.now) (E.state err.new) }
+{
+    write_status(status, err)?;
+    err.flush()
+}
+
+/// Says how the program ended, and nothing where the report was written whole. Whether the line could be written changes
+/// nothing of the answer.
+pub(crate) fn say<E: Sink>(status: &Status, err: &mut E)
+    ensures { Said (E.state err.old) (line_of status.now) (E.state err.new) }
+{
+    if matches!(status, Status::Done) {
+        return;
+    }
+    let _ = write_line(status, err);
+}
