@@ -1,4 +1,5 @@
 -- What the requests of a listed call's id tell of it.
+-- By the `queues` of `StandsFor`, by induction on the requests, and by cases on the state of the named call.
 use Rattle.std.proofs.Common.{◌≡◌, inl, inr, ℕ, Bool, true, false, ◌&&◌, not, List, [], ◌∷◌, length, Option, Some, None, refl, sym, ap, ◌∙◌, arith}
 use Rattle.std.specs.Prelude.{map, filter, find, All, Ok, Err, ◌==◌, if◌then◌else◌, option_map}
 use Rattle.std.proofs.lemmas.Bool.{cases_Bool, or_left, eq-eqb, ne_eqb}

@@ -1,4 +1,5 @@
 -- What the requests stand for, one event later, as far as no request changes.
+-- By the lemmas of `Listed` and `Queued` on what one more event leaves as it is, and by cases on whether a call is new.
 use Rattle.std.proofs.Common.{◌≡◌, inl, inr, ℕ, ◌<◌, true, false, List, ◌∷◌, length, refl, sym, ap, ◌∙◌}
 use Rattle.std.specs.Prelude.{map, All, ◌==◌, is_none}
 use Rattle.std.proofs.lemmas.Bool.{both_ways, eqb-true, and_parts}

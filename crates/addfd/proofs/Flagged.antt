@@ -1,4 +1,5 @@
 -- The bits of known flags.
+-- By cases on the flags, which are below 4 since they are their own two low bits.
 use Rattle.std.proofs.Common.{◌≡◌, ℕ, ◌<◌, zero, suc, true, refl, arith, bit_and}
 use Rattle.std.specs.Prelude.{◌==◌, nat_le}
 use Rattle.std.proofs.lemmas.Bool.{eqb-true}

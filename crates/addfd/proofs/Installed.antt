@@ -1,4 +1,5 @@
 -- The requests after the oldest of a call was installed.
+-- By cases on whether the event installs for a call and on whose request it is, with `Lists`, `Calls`, `Listed` and `Queued`.
 use Rattle.std.proofs.Common.{◌≡◌, inl, inr, ℕ, true, false, ◌&&◌, List, [], ◌∷◌, length, Some, refl, sym, ap, ◌∙◌}
 use Rattle.std.specs.Prelude.{map, slice_index_or, Result}
 use Rattle.std.proofs.lemmas.Bool.{both_ways, eqb-true, eq-eqb, cases_Bool, false_from_ne_true, and_parts, and_from}

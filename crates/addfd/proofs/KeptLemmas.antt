@@ -1,4 +1,5 @@
 -- What holds of the requests that are kept: no worker has two, so there is always room for one more worker's.
+-- By induction on the requests, and since a list of distinct numbers below 17 has at most 17 items.
 use Rattle.std.proofs.Common.{◌≡◌, inl, inr, ℕ, ◌<◌, ◌≤◌, Bool, true, false, List, [], ◌∷◌, ◌++◌, length, refl, ◌∙◌, arith}
 use Rattle.std.specs.Prelude.{◌==◌, map, nat_le, filter, Result}
 use Rattle.std.specs.List.{list_any, IsDistinct, AllByRecursion}

@@ -1,4 +1,5 @@
 -- Requests in a list: whose they are, and which of them wait.
+-- By induction on the requests, by cases on whether the first one is the worker's or passes the test.
 use Rattle.std.proofs.Common.{◌≡◌, inl, inr, ℕ, ◌<◌, Bool, true, false, ◌||◌, not, List, [], ◌∷◌, ◌++◌, length, zero, suc, refl, sym, ap, ◌∙◌, subst, arith, get_or, set}
 use Rattle.std.specs.Prelude.{map, filter, find, All, Some, None, Result, remove, position}
 use Rattle.std.specs.List.{list_any, position_or_len}

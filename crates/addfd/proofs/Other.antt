@@ -1,4 +1,5 @@
 -- The requests after an event that changes none.
+-- By cases on the event and on whether a call is new, whose id no older call has and whose caller has no other listed call.
 use Rattle.std.proofs.Common.{◌≡◌, inl, inr, ℕ, true, false, List, [], ◌∷◌, length, Option, refl, sym, ◌∙◌, arith}
 use Rattle.std.specs.Prelude.{map, All, Ok, ◌==◌, is_none}
 use Rattle.std.proofs.lemmas.Bool.{eqb-true, and_parts, cases_Bool}

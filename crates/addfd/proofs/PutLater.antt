@@ -1,4 +1,5 @@
 -- The requests after one more was put.
+-- By cases on whether the request names a call's id and on whose it is, with `Lists`, `Calls`, `Listed` and `Queued`.
 use Rattle.std.proofs.Common.{◌≡◌, inl, inr, ℕ, true, false, List, [], ◌∷◌, ◌++◌, length, Some, refl, sym, ap, ◌∙◌}
 use Rattle.std.specs.Prelude.{map, All, ◌==◌}
 use Rattle.std.proofs.lemmas.Bool.{both_ways, eqb-true, eq-eqb, cases_Bool, false_from_ne_true}

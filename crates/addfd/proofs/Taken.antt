@@ -1,4 +1,5 @@
 -- What a worker is told of its request, and the requests after it was taken.
+-- By the request found for the worker, by cases on its result and on whether its call is listed, and by `Lists`, `Calls` and `Other`.
 use Rattle.std.proofs.Common.{◌≡◌, inl, inr, ℕ, Bool, true, false, not, List, ◌∷◌, length, Option, Some, None, refl, sym, ap, ◌∙◌, subst}
 use Rattle.std.specs.Prelude.{is_some, find, map, All, Ok, Err, ◌==◌, is_none, Result, slice_index_or}
 use Rattle.std.proofs.lemmas.Bool.{both_ways, eqb-true, eq-eqb, cases_Bool, false_from_ne_true, and_parts, not-true}

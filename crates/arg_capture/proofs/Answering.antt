@@ -1,4 +1,5 @@
 -- What fits a piece answers it: by the cases of the answer, some bytes within the piece's length, or EFAULT.
+-- By cases on the piece and on the answer, with the two tests that `fits_piece` joins.
 use Rattle.std.proofs.Common.{◌≡◌, ℕ, true, List, length, Option, Some, None, arith}
 use Rattle.std.specs.Prelude.{Result, Ok, Err, nat_le}
 use Rattle.std.proofs.lemmas.Bool.{and_parts, eqb-true}

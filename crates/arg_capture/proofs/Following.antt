@@ -1,4 +1,5 @@
 -- Captures that have had some answers of a plan.
+-- By the equation that `Follows` gives for every list of later answers, and by the laws of appended lists.
 use Rattle.std.proofs.Common.{◌≡◌, ℕ, List, [], ◌∷◌, ◌++◌, Option, sym, ap, ◌∙◌, append_assoc, append-nil}
 use Rattle.std.specs.Prelude.{Result}
 use Rattle.hist_model.specs.Copies.{progress}

@@ -1,4 +1,5 @@
 -- A copy in pieces, of memory that doesn't change meanwhile, is the copy at one moment.
+-- By induction on the answers and, for each, on the parts, with the lemmas of `Steps`; for a run of bytes, on its length.
 use Rattle.std.proofs.Common.{◌≡◌, ℕ, zero, suc, ◌-◌, ◌<◌, ◌≤◌, ◌^◌, List, [], ◌∷◌, length, refl, ap, sym, ◌∙◌, append-nil, inl, inr, Some, None, arith}
 use Rattle.std.specs.Prelude.{true, false, nat_lt, nat_le, ◌==◌, Option, Result, Ok, Err}
 use Rattle.std.proofs.lemmas.Bool.{cases_Bool, ne_eqb}

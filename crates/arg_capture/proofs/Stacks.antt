@@ -1,4 +1,5 @@
 -- A list whose last item comes first.
+-- By the library's lengths of reversed and of taken lists, and by `past_more`.
 use Rattle.std.proofs.Common.{◌≡◌, ℕ, ◌+◌, ◌-◌, ◌<◌, ◌≤◌, List, length, reverse, take, sym, ap, ◌∙◌, arith}
 use Rattle.std.proofs.lemmas.List.{length-reverse, length-take}
 use Rattle.hist_model.specs.declared.copy.Part.{Part}

@@ -1,4 +1,5 @@
 -- Lemmas on the steps of a reading.
+-- By the definitions of `progress`, `read_text` and `read_value`, by cases on the part and on the progress, and by `Zeros`.
 use Rattle.std.proofs.Common.{◌≡◌, ℕ, ◌+◌, ◌-◌, ◌<◌, ◌≤◌, List, [], ◌∷◌, ◌++◌, length, refl, ap, sym, ◌∙◌, append_assoc, append-nil, take, Some, None, arith}
 use Rattle.std.specs.Prelude.{true, false, nat_lt, nat_le, ◌==◌, position, Option, Result, Ok, Err}
 use Rattle.hist_model.specs.Copies.{Progress, Wants, Complete, Faulty, Reading, Asks, Whole, Fails, progress, progress_with, progress_after, begun_with, read_part, read_text, read_value, has_zero, before_zero, further, piece}

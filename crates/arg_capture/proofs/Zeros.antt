@@ -1,4 +1,5 @@
 -- Lemmas on where a text ends.
+-- By induction on the bytes, by cases on whether the first is zero, and on whether the place found lies within them.
 use Rattle.std.proofs.Common.{◌≡◌, ℕ, suc, ◌+◌, ◌≤◌, List, [], ◌∷◌, length, take, Some, None, refl, inl, inr, ap, ◌∙◌, arith}
 use Rattle.std.specs.Prelude.{Option, true, false, not, ◌==◌, nat_lt, position}
 use Rattle.std.specs.List.{prefix_len}

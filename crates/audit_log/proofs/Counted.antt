@@ -1,4 +1,5 @@
 -- Counts in a list that is read the other way round.
+-- By induction on the list, with `sum_by_push`: a count is a sum of ones and zeros.
 use Rattle.std.proofs.Common.{◌≡◌, ℕ, Bool, List, [], ◌∷◌, ◌++◌, reverse, refl, arith, cond}
 use Rattle.std.specs.Prelude.{count_by, sum_by}
 use Rattle.std.proofs.lemmas.List.{reverse-append}

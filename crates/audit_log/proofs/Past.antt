@@ -1,4 +1,5 @@
 -- The events of a history so far, kept the oldest first, and seen the newest first.
+-- By the library's lengths of reversed and of taken lists, and by `past_more` and `event_at_past` of `Scans`.
 use Rattle.std.proofs.Common.{◌≡◌, ℕ, ◌+◌, ◌<◌, ◌≤◌, List, ◌∷◌, length, take, get_or, reverse, Some, arith}
 use Rattle.std.proofs.lemmas.List.{length-reverse, length-take}
 use Rattle.hist_model.specs.Look.{event_at}

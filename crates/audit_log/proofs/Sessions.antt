@@ -1,4 +1,5 @@
 -- What is kept of a session tells of its steps.
+-- By cases on whether the event is the session's receive or a step of its worker, and on whether the session is shut.
 use Rattle.std.proofs.Common.{◌≡◌, ℕ, Bool, true, false, List, [], ◌∷◌, length, refl}
 use Rattle.std.specs.Prelude.{if◌then◌else◌, ◌==◌, ◌&&◌, not}
 use Rattle.hist_model.specs.Look.{is_worker}

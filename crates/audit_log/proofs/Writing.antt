@@ -1,4 +1,5 @@
 -- What writers did to a sink, one after another.
+-- By cases on the later writer's result, by induction on the later events, and by the laws of appended, taken and reversed lists.
 use Rattle.std.proofs.Common.{◌≡◌, ℕ, ◌+◌, ◌<◌, List, [], ◌∷◌, ◌++◌, length, take, drop, reverse, get_or, Result, Ok, Err, refl, sym, ap, ◌∙◌, append_assoc, append-nil, arith}
 use Rattle.std.proofs.lemmas.List.{reverse-append, take-append-le, take-append-drop, length-append}
 use Rattle.std.proofs.Math.Seq.{take-append-add}

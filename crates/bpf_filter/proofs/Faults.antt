@@ -1,4 +1,5 @@
 -- Lemmas on the faults of instructions.
+-- By the definition of `fault_among`, and by `drop_more`, which puts the instruction at a place before those behind it.
 use Rattle.std.proofs.Common.{◌≡◌, ℕ, ◌+◌, ◌-◌, ◌<◌, ◌≤◌, List, [], ◌∷◌, length, get_or, drop, None, Some, refl, ap, ◌∙◌, length-drop}
 use Rattle.std.proofs.lemmas.List.{drop_more}
 use Rattle.std.proofs.Math.ListN.{drop_of_length-le}

@@ -1,4 +1,5 @@
 -- The answer that counts has the highest precedence, and is the newest of those that have it.
+-- By induction on the answers, by cases on whether the rank of the one chosen so far is less than that of the newer one.
 use Rattle.std.proofs.Common.{◌≡◌, ℕ, zero, suc, ◌+◌, ◌%◌, ◌^◌, ◌<◌, ◌≤◌, Bool, true, false, List, [], ◌∷◌, length, refl, ◌∙◌, add-one, arith}
 use Rattle.std.specs.Prelude.{EachIndex, nat_lt, slice_index, if◌then◌else◌}
 use Rattle.std.specs.Int.Bits.{and_zero_r}

@@ -1,4 +1,5 @@
 -- Lemmas on the filter that notifies on some calls.
+-- By induction on the calls, by cases on whether the number and the architecture are those tested for, and by `run-skips`.
 use Rattle.std.proofs.Common.{◌≡◌, ℕ, zero, suc, ◌+◌, ◌-◌, ◌<◌, ◌≤◌, List, [], ◌∷◌, ◌++◌, length, get_or, drop, None, refl, ap, sym, ◌∙◌, append_assoc, inl, inr, arith, ℤ, length-drop}
 use Rattle.std.specs.Prelude.{false, nat_le, nat_lt, ◌==◌, ◌||◌, if◌then◌else◌, slice_index_or}
 use Rattle.std.specs.Int.{w32, cast_unsigned}

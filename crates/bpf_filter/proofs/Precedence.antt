@@ -1,4 +1,5 @@
 -- Lemmas on the answer that counts.
+-- By the definition of `combine`, with `drop_more` and `past_more`, and by cases on which of two answers has the lower rank.
 use Rattle.std.proofs.Common.{◌≡◌, ℕ, ◌+◌, ◌<◌, ◌≤◌, List, [], ◌∷◌, length, get_or, drop, take, reverse, inl, inr, add-one, refl, ap, sym, ◌∙◌, arith}
 use Rattle.std.proofs.Math.Seq.{take-length}
 use Rattle.std.proofs.lemmas.List.{drop_more}

@@ -1,4 +1,5 @@
 -- Worked examples of lines and of answers, computed by the definitions.
+-- By `refl`: both sides of each equation compute to the same value.
 use Rattle.std.proofs.Common.{◌≡◌, [], ◌∷◌, Ok, Err, refl}
 use Rattle.std.specs.Prelude.{codes}
 use Rattle.lex_core.specs.Numbers.{digits_value}

@@ -1,4 +1,5 @@
 -- How a play ends.
+-- By the lemmas of `Writing`, by what `Flushes` says of the sink, by cases on the error, and since equal histories have equal reports.
 use Rattle.std.proofs.Common.{◌≡◌, ℕ, true, List, ◌++◌, length, ◌∙◌, ap, refl, sym, arith}
 use Rattle.std.proofs.lemmas.List.{take_all}
 use Rattle.std.specs.Prelude.{Result, Ok, Err}

@@ -1,4 +1,5 @@
 -- The copy of a session's arguments, step by step.
+-- By cases on the progress and on the step, by the laws of appended and reversed lists, and by the fields of `Knows` and `Noted`.
 use Rattle.std.proofs.Common.{◌≡◌, ℕ, ◌≤◌, List, [], ◌∷◌, ◌++◌, reverse, refl, ap, sym, ◌∙◌, append_assoc, suc, inl, inr, Option, Some, None, arith, true, false, Bool}
 use Rattle.std.specs.Prelude.{Result, Ok, Err, ◌||◌, if◌then◌else◌}
 use Rattle.std.proofs.lemmas.List.{reverse-append, append-nil}

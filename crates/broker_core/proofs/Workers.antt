@@ -1,4 +1,5 @@
 -- What a worker remembers gives its next deed, and what it takes is remembered.
+-- By cases on the session, on its arguments and on the judgement, with the fields of `Knows`, and by induction on the steps.
 use Rattle.std.proofs.Common.{◌≡◌, ℕ, suc, ◌≤◌, ◌<◌, Bool, true, false, not, ◌||◌, List, [], ◌∷◌, ◌++◌, refl, ap, sym, ◌∙◌, Option, Some, None, inl, inr, ◌⊎◌, arith}
 use Rattle.std.specs.Prelude.{if◌then◌else◌, ◌==◌, ℤ, Result, Ok, Err}
 use Rattle.std.proofs.lemmas.Bool.{cases_Bool, ne_eqb, eq-eqb, eqb-true, false_from_ne_true, or_right}

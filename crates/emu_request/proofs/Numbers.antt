@@ -1,4 +1,5 @@
 -- The request of a call, by its number.
+-- By the definition of `request` at each number, by cases on the sign of any other number, and by `get_or-drop`.
 use Rattle.std.proofs.Common.{◌≡◌, ℕ, List, [], drop, get_or, get_or-drop, Some, None, false, ℤ, pos, negsuc, SFits, to_z, of_z, w32}
 use Rattle.std.proofs.lemmas.Int.{to_z-of_z}
 use Rattle.std.proofs.lemmas.Bool.{ne_eqb}

@@ -1,4 +1,5 @@
 -- Tables after one more was made.
+-- By cases on whether a slot is the new table's and on the numbers of a fresh table, with `Ordinals`, `Groups`, `Changed` and `Slots`.
 use Rattle.std.proofs.Common.{◌≡◌, inl, inr, ℕ, zero, suc, ◌+◌, Bool, true, false, List, [], ◌∷◌, ◌++◌, length, Option, Some, None, refl, sym, ap, ◌∙◌, subst, arith}
 use Rattle.std.specs.Prelude.{if◌then◌else◌, nat_lt}
 use Rattle.std.proofs.lemmas.Bool.{cases_eq, eq-eqb, ne_eqb, le-ltb}

@@ -1,4 +1,5 @@
 -- What tables that stand for a history answer.
+-- By the table that a held reference reaches and its group's slots, and by cases on the order of two numbers that may be the lowest.
 use Rattle.std.proofs.Common.{◌≡◌, inl, inr, ℕ, ◌<◌, ◌≤◌, Bool, true, false, not, List, Option, Some, None, IsSome, refl, sym, ap, ◌∙◌, arith}
 use Rattle.std.proofs.lemmas.Bool.{cases_order, both_ways}
 use Rattle.hist_model.specs.Look.{oldest}

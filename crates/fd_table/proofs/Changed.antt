@@ -1,4 +1,5 @@
 -- Tables after a change of one slot, and the histories that they stand for.
+-- By cases on whether a slot or a number is the one that changed, with `group-stays` and `groups-apart` of `Groups`.
 use Rattle.std.proofs.Common.{◌≡◌, inl, inr, ℕ, ◌<◌, Bool, true, false, List, [], ◌∷◌, Option, Some, None, refl, sym, ap, ◌∙◌, subst, arith}
 use Rattle.std.specs.Prelude.{◌==◌, if◌then◌else◌}
 use Rattle.std.proofs.lemmas.Bool.{cases_eq, cases_Bool, eqb-true, eq-eqb, ne_eqb}

@@ -1,4 +1,5 @@
 -- Entries whose numbers rise: what is found, set and taken away.
+-- By induction on the entries, by cases on whether the first one's number is less than, equal to or above the one looked for.
 use Rattle.std.proofs.Common.{◌≡◌, inl, inr, ℕ, zero, suc, ◌+◌, ◌<◌, ◌≤◌, true, false, List, [], ◌∷◌, length, get_or, set, Option, Some, None, IsSome, refl, sym, ap, ◌∙◌, arith, rules}
 use Rattle.std.specs.Prelude.{◌==◌, if◌then◌else◌, nat_lt}
 use Rattle.std.specs.List.{AllWithin, insert, remove}

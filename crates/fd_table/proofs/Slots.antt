@@ -1,4 +1,5 @@
 -- Which slots an event sets.
+-- By the definition of `files` at the newest event, and by cases on the event, on the native step and on the kind of spawn.
 use Rattle.std.proofs.Common.{◌≡◌, ℕ, true, false, List, ◌∷◌, length, Some, None, Ok, refl, ap, ◌∙◌}
 use Rattle.hist_model.specs.Look.{Name, task_name}
 use Rattle.hist_model.specs.Memory.{own_group}

@@ -1,4 +1,5 @@
 -- A table in which one number was set.
+-- By `stands-set` and `put-others` of `Changed`, for the table that the held reference reaches, and by cases on the number.
 use Rattle.std.proofs.Common.{◌≡◌, ℕ, List, ◌∷◌, Bool, true, false, Option, Some, refl, sym, ap, ◌∙◌}
 use Rattle.std.specs.Prelude.{◌==◌, if◌then◌else◌}
 use Rattle.hist_model.specs.declared.event.Event.{Event}

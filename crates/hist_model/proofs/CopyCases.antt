@@ -1,4 +1,5 @@
 -- Worked examples of copies, computed by the definitions.
+-- By `refl`: both sides of each equation compute to the same value.
 use Rattle.std.proofs.Common.{◌≡◌, ℕ, List, [], ◌∷◌, None, Some, refl}
 use Rattle.std.specs.Prelude.{pos, Option, Ok, Err, nat_lt, nat_le, if◌then◌else◌, ◌+◌, ◌-◌, ◌&&◌, slice_index_or, replicate}
 use Rattle.hist_model.specs.Copies.{plan, copy_of, text_from, Wants, Complete, Faulty, progress, read_text, read_value}

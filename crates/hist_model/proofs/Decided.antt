@@ -1,4 +1,5 @@
 -- Worked examples of requests, decisions and the figures of sysinfo, computed by the definitions.
+-- By `refl`: both sides of each equation compute to the same value.
 use Rattle.std.proofs.Common.{◌≡◌, ℕ, true, false, List, [], ◌∷◌, ◌++◌, Some, None, refl}
 use Rattle.std.specs.Prelude.{pos, negsuc, codes, replicate, map}
 use Rattle.std.specs.Fmt.{digits}

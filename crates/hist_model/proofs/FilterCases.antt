@@ -1,4 +1,5 @@
 -- Worked examples of filters, computed by the definitions.
+-- By `refl`: both sides of each equation compute to the same value.
 use Rattle.std.proofs.Common.{◌≡◌, [], ◌∷◌, None, Some, refl}
 use Rattle.std.specs.Prelude.{pos, negsuc, false, true}
 use Rattle.hist_model.specs.Filters.{combine, verdict, first_fault, fault_among, run_from, run, insn, notify_filter, seccomp_data}

@@ -1,4 +1,5 @@
 -- Histories that the definitions play, computed.
+-- By `refl`: both sides of each equation compute to the same value.
 use Rattle.std.proofs.Common.{◌≡◌, ℕ, List, [], ◌∷◌, Option, Some, None, refl, Bool, true, false}
 use Rattle.std.specs.Prelude.{Ok, Err, pos, negsuc, codes, ◌++◌, replicate}
 use Rattle.hist_model.specs.Look.{ev, event_at, newest, oldest}

@@ -1,4 +1,5 @@
 -- Policies and scripts that the definitions read, computed.
+-- By `refl`: both sides of each equation compute to the same value.
 use Rattle.std.proofs.Common.{◌≡◌, ℕ, List, Option, Some, None, refl}
 use Rattle.std.specs.Prelude.{codes}
 use Rattle.hist_model.specs.Words.{number_after}

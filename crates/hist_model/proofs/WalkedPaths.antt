@@ -1,4 +1,5 @@
 -- Worked examples of paths and effects, computed by the definitions.
+-- By `refl`: both sides of each equation compute to the same value.
 use Rattle.std.proofs.Common.{◌≡◌, ℕ, List, [], ◌∷◌, Some, None, refl}
 use Rattle.std.specs.Prelude.{Ok, Err, pos, codes, true, false}
 use Rattle.hist_model.specs.Trees.{Tree, row_in, entry_in, attr_in, mount_on, top_through, top, target_of, up_through, attr_replaced, with_lines, with_node, with_mount, stated, attr}

@@ -1,4 +1,5 @@
 -- Worked examples of reports, computed by their definitions.
+-- By `refl`: both sides of each equation compute to the same value.
 use Rattle.std.proofs.Common.{◌≡◌, ℕ, true, List, [], ◌∷◌, ◌++◌, Some, None, refl}
 use Rattle.std.specs.Prelude.{Ok, Err, Result, pos, negsuc, codes}
 use Rattle.std.specs.Fmt.{digits}
