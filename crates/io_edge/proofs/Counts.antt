@@ -1,4 +1,5 @@
 -- Counts of calls and of faults.
+-- By the definition of `fails_next`, since a list of length 0 has no number in it.
 use Rattle.std.proofs.Common.{◌≡◌, ◌==◌, true, false, length, arith}
 use Rattle.std.proofs.lemmas.Grind.{common_steps}
 use Rattle.io_edge.specs.Planned.{fails_next}

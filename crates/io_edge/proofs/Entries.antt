@@ -1,4 +1,5 @@
 -- Files in memory: what the place of a name tells.
+-- By cases on the entries and on the place found, with `position-Some` and `slice_get-get_or`.
 use Rattle.std.proofs.Common.{◌≡◌, ℕ, List, [], ◌∷◌, Option, None, Some, ap, sym, ◌∙◌, get_or}
 use Rattle.std.specs.Prelude.{IsSome}
 use Rattle.std.specs.Option.{option_map, option_map_or}

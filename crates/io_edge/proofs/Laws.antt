@@ -1,4 +1,5 @@
 -- What follows from the contracts of files and sinks over several calls.
+-- By arithmetic on the counts, and by joining the equations of two calls.
 use Rattle.std.proofs.Common.{ℕ, ◌≤◌, ◌∙◌, arith}
 use Rattle.io_edge.specs.Faults.{Rose}
 use Rattle.io_edge.specs.FileState.{FileState, SameFiles}

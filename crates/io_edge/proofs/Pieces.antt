@@ -1,4 +1,5 @@
 -- A list that is read piece by piece.
+-- By the lemmas on `take`, `drop` and lengths of lists, with arithmetic.
 use Rattle.std.proofs.Common.{◌≡◌, ℕ, ◌+◌, ◌≤◌, List, ◌++◌, length, take, drop, refl, arith, append_assoc, drop-drop, take-add}
 use Rattle.std.proofs.lemmas.List.{take-append-le, length-take-le, length-drop}
 use Rattle.std.proofs.lemmas.Grind.{common_steps}

@@ -1,4 +1,5 @@
 -- Adding a prefix of a piece.
+-- By giving the number of bytes added: 0 where nothing is added, else that of the front.
 use Rattle.std.proofs.Common.{◌≡◌, ℕ, ◌≤◌, List, ◌++◌, length, take, arith}
 use Rattle.std.proofs.lemmas.Grind.{common_steps}
 use Rattle.io_edge.specs.SinkState.{AddsPrefix}

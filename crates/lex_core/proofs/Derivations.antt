@@ -1,4 +1,5 @@
 -- A line has one reading: that of its rules.
+-- By induction on the rules used, and on a bound of the line's length with cases on its first byte, with `Readings`.
 use Rattle.std.proofs.Common.{◌≡◌, ◌≢◌, ℕ, zero, suc, ◌<◌, ◌≤◌, List, [], ◌∷◌, ◌++◌, length, true, false, Option, Some, None, Result, Ok, Err, refl, inl, inr, ◌⊎◌, ap, sym, subst, ◌∙◌, arith, length-append}
 use Rattle.std.specs.Prelude.{nat_lt, ◌==◌, ⊤}
 use Rattle.std.proofs.lemmas.Bool.{cases_Bool}

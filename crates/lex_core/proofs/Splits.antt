@@ -1,4 +1,5 @@
 -- Lemmas on where lines end.
+-- By induction on the bytes with cases on whether the first one is 10, and by unfolding `split` and `numbered`.
 use Rattle.std.proofs.Common.{◌≡◌, ℕ, suc, ◌+◌, ◌-◌, ◌<◌, ◌≤◌, List, [], ◌∷◌, ◌++◌, length, take, drop, true, false, Option, Some, None, refl, inl, inr, ap, sym, subst, Err, ◌∙◌, arith, take_all, length-drop}
 use Rattle.std.specs.Prelude.{not, nat_lt, ◌==◌, position}
 use Rattle.std.specs.List.{prefix_len}

@@ -1,4 +1,5 @@
 -- Lemmas on the values of digits.
+-- By cases on the value of the digits that follow, with the laws of powers and products.
 use Rattle.std.proofs.Common.{◌≡◌, ℕ, suc, pow-add, ◌+◌, ◌*◌, ◌^◌, ◌<◌, ◌≤◌, List, [], ◌∷◌, length, drop, get_or, Option, Some, None, refl, ap, ◌∙◌, arith}
 use Rattle.std.specs.Option.{option_map}
 use Rattle.std.proofs.lemmas.List.{drop_more}

@@ -1,4 +1,5 @@
 -- A listed call is a call that was entered with a notification.
+-- By induction on the events, and by `oldest-some` for the oldest call that wasn't fetched.
 use Rattle.std.proofs.Common.{◌≡◌, inl, inr, ℕ, ◌<◌, true, false, ◌&&◌, List, [], ◌∷◌, length, reverse, Some, arith}
 use Rattle.std.specs.Prelude.{◌==◌, not}
 use Rattle.std.proofs.lemmas.List.{length-reverse}

@@ -1,4 +1,5 @@
 -- Steps of loops over events that are kept the oldest first, and names with a last number.
+-- By induction on the places or on both names, with `reverse_push` and `length-reverse`.
 use Rattle.std.proofs.Common.{◌≡◌, Bool, true, false, ℕ, zero, suc, ◌+◌, ◌<◌, ◌≤◌, ◌-◌, List, [], ◌∷◌, ◌++◌, length, reverse, Some, None, add-one, refl, arith, inl, inr}
 use Rattle.std.proofs.lemmas.List.{length-reverse}
 use Rattle.hist_model.specs.declared.event.Event.{Event}

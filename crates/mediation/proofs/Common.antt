@@ -1,4 +1,5 @@
 -- The words of the library, the kernel and the histories that the proofs speak of.
+-- By taking them from other files under their own names: nothing is proved here.
 pub use Rattle.std.proofs.Common.{[], add-one, ap, ap₂, arith, Bool, false, get_or, inl, inr, length, List, None, not, Option, refl, reverse, Some, subst, suc, sym, take, true, zero, ℕ, ◌%◌, ◌&&◌}
 pub use Rattle.std.proofs.Common.{◌++◌, ◌+◌, ◌-◌, ◌<◌, ◌^◌, ◌||◌, ◌∙◌, ◌∷◌, ◌≡◌, ◌≤◌, ◌⊎◌}
 pub use Rattle.std.proofs.lemmas.Bool.{and_from, and_parts, both_ways, cases_Bool, cases_order, eq-eqb, eqb-false, eqb-true, false_from_ne_true, le-leb, leb-true, lt-leb, ne_eqb, not-true, or_cases}

@@ -1,4 +1,5 @@
 -- What schedules play is legal, a finished history stays finished, and small histories that wrong kernels and brokers would make are refused.
+-- By induction on the schedule and on the events (`Rows`, `Calls`, `Replies`), and by unfolding the steps of the small histories.
 use Rattle.mediation.proofs.Common.{[], Actor, any_of, ap, arith, base, Bool, call_at, call_of, calls, closes, deed, ended, Err, Event, event_at, false, fetched, Finished, free_from, group, holder}
 use Rattle.mediation.proofs.Common.{install_of, is_actor, is_letgo, is_made, is_open_session, is_start, IsLegal, last_pid, length, List, listed, Listener, mem, mode, named, newest, next_pid}
 use Rattle.mediation.proofs.Common.{next_signal, None, notif_of, oldest, oldest_unfetched, owes_native, pending, played, Policy, queue, reaped, Recv, recvs, refl, reply, request_of, Rules, rules_of}

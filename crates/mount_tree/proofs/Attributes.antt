@@ -1,4 +1,5 @@
 -- The place of an attribute's row, and what stands there.
+-- By induction on the rows with cases on whether the first is the attribute's, and the lemmas on `reverse` and `set`.
 use Rattle.std.proofs.Common.{◌≡◌, ℕ, ◌<◌, true, false, List, [], ◌∷◌, ◌++◌, length, reverse, get_or, set, Option, Some, None, inl, inr, refl, sym, ap, ◌∙◌, arith}
 use Rattle.std.specs.Prelude.{is_some}
 use Rattle.std.proofs.lemmas.List.{reverse-append, reverse-reverse, length-reverse, set_at, get_or_at, set-append_left, get_or_append_left}

@@ -1,4 +1,5 @@
 -- Rows that are kept the oldest first, seen the newest first.
+-- By `past_more` for one more row, and by induction on the rows or on how many of them are taken.
 use Rattle.std.proofs.Common.{◌≡◌, ℕ, zero, suc, ◌+◌, ◌<◌, ◌≤◌, List, [], ◌∷◌, length, reverse, take, get_or, Some, None, inl, inr, add-one, refl, arith}
 use Rattle.std.specs.Prelude.{if◌then◌else◌}
 use Rattle.std.proofs.Math.Seq.{take-length}

@@ -1,4 +1,5 @@
 -- One step through a mount.
+-- By cases on how many steps are left, and by unfolding `top_through` and `up_through`.
 use Rattle.std.proofs.Common.{◌≡◌, ℕ, zero, suc, ◌-◌, ◌<◌, List, arith}
 use Rattle.std.specs.Prelude.{if◌then◌else◌, ◌==◌}
 use Rattle.hist_model.specs.declared.tree.Mounted.{Mounted}

@@ -1,4 +1,5 @@
 -- The call that an id names is listed, so its state tells how a request that names it is answered.
+-- By `oldest-some`, and by cases on the call found and on whether it was fetched and answered.
 use Rattle.std.proofs.Common.{◌≡◌, ℕ, Bool, true, ◌&&◌, not, List, Option, Some, None, length, refl, arith}
 use Rattle.std.specs.Prelude.{if◌then◌else◌, ◌==◌, Ok, Err}
 use Rattle.std.proofs.lemmas.Bool.{and_parts}

@@ -1,4 +1,5 @@
 -- A response has a structure that may be sent, and fits its bytes.
+-- By cases on what the call gets back, with arithmetic and `resp_of_bytes`.
 use Rattle.std.proofs.Common.{◌≡◌, ℕ, ◌<◌, ◌^◌, true, refl, arith}
 use Rattle.std.specs.Prelude.{Ok}
 use Rattle.std.proofs.lemmas.Int.{ints}

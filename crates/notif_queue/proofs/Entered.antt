@@ -1,4 +1,5 @@
 -- A queue without calls, one whose room has changed, and one with a call more.
+-- By cases on whether a number is the new call's, with the lemmas of `Found`, `Kept` and `Orderly`.
 use Rattle.std.proofs.Common.{◌≡◌, inl, inr, ℕ, ◌+◌, ◌<◌, ◌%◌, ◌^◌, true, false, List, [], ◌∷◌, length, get_or, Option, Some, None, refl, sym, ap, ◌∙◌, arith}
 use Rattle.std.specs.Prelude.{nat_lt}
 use Rattle.std.proofs.lemmas.Bool.{cases_eq, le-ltb}

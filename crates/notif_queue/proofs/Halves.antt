@@ -1,4 +1,5 @@
 -- Entries in order: what is found by halves, and taken away.
+-- By induction on the entries with cases on the first one's number, which is less than those after it.
 use Rattle.std.proofs.Common.{◌≡◌, inl, inr, ℕ, zero, suc, ◌<◌, ◌≤◌, true, false, List, [], ◌∷◌, length, get_or, Some, None, ltb, ltb-true, ltb-false, refl, ap, ◌∙◌, arith}
 use Rattle.std.specs.Prelude.{slice_get}
 use Rattle.std.specs.List.{AllWithin}

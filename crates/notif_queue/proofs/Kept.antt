@@ -1,4 +1,5 @@
 -- A listed call, with its answer, after an event that leaves it on the list.
+-- By cases on the reply, induction on the requests, and the lemmas of `history_frames` on one more event.
 use Rattle.std.proofs.Common.{◌≡◌, inl, inr, ℕ, ◌<◌, true, false, ◌&&◌, List, [], ◌∷◌, ◌++◌, length, Option, Some, None, refl, sym, ap, ◌∙◌, arith}
 use Rattle.std.specs.Prelude.{nat_lt, pos}
 use Rattle.std.proofs.lemmas.Bool.{cases_lt, both_ways, and_parts, eqb-true, false_from_ne_true, or_left}

@@ -1,4 +1,5 @@
 -- A queue after a call left the list, or all did.
+-- By cases on the step, with the lemmas of `Found` and `Kept`, and since two listed calls have different callers.
 use Rattle.std.proofs.Common.{◌≡◌, ◌≢◌, inl, inr, ℕ, true, false, List, [], ◌∷◌, Some, None, refl, sym, ap, ◌∙◌}
 use Rattle.std.specs.Prelude.{nat_lt}
 use Rattle.std.proofs.lemmas.Bool.{both_ways, false_from_ne_true, or_right}

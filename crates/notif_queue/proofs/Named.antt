@@ -1,4 +1,5 @@
 -- Which call an id names, and how far it is.
+-- By arithmetic modulo 2 ^ 64 on ids and numbers, and by cases on the call found and on its reply.
 use Rattle.std.proofs.Common.{◌≡◌, inl, inr, ℕ, ◌+◌, ◌-◌, ◌<◌, ◌%◌, ◌^◌, Bool, true, false, not, List, Option, Some, None, refl, sym, ap, subst, ◌∙◌, arith}
 use Rattle.std.specs.Prelude.{nat_lt, if◌then◌else◌}
 use Rattle.hist_model.specs.Kinds.{notifies}

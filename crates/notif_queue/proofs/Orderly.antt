@@ -1,4 +1,5 @@
 -- A history of calls that holds one more event.
+-- By cases on whether a call is the newest event's or an older one, with `place-cases` and `listed-cases`.
 use Rattle.std.proofs.Common.{◌≡◌, inl, inr, ℕ, ◌+◌, ◌<◌, ◌≤◌, ◌%◌, ◌^◌, true, List, [], ◌∷◌, length, Some, sym, ap, ◌∙◌}
 use Rattle.hist_model.specs.Look.{task_name}
 use Rattle.hist_model.specs.Kinds.{notifies}

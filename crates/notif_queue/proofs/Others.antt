@@ -1,4 +1,5 @@
 -- A queue after an event that changes no listed call.
+-- By cases on the step and on whether a request is for the call, with the lemmas of `Kept`, `Left` and `Replies`.
 use Rattle.std.proofs.Common.{◌≡◌, inl, inr, ℕ, Bool, true, false, ◌&&◌, ◌||◌, List, [], ◌∷◌, length, Option, Some, None, refl, ap, ◌∙◌, arith}
 use Rattle.std.specs.Prelude.{Ok, Err, pos}
 use Rattle.std.proofs.lemmas.Bool.{cases_Bool, cases_eq, both_ways, and_parts, eq-eqb}

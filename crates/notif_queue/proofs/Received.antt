@@ -1,4 +1,5 @@
 -- A queue after a receive.
+-- By cases on the first entry from a number on (`Halves`), and on the order of the numbers, with `Kept` and `Named`.
 use Rattle.std.proofs.Common.{◌≡◌, inl, inr, ℕ, ◌+◌, ◌-◌, ◌<◌, ◌≤◌, ◌%◌, ◌^◌, Bool, true, false, ◌&&◌, not, List, ◌∷◌, length, Option, Some, None, refl, sym, ap, ◌∙◌, arith, ltb-false}
 use Rattle.std.specs.Prelude.{nat_lt, ◌==◌, Result, Ok, Err}
 use Rattle.sys_abi.specs.declared.wire.Notif.{Notif}

@@ -1,4 +1,5 @@
 -- A queue after a call was answered, or opened again.
+-- By cases on whether a call is the one that is answered, and on its reply, with `Found`, `Kept` and `Named`.
 use Rattle.std.proofs.Common.{◌≡◌, ◌≢◌, inl, inr, ℕ, ◌<◌, ◌^◌, Bool, true, false, ◌&&◌, List, ◌∷◌, length, Option, Some, None, refl, sym, ap, ◌∙◌, arith}
 use Rattle.std.specs.Prelude.{Ok, Err, nat_lt}
 use Rattle.std.proofs.lemmas.Bool.{cases_eq, and_parts, both_ways, eq-eqb, ne_eqb, false_from_ne_true, or_right}

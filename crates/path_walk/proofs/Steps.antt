@@ -1,4 +1,5 @@
 -- One component of a walk.
+-- By cases on how many links may still be followed, and by `walk_step` with each turn of the component.
 use Rattle.std.proofs.Common.{◌≡◌, ℕ, zero, suc, ◌-◌, ◌<◌, Bool, true, false, List, [], ◌∷◌, ◌++◌, refl, sym, ap, ◌∙◌, arith}
 use Rattle.std.specs.Prelude.{◌&&◌, ◌||◌, not, if◌then◌else◌, Option, Some, length}
 use Rattle.std.proofs.lemmas.List.{append-nil}

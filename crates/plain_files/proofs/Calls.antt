@@ -1,4 +1,5 @@
 -- What native calls do.
+-- By cases on results and flags, and by the equations that are given.
 use Rattle.std.proofs.Common.{◌≡◌, ℕ, Bool, true, false, List, ℤ, Result, Ok, Err, IfOk, refl, sym, ap, ◌∙◌}
 use Rattle.hist_model.specs.Look.{Name}
 use Rattle.hist_model.specs.Trees.{Tree}

@@ -1,4 +1,5 @@
 -- The files after one more change.
+-- By cases on the result, and on whether a call has a request, and by the equations that are given.
 use Rattle.std.proofs.Common.{◌≡◌, ℕ, List, [], ◌∷◌, length, reverse, Option, Some, None, Result, Ok, Err, OnOk, refl, sym, ap, ◌∙◌}
 use Rattle.std.proofs.lemmas.List.{length-reverse}
 use Rattle.hist_model.specs.Trees.{Tree, ordinal_of}

@@ -1,4 +1,5 @@
 -- Ranges of mapped pages.
+-- By unfolding the definitions at one more address, with arithmetic and `append_assoc`.
 use Rattle.std.proofs.Common.{◌≡◌, ℕ, suc, ◌+◌, ◌-◌, ◌<◌, ◌≤◌, ◌&&◌, true, false, List, [], ◌∷◌, ◌++◌, append_assoc, append-nil, sym, ap, ◌∙◌, arith}
 use Rattle.hist_model.specs.declared.script.MapRange.{MapRange}
 use Rattle.hist_model.specs.Memory.{is_mapped, all_mapped, byte, mapped_bytes}

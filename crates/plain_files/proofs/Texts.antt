@@ -1,4 +1,5 @@
 -- Texts and values that are read byte by byte, and copies that are read part by part.
+-- By cases on how many bytes or parts are left, with `append_assoc` and `append-nil`.
 use Rattle.std.proofs.Common.{◌≡◌, ℕ, zero, suc, ◌-◌, ◌<◌, ◌≤◌, List, [], ◌∷◌, ◌++◌, append_assoc, append-nil, Option, Some, None, Result, Ok, Err, refl, arith}
 use Rattle.hist_model.specs.Copies.{further, with_bytes, text_from, value_from, copy_part, with_text, copy_of}
 use Rattle.hist_model.specs.declared.copy.Part.{Part}

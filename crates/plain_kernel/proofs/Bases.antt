@@ -1,4 +1,5 @@
 -- The answer of opening a base, by the group of the living task that holds a number.
+-- By cases on whether a task holds the number, and on whether it has ended.
 use Rattle.std.proofs.Common.{inl, inr, ◌≡◌, ℕ, Bool, true, false, not, List, Option, Some, None, refl, sym, ◌∙◌}
 use Rattle.std.specs.Prelude.{if◌then◌else◌, ℤ, Result, Ok, Err}
 use Rattle.std.proofs.lemmas.Bool.{cases_Bool}

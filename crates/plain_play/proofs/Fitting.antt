@@ -1,5 +1,6 @@
 -- The kernel's answer to a worker's next deed is one that the worker can take: it answers the deed, by the law of `hist_model` on the
 -- steps of deeds, unless it is a skip.
+-- By `deed_sized` and `step_fits` of `hist_model`, at the worker's own session.
 use Rattle.std.proofs.Common.{◌≡◌, ℕ, false, List}
 use Rattle.hist_model.specs.Legal.{system_of, rules_of}
 use Rattle.hist_model.specs.Kinds.{skips}

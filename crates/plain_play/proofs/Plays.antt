@@ -1,4 +1,5 @@
 -- The turns of a schedule, one after another.
+-- By arithmetic on the turns left, the lemmas on `drop`, and induction on the schedule for its actors.
 use Rattle.std.proofs.Common.{◌≡◌, ℕ, zero, suc, ◌+◌, ◌-◌, ◌<◌, ◌≤◌, List, [], ◌∷◌, length, drop, get_or, refl, ap, sym, ◌∙◌, add-one, drop-cons, arith}
 use Rattle.std.proofs.Common.{rules, Bool, true, nat_lt}
 use Rattle.std.proofs.lemmas.Bool.{and_parts, ltb-true}

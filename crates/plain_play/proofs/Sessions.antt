@@ -1,4 +1,5 @@
 -- Sessions, event by event.
+-- By unfolding `session` at the newest event, with cases on whether it is the worker's.
 use Rattle.std.proofs.Common.{◌≡◌, ℕ, ◌<◌, ◌≤◌, Bool, true, false, not, ◌&&◌, List, [], ◌∷◌, length, refl, ap, sym, ◌∙◌, Option, Some, None, arith}
 use Rattle.std.specs.Prelude.{slice_get, slice_set, if◌then◌else◌, ◌==◌}
 use Rattle.hist_model.specs.Look.{ev, is_worker}

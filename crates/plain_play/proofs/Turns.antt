@@ -1,4 +1,5 @@
 -- The turns of a machine's actors.
+-- By cases on whether a worker is the one that took the turn, with the lemmas of `Sessions` and those on lists.
 use Rattle.std.proofs.Common.{◌≡◌, ℕ, zero, suc, ◌+◌, ◌<◌, ◌≤◌, Bool, true, false, not, ◌&&◌, List, [], ◌∷◌, ◌++◌, length, refl, ap, sym, ◌∙◌, Option, Some, None, inl, inr, ◌⊎◌, arith}
 use Rattle.std.proofs.lemmas.List.{get_or_append_left, get_or-set_same, get_or-set_other, length-set, length-append}
 use Rattle.std.proofs.Math.Seq.{get_or-append_seam}

@@ -1,4 +1,5 @@
 -- Decimal digits, read from the left: what is read of the digits from a place on, by the next one and those after it.
+-- By the lemmas on `drop`, and by arithmetic with powers of ten.
 use Rattle.std.proofs.Common.{◌≡◌, ℕ, ◌+◌, ◌-◌, ◌*◌, ◌^◌, ◌<◌, ◌≤◌, true, ◌&&◌, List, [], length, drop, get_or, refl, sym, add-one, drop-cons, arith, lit<, None, Some}
 use Rattle.std.specs.Prelude.{if◌then◌else◌, nat_le}
 use Rattle.std.proofs.lemmas.Bool.{and_parts, leb-true}
