@@ -1,4 +1,5 @@
 -- An array is read item by item: what is read of the items up to a place goes on with those from there.
+-- By the definition of `walk_items` at the first item that is left, and by induction on the items for the names held.
 use Rattle.std.proofs.Common.{◌≡◌, ℕ, ◌+◌, ◌<◌, ◌≤◌, ◌||◌, Bool, true, false, List, [], ◌∷◌, ◌++◌, length, drop, get_or, Ok, Err, ◌==◌, nat_lt, bytes_eq, refl, sym, ap, ◌∙◌, add-one, drop-cons, arith}
 use Rattle.std.proofs.lemmas.Bool.Decides.{nat_tests}
 use Rattle.hist_model.specs.declared.policy.Rule.{Rule}

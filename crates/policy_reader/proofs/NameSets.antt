@@ -1,4 +1,5 @@
 -- A set of names that gained one has that one and the earlier ones: by induction on the keys, where the new one has its place.
+-- By the three outcomes of a comparison with a key, since keys that compare as equal have one name.
 use Rattle.std.proofs.Common.{◌≡◌, ℕ, Bool, true, false, ◌||◌, List, [], ◌∷◌, Vec, Global, refl, sym, ap, ◌∙◌, bytes_eq, Ordering, Less, Equal, Greater, is_eq, nat_cmp}
 use Rattle.std.specs.BTreeSet.{insert_key}
 use Rattle.std.specs.Cmp.Lexicographic.{slice_cmp, nat_list_eq_equiv}

@@ -1,4 +1,5 @@
 -- A test on what is seen of each element.
+-- By induction on the elements.
 use Rattle.std.proofs.Common.{◌≡◌, List, [], ◌∷◌, Bool, ◌||◌, map, ap, refl}
 use Rattle.std.specs.List.{list_any}
 

@@ -1,4 +1,5 @@
 -- What a reader gave is what the file's bytes are: by cases on the answer.
+-- By the definition of `policy`, with cases on whether the bytes are UTF-8.
 use Rattle.std.proofs.Common.{◌≡◌, ℕ, List, length, Some, None, Result, Ok, Err, IfOk, IfErr, true, ◌<◌, ◌^◌, refl, ◌∙◌, inl, inr}
 use Rattle.std.specs.Str.{is_utf8}
 use Rattle.std.proofs.lemmas.Bool.{cases_Bool}

@@ -1,4 +1,5 @@
 -- Policies, good and bad, that the definitions read: each is computed from its text.
+-- By computing, with the definitions unfolded.
 use Rattle.std.proofs.Common.{◌≡◌, [], ◌∷◌, ◌++◌, Some, None, Ok, Err, refl, codes}
 use Rattle.std.specs.Prelude.{⊤, true, false, pos}
 use Rattle.std.specs.Fmt.{digits}

@@ -1,4 +1,5 @@
 -- Totals that are kept in 64 bits are those of the instructions, up to the greatest number: by the laws of sums.
+-- By arithmetic on each total, and by `fold-append` for the totals of a body with one more instruction.
 use Rattle.std.proofs.Common.{◌≡◌, ℕ, ◌+◌, max, List, [], ◌∷◌, ◌++◌, refl, ap, sym, ◌∙◌, arith}
 use Rattle.std.proofs.lemmas.List.Sums.{fold-append}
 use Rattle.hist_model.specs.declared.script.Instr.{Instr}

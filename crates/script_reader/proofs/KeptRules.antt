@@ -1,4 +1,5 @@
 -- What one more program, and one more name, keep of the rules of programs: by the laws of lists and of maps from bytes.
+-- By induction on the closed programs, by `values_updated`, and by cases on whether there was memory for the name.
 use Rattle.std.proofs.Common.{◌≡◌, ℕ, ◌+◌, ◌<◌, List, [], ◌∷◌, ◌++◌, length, Option, Some, None, Ok, Err, Vec, refl, ap, sym, subst, arith, bytes_eq, if◌then◌else◌}
 use Rattle.std.specs.Prelude.{Bool, true, false, Result, OnOk, OnErr}
 use Rattle.std.specs.BTreeMap.{BTreeMap}

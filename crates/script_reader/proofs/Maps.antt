@@ -1,4 +1,5 @@
 -- A change of a map at some bytes, read at any bytes: by the laws of the order of byte strings.
+-- By cases on whether the bytes equal the changed ones, with what `UpdatesBy` says of these and of the others.
 use Rattle.std.proofs.Common.{◌≡◌, ℕ, List, Option, Bool, true, false, Vec, bytes_eq, inl, inr, sym, subst, ◌∙◌, if◌then◌else◌}
 use Rattle.std.specs.BTreeMap.{BTreeMap, UpdatesBy}
 use Rattle.std.specs.Cmp.{eq_by_cmp_equiv}

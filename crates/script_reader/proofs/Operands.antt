@@ -1,4 +1,5 @@
 -- The faults of the operands from a place on, found from the last one to the first.
+-- By the definition of `fault_from`, with `drop_more` and `drop_all` on the operands that are left.
 use Rattle.std.proofs.Common.{◌≡◌, ℕ, ◌+◌, ◌<◌, ◌≤◌, List, [], ◌∷◌, length, drop, get_or, None, refl, ap, ◌∙◌}
 use Rattle.std.proofs.lemmas.List.{drop_more, drop_all}
 use Rattle.lex_core.specs.declared.line.Token.{Token}

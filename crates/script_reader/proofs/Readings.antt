@@ -1,4 +1,5 @@
 -- Reading lines one by one comes to what the definitions say of all of them: by induction on the lines that are left.
+-- By the definitions of `reading` and `reading_from` at the first line, and by cases on its statement or fault.
 use Rattle.std.proofs.Common.{◌≡◌, ℕ, List, [], ◌∷◌, Result, Ok, Err, refl, ap, sym, ◌∙◌}
 use Rattle.lex_core.specs.Given.{FirstReads, rest_lines}
 use Rattle.lex_core.specs.Lexical.{tokens}

@@ -1,4 +1,5 @@
 -- A line without a fault of its operands keeps their limits; and the tokens of a line are the first one and the others.
+-- By cases on the word of the line and on its first operand, and by induction on the numbers of a task's name.
 use Rattle.std.proofs.Common.{◌≡◌, ℕ, ◌^◌, ◌<◌, ◌≤◌, List, [], ◌∷◌, length, get_or, Option, Some, None, refl, ap, sym, subst, inl, inr, arith, map, unwrap_or, if◌then◌else◌}
 use Rattle.std.specs.Prelude.{Bool, true, false, nat_le, nat_lt, ◌&&◌, not, ℤ, pos, negsuc}
 use Rattle.std.specs.List.{list_all, remove}

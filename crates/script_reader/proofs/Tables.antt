@@ -1,4 +1,5 @@
 -- What one more entry of a table makes of what the table stands for: by the laws of maps from bytes.
+-- By `values_updated` for the map, and by the given equation for each other field that changes.
 use Rattle.std.proofs.Common.{◌≡◌, ℕ, ◌+◌, if◌then◌else◌, List, [], Option, Some, Bool, Vec, ap, ◌∙◌, bytes_eq}
 use Rattle.std.specs.BTreeMap.{BTreeMap, UpdatesBy}
 use Rattle.std.specs.Cmp.Lexicographic.{slice_cmp}

@@ -1,4 +1,5 @@
 -- Worked examples of scripts, computed by the definitions: what a file states, and for each reason the line that is refused.
+-- By computing, with the definitions unfolded.
 use Rattle.std.proofs.Common.{◌≡◌, ℕ, List, [], ◌∷◌, ◌++◌, Ok, Err, Some, None, refl}
 use Rattle.std.specs.Prelude.{Option, Result, codes, pos, true, false}
 use Rattle.lex_core.specs.Lexical.{tokens}

@@ -1,4 +1,5 @@
 -- The number of a call leads to its name and back: by the lemmas on tables, where the numbers and names of the table differ.
+-- By `name_of_number` and `number_of_name` on the table of calls, whose rows are computed to be distinct.
 use Rattle.std.specs.Prelude.{ℕ, ℤ, pos, negsuc, Option, Some, None, List, IfSome}
 use Rattle.std.specs.Option.{option_map, option_copied}
 use Rattle.std.proofs.Common.{◌≡◌, refl, sym, ap, subst, Bor, rules}

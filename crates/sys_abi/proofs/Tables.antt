@@ -1,5 +1,6 @@
 -- A table leads from a number to its name and back, where no two of its numbers and no two of its names are one: by induction on
 -- the rows.
+-- By cases on whether a row passes the test, since the tests on numbers and on names decide equality.
 use Rattle.std.specs.Prelude.{ℕ, Bool, true, false, Option, Some, None, List, [], ◌∷◌, map, find, ◌==◌, bytes_eq, nat_eq, is_none, IfSome, ◌&&◌}
 use Rattle.std.specs.Option.{option_map, option_copied}
 use Rattle.std.specs.List.{list_all}

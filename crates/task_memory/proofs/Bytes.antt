@@ -1,4 +1,5 @@
 -- The byte at an address of a group after an event.
+-- By the definition of `byte` at the newest event, with `group-older` and by cases on what the event stores.
 use Rattle.std.proofs.Common.{◌≡◌, ◌≢◌, ℕ, ◌<◌, true, false, List, ◌∷◌, length, Option, Some, None, refl, sym, ap, ◌∙◌, arith}
 use Rattle.std.specs.Prelude.{if◌then◌else◌}
 use Rattle.std.proofs.lemmas.Bool.{eq-eqb, ne_eqb}

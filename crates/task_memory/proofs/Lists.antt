@@ -1,4 +1,5 @@
 -- Page lists: what is found, and what is put.
+-- By induction on the list, since its numbers rise, and by the laws of sums for the uses of a page.
 use Rattle.std.proofs.Common.{◌≡◌, ◌≢◌, inl, inr, ℕ, zero, suc, ◌+◌, ◌<◌, ◌≤◌, true, false, List, [], ◌∷◌, ◌++◌, length, get_or, set, take, drop, Option, Some, None, ltb, ltb-true, ltb-false, refl, sym, ap, ◌∙◌, arith, get_or-set_other, get_or-set_same}
 use Rattle.std.specs.Prelude.{◌==◌, if◌then◌else◌}
 use Rattle.std.specs.List.{AllWithin, insert}

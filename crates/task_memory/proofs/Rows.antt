@@ -1,4 +1,5 @@
 -- Sums over the spaces, and spaces that change.
+-- By induction on the slots for the sums, and by cases on whether a space is the one that changed.
 use Rattle.std.proofs.Common.{◌≡◌, ◌≢◌, ◌⊎◌, inl, inr, ℕ, zero, suc, ◌+◌, ◌<◌, ◌≤◌, ◌^◌, List, [], ◌∷◌, get_or, Option, Some, None, is_some, cond, count_by, refl, sym, ap, ◌∙◌, arith}
 use Rattle.std.specs.Prelude.{IsSome}
 use Rattle.std.specs.List.{sum_by}

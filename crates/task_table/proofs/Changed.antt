@@ -1,4 +1,5 @@
 -- The indexes of a table when a task is written, forgotten or left by its parent.
+-- By the lemmas of `Mirrors` for each index, and by cases on whether a slot is that of the changed task.
 use Rattle.std.proofs.Common.{◌≡◌, ◌≢◌, ◌⊎◌, inl, inr, ℕ, Bool, true, false, Option, Some, None, refl, sym, ap, ◌∙◌, subst, ltb-true, arith, Contains}
 use Rattle.std.proofs.lemmas.Bool.{cases_Bool, cases_eq, eqb-true, eq-eqb, false_from_ne_true}
 use Rattle.slab.specs.Slab.{Slab, get, Updates}

@@ -1,4 +1,5 @@
 -- A table after a task has ended.
+-- By cases on whether a slot's task is the ended one, a child of it or another one, with `Kept`, `Changed` and `Stepped`.
 use Rattle.std.proofs.Common.{◌≡◌, ◌≢◌, ◌⊎◌, inl, inr, ℕ, ◌-◌, Bool, true, false, ◌&&◌, ◌||◌, not, List, [], ◌∷◌, length, Option, Some, None, is_some, refl, sym, ap, ◌∙◌, subst, leb-false, leb-true, arith}
 use Rattle.std.specs.Prelude.{◌==◌}
 use Rattle.std.proofs.lemmas.Bool.{cases_Bool, cases_eq, both_ways, eq-eqb, eqb-true, false_from_ne_true}

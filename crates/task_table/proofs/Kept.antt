@@ -1,4 +1,5 @@
 -- What is said of a task after an event.
+-- By the definitions at the newest event, with the lemmas of `Ordinals` and `Held` on what an event leaves.
 use Rattle.std.proofs.Common.{◌≡◌, ℕ, Bool, true, false, ◌&&◌, List, ◌∷◌, Option, Some, None, refl, sym, ap, ◌∙◌, subst, arith}
 use Rattle.std.specs.Prelude.{if◌then◌else◌}
 use Rattle.std.proofs.lemmas.Bool.{false_from_ne_true}

@@ -1,4 +1,5 @@
 -- An index of the tasks in the slots of a table, when a slot changes.
+-- By cases on whether a slot or a place is the changed one, with the laws of lists after an insert or a removal.
 use Rattle.std.proofs.Common.{◌≡◌, ◌≢◌, ◌⊎◌, inl, inr, ℕ, ◌+◌, ◌-◌, ◌<◌, ◌≤◌, Bool, true, false, List, ◌∷◌, length, get_or, Option, Some, None, refl, sym, ap, ◌∙◌, arith, Contains}
 use Rattle.std.specs.List.{insert, remove}
 use Rattle.std.proofs.lemmas.Bool.{cases_eq, cases_order, cases_lt, both_ways}

@@ -1,4 +1,5 @@
 -- Entries in order: what is found, put and taken away.
+-- By induction on the entries, and by cases on the order of two places.
 use Rattle.std.proofs.Common.{◌≡◌, inl, inr, ℕ, zero, suc, ◌+◌, ◌-◌, ◌<◌, ◌≤◌, Bool, true, false, List, [], ◌∷◌, length, get_or, Some, None, ltb, ltb-true, ltb-false, leb, leb-true, leb-false, ap, ◌∙◌, arith, Contains}
 use Rattle.std.specs.Prelude.{◌==◌}
 use Rattle.std.specs.List.{AllWithin}

@@ -1,4 +1,5 @@
 -- A table after an event that changes no task.
+-- By cases on the kind of the event, with `task-left` for each task and `stands-from` for the table.
 use Rattle.std.proofs.Common.{◌≡◌, ℕ, false, ◌&&◌, List, [], ◌∷◌, None, refl, sym, ap, ◌∙◌}
 use Rattle.std.specs.Prelude.{if◌then◌else◌, Ok, Err}
 use Rattle.std.proofs.lemmas.Bool.{both_ways}

@@ -1,4 +1,5 @@
 -- What a wait finds, and a table after it.
+-- By the order of the children's entries, by `told` and `untold` for parents, and by `stands-from` for the table.
 use Rattle.std.proofs.Common.{◌≡◌, ◌≢◌, inl, inr, ℕ, ◌+◌, ◌<◌, ◌≤◌, Bool, true, false, ◌&&◌, not, List, [], ◌∷◌, length, get_or, Option, Some, None, refl, sym, ap, ◌∙◌, subst, ltb, ltb-true, arith, Contains}
 use Rattle.std.specs.Prelude.{if◌then◌else◌, ◌==◌, Ok, Err}
 use Rattle.std.specs.List.{AllWithin}

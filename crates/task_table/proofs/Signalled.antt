@@ -1,4 +1,5 @@
 -- A table after a signal, and after the delivery of one that ends nothing.
+-- By `task-step` for the task of the signal, `task-left` for each other one, and `stands-put` for the table.
 use Rattle.std.proofs.Common.{◌≡◌, inl, inr, ℕ, Bool, true, false, ◌&&◌, ◌||◌, not, List, [], ◌∷◌, Some, None, refl, sym, ap, ◌∙◌, subst, arith}
 use Rattle.std.specs.Prelude.{if◌then◌else◌, ◌==◌, Ok}
 use Rattle.std.proofs.lemmas.Bool.{both_ways, and_parts}

@@ -1,4 +1,5 @@
 -- A table after a spawn.
+-- By `mirrors-insert` for the indexes, `task-left` for each older task, and `unmade` for the name of the new one.
 use Rattle.std.proofs.Common.{◌≡◌, inl, inr, ℕ, ◌+◌, ◌<◌, ◌≤◌, Bool, true, false, ◌&&◌, ◌||◌, not, List, [], ◌∷◌, length, get_or, Option, Some, None, refl, sym, ap, ◌∙◌, subst, ltb, ltb-true, leb-false, arith}
 use Rattle.std.specs.Prelude.{if◌then◌else◌, ◌==◌, Ok}
 use Rattle.std.proofs.lemmas.Bool.{cases_eq, both_ways, lt-ltb, eq-eqb, eqb-true, and_parts, and_from, or_cases, or_left, or_right}

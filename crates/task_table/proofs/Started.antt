@@ -1,4 +1,5 @@
 -- A table without tasks, and a table whose room has changed.
+-- By the definitions on an empty history, and by `mirrors-same` where the slots stay.
 use Rattle.std.proofs.Common.{◌≡◌, ℕ, ◌+◌, Bool, List, [], length, get_or, Option, Some, None, refl, sym, ap, ◌∙◌, arith}
 use Rattle.slab.specs.Slab.{Slab, get}
 use Rattle.hist_model.specs.Tasks.{ended, was_waited_for, pending, mode, is_made, last_pid}

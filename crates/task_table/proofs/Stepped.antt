@@ -1,4 +1,5 @@
 -- A table after an event that makes no task.
+-- By the lemmas of `Ordinals`, `Held` and `Kept`, and by cases on whether a slot is that of the task that was put.
 use Rattle.std.proofs.Common.{◌≡◌, ◌≢◌, ◌⊎◌, inl, inr, ℕ, Bool, true, false, ◌&&◌, not, List, [], ◌∷◌, Option, Some, None, refl, sym, ap, ◌∙◌, subst, arith}
 use Rattle.std.specs.Prelude.{if◌then◌else◌, ◌==◌}
 use Rattle.std.proofs.lemmas.Bool.{cases_eq, both_ways, and_parts, or_cases, false_from_ne_true}

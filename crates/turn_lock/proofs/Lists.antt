@@ -1,4 +1,5 @@
 -- Histories that begin with others, and places of events.
+-- By induction on the list, and by arithmetic on the lengths of appended lists.
 use Rattle.std.proofs.Common.{◌≡◌, ◌≢◌, ℕ, ◌+◌, ◌≤◌, List, [], ◌∷◌, ◌++◌, length, sym, refl, ap, ◌∙◌, arith, cond, ltb, Bool, true, false, eq-eqb, ne_eqb, ltb-true, ltb-false, append_assoc, append-nil, length-append}
 use mathlib.Core.Logic.{dite}
 use native.Mathlib.Decide.{ℕ_discrete, dec_le}

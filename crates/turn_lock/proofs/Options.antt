@@ -1,4 +1,5 @@
 -- What is in an option.
+-- By functions that are defined by cases on an option, applied to both sides of an equation.
 use Rattle.std.proofs.Common.{◌≡◌, Option, Some, None, sym, ap, ◌∙◌, subst}
 
 module _ {S : Type 0} where

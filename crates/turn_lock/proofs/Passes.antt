@@ -1,4 +1,5 @@
 -- Splitting, joining and closing keep the rule.
+-- By the lemmas of `Totals` and `Views`, and by cases on whether a view is one of those that change.
 use Rattle.std.proofs.Common.{◌≡◌, ◌≢◌, ℕ, ◌+◌, ◌%◌, ◌^◌, ◌<◌, List, [], ◌∷◌, ◌++◌, length, set, sym, refl, ap, ◌∙◌, subst, inl, inr, ⊎_elim, arith, true, true≢false, Option, Some}
 use mathlib.Core.Option.{some, none, some-injective, some-ne-none}
 use mathlib.Core.Option as maybe

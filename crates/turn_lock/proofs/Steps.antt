@@ -1,4 +1,5 @@
 -- Each step of a turn keeps the rule.
+-- By the lemmas of `Views` and `Totals` on the view that changes, and by arithmetic modulo 2^64 on the words.
 use Rattle.std.proofs.Common.{◌≡◌, ◌≢◌, ℕ, zero, suc, ◌+◌, ◌%◌, ◌^◌, ◌<◌, ◌≤◌, List, [], ◌∷◌, ◌++◌, length, set, get_or, sym, refl, ap, ◌∙◌, subst, inl, inr, ⊎_elim, arith, true, Option, Some, length-append}
 use mathlib.Core.Option.{some, none, some-injective, some-ne-none}
 use mathlib.Core.Option as maybe
