@@ -1,10 +1,10 @@
-//! Policies that are made, and what a rule grants.
+//! Which rule of a policy decides, and what a rule grants.
 
 use crate::texts::text;
-use hist_model::policy::{Calls, Cond, Policy, Rule, Verdict};
+use hist_model::policy::{Policy, Verdict};
 use hist_model::request::Request;
-use hist_model::text::Sequence;
-use policy_eval::{decide, denying_policy, grant, lxd_mknod_policy};
+use policy_eval::{decide, grant};
+use policy_reader::read_policy;
 use std::alloc::Global;
 use std::process::Abort;
 use std::test::Fail;
@@ -31,22 +31,6 @@ fn check_decision<R: Abort>(
     assert_eq!(rt; decide(policy, request), (place, verdict));
 }
 
-/// A rule of one call and condition, with a program, a shift and a limit.
-fn rule(alloc: Global, nr: i32, cond: Cond) -> Result<Policy, Fail> {
-    let rule = Rule {
-        name: text(alloc, b"own")?,
-        calls: Calls::Named(Sequence::new(vec![in alloc; nr]?)),
-        conds: Sequence::new(vec![in alloc; cond]?),
-        verdict: Verdict::Grant,
-        via: text(alloc, b"fuse2fs")?,
-        shift: true,
-        times: Some(2),
-    };
-    Ok(Policy {
-        rules: Sequence::new(vec![in alloc; rule]?),
-    })
-}
-
 /// A mount with these flags.
 fn mount(alloc: Global, flags: u64) -> Result<Request, Fail> {
     Ok(Request::Mount {
@@ -61,21 +45,26 @@ fn mount(alloc: Global, flags: u64) -> Result<Request, Fail> {
 }
 
 #[test]
-fn policies_are_made(rt: HostRuntime) -> Result<(), Fail> {
+fn the_first_rule_that_fits_decides(rt: HostRuntime) -> Result<(), Fail> {
     let alloc = rt.alloc();
-    let granting = lxd_mknod_policy(alloc)?;
+    let policy = read_policy(
+        alloc,
+        b"{\"config\":{\"security.syscalls.intercept.mknod\":\"true\"},\"rules\":[{\"name\":\"no-mem\",\"call\":\"mknod\",\"when\":{\"dev\":\"1:1\"},\"then\":{\"deny\":\"EPERM\"}}]}",
+    )?;
     let null = mknod(alloc, None, 0o020666, 259)?;
-    check_decision(&rt, &granting, &null, 3, Verdict::Grant);
-    let denying = denying_policy(alloc, b"no-mem", (1, 1), Errno::EPERM)?;
+    check_decision(&rt, &policy, &null, 4, Verdict::Grant);
     let memory = mknod(alloc, None, 0o020666, 257)?;
-    check_decision(&rt, &denying, &memory, 0, Verdict::Deny(Errno::EPERM));
+    check_decision(&rt, &policy, &memory, 0, Verdict::Deny(Errno::EPERM));
     Ok(())
 }
 
 #[test]
 fn grants_by_program(rt: HostRuntime) -> Result<(), Fail> {
     let alloc = rt.alloc();
-    let policy = rule(alloc, 165, Cond::PlainFlags)?;
+    let policy = read_policy(
+        alloc,
+        b"{\"config\":{\"security.syscalls.intercept.mount\":\"true\",\"security.syscalls.intercept.mount.fuse\":\"ext4=fuse2fs\",\"security.syscalls.intercept.mount.shift\":\"true\"}}",
+    )?;
     assert!(rt; !policy.rules.items().is_empty());
     let mut request = mount(alloc, 1)?;
     grant(alloc, &policy, 0, &mut request)?;

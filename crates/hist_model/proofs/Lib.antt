@@ -8,5 +8,4 @@ pub mod Pieces
 pub mod Scans
 mod WalkedPaths
 mod PlayedCases
-mod ReadTexts
 pub mod WorkedReports

@@ -18,7 +18,7 @@ use Rattle.hist_model.specs.Copies.{text_from, value_from, copy_of, read_text, r
 use Rattle.hist_model.specs.Requests.{request, base_dirfd}
 use Rattle.hist_model.specs.Decisions.{fits, decide_from, decide}
 use Rattle.hist_model.specs.Legal.{with_steps, with_schedule, played}
-use Rattle.hist_model.specs.FirstPath.{mknod_policy, mknod_script}
+use Rattle.hist_model.specs.WorkedExample.{mknod_policy, mknod_script}
 use Rattle.hist_model.specs.declared.event.Event.{Event}
 use Rattle.hist_model.specs.declared.event.What.{What}
 use Rattle.hist_model.specs.declared.event.What.TheVariants.{Spawn, Poke, Enter, Resume, Exit, Recv, OpenMem, OpenBase, Check, Read, Act, Send, LetGo, Skip, Close}

@@ -1,4 +1,5 @@
 pub mod Records
+pub mod RuleParts
 pub mod PolicyRules
 pub mod ScriptRules
 pub mod Kinds
@@ -31,7 +32,7 @@ pub mod Settlers
 pub mod Causes
 pub mod Orders
 pub mod Mediated
-pub mod FirstPath
+pub mod WorkedExample
 pub mod Words
 pub mod Report
 pub mod ReportAudit

@@ -5,7 +5,8 @@
 //! and that each place of the history is one caller's is counted. There is no code but tests: the model of a lock and
 //! of a pass is in `turn_lock`'s definitions.
 //!
-//! Below stand the lock (`turn_lock`) and the plain types of `hist_model`; nothing stands above.
+//! Below stand the lock (`turn_lock`), the reader of the policy that its states have (`policy_reader`), the plain types of
+//! `hist_model`, and `sys_abi`; nothing stands above.
 #![tactic(auto)]
 
 #[cfg(test)]

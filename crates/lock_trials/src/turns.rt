@@ -12,6 +12,7 @@ use hist_model::policy::Policy;
 use hist_model::request::NodeRef;
 use hist_model::script::{Figures, Script};
 use hist_model::text::Sequence;
+use policy_reader::read_policy;
 use std::alloc::{AllocError, Global};
 use std::process::Abort;
 use std::sync::Wait;
@@ -67,13 +68,11 @@ fn script(alloc: Global) -> Script {
     }
 }
 
-fn no_notes(alloc: Global) -> Notes
+fn no_notes<R: Abort>(rt: &R, alloc: Global) -> Notes
     ensures { result.history.events ≡ [] }
 {
     Notes {
-        policy: Policy {
-            rules: Sequence::new(Vec::new(alloc)),
-        },
+        policy: read_policy(alloc, b"{}").expect(rt, "memory"),
         script: script(alloc),
         limit: Some(15),
         history: History::new(alloc),
@@ -401,7 +400,7 @@ fn append_often<W: Wait>(rt: &W, alloc: Global, short: Short) -> Option<History>
 
 #[test]
 fn one_caller_finds_the_history_that_it_left(rt: HostRuntime) {
-    let notes = append_two(&rt, rt.alloc(), no_notes(rt.alloc())).expect(&rt, "memory");
+    let notes = append_two(&rt, rt.alloc(), no_notes(&rt, rt.alloc())).expect(&rt, "memory");
     let events = notes.history.events();
     assert!(&rt; events.len() == 2);
     assert!(&rt; count_of(events, 3) == 1 && count_of(events, 5) == 1);
@@ -410,7 +409,7 @@ fn one_caller_finds_the_history_that_it_left(rt: HostRuntime) {
 
 #[test]
 fn two_callers_see_each_others_first_event(rt: HostRuntime) {
-    let notes = met(&rt, rt.alloc(), no_notes(rt.alloc())).expect(&rt, "memory");
+    let notes = met(&rt, rt.alloc(), no_notes(&rt, rt.alloc())).expect(&rt, "memory");
     let events = notes.history.events();
     assert!(&rt; events.len() == 2);
     assert!(&rt; count_of(events, 1) == 1 && count_of(events, 2) == 1);
@@ -420,9 +419,15 @@ fn two_callers_see_each_others_first_event(rt: HostRuntime) {
 fn each_of_80000_places_is_one_callers(rt: HostRuntime) {
     let alloc = rt.alloc();
     let mut marks = vec![in alloc; 0u32; 80000].expect(&rt, "memory");
-    let (notes, seen) = race(&rt, alloc, no_notes(alloc), 16, 5000, marks.as_mut_slice()).expect(
-        &rt, "memory",
-    );
+    let (notes, seen) = race(
+        &rt,
+        alloc,
+        no_notes(&rt, alloc),
+        16,
+        5000,
+        marks.as_mut_slice(),
+    )
+    .expect(&rt, "memory");
     assert!(&rt; seen == 80000);
     assert!(&rt; marks.iter().all(|m| *m == 1));
     for worker in 0..16 {
@@ -433,7 +438,7 @@ fn each_of_80000_places_is_one_callers(rt: HostRuntime) {
 #[test]
 fn what_a_states_type_keeps_comes_out(rt: HostRuntime) {
     let short = Short {
-        notes: no_notes(rt.alloc()),
+        notes: no_notes(&rt, rt.alloc()),
     };
     let history = append_often(&rt, rt.alloc(), short).expect(&rt, "memory");
     assert!(&rt; history.len() == 3);

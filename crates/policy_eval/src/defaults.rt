@@ -1,18 +1,13 @@
-//! The rules that LXD's switches make, a rule that denies one device, and the defaults behind them.
+//! The rules of the devices that LXD's switch lets a container make, and the defaults behind all rules.
 
-ghost use Rattle.std.specs.Prelude.{◌≡◌, ◌++◌, ◌∷◌, [], codes, pos, string_bytes, IfOk, OnOk};
+ghost use Rattle.std.specs.Prelude.{◌≡◌, ◌++◌, ◌∷◌, [], codes, string_bytes, IfOk, OnOk};
 ghost use Rattle.hist_model.specs.Decisions.{lxd_mknod_rules, lxd_mknod_rule, default_rule, default_rules, plain_rule};
-ghost use Rattle.hist_model.specs.FirstPath.{denying_policy};
-ghost use Rattle.hist_model.specs.declared.policy.Calls.TheVariants.{Named};
-ghost use Rattle.hist_model.specs.declared.policy.Cond.TheVariants.{Dev};
-ghost use Rattle.sys_abi.specs.Calls.{nr_mknod};
 
-use hist_model::policy::{Calls, Cond, Policy, Rule, Verdict};
+use hist_model::policy::{Calls, Cond, Rule, Verdict};
 use hist_model::request::Kind;
 use hist_model::text::{Sequence, Text};
 use std::alloc::Global;
 use sys_abi::calls;
-use sys_abi::errno::Errno;
 use sys_abi::memory::NoMemory;
 
 /// The devices that a container may make, by major and minor number. 0:0 is the whiteout of an overlay.
@@ -38,59 +33,6 @@ const CALLS: &[(&str, i32)] = &[
     ("openat", calls::OPENAT),
     ("mknodat", calls::MKNODAT),
 ];
-
-/// The policy whose one switch is mknod: the rules of the eight safe devices, and the defaults.
-#[tactic(auto, using(crate::proofs::Kept::lxd_kept))]
-pub fn lxd_mknod_policy(alloc: Global) -> Result<Policy, NoMemory>
-    ensures { IfOk result (λ p. p.rules ≡ lxd_mknod_rules ++ default_rules) }
-{
-    let mut rules = Vec::new(alloc);
-    push_mknod_rules(&mut rules)?;
-    push_default_rules(&mut rules)?;
-    Ok(Policy {
-        rules: Sequence::new(rules),
-    })
-}
-
-/// The policy whose one rule has this name and denies mknod of the device with these major and minor numbers, character
-/// or block; behind it stand the defaults.
-#[tactic(auto, using(crate::proofs::Kept::denying_kept))]
-pub fn denying_policy(
-    alloc: Global,
-    name: &[u8],
-    device: (u32, u32),
-    error: Errno,
-) -> Result<Policy, NoMemory>
-    ensures { IfOk result (λ p. p ≡ denying_policy name.now device error) }
-{
-    let (major, minor) = device;
-    let mut rules = Vec::new(alloc);
-    rules.push(denying_rule(alloc, name, major, minor, error)?)?;
-    push_default_rules(&mut rules)?;
-    Ok(Policy {
-        rules: Sequence::new(rules),
-    })
-}
-
-/// The rule that denies mknod of a device.
-fn denying_rule(
-    alloc: Global,
-    name: &[u8],
-    major: u32,
-    minor: u32,
-    error: Errno,
-) -> Result<Rule, NoMemory>
-    ensures { IfOk result (λ r. r ≡ plain_rule name.now (Named (pos nr_mknod ∷ [])) (Dev major minor ∷ []) (Verdict.Deny error)) }
-{
-    let calls = vec![in alloc; calls::MKNOD]?;
-    let conds = vec![in alloc; Cond::Dev(major, minor)]?;
-    Ok(rule_named(
-        Text::new(Vec::from_slice(alloc, name)?),
-        Calls::Named(Sequence::new(calls)),
-        conds,
-        Verdict::Deny(error),
-    ))
-}
 
 /// Adds the rules of the safe devices.
 pub fn push_mknod_rules(rules: &mut Vec<Rule>) -> Result<(), NoMemory>
@@ -150,16 +92,9 @@ fn push_default_rule(rules: &mut Vec<Rule>, name: &str, calls: Calls) -> Result<
 fn plain_rule(name: String, calls: Calls, conds: Vec<Cond>, verdict: Verdict) -> Rule
     ensures { result ≡ plain_rule (string_bytes name) calls conds.items verdict }
 {
-    rule_named(Text::new(name.into_bytes()), calls, conds, verdict)
-}
-
-/// A rule without a program, a shift or a limit, whose name need not be UTF-8.
-fn rule_named(name: Text, calls: Calls, conds: Vec<Cond>, verdict: Verdict) -> Rule
-    ensures { result ≡ plain_rule name calls conds.items verdict }
-{
     let via = Vec::new(*conds.allocator());
     Rule {
-        name,
+        name: Text::new(name.into_bytes()),
         calls,
         conds: Sequence::new(conds),
         verdict,

@@ -15,7 +15,7 @@ mod conditions;
 mod defaults;
 
 use conditions::fits;
-pub use defaults::{denying_policy, lxd_mknod_policy, push_default_rules, push_mknod_rules};
+pub use defaults::{push_default_rules, push_mknod_rules};
 use hist_model::policy::{Cap, Policy, Verdict};
 use hist_model::request::Request;
 use hist_model::text::Text;

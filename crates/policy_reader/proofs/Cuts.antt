@@ -5,7 +5,8 @@ use Rattle.std.specs.Prelude.{not, nat_lt, position}
 use Rattle.std.specs.List.{prefix_len, slice_split}
 use Rattle.std.proofs.lemmas.Bool.{cases_Bool}
 use Rattle.std.proofs.lemmas.Bool.Decides.{nat_tests}
-use Rattle.policy_reader.specs.Texts.{cut_at, trimmed, is_filled, items_of}
+use Rattle.hist_model.specs.RuleParts.{is_filled}
+use Rattle.policy_reader.specs.Texts.{cut_at, trimmed, items_of}
 
 take-next : (n b : ℕ) (bytes : List ℕ) → take (1 + n) (b ∷ bytes) ≡ b ∷ take n bytes
 take-next n b bytes = let e : 1 + n ≡ suc n = omega arith in rw e refl

@@ -2,6 +2,7 @@
 -- By the definition of `walk_items` at the first item that is left, and by induction on the items for the names held.
 use Rattle.std.proofs.Common.{◌≡◌, ℕ, ◌+◌, ◌<◌, ◌≤◌, ◌||◌, Bool, true, false, List, [], ◌∷◌, ◌++◌, length, drop, get_or, Ok, Err, ◌==◌, nat_lt, bytes_eq, refl, sym, ap, ◌∙◌, add-one, drop-cons, arith}
 use Rattle.std.proofs.lemmas.Bool.Decides.{nat_tests}
+use Rattle.hist_model.specs.RuleParts.{has_named}
 use Rattle.hist_model.specs.declared.policy.Rule.{Rule}
 use Rattle.serde_json.specs.Data.{Data}
 use Rattle.serde_json.specs.Events.{items_len}
@@ -11,7 +12,6 @@ use Rattle.serde_json.proofs.Views.{items_len-items_view}
 use Rattle.policy_reader.specs.NameSets.{holds, HoldsNames}
 use Rattle.policy_reader.specs.Readings.{Reading, walk_items}
 use Rattle.policy_reader.specs.Rules.{listed_call, listed_calls, rule_at, rule_of, rules_in}
-use Rattle.policy_reader.specs.Settings.{has_named}
 use Rattle.policy_reader.specs.declared.error.PolicyError.TheVariants.{TooMany}
 use Rattle.policy_reader.specs.declared.names.Names.{Names}
 use Rattle.policy_reader.specs.declared.rules.Version.{Version}
@@ -43,7 +43,7 @@ or-comm a b = grind arith
 or-assoc : (a b c : Bool) → ((a || b) || c) ≡ (a || (b || c))
 or-assoc a b c = grind arith
 
-has-more : {A : Type 0} (name : A → List ℕ) (items : List A) (x : A) (q : List ℕ) → has_named name (items ++ x ∷ []) q ≡ (bytes_eq (name x) q || has_named name items q)
+pub has-more : {A : Type 0} (name : A → List ℕ) (items : List A) (x : A) (q : List ℕ) → has_named name (items ++ x ∷ []) q ≡ (bytes_eq (name x) q || has_named name items q)
 has-more name [] x q = refl
 has-more name (y ∷ items) x q = ap (λ b. bytes_eq (name y) q || b) (has-more name items x q) ∙ sym (or-assoc (bytes_eq (name y) q) (bytes_eq (name x) q) (has_named name items q)) ∙ ap (λ b. b || has_named name items q) (or-comm (bytes_eq (name y) q) (bytes_eq (name x) q)) ∙ or-assoc (bytes_eq (name x) q) (bytes_eq (name y) q) (has_named name items q)
 

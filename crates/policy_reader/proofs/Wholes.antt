@@ -1,11 +1,9 @@
 -- What a reader gave is what the file's bytes are: by cases on the answer.
 -- By the definition of `policy`, with cases on whether the bytes are UTF-8.
-use Rattle.std.proofs.Common.{◌≡◌, ℕ, List, length, Some, None, Result, Ok, Err, IfOk, IfErr, true, ◌<◌, ◌^◌, refl, ◌∙◌, inl, inr}
+use Rattle.std.proofs.Common.{◌≡◌, ℕ, List, Some, None, Result, Ok, Err, IfOk, IfErr, true, refl, ◌∙◌, inl, inr}
 use Rattle.std.specs.Str.{is_utf8}
 use Rattle.std.proofs.lemmas.Bool.{cases_Bool}
-use Rattle.hist_model.specs.PolicyRules.{IsPolicy}
 use Rattle.hist_model.specs.Records.{PolicyRecord}
-use Rattle.hist_model.specs.declared.policy.Rule.{Rule}
 use Rattle.serde_json.specs.Data.{Data}
 use Rattle.serde_json.specs.Read.{read}
 use Rattle.sys_abi.specs.declared.memory.OrNoMemory.{OrNoMemory}
@@ -34,7 +32,3 @@ policy_unread bytes h = elim (cases_Bool (is_utf8 bytes)) [
   | inl u ↦ rw (u, h u) refl
   | inr n ↦ rw n refl
 ]
-
--- a policy of few rules keeps what every policy keeps
-pub few_rules : (rules : List Rule) → length rules < 2 ^ 32 → IsPolicy (record { rules = rules })
-few_rules rules h = record { number = h }

@@ -1,14 +1,13 @@
 -- The conditions of a rule: their keys, the texts that they have, and the calls that they are for.
-use Rattle.std.specs.Prelude.{ℕ, Bool, true, ◌&&◌, not, if◌then◌else◌, nat_eq, List, [], ◌∷◌, ◌++◌, find, Option, Some, None, option_map, option_and_then, Ok, Err, ℤ, pos, codes}
-use Rattle.std.specs.List.{list_all, starts_with, ends_with}
-use Rattle.hist_model.specs.Decisions.{is_among}
+use Rattle.std.specs.Prelude.{ℕ, not, if◌then◌else◌, List, [], ◌∷◌, ◌++◌, find, Option, Some, None, option_map, option_and_then, Ok, Err, ℤ, codes}
+use Rattle.std.specs.List.{list_all}
+use Rattle.hist_model.specs.RuleParts.{is_directory, is_for, major_max, minor_max}
 use Rattle.hist_model.specs.declared.policy.Cond.{Cond}
 use Rattle.hist_model.specs.declared.policy.Cond.TheVariants.{Path, Under, Kind as OfKind, Dev, Fstype, Source, Name, PlainFlags}
 use Rattle.hist_model.specs.declared.request.Kind.{Kind}
 use Rattle.hist_model.specs.declared.request.Kind.TheVariants.{Reg, Chr, Blk, Fifo, Sock}
 use Rattle.serde_json.specs.Data.{Data}
 use Rattle.serde_json.specs.Find.{as_str, as_object}
-use Rattle.sys_abi.specs.Calls.{nr_mknod, nr_mount, nr_setxattr, nr_openat, nr_mknodat}
 use Rattle.policy_reader.specs.declared.conditions.CondKey.{CondKey}
 use Rattle.policy_reader.specs.declared.conditions.CondKey.TheVariants as key
 use Rattle.policy_reader.specs.declared.error.PolicyError.TheVariants.{BadKey}
@@ -31,11 +30,7 @@ device_condition _ _ = None
 -- a device as MAJOR:MINOR, of at most 12 and 20 bits
 abbrev pub device_parts : List ℕ × Option (List ℕ) → Option Cond
 device_parts (major, None) = None
-device_parts (major, Some minor) = device_condition (decimal_up_to 4095 major) (decimal_up_to 1048575 minor)
-
--- a directory that paths may lie under: it begins with a slash and doesn't end with one
-abbrev pub is_directory : List ℕ → Bool
-is_directory text = starts_with nat_eq text (codes "/") && not (ends_with nat_eq text (codes "/"))
+device_parts (major, Some minor) = device_condition (decimal_up_to major_max major) (decimal_up_to minor_max minor)
 
 -- the condition of a key and its text
 abbrev pub condition_of : CondKey → List ℕ → Option Cond
@@ -64,25 +59,6 @@ abbrev pub conditions_of : ℕ → Data → Reading (List Cond)
 conditions_of n d = and_then (good (rule_place n (codes ".when")) (as_object d)) (λ ms. walk (condition_member n) ms [])
 
 -- ---- The calls that conditions are for
-
--- the calls with a path, or a target
-abbrev pub path_calls : List ℤ
-path_calls = pos nr_mknod ∷ pos nr_mknodat ∷ pos nr_openat ∷ pos nr_setxattr ∷ pos nr_mount ∷ []
-
--- the calls that make a node
-abbrev pub node_calls : List ℤ
-node_calls = pos nr_mknod ∷ pos nr_mknodat ∷ []
-
--- a condition is for this call
-abbrev pub is_for : Cond → ℤ → Bool
-is_for (Path text) nr = is_among path_calls nr
-is_for (Under dir) nr = is_among path_calls nr
-is_for (OfKind kind) nr = is_among node_calls nr
-is_for (Dev major minor) nr = is_among node_calls nr
-is_for (Fstype text) nr = is_among (pos nr_mount ∷ []) nr
-is_for (Source text) nr = is_among (pos nr_mount ∷ []) nr
-is_for (Name text) nr = is_among (pos nr_setxattr ∷ []) nr
-is_for PlainFlags nr = true
 
 -- the first condition that isn't for all of the calls
 abbrev pub misfit : List ℤ → List Cond → Option Cond

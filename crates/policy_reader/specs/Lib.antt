@@ -7,4 +7,5 @@ pub mod Conditions
 pub mod Verdicts
 pub mod Rules
 pub mod Policies
+pub mod Kept
 pub mod Switched

@@ -3,7 +3,7 @@ use Rattle.std.specs.Prelude.{◌≡◌, ℕ, List, Bool}
 use Rattle.std.specs.BTreeSet.{contains_by}
 use Rattle.std.specs.Cmp.Lexicographic.{slice_cmp}
 use Rattle.std.specs.Ordering.{nat_cmp}
-use Rattle.policy_reader.specs.Settings.{has_named}
+use Rattle.hist_model.specs.RuleParts.{has_named}
 use Rattle.policy_reader.specs.declared.names.Names.{Names}
 
 -- the set has this name

@@ -1,8 +1,9 @@
 -- The rules that a policy states of its own.
-use Rattle.std.specs.Prelude.{ℕ, Bool, true, false, ◌&&◌, not, if◌then◌else◌, ◌==◌, nat_lt, List, [], ◌∷◌, ◌++◌, length, Option, Some, None, option_and_then, is_some, Ok, Err, ℤ, pos, bytes_eq, codes}
-use Rattle.std.specs.List.{list_any, list_all}
+use Rattle.std.specs.Prelude.{ℕ, Bool, false, ◌&&◌, not, if◌then◌else◌, ◌==◌, nat_lt, List, [], ◌∷◌, ◌++◌, length, Option, Some, None, option_and_then, is_some, Ok, Err, ℤ, pos, codes}
+use Rattle.std.specs.List.{list_all}
 use Rattle.hist_model.specs.Decisions.{is_among}
 use Rattle.hist_model.specs.ReportWords.{quoted}
+use Rattle.hist_model.specs.RuleParts.{has_named, is_grant, may_answer}
 use Rattle.hist_model.specs.declared.policy.Calls.TheVariants.{Named}
 use Rattle.hist_model.specs.declared.policy.Cond.{Cond}
 use Rattle.hist_model.specs.declared.policy.Cond.TheVariants.{PlainFlags}
@@ -22,7 +23,7 @@ use Rattle.policy_reader.specs.declared.rules.Version.TheVariants.{First, Second
 use Rattle.policy_reader.specs.Conditions.{conditions_of, condition_place, misfit}
 use Rattle.policy_reader.specs.Readings.{Reading, and_then, good, walk, walk_items, named, rule_place, call_place}
 use Rattle.policy_reader.specs.Texts.{rule_name, whole_from}
-use Rattle.policy_reader.specs.Verdicts.{verdict_of, may_answer}
+use Rattle.policy_reader.specs.Verdicts.{verdict_of}
 
 -- ---- The calls of a rule
 
@@ -80,15 +81,9 @@ rule_member version n name d s = state n (in_version version (named rule_keys na
 
 -- ---- The tests after the keys
 
-abbrev pub is_grant : Verdict → Bool
-is_grant Grant = true
-is_grant (Deny error) = false
-is_grant Pass = false
-is_grant (Inject src at) = false
-
 -- an earlier rule has this name
 abbrev pub is_used : List Rule → List ℕ → Bool
-is_used earlier name = list_any (λ rule. bytes_eq rule.name name) earlier
+is_used earlier name = has_named (λ (rule : Rule). rule.name) earlier name
 
 -- a rule that grants a mount holds only where the mount doesn't remount, bind or move
 abbrev pub own_conditions : List ℤ → List Cond → Verdict → List Cond

@@ -1,9 +1,10 @@
 -- The configuration: the keys by which LXD intercepts system calls (LXD's "System call interception"), and what their texts
 -- switch on.
-use Rattle.std.specs.Prelude.{ℕ, Bool, true, false, if◌then◌else◌, List, [], ◌∷◌, ◌++◌, Option, Some, None, option_map, option_and_then, Ok, Err, bytes_eq, codes}
+use Rattle.std.specs.Prelude.{ℕ, Bool, true, false, if◌then◌else◌, List, [], ◌∷◌, ◌++◌, Option, Some, None, option_map, option_and_then, Ok, Err, codes}
 use Rattle.std.specs.List.{list_any}
 use Rattle.std.specs.Str.{str_eq_ignore_ascii_case}
 use Rattle.hist_model.specs.Decisions.{Switches}
+use Rattle.hist_model.specs.RuleParts.{has_named, is_short_name}
 use Rattle.serde_json.specs.Data.{Data}
 use Rattle.serde_json.specs.Find.{as_str, as_object}
 use Rattle.policy_reader.specs.declared.error.PolicyError.TheVariants.{BadKey}
@@ -12,7 +13,7 @@ use Rattle.policy_reader.specs.declared.settings.ConfigKey.TheVariants.{Ignored,
 use Rattle.policy_reader.specs.declared.settings.Setting.{Setting}
 use Rattle.policy_reader.specs.declared.settings.Setting.TheVariants.{Mknod, Mount, Shift, Allowed, Fuse, SetXattr, Sysinfo}
 use Rattle.policy_reader.specs.Readings.{Reading, and_then, good, walk, named, config_place}
-use Rattle.policy_reader.specs.Texts.{behind, cut_at, items_of, is_short_name, is_text_of}
+use Rattle.policy_reader.specs.Texts.{behind, cut_at, items_of, is_text_of}
 
 -- ---- Switches
 
@@ -36,10 +37,6 @@ switch_of text = if is_word_of on_words text then Some true else (if is_word_of 
 abbrev pub each : {A : Type 0} → (List ℕ → Option A) → List (List ℕ) → Option (List A)
 each read [] = Some []
 each read (text ∷ texts) = option_and_then (λ x. option_map (λ xs. x ∷ xs) (each read texts)) (read text)
-
--- one of the items has this name
-abbrev pub has_named : {A : Type 0} → (A → List ℕ) → List A → List ℕ → Bool
-has_named name items text = list_any (λ x. bytes_eq (name x) text) items
 
 -- the items after those that are kept; one whose name is there already is left out
 abbrev pub kept : {A : Type 0} → (A → List ℕ) → List A → List A → List A

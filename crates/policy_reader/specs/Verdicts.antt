@@ -1,12 +1,10 @@
--- What a rule answers, and the calls that it may answer so.
-use Rattle.std.specs.Prelude.{ℕ, Bool, true, List, [], ◌∷◌, ◌++◌, Option, Some, None, option_and_then, Ok, Err, ℤ, pos, codes}
-use Rattle.hist_model.specs.Decisions.{is_among}
+-- What a rule answers.
+use Rattle.std.specs.Prelude.{ℕ, List, [], ◌∷◌, ◌++◌, Option, Some, None, option_and_then, Ok, Err, codes}
 use Rattle.hist_model.specs.ReportWords.{quoted}
 use Rattle.hist_model.specs.declared.policy.Verdict.{Verdict}
 use Rattle.hist_model.specs.declared.policy.Verdict.TheVariants.{Grant, Deny, Pass, Inject}
 use Rattle.serde_json.specs.Data.{Data, null, boolean, number, string, array, object}
 use Rattle.serde_json.specs.Find.{as_str}
-use Rattle.sys_abi.specs.Calls.{nr_sysinfo, nr_mknod, nr_mount, nr_setxattr, nr_openat, nr_mknodat}
 use Rattle.sys_abi.specs.Errnos.{errno_of_name}
 use Rattle.policy_reader.specs.declared.error.PolicyError.TheVariants.{BadKey, BadValue}
 use Rattle.policy_reader.specs.declared.verdicts.Answer.{Answer}
@@ -51,14 +49,3 @@ verdict_of n null = Err (BadValue (rule_place n (codes ".then")))
 verdict_of n (boolean b) = Err (BadValue (rule_place n (codes ".then")))
 verdict_of n (number x) = Err (BadValue (rule_place n (codes ".then")))
 verdict_of n (array ds) = Err (BadValue (rule_place n (codes ".then")))
-
--- the calls that may be granted
-abbrev pub granted_calls : List ℤ
-granted_calls = pos nr_mknod ∷ pos nr_mknodat ∷ pos nr_mount ∷ pos nr_setxattr ∷ pos nr_sysinfo ∷ []
-
--- a call may be answered so: some calls are granted, openat alone gets files, and every call may be denied and passed
-abbrev pub may_answer : Verdict → ℤ → Bool
-may_answer Grant nr = is_among granted_calls nr
-may_answer (Inject src at) nr = is_among (pos nr_openat ∷ []) nr
-may_answer (Deny error) nr = true
-may_answer Pass nr = true

@@ -3,8 +3,9 @@
 ghost use Rattle.std.specs.Prelude.{◌≡◌, ◌++◌, codes, IfOk, option_and_then};
 ghost use Rattle.std.specs.List.{list_all};
 ghost use Rattle.std.specs.Option.{option_copied};
+ghost use Rattle.hist_model.specs.RuleParts.{is_directory, is_for};
 ghost use Rattle.policy_reader.specs.declared.conditions.CondKey.TheVariants as key;
-ghost use Rattle.policy_reader.specs.Conditions.{condition, condition_at, condition_keys, condition_of, condition_place, conditions_of, device_condition, device_parts, is_directory, is_for, kinds, misfit};
+ghost use Rattle.policy_reader.specs.Conditions.{condition, condition_at, condition_keys, condition_of, condition_place, conditions_of, device_condition, device_parts, kinds, misfit};
 ghost use Rattle.policy_reader.specs.Readings.{Gives, good, named, rule_place};
 ghost use Rattle.policy_reader.specs.Texts.{cut_at};
 ghost use Rattle.serde_json.specs.View.{view};

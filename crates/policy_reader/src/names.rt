@@ -1,8 +1,8 @@
 //! Names that were read before.
 
 ghost use Rattle.std.specs.Prelude.{◌≡◌, ◌++◌, ◌∷◌, ◌||◌, [], ℕ, List, bytes_eq, false, if◌then◌else◌, OnOk};
+ghost use Rattle.hist_model.specs.RuleParts.{has_named};
 ghost use Rattle.policy_reader.specs.NameSets.{holds, HoldsNames};
-ghost use Rattle.policy_reader.specs.Settings.{has_named};
 
 use std::alloc::Global;
 use std::collections::BTreeSet;

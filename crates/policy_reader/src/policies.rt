@@ -2,6 +2,7 @@
 
 ghost use Rattle.std.specs.Prelude.{◌≡◌, ◌≤◌, ◌^◌, IfErr, IfOk, Ok, Some, codes, length, option_and_then};
 ghost use Rattle.hist_model.specs.Decisions.{all_rules};
+ghost use Rattle.policy_reader.specs.Kept.{AreParts};
 ghost use Rattle.policy_reader.specs.Policies.{no_parts, part_at, policy, policy_in, policy_of, top_keys, top_member, version_at, version_numbered};
 ghost use Rattle.policy_reader.specs.Readings.{Gives, Refuses, good, named, walk};
 ghost use Rattle.serde_json.specs.Find.{as_number, as_u64, get};
@@ -157,11 +158,13 @@ fn all_rules(parts: Parts) -> Result<Vec<Rule>, NoMemory>
     Ok(rules)
 }
 
-/// The policy of these rules. There are never 2^32 of them: so many find no memory.
-#[tactic(auto, using(crate::proofs::Wholes::few_rules))]
-fn with_rules(rules: Vec<Rule>) -> Result<Policy, NoMemory>
-    ensures { IfOk result (λ p. p.rules ≡ rules.items) }
+/// The policy of these parts. There are never 2^32 rules: so many find no memory.
+#[tactic(auto, using(crate::proofs::KeptPolicies::policy_kept))]
+fn made_of(parts: Parts) -> Result<Policy, NoMemory>
+    requires { AreParts parts }
+    ensures { IfOk result (λ p. p.rules ≡ all_rules parts.own parts.settings) }
 {
+    let rules = all_rules(parts)?;
     if rules.len() > u32::MAX as usize {
         return Err(NoMemory);
     }
@@ -176,8 +179,7 @@ fn read_top(alloc: Global, value: &Value, members: &Map<String, Value>) -> Readi
 {
     let version = read_version(alloc, value)?;
     let parts = read_parts(alloc, version, members)?;
-    let rules = all_rules(parts)?;
-    Ok(with_rules(rules)?)
+    Ok(made_of(parts)?)
 }
 
 /// The policy of a JSON value.

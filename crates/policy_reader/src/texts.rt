@@ -5,7 +5,8 @@ ghost use Rattle.std.specs.List.{list_all};
 ghost use Rattle.std.specs.Option.{option_copied};
 ghost use Rattle.policy_reader.specs.Readings.{named};
 ghost use Rattle.policy_reader.specs.Tables.{rows_of, texts_of};
-ghost use Rattle.policy_reader.specs.Texts.{behind, cut_at, decimal_up_to, is_lower_or_digit, is_one_of, is_rule_name, is_rule_name_byte, is_short_name, is_short_name_byte, is_text_of, items_of, leads_with_zero, past_spaces, trimmed, whole_from, in_range};
+ghost use Rattle.hist_model.specs.RuleParts.{is_lower_or_digit, is_one_of, is_rule_name, is_rule_name_byte, is_short_name, is_short_name_byte};
+ghost use Rattle.policy_reader.specs.Texts.{behind, cut_at, decimal_up_to, is_text_of, items_of, leads_with_zero, past_spaces, trimmed, whole_from, in_range};
 ghost use Rattle.serde_json.specs.View.{view};
 
 use plain_words::{is_digit, number_between};

@@ -3,7 +3,8 @@
 ghost use Rattle.std.specs.Prelude.{◌≡◌, option_and_then};
 ghost use Rattle.std.specs.List.{list_all};
 ghost use Rattle.policy_reader.specs.Readings.{Gives, named, walk};
-ghost use Rattle.policy_reader.specs.Verdicts.{answer_at, answer_keys, answer_member, may_answer, no_answer, verdict_from, verdict_of, verdict_words};
+ghost use Rattle.hist_model.specs.RuleParts.{may_answer};
+ghost use Rattle.policy_reader.specs.Verdicts.{answer_at, answer_keys, answer_member, no_answer, verdict_from, verdict_of, verdict_words};
 ghost use Rattle.serde_json.specs.Find.{as_str};
 ghost use Rattle.serde_json.specs.View.{view, members_view};
 ghost use Rattle.sys_abi.specs.Errnos.{errno_of_name};

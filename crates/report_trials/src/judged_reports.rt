@@ -6,15 +6,18 @@ use audit_log::judge::Judge;
 use hist_model::event::Actor;
 use hist_model::policy::Verdict;
 use hist_model::report::Judged;
-use policy_eval::lxd_mknod_policy;
 use policy_judge::PolicyJudge;
+use policy_reader::read_policy;
 use std::test::Fail;
 use sys_abi::errno::Errno;
 
 #[test]
 fn judges_what_was_read(rt: HostRuntime) -> Result<(), Fail> {
     let alloc = rt.alloc();
-    let policy = lxd_mknod_policy(alloc)?;
+    let policy = read_policy(
+        alloc,
+        b"{\"config\":{\"security.syscalls.intercept.mknod\":\"true\"}}",
+    )?;
     let judge = PolicyJudge::new(&policy);
     let notif = notification(1);
     // An error that no read has counts for nothing, and neither does another worker's read.

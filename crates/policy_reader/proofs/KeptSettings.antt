@@ -1,0 +1,88 @@
+-- Switches that are read keep what those of every policy keep.
+-- By cases on settings and texts, with the facts that each step of a reading keeps.
+use Rattle.std.proofs.Common.{◌≡◌, ℕ, Bool, true, ◌&&◌, List, [], ◌∷◌, ◌++◌, Option, Some, None, option_map, Ok, IfOk, IfSome, codes, refl, inl, inr}
+use Rattle.std.specs.Prelude.{⊤}
+use Rattle.std.specs.List.{list_all}
+use Rattle.std.proofs.lemmas.Bool.{and_from, and_parts, cases_Bool}
+use Rattle.hist_model.specs.Decisions.{Switches}
+use Rattle.hist_model.specs.PolicyRules.{AreSwitches}
+use Rattle.hist_model.specs.RuleParts.{has_named, is_short_name, named_once}
+use Rattle.serde_json.specs.Data.{Data}
+use Rattle.serde_json.specs.Find.{as_str, as_object}
+use Rattle.policy_reader.specs.declared.settings.ConfigKey.{ConfigKey}
+use Rattle.policy_reader.specs.declared.settings.ConfigKey.TheVariants.{Ignored, Unknown, Known}
+use Rattle.policy_reader.specs.declared.settings.Setting.{Setting}
+use Rattle.policy_reader.specs.declared.settings.Setting.TheVariants.{Mknod, Mount, Shift, Allowed, Fuse, SetXattr, Sysinfo}
+use Rattle.policy_reader.specs.Readings.{and_then, config_place, good, walk}
+use Rattle.policy_reader.specs.Settings.{all_off, config_key, config_member, config_member_of, config_of, each, file_system, file_systems, fuse_pair, fuse_pairs, kept, pair_of, set, switch_of}
+use Rattle.policy_reader.specs.Texts.{cut_at, items_of}
+use Rattle.policy_reader.proofs.Keeping.{all_push, anything, found_if, found_mapped, found_next, good_keeps, next_keeps, once_push, walk_keeps}
+
+-- ---- Lists of file systems
+
+each_kept : {A : Type 0} (p : A → Bool) (read : List ℕ → Option A) → ((text : List ℕ) → IfSome (read text) (λ x. p x ≡ true)) → (texts : List (List ℕ)) → IfSome (each read texts) (λ xs. list_all p xs ≡ true)
+each_kept p read step [] = refl
+each_kept p read step (text ∷ texts) = found_next (λ x. p x ≡ true) (λ xs. list_all p xs ≡ true) (λ x. option_map (λ xs. x ∷ xs) (each read texts)) (read text) (step text)
+    (λ x h. found_mapped (λ xs. list_all p xs ≡ true) (λ xs. list_all p xs ≡ true) (λ xs. x ∷ xs) (each read texts) (each_kept p read step texts) (λ xs k. and_from (p x) (list_all p xs) h k))
+
+-- the items pass a test, and each has a name of its own
+record AreItems {A : Type 0} (p : A → Bool) (name : A → List ℕ) (xs : List A) : Type 0 where
+  pass : list_all p xs ≡ true
+  once : named_once name xs ≡ true
+
+kept_once : {A : Type 0} (p : A → Bool) (name : A → List ℕ) (before xs : List A) → AreItems p name before → list_all p xs ≡ true → AreItems p name (kept name before xs)
+kept_once p name before [] h k = h
+kept_once p name before (x ∷ xs) h k =
+    let parts = and_parts (p x) (list_all p xs) k in
+    elim (cases_Bool (has_named name before (name x))) [
+      | inl t ↦ rw t (kept_once p name before xs h parts.1)
+      | inr n ↦ rw n (kept_once p name (before ++ x ∷ []) xs (record { pass = all_push p before x h.pass parts.0; once = once_push name before x h.once n }) parts.1)
+    ]
+
+names_kept : (text : List ℕ) → IfSome (file_systems text) (AreItems is_short_name (λ name. name))
+names_kept text = found_mapped (λ xs. list_all is_short_name xs ≡ true) (AreItems is_short_name (λ name. name)) (kept (λ name. name) []) (each file_system (items_of text))
+    (each_kept is_short_name file_system (λ item. found_if (λ x. is_short_name x ≡ true) (is_short_name item) item (λ h. h)) (items_of text))
+    (λ xs h. kept_once is_short_name (λ name. name) [] xs (record { pass = refl; once = refl }) h)
+
+is_pair : List ℕ × List ℕ → Bool
+is_pair pair = is_short_name pair.0 && is_short_name pair.1
+
+pair_kept : (parts : List ℕ × Option (List ℕ)) → IfSome (pair_of parts) (λ pair. is_pair pair ≡ true)
+unfolding is_pair
+pair_kept (name, None) = tt
+pair_kept (name, Some program) = elim (cases_Bool (is_short_name name)) [
+  | inl t ↦ rw t (found_if (λ pair. is_pair pair ≡ true) (is_short_name program) (name, program) (λ h. and_from (is_short_name name) (is_short_name program) t h))
+  | inr n ↦ rw n tt
+]
+
+pairs_kept : (text : List ℕ) → IfSome (fuse_pairs text) (AreItems is_pair (λ pair. pair.0))
+pairs_kept text = found_mapped (λ xs. list_all is_pair xs ≡ true) (AreItems is_pair (λ pair. pair.0)) (kept (λ pair. pair.0) []) (each fuse_pair (items_of text))
+    (each_kept is_pair fuse_pair (λ item. pair_kept (cut_at 61 item)) (items_of text))
+    (λ xs h. kept_once is_pair (λ pair. pair.0) [] xs (record { pass = refl; once = refl }) h)
+
+-- ---- Settings
+
+-- a switch says nothing of the lists
+switch_kept : (key text : List ℕ) (s : Switches) (next : Bool → Switches) → ((on : Bool) → AreSwitches (next on)) → IfOk (and_then (good (config_place key) (switch_of text)) (λ on. Ok (next on))) AreSwitches
+switch_kept key text s next h = next_keeps (λ _. ⊤) AreSwitches (good (config_place key) (switch_of text)) (λ on. Ok (next on)) (anything (good (config_place key) (switch_of text))) (λ on _. h on)
+
+set_kept : (key : List ℕ) (setting : Setting) (text : List ℕ) (s : Switches) → AreSwitches s → IfOk (set key setting text s) AreSwitches
+unfolding is_pair
+set_kept key Mknod text s h = switch_kept key text s (λ on. record s { mknod = on }) (λ on. record { allowed = h.allowed; allowed_once = h.allowed_once; fuse = h.fuse; fuse_once = h.fuse_once })
+set_kept key Mount text s h = switch_kept key text s (λ on. record s { mount = on }) (λ on. record { allowed = h.allowed; allowed_once = h.allowed_once; fuse = h.fuse; fuse_once = h.fuse_once })
+set_kept key Shift text s h = switch_kept key text s (λ on. record s { shift = on }) (λ on. record { allowed = h.allowed; allowed_once = h.allowed_once; fuse = h.fuse; fuse_once = h.fuse_once })
+set_kept key SetXattr text s h = switch_kept key text s (λ on. record s { setxattr = on }) (λ on. record { allowed = h.allowed; allowed_once = h.allowed_once; fuse = h.fuse; fuse_once = h.fuse_once })
+set_kept key Sysinfo text s h = switch_kept key text s (λ on. record s { sysinfo = on }) (λ on. record { allowed = h.allowed; allowed_once = h.allowed_once; fuse = h.fuse; fuse_once = h.fuse_once })
+set_kept key Allowed text s h = next_keeps (AreItems is_short_name (λ name. name)) AreSwitches (good (config_place key) (file_systems text)) (λ names. Ok (record s { allowed = names })) (good_keeps (AreItems is_short_name (λ name. name)) (config_place key) (file_systems text) (names_kept text))
+    (λ names k. record { allowed = k.pass; allowed_once = k.once; fuse = h.fuse; fuse_once = h.fuse_once })
+set_kept key Fuse text s h = next_keeps (AreItems is_pair (λ pair. pair.0)) AreSwitches (good (config_place key) (fuse_pairs text)) (λ pairs. Ok (record s { fuse = pairs })) (good_keeps (AreItems is_pair (λ pair. pair.0)) (config_place key) (fuse_pairs text) (pairs_kept text))
+    (λ pairs k. record { allowed = h.allowed; allowed_once = h.allowed_once; fuse = k.pass; fuse_once = k.once })
+
+member_kept : (kind : ConfigKey) (key : List ℕ) (d : Data) (s : Switches) → AreSwitches s → IfOk (config_member_of kind key d s) AreSwitches
+member_kept Ignored key d s h = h
+member_kept Unknown key d s h = tt
+member_kept (Known setting) key d s h = next_keeps (λ _. ⊤) AreSwitches (good (config_place key) (as_str d)) (λ text. set key setting text s) (anything (good (config_place key) (as_str d))) (λ text _. set_kept key setting text s h)
+
+pub config_kept : (d : Data) → IfOk (config_of d) AreSwitches
+config_kept d = next_keeps (λ _. ⊤) AreSwitches (good (codes "config") (as_object d)) (λ ms. walk config_member ms all_off) (anything (good (codes "config") (as_object d)))
+    (λ ms _. walk_keeps AreSwitches config_member (λ key d s h. member_kept (config_key key) key d s h) ms all_off (record { allowed = refl; allowed_once = refl; fuse = refl; fuse_once = refl }))
