@@ -1,6 +1,9 @@
 pub mod Records
 pub mod RuleParts
 pub mod PolicyRules
+pub mod Ranges
+pub mod Totals
+pub mod TreeLines
 pub mod ScriptRules
 pub mod Kinds
 pub mod Look

@@ -95,7 +95,38 @@ pub struct Figures {
     pub procs: u16,
 }
 
-/// A container: its settings, its programs, of which the last one is the first task's, and a schedule.
+impl Figures {
+    /// All are 0.
+    pub const NONE: Figures = Figures {
+        uptime: 0,
+        used: 0,
+        shared: 0,
+        buffers: 0,
+        swap_used: 0,
+        memory: 0,
+        swap: 0,
+        host_memory: 0,
+        host_swap: 0,
+        procs: 0,
+    };
+}
+
+/// What a task of a program does, with all tasks that it starts.
+#[derive(Clone, Copy, PartialEq, Eq, Debug)]
+pub struct Totals {
+    /// How many instructions are executed, the end of a program that has no `exit` among them.
+    pub executed: u64,
+    pub calls: u64,
+    /// How many tasks are started.
+    pub starts: u64,
+    /// How many bytes are stored by `poke` and `fill`.
+    pub stored: u64,
+    /// 0 where no program is started, else one more than the greatest of those that are.
+    pub depth: u64,
+}
+
+/// A container: its settings, its programs, of which the last one is the first task's, and a schedule. Every script keeps
+/// the rules of its format: the ranges and limits of its parts, and what one part says of another.
 #[derive(Debug, Drop)]
 pub struct Script {
     /// Process numbers go from `pidbase + 1` to `pidbase + pidmax`.

@@ -3,9 +3,9 @@
 use Rattle.std.proofs.Common.{◌≡◌, ℕ, ◌+◌, max, List, [], ◌∷◌, ◌++◌, refl, ap, sym, ◌∙◌, arith}
 use Rattle.std.proofs.lemmas.List.Sums.{fold-append}
 use Rattle.hist_model.specs.declared.script.Instr.{Instr}
-use Rattle.script_reader.specs.declared.totals.Totals.{Totals}
+use Rattle.hist_model.specs.declared.script.Totals.{Totals}
 use Rattle.script_reader.specs.Capped.{cap, capped}
-use Rattle.script_reader.specs.Totals.{no_totals, with_totals, added_by, totals_of}
+use Rattle.hist_model.specs.Totals.{no_totals, with_totals, added_by, totals_of}
 
 cap-sum : (a b : ℕ) → cap (cap a + cap b) ≡ cap (a + b)
 cap-sum a b = grind arith

@@ -3,6 +3,8 @@ pub mod Operands
 pub mod Maps
 pub mod Counts
 pub mod Tables
+pub mod Pushed
 pub mod KeptRules
+pub mod KeptLines
 pub mod SoundStatements
 pub mod Readings

@@ -7,7 +7,7 @@ use Rattle.std.specs.Ordering.{nat_cmp}
 use Rattle.hist_model.specs.declared.script.Instr.{Instr}
 use Rattle.hist_model.specs.declared.script.TreeLine.{TreeLine}
 use Rattle.script_reader.specs.declared.settings.Found.{Found}
-use Rattle.script_reader.specs.declared.totals.Totals.{Totals}
+use Rattle.hist_model.specs.declared.script.Totals.{Totals}
 use Rattle.script_reader.specs.Maps.{value_in}
 use Rattle.script_reader.specs.Programs.{ProgramsState, with_name}
 use Rattle.script_reader.specs.Tree.{TreeState, found_node, with_path}

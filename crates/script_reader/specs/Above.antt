@@ -2,6 +2,7 @@
 use Rattle.std.specs.Prelude.{ℕ, ◌+◌, Bool, true, false, if◌then◌else◌, nat_lt, List, [], ◌∷◌, ◌++◌, not, Option, Some, None, is_some}
 use Rattle.lex_core.specs.declared.reason.Reason.TheVariants as reason
 use Rattle.hist_model.specs.Filters.{notify_filter}
+use Rattle.hist_model.specs.Totals.{is_exit}
 use Rattle.hist_model.specs.declared.script.MapRange.{MapRange}
 use Rattle.hist_model.specs.declared.script.Step.{Step}
 use Rattle.script_reader.specs.declared.error.Fault.{Fault}
@@ -15,7 +16,6 @@ use Rattle.script_reader.specs.Faults.{wrong_if, too_large_if, or_else, duplicat
 use Rattle.script_reader.specs.Programs.{ProgramsState, no_programs, open_program, with_instr, with_start, close_program, prog_fault, start_fault, instr_fault, totals_fault}
 use Rattle.script_reader.specs.Ranges.{map_fault, broker_fault}
 use Rattle.script_reader.specs.Settings.{no_settings, pidbase_fault, with_group}
-use Rattle.script_reader.specs.Totals.{is_exit}
 use Rattle.script_reader.specs.Tree.{TreeState, bare_tree, node_at, with_node, with_attr, node_fault, attr_fault, leads_to_directory}
 
 -- an accepted line: its number, and what it states

@@ -3,6 +3,7 @@ use Rattle.std.specs.Prelude.{Bool, false, ◌&&◌, not, List, [], ◌∷◌, �
 use Rattle.std.specs.List.{list_any}
 use Rattle.lex_core.specs.declared.reason.Reason.TheVariants as reason
 use Rattle.hist_model.specs.Filters.{first_fault}
+use Rattle.hist_model.specs.ScriptRules.{gives_listener}
 use Rattle.hist_model.specs.declared.script.FilterLine.{FilterLine}
 use Rattle.hist_model.specs.declared.script.Insn.{Insn}
 use Rattle.script_reader.specs.declared.error.Fault.{Fault}
@@ -38,7 +39,7 @@ close_filter F = record { closed = F.closed ++ filter_line F.insns F.listener �
 
 -- a filter above has the listener
 abbrev pub has_listener : FiltersState → Bool
-has_listener F = list_any (λ f. f.listener) F.closed
+has_listener F = list_any gives_listener F.closed
 
 -- at most 16 filters, of which one has the listener
 abbrev pub filter_fault : FiltersState → Bool → Option Fault

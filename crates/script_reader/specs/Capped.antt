@@ -1,6 +1,6 @@
 -- Totals in numbers of 64 bits, where a greater count stays at the greatest one.
 use Rattle.std.specs.Prelude.{ℕ, ◌-◌, ◌^◌, min}
-use Rattle.script_reader.specs.declared.totals.Totals.{Totals}
+use Rattle.hist_model.specs.declared.script.Totals.{Totals}
 
 abbrev pub cap : ℕ → ℕ
 cap n = min n (2 ^ 64 - 1)

@@ -7,7 +7,6 @@ pub mod Settings
 pub mod Tree
 pub mod Ranges
 pub mod Blocks
-pub mod Totals
 pub mod Capped
 pub mod Maps
 pub mod Programs

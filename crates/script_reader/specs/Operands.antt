@@ -1,5 +1,5 @@
 -- What may stand behind each word, and the faults that an operand shows by itself.
-use Rattle.std.specs.Prelude.{ℕ, ◌+◌, ◌-◌, ◌%◌, ◌^◌, Bool, true, false, ◌&&◌, ◌||◌, not, if◌then◌else◌, ◌==◌, nat_le, List, [], ◌∷◌, length, Option, Some, None, is_some, ℤ, pos, neg_ℤ, int_le, int_lt, bytes_eq, codes}
+use Rattle.std.specs.Prelude.{ℕ, ◌+◌, ◌-◌, ◌^◌, Bool, true, false, ◌&&◌, ◌||◌, not, if◌then◌else◌, ◌==◌, nat_le, List, [], ◌∷◌, length, Option, Some, None, is_some, ℤ, pos, neg_ℤ, int_le, bytes_eq, codes}
 use Rattle.lex_core.specs.declared.line.Token.{Token}
 use Rattle.lex_core.specs.declared.line.Token.TheVariants.{Bare, Quoted}
 use Rattle.lex_core.specs.declared.reason.Reason.{Reason}
@@ -7,6 +7,8 @@ use Rattle.lex_core.specs.declared.reason.Reason.TheVariants as reason
 use Rattle.lex_core.specs.Numbers as numbers
 use Rattle.bpf_filter.specs.Text.{below}
 use Rattle.sys_abi.specs.Calls.{call_number_of}
+use Rattle.hist_model.specs.Ranges.{is_page_address}
+use Rattle.hist_model.specs.ScriptRules.{is_call_number, may_be_handled, may_be_sent}
 use Rattle.script_reader.specs.declared.word.Word.{Word}
 use Rattle.script_reader.specs.declared.word.Word.TheVariants as word
 use Rattle.script_reader.specs.declared.operand.Operand.{Operand}
@@ -148,15 +150,15 @@ fault_unless false reason = Some reason
 -- a multiple of 4096 up to 2^47
 abbrev pub is_page : Option ℕ → Bool
 is_page None = false
-is_page (Some n) = (n % 4096 == 0) && nat_le n (2 ^ 47)
+is_page (Some n) = is_page_address n
 
 abbrev pub is_handled_signal : Option ℕ → Bool
 is_handled_signal None = false
-is_handled_signal (Some n) = (n == 10) || (n == 12) || (n == 15)
+is_handled_signal (Some n) = may_be_handled n
 
 abbrev pub is_sent_signal : Option ℕ → Bool
 is_sent_signal None = false
-is_sent_signal (Some n) = (n == 9) || (n == 10) || (n == 12) || (n == 15)
+is_sent_signal (Some n) = may_be_sent n
 
 -- the number may stand there
 abbrev pub is_allowed : Operand → ℤ → Bool
@@ -164,7 +166,7 @@ is_allowed (operand.Number least most) n = int_le least n && int_le n most
 is_allowed operand.Page n = is_page (below (2 ^ 64) n)
 is_allowed operand.Signal n = is_sent_signal (below (2 ^ 64) n)
 is_allowed operand.Handled n = is_handled_signal (below (2 ^ 64) n)
-is_allowed operand.Call n = int_le (pos 0) n && int_lt n (pos (2 ^ 31))
+is_allowed operand.Call n = is_call_number n
 is_allowed _ n = false
 
 abbrev pub number_fault : Operand → Option ℤ → Option Reason

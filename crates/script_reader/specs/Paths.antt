@@ -1,25 +1,14 @@
 -- The paths and the names of a script's texts.
-use Rattle.std.specs.Prelude.{ℕ, ◌-◌, ◌^◌, Bool, true, false, ◌&&◌, not, ◌==◌, nat_le, nat_lt, List, [], ◌∷◌, length, map, take, drop, unwrap_or, pos, position, reverse, bytes_eq, codes}
-use Rattle.std.specs.List.{list_any, list_all, slice_split}
+use Rattle.std.specs.Prelude.{ℕ, ◌-◌, ◌^◌, Bool, true, false, ◌&&◌, ◌==◌, nat_le, nat_lt, List, [], ◌∷◌, length, map, take, drop, unwrap_or, pos, position, reverse, codes}
+use Rattle.std.specs.List.{list_all, slice_split}
 use Rattle.lex_core.specs.Numbers as numbers
 use Rattle.bpf_filter.specs.Text.{below}
+pub use Rattle.hist_model.specs.TreeLines.{has_zero, is_node_name}
 
 -- ---- paths of the tree (path_resolution(7))
 
-abbrev pub is_zero : ℕ → Bool
-is_zero b = b == 0
-
 abbrev pub is_slash : ℕ → Bool
 is_slash b = b == 47
-
-abbrev pub has_zero : List ℕ → Bool
-has_zero text = list_any is_zero text
-
--- the name of a node: 1 to 255 bytes without a zero byte, but not `.` or `..`
-abbrev pub is_node_name : List ℕ → Bool
-is_node_name name =
-    not (length name == 0) && nat_le (length name) 255 && not (has_zero name)
-    && not (bytes_eq name (codes ".")) && not (bytes_eq name (codes ".."))
 
 -- names between slashes
 abbrev pub are_node_names : List ℕ → Bool

@@ -4,11 +4,12 @@ use Rattle.lex_core.specs.declared.reason.Reason.TheVariants as reason
 use Rattle.hist_model.specs.declared.script.Instr.{Instr}
 use Rattle.hist_model.specs.declared.script.Instr.TheVariants as instr
 use Rattle.hist_model.specs.declared.script.MapRange.{MapRange}
+use Rattle.hist_model.specs.declared.script.Totals.{Totals}
+use Rattle.hist_model.specs.ScriptRules.{stores_mapped}
+use Rattle.hist_model.specs.Totals.{totals_of, with_end, are_too_many}
 use Rattle.script_reader.specs.declared.error.Fault.{Fault}
-use Rattle.script_reader.specs.declared.totals.Totals.{Totals}
 use Rattle.script_reader.specs.Faults.{wrong_if, too_large_if, or_else, duplicate, full}
-use Rattle.script_reader.specs.Ranges.{are_mapped}
-use Rattle.script_reader.specs.Totals.{totals_of, with_end, are_too_many}
+use Rattle.script_reader.specs.Ranges.{in_force}
 
 pub record ProgramsState : Type 0 where
   -- the place of the closed program with this name
@@ -66,11 +67,9 @@ prog_fault P name = or_else (duplicate (is_some (P.place name))) (full 4096 (len
 abbrev pub start_fault : ProgramsState → List ℕ → Option Fault
 start_fault P name = wrong_if (not (is_some (P.place name))) reason.UnknownName
 
--- every byte that is stored is mapped
+-- every byte that is stored is mapped, where lines map these ranges
 abbrev pub instr_fault : List MapRange → Instr → Option Fault
-instr_fault ranges (instr.Poke addr bytes) = wrong_if (not (are_mapped ranges addr (length bytes))) reason.Unmapped
-instr_fault ranges (instr.Fill addr len byte) = wrong_if (not (are_mapped ranges addr len)) reason.Unmapped
-instr_fault ranges _ = None
+instr_fault ranges i = wrong_if (not (stores_mapped (in_force ranges) i)) reason.Unmapped
 
 -- the program that is open comes to too much
 abbrev pub totals_fault : Bool → ProgramsState → Option Fault

@@ -1,15 +1,28 @@
--- What the reader's tables keep, so that every script that is read keeps the rules of its type.
-use Rattle.std.specs.Prelude.{◌≡◌, ℕ, ◌+◌, ◌≤◌, Bool, true, false, nat_lt, List, length, Option, Some, None, unwrap_or, ⊤}
-use Rattle.std.specs.List.{list_all}
-use Rattle.hist_model.specs.ScriptRules.{can_be_scheduled, starts_below, start_earlier, steps_of}
+-- What lines keep, so that every script that is read keeps the rules of its type.
+use Rattle.std.specs.Prelude.{◌≡◌, ℕ, ◌+◌, ◌≤◌, ◌<◌, Bool, true, false, ◌&&◌, ◌||◌, not, nat_le, nat_lt, List, [], length, Option, Some, None, unwrap_or, ⊤}
+use Rattle.std.specs.List.{list_all, list_any, count_by}
+use Rattle.hist_model.specs.Ranges.{are_all_apart, is_page_address, is_range, pages_of}
+use Rattle.hist_model.specs.ScriptRules.{are_different, can_be_scheduled, exits_last, gives_listener, has_flag_listener, is_accepted, is_instruction, starts_below, start_earlier, steps_of, stores_mapped}
+use Rattle.hist_model.specs.Totals.{are_too_many, is_exit, totals_of_all}
+use Rattle.hist_model.specs.TreeLines.{are_lines, is_node, is_stated_directory, is_text, nodes_of}
+use Rattle.hist_model.specs.declared.script.FilterLine.{FilterLine}
 use Rattle.hist_model.specs.declared.script.Instr.{Instr}
 use Rattle.hist_model.specs.declared.script.Instr.TheVariants.{Spawn, Thread}
+use Rattle.hist_model.specs.declared.script.MapRange.{MapRange}
 use Rattle.hist_model.specs.declared.script.Step.{Step}
-use Rattle.script_reader.specs.declared.settings.Settings.{Settings}
+use Rattle.script_reader.specs.declared.settings.Found.{Found}
+use Rattle.script_reader.specs.declared.settings.Limits.{Limits}
 use Rattle.script_reader.specs.declared.statement.Statement.{Statement}
 use Rattle.script_reader.specs.declared.statement.Statement.TheVariants as states
-use Rattle.script_reader.specs.Above.{ScheduleState}
-use Rattle.script_reader.specs.Settings.{pidmax_of}
+use Rattle.script_reader.specs.declared.word.Part.{Part}
+use Rattle.script_reader.specs.declared.word.Part.TheVariants as part
+use Rattle.script_reader.specs.Above.{Above, ScheduleState}
+use Rattle.script_reader.specs.Blocks.{FiltersState, has_listener}
+use Rattle.script_reader.specs.Programs.{ProgramsState}
+use Rattle.script_reader.specs.Ranges.{in_force}
+use Rattle.script_reader.specs.Settings.{first_limits}
+use Rattle.script_reader.specs.Tree.{TreeState, node_ref}
+use Rattle.script_reader.specs.Words.{among_settings, in_program}
 
 -- ---- what a line states by itself
 
@@ -19,43 +32,116 @@ starts_nothing (Spawn place) = false
 starts_nothing (Thread place) = false
 starts_nothing _ = true
 
--- what the operands of a line showed of its statement, and whether a `pidbase` stands above it
-abbrev pub IsSound : Bool → Statement → Type 0
--- a `pidmax` is at most the greatest process number, and stands before a `pidbase`
-IsSound base_is_stated (states.Pidmax n) = (base_is_stated ≡ false) × (n ≤ 4194304)
+-- 1 to 64 pages from a page's address on
+abbrev pub has_pages : MapRange → Bool
+has_pages range = is_page_address range.start && nat_le 1 range.pages && nat_le range.pages 64
+
+-- what the operands of a line showed of its statement, and where it stands: in which part, and whether below a `pidbase`
+abbrev pub IsSound : Part → Bool → Statement → Type 0
+IsSound p base_is_stated (states.Pidmax n) = (base_is_stated ≡ false) × (1 ≤ n) × (n ≤ 4194304)
+IsSound p base_is_stated (states.Rlimit n) = n ≤ 4096
+IsSound p base_is_stated (states.Node path kind) = is_node kind ≡ true
+IsSound p base_is_stated (states.Attr path name value) = (is_text 1 255 name ≡ true) × (nat_le (length value) 4096 ≡ true)
+IsSound p base_is_stated (states.Broker n) = nat_le n 1023 ≡ true
+IsSound p base_is_stated (states.Map range) = (among_settings p ≡ true) × (has_pages range ≡ true)
 -- at most 64 calls are named
-IsSound base_is_stated (states.Notify calls) = length calls ≤ 64
+IsSound p base_is_stated (states.Notify calls) = (among_settings p ≡ true) × (length calls ≤ 64)
+IsSound p base_is_stated (states.Filter listener) = among_settings p ≡ true
 -- instructions that start a program are stated by its name
-IsSound base_is_stated (states.Does i) = starts_nothing i ≡ true
--- the schedule has names of tasks, and workers by their numbers
-IsSound base_is_stated (states.Takes step) = can_be_scheduled step.who ≡ true
-IsSound base_is_stated _ = ⊤
+IsSound p base_is_stated (states.Does i) = (in_program p ≡ true) × (starts_nothing i ≡ true) × (is_instruction i ≡ true)
+IsSound p base_is_stated (states.Starts thread name) = in_program p ≡ true
+IsSound p base_is_stated (states.Takes step) = (can_be_scheduled step.who ≡ true) × (nat_le 1 step.count ≡ true)
+IsSound p base_is_stated _ = ⊤
 
--- ---- the tables
+-- ---- what accepted lines come to, part by part
 
--- process numbers are at most 4194304
-abbrev pub HasProcessNumbers : Settings → Type 0
-HasProcessNumbers settings = unwrap_or settings.pidbase 0 + pidmax_of settings ≤ 4194304
+abbrev pub limits_or_none : Option Limits → Limits
+limits_or_none limits = unwrap_or limits (first_limits 0 0)
+
+pub record HasNumbers (count base limit : Option ℕ) (limits : Option Limits) : Type 0 where
+  pub numbers : 1 ≤ unwrap_or count 32768
+  pub pids : unwrap_or base 0 + unwrap_or count 32768 ≤ 4194304
+  pub rlimit : unwrap_or limit 1024 ≤ 4096
+  pub memory : (limits_or_none limits).memory ≤ (limits_or_none limits).host_memory
+  pub swap : (limits_or_none limits).swap ≤ (limits_or_none limits).host_swap
+
+-- what a path leads to is a node that is stated, and a directory where it is said to be one
+abbrev pub is_found : List Bool → Option Found → Bool
+is_found nodes None = true
+is_found nodes (Some found) = nat_lt found.node.ordinal (length nodes) && (not found.directory || is_stated_directory nodes found.node)
+
+pub record HasTree (T : TreeState) : Type 0 where
+  pub lines : are_lines T.lines ≡ true
+  pub few : length T.lines ≤ 10000
+  pub nodes : T.nodes ≡ length (nodes_of T.lines)
+  pub found : (path : List ℕ) → is_found (nodes_of T.lines) (T.found path) ≡ true
+
+pub record HasDescriptors (broker : List ℕ) : Type 0 where
+  pub range : list_all (λ n. nat_le n 1023) broker ≡ true
+  pub once : are_different broker ≡ true
+  pub few : length broker ≤ 64
+
+pub record HasRanges (map : List MapRange) : Type 0 where
+  pub ranges : list_all is_range map ≡ true
+  pub apart : are_all_apart map ≡ true
+  pub few : pages_of map ≤ 64
+
+pub record HasFilters (closed : List FilterLine) : Type 0 where
+  pub accepted : list_all is_accepted closed ≡ true
+  pub few : length closed ≤ 16
+  pub listener : count_by gives_listener closed ≤ 1
 
 -- a name that stands for a place stands for one below this
 abbrev pub is_placed_below : ℕ → Option ℕ → Bool
 is_placed_below n None = true
 is_placed_below n (Some place) = nat_lt place n
 
--- the closed programs, the one that is open, and the places that names stand for: programs start only earlier ones
-pub record StartEarlier (place : List ℕ → Option ℕ) (bodies : List (List Instr)) (body : List Instr) : Type 0 where
-  -- a closed program starts only those that were closed before it
-  pub closed : start_earlier 0 bodies ≡ true
-  -- the program that is open starts only closed ones
-  pub current : list_all (λ i. starts_below (length bodies) i) body ≡ true
-  -- each name stands for a closed program
-  pub named : (name : List ℕ) → is_placed_below (length bodies) (place name) ≡ true
+-- an instruction of a program with this many programs above it, in this map
+abbrev pub is_sound_instruction : List MapRange → ℕ → Instr → Bool
+is_sound_instruction map n i = starts_below n i && (is_instruction i && stores_mapped map i)
 
--- the lines of the schedule, and how many steps they come to
-pub record IsSchedule (S : ScheduleState) : Type 0 where
+pub record HasPrograms (map : List MapRange) (P : ProgramsState) : Type 0 where
+  -- the closed programs
+  pub earlier : start_earlier 0 P.bodies ≡ true
+  pub instructions : list_all (list_all is_instruction) P.bodies ≡ true
+  pub mapped : list_all (list_all (stores_mapped map)) P.bodies ≡ true
+  pub exits : list_all exits_last P.bodies ≡ true
+  pub few : length P.bodies ≤ 4096
+  -- what they come to
+  pub counted : P.totals ≡ totals_of_all P.bodies
+  pub totals : list_all (λ t. not (are_too_many t)) P.totals ≡ true
+  -- the program that is open
+  pub current : list_all (is_sound_instruction map (length P.bodies)) P.body ≡ true
+  -- each name stands for a closed program
+  pub named : (name : List ℕ) → is_placed_below (length P.bodies) (P.place name) ≡ true
+
+pub record HasSchedule (S : ScheduleState) : Type 0 where
   -- the steps of all lines are counted
   pub counted : steps_of S.lines ≡ S.steps
-  -- they are at most 200000
   pub few : S.steps ≤ 200000
-  -- each line names a task or a worker
   pub scheduled : list_all (λ (s : Step). can_be_scheduled s.who) S.lines ≡ true
+  pub counts : list_all (λ (s : Step). nat_le 1 s.count) S.lines ≡ true
+
+abbrev pub HasNoPrograms : ProgramsState → Type 0
+HasNoPrograms P = (P.bodies ≡ []) × (P.body ≡ [])
+
+-- what the part says of blocks: no program stands before the last setting, and what an open block may still state
+abbrev pub FitsPart : Part → FiltersState → ProgramsState → Type 0
+FitsPart part.Settings F P = HasNoPrograms P
+FitsPart part.Filter F P = HasNoPrograms P × (length F.closed < 16) × ((F.listener && has_listener F) ≡ false)
+FitsPart part.Program F P = (list_any is_exit P.body ≡ false) × (length P.bodies < 4096)
+FitsPart part.Exited F P = (list_any is_exit P.body ≡ true) × (exits_last P.body ≡ true) × (length P.bodies < 4096)
+FitsPart _ F P = ⊤
+
+-- what lines state together keeps the rules of a script, as far as they have come
+pub record IsKept (A : Above) : Type 0 where
+  pub settings : HasNumbers A.settings.pidmax A.settings.pidbase A.settings.rlimit A.settings.limits
+  pub tree : HasTree A.tree
+  pub root : is_stated_directory (nodes_of A.tree.lines) (unwrap_or A.settings.root (node_ref 0)) ≡ true
+  pub descriptors : HasDescriptors A.broker
+  pub map : HasRanges A.map
+  pub filters : HasFilters A.filters.closed
+  pub killable : has_flag_listener A.settings.killable A.filters.closed ≡ true
+  pub programs : HasPrograms (in_force A.map) A.programs
+  pub schedule : HasSchedule A.schedule
+  pub block : FitsPart A.part A.filters A.programs

@@ -2,8 +2,8 @@
 use Rattle.std.specs.Prelude.{ℕ, ◌+◌, Bool, true, false, ◌||◌, not, if◌then◌else◌, List, [], ◌∷◌, ◌++◌, length, Option, Some, None, is_some, bytes_eq}
 use Rattle.lex_core.specs.declared.reason.Reason.TheVariants as reason
 use Rattle.hist_model.specs.declared.request.Node.{Node}
-use Rattle.hist_model.specs.declared.request.Node.TheVariants as node
 use Rattle.hist_model.specs.declared.request.NodeRef.{NodeRef}
+use Rattle.hist_model.specs.TreeLines.{is_directory}
 use Rattle.hist_model.specs.declared.script.TreeLine.{TreeLine}
 use Rattle.hist_model.specs.declared.script.TreeLine.TheVariants as line
 use Rattle.script_reader.specs.declared.error.Fault.{Fault}
@@ -40,10 +40,6 @@ reference_of (Some found) = found.node
 -- the node that a path leads to; `/` where it leads to none
 abbrev pub node_at : TreeState → List ℕ → NodeRef
 node_at T path = reference_of (T.found path)
-
-abbrev pub is_directory : Node → Bool
-is_directory node.Dir = true
-is_directory _ = false
 
 -- one more node, at this path
 abbrev pub with_path : List ℕ → Bool → TreeState → TreeState

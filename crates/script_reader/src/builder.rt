@@ -2,7 +2,6 @@
 
 ghost use Rattle.std.specs.Prelude.{◌≡◌};
 ghost use Rattle.script_reader.specs.Above.{opened_by, opens, part_behind};
-ghost use Rattle.script_reader.specs.Rules.{HasProcessNumbers};
 
 use crate::blocks::Filters;
 use crate::error::{Fault, ScriptError};
@@ -25,7 +24,7 @@ use lex_core::{Line, Reason, TokenBytes};
 use std::alloc::Global;
 use sys_abi::memory::{NoMemory, OrNoMemory};
 
-/// What the lines above state, part by part. The process numbers of their settings end at most at 4194304.
+/// What the lines above state, part by part.
 #[derive(Drop)]
 pub struct Builder {
     alloc: Global,
@@ -38,7 +37,6 @@ pub struct Builder {
     filters: Filters,
     programs: Programs,
     schedule: Schedule,
-    ghost pids: { HasProcessNumbers settings },
 }
 
 /// The answer of a step of the builder.
@@ -56,10 +54,9 @@ fn opens(statement: &Statement) -> bool
 
 impl Builder {
     ghost use Rattle.std.specs.Prelude.{◌≤◌, false, true, length, is_some, IfOk, OnOk};
-    ghost use Rattle.hist_model.specs.ScriptRules.{can_be_scheduled};
     ghost use Rattle.script_reader.specs.Faults.{Admits};
     ghost use Rattle.script_reader.specs.Above.{with_statement, statement_fault, nothing_above, end_fault, close_block, program_part};
-    ghost use Rattle.script_reader.specs.Rules.{IsSound, starts_nothing};
+    ghost use Rattle.script_reader.specs.Rules.{IsSound};
     ghost use Rattle.script_reader.specs.Views.{above_in};
     ghost use Rattle.script_reader.specs.declared.statement.Statement.TheVariants as states;
     ghost use Rattle.script_reader.specs.declared.word.Part.TheVariants as part;
@@ -83,8 +80,6 @@ impl Builder {
     }
 
     fn pidmax(&mut self, n: u32) -> Admitted
-        requires within { n ≤ 4194304 }
-        requires before { is_some self.old.settings.pidbase ≡ false }
         ensures { Admits (statement_fault (states.Pidmax n) (above_in self.old)) (with_statement (states.Pidmax n) (above_in self.old)) result (above_in self.new) }
     {
         refuse_again(self.settings.pidmax.is_some()).map_err(OrNoMemory::Refused)?;
@@ -210,7 +205,6 @@ impl Builder {
     }
 
     fn does(&mut self, instr: Instr) -> Admitted
-        requires { starts_nothing instr ≡ true }
         ensures { Admits (statement_fault (states.Does instr) (above_in self.old)) (with_statement (states.Does instr) (above_in self.old)) result (above_in self.new) }
     {
         refuse_instr(&self.map, &instr).map_err(OrNoMemory::Refused)?;
@@ -234,7 +228,6 @@ impl Builder {
     }
 
     fn takes(&mut self, step: Step) -> Admitted
-        requires { can_be_scheduled step.who ≡ true }
         ensures { Admits (statement_fault (states.Takes step) (above_in self.old)) (with_statement (states.Takes step) (above_in self.old)) result (above_in self.new) }
     {
         self.schedule.push(step)
@@ -278,7 +271,7 @@ impl Builder {
 
     /// One more statement, or its fault beside the lines above. After an error nothing is said of the builder.
     fn admit(&mut self, statement: Statement) -> Admitted
-        requires { IsSound (is_some self.old.settings.pidbase) statement }
+        requires { IsSound self.old.part (is_some self.old.settings.pidbase) statement }
         ensures { Admits (statement_fault statement (above_in self.old)) (with_statement statement (above_in self.old)) result (above_in self.new) }
     {
         match statement {
@@ -322,18 +315,19 @@ fn opened_by(opens: bool, line: u32, before: u32) -> u32
 }
 
 impl Builder {
-    ghost use Rattle.std.specs.Prelude.{Ok, is_some, IfOk};
+    ghost use Rattle.std.specs.Prelude.{Ok, is_some, true, IfOk, OnOk};
     ghost use Rattle.script_reader.specs.Above.{statement_fault};
     ghost use Rattle.script_reader.specs.Lines.{line_statement, unless_faulty};
     ghost use Rattle.script_reader.specs.Outcomes.{Becomes, Reads, with_reading};
-    ghost use Rattle.script_reader.specs.Rules.{IsSound};
-    ghost use Rattle.script_reader.specs.Scripts.{script_at_end, script_of};
+    ghost use Rattle.script_reader.specs.Rules.{IsKept, IsSound};
+    ghost use Rattle.script_reader.specs.Scripts.{has_items, script_at_end, script_of};
     ghost use Rattle.script_reader.specs.Views.{above_in};
 
     /// A line with this number joins those above, where its statement has no fault beside them.
     fn join(&mut self, number: u32, statement: Statement) -> Admitted
-        requires { IsSound (is_some self.old.settings.pidbase) statement }
-        ensures { Becomes (with_reading number (unless_faulty (statement_fault statement (above_in self.old)) statement) (above_in self.old)) result (above_in self.new) }
+        requires { IsSound self.old.part (is_some self.old.settings.pidbase) statement }
+        ensures becomes { Becomes (with_reading number (unless_faulty (statement_fault statement (above_in self.old)) statement) (above_in self.old)) result (above_in self.new) }
+        ensures kept { OnOk result (IsKept (above_in self.old) → IsKept (above_in self.new)) }
     {
         let opens = opens(&statement);
         self.admit(statement)?;
@@ -343,7 +337,8 @@ impl Builder {
 
     /// Reads a line behind those above. After an error nothing is said of the builder.
     pub fn read(&mut self, line: Line) -> Admitted
-        ensures { Becomes (with_reading line.number (line_statement (above_in self.old) (Ok line.tokens)) (above_in self.old)) result (above_in self.new) }
+        ensures becomes { Becomes (with_reading line.number (line_statement (above_in self.old) (Ok line.tokens)) (above_in self.old)) result (above_in self.new) }
+        ensures kept { OnOk result (IsKept (above_in self.old) → IsKept (above_in self.new)) }
     {
         let number = line.number;
         let base_is_stated = self.settings.pidbase.is_some();
@@ -353,6 +348,7 @@ impl Builder {
 
     /// The script that the lines make, where all blocks are closed and there is a program.
     pub fn finish(self) -> Result<Script, ScriptError>
+        requires { IsKept (above_in self) }
         ensures { Reads (script_at_end (above_in self)) result }
     {
         if in_block(self.part) {
@@ -375,6 +371,8 @@ impl Builder {
 
     /// The script of all settings, each that isn't stated having its default.
     fn into_script(self) -> Result<Script, NoMemory>
+        requires kept { IsKept (above_in self) }
+        requires some { has_items self.programs.bodies.items ≡ true }
         ensures { IfOk result (λ s. s ≡ script_of (above_in self)) }
     {
         let Builder {

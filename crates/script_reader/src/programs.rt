@@ -3,16 +3,14 @@
 ghost use Rattle.std.specs.Prelude.{◌≡◌};
 ghost use Rattle.script_reader.specs.Capped.{capped};
 ghost use Rattle.script_reader.specs.Faults.{Judges};
-ghost use Rattle.script_reader.specs.Maps.{value_in};
 ghost use Rattle.script_reader.specs.Programs.{instr_fault, starting};
-ghost use Rattle.script_reader.specs.Rules.{StartEarlier};
-ghost use Rattle.script_reader.specs.Totals.{totals_of};
+ghost use Rattle.hist_model.specs.Totals.{totals_of};
 
 use crate::error::Fault;
 use crate::fault::{full, too_large_if, wrong_if};
 use crate::ranges::are_mapped;
-use crate::totals::{NOTHING, Totals, added_by, are_too_many, with_end, with_totals};
-use hist_model::script::{Instr, MapRange};
+use crate::totals::{NOTHING, added_by, are_too_many, with_end, with_totals};
+use hist_model::script::{Instr, MapRange, Totals};
 use hist_model::text::Sequence;
 use lex_core::{Reason, TokenBytes};
 use std::alloc::Global;
@@ -24,7 +22,7 @@ use sys_abi::memory::{NoMemory, OrNoMemory};
 const MOST_PROGRAMS: usize = 4096;
 
 /// The programs that the lines above state: those that are closed, and the one that is open. What each comes to is
-/// kept, not counted again. A program starts only those that were closed before it.
+/// kept, not counted again.
 #[derive(Drop)]
 pub struct Programs {
     alloc: Global,
@@ -35,7 +33,6 @@ pub struct Programs {
     body: Vec<Instr>,
     running: Totals,
     ghost counted: { running ≡ capped (totals_of totals.items body.items) },
-    ghost earlier: { StartEarlier (value_in places) bodies.items body.items },
 }
 
 /// Refuses an instruction that stores a byte where nothing is mapped.
@@ -66,7 +63,6 @@ fn starting(thread: bool, program: u32) -> Instr
 
 impl Programs {
     ghost use Rattle.std.specs.Prelude.{◌<◌, true, length, IfOk, OnOk, not};
-    ghost use Rattle.hist_model.specs.ScriptRules.{starts_below};
     ghost use Rattle.script_reader.specs.Scripts.{has_items};
     ghost use Rattle.script_reader.specs.Views.{programs_in};
     ghost use Rattle.script_reader.specs.Faults.{Admits};
@@ -116,7 +112,6 @@ impl Programs {
     /// Adds an instruction to the program that is open.
     #[tactic(auto, using(crate::proofs::Counts::totals_more))]
     pub fn push(&mut self, instr: Instr) -> Result<(), NoMemory>
-        requires { starts_below (length self.old.bodies.items) instr ≡ true }
         ensures { OnOk result (programs_in self.new ≡ definitions.with_instr instr (programs_in self.old)) }
     {
         let running = with_totals(self.running, added_by(&self.totals, &instr));
@@ -138,7 +133,6 @@ impl Programs {
 
     /// The name of the program that was open stands for a place.
     fn place_name(&mut self, place: u32) -> Result<(), NoMemory>
-        requires { place < length self.old.bodies.items }
         ensures { OnOk result (programs_in self.new ≡ definitions.with_name place (programs_in self.old)) }
     {
         let name = mem::replace(&mut self.name, Vec::new(self.alloc));

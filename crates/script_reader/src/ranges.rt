@@ -2,6 +2,7 @@
 
 ghost use Rattle.std.specs.Prelude.{◌≡◌, ◌≤◌, ◌<◌, ◌+◌, ◌^◌, nat_lt};
 ghost use Rattle.script_reader.specs.Faults.{Judges, too_large_if};
+ghost use Rattle.hist_model.specs.Ranges as mapped;
 ghost use Rattle.script_reader.specs.Ranges as definitions;
 
 use crate::error::Fault;
@@ -17,28 +18,28 @@ const DEFAULT: &[MapRange] = &[MapRange {
 
 /// The address behind a range.
 fn end_of(range: MapRange) -> u128
-    ensures { result ≡ definitions.end_of range }
+    ensures { result ≡ mapped.end_of range }
 {
     range.start as u128 + 4096 * (range.pages as u128)
 }
 
 /// Whether one of two ranges ends before the other begins.
 fn are_apart(range: MapRange, other: MapRange) -> bool
-    ensures { result ≡ definitions.are_apart range other }
+    ensures { result ≡ mapped.are_apart range other }
 {
     end_of(range) <= other.start as u128 || end_of(other) <= range.start as u128
 }
 
 /// Whether a range is apart from each of these.
 fn is_apart(ranges: &[MapRange], range: MapRange) -> bool
-    ensures { result ≡ definitions.is_apart ranges.now range }
+    ensures { result ≡ mapped.is_apart ranges.now range }
 {
     ranges.iter().all(|other| are_apart(range, *other))
 }
 
 /// How many pages the ranges have.
 fn pages_of(ranges: &[MapRange]) -> u128
-    ensures pages { result ≡ definitions.pages_of ranges.now }
+    ensures pages { result ≡ mapped.pages_of ranges.now }
     ensures small { result < 2 ^ 127 }
 {
     let mut pages = 0;
@@ -77,7 +78,7 @@ pub fn in_force(ranges: &[MapRange]) -> &[MapRange]
 
 /// How many of the bytes from one address up to another lie in a range.
 fn bytes_within(from: u128, to: u128, range: MapRange) -> u128
-    ensures { result ≡ definitions.bytes_within from to range }
+    ensures { result ≡ mapped.bytes_within from to range }
 {
     to.min(end_of(range))
         .saturating_sub(from.max(range.start as u128))
@@ -86,7 +87,7 @@ fn bytes_within(from: u128, to: u128, range: MapRange) -> u128
 /// How many of the bytes from one address up to another lie in the ranges.
 fn bytes_mapped(ranges: &[MapRange], from: u128, to: u128) -> u128
     requires { to ≤ from + 2 ^ 63 }
-    ensures { result ≡ definitions.bytes_mapped ranges.now from to }
+    ensures { result ≡ mapped.bytes_mapped ranges.now from to }
 {
     let mut bytes = 0;
     for range in ranges {
@@ -98,7 +99,7 @@ fn bytes_mapped(ranges: &[MapRange], from: u128, to: u128) -> u128
 /// Whether each of so many bytes from an address on is mapped, where lines map these ranges.
 pub fn are_mapped(ranges: &[MapRange], from: u64, count: usize) -> bool
     requires { count < 2 ^ 63 }
-    ensures { result ≡ definitions.are_mapped ranges.now from count }
+    ensures { result ≡ mapped.are_mapped (definitions.in_force ranges.now) from count }
 {
     let from = from as u128;
     let count = count as u128;

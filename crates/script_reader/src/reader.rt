@@ -1,10 +1,11 @@
 //! Scripts, line by line.
 
-ghost use Rattle.std.specs.Prelude.{◌≡◌, ◌≤◌, Ok, length, IfOk, IfErr};
+ghost use Rattle.std.specs.Prelude.{◌≡◌, ◌≤◌, Ok, length, IfOk, IfErr, OnOk};
 ghost use Rattle.lex_core.specs.Given.{GivesFirst};
 ghost use Rattle.script_reader.specs.Above.{nothing_above};
 ghost use Rattle.script_reader.specs.Lines.{line_statement};
 ghost use Rattle.script_reader.specs.Outcomes.{FirstRefused, GoesOn, Reads, with_reading};
+ghost use Rattle.script_reader.specs.Rules.{IsKept};
 ghost use Rattle.script_reader.specs.Scripts.{refusal, script};
 ghost use Rattle.script_reader.specs.Views.{above_in};
 ghost use Rattle.script_reader.specs.declared.error.ScriptError.TheVariants.{NoMemory};
@@ -43,7 +44,8 @@ fn next_line(lines: &mut Lines<'_>) -> Result<Option<Line>, ScriptError>
 
 /// Reads a line behind those that were read.
 fn read_line(builder: &mut Builder, line: Line) -> Result<(), ScriptError>
-    ensures { GoesOn line.number (with_reading line.number (line_statement (above_in builder.old) (Ok line.tokens)) (above_in builder.old)) result (above_in builder.new) }
+    ensures goes_on { GoesOn line.number (with_reading line.number (line_statement (above_in builder.old) (Ok line.tokens)) (above_in builder.old)) result (above_in builder.new) }
+    ensures kept { OnOk result (IsKept (above_in builder.old) → IsKept (above_in builder.new)) }
 {
     let number = line.number;
     match builder.read(line) {
@@ -56,6 +58,7 @@ fn read_line(builder: &mut Builder, line: Line) -> Result<(), ScriptError>
 /// Nothing was read.
 fn new_builder(alloc: Global) -> Result<Builder, ScriptError>
     ensures begins { IfOk result (λ b. above_in b ≡ nothing_above) }
+    ensures kept { IfOk result (λ b. IsKept (above_in b)) }
     ensures refused { IfErr result (λ e. e ≡ NoMemory) }
 {
     match Builder::new(alloc) {

@@ -6,6 +6,7 @@ ghost use Rattle.script_reader.specs.Lines as definitions;
 ghost use Rattle.script_reader.specs.Outcomes.{States};
 ghost use Rattle.script_reader.specs.Rules.{IsSound};
 ghost use Rattle.script_reader.specs.Words.{in_filter, word_of};
+ghost use Rattle.script_reader.specs.declared.word.Part.{Part};
 
 use crate::error::Fault;
 use crate::operand::operands_fault;
@@ -53,7 +54,7 @@ fn word_statement(
     operands: Vec<Token>,
 ) -> Result<Statement, OrNoMemory<Fault>>
     ensures reading { States (definitions.word_statement part base_is_stated word operands.items) result }
-    ensures sound { IfOk result (λ s. IsSound base_is_stated s) }
+    ensures sound { IfOk result (λ s. IsSound part base_is_stated s) }
 {
     if !is_in_place(part, base_is_stated, word) {
         return Err(OrNoMemory::Refused(Fault::Wrong(Reason::OutOfPlace)));
@@ -73,7 +74,7 @@ fn bytes_statement(
     operands: Vec<Token>,
 ) -> Result<Statement, OrNoMemory<Fault>>
     ensures reading { States (definitions.bytes_statement part base_is_stated (word_of bytes.now) bytes.now operands.items) result }
-    ensures sound { IfOk result (λ s. IsSound base_is_stated s) }
+    ensures sound { IfOk result (λ s. IsSound part base_is_stated s) }
 {
     match word_of(bytes) {
         Some(word) => word_statement(alloc, part, base_is_stated, word, operands),
@@ -90,7 +91,7 @@ fn token_statement(
     operands: Vec<Token>,
 ) -> Result<Statement, OrNoMemory<Fault>>
     ensures reading { States (definitions.plain_statement part base_is_stated (first.now ∷ operands.items)) result }
-    ensures sound { IfOk result (λ s. IsSound base_is_stated s) }
+    ensures sound { IfOk result (λ s. IsSound part base_is_stated s) }
 {
     match first {
         Token::Bare(bytes) => {
@@ -109,7 +110,7 @@ fn plain_statement(
     tokens: Vec<Token>,
 ) -> Result<Statement, OrNoMemory<Fault>>
     ensures reading { States (definitions.plain_statement part base_is_stated tokens.items) result }
-    ensures sound { IfOk result (λ s. IsSound base_is_stated s) }
+    ensures sound { IfOk result (λ s. IsSound part base_is_stated s) }
 {
     let mut operands = tokens;
     if operands.is_empty() {
@@ -138,7 +139,7 @@ fn ends_block(tokens: &[Token]) -> bool
 /// What a line of a filter's block states.
 fn insn_statement(line: &Line) -> Result<Statement, OrNoMemory<Fault>>
     ensures reading { States (definitions.insn_statement (insn_text line.now.tokens)) result }
-    ensures sound { IfOk result (λ s. (base_is_stated : Bool) → IsSound base_is_stated s) }
+    ensures sound { IfOk result (λ s. (p : Part) (base_is_stated : Bool) → IsSound p base_is_stated s) }
 {
     match read_text(line) {
         Ok(insn) => Ok(Statement::Insn(insn)),
@@ -161,7 +162,7 @@ pub fn read_line(
     line: Line,
 ) -> Result<Statement, OrNoMemory<Fault>>
     ensures reading { States (definitions.tokens_statement part base_is_stated line.tokens) result }
-    ensures sound { IfOk result (λ s. IsSound base_is_stated s) }
+    ensures sound { IfOk result (λ s. IsSound part base_is_stated s) }
 {
     if in_filter(part) && !ends_block(line.tokens.items()) {
         return insn_statement(&line);

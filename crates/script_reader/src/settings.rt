@@ -103,20 +103,6 @@ pub fn with_group(memory: u64, swap: u64, limits: Option<Limits>) -> Limits
     }
 }
 
-/// No figures.
-const NO_FIGURES: Figures = Figures {
-    uptime: 0,
-    used: 0,
-    shared: 0,
-    buffers: 0,
-    swap_used: 0,
-    memory: 0,
-    swap: 0,
-    host_memory: 0,
-    host_swap: 0,
-    procs: 0,
-};
-
 /// No limits.
 const NO_LIMITS: Limits = Limits {
     memory: 0,
@@ -129,7 +115,7 @@ const NO_LIMITS: Limits = Limits {
 pub fn figures_of(settings: &Settings) -> Figures
     ensures { result ≡ definitions.figures_of settings.now }
 {
-    let figures = settings.figures.unwrap_or(NO_FIGURES);
+    let figures = settings.figures.unwrap_or(Figures::NONE);
     let limits = settings.limits.unwrap_or(NO_LIMITS);
     Figures {
         memory: limits.memory,

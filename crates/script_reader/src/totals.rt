@@ -1,25 +1,10 @@
-//! What programs come to.
+//! What programs come to. A count that passes the greatest number of 64 bits stays there, far above every limit.
 
 ghost use Rattle.std.specs.Prelude.{◌≡◌};
-ghost use Rattle.script_reader.specs.Totals as definitions;
+ghost use Rattle.hist_model.specs.Totals as definitions;
 ghost use Rattle.script_reader.specs.Capped.{capped};
 
-use hist_model::script::Instr;
-
-/// What a task of a program does, with all tasks that it starts. A count that passes the greatest number of 64 bits stays
-/// there, far above every limit.
-#[derive(Clone, Copy)]
-pub struct Totals {
-    /// How many instructions are executed, the end of a program that has no `exit` among them.
-    pub executed: u64,
-    pub calls: u64,
-    /// How many tasks are started.
-    pub starts: u64,
-    /// How many bytes are stored by `poke` and `fill`.
-    pub stored: u64,
-    /// 0 where no program is started, else one more than the greatest of those that are.
-    pub depth: u64,
-}
+use hist_model::script::{Instr, Totals};
 
 /// What no instructions come to.
 pub const NOTHING: Totals = Totals {

@@ -1,7 +1,7 @@
 //! The tree that lines state.
 
 ghost use Rattle.std.specs.Prelude.{◌≡◌};
-ghost use Rattle.script_reader.specs.Tree.{is_directory};
+ghost use Rattle.hist_model.specs.TreeLines.{is_directory};
 
 use crate::error::Fault;
 use crate::fault::{full, wrong_if};

@@ -1,5 +1,5 @@
 use Rattle.std.proofs.Common.{◌≡◌, ◌*◌, ◌≤◌, take}
-use Rattle.script_reader.specs.Ranges.{bytes_mapped}
+use Rattle.hist_model.specs.Ranges.{bytes_mapped}
 use Rattle.script_reader.proofs.ranges.bytes_mapped.Given as goal
 
 abbrev pub invariant-loop-range : goal.invariant-loop-range

@@ -1,5 +1,5 @@
 use Rattle.std.proofs.Common.{◌≡◌, ◌*◌, ◌≤◌, take}
-use Rattle.script_reader.specs.Ranges.{pages_of}
+use Rattle.hist_model.specs.Ranges.{pages_of}
 use Rattle.script_reader.proofs.ranges.pages_of.Given as goal
 
 abbrev pub invariant-loop-range : goal.invariant-loop-range

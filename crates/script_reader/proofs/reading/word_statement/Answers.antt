@@ -11,4 +11,4 @@ pub returns-clause-sound : goal.returns-clause-sound
 returns-clause-sound c =
     let place : is_in_place c.args.part c.args.base_is_stated c.args.word ≡ true = grind arith in
     let fine : operands_fault c.args.word c.args.operands.items ≡ None = grind arith in
-    subst (λ s. IsSound c.args.base_is_stated s) (sym c.in_ok-statement_of.ensures) (sound_statement c.args.part c.args.base_is_stated c.args.word c.args.operands.items place fine)
+    subst (λ s. IsSound c.args.part c.args.base_is_stated s) (sym c.in_ok-statement_of.ensures) (sound_statement c.args.part c.args.base_is_stated c.args.word c.args.operands.items place fine)

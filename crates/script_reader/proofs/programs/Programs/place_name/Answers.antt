@@ -1,12 +1,7 @@
--- One more name stands for a place: the map is changed at that name alone, and the place is that of a closed program.
+-- One more name stands for a place: the map is changed at that name alone.
 use Rattle.std.proofs.Common.{◌≡◌, [], ap, ◌∙◌}
-use Rattle.script_reader.proofs.KeptRules.{name_kept}
 use Rattle.script_reader.proofs.Tables.{name_placed}
 use Rattle.script_reader.proofs.programs.Programs.place_name.Goals as goal
-
-pub invariant_of-self-clause-earlier : goal.invariant_of-self-clause-earlier
-invariant_of-self-clause-earlier c =
-    name_kept c.replace-name.result.items c.args.place c.args.self.now.places c.insert.new.self c.insert.result _ _ c.args.self.now.earlier c.requires c.insert.ensures.updates c.insert.ensures.err
 
 pub returns : goal.returns
 returns c =

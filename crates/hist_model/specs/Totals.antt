@@ -1,8 +1,9 @@
 -- What a program comes to with all that it starts.
-use Rattle.std.specs.Prelude.{ℕ, ◌+◌, max, Bool, true, false, ◌||◌, if◌then◌else◌, nat_lt, List, length, fold, slice_get, unwrap_or}
+use Rattle.std.specs.Prelude.{ℕ, ◌+◌, max, Bool, true, false, ◌||◌, if◌then◌else◌, nat_lt, List, [], ◌∷◌, ◌++◌, length, fold, slice_get, unwrap_or}
+use Rattle.std.specs.List.{list_any}
 use Rattle.hist_model.specs.declared.script.Instr.{Instr}
 use Rattle.hist_model.specs.declared.script.Instr.TheVariants.{Poke, Fill, Call, Spawn, Thread, Exit}
-use Rattle.script_reader.specs.declared.totals.Totals.{Totals}
+use Rattle.hist_model.specs.declared.script.Totals.{Totals}
 
 abbrev pub no_totals : Totals
 no_totals = record { executed = 0; calls = 0; starts = 0; stored = 0; depth = 0 }
@@ -61,3 +62,22 @@ abbrev pub are_too_many : Totals → Bool
 are_too_many totals =
     nat_lt 100000 totals.executed || nat_lt 20000 totals.calls || nat_lt 4000 totals.starts
     || nat_lt 67108864 totals.stored || nat_lt 64 totals.depth
+
+-- ---- whole programs
+
+-- the program ends by an `exit` of its own
+abbrev pub exits : List Instr → Bool
+exits body = list_any is_exit body
+
+-- what a program comes to, by what the programs written above come to
+abbrev pub program_totals : List Totals → List Instr → Totals
+program_totals above body = with_end (exits body) (totals_of above body)
+
+-- what programs come to, behind those that are written above
+abbrev pub totals_behind : List Totals → List (List Instr) → List Totals
+totals_behind above [] = above
+totals_behind above (body ∷ more) = totals_behind (above ++ program_totals above body ∷ []) more
+
+-- what each program of a script comes to
+abbrev pub totals_of_all : List (List Instr) → List Totals
+totals_of_all programs = totals_behind [] programs

@@ -1,0 +1,410 @@
+-- Lines that are accepted keep the rules of a script, and what they make is one that keeps them.
+-- By cases on the statement, of which each changes its part alone, and on the part where it stands.
+use Rattle.std.proofs.Common.{◌≡◌, ℕ, ◌+◌, ◌<◌, ◌≤◌, List, [], ◌∷◌, ◌++◌, length, Option, Some, None, refl, ap, sym, subst, arith, bytes_eq, if◌then◌else◌, unwrap_or}
+use Rattle.std.specs.Prelude.{Bool, true, false, ◌&&◌, not, nat_le, is_some}
+use Rattle.std.specs.List.{list_all}
+use Rattle.std.proofs.lemmas.Bool.{and_from, and_parts, leb-true, ltb-false, not-false, not_from_false}
+use Rattle.std.proofs.lemmas.List.Sums.{sum_by-cons}
+use Rattle.bpf_filter.proofs.Notifies.{notify_is_accepted}
+use Rattle.hist_model.specs.Filters.{notify_filter}
+use Rattle.hist_model.specs.Records.{ScriptRecord}
+use Rattle.hist_model.specs.Ranges.{is_page_address, is_range, pages_of}
+use Rattle.hist_model.specs.ScriptRules.{IsScript, has_flag_listener, is_accepted, stores_mapped}
+use Rattle.hist_model.specs.Totals.{are_too_many, is_exit}
+use Rattle.hist_model.specs.TreeLines.{is_stated_directory, nodes_of, root_alone}
+use Rattle.hist_model.specs.declared.script.FilterLine.{FilterLine}
+use Rattle.hist_model.specs.declared.script.Instr.{Instr}
+use Rattle.hist_model.specs.declared.script.MapRange.{MapRange}
+use Rattle.lex_core.specs.declared.reason.Reason.TheVariants.{Unmapped}
+use Rattle.script_reader.specs.declared.settings.Limits.{Limits}
+use Rattle.script_reader.specs.declared.settings.Settings.{Settings}
+use Rattle.script_reader.specs.declared.statement.Statement.{Statement}
+use Rattle.script_reader.specs.declared.statement.Statement.TheVariants as states
+use Rattle.script_reader.specs.declared.word.Part.{Part}
+use Rattle.script_reader.specs.declared.word.Part.TheVariants as part
+use Rattle.script_reader.specs.Faults.{wrong_if}
+use Rattle.script_reader.specs.Above.{Above, close_block, end_fault, nothing_above, part_behind, set, statement_fault, with_statement}
+use Rattle.script_reader.specs.Blocks.{FiltersState, filter_line, has_listener, with_insn}
+use Rattle.script_reader.specs.Programs.{ProgramsState, open_program, starting, with_instr, with_start}
+use Rattle.script_reader.specs.Ranges.{in_force}
+use Rattle.script_reader.specs.Rules.{FitsPart, HasNoPrograms, HasNumbers, HasPrograms, HasRanges, IsKept, IsSound, has_pages, is_found, is_sound_instruction, limits_or_none}
+use Rattle.script_reader.specs.Scripts.{has_items, script_of}
+use Rattle.script_reader.specs.Settings.{with_group}
+use Rattle.script_reader.specs.Paths.{root_path}
+use Rattle.script_reader.specs.Tree.{found_node, node_ref}
+use Rattle.script_reader.specs.Words.{among_settings, in_program}
+use Rattle.script_reader.proofs.Pushed.{any_last, none_more, none_first, none_then, not_full, not_wrong}
+use Rattle.script_reader.proofs.KeptRules.{attr_kept, descriptors_kept, directory_found, directory_kept, exit_last, exits_nowhere, filters_kept, flag_kept, instruction_kept, node_kept, program_kept, ranges_kept, schedule_kept, start_kept, starts_low}
+
+-- ---- single settings
+
+settings-kept : (A : Above) (s : Settings) → IsKept A → HasNumbers s.pidmax s.pidbase s.rlimit s.limits
+    → is_stated_directory (nodes_of A.tree.lines) (unwrap_or s.root (node_ref 0)) ≡ true → has_flag_listener s.killable A.filters.closed ≡ true → IsKept (set s A)
+settings-kept A s k numbers root killable = record {
+  settings = numbers;
+  tree = k.tree;
+  root = root;
+  descriptors = k.descriptors;
+  map = k.map;
+  filters = k.filters;
+  killable = killable;
+  programs = k.programs;
+  schedule = k.schedule;
+  block = k.block;
+}
+
+no-base : (base : Option ℕ) → is_some base ≡ false → unwrap_or base 0 ≡ 0
+no-base None h = refl
+no-base (Some n) h = cc
+
+smaller : (memory swap : ℕ) (limits : Option Limits)
+    → (limits_or_none limits).memory ≤ (limits_or_none limits).host_memory → (limits_or_none limits).swap ≤ (limits_or_none limits).host_swap
+    → ((with_group memory swap limits).memory ≤ (with_group memory swap limits).host_memory) × ((with_group memory swap limits).swap ≤ (with_group memory swap limits).host_swap)
+smaller memory swap None m s = (omega arith, omega arith)
+smaller memory swap (Some limits) m s = (omega arith, omega arith)
+
+-- ---- parts
+
+no-programs : (p : Part) (F : FiltersState) (P : ProgramsState) → among_settings p ≡ true → FitsPart p F P → HasNoPrograms P
+no-programs part.Settings F P s h = h
+no-programs part.Filter F P s h = cc
+no-programs part.Program F P s h = cc
+no-programs part.Exited F P s h = cc
+no-programs part.Programs F P s h = cc
+no-programs part.Schedule F P s h = cc
+no-programs part.Over F P s h = cc
+
+fits-settings : (p : Part) (F : FiltersState) (P : ProgramsState) → among_settings p ≡ true → HasNoPrograms P → FitsPart p F P
+fits-settings part.Settings F P s h = h
+fits-settings part.Filter F P s h = cc
+fits-settings part.Program F P s h = cc
+fits-settings part.Exited F P s h = cc
+fits-settings part.Programs F P s h = tt
+fits-settings part.Schedule F P s h = tt
+fits-settings part.Over F P s h = tt
+
+fits-insn : (p : Part) (F G : FiltersState) (P : ProgramsState) → G.closed ≡ F.closed → G.listener ≡ F.listener → FitsPart p F P → FitsPart p G P
+fits-insn part.Settings F G P c l h = h
+fits-insn part.Filter F G P c l h = rw (c, l) h
+fits-insn part.Program F G P c l h = h
+fits-insn part.Exited F G P c l h = h
+fits-insn part.Programs F G P c l h = tt
+fits-insn part.Schedule F G P c l h = tt
+fits-insn part.Over F G P c l h = tt
+
+exit-fits : (exit : Bool) (F : FiltersState) (P : ProgramsState) (i : Instr) → is_exit i ≡ exit → FitsPart part.Program F P → FitsPart (part_behind exit part.Program) F (with_instr i P)
+exit-fits true F P i e h = (any_last is_exit P.body i e, exit_last P.body i h.0, h.1)
+exit-fits false F P i e h = (none_more is_exit P.body i h.0 e, h.1)
+
+does-fits : (p : Part) (F : FiltersState) (P : ProgramsState) (i : Instr) → in_program p ≡ true → FitsPart p F P → FitsPart (part_behind (is_exit i) p) F (with_instr i P)
+does-fits part.Program F P i s h = exit-fits (is_exit i) F P i refl h
+does-fits part.Settings F P i s h = cc
+does-fits part.Filter F P i s h = cc
+does-fits part.Exited F P i s h = cc
+does-fits part.Programs F P i s h = cc
+does-fits part.Schedule F P i s h = cc
+does-fits part.Over F P i s h = cc
+
+starts-no-exit : (thread : Bool) (place : ℕ) → is_exit (starting thread place) ≡ false
+starts-no-exit true place = refl
+starts-no-exit false place = refl
+
+starts-fits : (p : Part) (F : FiltersState) (P : ProgramsState) (thread : Bool) (name : List ℕ) → in_program p ≡ true → FitsPart p F P → FitsPart p F (with_start thread name P)
+starts-fits part.Program F P thread name s h = (none_more is_exit P.body _ h.0 (starts-no-exit thread _), h.1)
+starts-fits part.Settings F P thread name s h = cc
+starts-fits part.Filter F P thread name s h = cc
+starts-fits part.Exited F P thread name s h = cc
+starts-fits part.Programs F P thread name s h = cc
+starts-fits part.Schedule F P thread name s h = cc
+starts-fits part.Over F P thread name s h = cc
+
+-- ---- one more statement
+
+filter-kept : (p : Part) (A : Above) (f : FilterLine) → IsKept A → is_accepted f ≡ true → length A.filters.closed < 16
+    → (f.listener && has_listener A.filters) ≡ false → HasNoPrograms A.programs → (G : FiltersState) → G.closed ≡ A.filters.closed ++ f ∷ []
+    → FitsPart p G A.programs → IsKept (record A { part = p; filters = G })
+filter-kept p A f k accepted few alone none G e fits = record {
+  settings = k.settings;
+  tree = k.tree;
+  root = k.root;
+  descriptors = k.descriptors;
+  map = k.map;
+  filters = rw e (filters_kept A.filters.closed f k.filters accepted few alone);
+  killable = rw e (flag_kept A.settings.killable A.filters.closed f k.killable);
+  programs = k.programs;
+  schedule = k.schedule;
+  block = fits;
+}
+
+programs-kept : (p : Part) (A : Above) (P : ProgramsState) → IsKept A → HasPrograms (in_force A.map) P → FitsPart p A.filters P → IsKept (record A { part = p; programs = P })
+programs-kept p A P k programs fits = record {
+  settings = k.settings;
+  tree = k.tree;
+  root = k.root;
+  descriptors = k.descriptors;
+  map = k.map;
+  filters = k.filters;
+  killable = k.killable;
+  programs = programs;
+  schedule = k.schedule;
+  block = fits;
+}
+
+opened : (map : List MapRange) (P : ProgramsState) (name : List ℕ) → HasPrograms map P → HasPrograms map (open_program name P)
+opened map P name h = record {
+  earlier = h.earlier;
+  instructions = h.instructions;
+  mapped = h.mapped;
+  exits = h.exits;
+  few = h.few;
+  counted = h.counted;
+  totals = h.totals;
+  current = refl;
+  named = h.named;
+}
+
+-- without programs any map will do
+remapped : (map other : List MapRange) (P : ProgramsState) → HasPrograms map P → HasNoPrograms P → HasPrograms other P
+remapped map other P h none = record {
+  earlier = h.earlier;
+  instructions = h.instructions;
+  mapped = subst (λ bodies. list_all (list_all (stores_mapped other)) bodies ≡ true) (sym none.0) refl;
+  exits = h.exits;
+  few = h.few;
+  counted = h.counted;
+  totals = h.totals;
+  current = subst (λ body. list_all (is_sound_instruction other (length P.bodies)) body ≡ true) (sym none.1) refl;
+  named = h.named;
+}
+
+end-kept : (p : Part) (A : Above) → IsKept A → FitsPart p A.filters A.programs → end_fault p A ≡ None → IsKept (close_block p A)
+end-kept part.Filter A k fits fine =
+    filter-kept part.Settings A (filter_line A.filters.insns A.filters.listener) k (not_from_false _ (not_wrong _ _ fine)) fits.1 fits.2 fits.0 _ refl fits.0
+end-kept part.Program A k fits fine =
+    programs-kept part.Programs A _ k (program_kept (in_force A.map) false A.programs k.programs fits.0 (exits_nowhere A.programs.body fits.0) fits.1 fine) tt
+end-kept part.Exited A k fits fine =
+    programs-kept part.Programs A _ k (program_kept (in_force A.map) true A.programs k.programs fits.0 fits.1 fits.2 fine) tt
+end-kept part.Schedule A k fits fine = programs-kept part.Over A A.programs k k.programs tt
+end-kept part.Settings A k fits fine = k
+end-kept part.Programs A k fits fine = k
+end-kept part.Over A k fits fine = k
+
+instr-mapped : (map : List MapRange) (i : Instr) → wrong_if (not (stores_mapped map i)) Unmapped ≡ None → stores_mapped map i ≡ true
+instr-mapped map i h = not-false _ (not_wrong _ _ h)
+
+statement-kept : (s : Statement) (A : Above) → IsKept A → IsSound A.part (is_some A.settings.pidbase) s → statement_fault s A ≡ None → IsKept (with_statement s A)
+statement-kept (states.Pidmax n) A k sound fine =
+    let none : unwrap_or A.settings.pidbase 0 ≡ 0 = no-base _ sound.0 in
+    settings-kept A _ k (record { numbers = sound.1; pids = omega (arith, none, sound.2); rlimit = k.settings.rlimit; memory = k.settings.memory; swap = k.settings.swap }) k.root k.killable
+statement-kept (states.Pidbase n) A k sound fine =
+    settings-kept A _ k (record { numbers = k.settings.numbers; pids = ltb-false _ _ (not_wrong _ _ (none_first _ _ fine)); rlimit = k.settings.rlimit; memory = k.settings.memory; swap = k.settings.swap }) k.root k.killable
+statement-kept (states.Firstid n) A k sound fine = settings-kept A _ k k.settings k.root k.killable
+statement-kept (states.Rlimit n) A k sound fine =
+    settings-kept A _ k (record { numbers = k.settings.numbers; pids = k.settings.pids; rlimit = sound; memory = k.settings.memory; swap = k.settings.swap }) k.root k.killable
+statement-kept states.Killable A k sound fine = settings-kept A _ k k.settings k.root (not-false _ (not_wrong _ _ (none_then _ _ fine)))
+statement-kept (states.Node path kind) A k sound fine = record {
+  settings = k.settings;
+  tree = node_kept A.tree path kind k.tree fine sound;
+  root = directory_kept A.tree.lines _ _ k.root;
+  descriptors = k.descriptors;
+  map = k.map;
+  filters = k.filters;
+  killable = k.killable;
+  programs = k.programs;
+  schedule = k.schedule;
+  block = k.block;
+}
+statement-kept (states.Attr path name value) A k sound fine = record {
+  settings = k.settings;
+  tree = attr_kept A.tree path name value k.tree fine sound.0 sound.1;
+  root = directory_kept A.tree.lines _ _ k.root;
+  descriptors = k.descriptors;
+  map = k.map;
+  filters = k.filters;
+  killable = k.killable;
+  programs = k.programs;
+  schedule = k.schedule;
+  block = k.block;
+}
+statement-kept (states.Root path) A k sound fine =
+    settings-kept A _ k k.settings (directory_found A.tree path k.tree (not-false _ (not_wrong _ _ (none_first _ _ fine)))) k.killable
+statement-kept (states.Broker n) A k sound fine = record {
+  settings = k.settings;
+  tree = k.tree;
+  root = k.root;
+  descriptors = descriptors_kept A.broker n k.descriptors fine sound;
+  map = k.map;
+  filters = k.filters;
+  killable = k.killable;
+  programs = k.programs;
+  schedule = k.schedule;
+  block = k.block;
+}
+statement-kept (states.Map range) A k sound fine = record {
+  settings = k.settings;
+  tree = k.tree;
+  root = k.root;
+  descriptors = k.descriptors;
+  map = ranges_kept A.map range k.map fine sound.1;
+  filters = k.filters;
+  killable = k.killable;
+  programs = remapped _ _ A.programs k.programs (no-programs A.part A.filters A.programs sound.0 k.block);
+  schedule = k.schedule;
+  block = k.block;
+}
+statement-kept (states.Cgroup memory swap) A k sound fine =
+    let limits = smaller memory swap A.settings.limits k.settings.memory k.settings.swap in
+    settings-kept A _ k (record { numbers = k.settings.numbers; pids = k.settings.pids; rlimit = k.settings.rlimit; memory = limits.0; swap = limits.1 }) k.root k.killable
+statement-kept (states.Figures figures) A k sound fine = settings-kept A _ k k.settings k.root k.killable
+statement-kept (states.Notify calls) A k sound fine =
+    let none = no-programs A.part A.filters A.programs sound.0 k.block in
+    filter-kept A.part A (filter_line (notify_filter calls) true) k (ap (λ fault. not (is_some fault)) (notify_is_accepted calls sound.1))
+    (not_full _ _ (none_then _ _ fine)) (not_wrong _ _ (none_first _ _ fine)) none _ refl (fits-settings A.part _ A.programs sound.0 none)
+statement-kept (states.Filter listener) A k sound fine = record {
+  settings = k.settings;
+  tree = k.tree;
+  root = k.root;
+  descriptors = k.descriptors;
+  map = k.map;
+  filters = k.filters;
+  killable = k.killable;
+  programs = k.programs;
+  schedule = k.schedule;
+  block = (no-programs A.part A.filters A.programs sound k.block, not_full _ _ (none_then _ _ fine), not_wrong _ _ (none_first _ _ fine));
+}
+statement-kept (states.Insn i) A k sound fine = record {
+  settings = k.settings;
+  tree = k.tree;
+  root = k.root;
+  descriptors = k.descriptors;
+  map = k.map;
+  filters = k.filters;
+  killable = k.killable;
+  programs = k.programs;
+  schedule = k.schedule;
+  block = fits-insn A.part A.filters (with_insn i A.filters) A.programs refl refl k.block;
+}
+statement-kept (states.Prog name) A k sound fine =
+    programs-kept part.Program A _ k (opened (in_force A.map) A.programs name k.programs) (refl, not_full _ _ (none_then _ _ fine))
+statement-kept (states.Does i) A k sound fine =
+    programs-kept _ A _ k
+    (instruction_kept (in_force A.map) A.programs i k.programs
+    (and_from _ _ (starts_low _ i sound.1) (and_from _ _ sound.2 (instr-mapped (in_force A.map) i fine))))
+    (does-fits A.part A.filters A.programs i sound.0 k.block)
+statement-kept (states.Starts thread name) A k sound fine =
+    programs-kept A.part A _ k (start_kept (in_force A.map) A.programs thread name k.programs fine) (starts-fits A.part A.filters A.programs thread name sound k.block)
+statement-kept states.Schedule A k sound fine = programs-kept part.Schedule A A.programs k k.programs tt
+statement-kept (states.Takes step) A k sound fine = record {
+  settings = k.settings;
+  tree = k.tree;
+  root = k.root;
+  descriptors = k.descriptors;
+  map = k.map;
+  filters = k.filters;
+  killable = k.killable;
+  programs = k.programs;
+  schedule = schedule_kept A.schedule step k.schedule fine sound.0 sound.1;
+  block = k.block;
+}
+statement-kept states.End A k sound fine = end-kept A.part A k k.block fine
+
+-- the number of the line that opened a block is no rule's
+numbered : (n : ℕ) (A : Above) → IsKept A → IsKept (record A { opened = n })
+numbered n A k = record {
+  settings = k.settings;
+  tree = k.tree;
+  root = k.root;
+  descriptors = k.descriptors;
+  map = k.map;
+  filters = k.filters;
+  killable = k.killable;
+  programs = k.programs;
+  schedule = k.schedule;
+  block = k.block;
+}
+
+-- one more line that is accepted, whichever line opened its block
+pub line_kept : (n : ℕ) (s : Statement) (A B : Above) → statement_fault s A ≡ None → B ≡ with_statement s A
+    → IsSound A.part (is_some A.settings.pidbase) s → IsKept A → IsKept (record B { opened = n })
+line_kept n s A B fine e sound k = subst (λ (B : Above). IsKept (record B { opened = n })) (sym e) (numbered n (with_statement s A) (statement-kept s A k sound fine))
+
+-- ---- the first line, and the last
+
+root-found : (same : Bool) → is_found root_alone (if same then Some (found_node 0 true) else None) ≡ true
+root-found true = refl
+root-found false = refl
+
+nothing-kept : IsKept nothing_above
+nothing-kept = record {
+  settings = record { numbers = omega arith; pids = omega arith; rlimit = omega arith; memory = omega arith; swap = omega arith };
+  tree = record { lines = refl; few = omega arith; nodes = refl; found = λ path. root-found (bytes_eq root_path path) };
+  root = refl;
+  descriptors = record { range = refl; once = refl; few = omega arith };
+  map = record { ranges = refl; apart = refl; few = omega arith };
+  filters = record { accepted = refl; few = omega arith; listener = omega arith };
+  killable = refl;
+  programs = record { earlier = refl; instructions = refl; mapped = refl; exits = refl; few = omega arith; counted = refl; totals = refl; current = refl; named = λ name. refl };
+  schedule = record { counted = refl; few = omega arith; scheduled = refl; counts = refl };
+  block = (refl, refl);
+}
+
+pub first_kept : (A : Above) → A ≡ nothing_above → IsKept A
+first_kept A e = rw e nothing-kept
+
+-- the map that is in force, with a page at least
+ranges-in-force : (map : List MapRange) → HasRanges map → HasRanges (in_force map)
+ranges-in-force [] h = record { ranges = refl; apart = refl; few = omega arith }
+ranges-in-force (range ∷ map) h = h
+
+first-page : (range : MapRange) (map : List MapRange) → list_all is_range (range ∷ map) ≡ true → 1 ≤ pages_of (range ∷ map)
+first-page range map h =
+    let pages : has_pages range ≡ true = (and_parts (has_pages range) _ (and_parts (is_range range) (list_all is_range map) h).0).0 in
+    let one : 1 ≤ range.pages = leb-true 1 range.pages (and_parts (is_page_address range.start) (nat_le 1 range.pages) (and_parts (is_page_address range.start && nat_le 1 range.pages) (nat_le range.pages 64) pages).0).1 in
+    let sum : pages_of (range ∷ map) ≡ range.pages + pages_of map = sum_by-cons _ range map in
+    omega arith
+
+page-in-force : (map : List MapRange) → HasRanges map → 1 ≤ pages_of (in_force map)
+page-in-force [] h = omega arith
+page-in-force (range ∷ map) h = first-page range map h.ranges
+
+some-program : {T : Type 0} (bodies : List T) → has_items bodies ≡ true → 1 ≤ length bodies
+some-program [] h = cc
+some-program (body ∷ bodies) h = omega arith
+
+script-kept : (A : Above) → IsKept A → has_items A.programs.bodies ≡ true → IsScript (script_of A)
+script-kept A k some =
+    let ranges = ranges-in-force A.map k.map in
+    record {
+      numbers = k.settings.numbers;
+      pids = k.settings.pids;
+      rlimit = k.settings.rlimit;
+      memory = k.settings.memory;
+      swap = k.settings.swap;
+      tree = k.tree.lines;
+      few_lines = k.tree.few;
+      root = k.root;
+      descriptors = k.descriptors.range;
+      once = k.descriptors.once;
+      few_descriptors = k.descriptors.few;
+      map = ranges.ranges;
+      apart = ranges.apart;
+      some_page = page-in-force A.map k.map;
+      few_pages = ranges.few;
+      filters = k.filters.accepted;
+      few_filters = k.filters.few;
+      listener = k.filters.listener;
+      killable = k.killable;
+      some_program = some-program A.programs.bodies some;
+      few_programs = k.programs.few;
+      programs = k.programs.earlier;
+      instructions = k.programs.instructions;
+      mapped = k.programs.mapped;
+      exits = k.programs.exits;
+      totals = subst (λ totals. list_all (λ t. not (are_too_many t)) totals ≡ true) k.programs.counted k.programs.totals;
+      schedule = k.schedule.scheduled;
+      counts = k.schedule.counts;
+      steps = rw k.schedule.counted k.schedule.few;
+    }
+
+pub script_made : (A : Above) (S : ScriptRecord) → S ≡ script_of A → IsKept A → has_items A.programs.bodies ≡ true → IsScript S
+script_made A S e k some = rw e (script-kept A k some)
