@@ -1,24 +1,25 @@
 -- A queue without calls, one whose room has changed, and one with a call more.
 -- By cases on whether a number is the new call's, with the lemmas of `Found`, `Kept` and `Orderly`.
 use Rattle.std.proofs.Common.{◌≡◌, inl, inr, ℕ, ◌+◌, ◌<◌, ◌%◌, ◌^◌, true, false, List, [], ◌∷◌, length, get_or, Option, Some, None, refl, sym, ap, ◌∙◌, arith}
-use Rattle.std.specs.Prelude.{nat_lt}
+use Rattle.std.specs.Prelude.{◌↔◌, nat_lt}
 use Rattle.std.proofs.lemmas.Bool.{cases_eq, le-ltb}
 use Rattle.hist_model.specs.Look.{Name, task_name}
 use Rattle.hist_model.specs.Kinds.{makes, notifies}
-use Rattle.hist_model.specs.Calls.{caller, listed, some_sends, calls, recvs, unlists}
+use Rattle.hist_model.specs.Calls.{caller, id, is_call, listed, some_sends, calls, recvs, unlists}
 use Rattle.hist_model.specs.declared.event.Event.{Event}
 use Rattle.hist_model.specs.declared.request.TaskRef.{TaskRef}
 use Rattle.hist_model.proofs.Look.{event_at-here}
 use Rattle.history_frames.specs.Ordinals.{count_of, nth_of}
 use Rattle.history_frames.proofs.Ordinals.{place-new, place-old, place-below, name-older}
-use Rattle.history_frames.proofs.Listed.{IsCalm, listed-here, listed-cases, calls-count, calls-more, recvs-same, fetched-same, fetched-new, queue-same, queue-new, settled-new}
+use Rattle.history_frames.proofs.Listed.{IsCalm, listed-here, listed-cases, calls-count, call-number, calls-more, recvs-same, fetched-same, fetched-new, queue-same, queue-new, settled-new}
 use Rattle.notif_queue.specs.declared.queue.Call.{Call}
 use Rattle.notif_queue.specs.declared.queue.Queue.{Queue}
 use Rattle.notif_queue.specs.Table.{in_slot, call_found, SameCalls}
 use Rattle.notif_queue.specs.Entries.{slot_of}
 use Rattle.notif_queue.specs.Stands.{IsCall, IsOrderly, StandsFor, IsEntry}
 use Rattle.notif_queue.proofs.Found.{IsChanged, nothing-found, nothing-apart, nothing-filled}
-use Rattle.notif_queue.proofs.Kept.{IsQuiet, quiet-calm, calm-same, reply-kept, call-kept, slot-kept, once-same}
+use Rattle.notif_queue.proofs.Kept.{IsQuiet, quiet-calm, calm-same, reply-kept, unseen-kept, call-kept, slot-kept, once-same}
+use Rattle.notif_queue.proofs.Named.{mod-back, number-few}
 use Rattle.notif_queue.proofs.Orderly.{orderly-more}
 
 orderly-nil : (first : ℕ) → IsOrderly first []
@@ -68,6 +69,24 @@ stands-same first K old new h S =
       slots = λ c q. let s = S.slots c q in record { number = s.number; at = s.at; row = s.row; found = f s.number ∙ s.found };
       orderly = S.orderly;
     }
+
+-- all but the room is as before, read backwards
+pub same-back : (old new : Queue) → SameCalls old new → SameCalls new old
+same-back old new h = record {
+  slots = sym h.slots;
+  order = sym h.order;
+  counts = record { first = sym h.counts.first; entered = sym h.counts.entered; fetched = sym h.counts.fetched; received = sym h.counts.received };
+}
+
+pub stands-room : (first : ℕ) (K : List Event) (old new : Queue) → SameCalls old new → StandsFor first K old ↔ StandsFor first K new
+stands-room first K old new h = (stands-same first K old new h, stands-same first K new old (same-back old new h))
+
+-- the id of the next call is no earlier call's
+pub id-fresh : (first : ℕ) (K : List Event) (Q : Queue) (c : ℕ) → StandsFor first K Q → is_call K c ≡ true → id K c ≡ (first + calls K) % 2 ^ 64 → ⊥
+id-fresh first K Q c S h q =
+    let n = call-number K c h in
+    let i = S.orderly.ids n.0 c n.1 in
+    omega (arith, mod-back first n.0 S.first_fits (number-few first K n.0 c S.orderly n.1), mod-back first (calls K) S.first_fits S.orderly.few, (place-below notifies K n.0 c n.1).0, calls-count K, sym i ∙ q)
 
 entry-quiet : (K : List Event) (e : Event) (t : TaskRef) (x : ℕ) → IsEntry K e t x → IsQuiet e.what
 entry-quiet K e t x i = let q = i.is in record { no_send = λ K c. rw q; no_put = λ K c. rw q; no_install = rw q }
@@ -139,10 +158,11 @@ stands-enter first K e old new t x S i id_is ch room f n s r = record {
       };
       fetched_is = fetched-new e K ∙ sym (le-ltb old.order.entered new.fetched (omega (arith, s, S.fetched_fits, S.entered_is)));
       reply_is = record { unsettled = settled-new e K; unasked = ap (some_sends (e ∷ K)) (queue-new e K) };
+      unseen = λ h. refl;
     }
 
     older : (m : ℕ) (q : Call) → call_found old m ≡ Some q → IsCall (e ∷ K) new.fetched m q
     older m q h =
         let c = S.rows m q h in
         call-kept e K old.fetched new.fetched m q q c (off (caller K c.place)) refl
-        (fetched-same e K c.place (rw i.is) ∙ (c.fetched_is ∙ sym (ap (nat_lt m) s))) (reply-kept e K c.place q.reply (calm-same e K c.place (calm c.place)) c.reply_is)
+        (fetched-same e K c.place (rw i.is) ∙ (c.fetched_is ∙ sym (ap (nat_lt m) s))) (reply-kept e K c.place q.reply (calm-same e K c.place (calm c.place)) c.reply_is) (unseen-kept e K old.fetched m q c)

@@ -1,14 +1,12 @@
 -- A listed call, with its answer, after an event that leaves it on the list.
 -- By cases on the reply, induction on the requests, and the lemmas of `history_frames` on one more event.
-use Rattle.std.proofs.Common.{◌≡◌, inl, inr, ℕ, ◌<◌, true, false, ◌&&◌, List, [], ◌∷◌, ◌++◌, length, Option, Some, None, refl, sym, ap, ◌∙◌, arith}
-use Rattle.std.specs.Prelude.{nat_lt, pos}
-use Rattle.std.proofs.lemmas.Bool.{cases_lt, both_ways, and_parts, eqb-true, false_from_ne_true, or_left}
+use Rattle.std.proofs.Common.{◌≡◌, inl, inr, ℕ, ◌<◌, true, false, List, [], ◌∷◌, ◌++◌, length, Option, Some, None, refl, sym, ap, ◌∙◌, arith}
+use Rattle.std.specs.Prelude.{nat_lt}
+use Rattle.std.proofs.lemmas.Bool.{both_ways, false_from_ne_true}
 use Rattle.hist_model.specs.Look.{Name}
 use Rattle.hist_model.specs.Kinds.{makes, notifies, leaves, closes, is_install, receives}
-use Rattle.hist_model.specs.Calls.{caller, id, listed, fetched, fetches, unlists, queue, answers, puts_to, installs_for, settles, some_sends, first_sends, is_send, rest_of, calls, recvs}
-use Rattle.hist_model.specs.Steps.{call_at, is_first}
+use Rattle.hist_model.specs.Calls.{caller, id, listed, fetched, fetches, unlists, queue, answers, puts_to, settles, some_sends, first_sends, is_send, rest_of, calls, recvs}
 use Rattle.hist_model.specs.declared.event.Back.{Back}
-use Rattle.hist_model.specs.declared.event.Back.TheVariants.{Value as BackValue}
 use Rattle.hist_model.specs.declared.event.Event.{Event}
 use Rattle.hist_model.specs.declared.event.What.{What}
 use Rattle.hist_model.specs.declared.notification.Reply.{Reply}
@@ -16,12 +14,11 @@ use Rattle.hist_model.specs.declared.notification.Reply.TheVariants.{Value, Fail
 use Rattle.hist_model.specs.declared.request.TaskRef.{TaskRef}
 use Rattle.hist_model.proofs.Look.{event_at-older}
 use Rattle.history_frames.proofs.Ordinals.{place-old, place-below, name-older}
-use Rattle.history_frames.proofs.Listed.{Below, IsCalm, listed-below, listed-cases, listed-stays, calls-same, recvs-same, fetched-same, caller-older, number-older, queue-below, queue-same, sends-older, settled-same, reply-same, calm-settles}
-use Rattle.history_frames.proofs.Queued.{call-older, call-above, install-same}
+use Rattle.history_frames.proofs.Listed.{Below, IsCalm, listed-below, listed-cases, listed-stays, calls-same, recvs-same, fetched-same, fetched-more, caller-older, number-older, queue-below, queue-same, sends-older, settled-same, reply-same, calm-settles}
 use Rattle.notif_queue.specs.declared.queue.Call.{Call}
 use Rattle.notif_queue.specs.declared.queue.Queue.{Queue}
 use Rattle.notif_queue.specs.Table.{call_found, SameCounts}
-use Rattle.notif_queue.specs.Stands.{IsSettled, IsInstalled, IsReply, IsOwner, IsCall, HasSlot, SendsOnce, AreApart, AreFilled, StandsFor}
+use Rattle.notif_queue.specs.Stands.{IsSettled, IsReply, IsOwner, IsCall, HasSlot, SendsOnce, AreApart, AreFilled, StandsFor}
 use Rattle.notif_queue.proofs.Orderly.{orderly-more}
 
 -- the event changes no answer of the call, and not whether a request with SEND waits
@@ -42,40 +39,16 @@ settled-kept e K c back s h = record {
   returns = reply-same e K c s.unsettled ∙ h.returns;
 }
 
-request-below : (K : List Event) (r c : ℕ) → call_at K r ≡ Some c → r < length K
-request-below K r c q = elim (cases_lt r (length K)) [
-  | inl l ↦ l
-  | inr l ↦ let z : None ≡ Some c = sym (call-above K r l) ∙ q in cc
-]
-
--- what was installed stays, since no request with SEND waits
-installed-kept : (e : Event) (K : List Event) (c n : ℕ) → IsSame K e c → IsInstalled K c n → IsInstalled (e ∷ K) c n
-installed-kept e K c n s h =
-    let l = request-below K h.request c h.for in
-    record {
-      settled_is = settled-kept e K c (BackValue (pos n)) s h.settled_is;
-      request = h.request;
-      for = call-older e K h.request l ∙ h.for;
-      sends = rw (event_at-older e K h.request l) h.sends;
-      gave = install-same e K c h.request h.for (false_from_ne_true (installs_for K e c && is_first (queue K c) h.request) (λ q. again (queue K c) (and_parts (installs_for K e c) (is_first (queue K c) h.request) q).1 h.settled_is.unasked)) ∙ h.gave;
-    }
-  where
-    again : (rs : List ℕ) → is_first rs h.request ≡ true → some_sends K rs ≡ false → ⊥
-    again [] q u = cc
-    again (r ∷ rs) q u =
-        let e : r ≡ h.request = eqb-true r h.request q in
-        let f : is_send K r ≡ true = ap (is_send K) e ∙ h.sends in
-        both_ways (some_sends K (r ∷ rs)) u (or_left (is_send K r) (some_sends K rs) f)
-
 pub reply-kept : (e : Event) (K : List Event) (c : ℕ) (x : Option Reply) → IsSame K e c → IsReply K c x → IsReply (e ∷ K) c x
 reply-kept e K c None s h = record { unsettled = settled-same e K c s.unsettled ∙ h.unsettled; unasked = s.sends ∙ h.unasked }
 reply-kept e K c (Some (Value v)) s h = settled-kept e K c _ s h
 reply-kept e K c (Some (Fail v)) s h = settled-kept e K c _ s h
 reply-kept e K c (Some Continue) s h = settled-kept e K c _ s h
-reply-kept e K c (Some Installing) s h = elim h [
-  | inl a ↦ inl (record { unsettled = settled-same e K c s.unsettled ∙ a.unsettled; asked = s.sends ∙ a.asked })
-  | inr a ↦ inr (a.0, installed-kept e K c a.0 s a.1)
-]
+reply-kept e K c (Some Installing) s h = record { unsettled = settled-same e K c s.unsettled ∙ h.unsettled; asked = s.sends ∙ h.asked }
+
+-- a call that isn't received yet wasn't before, so it has no reply
+pub unseen-kept : (e : Event) (K : List Event) (seen n : ℕ) (r : Call) (i : IsCall K seen n r) → fetched (e ∷ K) i.place ≡ false → r.reply ≡ None
+unseen-kept e K seen n r i f = i.unseen (false_from_ne_true (fetched K i.place) (λ z. both_ways (fetched (e ∷ K) i.place) f (fetched-more e K i.place z)))
 
 pub owner-kept : (e : Event) (K : List Event) (c : ℕ) (t : TaskRef) → c < length K → IsOwner K c t → IsOwner (e ∷ K) c t
 owner-kept e K c t l h =
@@ -83,14 +56,15 @@ owner-kept e K c t l h =
     record { place = h.place; at = place-old makes e K t.ordinal b.0 ∙ h.at; name_is = name-older e K h.place b.1 ∙ (h.name_is ∙ sym (caller-older e K c l)) }
 
 pub call-kept : (e : Event) (K : List Event) (seen now n : ℕ) (r q : Call) (i : IsCall K seen n r) → unlists e (caller K i.place) ≡ false → q.owner ≡ r.owner
-    → fetched (e ∷ K) i.place ≡ nat_lt n now → IsReply (e ∷ K) i.place q.reply → IsCall (e ∷ K) now n q
-call-kept e K seen now n r q i u o f a = record {
+    → fetched (e ∷ K) i.place ≡ nat_lt n now → IsReply (e ∷ K) i.place q.reply → (fetched (e ∷ K) i.place ≡ false → q.reply ≡ None) → IsCall (e ∷ K) now n q
+call-kept e K seen now n r q i u o f a h = record {
   place = i.place;
   at = number-older e K n i.place i.at;
   on = listed-stays e K i.place i.on u;
   owner_is = rw o (owner-kept e K i.place r.owner (listed-below K i.place i.on) i.owner_is);
   fetched_is = f;
   reply_is = a;
+  unseen = h;
 }
 
 pub slot-kept : (e : Event) (K : List Event) (old new : Queue) (c : ℕ) (h : HasSlot K old c) (r : Call) → call_found new h.number ≡ Some r → HasSlot (e ∷ K) new c
@@ -155,7 +129,7 @@ pub record IsAnswered (K : List Event) (e : Event) (old new : Queue) : Type 0 wh
   pub counts : SameCounts old new
   pub apart : AreApart new
   pub filled : AreFilled new
-  pub back : (n : ℕ) (q : Call) → call_found new n ≡ Some q → (r : Call) × (call_found old n ≡ Some r) × (q.owner ≡ r.owner) × ((i : IsCall K old.fetched n r) → IsReply (e ∷ K) i.place q.reply)
+  pub back : (n : ℕ) (q : Call) → call_found new n ≡ Some q → (r : Call) × (call_found old n ≡ Some r) × (q.owner ≡ r.owner) × ((i : IsCall K old.fetched n r) → IsReply (e ∷ K) i.place q.reply × (fetched (e ∷ K) i.place ≡ false → q.reply ≡ None))
   pub on : (n : ℕ) (r : Call) → call_found old n ≡ Some r → (q : Call) × (call_found new n ≡ Some q)
   pub sends : (c : ℕ) → listed K c ≡ true → SendsOnce (e ∷ K) (queue (e ∷ K) c)
 
@@ -171,7 +145,8 @@ stands-inner first K e old new S w a = record {
   rows = λ n q f.
       let b = a.back n q f in
       let i = S.rows n b.0 b.1 in
-      call-kept e K old.fetched new.fetched n b.0 q i (off (caller K i.place)) b.2 (fetched-same e K i.place (w.no_fetch (id K i.place)) ∙ (i.fetched_is ∙ sym (ap (nat_lt n) a.counts.fetched))) (b.3 i);
+      let h = b.3 i in
+      call-kept e K old.fetched new.fetched n b.0 q i (off (caller K i.place)) b.2 (fetched-same e K i.place (w.no_fetch (id K i.place)) ∙ (i.fetched_is ∙ sym (ap (nat_lt n) a.counts.fetched))) h.0 h.1;
   slots = λ c h. elim (listed-cases e K c h) [
     | inl p ↦ absurd (both_ways (notifies e.what) w.no_enter p.1)
     | inr p ↦ let s = S.slots c p.1 in let q = a.on s.number s.row s.found in slot-kept e K old new c s q.0 q.1

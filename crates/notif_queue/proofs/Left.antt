@@ -20,7 +20,7 @@ use Rattle.notif_queue.specs.Entries.{slot_of, without}
 use Rattle.notif_queue.specs.Table.{call_found, number_of, SameCounts}
 use Rattle.notif_queue.specs.Stands.{AreApart, AreFilled, IsCall, IsOrderly, HasSlot, StandsFor, IsLeaving, IsOutside}
 use Rattle.notif_queue.proofs.Found.{IsChanged, changed-take, nothing-found, nothing-apart, nothing-filled}
-use Rattle.notif_queue.proofs.Kept.{IsQuiet, quiet-calm, calm-same, reply-kept, call-kept, slot-kept, once-same}
+use Rattle.notif_queue.proofs.Kept.{IsQuiet, quiet-calm, calm-same, reply-kept, unseen-kept, call-kept, slot-kept, once-same}
 use Rattle.notif_queue.proofs.Named.{row-named}
 use Rattle.notif_queue.proofs.Orderly.{orderly-more}
 
@@ -78,7 +78,7 @@ stands-off first K e old new S w k = record {
       let b = k.back n r f in
       let i = S.rows n r b.0 in
       call-kept e K old.fetched new.fetched n r r i (b.1 i) refl (fetched-same e K i.place (w.no_fetch (id K i.place)) ∙ (i.fetched_is ∙ sym (ap (nat_lt n) k.counts.fetched)))
-      (reply-kept e K i.place r.reply (calm-same e K i.place (quiet-calm e K i.place w.quiet)) i.reply_is);
+      (reply-kept e K i.place r.reply (calm-same e K i.place (quiet-calm e K i.place w.quiet)) i.reply_is) (unseen-kept e K old.fetched n r i);
   slots = λ c h. elim (listed-cases e K c h) [
     | inl p ↦ absurd (both_ways (notifies e.what) w.no_enter p.1)
     | inr p ↦ let s = S.slots c p.1 in slot-kept e K old new c s s.row (k.on c p.1 p.2 s)

@@ -8,3 +8,4 @@ pub mod Received
 pub mod Replies
 pub mod Left
 pub mod Others
+pub mod Waiting

@@ -2,8 +2,9 @@
 -- By arithmetic modulo 2 ^ 64 on ids and numbers, and by cases on the call found and on its reply.
 use Rattle.std.proofs.Common.{◌≡◌, inl, inr, ℕ, ◌+◌, ◌-◌, ◌<◌, ◌%◌, ◌^◌, Bool, true, false, not, List, Option, Some, None, refl, sym, ap, subst, ◌∙◌, arith}
 use Rattle.std.specs.Prelude.{nat_lt, if◌then◌else◌}
+use Rattle.std.proofs.lemmas.Bool.{cases_Bool, both_ways}
 use Rattle.hist_model.specs.Kinds.{notifies}
-use Rattle.hist_model.specs.Calls.{id, listed, named, answered, state, state_at}
+use Rattle.hist_model.specs.Calls.{id, listed, fetched, named, answered, state, state_at}
 use Rattle.hist_model.specs.declared.event.Event.{Event}
 use Rattle.hist_model.specs.declared.notification.Reply.{Reply}
 use Rattle.hist_model.specs.declared.notification.Reply.TheVariants.{Value, Fail, Continue, Installing}
@@ -15,13 +16,13 @@ use Rattle.notif_queue.specs.declared.queue.Queue.{Queue}
 use Rattle.notif_queue.specs.Table.{call_found, number_of, state_by, state_found, reply_in, reply_found}
 use Rattle.notif_queue.specs.Stands.{IsReply, IsCall, IsOrderly, StandsFor}
 
-mod-back : (f n : ℕ) → f < 2 ^ 64 → n < 2 ^ 64 → ((f + n) % 2 ^ 64 + (2 ^ 64 - f)) % 2 ^ 64 ≡ n
+pub mod-back : (f n : ℕ) → f < 2 ^ 64 → n < 2 ^ 64 → ((f + n) % 2 ^ 64 + (2 ^ 64 - f)) % 2 ^ 64 ≡ n
 mod-back f n a b = omega arith
 
 mod-again : (f x : ℕ) → f < 2 ^ 64 → x < 2 ^ 64 → (f + (x + (2 ^ 64 - f)) % 2 ^ 64) % 2 ^ 64 ≡ x
 mod-again f x a b = omega arith
 
-number-few : (first : ℕ) (K : List Event) (n c : ℕ) → IsOrderly first K → nth_of notifies K n ≡ Some c → n < 2 ^ 64
+pub number-few : (first : ℕ) (K : List Event) (n c : ℕ) → IsOrderly first K → nth_of notifies K n ≡ Some c → n < 2 ^ 64
 number-few first K n c o q = omega (arith, (place-below notifies K n c q).0, calls-count K, o.few)
 
 -- the number of a call is that of its id
@@ -75,7 +76,21 @@ answered-is K c None h = rw (h.unsettled, h.unasked)
 answered-is K c (Some (Value v)) h = rw h.is_settled
 answered-is K c (Some (Fail v)) h = rw h.is_settled
 answered-is K c (Some Continue) h = rw h.is_settled
-answered-is K c (Some Installing) h = elim h [ inl a ↦ rw (a.unsettled, a.asked) | inr a ↦ let s = a.1.settled_is in rw s.is_settled ]
+answered-is K c (Some Installing) h = rw (h.unsettled, h.asked)
+
+-- an answered call was received
+pub answered-seen : (first : ℕ) (K : List Event) (Q : Queue) (c : ℕ) → StandsFor first K Q → listed K c ≡ true → answered K c ≡ true → fetched K c ≡ true
+answered-seen first K Q c S l h =
+    let s = S.slots c l in
+    let i = S.rows s.number s.row s.found in
+    let z : Some i.place ≡ Some c = sym i.at ∙ s.at in
+    let y : i.place ≡ c = cc in
+    elim (cases_Bool (fetched K c)) [
+      | inl f ↦ f
+      | inr f ↦
+          let none : answered-by s.row.reply ≡ false = ap answered-by (i.unseen (ap (fetched K) y ∙ f)) in
+          absurd (both_ways (answered K c) (ap (answered K) (sym y) ∙ (answered-is K i.place s.row.reply i.reply_is ∙ none)) h)
+    ]
 
 state-of-row : (K : List Event) (seen n : ℕ) (r : Call) (i : IsCall K seen n r) → state_by (nat_lt n seen) r.reply ≡ state K i.place
 state-of-row K seen n r i = rw (i.fetched_is, answered-is K i.place r.reply i.reply_is) (by (nat_lt n seen) r.reply)

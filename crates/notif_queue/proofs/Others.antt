@@ -1,27 +1,22 @@
 -- A queue after an event that changes no listed call.
 -- By cases on the step and on whether a request is for the call, with the lemmas of `Kept`, `Left` and `Replies`.
-use Rattle.std.proofs.Common.{◌≡◌, inl, inr, ℕ, Bool, true, false, ◌&&◌, ◌||◌, List, [], ◌∷◌, length, Option, Some, None, refl, ap, ◌∙◌, arith}
-use Rattle.std.specs.Prelude.{Ok, Err, pos}
-use Rattle.std.proofs.lemmas.Bool.{cases_Bool, cases_eq, both_ways, and_parts, eq-eqb}
+use Rattle.std.proofs.Common.{◌≡◌, inl, inr, ℕ, Bool, true, false, ◌&&◌, ◌||◌, List, ◌∷◌, length, Option, Some, None, refl, arith}
+use Rattle.std.specs.Prelude.{Result, Ok}
+use Rattle.std.proofs.lemmas.Bool.{cases_Bool, cases_eq, and_parts, eq-eqb}
 use Rattle.hist_model.specs.Look.{is_task}
 use Rattle.hist_model.specs.Kinds.{is_install, gave, has_send_flag}
-use Rattle.hist_model.specs.Calls.{caller, listed, named, queue, answers, puts_to, installs_for, settles, some_sends, first_sends, rest_of}
-use Rattle.hist_model.specs.Steps.{back_of}
-use Rattle.hist_model.specs.declared.event.Back.TheVariants.{Value as BackValue}
+use Rattle.hist_model.specs.Calls.{caller, listed, named, queue, puts_to, installs_for, some_sends, first_sends, rest_of}
 use Rattle.hist_model.specs.declared.event.Event.{Event}
 use Rattle.hist_model.specs.declared.event.Entered.TheVariants.{Notify}
 use Rattle.hist_model.specs.declared.event.What.{What}
 use Rattle.hist_model.specs.declared.event.What.TheVariants.{Enter, Recv, Close, Resume, Deliver, Send, AddfdPut, Install}
 use Rattle.hist_model.specs.declared.notification.Reply.{Reply}
-use Rattle.hist_model.specs.declared.notification.Reply.TheVariants.{Value, Fail, Continue, Installing}
-use Rattle.history_frames.proofs.Listed.{IsCalm, queue-below, queue-same, queue-put, queue-rest, sends-older, sends-push, below-rest, settled-now, reply-now}
-use Rattle.history_frames.proofs.Queued.{call-older, first-for, install-here}
-use Rattle.hist_model.proofs.Look.{event_at-older}
+use Rattle.history_frames.proofs.Listed.{IsCalm, queue-below, queue-same, queue-put, queue-rest, sends-older, sends-push, below-rest}
 use Rattle.sys_abi.specs.declared.wire.Addfd.{Addfd}
 use Rattle.notif_queue.specs.declared.queue.Queue.{Queue}
 use Rattle.notif_queue.specs.Table.{SameCounts}
-use Rattle.notif_queue.specs.Stands.{IsSettled, IsInstalled, IsReply, SendsOnce, StandsFor, IsOther, IsPlain, IsNoAnswer}
-use Rattle.notif_queue.proofs.Kept.{IsInner, IsSame, calm-same, reply-kept, once-older, once-same, once-rest, once-first, rest-sends, first-some, stands-inner}
+use Rattle.notif_queue.specs.Stands.{IsReply, SendsOnce, StandsFor, IsOther, IsPlain, IsNoAnswer}
+use Rattle.notif_queue.proofs.Kept.{IsInner, IsSame, calm-same, reply-kept, unseen-kept, once-older, once-same, once-rest, rest-sends, stands-inner}
 use Rattle.notif_queue.proofs.Left.{stands-outside}
 use Rattle.notif_queue.proofs.Replies.{put-others, put-once, install-alone}
 
@@ -45,7 +40,7 @@ stands-keeps first K e Q S k = stands-inner first K e Q Q S k.inner (record {
   counts = same-counts Q;
   apart = S.apart;
   filled = S.filled;
-  back = λ n q f. (q, f, refl, λ i. k.reply i.place q.reply i.on i.reply_is);
+  back = λ n q f. (q, f, refl, λ i. (k.reply i.place q.reply i.on i.reply_is, unseen-kept e K Q.fetched n q i));
   on = λ n r f. (r, f);
   sends = k.sends;
 })
@@ -97,50 +92,6 @@ same-install K e c q i f =
 calm-install : (K : List Event) (e : Event) (c : ℕ) → is_install e.what ≡ true → installs_for K e c ≡ false → IsCalm K e c
 calm-install K e c q i = let a = install-alone e.what K c q in record { no_send = a.0; no_put = a.1; no_install = i }
 
--- an installation that answers a call: its reply is the number
-reply-installed : (K : List Event) (e : Event) (c n : ℕ) (x : Option Reply) → e.what ≡ Install (Ok n) → installs_for K e c ≡ true → first_sends K (queue K c) ≡ true → SendsOnce K (queue K c) → IsReply K c x → IsReply (e ∷ K) c x
-reply-installed K e c n x q i f o r = by x r
-  where
-    given : is_install e.what ≡ true
-    given = rw q
-
-    alone : (answers K e.what c ≡ false) × (puts_to K e.what c ≡ false)
-    alone = install-alone e.what K c given
-
-    some : some_sends K (queue K c) ≡ true
-    some = first-some K (queue K c) f
-
-    settles-is : settles K e c ≡ true
-    settles-is = let a = alone.0 in let g : gave e.what ≡ true = rw q in rw (a, i, g, f)
-
-    settled-is : IsSettled (e ∷ K) c (BackValue (pos n))
-    settled-is = record {
-      is_settled = settled-now e K c settles-is;
-      unasked = rw (queue-rest e K c alone.1 i, sends-older e K (rest_of (queue K c)) (below-rest (length K) (queue K c) (queue-below K c))) (once-first K (queue K c) o f);
-      returns = reply-now e K c settles-is ∙ ap back_of q;
-    }
-
-    -- the first request is the one that gave the number
-    installed : (rs : List ℕ) → queue K c ≡ rs → IsInstalled (e ∷ K) c n
-    installed [] p = let z : first_sends K [] ≡ true = rw p at f in cc
-    installed (r ∷ rs) p =
-        let w = first-for K c r rs p in
-        let z : first_sends K (r ∷ rs) ≡ true = rw p at f in
-        record {
-          settled_is = settled-is;
-          request = r;
-          for = call-older e K r w.0 ∙ w.1;
-          sends = rw (event_at-older e K r w.0) z;
-          gave = install-here e K c r rs w.1 i p ∙ rw q;
-        }
-
-    by : (x : Option Reply) → IsReply K c x → IsReply (e ∷ K) c x
-    by None r = absurd (both_ways (some_sends K (queue K c)) r.unasked some)
-    by (Some (Value v)) r = absurd (both_ways (some_sends K (queue K c)) r.unasked some)
-    by (Some (Fail v)) r = absurd (both_ways (some_sends K (queue K c)) r.unasked some)
-    by (Some Continue) r = absurd (both_ways (some_sends K (queue K c)) r.unasked some)
-    by (Some Installing) r = inr (n, installed (queue K c) refl)
-
 once-install : (K : List Event) (e : Event) (c : ℕ) → is_install e.what ≡ true → SendsOnce K (queue K c) → SendsOnce (e ∷ K) (queue (e ∷ K) c)
 once-install K e c q h =
     let a = install-alone e.what K c q in
@@ -153,23 +104,8 @@ inner-install : (w : What) → is_install w ≡ true → IsInner w
 inner-install (Install a) q = record { no_enter = refl; no_leave = refl; no_close = refl; no_receive = refl; no_fetch = λ y. refl }
 inner-install w q = cc
 
-keeps-number : (first : ℕ) (K : List Event) (e : Event) (Q : Queue) (n : ℕ) → StandsFor first K Q → e.what ≡ Install (Ok n) → Keeps K e
-keeps-number first K e Q n S q =
-    let g : is_install e.what ≡ true = rw q in
-    record {
-      inner = inner-install e.what g;
-      reply = λ c x l r. elim (cases_Bool (installs_for K e c)) [
-        | inl i ↦ elim (cases_Bool (first_sends K (queue K c))) [
-          | inl f ↦ reply-installed K e c n x q i f (S.orderly.sends c l) r
-          | inr f ↦ reply-kept e K c x (same-install K e c g i f) r
-        ]
-        | inr i ↦ reply-kept e K c x (calm-same e K c (calm-install K e c g i)) r
-      ];
-      sends = λ c l. once-install K e c g (S.orderly.sends c l);
-    }
-
-keeps-fault : (first : ℕ) (K : List Event) (e : Event) (Q : Queue) (x : ℕ) → StandsFor first K Q → e.what ≡ Install (Err x) → IsNoAnswer K e → Keeps K e
-keeps-fault first K e Q x S q h =
+keeps-install : (first : ℕ) (K : List Event) (e : Event) (Q : Queue) (answer : Result ℕ ℕ) → StandsFor first K Q → e.what ≡ Install answer → IsNoAnswer K e → Keeps K e
+keeps-install first K e Q answer S q h =
     let g : is_install e.what ≡ true = rw q in
     record {
       inner = inner-install e.what g;
@@ -197,6 +133,5 @@ stands-other first K e Q S h = go e.what refl h
     go (Deliver s f) q h = stands-outside first K e Q S (rw q) h
     go (Send x back (Ok u)) q h = calm (record { no_enter = rw q; no_leave = rw q; no_close = rw q; no_receive = rw q; no_fetch = λ y. rw q }) (λ c. record { no_send = rw (q, h); no_put = rw q; no_install = rw q })
     go (AddfdPut a (Ok u)) q h = stands-keeps first K e Q S (keeps-put first K e Q a S q h)
-    go (Install (Ok n)) q h = stands-keeps first K e Q S (keeps-number first K e Q n S q)
-    go (Install (Err x)) q h = stands-keeps first K e Q S (keeps-fault first K e Q x S q h)
+    go (Install answer) q h = stands-keeps first K e Q S (keeps-install first K e Q answer S q h)
     go w q h = calm (record { no_enter = rw q; no_leave = rw q; no_close = rw q; no_receive = rw q; no_fetch = λ y. rw q }) (λ c. record { no_send = rw q; no_put = rw q; no_install = rw q })

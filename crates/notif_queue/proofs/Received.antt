@@ -25,7 +25,7 @@ use Rattle.notif_queue.specs.Table.{in_slot, call_found, next_found, with_owner}
 use Rattle.notif_queue.specs.Stands.{IsOwner, IsCall, AreFilled, StandsFor, IsReceipt, IsNext}
 use Rattle.notif_queue.proofs.Halves.{first-is, first-none}
 use Rattle.notif_queue.proofs.Found.{found-row}
-use Rattle.notif_queue.proofs.Kept.{quiet-calm, calm-same, reply-kept, call-kept, slot-kept, once-same}
+use Rattle.notif_queue.proofs.Kept.{quiet-calm, calm-same, reply-kept, unseen-kept, call-kept, slot-kept, once-same}
 use Rattle.notif_queue.proofs.Named.{ids-differ}
 use Rattle.notif_queue.proofs.Orderly.{orderly-more}
 
@@ -165,7 +165,7 @@ stands-received first K e old new S g w = record {
   rows = λ n r h.
       let f = sym (found n) ∙ h in
       let i = S.rows n r f in
-      call-kept e K old.fetched new.fetched n r r i (off (caller K i.place)) refl (g.seen n r f i) (reply-kept e K i.place r.reply (calm-same e K i.place (calm i.place)) i.reply_is);
+      call-kept e K old.fetched new.fetched n r r i (off (caller K i.place)) refl (g.seen n r f i) (reply-kept e K i.place r.reply (calm-same e K i.place (calm i.place)) i.reply_is) (unseen-kept e K old.fetched n r i);
   slots = λ c h. elim (listed-cases e K c h) [
     | inl p ↦ absurd (both_ways (notifies e.what) no_enter p.1)
     | inr p ↦ let s = S.slots c p.1 in slot-kept e K old new c s s.row (found s.number ∙ s.found)
@@ -252,8 +252,12 @@ next-is first K Q n x t S h q =
       place = i.place;
       oldest = oldest-is first K Q n t S f;
       id_is = q ∙ (ap (λ k. (k + n) % 2 ^ 64) S.first_is ∙ sym (S.orderly.ids n i.place i.at));
-      owner_is = ap (λ (u : TaskRef). task_name_of K u.ordinal) (sym f.owner_is) ∙ owner-name K i.place f.row.owner i.owner_is;
+      owner_is = owner-name K i.place t (owner n t S f);
+      owner_made = owner n t S f;
     }
+  where
+    owner : (n : ℕ) (t : TaskRef) (S : StandsFor first K Q) (f : IsFirstCall Q n t) → IsOwner K (S.rows n f.row f.found).place t
+    owner n t S f = rw (← f.owner_is) (S.rows n f.row f.found).owner_is
 
 pub waited : (first : ℕ) (K : List Event) (Q : Queue) → StandsFor first K Q → Q.received < Q.order.entered → 0 < count K
 waited first K Q S h = let c = count-is first K Q S in omega arith

@@ -1,5 +1,5 @@
 -- The listed calls in the order of entry.
-use Rattle.std.specs.Prelude.{◌≡◌, ℕ, ◌<◌, ◌≤◌, List, [], ◌∷◌, length, Option, Some, None, if◌then◌else◌, ◌==◌, nat_le, slice_index_or}
+use Rattle.std.specs.Prelude.{◌≡◌, ℕ, ◌<◌, ◌≤◌, Bool, true, false, List, [], ◌∷◌, length, Option, Some, None, if◌then◌else◌, ◌==◌, nat_le, slice_index_or}
 use Rattle.std.specs.List.{AllWithin, remove}
 use Rattle.notif_queue.specs.declared.order.Entry.{Entry}
 
@@ -13,6 +13,10 @@ Rise xs = (i j : ℕ) (d : Entry) → i < j → j < length xs → (slice_index_o
 -- all numbers are below this one
 abbrev pub AreBelow : ℕ → List Entry → Type 0
 AreBelow n xs = (i : ℕ) (d : Entry) → i < length xs → (slice_index_or xs i d).number < n
+
+abbrev pub is_empty : List Entry → Bool
+is_empty [] = true
+is_empty (e ∷ es) = false
 
 -- the slot of the call with this number
 unfoldable pub slot_of : List Entry → ℕ → Option ℕ

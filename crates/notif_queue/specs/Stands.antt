@@ -1,10 +1,10 @@
 -- Which histories a queue of calls stands for.
-use Rattle.std.specs.Prelude.{◌≡◌, ◌⊎◌, ℕ, ◌+◌, ◌%◌, ◌^◌, ◌<◌, ◌≤◌, true, false, List, [], ◌∷◌, Option, Some, None, Ok, Err, pos, ℤ, nat_lt}
+use Rattle.std.specs.Prelude.{◌≡◌, ℕ, ◌+◌, ◌%◌, ◌^◌, ◌<◌, ◌≤◌, true, false, List, [], ◌∷◌, Option, Some, None, Result, Ok, Err, ℤ, nat_lt}
 use Rattle.hist_model.specs.Look.{is_task}
 use Rattle.hist_model.specs.Tasks.{name_of}
 use Rattle.hist_model.specs.Kinds.{notifies, has_send_flag, leaves}
 use Rattle.hist_model.specs.Calls.{caller, id, listed, fetched, named, queue, settled, first_sends, some_sends, is_send, calls, recvs}
-use Rattle.hist_model.specs.Steps.{reply, call_at, install_of, oldest_unfetched}
+use Rattle.hist_model.specs.Steps.{reply, oldest_unfetched}
 use Rattle.hist_model.specs.declared.event.Event.{Event}
 use Rattle.hist_model.specs.declared.event.Actor.TheVariants.{Task}
 use Rattle.hist_model.specs.declared.event.Back.{Back}
@@ -40,25 +40,13 @@ pub record IsAsked (K : List Event) (c : ℕ) : Type 0 where
   pub unsettled : settled K c ≡ false
   pub asked : some_sends K (queue K c) ≡ true
 
--- a request with SEND was installed for the call and gave this number, which the call will return
-pub record IsInstalled (K : List Event) (c n : ℕ) : Type 0 where
-  pub settled_is : IsSettled K c (BackValue (pos n))
-  pub request : ℕ
-  pub for : call_at K request ≡ Some c
-  pub sends : is_send K request ≡ true
-  pub gave : install_of K request ≡ Some (Ok n)
-
--- a request with SEND answers the call: it waits for its installation, or was installed and gave a number
-abbrev pub IsInstalling : List Event → ℕ → Type 0
-IsInstalling K c = IsAsked K c ⊎ ((n : ℕ) × IsInstalled K c n)
-
--- the reply is the call's answer so far
+-- the reply is the call's answer so far; once a request with SEND was installed, it is the number that this gave
 abbrev pub IsReply : List Event → ℕ → Option Reply → Type 0
 IsReply K c None = IsOpen K c
 IsReply K c (Some (Value v)) = IsSettled K c (BackValue v)
 IsReply K c (Some (Fail x)) = IsSettled K c (BackFail x)
 IsReply K c (Some Continue) = IsSettled K c BackContinue
-IsReply K c (Some Installing) = IsInstalling K c
+IsReply K c (Some Installing) = IsAsked K c
 
 -- at most one of the requests has SEND
 abbrev pub SendsOnce : List Event → List ℕ → Type 0
@@ -71,6 +59,12 @@ pub record IsOwner (K : List Event) (c : ℕ) (t : TaskRef) : Type 0 where
   pub at : place_of K t.ordinal ≡ Some place
   pub name_is : name_of K place ≡ caller K c
 
+-- the call at a place, where there is one, is entered by this task
+abbrev pub IsOwnerAt : List Event → Option ℕ → Option TaskRef → Type 0
+IsOwnerAt K (Some c) (Some t) = IsOwner K c t
+IsOwnerAt K None None = Unit {0}
+IsOwnerAt K _ _ = ⊥
+
 -- what the definitions say of the listed call that has this number, where those with lower numbers than `seen` were fetched
 pub record IsCall (K : List Event) (seen n : ℕ) (r : Call) : Type 0 where
   pub place : ℕ
@@ -79,6 +73,8 @@ pub record IsCall (K : List Event) (seen n : ℕ) (r : Call) : Type 0 where
   pub owner_is : IsOwner K place r.owner
   pub fetched_is : fetched K place ≡ nat_lt n seen
   pub reply_is : IsReply K place r.reply
+  -- nobody answers it before its notification was received
+  pub unseen : fetched K place ≡ false → r.reply ≡ None
 
 -- what holds of a history of calls: ids count from the first one, no more are received than were entered, a task waits in
 -- one call, and at most one request of a call has SEND
@@ -127,12 +123,13 @@ pub record IsEntry (K : List Event) (e : Event) (t : TaskRef) (x : ℕ) : Type 0
   pub is : e.what ≡ Enter nr args (Notify x)
   pub free : (c : ℕ) → listed K c ≡ true → caller K c ≡ name_of K place → ⊥
 
--- it is the oldest call that wasn't fetched, with its id and its task
+-- it is the oldest call that wasn't fetched, with its id and its task, which was made
 pub record IsNext (K : List Event) (f : Fetched) : Type 0 where
   pub place : ℕ
   pub oldest : oldest_unfetched K ≡ Some place
   pub id_is : f.id ≡ id K place
   pub owner_is : task_name_of K f.owner.ordinal ≡ caller K place
+  pub owner_made : IsOwner K place f.owner
 
 -- the event receives the notification that has this id
 pub record IsReceipt (e : Event) (x : ℕ) : Type 0 where
@@ -147,14 +144,17 @@ IsAnswer e x (Fail f) = e.what ≡ Send x (BackFail f) (Ok tt)
 IsAnswer e x Continue = e.what ≡ Send x BackContinue (Ok tt)
 IsAnswer e x Installing = (asked : Addfd) × (e.what ≡ AddfdPut asked (Ok tt)) × (asked.id ≡ x) × (has_send_flag asked ≡ true)
 
--- the event fails to install the descriptor that was to answer the call that has this id
-pub record IsFailure (K : List Event) (e : Event) (x : ℕ) : Type 0 where
+-- the event is the installation, with this answer, of the descriptor that is to answer the call that has this id
+pub record IsInstall (K : List Event) (e : Event) (x : ℕ) (answer : Result ℕ ℕ) : Type 0 where
   pub place : ℕ
   pub at : named K x ≡ Some place
   pub who : is_task e.who (caller K place) ≡ true
-  pub fault : ℕ
-  pub is : e.what ≡ Install (Err fault)
+  pub is : e.what ≡ Install answer
   pub asked : first_sends K (queue K place) ≡ true
+
+-- the event fails to install it
+abbrev pub IsFailure : List Event → Event → ℕ → Type 0
+IsFailure K e x = (fault : ℕ) × IsInstall K e x (Err fault)
 
 -- the event takes the call that has this id off the list: its task resumes, or has a delivery in it
 pub record IsLeaving (K : List Event) (e : Event) (x : ℕ) : Type 0 where
@@ -184,5 +184,5 @@ IsOther K e (Resume back) = IsOutside K e
 IsOther K e (Deliver sig effect) = IsOutside K e
 IsOther K e (Send x back (Ok u)) = named K x ≡ None
 IsOther K e (AddfdPut asked (Ok u)) = IsPlain K asked
-IsOther K e (Install (Err x)) = IsNoAnswer K e
+IsOther K e (Install answer) = IsNoAnswer K e
 IsOther K e w = Unit {0}

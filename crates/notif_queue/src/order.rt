@@ -1,7 +1,7 @@
 //! The listed calls in the order of entry, which are found by halves.
 
 ghost use Rattle.std.specs.Prelude.{◌≡◌, ◌+◌, ◌<◌, ◌≤◌, ◌∷◌, ◌++◌, [], IfNone, IfSome, IsOk, OnOk, length};
-ghost use Rattle.notif_queue.specs.Entries.{Rise, AreBelow, IsStart, IsPlace, IsAbsent, entry, slot_of, first_from, without};
+ghost use Rattle.notif_queue.specs.Entries.{Rise, AreBelow, IsStart, IsPlace, IsAbsent, entry, slot_of, first_from, without, is_empty};
 
 use std::alloc::Global;
 use std::collections::VecDeque;
@@ -43,6 +43,13 @@ impl Order {
         ensures { result ≡ self.now.entered }
     {
         self.entered
+    }
+
+    /// Whether no call is listed.
+    pub fn is_empty(&self) -> bool
+        ensures { result ≡ is_empty self.now.entries.items }
+    {
+        self.entries.is_empty()
     }
 
     /// Makes room for one `push`. There is none for the 2^64-th call.

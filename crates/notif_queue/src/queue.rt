@@ -1,17 +1,17 @@
 //! The queue of listed calls.
 
-ghost use Rattle.std.specs.Prelude.{◌≡◌, ℕ, ◌+◌, ◌%◌, ◌^◌, ◌<◌, List, [], ◌∷◌, Option, Some, None, Ok, Err, Result, IfOk, OnOk, OnErr, IfSome, IsOk, IsSome, true};
+ghost use Rattle.std.specs.Prelude.{◌≡◌, ◌↔◌, ℕ, ◌+◌, ◌%◌, ◌^◌, ◌<◌, List, [], ◌∷◌, Option, Some, None, Ok, Err, Result, IfOk, OnOk, OnErr, IfSome, IsOk, IsSome, true, false};
 ghost use Rattle.hist_model.specs.declared.event.Event.{Event};
 ghost use Rattle.hist_model.specs.declared.event.What.TheVariants.{Recv};
 ghost use Rattle.hist_model.specs.declared.notification.Fetched.{Fetched as FetchedCall};
 ghost use Rattle.hist_model.specs.declared.notification.State.TheVariants.{Fetched as FetchedState, Answered};
 ghost use Rattle.hist_model.specs.Kinds.{closes};
-ghost use Rattle.hist_model.specs.Calls.{calls, count, id as id_at, named, state_at};
+ghost use Rattle.hist_model.specs.Calls.{calls, count, id as id_at, is_call, listed, named, state_at};
 ghost use Rattle.hist_model.specs.Steps.{oldest_unfetched};
 ghost use Rattle.notif_queue.specs.declared.queue.FetchError.TheVariants.{Empty, Gone};
 ghost use Rattle.notif_queue.specs.Entries.{slot_of, without};
-ghost use Rattle.notif_queue.specs.Stands.{StandsFor, IsReply, IsEntry, IsNext, IsReceipt, IsAnswer, IsFailure, IsLeaving};
-ghost use Rattle.notif_queue.specs.Table.{HasRoom, SameCalls, number_of, id_of, call_found, next_found, state_found, reply_found, IsReplied};
+ghost use Rattle.notif_queue.specs.Stands.{StandsFor, IsReply, IsEntry, IsNext, IsOwnerAt, IsReceipt, IsAnswer, IsInstall, IsFailure, IsLeaving};
+ghost use Rattle.notif_queue.specs.Table.{HasRoom, SameCalls, number_of, id_of, call_found, next_found, state_found, owner_found, reply_found, IsReplied};
 ghost use Rattle.sys_abi.specs.Errnos.{enoent};
 
 use crate::order::Order;
@@ -72,6 +72,7 @@ impl Queue {
         ensures room { OnOk result (HasRoom self.new) }
         ensures had_room { HasRoom self.old → IsOk result }
         ensures same { SameCalls self.old self.new }
+        ensures stands { (first : ℕ) (K : List Event) → StandsFor first K self.old ↔ StandsFor first K self.new }
     {
         self.order.ready()?;
         self.calls.reserve(1)?;
@@ -95,10 +96,11 @@ impl Queue {
         self.calls.get(slot).copied()
     }
 
-    /// Lists a call of this task, and gives its id: the ids count from the first one on.
+    /// Lists a call of this task, and gives its id: the ids count from the first one on, and no call had it before.
     pub fn enter(&mut self, owner: TaskRef) -> Result<u64, NoMemory>
         ensures id { IfOk result (λ id. (first : ℕ) (K : List Event) → StandsFor first K self.old → id ≡ (first + calls K) % 2 ^ 64) }
         ensures step { IfOk result (λ id. (first : ℕ) (K : List Event) (e : Event) → StandsFor first K self.old → IsEntry K e owner id → StandsFor first (e ∷ K) self.new) }
+        ensures fresh { IfOk result (λ id. (first : ℕ) (K : List Event) → StandsFor first K self.old → (c : ℕ) → is_call K c ≡ true → id_at K c ≡ id → ⊥) }
         ensures room { HasRoom self.old → IsOk result }
         ensures refused { OnErr result (SameCalls self.old self.new) }
     {
@@ -123,14 +125,15 @@ impl Queue {
     }
 
     /// Receives the notification of the oldest listed call that wasn't fetched. `Empty` comes exactly where the count of
-    /// requests is 0, and `Gone` where it isn't and there is no such call, which lowers the count.
+    /// requests is 0, and leaves all as it was; `Gone` where it isn't and there is no such call, which lowers the count.
     pub fn fetch(&mut self) -> Result<Fetched, FetchError>
         ensures next { IfOk result (λ f. (first : ℕ) (K : List Event) → StandsFor first K self.old → (0 < count K) × IsNext K f) }
         ensures step { IfOk result (λ f. (first : ℕ) (K : List Event) (e : Event) → StandsFor first K self.old → IsReceipt e f.id → StandsFor first (e ∷ K) self.new) }
         ensures gone { result ≡ Err Gone → (first : ℕ) (K : List Event) → StandsFor first K self.old → (0 < count K) × (oldest_unfetched K ≡ None) }
         ensures gone_step { result ≡ Err Gone → (first : ℕ) (K : List Event) (e : Event) → StandsFor first K self.old → e.what ≡ Recv (Err enoent) → StandsFor first (e ∷ K) self.new }
         ensures empty { result ≡ Err Empty → (first : ℕ) (K : List Event) → StandsFor first K self.old → count K ≡ 0 }
-        ensures same { result ≡ Err Empty → SameCalls self.old self.new }
+        ensures same { result ≡ Err Empty → self.new ≡ self.old }
+        ensures room { HasRoom self.old → HasRoom self.new }
     {
         if self.received >= self.order.entered() {
             return Err(FetchError::Empty);
@@ -142,6 +145,25 @@ impl Queue {
         self.fetched = number + 1;
         let id = self.first.wrapping_add(number);
         Ok(Fetched { id, owner })
+    }
+
+    /// Whether no call is listed.
+    pub fn is_empty(&self) -> bool
+        ensures none { result ≡ true → (first : ℕ) (K : List Event) → StandsFor first K self.now → (c : ℕ) → listed K c ≡ false }
+        ensures some { result ≡ false → (first : ℕ) (K : List Event) → StandsFor first K self.now → (c : ℕ) × (listed K c ≡ true) }
+    {
+        self.order.is_empty()
+    }
+
+    /// The task that waits in the listed call with this id. None exactly where no listed call has it.
+    pub fn owner_of(&self, id: u64) -> Option<TaskRef>
+        ensures found { result ≡ owner_found self.now id }
+        ensures owner { (first : ℕ) (K : List Event) → StandsFor first K self.now → IsOwnerAt K (named K id) result }
+    {
+        match self.find(id) {
+            Some(call) => Some(call.owner),
+            None => None,
+        }
     }
 
     /// How far the listed call with this id is. None exactly where no listed call has it.
@@ -191,10 +213,17 @@ impl Queue {
         self.set_reply(id, Some(reply));
     }
 
+    /// Notes the number under which a descriptor was installed for the call with this id, which a request with
+    /// SECCOMP_ADDFD_FLAG_SEND answered: the call returns that number (seccomp_unotify(2)).
+    pub fn installed(&mut self, id: u64, number: u32)
+        ensures { (first : ℕ) (K : List Event) (e : Event) → StandsFor first K self.old → IsInstall K e id (Ok number) → StandsFor first (e ∷ K) self.new }
+    {
+        self.set_reply(id, Some(Reply::Value(i64::from(number))));
+    }
+
     /// Lets the call with this id, which was answered by a request for a descriptor, wait for an answer again, since the
     /// installation failed.
     pub fn reopen(&mut self, id: u64)
-        requires { state_found self.old id ≡ Some Answered }
         ensures { (first : ℕ) (K : List Event) (e : Event) → StandsFor first K self.old → IsFailure K e id → StandsFor first (e ∷ K) self.new }
     {
         self.set_reply(id, None);
