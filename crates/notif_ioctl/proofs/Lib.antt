@@ -1,2 +1,3 @@
-mod Named
-mod Sent
+pub mod Named
+pub mod Sent
+pub mod Backs

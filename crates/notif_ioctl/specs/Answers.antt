@@ -1,5 +1,5 @@
 -- What the requests of ioctl(2) on a listener answer (seccomp_unotify(2)).
-use Rattle.std.specs.Prelude.{ℕ, ◌≤◌, Bool, ◌&&◌, ◌||◌, if◌then◌else◌, ◌==◌, List, Option, Some, None, Result, Ok, Err, ℤ, pos, neg_ℤ, FitsSigned}
+use Rattle.std.specs.Prelude.{◌≡◌, ℕ, ◌≤◌, false, Bool, ◌&&◌, ◌||◌, if◌then◌else◌, ◌==◌, List, Option, Some, None, Result, Ok, Err, ℤ, pos, neg_ℤ, nat_abs, FitsSigned}
 use Rattle.std.specs.Int.{w64}
 use Rattle.std.specs.Int.Signed.{le_z}
 use Rattle.std.specs.Ordering.{int_eq}
@@ -39,6 +39,14 @@ abbrev pub response : ℕ → Back → Resp
 response id (Value n) = record { id = id; val = n; error = pos 0; flags = 0 }
 response id (Fail errno) = record { id = id; val = pos 0; error = neg_ℤ (pos errno); flags = 0 }
 response id Continue = record { id = id; val = pos 0; error = pos 0; flags = 1 }
+
+-- how a call returns that is answered by this structure: natively where the flag is set; else with the error, if there is one
+abbrev pub back_of : Resp → Back
+back_of resp = if resp.flags == 1 then Continue else (if int_eq resp.error (pos 0) then Value resp.val else Fail (nat_abs resp.error))
+
+-- an error comes without a value
+abbrev pub IsPlain : Resp → Type 0
+IsPlain resp = (int_eq resp.error (pos 0) ≡ false) → resp.val ≡ pos 0
 
 -- a value of 64 bits, or an error of a number from 1 to 4095
 abbrev pub IsBack : Back → Type 0

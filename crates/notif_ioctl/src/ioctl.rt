@@ -1,8 +1,8 @@
 //! What each of the requests of ioctl(2) tests.
 
-ghost use Rattle.std.specs.Prelude.{◌≡◌, ◌↔◌, All, IsOk, IfErr};
+ghost use Rattle.std.specs.Prelude.{◌≡◌, ◌↔◌, true, All, IsOk, IfErr};
 ghost use Rattle.sys_abi.specs.Errnos.{einval};
-ghost use Rattle.notif_ioctl.specs.Answers.{may_be_sent, reading, admission, validity, response};
+ghost use Rattle.notif_ioctl.specs.Answers.{may_be_sent, reading, admission, validity, response, back_of};
 
 use hist_model::event::Back;
 use hist_model::notification::State;
@@ -92,5 +92,20 @@ pub fn response(id: u64, back: Back) -> Resp
         val,
         error,
         flags,
+    }
+}
+
+/// How the call returns that is answered by this structure, which passed the test of `parse_send`: it runs natively where
+/// the flag is set, fails where there is an error, and else returns the value.
+pub fn back_of(resp: &Resp) -> Back
+    requires { may_be_sent resp.now ≡ true }
+    ensures { result ≡ back_of resp.now }
+{
+    if resp.flags == SECCOMP_USER_NOTIF_FLAG_CONTINUE {
+        return Back::Continue;
+    }
+    match Errno::of(resp.error.unsigned_abs() as u16) {
+        Some(errno) => Back::Fail(errno),
+        None => Back::Value(resp.val),
     }
 }

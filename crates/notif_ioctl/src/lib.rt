@@ -13,4 +13,4 @@
 mod ioctl;
 pub mod laws;
 
-pub use ioctl::{admit_send, check_recv, check_valid, parse_send, response};
+pub use ioctl::{admit_send, back_of, check_recv, check_valid, parse_send, response};
