@@ -1,6 +1,7 @@
 -- A table without tasks, and a table whose room has changed.
 -- By the definitions on an empty history, and by `mirrors-same` where the slots stay.
 use Rattle.std.proofs.Common.{◌≡◌, ℕ, ◌+◌, Bool, List, [], length, get_or, Option, Some, None, refl, sym, ap, ◌∙◌, arith}
+use Rattle.std.specs.Prelude.{◌↔◌}
 use Rattle.slab.specs.Slab.{Slab, get}
 use Rattle.hist_model.specs.Tasks.{ended, was_waited_for, pending, mode, is_made, last_pid}
 use Rattle.hist_model.specs.declared.event.Event.{Event}
@@ -72,3 +73,13 @@ stands-same base pidmax K old new h S =
 
 pub ref-same : (old new : TaskTable) (t : TaskRef) → SameTasks old new → IsRef old t → IsRef new t
 ref-same old new t h i = (omega (arith, i.0, h.made), λ s r g q. i.1 s r (sym (same-slots old new h s) ∙ g) q)
+
+-- all but the room is as before, read backwards
+same-back : (old new : TaskTable) → SameTasks old new → SameTasks new old
+same-back old new h = record { slots = sym h.slots; pids = sym h.pids; children = sym h.children; base = sym h.base; top = sym h.top; last = sym h.last; made = sym h.made }
+
+pub stands-room : (base pidmax : ℕ) (K : List Event) (old new : TaskTable) → SameTasks old new → StandsFor base pidmax K old ↔ StandsFor base pidmax K new
+stands-room base pidmax K old new h = (stands-same base pidmax K old new h, stands-same base pidmax K new old (same-back old new h))
+
+pub ref-room : (old new : TaskTable) (t : TaskRef) → SameTasks old new → IsRef old t ↔ IsRef new t
+ref-room old new t h = (ref-same old new t h, ref-same new old t (same-back old new h))

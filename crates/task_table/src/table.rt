@@ -1,6 +1,6 @@
 //! The table of the tasks that aren't reaped.
 
-ghost use Rattle.std.specs.Prelude.{◌≡◌, ℕ, ◌+◌, ◌-◌, ◌<◌, ◌≤◌, ◌^◌, not, List, ◌∷◌, [], Option, Some, None, IfOk, OnOk, OnErr, IfSome, IfErr, OnSome, IfNone, Bool, length, ◌||◌, ◌==◌, IsOk, true, false, Ok};
+ghost use Rattle.std.specs.Prelude.{◌≡◌, ◌↔◌, ℕ, ◌+◌, ◌-◌, ◌<◌, ◌≤◌, ◌^◌, not, List, ◌∷◌, [], Option, Some, None, IfOk, OnOk, OnErr, IfSome, IfErr, OnSome, IfNone, Bool, length, ◌||◌, ◌==◌, IsOk, true, false, Ok};
 ghost use Rattle.hist_model.specs.declared.event.Event.{Event};
 ghost use Rattle.slab.specs.Slab.{get};
 ghost use Rattle.hist_model.specs.declared.event.What.TheVariants.{Signal, Handler, Reap};
@@ -55,6 +55,9 @@ pub struct Task {
 }
 
 /// The tasks of a kernel that aren't reaped, their process numbers, signals and children.
+///
+/// A `TaskRef` has the slot of its task beside the ordinal, and slots are used again. So whoever goes over the ordinals from
+/// 0 on can't make references of them, and keeps each one that `spawn` gave, under its ordinal.
 #[derive(Drop)]
 pub struct TaskTable {
     tasks: Slab<Task>,
@@ -102,6 +105,8 @@ impl TaskTable {
         ensures room { OnOk result (HasRoom self.new) }
         ensures had_room { HasRoom self.old → IsOk result }
         ensures same { SameTasks self.old self.new }
+        ensures stands { (base pidmax : ℕ) (K : List Event) → StandsFor base pidmax K self.old ↔ StandsFor base pidmax K self.new }
+        ensures refs { (t : TaskRef) → IsRef self.old t ↔ IsRef self.new t }
     {
         if self.made == u32::MAX {
             return Err(NoMemory);
@@ -176,7 +181,8 @@ impl TaskTable {
         ensures task { IfOk result (λ made. (base pidmax : ℕ) (K : List Event) → StandsFor base pidmax K self.old → (made.0.ordinal ≡ tasks_made K) × IsRef self.new made.0) }
         ensures refs { (t : TaskRef) → IsRef self.old t → IsRef self.new t }
         ensures room { HasRoom self.old → lacked_memory result ≡ false }
-        ensures refused { OnErr result (SameTasks self.old self.new) }
+        ensures refused { was_refused result ≡ true → self.new ≡ self.old }
+        ensures same { OnErr result (SameTasks self.old self.new) }
     {
         let Some(pid) = self.next_pid() else {
             return Err(OrNoMemory::Refused(NoPid));
@@ -271,7 +277,7 @@ impl TaskTable {
         ensures task { (base pidmax : ℕ) (K : List Event) → StandsFor base pidmax K self.old → IfOk result (λ t. IsRef self.new t) }
         ensures step { OnOk result ((base pidmax : ℕ) (K : List Event) (e : Event) → StandsFor base pidmax K self.old → e.what ≡ Signal pid sig (Ok tt) → StandsFor base pidmax (e ∷ K) self.new) }
         ensures refs { (base pidmax : ℕ) (K : List Event) → StandsFor base pidmax K self.old → (t : TaskRef) → IsRef self.old t → IsRef self.new t }
-        ensures refused { OnErr result (SameTasks self.old self.new) }
+        ensures refused { OnErr result (self.new ≡ self.old) }
     {
         let Ok(t) = self.by_pid(pid) else {
             return Err(NoTask);
@@ -296,11 +302,11 @@ impl TaskTable {
 
     /// Delivers the signal that is due next to a task, which is alive, and gives it with the task's mode for it: SIGKILL
     /// where it is pending, else the smallest. Where `held` is set, only signals that end the task are due. SIGKILL, and a
-    /// signal without a handler, end it. None exactly where no signal is due.
+    /// signal without a handler, end it. None exactly where no signal is due, which leaves all as it was.
     pub fn deliver(&mut self, t: TaskRef, held: bool) -> Option<(u8, Mode)>
         ensures next { (base pidmax : ℕ) (K : List Event) (killable : Bool) → StandsFor base pidmax K self.old → IsRef self.old t → IsAlive K t → held ≡ held_back killable K (task_name_of K t.ordinal) → result ≡ with_mode K (task_name_of K t.ordinal) (next_signal killable K (task_name_of K t.ordinal)) }
         ensures step { IfSome result (λ due. (base pidmax : ℕ) (K : List Event) (e : Event) → StandsFor base pidmax K self.old → IsRef self.old t → IsStepOf K e t → IsDelivery e.what due.0 due.1 → StandsFor base pidmax (e ∷ K) self.new) }
-        ensures none { IfNone result (SameTasks self.old self.new) }
+        ensures none { IfNone result (self.new ≡ self.old) }
         ensures refs { (base pidmax : ℕ) (K : List Event) → StandsFor base pidmax K self.old → IsRef self.old t → (u : TaskRef) → IsRef self.old u → IsRef self.new u }
     {
         let Some(mut task) = self.find(t) else {
@@ -330,14 +336,14 @@ impl TaskTable {
     }
 
     /// Reaps the ended child of a task, which is alive, that was made first, and gives it. None where it has children and
-    /// none has ended.
+    /// none has ended, which leaves all as it was.
     pub fn reap(&mut self, t: TaskRef) -> Result<Option<TaskRef>, NoChild>
         ensures found { (base pidmax : ℕ) (K : List Event) → StandsFor base pidmax K self.old → IsRef self.old t → IsAlive K t → reap_step K result ≡ wait_step K (oldest (is_child K (task_name_of K t.ordinal)) (length K)) (oldest (is_ended_child K (task_name_of K t.ordinal)) (length K)) }
         ensures step { (c : TaskRef) → result ≡ Ok (Some c) → (base pidmax : ℕ) (K : List Event) (e : Event) → StandsFor base pidmax K self.old → IsRef self.old t → IsAlive K t → e.what ≡ Reap (Ok (task_name_of K c.ordinal)) → StandsFor base pidmax (e ∷ K) self.new }
         ensures task { (c : TaskRef) → result ≡ Ok (Some c) → (base pidmax : ℕ) (K : List Event) → StandsFor base pidmax K self.old → IsRef self.new c }
         ensures refs { (base pidmax : ℕ) (K : List Event) → StandsFor base pidmax K self.old → (u : TaskRef) → IsRef self.old u → IsRef self.new u }
-        ensures none { result ≡ Ok None → SameTasks self.old self.new }
-        ensures refused { OnErr result (SameTasks self.old self.new) }
+        ensures none { result ≡ Ok None → self.new ≡ self.old }
+        ensures refused { OnErr result (self.new ≡ self.old) }
     {
         let Some(_) = index::find(&self.children, t.ordinal) else {
             return Err(NoChild);
