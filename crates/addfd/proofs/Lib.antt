@@ -1,9 +1,10 @@
-mod Lists
-mod KeptLemmas
-mod Calls
-mod Other
-mod PutLater
-mod Installed
-mod Taken
-mod Answers
-mod Flagged
+pub mod Lists
+pub mod KeptLemmas
+pub mod Calls
+pub mod Other
+pub mod PutLater
+pub mod Installed
+pub mod Taken
+pub mod Answers
+pub mod Flagged
+pub mod Oldest

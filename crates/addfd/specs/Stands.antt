@@ -1,10 +1,11 @@
 -- Which histories a list of requests stands for.
 use Rattle.std.specs.Prelude.{◌≡◌, ℕ, Bool, true, false, List, [], ◌∷◌, map, All, Option, Some, None, Result, Ok, Err}
 use Rattle.hist_model.specs.Look.{event_at, is_task, task_name}
-use Rattle.hist_model.specs.Calls.{listed, named, queue, caller, id, is_call}
+use Rattle.hist_model.specs.Kinds.{has_send_flag}
+use Rattle.hist_model.specs.Calls.{listed, named, queue, first_sends, caller, id, is_call}
 use Rattle.hist_model.specs.Steps.{request_of, install_of, call_at, place_or}
 use Rattle.hist_model.specs.Laws.{worker_of}
-use Rattle.hist_model.specs.Files.{asked_in}
+use Rattle.hist_model.specs.Files.{asked_in, request_for}
 use Rattle.hist_model.specs.declared.event.Event.{Event}
 use Rattle.hist_model.specs.declared.event.Actor.TheVariants.{Worker}
 use Rattle.hist_model.specs.declared.event.What.{What}
@@ -58,6 +59,15 @@ worker_in None = 0
 abbrev pub oldest_in : List Event → List ℕ → Option (ℕ × Addfd)
 oldest_in K [] = None
 oldest_in K (r ∷ rs) = Some (worker_in (event_at K r), asked_in (event_at K r))
+
+-- the oldest of the call's requests that aren't installed is this worker's, who asked for this
+pub record IsOldest (K : List Event) (c w : ℕ) (asked : Addfd) : Type 0 where
+  pub first : ℕ
+  pub rest : List ℕ
+  pub queue_is : queue K c ≡ first ∷ rest
+  pub worker_is : worker_in (event_at K first) ≡ w
+  pub asked_is : request_for K (Some c) ≡ asked
+  pub sends_is : first_sends K (queue K c) ≡ has_send_flag asked
 
 -- the event puts a request of this worker for a listed call
 pub record IsPut (K : List Event) (e : Event) (w : ℕ) (asked : Addfd) : Type 0 where
