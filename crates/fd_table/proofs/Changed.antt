@@ -1,12 +1,12 @@
 -- Tables after a change of one slot, and the histories that they stand for.
 -- By cases on whether a slot or a number is the one that changed, with `group-stays` and `groups-apart` of `Groups`.
 use Rattle.std.proofs.Common.{◌≡◌, inl, inr, ℕ, ◌<◌, Bool, true, false, List, [], ◌∷◌, Option, Some, None, refl, sym, ap, ◌∙◌, subst, arith}
-use Rattle.std.specs.Prelude.{◌==◌, if◌then◌else◌}
+use Rattle.std.specs.Prelude.{◌==◌, ◌↔◌, if◌then◌else◌}
 use Rattle.std.proofs.lemmas.Bool.{cases_eq, cases_Bool, eqb-true, eq-eqb, ne_eqb}
 use Rattle.hist_model.specs.Files.{files}
 use Rattle.hist_model.specs.declared.event.Event.{Event}
 use Rattle.hist_model.specs.declared.script.Script.{Script}
-use Rattle.history_frames.specs.Ordinals.{makes_group, groups_made}
+use Rattle.history_frames.specs.Ordinals.{makes_group, groups_made, group_of}
 use Rattle.history_frames.proofs.Ordinals.{made-same}
 use Rattle.history_frames.proofs.Groups.{group-stays, groups-apart}
 use Rattle.fd_table.specs.declared.entries.Entry.{Entry}
@@ -77,6 +77,22 @@ stands-from S K L old new A l m p rows = record {
 -- only the room has changed
 pub stands-same : (S : Script) (K : List Event) (old new : Tables) → SameTables old new → StandsFor S K old → StandsFor S K new
 stands-same S K old new h A = stands-from S K K old new A h.rlimit (h.made ∙ A.made_is) (h.spare ∙ A.spare) (λ s r g. let k = sym (h.rows s) ∙ g in (A.tables s r k, (r, k, refl)))
+
+same-back : (old new : Tables) → SameTables old new → SameTables new old
+same-back old new h = record { rows = λ s. sym (h.rows s); spare = sym h.spare; rlimit = sym h.rlimit; made = sym h.made }
+
+pub stands-room : (S : Script) (K : List Event) (old new : Tables) → SameTables old new → StandsFor S K old ↔ StandsFor S K new
+stands-room S K old new h = (stands-same S K old new h, stands-same S K new old (same-back old new h))
+
+pub reached-room : (old new : Tables) (t : TableRef) → SameTables old new → reached new t ≡ reached old t
+reached-room old new t h = ap (λ o. of_ordinal o t.ordinal) (h.rows t.slot)
+
+-- a table that somebody holds is that of a group
+pub held-group : (S : Script) (K : List Event) (T : Tables) (t : TableRef) → StandsFor S K T → IsHeld T t → group_of K t.ordinal ≡ Some (group_at K t)
+held-group S K T t A h =
+    let f = held-found T t h in
+    let i = A.tables t.slot f.row f.at in
+    ap (group_of K) (sym f.ordinal) ∙ (i.at ∙ ap Some (sym (group-is S K f.row t i f.ordinal)))
 
 -- the holders of one table have changed, and some are left
 pub stands-held : (S : Script) (K : List Event) (old new : Tables) (s h : ℕ) (r : Row) → StandsFor S K old → row_at old s ≡ Some r → IsPut old s (Some (record r { holders = h })) new → 0 < h → StandsFor S K new

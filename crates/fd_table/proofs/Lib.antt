@@ -1,6 +1,6 @@
-mod Rising
-mod Slots
-mod Changed
-mod Answered
-mod Added
-mod Written
+pub mod Rising
+pub mod Slots
+pub mod Changed
+pub mod Answered
+pub mod Added
+pub mod Written

@@ -1,6 +1,6 @@
 //! The tables that have holders.
 
-ghost use Rattle.std.specs.Prelude.{◌≡◌, ◌≢◌, ℕ, ◌+◌, ◌-◌, ◌<◌, ◌≤◌, ◌^◌, Bool, true, false, List, [], ◌∷◌, ◌++◌, Option, Some, None, IsSome, is_some, IfOk, IfNone, OnOk, OnErr, IsOk, is_ok, vec_len, option_copied};
+ghost use Rattle.std.specs.Prelude.{◌≡◌, ◌≢◌, ◌↔◌, ℕ, ◌+◌, ◌-◌, ◌<◌, ◌≤◌, ◌^◌, Bool, true, false, List, [], ◌∷◌, ◌++◌, Option, Some, None, IsSome, is_some, IfOk, IfNone, OnOk, OnErr, IsOk, is_ok, vec_len, option_copied};
 ghost use Rattle.hist_model.specs.declared.event.Event.{Event};
 ghost use Rattle.hist_model.specs.declared.script.Script.{Script};
 ghost use Rattle.sys_abi.specs.declared.wire.Addfd.{Addfd};
@@ -180,6 +180,7 @@ impl Tables {
         ensures had_room { HasRoom self.old t → IsOk result }
         ensures reached { (u : TableRef) → reached self.new u ≡ reached self.old u }
         ensures same { SameTables self.old self.new }
+        ensures stands { (S : Script) (K : List Event) → StandsFor S K self.old ↔ StandsFor S K self.new }
     {
         self.reserve_table(self.count(t))?;
         self.reserve_entry(t)
