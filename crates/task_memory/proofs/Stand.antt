@@ -1,7 +1,7 @@
 -- What the spaces stand for after a call.
 -- By the lemmas of `Bytes`, `Ranges` and `Rows`, and by cases on whether a space is the one that changed.
 use Rattle.std.proofs.Common.{◌≡◌, ◌≢◌, inl, inr, ℕ, ◌+◌, ◌<◌, ◌≤◌, true, false, List, [], ◌∷◌, length, get_or, Option, Some, None, refl, sym, ap, ◌∙◌, arith}
-use Rattle.std.specs.Prelude.{not, Result, Ok, Err, IsErrAnd}
+use Rattle.std.specs.Prelude.{◌↔◌, not, Result, Ok, Err, IsErrAnd}
 use Rattle.std.proofs.lemmas.Bool.{cases_eq, ne_eqb, eq-eqb, lt-ltb, le-ltb}
 use Rattle.slab.specs.Slab.{get}
 use Rattle.sys_abi.specs.declared.memory.OrNoMemory.{OrNoMemory}
@@ -37,6 +37,21 @@ stands-kept S K T U t k = record {
 pub stands-same : (S : Script) (K : List Event) (T U : Spaces) → StandsFor S K T → SameSpaces T U → StandsFor S K U
 stands-same S K T U t h = stands-kept S K T U t (kept-same T U t.sound h)
 
+same-back : (T U : Spaces) → SameSpaces T U → SameSpaces U T
+same-back T U h = record {
+  map = sym h.map;
+  made = sym h.made;
+  pages = sym h.pages;
+  len = sym h.len;
+  uses = λ p. sym (h.uses p);
+  ordinals = λ u. sym (h.ordinals u);
+  entries = λ u. sym (h.entries u);
+  holders = λ s. sym (h.holders s);
+}
+
+pub stands-room : (S : Script) (K : List Event) (T U : Spaces) → SameSpaces T U → StandsFor S K T ↔ StandsFor S K U
+stands-room S K T U h = (λ t. stands-same S K T U t h, λ u. stands-same S K U T u (same-back T U h))
+
 -- a space that is held has its ordinal
 pub held-ordinal : (T : Spaces) (s : SpaceRef) → IsHeld T s → ordinal_at T s.slot ≡ Some s.ordinal
 held-ordinal T s h = at (get T.spaces s.slot) h
@@ -47,6 +62,10 @@ held-ordinal T s h = at (get T.spaces s.slot) h
       | inl q ↦ ap Some q
       | inr q ↦ let x : 0 < 0 = rw (ne_eqb r.ordinal s.ordinal q) at l in absurd (omega arith)
     ]
+
+-- and is that of a group
+pub held-group : (S : Script) (K : List Event) (T : Spaces) (s : SpaceRef) → StandsFor S K T → IsHeld T s → (g : ℕ) × (group_of K s.ordinal ≡ Some g)
+held-group S K T s t h = let i = t.spaces s.slot s.ordinal (held-ordinal T s h) in (i.place, i.at)
 
 pub held-row : (T : Spaces) (s : SpaceRef) → 0 < holders_of T s → (r : Space) × (get T.spaces s.slot ≡ Some r) × (r.ordinal ≡ s.ordinal)
 held-row T s h = at (get T.spaces s.slot) refl

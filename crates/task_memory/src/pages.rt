@@ -221,7 +221,8 @@ impl Pages {
     /// Appends so many bytes of a space, from an address on. There is room for them.
     pub fn append(&self, list: &[Entry], addr: u64, count: usize, out: &mut Vec<u8>)
         requires { vec_len out.old + count ≤ vec_capacity out.old }
-        ensures { NumbersRise list.now → out.new.items ≡ out.old.items ++ bytes_from (byte_in self.now list.now) addr count }
+        ensures items { NumbersRise list.now → out.new.items ≡ out.old.items ++ bytes_from (byte_in self.now list.now) addr count }
+        ensures capacity { vec_capacity out.old ≤ vec_capacity out.new }
     {
         let mut number = addr / PAGE as u64;
         let mut offset = (addr % PAGE as u64) as usize;

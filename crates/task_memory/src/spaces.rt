@@ -1,6 +1,6 @@
 //! The address spaces that tasks and handles hold.
 
-ghost use Rattle.std.specs.Prelude.{◌≡◌, ◌≢◌, ℕ, ◌+◌, ◌-◌, ◌%◌, ◌<◌, ◌≤◌, ◌^◌, not, List, ◌∷◌, [], Some, None, option_copied, IfOk, OnOk, OnErr, IsOk, length, false, vec_capacity};
+ghost use Rattle.std.specs.Prelude.{◌≡◌, ◌≢◌, ◌↔◌, ℕ, ◌+◌, ◌-◌, ◌%◌, ◌<◌, ◌≤◌, ◌^◌, not, List, ◌∷◌, [], Some, None, option_copied, IfOk, OnOk, OnErr, IsOk, length, true, false, vec_capacity};
 ghost use Rattle.slab.specs.Slab.{get, HasRoomFor};
 ghost use Rattle.hist_model.specs.declared.event.Event.{Event};
 ghost use Rattle.hist_model.specs.declared.script.Script.{Script};
@@ -98,6 +98,7 @@ impl Spaces {
         ensures room { OnOk result (HasRoom self.new s len) }
         ensures had_room { HasRoom self.old s len → IsOk result }
         ensures same { SameSpaces self.old self.new }
+        ensures stands { (S : Script) (K : List Event) → StandsFor S K self.old ↔ StandsFor S K self.new }
     {
         self.ready_copy(s)?;
         self.ready_store(s, len as usize)
@@ -282,14 +283,15 @@ impl Spaces {
         }
     }
 
-    /// Stores bytes of a task in its space. A fault where one of them isn't mapped; then nothing is stored.
+    /// Stores bytes of a task in its space. A fault where one of them isn't mapped; then all is as it was.
     pub fn poke(&mut self, s: SpaceRef, addr: u64, bytes: &[u8]) -> Result<(), OrNoMemory<Fault>>
         ensures fault { (S : Script) (K : List Event) → StandsFor S K self.old → was_refused result ≡ not (all_mapped S.map addr (length bytes.now)) }
         ensures step { OnOk result ((S : Script) (K : List Event) (e : Event) (g : ℕ) → StandsFor S K self.old → IsHeld self.old s → group_of K s.ordinal ≡ Some g → Stores S K e g addr bytes.now → StandsFor S (e ∷ K) self.new) }
         ensures stale { holders_of self.old s ≡ 0 → (S : Script) (K : List Event) → StandsFor S K self.old → StandsFor S K self.new }
         ensures holders { (t : SpaceRef) → holders_of self.new t ≡ holders_of self.old t }
         ensures room { (len : ℕ) → HasRoom self.old s len → length bytes.now ≤ len → lacked_memory result ≡ false }
-        ensures refused { OnErr result (SameSpaces self.old self.new) }
+        ensures refused { was_refused result ≡ true → self.new ≡ self.old }
+        ensures same { OnErr result (SameSpaces self.old self.new) }
     {
         if map::mapped_count(&self.map, addr, bytes.len()) < bytes.len() {
             return Err(OrNoMemory::Refused(Fault));
@@ -328,8 +330,38 @@ impl Spaces {
         self.release(h.space);
     }
 
-    /// Reads the bytes from an address on, up to the first that isn't mapped, and at most `len`: `out` then holds them,
-    /// and nothing else. A fault where the first isn't mapped; `out` is then as it was.
+    /// Reads the bytes of a task's space from an address on, up to the first that isn't mapped, and at most `len`: `out` then
+    /// holds them, and nothing else, and has the room that it had. A fault where the first isn't mapped; `out` is then as it
+    /// was.
+    pub fn peek(
+        &self,
+        s: SpaceRef,
+        addr: u64,
+        len: u16,
+        out: &mut Vec<u8>,
+    ) -> Result<(), OrNoMemory<Fault>>
+        ensures answer { (S : Script) (K : List Event) (g : ℕ) → StandsFor S K self.now → IsHeld self.now s → group_of K s.ordinal ≡ Some g → IsReadAnswer result out.new.items (bytes_read S K g addr len) }
+        ensures fault { (S : Script) (K : List Event) → StandsFor S K self.now → lacked_memory result ≡ false → was_refused result ≡ not (is_mapped S.map addr) }
+        ensures stale { (S : Script) (K : List Event) → StandsFor S K self.now → holders_of self.now s ≡ 0 → OnOk result (out.new.items ≡ []) }
+        ensures room { len ≤ vec_capacity out.old → lacked_memory result ≡ false }
+        ensures capacity { vec_capacity out.old ≤ vec_capacity out.new }
+        ensures refused { was_refused result ≡ true → out.new ≡ out.old }
+        ensures same { OnErr result (out.new.items ≡ out.old.items) }
+    {
+        if map::mapped_rest(&self.map, addr) == 0 {
+            return Err(OrNoMemory::Refused(Fault));
+        }
+        let len = usize::from(len);
+        let count = map::mapped_count(&self.map, addr, len);
+        out.reserve(len.saturating_sub(out.len()))?;
+        out.clear();
+        if let Some(space) = self.find(s) {
+            self.pages.append(&space.list, addr, count, out);
+        }
+        Ok(())
+    }
+
+    /// Reads the bytes of the space that a worker has opened, as `peek` does.
     pub fn read(
         &self,
         h: &MemHandle,
@@ -341,19 +373,11 @@ impl Spaces {
         ensures fault { (S : Script) (K : List Event) → StandsFor S K self.now → lacked_memory result ≡ false → was_refused result ≡ not (is_mapped S.map addr) }
         ensures stale { (S : Script) (K : List Event) → StandsFor S K self.now → holders_of self.now h.now.space ≡ 0 → OnOk result (out.new.items ≡ []) }
         ensures room { len ≤ vec_capacity out.old → lacked_memory result ≡ false }
-        ensures refused { OnErr result (out.new.items ≡ out.old.items) }
+        ensures capacity { vec_capacity out.old ≤ vec_capacity out.new }
+        ensures refused { was_refused result ≡ true → out.new ≡ out.old }
+        ensures same { OnErr result (out.new.items ≡ out.old.items) }
     {
-        if map::mapped_rest(&self.map, addr) == 0 {
-            return Err(OrNoMemory::Refused(Fault));
-        }
-        let len = usize::from(len);
-        let count = map::mapped_count(&self.map, addr, len);
-        out.reserve(len.saturating_sub(out.len()))?;
-        out.clear();
-        if let Some(space) = self.find(h.space) {
-            self.pages.append(&space.list, addr, count, out);
-        }
-        Ok(())
+        self.peek(h.space, addr, len, out)
     }
 
     /// Stores bytes of a worker in the space that it has opened, as `poke` does.
@@ -363,7 +387,8 @@ impl Spaces {
         ensures stale { holders_of self.old h.now.space ≡ 0 → (S : Script) (K : List Event) → StandsFor S K self.old → StandsFor S K self.new }
         ensures holders { (t : SpaceRef) → holders_of self.new t ≡ holders_of self.old t }
         ensures room { (len : ℕ) → HasRoom self.old h.now.space len → length bytes.now ≤ len → lacked_memory result ≡ false }
-        ensures refused { OnErr result (SameSpaces self.old self.new) }
+        ensures refused { was_refused result ≡ true → self.new ≡ self.old }
+        ensures same { OnErr result (SameSpaces self.old self.new) }
     {
         self.poke(h.space, addr, bytes)
     }

@@ -10,6 +10,7 @@ invariant-loop-rest l = record {
   at : 0 < l.rest → 4096 * l.number + l.offset ≡ l.addr + (l.count - l.rest);
   low : 4096 * l.number ≤ l.addr + (l.count - l.rest) + 4096;
   room : vec_len l.out + l.rest ≤ vec_capacity l.out;
+  kept : vec_capacity l.fn.out ≤ vec_capacity l.out;
   done : NumbersRise l.list → l.out.items ≡ l.fn.out.items ++ bytes_from (byte_in l.self l.list) l.addr (l.count - l.rest);
 }
 
