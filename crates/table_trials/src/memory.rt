@@ -46,12 +46,15 @@ fn bytes_are_kept_across_the_border_of_a_page(rt: HostRuntime) -> Result<(), Fai
     check_border(&rt, &mut spaces, &mut out)
 }
 
-/// A store by the task and one by the listener, each across the border, are read from both sides of it.
+/// A store by the task and one by the listener, each across the border, are read from both sides of it, by the listener and
+/// by the task.
 fn check_border<R: Abort>(rt: &R, spaces: &mut Spaces, out: &mut Vec<u8>) -> Result<(), Fail> {
     let space = spaces.fresh()?;
     let handle = spaces.open(space);
     spaces.poke(space, 69630, &[1, 2, 3, 4])?;
     expect_bytes(rt, spaces, &handle, 69629, out, &[0, 1, 2, 3, 4, 0])?;
+    spaces.peek(space, 69631, 2, out)?;
+    assert_eq!(rt; out.as_slice(), [2, 3].as_slice());
     spaces.plant(&handle, 69631, &[7, 8])?;
     expect_bytes(rt, spaces, &handle, 69630, out, &[1, 7, 8, 4])
 }
