@@ -6,7 +6,7 @@ use Rattle.hist_model.specs.Names.{is_child_number, is_task_name}
 use Rattle.hist_model.specs.Ranges.{are_all_apart, are_mapped, is_range, pages_of}
 use Rattle.hist_model.specs.Records.{ScriptRecord}
 use Rattle.hist_model.specs.Totals.{are_too_many, is_exit, totals_of_all}
-use Rattle.hist_model.specs.TreeLines.{are_lines, is_stated_directory, nodes_of}
+use Rattle.hist_model.specs.TreeLines.{are_lines, have_own_names, have_short_paths, is_stated_directory, nodes_of}
 use Rattle.hist_model.specs.declared.event.Actor.{Actor}
 use Rattle.hist_model.specs.declared.event.Actor.TheVariants.{Task, Worker}
 use Rattle.hist_model.specs.declared.script.FilterLine.{FilterLine}
@@ -114,8 +114,12 @@ pub record IsScript (S : ScriptRecord) : Type 0 where
   -- the container's memory and swap are at most the host's
   pub memory : S.figures.memory ≤ S.figures.host_memory
   pub swap : S.figures.swap ≤ S.figures.host_swap
-  -- each node lies in a directory above it and each attribute on a node above it; texts and devices keep their ranges
+  -- each node lies in a directory above it and each attribute on a node above it; names, texts and devices keep their ranges
   pub tree : are_lines S.tree ≡ true
+  -- no name stands twice in a directory
+  pub names : have_own_names S.tree ≡ true
+  -- no path to a node has more than 4095 bytes
+  pub paths : have_short_paths S.tree ≡ true
   -- at most 10000 lines make the tree
   pub few_lines : length S.tree ≤ 10000
   -- the container's root is a directory of the tree, or `/`

@@ -2,9 +2,9 @@
 use Rattle.std.specs.Prelude.{ℕ, true, false, List, [], ◌∷◌, ◌++◌, codes, pos}
 use Rattle.hist_model.specs.Decisions.{lxd_mknod_rules, default_rules}
 use Rattle.hist_model.specs.Filters.{notify_filter}
+use Rattle.hist_model.specs.Sysinfo.{no_figures}
 use Rattle.hist_model.specs.declared.event.Actor.TheVariants.{Task, Worker}
 use Rattle.hist_model.specs.declared.policy.Policy.{Policy}
-use Rattle.hist_model.specs.declared.script.Figures.{Figures}
 use Rattle.hist_model.specs.declared.script.Instr.TheVariants.{Poke, Call}
 use Rattle.hist_model.specs.declared.script.Script.{Script}
 use Rattle.hist_model.specs.declared.script.Step.{Step}
@@ -13,10 +13,6 @@ use Rattle.sys_abi.specs.Calls.{nr_mknod}
 -- the policy whose one switch is mknod: the devices that a container may make, and the defaults
 abbrev pub mknod_policy : Policy
 mknod_policy = record { rules = lxd_mknod_rules ++ default_rules }
-
--- nothing is used, and no limit is set
-abbrev pub no_figures : Figures
-no_figures = record { uptime = 0; used = 0; shared = 0; buffers = 0; swap_used = 0; memory = 0; swap = 0; host_memory = 0; host_swap = 0; procs = 0 }
 
 -- the arguments of the call: where the path stands, the mode of a character device with 0666, and the device
 abbrev pub mknod_args : ℕ → List ℕ

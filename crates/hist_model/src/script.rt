@@ -126,7 +126,8 @@ pub struct Totals {
 }
 
 /// A container: its settings, its programs, of which the last one is the first task's, and a schedule. Every script keeps
-/// the rules of its format: the ranges and limits of its parts, and what one part says of another.
+/// the rules of its format: the ranges and limits of its parts, what one part says of another, and the names in its tree,
+/// of which none stands twice in a directory.
 #[derive(Debug, Drop)]
 pub struct Script {
     /// Process numbers go from `pidbase + 1` to `pidbase + pidmax`.

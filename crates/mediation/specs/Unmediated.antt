@@ -3,7 +3,8 @@
 use Rattle.std.specs.Prelude.{◌≡◌, ℕ, ℤ, false, true, List, [], ◌∷◌, ◌++◌, Some, None, Ok, Err, pos, negsuc, codes}
 use Rattle.hist_model.specs.Look.{ev}
 use Rattle.hist_model.specs.Filters.{notify_filter}
-use Rattle.hist_model.specs.WorkedExample.{no_figures, three_turns}
+use Rattle.hist_model.specs.Sysinfo.{no_figures}
+use Rattle.hist_model.specs.WorkedExample.{three_turns}
 use Rattle.hist_model.specs.Decisions.{plain_rule}
 use Rattle.hist_model.specs.Legal.{played}
 use Rattle.hist_model.specs.Mediated.{Mediated}

@@ -1,10 +1,11 @@
 -- Lines that are accepted keep the rules of a script, and what they make is one that keeps them.
 -- By cases on the statement, of which each changes its part alone, and on the part where it stands.
-use Rattle.std.proofs.Common.{◌≡◌, ℕ, ◌+◌, ◌<◌, ◌≤◌, List, [], ◌∷◌, ◌++◌, length, Option, Some, None, refl, ap, sym, subst, arith, bytes_eq, if◌then◌else◌, unwrap_or}
+use Rattle.std.proofs.Common.{◌≡◌, ℕ, ◌+◌, ◌<◌, ◌≤◌, List, [], ◌∷◌, ◌++◌, length, Option, Some, None, refl, ap, sym, subst, ◌∙◌, inl, inr, arith, bytes_eq, if◌then◌else◌, unwrap_or}
 use Rattle.std.specs.Prelude.{Bool, true, false, ◌&&◌, not, nat_le, is_some}
 use Rattle.std.specs.List.{list_all}
-use Rattle.std.proofs.lemmas.Bool.{and_from, and_parts, leb-true, ltb-false, not-false, not_from_false}
+use Rattle.std.proofs.lemmas.Bool.{and_from, and_parts, both_ways, cases_Bool, leb-true, ltb-false, not-false, not_from_false}
 use Rattle.std.proofs.lemmas.List.Sums.{sum_by-cons}
+use Rattle.std.specs.Cmp.Lexicographic.{bytes_decides}
 use Rattle.bpf_filter.proofs.Notifies.{notify_is_accepted}
 use Rattle.hist_model.specs.Filters.{notify_filter}
 use Rattle.hist_model.specs.Records.{ScriptRecord}
@@ -27,11 +28,11 @@ use Rattle.script_reader.specs.Above.{Above, close_block, end_fault, nothing_abo
 use Rattle.script_reader.specs.Blocks.{FiltersState, filter_line, has_listener, with_insn}
 use Rattle.script_reader.specs.Programs.{ProgramsState, open_program, starting, with_instr, with_start}
 use Rattle.script_reader.specs.Ranges.{in_force}
-use Rattle.script_reader.specs.Rules.{FitsPart, HasNoPrograms, HasNumbers, HasPrograms, HasRanges, IsKept, IsSound, has_pages, is_found, is_sound_instruction, limits_or_none}
+use Rattle.script_reader.specs.Rules.{FitsPart, HasNoPrograms, HasNumbers, HasPrograms, HasRanges, IsKept, IsSound, bytes_of_path, has_length, has_pages, is_found, is_sound_instruction, limits_or_none}
 use Rattle.script_reader.specs.Scripts.{has_items, script_of}
 use Rattle.script_reader.specs.Settings.{with_group}
 use Rattle.script_reader.specs.Paths.{root_path}
-use Rattle.script_reader.specs.Tree.{found_node, node_ref}
+use Rattle.script_reader.specs.Tree.{bare_tree, found_node, is_stated, node_ref}
 use Rattle.script_reader.specs.Words.{among_settings, in_program}
 use Rattle.script_reader.proofs.Pushed.{any_last, none_more, none_first, none_then, not_full, not_wrong}
 use Rattle.script_reader.proofs.KeptRules.{attr_kept, descriptors_kept, directory_found, directory_kept, exit_last, exits_nowhere, filters_kept, flag_kept, instruction_kept, node_kept, program_kept, ranges_kept, schedule_kept, start_kept, starts_low}
@@ -204,7 +205,7 @@ statement-kept (states.Rlimit n) A k sound fine =
 statement-kept states.Killable A k sound fine = settings-kept A _ k k.settings k.root (not-false _ (not_wrong _ _ (none_then _ _ fine)))
 statement-kept (states.Node path kind) A k sound fine = record {
   settings = k.settings;
-  tree = node_kept A.tree path kind k.tree fine sound;
+  tree = node_kept A.tree path kind k.tree fine sound.0 sound.1;
   root = directory_kept A.tree.lines _ _ k.root;
   descriptors = k.descriptors;
   map = k.map;
@@ -334,10 +335,23 @@ root-found : (same : Bool) → is_found root_alone (if same then Some (found_nod
 root-found true = refl
 root-found false = refl
 
+root-only : (path : List ℕ) → is_stated bare_tree path ≡ true → root_path ≡ path
+root-only path h = elim (cases_Bool (bytes_eq root_path path)) [ inl e ↦ (bytes_decides root_path path).0 e | inr e ↦ absurd (both_ways false refl (rw e at h)) ]
+
+root-once : (path other : List ℕ) → is_stated bare_tree path ≡ true → is_stated bare_tree other ≡ true → path ≡ other
+root-once path other h o = sym (root-only path h) ∙ root-only other o
+
+root-length : (same : Bool) (path : List ℕ) → (same ≡ true → root_path ≡ path) → has_length (0 ∷ []) path (if same then Some (found_node 0 true) else None)
+root-length true path h = ap (λ path. Some (bytes_of_path path)) (h refl)
+root-length false path h = tt
+
+root-measured : (path : List ℕ) → has_length (0 ∷ []) path (bare_tree.found path)
+root-measured path = root-length (bytes_eq root_path path) path (λ e. (bytes_decides root_path path).0 e)
+
 nothing-kept : IsKept nothing_above
 nothing-kept = record {
   settings = record { numbers = omega arith; pids = omega arith; rlimit = omega arith; memory = omega arith; swap = omega arith };
-  tree = record { lines = refl; few = omega arith; nodes = refl; found = λ path. root-found (bytes_eq root_path path) };
+  tree = record { lines = refl; few = omega arith; nodes = refl; found = λ path. root-found (bytes_eq root_path path); names = refl; once = λ path other h o e. root-once path other h o; stated = λ path p parent made. absurd (both_ways false refl made); short = refl; counted = refl; measured = root-measured };
   root = refl;
   descriptors = record { range = refl; once = refl; few = omega arith };
   map = record { ranges = refl; apart = refl; few = omega arith };
@@ -381,6 +395,8 @@ script-kept A k some =
       memory = k.settings.memory;
       swap = k.settings.swap;
       tree = k.tree.lines;
+      names = k.tree.names;
+      paths = k.tree.short;
       few_lines = k.tree.few;
       root = k.root;
       descriptors = k.descriptors.range;

@@ -9,7 +9,7 @@ use Rattle.std.proofs.lemmas.List.Sums.{sum_by_push}
 use Rattle.hist_model.specs.Ranges.{are_all_apart, are_apart, is_apart, is_range, end_of, pages_of}
 use Rattle.hist_model.specs.ScriptRules.{are_different, can_be_scheduled, exits_last, gives_listener, has_flag_listener, is_accepted, is_instruction, is_last, starts_below, start_earlier, stores_mapped}
 use Rattle.hist_model.specs.Totals.{are_too_many, is_exit, program_totals, totals_behind, totals_of, with_end}
-use Rattle.hist_model.specs.TreeLines.{are_lines_behind, is_directory, is_line, is_node, is_stated_directory, is_text, is_true, nodes_behind, nodes_of, root_alone, with_line}
+use Rattle.hist_model.specs.TreeLines.{are_lines_behind, is_directory, is_line, is_made_in, is_node, is_stated_directory, is_text, is_true, nodes_behind, nodes_of, path_lengths, root_alone, with_line}
 use Rattle.hist_model.specs.declared.request.Node.{Node}
 use Rattle.hist_model.specs.declared.request.NodeRef.{NodeRef}
 use Rattle.hist_model.specs.declared.script.FilterLine.{FilterLine}
@@ -22,12 +22,15 @@ use Rattle.hist_model.specs.declared.script.TreeLine.{TreeLine}
 use Rattle.hist_model.specs.declared.script.TreeLine.TheVariants.{Made, Attr}
 use Rattle.script_reader.specs.declared.settings.Found.{Found}
 use Rattle.script_reader.specs.Above.{ScheduleState, step_fault, with_step}
-use Rattle.script_reader.specs.Paths.{parent_of}
+use Rattle.script_reader.specs.Paths.{is_path, parent_of}
 use Rattle.script_reader.specs.Programs.{ProgramsState, close_program, open_totals, standing, starting, start_fault, totals_fault, with_instr, with_start}
 use Rattle.script_reader.specs.Ranges.{broker_fault, map_fault}
-use Rattle.script_reader.specs.Rules.{HasDescriptors, HasFilters, HasPrograms, HasRanges, HasSchedule, HasTree, has_pages, is_found, is_placed_below, is_sound_instruction, starts_nothing}
-use Rattle.script_reader.specs.Tree.{TreeState, attr_fault, found_node, is_directory_found, leading, made_line, node_at, node_fault, reference_of, with_attr, with_node}
-use Rattle.script_reader.proofs.Pushed.{all_more, all_weaker, any_more, none_more, none_first, none_then, not_full, not_large, not_wrong, one_more}
+use Rattle.script_reader.specs.Rules.{HasDescriptors, HasFilters, HasPrograms, HasRanges, HasSchedule, HasTree, has_length, has_pages, is_found, is_placed_below, is_sound_instruction, starts_nothing}
+use Rattle.script_reader.specs.Tree.{TreeState, attr_fault, found_node, is_directory_found, is_stated, leading, made_line, node_at, node_fault, reference_of, with_attr, with_node}
+use Rattle.script_reader.proofs.KeptNames.{names_more, once_more, stated_more, stated_still}
+use Rattle.script_reader.proofs.KeptPaths.{lengths_more, paths_more}
+use Rattle.script_reader.proofs.PathParts.{name_fits}
+use Rattle.script_reader.proofs.Pushed.{all_more, all_weaker, any_more, get_last, none_more, none_first, none_then, not_full, not_large, not_wrong, one_more, refuted}
 
 -- ---- the tree
 
@@ -53,10 +56,6 @@ stated-behind (Attr on name value) nodes n h = h
 pub directory_kept : (lines : List TreeLine) (l : TreeLine) (n : NodeRef) → is_stated_directory (nodes_of lines) n ≡ true → is_stated_directory (nodes_of (lines ++ l ∷ [])) n ≡ true
 directory_kept lines l n h = subst (λ nodes. is_stated_directory nodes n ≡ true) (sym (nodes-more root_alone lines l)) (stated-behind l (nodes_of lines) n h)
 
-last-stated : (nodes : List Bool) (directory : Bool) → slice_get (nodes ++ directory ∷ []) (length nodes) ≡ Some directory
-last-stated [] directory = refl
-last-stated (node ∷ nodes) directory = last-stated nodes directory
-
 one-longer : (nodes : List Bool) (directory : Bool) → length (nodes ++ directory ∷ []) ≡ length nodes + 1
 one-longer nodes directory = length-append nodes (directory ∷ [])
 
@@ -72,7 +71,7 @@ found-more nodes directory (Some f) h =
     ])
 
 newest-stated : (nodes : List Bool) (directory : Bool) → (not directory || is_true (slice_get (nodes ++ directory ∷ []) (length nodes))) ≡ true
-newest-stated nodes true = rw (last-stated nodes true) refl
+newest-stated nodes true = rw (get_last nodes true) refl
 newest-stated nodes false = refl
 
 found-newest : (nodes : List Bool) (directory : Bool) → is_found (nodes ++ directory ∷ []) (Some (found_node (length nodes) directory)) ≡ true
@@ -97,6 +96,10 @@ found-within : (nodes : List Bool) (found : Option Found) → is_found nodes fou
 found-within nodes None h s = cc
 found-within nodes (Some f) h s = (and_parts _ _ h).0
 
+directory-stated : (found : Option Found) → is_directory_found found ≡ true → is_some found ≡ true
+directory-stated None d = cc
+directory-stated (Some f) d = refl
+
 -- the directory that a path leads to
 pub directory_found : (T : TreeState) (path : List ℕ) → HasTree T → is_directory_found (T.found path) ≡ true → is_stated_directory (nodes_of T.lines) (node_at T path) ≡ true
 directory_found T path h d = found-directory (nodes_of T.lines) (T.found path) (h.found path) d
@@ -105,11 +108,14 @@ few-more : {X : Type 0} (xs : List X) (x : X) (limit : ℕ) → length xs < limi
 few-more xs x limit h = omega (arith, length-append xs (x ∷ []))
 
 -- one more node
-pub node_kept : (T : TreeState) (path : List ℕ) (kind : Node) → HasTree T → node_fault T path ≡ None → is_node kind ≡ true → HasTree (with_node path kind T)
-node_kept T path kind h fine node =
+pub node_kept : (T : TreeState) (path : List ℕ) (kind : Node) → HasTree T → node_fault T path ≡ None → is_path path ≡ true → is_node kind ≡ true → HasTree (with_node path kind T)
+node_kept T path kind h fine p node =
     let faulty : (not (is_directory_found (T.found (parent_of path))) || is_some (T.found path)) ≡ false = not_wrong _ _ (none_first _ _ fine) in
     let parent : is_directory_found (T.found (parent_of path)) ≡ true = not-false _ (or_parts _ _ faulty).0 in
-    let sound : is_line (nodes_of T.lines) (made_line path kind T) ≡ true = and_from _ _ (directory_found T (parent_of path) h parent) node in
+    let stated : is_stated T (parent_of path) ≡ true = directory-stated (T.found (parent_of path)) parent in
+    let new : is_made_in T.lines (made_line path kind T) ≡ false = refuted _ (λ made. both_ways _ (or_parts _ _ faulty).1 (h.stated path p stated made)) in
+    let paths = paths_more T path kind h p stated in
+    let sound : is_line (nodes_of T.lines) (made_line path kind T) ≡ true = and_from _ _ (and_from _ _ (directory_found T (parent_of path) h parent) (name_fits path p)) node in
     let more : nodes_of (T.lines ++ made_line path kind T ∷ []) ≡ nodes_of T.lines ++ is_directory kind ∷ [] = nodes-more root_alone T.lines (made_line path kind T) in
     record {
       lines = lines-more root_alone T.lines (made_line path kind T) h.lines sound;
@@ -119,6 +125,12 @@ node_kept T path kind h fine node =
           subst (λ nodes. is_found nodes (leading path (found_node T.nodes (is_directory kind)) T.found q) ≡ true) (sym more)
           (subst (λ n. is_found (nodes_of T.lines ++ is_directory kind ∷ []) (leading path (found_node n (is_directory kind)) T.found q) ≡ true) (sym h.nodes)
           (found-either (nodes_of T.lines) (is_directory kind) (bytes_eq path q) (T.found q) (h.found q)));
+      names = names_more T.lines (made_line path kind T) h.names new;
+      once = once_more T path kind h;
+      stated = stated_more T path kind h p stated;
+      short = paths.0;
+      counted = paths.1;
+      measured = paths.2;
     }
 
 -- one more attribute
@@ -127,11 +139,18 @@ attr_kept T path name value h fine text small =
     let stated : is_some (T.found path) ≡ true = not-false _ (not_wrong _ _ (none_first _ _ fine)) in
     let sound : is_line (nodes_of T.lines) (Attr (node_at T path) name value) ≡ true = and_from _ _ (and_from _ _ (found-within (nodes_of T.lines) (T.found path) (h.found path) stated) text) small in
     let more : nodes_of (T.lines ++ Attr (node_at T path) name value ∷ []) ≡ nodes_of T.lines = nodes-more root_alone T.lines (Attr (node_at T path) name value) in
+    let lengths : path_lengths (T.lines ++ Attr (node_at T path) name value ∷ []) ≡ path_lengths T.lines = lengths_more (0 ∷ []) T.lines (Attr (node_at T path) name value) in
     record {
       lines = lines-more root_alone T.lines (Attr (node_at T path) name value) h.lines sound;
       few = few-more T.lines (Attr (node_at T path) name value) 10000 (not_full _ _ (none_then _ _ fine));
       nodes = h.nodes ∙ sym (ap length more);
       found = λ q. subst (λ nodes. is_found nodes (T.found q) ≡ true) (sym more) (h.found q);
+      names = names_more T.lines (Attr (node_at T path) name value) h.names refl;
+      once = h.once;
+      stated = stated_still T (node_at T path) name value h;
+      short = subst (λ ns. list_all (λ n. nat_le n 4095) ns ≡ true) (sym lengths) h.short;
+      counted = ap length lengths ∙ h.counted;
+      measured = λ q. subst (λ ns. has_length ns q (T.found q)) (sym lengths) (h.measured q);
     }
 
 -- ---- descriptors and ranges

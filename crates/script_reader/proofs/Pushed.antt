@@ -1,7 +1,7 @@
 -- What tests on the entries of a list say with one more entry at its end, and what it tells that there is no fault.
 -- By the laws of lists, and by cases on the tests.
-use Rattle.std.proofs.Common.{◌≡◌, ℕ, ◌+◌, ◌<◌, ◌≤◌, List, [], ◌∷◌, ◌++◌, Option, Some, None, refl, ◌∙◌, arith, cond}
-use Rattle.std.specs.Prelude.{Bool, true, false}
+use Rattle.std.proofs.Common.{◌≡◌, ℕ, zero, suc, ◌+◌, ◌<◌, ◌≤◌, List, [], ◌∷◌, ◌++◌, length, Option, Some, None, refl, ◌∙◌, arith, cond}
+use Rattle.std.specs.Prelude.{Bool, true, false, slice_get}
 use Rattle.std.specs.List.{list_all, list_any, count_by}
 use Rattle.std.proofs.lemmas.Bool.{cond-false, and_from, and_parts, or_from, or_left, or_right, or_parts, leb-false}
 use Rattle.std.proofs.lemmas.List.Folds.{list_all-append, list_any-append}
@@ -25,6 +25,16 @@ any_last p xs x h = list_any-append p xs (x ∷ []) ∙ or_right _ _ (or_left _ 
 pub all_weaker : {X : Type 0} (p q : X → Bool) (xs : List X) → ((x : X) → p x ≡ true → q x ≡ true) → list_all p xs ≡ true → list_all q xs ≡ true
 all_weaker p q [] w h = refl
 all_weaker p q (x ∷ xs) w h = and_from _ _ (w x (and_parts _ _ h).0) (all_weaker p q xs w (and_parts _ _ h).1)
+
+-- the last entry, and each other one
+pub get_last : {X : Type 0} (xs : List X) (x : X) → slice_get (xs ++ x ∷ []) (length xs) ≡ Some x
+get_last [] x = refl
+get_last (y ∷ xs) x = get_last xs x
+
+pub get_more : {X : Type 0} (xs : List X) (x : X) (n : ℕ) (y : X) → slice_get xs n ≡ Some y → slice_get (xs ++ x ∷ []) n ≡ Some y
+get_more [] x n y h = cc
+get_more (z ∷ xs) x zero y h = h
+get_more (z ∷ xs) x (suc n) y h = get_more xs x n y h
 
 count_none : {X : Type 0} (p : X → Bool) (xs : List X) → list_any p xs ≡ false → count_by p xs ≡ 0
 count_none p [] h = refl
@@ -50,6 +60,11 @@ count_either p xs x false e h n =
 -- where none that passes is joined by another one, at most one passes
 pub one_more : {X : Type 0} (p : X → Bool) (xs : List X) (x : X) → count_by p xs ≤ 1 → (p x ≡ true → list_any p xs ≡ false) → count_by p (xs ++ x ∷ []) ≤ 1
 one_more p xs x h n = count_either p xs x (p x) refl h n
+
+-- a test that can't pass fails
+pub refuted : (t : Bool) → (t ≡ true → ⊥) → t ≡ false
+refuted true h = absurd (h refl)
+refuted false h = refl
 
 -- ---- no fault
 

@@ -27,7 +27,7 @@ use Rattle.script_reader.specs.declared.word.Word.{Word}
 use Rattle.script_reader.specs.declared.word.Word.TheVariants as word
 use Rattle.script_reader.specs.Lines.{comes_late, is_in_place}
 use Rattle.script_reader.specs.Operands.{addressee_in, begins_number, earlier, fault_from, fault_unless, is_addressee, is_counted, is_handled_signal, is_page, is_sent_signal, kill_counts, kill_number, natural, number_fault, operand_at, operand_fault, operands_fault, rank}
-use Rattle.script_reader.specs.Paths.{are_child_texts, begins_plainly, is_child_text, is_children_tail, is_task_text, number_or_zero, pieces, task_numbers}
+use Rattle.script_reader.specs.Paths.{are_child_texts, begins_plainly, is_child_text, is_children_tail, is_path, is_task_text, number_or_zero, pieces, task_numbers}
 use Rattle.script_reader.specs.Rules.{IsSound, has_pages, starts_nothing}
 use Rattle.script_reader.specs.Statements.{statement, byte_at, bytes_at, call_at, call_named, calls_named, count_at, kill_of, limited_at, poke_of, wide_at, word_at}
 use Rattle.script_reader.specs.Words.{belongs}
@@ -41,6 +41,10 @@ passed false reason h = cc
 where_counted : (counted : Bool) (fault : Option Reason) → (if counted then fault else Some WrongCount) ≡ None → fault ≡ None
 where_counted true fault h = h
 where_counted false fault h = cc
+
+is-counted : (counted : Bool) (fault : Option Reason) → (if counted then fault else Some WrongCount) ≡ None → counted ≡ true
+is-counted true fault h = refl
+is-counted false fault h = cc
 
 one-of-two : (b : Bool) (r s : Reason) → (if b then Some r else Some s) ≡ None → Some r ≡ None
 one-of-two true r s h = h
@@ -237,6 +241,16 @@ pages-range (one ∷ two ∷ more) h =
 
 -- ---- the tree
 
+path-token : (token : Token) (more : List Token) → operand_fault operand.Path token ≡ None → is_path (bytes_at (token ∷ more) 0) ≡ true
+path-token (Bare word) more h = cc
+path-token (Quoted bytes) more h = passed _ _ h
+
+-- the first operand of a node's line is a path
+path-sound : (w : Word) (operands : List Token) → is_counted w [] ≡ false → ((ops : List Token) → operand_at w ops 0 ≡ operand.Path) → operands_fault w operands ≡ None
+    → is_path (bytes_at operands 0) ≡ true
+path-sound w [] counted first h = absurd (both_ways (is_counted w []) counted (is-counted (is_counted w []) _ h))
+path-sound w (token ∷ more) counted first h = path-token token more (subst (λ o. operand_fault o token ≡ None) (first (token ∷ more)) (first-fine w token more h))
+
 link-sound : (operands : List Token) → operands_fault word.Link operands ≡ None → is_text 1 4095 (bytes_at operands 1) ≡ true
 link-sound [] h = cc
 link-sound (one ∷ []) h = cc
@@ -344,10 +358,6 @@ handler-sound [] h = cc
 handler-sound (Bare bytes ∷ more) h = handled-number (number bytes) (first-fine word.Handler (Bare bytes) more h)
 handler-sound (Quoted bytes ∷ more) h = absurd (some-none _ (first-fine word.Handler (Quoted bytes) more h))
 
-is-counted : (counted : Bool) (fault : Option Reason) → (if counted then fault else Some WrongCount) ≡ None → counted ≡ true
-is-counted true fault h = refl
-is-counted false fault h = cc
-
 kill-counted : (who : Addressee) (operands : List Token) → addressee_in operands ≡ who → operands_fault word.Kill operands ≡ None
     → (nat_le (kill_counts who).0 (length operands) && nat_le (length operands) (kill_counts who).1) ≡ true
 kill-counted who operands e h =
@@ -428,13 +438,13 @@ pub sound_statement : (part : Part) (base_is_stated : Bool) (w : Word) (operands
     → is_in_place part base_is_stated w ≡ true → operands_fault w operands ≡ None → IsSound part base_is_stated (statement w operands)
 sound_statement part base_is_stated word.Pidmax operands place h = (no-base base_is_stated (and_parts _ _ place).1, some-pid operands h, pidmax-range operands h)
 sound_statement part base_is_stated word.Rlimit operands place h = rlimit-range operands h
-sound_statement part base_is_stated word.Dir operands place h = refl
-sound_statement part base_is_stated word.Reg operands place h = refl
-sound_statement part base_is_stated word.Fifo operands place h = refl
-sound_statement part base_is_stated word.Sock operands place h = refl
-sound_statement part base_is_stated word.Link operands place h = link-sound operands h
-sound_statement part base_is_stated word.Chr operands place h = chr-sound operands h
-sound_statement part base_is_stated word.Blk operands place h = blk-sound operands h
+sound_statement part base_is_stated word.Dir operands place h = (path-sound word.Dir operands refl (λ ops. refl) h, refl)
+sound_statement part base_is_stated word.Reg operands place h = (path-sound word.Reg operands refl (λ ops. refl) h, refl)
+sound_statement part base_is_stated word.Fifo operands place h = (path-sound word.Fifo operands refl (λ ops. refl) h, refl)
+sound_statement part base_is_stated word.Sock operands place h = (path-sound word.Sock operands refl (λ ops. refl) h, refl)
+sound_statement part base_is_stated word.Link operands place h = (path-sound word.Link operands refl (λ ops. refl) h, link-sound operands h)
+sound_statement part base_is_stated word.Chr operands place h = (path-sound word.Chr operands refl (λ ops. refl) h, chr-sound operands h)
+sound_statement part base_is_stated word.Blk operands place h = (path-sound word.Blk operands refl (λ ops. refl) h, blk-sound operands h)
 sound_statement part base_is_stated word.Attr operands place h = attr-sound operands h
 sound_statement part base_is_stated word.Broker operands place h = descriptor-range operands h
 sound_statement part base_is_stated word.Map operands place h = (belonging part base_is_stated word.Map place, pages-range operands h)

@@ -7,6 +7,7 @@ use Rattle.lex_core.specs.Lines.{split, without_return, is_skipped, numbered}
 use Rattle.lex_core.specs.Numbers.{digits_value}
 use Rattle.lex_core.specs.declared.reason.Reason.TheVariants.{BadByte, BadQuote, UnknownWord, OutOfPlace, WrongCount, WrongForm, BadNumber, OutOfRange, BadPath, UnknownName, Duplicate, Unmapped, SecondListener, NoListener, BadFilter, NotClosed, NoProgram}
 use Rattle.hist_model.specs.Filters.{notify_filter, fault_among}
+use Rattle.hist_model.specs.Sysinfo.{no_figures}
 use Rattle.hist_model.specs.declared.event.Actor.TheVariants.{Task, Worker}
 use Rattle.hist_model.specs.declared.event.Mode.TheVariants.{Restart}
 use Rattle.hist_model.specs.declared.request.Node.TheVariants as node
@@ -19,7 +20,6 @@ use Rattle.script_reader.specs.declared.error.ScriptError.TheVariants.{BadLine, 
 use Rattle.script_reader.specs.Above.{above}
 use Rattle.script_reader.specs.Operands.{fault_from}
 use Rattle.script_reader.specs.Scripts.{script, reading}
-use Rattle.script_reader.specs.Settings.{no_figures}
 use Rattle.script_reader.specs.Tree.{node_ref}
 
 -- the bytes of some lines, each ended by byte 10

@@ -3,12 +3,9 @@ use Rattle.std.specs.Prelude.{ℕ, ◌-◌, ◌^◌, Bool, true, false, ◌&&◌
 use Rattle.std.specs.List.{list_all, slice_split}
 use Rattle.lex_core.specs.Numbers as numbers
 use Rattle.bpf_filter.specs.Text.{below}
-pub use Rattle.hist_model.specs.TreeLines.{has_zero, is_node_name}
+pub use Rattle.hist_model.specs.TreeLines.{has_zero, is_node_name, is_slash}
 
 -- ---- paths of the tree (path_resolution(7))
-
-abbrev pub is_slash : ℕ → Bool
-is_slash b = b == 47
 
 -- names between slashes
 abbrev pub are_node_names : List ℕ → Bool

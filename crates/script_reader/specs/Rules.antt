@@ -1,10 +1,10 @@
 -- What lines keep, so that every script that is read keeps the rules of its type.
-use Rattle.std.specs.Prelude.{◌≡◌, ℕ, ◌+◌, ◌≤◌, ◌<◌, Bool, true, false, ◌&&◌, ◌||◌, not, nat_le, nat_lt, List, [], length, Option, Some, None, unwrap_or, ⊤}
+use Rattle.std.specs.Prelude.{◌≡◌, ℕ, ◌+◌, ◌≤◌, ◌<◌, Bool, true, false, ◌&&◌, ◌||◌, not, if◌then◌else◌, nat_le, nat_lt, List, [], length, slice_get, Option, Some, None, unwrap_or, bytes_eq, ⊤}
 use Rattle.std.specs.List.{list_all, list_any, count_by}
 use Rattle.hist_model.specs.Ranges.{are_all_apart, is_page_address, is_range, pages_of}
 use Rattle.hist_model.specs.ScriptRules.{are_different, can_be_scheduled, exits_last, gives_listener, has_flag_listener, is_accepted, is_instruction, starts_below, start_earlier, steps_of, stores_mapped}
 use Rattle.hist_model.specs.Totals.{are_too_many, is_exit, totals_of_all}
-use Rattle.hist_model.specs.TreeLines.{are_lines, is_node, is_stated_directory, is_text, nodes_of}
+use Rattle.hist_model.specs.TreeLines.{are_lines, have_own_names, have_short_paths, is_node, is_stated_directory, is_text, makes, nodes_of, path_lengths}
 use Rattle.hist_model.specs.declared.script.FilterLine.{FilterLine}
 use Rattle.hist_model.specs.declared.script.Instr.{Instr}
 use Rattle.hist_model.specs.declared.script.Instr.TheVariants.{Spawn, Thread}
@@ -18,10 +18,11 @@ use Rattle.script_reader.specs.declared.word.Part.{Part}
 use Rattle.script_reader.specs.declared.word.Part.TheVariants as part
 use Rattle.script_reader.specs.Above.{Above, ScheduleState}
 use Rattle.script_reader.specs.Blocks.{FiltersState, has_listener}
+use Rattle.script_reader.specs.Paths.{is_path, name_of, parent_of, root_path}
 use Rattle.script_reader.specs.Programs.{ProgramsState}
 use Rattle.script_reader.specs.Ranges.{in_force}
 use Rattle.script_reader.specs.Settings.{first_limits}
-use Rattle.script_reader.specs.Tree.{TreeState, node_ref}
+use Rattle.script_reader.specs.Tree.{TreeState, is_stated, node_at, node_ref}
 use Rattle.script_reader.specs.Words.{among_settings, in_program}
 
 -- ---- what a line states by itself
@@ -40,7 +41,7 @@ has_pages range = is_page_address range.start && nat_le 1 range.pages && nat_le 
 abbrev pub IsSound : Part → Bool → Statement → Type 0
 IsSound p base_is_stated (states.Pidmax n) = (base_is_stated ≡ false) × (1 ≤ n) × (n ≤ 4194304)
 IsSound p base_is_stated (states.Rlimit n) = n ≤ 4096
-IsSound p base_is_stated (states.Node path kind) = is_node kind ≡ true
+IsSound p base_is_stated (states.Node path kind) = (is_path path ≡ true) × (is_node kind ≡ true)
 IsSound p base_is_stated (states.Attr path name value) = (is_text 1 255 name ≡ true) × (nat_le (length value) 4096 ≡ true)
 IsSound p base_is_stated (states.Broker n) = nat_le n 1023 ≡ true
 IsSound p base_is_stated (states.Map range) = (among_settings p ≡ true) × (has_pages range ≡ true)
@@ -70,11 +71,30 @@ abbrev pub is_found : List Bool → Option Found → Bool
 is_found nodes None = true
 is_found nodes (Some found) = nat_lt found.node.ordinal (length nodes) && (not found.directory || is_stated_directory nodes found.node)
 
+-- how many bytes a path has, without the slash where it is `/`
+abbrev pub bytes_of_path : List ℕ → ℕ
+bytes_of_path path = if bytes_eq path root_path then 0 else length path
+
+-- by its ordinal, what a path leads to has a path of so many bytes
+abbrev pub has_length : List ℕ → List ℕ → Option Found → Type 0
+has_length lengths path None = ⊤
+has_length lengths path (Some found) = slice_get lengths found.node.ordinal ≡ Some (bytes_of_path path)
+
 pub record HasTree (T : TreeState) : Type 0 where
   pub lines : are_lines T.lines ≡ true
   pub few : length T.lines ≤ 10000
   pub nodes : T.nodes ≡ length (nodes_of T.lines)
   pub found : (path : List ℕ) → is_found (nodes_of T.lines) (T.found path) ≡ true
+  pub names : have_own_names T.lines ≡ true
+  -- one path alone leads to a node
+  pub once : (path other : List ℕ) → is_stated T path ≡ true → is_stated T other ≡ true → (node_at T path).ordinal ≡ (node_at T other).ordinal → path ≡ other
+  -- a node that is made where a path leads is stated by that path
+  pub stated : (path : List ℕ) → is_path path ≡ true → is_stated T (parent_of path) ≡ true
+      → list_any (makes (node_at T (parent_of path)) (name_of path)) T.lines ≡ true → is_stated T path ≡ true
+  -- the lengths of paths are those of the paths that lead to the nodes
+  pub short : have_short_paths T.lines ≡ true
+  pub counted : length (path_lengths T.lines) ≡ T.nodes
+  pub measured : (path : List ℕ) → has_length (path_lengths T.lines) path (T.found path)
 
 pub record HasDescriptors (broker : List ℕ) : Type 0 where
   pub range : list_all (λ n. nat_le n 1023) broker ≡ true

@@ -1,6 +1,7 @@
 -- The settings that are single values.
 use Rattle.std.specs.Prelude.{ℕ, ◌+◌, min, false, nat_lt, Option, Some, None, is_some, unwrap_or}
 use Rattle.lex_core.specs.declared.reason.Reason.TheVariants as reason
+use Rattle.hist_model.specs.Sysinfo.{no_figures}
 use Rattle.hist_model.specs.declared.script.Figures.{Figures}
 use Rattle.script_reader.specs.declared.error.Fault.{Fault}
 use Rattle.script_reader.specs.declared.settings.Limits.{Limits}
@@ -37,20 +38,6 @@ with_group memory swap None = first_limits memory swap
 with_group memory swap (Some limits) = record limits { memory = min limits.memory memory; swap = min limits.swap swap }
 
 -- ---- what sysinfo(2) tells
-
-abbrev pub no_figures : Figures
-no_figures = record {
-  uptime = 0;
-  used = 0;
-  shared = 0;
-  buffers = 0;
-  swap_used = 0;
-  memory = 0;
-  swap = 0;
-  host_memory = 0;
-  host_swap = 0;
-  procs = 0;
-}
 
 abbrev pub with_limits : Figures → Limits → Figures
 with_limits figures limits = record figures {
