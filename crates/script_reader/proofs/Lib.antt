@@ -11,3 +11,4 @@ pub mod KeptRules
 pub mod KeptLines
 pub mod SoundStatements
 pub mod Readings
+pub mod MappedRanges

@@ -18,6 +18,7 @@ mod blocks;
 mod builder;
 pub mod error;
 mod fault;
+pub mod laws;
 pub mod operand;
 pub mod paths;
 mod programs;
