@@ -1,3 +1,5 @@
+pub mod InOrder
 pub mod Places
 pub mod Walks
 pub mod Attributes
+pub mod Found

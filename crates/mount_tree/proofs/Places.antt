@@ -12,7 +12,7 @@ use Rattle.hist_model.proofs.Look.{below_or_last}
 use Rattle.hist_model.proofs.Scans.{past_more}
 use Rattle.mount_tree.specs.Places.{attr_place}
 
-length_past : {A : Type 0} → (xs : List A) (n : ℕ) → n ≤ length xs → length (reverse (take n xs)) ≡ n
+pub length_past : {A : Type 0} → (xs : List A) (n : ℕ) → n ≤ length xs → length (reverse (take n xs)) ≡ n
 length_past xs n h = simp (length-reverse, length-take) (omega arith)
 
 pub entry_more : (xs : List NodeRow) (i : ℕ) (d : NodeRow) (dir : ℕ) (name : List ℕ) → i < length xs

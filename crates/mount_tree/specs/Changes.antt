@@ -6,6 +6,8 @@ use Rattle.hist_model.specs.declared.request.NodeRef.{NodeRef}
 use Rattle.sys_abi.specs.declared.memory.OrNoMemory.{OrNoMemory}
 use Rattle.sys_abi.specs.declared.memory.OrNoMemory.TheVariants.{Refused, NoMemory}
 use Rattle.mount_tree.specs.declared.errors.Exists.{Exists}
+use Rattle.mount_tree.specs.declared.mounts.NewMount.{NewMount}
+use Rattle.hist_model.specs.declared.request.MountRow.{MountRow}
 use Rattle.mount_tree.specs.declared.errors.AttrError.{AttrError}
 use Rattle.mount_tree.specs.declared.errors.AttrError.TheVariants as attr_error
 
@@ -37,3 +39,11 @@ AttrSet old new on name value flags (Err attr_error.Absent) =
     (are_attr_flags flags ≡ true) × (replaces_attr flags ≡ true) × (is_some (attr old.tree on name) ≡ false) × (new ≡ old)
 AttrSet old new on name value flags (Err attr_error.NoMemory) =
     (are_attr_flags flags ≡ true) × (AllowsAttr flags (attr old.tree on name)) × (old.spare ≤ length name + length value) × (new ≡ old)
+
+-- what is kept of a mount that is made
+abbrev pub row_of : NewMount → MountRow
+row_of m = record { source = m.source.now; fstype = m.fstype.now; flags = m.flags; options = m.options.now; via = m.via.now; shift = m.shift }
+
+-- the bytes of a row's texts together
+abbrev pub row_length : MountRow → ℕ
+row_length r = length r.source + length r.fstype + length r.options + length r.via

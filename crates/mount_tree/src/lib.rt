@@ -6,7 +6,12 @@
 //! Below stand `sys_abi` and `hist_model`; `path_walk` walks paths over this tree, and the kernel keeps one of them.
 #![tactic(auto)]
 
+mod copies;
 pub mod errors;
+mod keys;
+pub mod mounts;
+pub mod rooms;
+mod rows;
 mod search;
-mod texts;
+pub mod table;
 pub mod tree;

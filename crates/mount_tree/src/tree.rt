@@ -1,12 +1,15 @@
 //! The tree, with its changes.
 
-ghost use Rattle.std.specs.Prelude.{◌≡◌, ◌<◌, ◌≤◌, ◌+◌, length, Some, IfOk, IfSome, OnOk, OnErr, None, is_some};
+ghost use Rattle.std.specs.Prelude.{◌≡◌, true, ◌<◌, ◌≤◌, ◌+◌, length, Some, IfOk, IfSome, OnOk, OnErr, None, is_some};
 ghost use Rattle.hist_model.specs.Trees.{bare_tree, stated, with_line, with_node, with_mount, with_attr, ordinal_of, entry, node_at, is_dir_at, attr, up, top, parent_of, row_in};
 
+use crate::copies::copy_node;
 use crate::errors::{AttrError, Exists};
-use crate::search::{find_attr, find_entry, mount_on, row, target_of};
-use crate::texts::{copy_node, text_in, texts_in};
-use hist_model::request::{MountRow, Node, NodeRef};
+use crate::mounts::{Mounts, NewMount};
+use crate::rooms::Rooms;
+use crate::search::row;
+use crate::table::Table;
+use hist_model::request::{Node, NodeRef};
 use hist_model::script::TreeLine;
 use hist_model::text::Text;
 use hist_model::tree::{AttrRow, Mounted, NodeRow};
@@ -14,80 +17,72 @@ use std::alloc::Global;
 use std::marker::Model;
 use sys_abi::memory::{NoMemory, OrNoMemory};
 
-/// As many nodes as there can be.
-const MAX_NODES: usize = 4_294_967_295;
-
 /// A tree: its nodes, their attributes and its mounts. Contracts see it as `hist_model`'s definitions do, beside `spare`,
 /// which is one more than the bytes for which `ready` made room, or 0.
 #[derive(Drop)]
 pub struct Tree {
-    nodes: Vec<NodeRow>,
-    attrs: Vec<AttrRow>,
-    mounts: Vec<Mounted>,
-    /// Empty, with room for the next name.
-    name_room: Vec<u8>,
-    /// Empty, with room for the next value of an attribute.
-    value_room: Vec<u8>,
-    /// One more than the bytes for which there is room, or 0.
-    room: usize,
+    nodes: Table<NodeRow>,
+    attrs: Table<AttrRow>,
+    mounts: Mounts,
+    rooms: Rooms,
 }
 
 impl Model for Tree {
-    ghost use Rattle.std.specs.Prelude.{◌≡◌, ◌<◌, ◌≤◌, ◌+◌, reverse, vec_capacity, vec_len};
+    ghost use Rattle.std.specs.Prelude.{◌≡◌, ◌<◌, true};
     ghost use Rattle.mount_tree.specs.Changes.{Seen};
 
     ghost Value = { Seen };
 
-    ghost view = { λ t. record {
-      tree = record { nodes = reverse t.nodes.items; attrs = reverse t.attrs.items; mounts = reverse t.mounts.items };
-      spare = t.room;
-    } };
+    ghost view = { λ t. record { tree = record { nodes = t.nodes.rows; attrs = t.attrs.rows; mounts = t.mounts.rows }; spare = t.rooms } };
 
-    ghost invariant = { λ t. (vec_len t.nodes ≤ 4294967295) × (vec_len t.name_room ≡ 0) × (vec_len t.value_room ≡ 0)
-        × (0 < t.room → vec_len t.nodes < 4294967295) × (0 < t.room → vec_len t.nodes < vec_capacity t.nodes)
-        × (0 < t.room → vec_len t.attrs < vec_capacity t.attrs) × (0 < t.room → vec_len t.mounts < vec_capacity t.mounts)
-        × (t.room ≤ vec_capacity t.name_room + 1) × (t.room ≤ vec_capacity t.value_room + 1) };
+    ghost invariant = { λ t. (0 < t.rooms → t.nodes.roomy ≡ true) × (0 < t.rooms → t.attrs.roomy ≡ true) × (0 < t.rooms → t.mounts.roomy ≡ true) };
 }
 
 impl Tree {
-    ghost use Rattle.mount_tree.specs.Changes.{NodeMade, AttrSet};
+    ghost use Rattle.mount_tree.specs.Changes.{NodeMade, AttrSet, row_of, row_length};
 
     /// The tree of `/` alone.
     pub fn new(alloc: Global) -> Result<Tree, NoMemory>
         ensures { IfOk result (λ t. t ≡ record { tree = bare_tree; spare = 0 }) }
     {
-        let mut nodes = Vec::with_capacity(alloc, 1)?;
-        nodes.push_reserved(NodeRow {
+        let mut nodes = Table::new(alloc);
+        nodes.reserve()?;
+        nodes.push(NodeRow {
             parent: Some(0),
             name: Text::new(Vec::new(alloc)),
             node: Node::Dir,
         });
         Ok(Tree {
             nodes,
-            attrs: Vec::new(alloc),
-            mounts: Vec::new(alloc),
-            name_room: Vec::new(alloc),
-            value_room: Vec::new(alloc),
-            room: 0,
+            attrs: Table::new(alloc),
+            mounts: Mounts::new(alloc),
+            rooms: Rooms::new(alloc),
         })
     }
 
-    /// Makes room for one change whose texts have at most `len` bytes together.
+    /// Makes room for one change whose texts have at most `len` bytes together. After `NoMemory` the tree is as it was.
     pub fn ready(&mut self, len: u32) -> Result<(), NoMemory>
         ensures kept { self.new.tree ≡ self.old.tree }
         ensures room { OnOk result (len < self.new.spare) }
+        ensures unchanged { OnErr result (self.new ≡ self.old) }
     {
-        if self.nodes.len() >= MAX_NODES {
-            return Err(NoMemory);
-        }
-        let len = len as usize;
-        self.nodes.reserve(1)?;
-        self.attrs.reserve(1)?;
-        self.mounts.reserve(1)?;
-        self.name_room.reserve(len)?;
-        self.value_room.reserve(len)?;
-        self.room = len + 1;
-        Ok(())
+        self.make_room(len as usize)
+    }
+
+    /// Makes room for one change whose texts have at most `len` bytes together. What the last change took beyond its need
+    /// is given back.
+    fn make_room(&mut self, len: usize) -> Result<(), NoMemory>
+        ensures kept { self.new.tree ≡ self.old.tree }
+        ensures room { OnOk result (len < self.new.spare) }
+        ensures unchanged { OnErr result (self.new ≡ self.old) }
+    {
+        self.nodes.make_exact()?;
+        self.attrs.make_exact()?;
+        self.mounts.make_exact()?;
+        self.nodes.reserve()?;
+        self.attrs.reserve()?;
+        self.mounts.reserve()?;
+        self.rooms.reserve(len)
     }
 
     /// The directory's entry under a name; none exactly where it has no such entry.
@@ -95,7 +90,7 @@ impl Tree {
         ensures entry { ordinal_of result ≡ entry self.now.tree dir.ordinal name.now }
         ensures made { IfSome result (λ n. n.ordinal < length self.now.tree.nodes) }
     {
-        match find_entry(self.nodes.as_slice(), dir.ordinal, name) {
+        match self.nodes.entry(dir.ordinal, name) {
             Some(ordinal) => Some(NodeRef { ordinal }),
             None => None,
         }
@@ -107,14 +102,15 @@ impl Tree {
         requires { n.ordinal < length self.now.tree.nodes }
         ensures { node_at self.now.tree n.ordinal ≡ Some result.now }
     {
-        &self.nodes[n.ordinal as usize].node
+        &self.nodes.rows()[n.ordinal as usize].node
     }
 
     /// Whether there is such a node, and it is a directory.
     pub fn is_dir(&self, n: NodeRef) -> bool
-        ensures { result ≡ is_dir_at self.now.tree n.ordinal }
+        ensures dir { result ≡ is_dir_at self.now.tree n.ordinal }
+        ensures made { result ≡ true → n.ordinal < length self.now.tree.nodes }
     {
-        match row(self.nodes.as_slice(), n.ordinal) {
+        match row(self.nodes.rows(), n.ordinal) {
             Some(row) => matches!(row.node, Node::Dir),
             None => false,
         }
@@ -128,7 +124,7 @@ impl Tree {
         let mut ordinal = n.ordinal;
         let mut left = self.mounts.len();
         while left > 0 {
-            match mount_on(self.mounts.as_slice(), ordinal) {
+            match self.mounts.mount_on(ordinal) {
                 Some(root) => ordinal = root,
                 None => return NodeRef { ordinal },
             }
@@ -141,7 +137,7 @@ impl Tree {
     fn parent(&self, n: u32) -> Option<u32>
         ensures { result ≡ parent_of (row_in self.now.tree.nodes n) }
     {
-        match row(self.nodes.as_slice(), n) {
+        match row(self.nodes.rows(), n) {
             Some(row) => row.parent,
             None => None,
         }
@@ -161,7 +157,7 @@ impl Tree {
             }
             match self.parent(ordinal) {
                 Some(parent) => return NodeRef { ordinal: parent },
-                None => match target_of(self.mounts.as_slice(), ordinal) {
+                None => match self.mounts.target_of(ordinal) {
                     Some(target) => ordinal = target,
                     None => return NodeRef { ordinal },
                 },
@@ -178,23 +174,20 @@ impl Tree {
         ensures kept { OnErr result (self.new ≡ self.old) }
         ensures covered { OnErr result (self.old.spare ≤ length name.now) }
     {
-        if self.nodes.len() >= MAX_NODES {
+        if !self.rooms.holds(name.len() as u128) {
             return Err(NoMemory);
         }
-        self.nodes.reserve(1)?;
-        let name = text_in(&mut self.name_room, name)?;
-        let ordinal = self.nodes.len() as u32;
-        self.nodes.push_reserved(NodeRow {
+        let name = self.rooms.text(name);
+        let ordinal = self.nodes.push(NodeRow {
             parent: Some(dir),
             name,
             node,
         });
-        self.room = 0;
         Ok(NodeRef { ordinal })
     }
 
     /// Makes a node in a directory (mknod(2)). `Exists` comes exactly where the directory has an entry of that name;
-    /// where there is memory for it, all else succeeds, and takes none where `ready` made room for the name.
+    /// all else succeeds where `ready` made room for the name. It takes no memory.
     pub fn make_node(
         &mut self,
         dir: NodeRef,
@@ -212,31 +205,30 @@ impl Tree {
         }
     }
 
-    /// Mounts something on a directory (mount(2)): its root is a new, empty directory. Where `ready` made room, it takes no memory.
-    pub fn mount_at(&mut self, dir: NodeRef, row: MountRow) -> Result<NodeRef, NoMemory>
+    /// Mounts something on a directory (mount(2)): its root is a new, empty directory. It succeeds where `ready` made room for
+    /// the texts of the row, and takes no memory.
+    pub fn mount_at(&mut self, dir: NodeRef, row: NewMount<'_>) -> Result<NodeRef, NoMemory>
+        requires { dir.ordinal < length self.old.tree.nodes }
         ensures made { IfOk result (λ n. n.ordinal ≡ length self.old.tree.nodes) }
-        ensures tree { OnOk result (self.new.tree ≡ with_mount self.old.tree dir.ordinal row) }
+        ensures tree { OnOk result (self.new.tree ≡ with_mount self.old.tree dir.ordinal (row_of row.entry)) }
         ensures kept { OnErr result (self.new ≡ self.old) }
-        ensures covered { OnErr result (self.old.spare ≡ 0) }
+        ensures covered { OnErr result (self.old.spare ≤ row_length (row_of row.entry)) }
     {
-        if self.nodes.len() >= MAX_NODES {
+        if !self.rooms.holds(row.len()) {
             return Err(NoMemory);
         }
-        self.nodes.reserve(1)?;
-        self.mounts.reserve(1)?;
-        let root = self.nodes.len() as u32;
-        let name = Text::new(Vec::new(*self.nodes.allocator()));
-        self.nodes.push_reserved(NodeRow {
+        let alloc = self.nodes.allocator();
+        let row = self.rooms.mount_row(row);
+        let root = self.nodes.push(NodeRow {
             parent: None,
-            name,
+            name: Text::new(Vec::new(alloc)),
             node: Node::Dir,
         });
-        self.mounts.push_reserved(Mounted {
+        self.mounts.push(Mounted {
             target: dir.ordinal,
             root,
             row,
         });
-        self.room = 0;
         Ok(NodeRef { ordinal: root })
     }
 
@@ -247,10 +239,11 @@ impl Tree {
         ensures kept { OnErr result (self.new ≡ self.old) }
         ensures covered { OnErr result (self.old.spare ≤ length name.now + length value.now) }
     {
-        self.attrs.reserve(1)?;
-        let (name, value) = texts_in(&mut self.name_room, name, &mut self.value_room, value)?;
-        self.attrs.push_reserved(AttrRow { on, name, value });
-        self.room = 0;
+        if !self.rooms.holds(name.len() as u128 + value.len() as u128) {
+            return Err(NoMemory);
+        }
+        let (name, value) = self.rooms.name_and_value(name, value);
+        self.attrs.push(AttrRow { on, name, value });
         Ok(())
     }
 
@@ -260,12 +253,14 @@ impl Tree {
         ensures kept { OnErr result (self.new ≡ self.old) }
         ensures covered { OnErr result (self.old.spare ≤ length name.now + length value.now) }
     {
-        let Some(place) = find_attr(self.attrs.as_slice(), on, name) else {
+        let Some(place) = self.attrs.attr(on, name) else {
             return self.add_attr(on, name, value);
         };
-        let value = text_in(&mut self.value_room, value)?;
-        self.attrs[place].value = value;
-        self.room = 0;
+        if !self.rooms.holds(value.len() as u128) {
+            return Err(NoMemory);
+        }
+        let value = self.rooms.text(value);
+        self.attrs.set_value(place, value);
         Ok(())
     }
 
@@ -273,12 +268,12 @@ impl Tree {
     pub fn has_attr(&self, n: NodeRef, name: &[u8]) -> bool
         ensures { result ≡ is_some (attr self.now.tree n.ordinal name.now) }
     {
-        find_attr(self.attrs.as_slice(), n.ordinal, name).is_some()
+        self.attrs.attr(n.ordinal, name).is_some()
     }
 
     /// Sets an attribute of a node (setxattr(2)): `BadFlags` for a flag bit other than XATTR_CREATE, 1, and XATTR_REPLACE, 2;
     /// then `Exists` for XATTR_CREATE where the node has the attribute, and `Absent` for XATTR_REPLACE where it doesn't.
-    /// It takes no memory where `ready` made room for the name and the value.
+    /// All else succeeds where `ready` made room for the name and the value. It takes no memory.
     pub fn set_attr(
         &mut self,
         n: NodeRef,
@@ -305,16 +300,21 @@ impl Tree {
     }
 
     /// Adds what a line of a script states.
-    fn add_line(&mut self, line: &TreeLine) -> Result<(), NoMemory>
+    fn add_line(&mut self, alloc: Global, line: &TreeLine) -> Result<(), NoMemory>
         ensures { OnOk result (self.new.tree ≡ with_line self.old.tree line.now) }
     {
         match line {
             TreeLine::Made { parent, name, node } => {
-                let node = copy_node(*self.nodes.allocator(), node)?;
+                let node = copy_node(alloc, node)?;
+                self.make_room(name.items().len())?;
                 self.add_node(parent.ordinal, name.items(), node)?;
                 Ok(())
             }
             TreeLine::Attr { on, name, value } => {
+                let Some(len) = name.items().len().checked_add(value.items().len()) else {
+                    return Err(NoMemory);
+                };
+                self.make_room(len)?;
                 self.put_attr(on.ordinal, name.items(), value.items())
             }
         }
@@ -326,7 +326,7 @@ impl Tree {
     {
         let mut tree = Tree::new(alloc)?;
         for line in lines {
-            tree.add_line(line)?;
+            tree.add_line(alloc, line)?;
         }
         Ok(tree)
     }
