@@ -1,11 +1,12 @@
 -- What is answered of an operation on the tree.
-use Rattle.std.specs.Prelude.{◌≡◌, ℕ, ◌+◌, ◌<◌, length, Result, Ok, Err, IsOk}
+use Rattle.std.specs.Prelude.{◌≡◌, List, ℕ, ◌+◌, ◌<◌, length, Result, Ok, Err, IsOk}
 use Rattle.hist_model.specs.Trees.{Tree}
 use Rattle.hist_model.specs.Paths.{Place, At, New}
 use Rattle.hist_model.specs.Paths as paths
 use Rattle.hist_model.specs.declared.request.TreeOp.{TreeOp}
 use Rattle.hist_model.specs.declared.request.TreeOp.TheVariants.{Fail, Make, Mount, SetAttr, Open}
-use Rattle.mount_tree.specs.Changes.{Seen}
+use Rattle.mount_tree.specs.Changes.{Seen, row_length}
+use Rattle.hist_model.specs.declared.request.Node.{Node}
 use Rattle.sys_abi.specs.declared.memory.OrNoMemory.{OrNoMemory}
 use Rattle.sys_abi.specs.declared.memory.OrNoMemory.TheVariants.{Refused, NoMemory}
 use Rattle.sys_abi.specs.Errnos.{enoent}
@@ -20,7 +21,7 @@ IsNotFollowed (paths.Refused e') e = e ≡ e'
 abbrev pub room_wanted : TreeOp → ℕ
 room_wanted (Fail e) = 0
 room_wanted (Make path node) = 256
-room_wanted (Mount target row) = 1
+room_wanted (Mount target row) = row_length row + 1
 room_wanted (SetAttr path name value flags) = length name + length value + 1
 room_wanted (Open path cloexec) = 0
 
@@ -29,3 +30,8 @@ abbrev pub IsPerformed : ℕ → Seen → Seen → Result Tree ℕ → Result (U
 IsPerformed room old new expected (Ok done) = expected ≡ Ok new.tree
 IsPerformed room old new expected (Err (Refused e)) = (expected ≡ Err e) × (new ≡ old)
 IsPerformed room old new expected (Err NoMemory) = IsOk expected × (old.spare < room) × (new ≡ old)
+
+-- a node is made at a path, or none is, with this error
+abbrev pub making_of : List ℕ → Result Node ℕ → TreeOp
+making_of path (Ok k) = Make path k
+making_of path (Err e) = Fail e
