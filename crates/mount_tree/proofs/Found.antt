@@ -1,17 +1,19 @@
 -- The newest row of a key, as the definitions find it.
 -- By induction on the rows: two keys are one exactly where their owners and their names are.
-use Rattle.std.proofs.Common.{◌≡◌, ℕ, ◌+◌, inl, inr, List, [], ◌∷◌, Option, Some, None, refl, sym, ap, ◌∙◌, arith, Less, Equal, Greater}
+use Rattle.std.proofs.Common.{◌≡◌, ℕ, ◌+◌, inl, inr, Bool, true, false, map, List, [], ◌∷◌, Option, Some, None, refl, sym, ap, ◌∙◌, arith, Less, Equal, Greater}
 use Rattle.std.specs.Prelude.{◌&&◌, ◌==◌, bytes_eq}
-use Rattle.std.proofs.lemmas.Bool.{cases_eq, eq-eqb, ne_eqb}
+use Rattle.std.proofs.lemmas.Bool.{cases_Bool, cases_eq, eq-eqb, ne_eqb}
 use Rattle.std.specs.Cmp.{unsigned_ties}
 use Rattle.std.specs.Cmp.Lexicographic.{lists_ties, slice_cmp}
 use Rattle.std.specs.Ordering.{is_eq, ordering_then, nat_cmp}
 use Rattle.std.specs.declared.cmp.Ordering.{Ordering}
 use Rattle.hist_model.specs.Look.{is_place}
-use Rattle.hist_model.specs.Trees.{entry_in}
+use Rattle.hist_model.specs.Trees.{entry_in, mount_on, target_of}
 use Rattle.hist_model.specs.declared.tree.NodeRow.{NodeRow}
 use Rattle.hist_model.specs.declared.tree.AttrRow.{AttrRow}
-use Rattle.mount_tree.specs.Keys.{key_of, key_cmp, rank, newest, node_key, attr_key}
+use Rattle.mount_tree.specs.Keys.{key_of, key_cmp, rank, newest, newest_row, node_key, attr_key, mount_key, covered_key, covered_by}
+use Rattle.mount_tree.specs.declared.rows.Covered.{Covered}
+use Rattle.hist_model.specs.declared.tree.Mounted.{Mounted}
 use Rattle.mount_tree.specs.Places.{attr_place}
 
 then_ties : (a b : Ordering) → is_eq (ordering_then a b) ≡ (is_eq a && is_eq b)
@@ -44,3 +46,44 @@ pub attr_newest : (rs : List AttrRow) (on : ℕ) (name : List ℕ) → newest at
 unfolding newest attr_place
 attr_newest [] on name = refl
 attr_newest (r ∷ rs) on name = rw (keys_tie (Some r.on) on r.name name, attr_newest rs on name) refl
+
+abbrev root_of : Option Mounted → Option ℕ
+root_of (Some m) = Some m.root
+root_of None = None
+
+abbrev target_in : Option Covered → Option ℕ
+target_in (Some c) = Some c.target
+target_in None = None
+
+plain_tie : (m n : ℕ) → is_eq (key_cmp (key_of (Some m) []) (key_of (Some n) [])) ≡ (m == n)
+plain_tie m n = keys_tie (Some m) n [] [] ∙ and_true (m == n)
+  where
+    and_true : (b : Bool) → (b && true) ≡ b
+    and_true true = refl
+    and_true false = refl
+
+mount_newest : (ms : List Mounted) (n : ℕ) → root_of (newest_row mount_key ms (key_of (Some n) [])) ≡ mount_on ms n
+unfolding newest_row mount_on
+mount_newest [] n = refl
+mount_newest (m ∷ ms) n =
+    rw (plain_tie m.target n) (elim (cases_Bool (m.target == n)) [ inl h ↦ rw h refl | inr h ↦ rw h (mount_newest ms n) ])
+
+target_newest : (ms : List Mounted) (n : ℕ) → target_in (newest_row covered_key (map covered_by ms) (key_of (Some n) [])) ≡ target_of ms n
+unfolding newest_row target_of
+target_newest [] n = refl
+target_newest (m ∷ ms) n =
+    rw (plain_tie m.root n) (elim (cases_Bool (m.root == n)) [ inl h ↦ rw h refl | inr h ↦ rw h (target_newest ms n) ])
+
+-- the newest mount on a node, and none
+pub mount_found : (ms : List Mounted) (n : ℕ) (m : Mounted) → newest_row mount_key ms (key_of (Some n) []) ≡ Some m → Some m.root ≡ mount_on ms n
+mount_found ms n m e = ap root_of (sym e) ∙ mount_newest ms n
+
+pub mount_absent : (ms : List Mounted) (n : ℕ) → newest_row mount_key ms (key_of (Some n) []) ≡ None → None ≡ mount_on ms n
+mount_absent ms n e = ap root_of (sym e) ∙ mount_newest ms n
+
+-- the directory that a mount covers, and none
+pub target_found : (ms : List Mounted) (n : ℕ) (c : Covered) → newest_row covered_key (map covered_by ms) (key_of (Some n) []) ≡ Some c → Some c.target ≡ target_of ms n
+target_found ms n c e = ap target_in (sym e) ∙ target_newest ms n
+
+pub target_absent : (ms : List Mounted) (n : ℕ) → newest_row covered_key (map covered_by ms) (key_of (Some n) []) ≡ None → None ≡ target_of ms n
+target_absent ms n e = ap target_in (sym e) ∙ target_newest ms n

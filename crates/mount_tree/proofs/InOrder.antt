@@ -14,7 +14,7 @@ use Rattle.std.proofs.lemmas.List.{get_or_default, length-reverse, length-set, g
 use Rattle.std.proofs.lemmas.List.Edits.{length-insert, get_or-insert_below, get_or-insert_at, get_or-insert_above}
 use Rattle.hist_model.proofs.Scans.{past_more}
 use Rattle.mount_tree.proofs.Places.{length_past}
-use Rattle.mount_tree.specs.Keys.{Key, rank, key_of, key_cmp, key_in, newest, is_up_to, Before, IsOrder, IsEnd}
+use Rattle.mount_tree.specs.Keys.{Key, rank, key_of, key_cmp, key_in, newest, row_at, newest_row, is_up_to, Before, IsOrder, IsEnd}
 
 pub key_total : IsTotalOrder key_cmp
 unfolding key_cmp
@@ -309,4 +309,44 @@ keys_kept f xs j y d l e n =
           let a : length (reverse (set xs j y)) ≤ n = rw (length-reverse, length-set) m in
           let b : length (reverse xs) ≤ n = rw length-reverse m in
           rw (key_in_above f (reverse (set xs j y)) n a, key_in_above f (reverse xs) n b) refl
+    ]
+
+row_at_among : {T : Type 0} (xs : List T) (d : T) (n i : ℕ) → n ≤ length xs → i < n → row_at (reverse (take n xs)) i ≡ Some (get_or xs i d)
+unfolding row_at
+row_at_among xs d zero i h l = absurd (omega arith)
+row_at_among xs d (suc n) i h l =
+    let q : reverse (take (suc n) xs) ≡ get_or xs n d ∷ reverse (take n xs) = rw add-one at (past_more xs n d (omega arith)) in
+    let p = length_past xs n (omega arith) in
+    rw (q, p) (elim (cases_lt i n) [
+      | inl m ↦ let e : (i ≡ n → ⊥) = omega arith in rw (ne_eqb i n e) (row_at_among xs d n i (omega arith) m)
+      | inr m ↦ let e : i ≡ n = omega arith in rw (e, eq-eqb n n refl)
+    ])
+
+newest_at : {T : Type 0} (f : T → Key) (rs : List T) (k : Key) (n : ℕ) → newest f rs k ≡ Some n → newest_row f rs k ≡ row_at rs n
+unfolding newest newest_row row_at
+newest_at f [] k n e = cc
+newest_at f (r ∷ rs) k n e =
+    elim (cases_Bool (is_eq (key_cmp (f r) k))) [
+      | inl h ↦ let q : Some (length rs) ≡ Some n = rw h at e in let p : n ≡ length rs = cc in rw (h, p, eq-eqb (length rs) (length rs) refl) refl
+      | inr h ↦
+          let q : newest f rs k ≡ Some n = rw h at e in
+          let l = newest_below f rs k n q in
+          let d : (n ≡ length rs → ⊥) = omega arith in
+          rw (h, ne_eqb n (length rs) d) (newest_at f rs k n q)
+    ]
+
+-- the row that was found
+pub newest_past : {T : Type 0} (f : T → Key) (xs : List T) (k : Key) (n : ℕ) (d : T) → Some n ≡ newest f (reverse xs) k → newest_row f (reverse xs) k ≡ Some (get_or xs n d)
+newest_past f xs k n d e =
+    let l : n < length xs = rw length-reverse at (newest_below f (reverse xs) k n (sym e)) in
+    let r : row_at (reverse xs) n ≡ Some (get_or xs n d) = rw take-length at (row_at_among xs d (length xs) n (omega arith) l) in
+    newest_at f (reverse xs) k n (sym e) ∙ r
+
+pub newest_absent : {T : Type 0} (f : T → Key) (rs : List T) (k : Key) → None ≡ newest f rs k → newest_row f rs k ≡ None
+unfolding newest newest_row
+newest_absent f [] k e = refl
+newest_absent f (r ∷ rs) k e =
+    elim (cases_Bool (is_eq (key_cmp (f r) k))) [
+      | inl h ↦ let q : ◌≡◌ {A = Option ℕ} None (Some (length rs)) = rw h at e in cc
+      | inr h ↦ let q : None ≡ newest f rs k = rw h at e in rw h (newest_absent f rs k q)
     ]

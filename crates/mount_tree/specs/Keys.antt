@@ -6,6 +6,8 @@ use Rattle.std.specs.Ordering.{nat_cmp, ordering_then, is_eq, is_gt}
 use Rattle.std.specs.declared.cmp.Ordering.{Ordering}
 use Rattle.hist_model.specs.declared.tree.NodeRow.{NodeRow}
 use Rattle.hist_model.specs.declared.tree.AttrRow.{AttrRow}
+use Rattle.hist_model.specs.declared.tree.Mounted.{Mounted}
+use Rattle.mount_tree.specs.declared.rows.Covered.{Covered}
 
 -- what a row is found by: 0 where it has no owner, else one more than its owner's ordinal; and a name
 pub record Key : Type 0 where
@@ -30,6 +32,16 @@ node_key r = key_of r.parent r.name
 abbrev pub attr_key : AttrRow → Key
 attr_key r = key_of (Some r.on) r.name
 
+-- a mount is found by the directory that it covers, and that directory by the mount's root
+abbrev pub mount_key : Mounted → Key
+mount_key m = key_of (Some m.target) []
+
+abbrev pub covered_key : Covered → Key
+covered_key c = key_of (Some c.root) []
+
+abbrev pub covered_by : Mounted → Covered
+covered_by m = record { root = m.root; target = m.target }
+
 -- the key of the row with this ordinal, of rows with the newest first
 unfoldable pub key_in : {T : Type 0} → (T → Key) → List T → ℕ → Key
 key_in key [] n = key_of None []
@@ -39,6 +51,16 @@ key_in key (r ∷ rs) n = if n == length rs then key r else key_in key rs n
 unfoldable pub newest : {T : Type 0} → (T → Key) → List T → Key → Option ℕ
 newest key [] k = None
 newest key (r ∷ rs) k = if is_eq (key_cmp (key r) k) then Some (length rs) else newest key rs k
+
+-- the row with this ordinal, of rows with the newest first
+unfoldable pub row_at : {T : Type 0} → List T → ℕ → Option T
+row_at [] n = None
+row_at (r ∷ rs) n = if n == length rs then Some r else row_at rs n
+
+-- the newest row with a key
+unfoldable pub newest_row : {T : Type 0} → (T → Key) → List T → Key → Option T
+newest_row key [] k = None
+newest_row key (r ∷ rs) k = if is_eq (key_cmp (key r) k) then Some r else newest_row key rs k
 
 -- the key of this ordinal isn't above another
 abbrev pub is_up_to : (ℕ → Key) → Key → ℕ → Bool

@@ -4,7 +4,8 @@ ghost use Rattle.std.specs.Prelude.{◌≡◌, ◌∷◌, ◌+◌, ◌^◌, ◌<
 ghost use Rattle.hist_model.specs.Trees as trees;
 ghost use Rattle.mount_tree.specs.Changes.{row_of, row_length};
 
-use crate::search::{mount_on, target_of};
+use crate::rows::Covered;
+use crate::table::Table;
 use hist_model::request::MountRow;
 use hist_model::tree::Mounted;
 use std::alloc::Global;
@@ -51,26 +52,24 @@ impl<'a> NewMount<'a> {
     }
 }
 
-/// The mounts, kept the oldest first. Contracts see them the newest first.
+/// The mounts, which are found by the directories that they cover and by their roots. Contracts see them the newest first.
 #[derive(Drop)]
 pub struct Mounts {
-    rows: Vec<Mounted>,
-    /// There is room for one more.
-    roomy: bool,
-    /// The newest one may have more memory than its texts need.
-    loose: bool,
+    rows: Table<Mounted>,
+    /// The directories that they cover, by the roots.
+    roots: Table<Covered>,
 }
 
 impl Model for Mounts {
-    ghost use Rattle.std.specs.Prelude.{◌≡◌, ◌<◌, true, reverse, vec_capacity, vec_len};
+    ghost use Rattle.std.specs.Prelude.{◌≡◌, true, map};
     ghost use Rattle.hist_model.specs.declared.tree.Mounted.{Mounted};
-    ghost use Rattle.mount_tree.specs.Keys.{Kept};
+    ghost use Rattle.mount_tree.specs.Keys.{Kept, covered_by};
 
     ghost Value = { Kept Mounted };
 
-    ghost view = { λ t. record { rows = reverse t.rows.items; roomy = t.roomy } };
+    ghost view = { λ t. t.rows };
 
-    ghost invariant = { λ t. t.roomy ≡ true → vec_len t.rows < vec_capacity t.rows };
+    ghost invariant = { λ t. (t.roots.rows ≡ map covered_by t.rows.rows) × (t.rows.roomy ≡ true → t.roots.roomy ≡ true) };
 }
 
 impl Mounts {
@@ -79,9 +78,8 @@ impl Mounts {
         ensures { result ≡ record { rows = []; roomy = false } }
     {
         Mounts {
-            rows: Vec::new(alloc),
-            roomy: false,
-            loose: false,
+            rows: Table::new(alloc),
+            roots: Table::new(alloc),
         }
     }
 
@@ -91,25 +89,15 @@ impl Mounts {
         ensures room { OnOk result (self.new.roomy ≡ true) }
         ensures unchanged { OnErr result (self.new ≡ self.old) }
     {
-        self.rows.reserve(1)?;
-        self.roomy = true;
-        Ok(())
+        self.roots.reserve()?;
+        self.rows.reserve()
     }
 
     /// Gives the newest one memory for its texts and no more.
     pub fn make_exact(&mut self) -> Result<(), NoMemory>
         ensures { self.new ≡ self.old }
     {
-        if !self.loose {
-            return Ok(());
-        }
-        let alloc = *self.rows.allocator();
-        let len = self.rows.len();
-        if len > 0 {
-            make_row_exact(&mut self.rows[len - 1].row, alloc)?;
-        }
-        self.loose = false;
-        Ok(())
+        self.rows.make_exact()
     }
 
     /// How many there are.
@@ -121,17 +109,25 @@ impl Mounts {
     }
 
     /// The root of the newest mount on a node.
+    #[tactic(auto, using(crate::proofs::Found::mount_found, crate::proofs::Found::mount_absent))]
     pub fn mount_on(&self, node: u32) -> Option<u32>
         ensures { result ≡ trees.mount_on self.now.rows node }
     {
-        mount_on(self.rows.as_slice(), node)
+        match self.rows.find_row(node, &[]) {
+            Some(mount) => Some(mount.root),
+            None => None,
+        }
     }
 
     /// The directory that the mount with this root covers.
+    #[tactic(auto, using(crate::proofs::Found::target_found, crate::proofs::Found::target_absent))]
     pub fn target_of(&self, root: u32) -> Option<u32>
         ensures { result ≡ trees.target_of self.now.rows root }
     {
-        target_of(self.rows.as_slice(), root)
+        match self.roots.find_row(root, &[]) {
+            Some(covered) => Some(covered.target),
+            None => None,
+        }
     }
 
     /// Adds a mount. There is room for it.
@@ -139,22 +135,10 @@ impl Mounts {
         requires { self.old.roomy ≡ true }
         ensures { self.new ≡ record { rows = mount ∷ self.old.rows; roomy = false } }
     {
-        self.rows.push_reserved(mount);
-        self.roomy = false;
-        self.loose = true;
+        self.roots.push(Covered {
+            root: mount.root,
+            target: mount.target,
+        });
+        self.rows.push(mount);
     }
-}
-
-/// Gives a row memory for its texts and no more. After `NoMemory` it is as it was.
-fn make_row_exact(row: &mut MountRow, alloc: Global) -> Result<(), NoMemory>
-    ensures { row.new ≡ row.old }
-{
-    let source = row.source.copied(alloc)?;
-    let fstype = row.fstype.copied(alloc)?;
-    let options = row.options.copied(alloc)?;
-    row.via = row.via.copied(alloc)?;
-    row.source = source;
-    row.fstype = fstype;
-    row.options = options;
-    Ok(())
 }

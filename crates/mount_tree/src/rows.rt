@@ -1,9 +1,11 @@
 //! What the rows of a tree are found by.
 
-ghost use Rattle.mount_tree.specs.Keys.{node_key, attr_key};
+ghost use Rattle.std.specs.Prelude.{◌≡◌};
+ghost use Rattle.mount_tree.specs.Keys.{node_key, attr_key, mount_key, covered_key};
 
 use crate::table::Row;
-use hist_model::tree::{AttrRow, NodeRow};
+use hist_model::request::MountRow;
+use hist_model::tree::{AttrRow, Mounted, NodeRow};
 use std::alloc::Global;
 use sys_abi::memory::NoMemory;
 
@@ -41,6 +43,60 @@ impl Row for AttrRow {
         let name = self.name.copied(alloc)?;
         self.value = self.value.copied(alloc)?;
         self.name = name;
+        Ok(())
+    }
+}
+
+/// A mount is found by the directory that it covers.
+impl Row for Mounted {
+    ghost key = { mount_key };
+
+    fn owner(&self) -> Option<u32> {
+        Some(self.target)
+    }
+
+    fn name(&self) -> &[u8] {
+        &[]
+    }
+
+    fn make_exact(&mut self, alloc: Global) -> Result<(), NoMemory> {
+        make_row_exact(&mut self.row, alloc)
+    }
+}
+
+/// Gives a row memory for its texts and no more. After `NoMemory` it is as it was.
+fn make_row_exact(row: &mut MountRow, alloc: Global) -> Result<(), NoMemory>
+    ensures { row.new ≡ row.old }
+{
+    let source = row.source.copied(alloc)?;
+    let fstype = row.fstype.copied(alloc)?;
+    let options = row.options.copied(alloc)?;
+    row.via = row.via.copied(alloc)?;
+    row.source = source;
+    row.fstype = fstype;
+    row.options = options;
+    Ok(())
+}
+
+/// A directory that a mount covers, with the mount's root, by which it is found.
+#[derive(Clone, Copy, Debug)]
+pub struct Covered {
+    pub root: u32,
+    pub target: u32,
+}
+
+impl Row for Covered {
+    ghost key = { covered_key };
+
+    fn owner(&self) -> Option<u32> {
+        Some(self.root)
+    }
+
+    fn name(&self) -> &[u8] {
+        &[]
+    }
+
+    fn make_exact(&mut self, _alloc: Global) -> Result<(), NoMemory> {
         Ok(())
     }
 }

@@ -1,9 +1,9 @@
 //! Rows that are found by their keys.
 
-ghost use Rattle.std.specs.Prelude.{◌≡◌, ℕ, List, ◌∷◌, ◌+◌, ◌<◌, ◌≤◌, ◌^◌, [], true, false, length, reverse, None, Some, IfOk, IfSome, OnOk, OnErr};
+ghost use Rattle.std.specs.Prelude.{◌≡◌, ℕ, List, ◌∷◌, ◌+◌, ◌<◌, ◌≤◌, ◌^◌, [], true, false, length, reverse, None, Some, IfOk, IfSome, IfNone, OnOk, OnErr};
 ghost use Rattle.mount_tree.specs.Keys as definitions;
 ghost use Rattle.std.specs.Ordering.{is_eq};
-ghost use Rattle.mount_tree.specs.Keys.{Key, key_cmp, rank, key_of, key_in, newest, IsOrder, IsEnd};
+ghost use Rattle.mount_tree.specs.Keys.{Key, key_cmp, rank, key_of, key_in, newest, newest_row, IsOrder, IsEnd};
 
 use crate::keys::key_order;
 use hist_model::text::Text;
@@ -145,7 +145,8 @@ impl<T: Row + Drop> Table<T> {
 
     /// How many rows there are.
     pub fn len(&self) -> usize
-        ensures { result ≡ length self.now.rows }
+        ensures count { result ≡ length self.now.rows }
+        ensures small { result < 2 ^ 63 }
     {
         self.rows.len()
     }
@@ -176,6 +177,17 @@ impl<T: Row + Drop> Table<T> {
             Some(n)
         } else {
             None
+        }
+    }
+
+    /// The newest row of an owner under a name, itself.
+    pub fn find_row(&self, owner: u32, name: &[u8]) -> Option<&T>
+        ensures some { IfSome result (λ r. newest_row T.key self.now.rows (key_of (Some owner) name.now) ≡ Some r.now) }
+        ensures none { IfNone result (newest_row T.key self.now.rows (key_of (Some owner) name.now) ≡ None) }
+    {
+        match self.find(owner, name) {
+            Some(n) => Some(&self.rows()[n as usize]),
+            None => None,
         }
     }
 
