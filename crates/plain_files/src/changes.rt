@@ -23,6 +23,7 @@ use hist_model::request::{NodeRef, Obj, Request, TreeOp};
 use hist_model::script::Script;
 use look_back::calls::{call_of, first_in_queue};
 use look_back::tasks::{holder, opened, task_name};
+use mount_tree::mounts::NewMount;
 use path_walk::effects::perform;
 use path_walk::resolution::Walk;
 use std::alloc::Global;
@@ -65,6 +66,18 @@ fn request_for(events: &[Event], call: Option<usize>) -> Addfd
         Some(request) => asked_at(events, request),
         None => NO_REQUEST,
     }
+}
+
+/// As many bytes as there are in the texts that an operation adds to the tree, or more.
+fn text_bytes(op: &TreeOp) -> u32 {
+    let bytes = match op {
+        TreeOp::Mount { row, .. } => NewMount::of(row).len(),
+        TreeOp::SetAttr { name, value, .. } => {
+            name.items().len() as u128 + value.items().len() as u128
+        }
+        TreeOp::Fail(_) | TreeOp::Make { .. } | TreeOp::Open { .. } => 255,
+    };
+    u32::try_from(bytes).unwrap_or(u32::MAX)
 }
 
 impl Files {
@@ -110,6 +123,7 @@ impl Files {
         ensures { OnOk result (files_of self.new ≡ record (files_of self.old) { tree = tree_or (perform self.old.tree root.ordinal (ordinal_of base) op) self.old.tree }) }
     {
         let mut walk = Walk::new(*self.slots.allocator())?;
+        self.tree.ready(text_bytes(&op))?;
         match perform(&mut self.tree, root, base, op, &mut walk) {
             Ok(()) => Ok(()),
             Err(OrNoMemory::Refused(_)) => Ok(()),
