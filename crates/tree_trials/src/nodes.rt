@@ -1,23 +1,21 @@
-//! Nodes by their ordinals, and the row of a mount.
+//! Nodes by their ordinals, and a mount.
 
-use crate::texts::text;
-use hist_model::request::{MountRow, NodeRef};
-use std::alloc::Global;
-use sys_abi::memory::NoMemory;
+use hist_model::request::NodeRef;
+use mount_tree::mounts::NewMount;
 
 /// The node that was made after so many others.
 pub fn node_ref(ordinal: u32) -> NodeRef {
     NodeRef { ordinal }
 }
 
-/// A mount of a disk, without flags, options or program.
-pub fn mount_row(alloc: Global) -> Result<MountRow, NoMemory> {
-    Ok(MountRow {
-        source: text(alloc, b"/dev/sda1")?,
-        fstype: text(alloc, b"ext4")?,
+/// A mount of a disk, without flags, options or program. Its texts have 13 bytes.
+pub fn disk() -> NewMount<'static> {
+    NewMount {
+        source: b"/dev/sda1".as_slice(),
+        fstype: b"ext4".as_slice(),
         flags: 0,
-        options: text(alloc, b"")?,
-        via: text(alloc, b"")?,
+        options: b"".as_slice(),
+        via: b"".as_slice(),
         shift: false,
-    })
+    }
 }

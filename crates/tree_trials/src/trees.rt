@@ -1,13 +1,22 @@
 //! Nodes, mounts and attributes of a tree, by mount(2) and setxattr(2).
 
-use crate::nodes::{mount_row, node_ref};
+use crate::nodes::{disk, node_ref};
 use crate::texts::text;
-use hist_model::request::Node;
+use hist_model::request::{Node, NodeRef};
 use hist_model::script::TreeLine;
 use mount_tree::errors::{AttrError, Exists};
 use mount_tree::tree::Tree;
 use std::test::Fail;
-use sys_abi::memory::OrNoMemory;
+use sys_abi::memory::{NoMemory, OrNoMemory};
+
+/// Mounts a disk on a directory that is there.
+fn mount_disk(tree: &mut Tree, dir: NodeRef) -> Result<NodeRef, NoMemory> {
+    tree.ready(13)?;
+    if !tree.is_dir(dir) {
+        return Err(NoMemory);
+    }
+    tree.mount_at(dir, disk())
+}
 
 #[test]
 fn two_mounts_on_one_directory(rt: HostRuntime) -> Result<(), Fail> {
@@ -21,9 +30,9 @@ fn two_mounts_on_one_directory(rt: HostRuntime) -> Result<(), Fail> {
     let mnt = tree.entry(slash, b"mnt").ok_or("no entry")?;
     assert_eq!(rt; mnt.ordinal, 1);
     assert!(rt; tree.entry(mnt, b"mnt").is_none());
-    let older = tree.mount_at(mnt, mount_row(rt.alloc())?)?;
-    let newer = tree.mount_at(mnt, mount_row(rt.alloc())?)?;
-    let upper = tree.mount_at(newer, mount_row(rt.alloc())?)?;
+    let older = mount_disk(&mut tree, mnt)?;
+    let newer = mount_disk(&mut tree, mnt)?;
+    let upper = mount_disk(&mut tree, newer)?;
     assert_eq!(rt; tree.top(mnt), upper);
     assert_eq!(rt; tree.top(older), older);
     assert_eq!(rt; tree.up(slash, upper), slash);
