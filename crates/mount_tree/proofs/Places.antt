@@ -1,29 +1,16 @@
 -- Rows that are kept the oldest first, seen the newest first.
 -- By `past_more` for one more row, and by induction on the rows or on how many of them are taken.
-use Rattle.std.proofs.Common.{◌≡◌, ℕ, zero, suc, ◌+◌, ◌<◌, ◌≤◌, List, [], ◌∷◌, length, reverse, take, get_or, Some, None, inl, inr, add-one, refl, arith}
-use Rattle.std.specs.Prelude.{if◌then◌else◌}
+use Rattle.std.proofs.Common.{◌≡◌, ℕ, zero, suc, ◌<◌, ◌≤◌, List, [], ◌∷◌, length, reverse, take, get_or, Some, None, inl, inr, add-one, refl, arith}
 use Rattle.std.proofs.Math.Seq.{take-length}
 use Rattle.std.proofs.lemmas.List.{length-reverse, length-take}
-use Rattle.std.proofs.lemmas.Bool.{cases_Bool, ne_eqb, eq-eqb}
-use Rattle.hist_model.specs.Trees.{is_entry, entry_in, is_attr, row_in}
+use Rattle.std.proofs.lemmas.Bool.{ne_eqb, eq-eqb}
+use Rattle.hist_model.specs.Trees.{row_in}
 use Rattle.hist_model.specs.declared.tree.NodeRow.{NodeRow}
-use Rattle.hist_model.specs.declared.tree.AttrRow.{AttrRow}
 use Rattle.hist_model.proofs.Look.{below_or_last}
 use Rattle.hist_model.proofs.Scans.{past_more}
-use Rattle.mount_tree.specs.Places.{attr_place}
 
 pub length_past : {A : Type 0} → (xs : List A) (n : ℕ) → n ≤ length xs → length (reverse (take n xs)) ≡ n
 length_past xs n h = simp (length-reverse, length-take) (omega arith)
-
-pub entry_more : (xs : List NodeRow) (i : ℕ) (d : NodeRow) (dir : ℕ) (name : List ℕ) → i < length xs
-    → entry_in (reverse (take (i + 1) xs)) dir name ≡ (if is_entry (get_or xs i d) dir name then Some i else entry_in (reverse (take i xs)) dir name)
-unfolding entry_in
-entry_more xs i d dir name h = rw (past_more xs i d h, length_past xs i (omega arith))
-
-pub attr_place_more : (xs : List AttrRow) (i : ℕ) (d : AttrRow) (on : ℕ) (name : List ℕ) → i < length xs
-    → attr_place (reverse (take (i + 1) xs)) on name ≡ (if is_attr (get_or xs i d) on name then Some i else attr_place (reverse (take i xs)) on name)
-unfolding attr_place
-attr_place_more xs i d on name h = rw (past_more xs i d h, length_past xs i (omega arith))
 
 pub row_in_above : (xs : List NodeRow) (n : ℕ) → length xs ≤ n → row_in xs n ≡ None
 unfolding row_in
@@ -48,12 +35,3 @@ row_in_past xs d i l = rw take-length at (row_in_among xs d (length xs) i (omega
 
 pub row_in_none : (xs : List NodeRow) (n : ℕ) → length xs ≤ n → row_in (reverse xs) n ≡ None
 row_in_none xs n h = row_in_above (reverse xs) n (simp length-reverse (omega arith))
-
-pub entry_below : (xs : List NodeRow) (dir : ℕ) (name : List ℕ) (n : ℕ) → entry_in xs dir name ≡ Some n → n < length xs
-unfolding entry_in
-entry_below [] dir name n e = cc
-entry_below (r ∷ xs) dir name n e =
-    elim (cases_Bool (is_entry r dir name)) [
-      | inl h ↦ let q : Some (length xs) ≡ Some n = rw h at e in let p : length xs ≡ n = cc in omega arith
-      | inr h ↦ let q : entry_in xs dir name ≡ Some n = rw h at e in let p = entry_below xs dir name n q in omega arith
-    ]
