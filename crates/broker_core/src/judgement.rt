@@ -86,7 +86,7 @@ fn grant_judgement(
 }
 
 /// What the policy makes of the arguments that were read for a call.
-pub(crate) fn judge(
+pub fn judge(
     alloc: Global,
     policy: &Policy,
     nr: i32,
