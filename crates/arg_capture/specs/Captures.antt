@@ -17,6 +17,7 @@ pub record Reached : Type 0 where
   pub taken : List ℕ
   pub parts : List Part
   pub rooms : ℕ
+  pub places : ℕ
 
 -- that, and the fault that ended it
 pub record Captured : Type 0 where
@@ -72,6 +73,10 @@ answer_of (Err fault) = Err efault
 
 abbrev pub HasRoom : Reached → Type 0
 HasRoom r = length r.parts ≤ r.rooms
+
+-- there is room for the texts of any call
+abbrev pub HasRoomForAny : Reached → Type 0
+HasRoomForAny r = (4 ≤ r.rooms) × (4 ≤ r.places)
 
 -- all but the room is as before
 abbrev pub IsKept : Reached → Reached → Type 0

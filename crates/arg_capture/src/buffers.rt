@@ -63,8 +63,17 @@ impl Buffers {
         ensures room { OnOk result (n ≤ self.new.rooms) }
         ensures kept { self.old.rooms ≤ self.new.rooms }
     {
-        self.bytes.reserve(MOST_BYTES)?;
+        self.bytes
+            .reserve(MOST_BYTES.saturating_sub(self.bytes.len()))?;
         add_spare(self.alloc, &mut self.spare, n)
+    }
+
+    /// Drops the bytes of the part in hand, and keeps the room.
+    pub fn clear(&mut self)
+        ensures bytes { self.new.bytes ≡ [] }
+        ensures rooms { self.new.rooms ≡ self.old.rooms }
+    {
+        self.bytes.clear();
     }
 
     /// Adds bytes to the part in hand.

@@ -1,9 +1,9 @@
 //! The capture of a call's texts.
 
-ghost use Rattle.std.specs.Prelude.{◌≡◌, ◌∷◌, ◌++◌, [], List, Result, ℕ, IfOk, OnOk, OnErr, IsOk, None};
+ghost use Rattle.std.specs.Prelude.{◌≡◌, ◌∷◌, ◌++◌, [], List, Result, ℕ, IfOk, OnOk, OnErr, IsOk, None, ◌≤◌, length};
 ghost use Rattle.hist_model.specs.Copies as copies;
 ghost use Rattle.hist_model.specs.declared.copy.Part.{Part};
-ghost use Rattle.arg_capture.specs.Captures.{continued, wanted, answer_of, Answers, Finishes, Follows, HasRoom, IsKept};
+ghost use Rattle.arg_capture.specs.Captures.{continued, wanted, answer_of, Answers, Finishes, Follows, HasRoom, HasRoomForAny, IsKept};
 
 use crate::plan::Plan;
 use crate::reading::Reading;
@@ -43,6 +43,37 @@ impl Capture {
         Ok(Capture { reading, fault })
     }
 
+    /// A capture of no call, which is complete without a text. It takes no memory.
+    pub fn nothing(alloc: Global) -> Capture
+        ensures { Follows [] [] result }
+    {
+        Capture {
+            reading: Reading::nothing(alloc),
+            fault: None,
+        }
+    }
+
+    /// Makes room for the capture of any call, for `start`.
+    pub fn ready_for_any(&mut self) -> Result<(), NoMemory>
+        ensures reached { IsKept self.old.reached self.new.reached }
+        ensures fault { self.new.fault ≡ self.old.fault }
+        ensures room { OnOk result (HasRoomForAny self.new.reached) }
+    {
+        self.reading.reserve_for_any()
+    }
+
+    /// Begins the capture of a plan, of which nothing is read yet, in the place of the one before. It takes no memory, and
+    /// there is room for every answer.
+    pub fn start(&mut self, plan: Plan)
+        requires room { HasRoomForAny self.old.reached }
+        requires few { length plan ≤ 4 }
+        ensures follows { Follows plan [] self.new }
+        ensures room { HasRoom self.new.reached }
+    {
+        self.reading.start(plan);
+        self.fault = self.reading.settle();
+    }
+
     /// Makes room for every later answer.
     pub fn ready(&mut self) -> Result<(), NoMemory>
         ensures reached { IsKept self.old.reached self.new.reached }
@@ -80,17 +111,27 @@ impl Capture {
         Ok(())
     }
 
+    /// The texts, in the plan's order, or the fault of the first that has one. The capture can be started anew.
+    pub fn take_copy(&mut self) -> Result<ArgCopy, Errno>
+        requires { wanted (continued self.old []) ≡ None }
+        ensures copy { Finishes (continued self.old []) result }
+        ensures follows { (parts : List Part) (answers : List (Result (List ℕ) ℕ)) → Follows parts answers self.old → Finishes (copies.progress parts answers) result }
+    {
+        match self.fault {
+            Some(fault) => Err(fault),
+            None => Ok(ArgCopy {
+                texts: Sequence::new(self.reading.take_texts()),
+            }),
+        }
+    }
+
     /// The texts, in the plan's order, or the fault of the first that has one.
     pub fn finish(self) -> Result<ArgCopy, Errno>
         requires { wanted (continued self []) ≡ None }
         ensures copy { Finishes (continued self []) result }
         ensures follows { (parts : List Part) (answers : List (Result (List ℕ) ℕ)) → Follows parts answers self → Finishes (copies.progress parts answers) result }
     {
-        match self.fault {
-            Some(fault) => Err(fault),
-            None => Ok(ArgCopy {
-                texts: Sequence::new(self.reading.into_texts()),
-            }),
-        }
+        let mut capture = self;
+        capture.take_copy()
     }
 }

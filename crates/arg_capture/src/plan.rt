@@ -1,6 +1,6 @@
 //! Plans: which texts a call has in its caller's memory.
 
-ghost use Rattle.std.specs.Prelude.{◌≡◌, ◌<◌, ◌≤◌, ◌∷◌, length, reverse, take, IfSome};
+ghost use Rattle.std.specs.Prelude.{◌≡◌, ◌<◌, ◌≤◌, [], ◌∷◌, length, reverse, take, IfSome};
 ghost use Rattle.hist_model.specs.Copies as copies;
 ghost use Rattle.arg_capture.specs.Moments.{ArePlaced};
 ghost use Rattle.arg_capture.specs.Plans.{IsSound, first_part, rest_parts};
@@ -29,6 +29,9 @@ impl Model for Plan {
 
     ghost invariant = { λ p. (p.left ≤ 4) × (p.left ≤ length p.parts) × All IsSound p.parts };
 }
+
+/// The most parts of a call: those of mount(2).
+pub const MOST_PARTS: usize = 4;
 
 /// Stands behind the parts of a plan.
 const BLANK: Part = Part::Value { addr: 0, size: 0 };
@@ -67,6 +70,16 @@ fn option_at(addr: u64) -> Part
 }
 
 impl Plan {
+    /// The plan of a call that has nothing to be read.
+    pub fn nothing() -> Plan
+        ensures { result ≡ [] }
+    {
+        Plan {
+            parts: [BLANK; 4],
+            left: 0,
+        }
+    }
+
     /// What is read for a call: the path of mknod(2), mknodat(2) and openat(2); source, target, type and data of mount(2), of
     /// which all but the target are empty at address 0; path, name and value of setxattr(2); nothing for any other call.
     pub fn of(nr: i32, args: &[u64; 6]) -> Plan
@@ -104,10 +117,7 @@ impl Plan {
                 ],
                 left: 3,
             },
-            _ => Plan {
-                parts: [BLANK; 4],
-                left: 0,
-            },
+            _ => Plan::nothing(),
         }
     }
 

@@ -3,15 +3,16 @@
 ghost use Rattle.std.specs.Prelude.{◌≡◌, ◌<◌, ◌≤◌, ◌+◌, ◌%◌, ◌-◌, ◌++◌, ◌∷◌, [], ◌==◌, length, Ok, Some, None, List, Result, ℕ, IfOk, OnOk, OnErr, position};
 ghost use Rattle.hist_model.specs.Copies as copies;
 ghost use Rattle.hist_model.specs.declared.copy.Part.TheVariants as part;
-ghost use Rattle.arg_capture.specs.Captures.{reached_progress, unless_faulty, wanted, Answers, HasRoom, IsKept, Takes, with_answer, with_more, with_whole};
+ghost use Rattle.arg_capture.specs.Captures.{reached_progress, unless_faulty, wanted, Answers, HasRoom, HasRoomForAny, IsKept, Takes, with_answer, with_more, with_whole};
 ghost use Rattle.arg_capture.specs.Plans.{IsReadable, IsSettled, IsSound, first_part, rest_parts};
 
 use crate::buffers::{Buffers, MOST_BYTES};
-use crate::plan::Plan;
+use crate::plan::{MOST_PARTS, Plan};
 use hist_model::copy::Part;
 use hist_model::text::Text;
 use std::alloc::Global;
 use std::marker::Model;
+use std::mem;
 use sys_abi::errno::Errno;
 use sys_abi::memory::NoMemory;
 
@@ -29,7 +30,7 @@ impl Model for Reading {
 
     ghost Value = { Reached };
 
-    ghost view = { λ r. record { texts = r.texts.items; taken = r.buffers.bytes; parts = r.plan; rooms = r.buffers.rooms } };
+    ghost view = { λ r. record { texts = r.texts.items; taken = r.buffers.bytes; parts = r.plan; rooms = r.buffers.rooms; places = vec_capacity r.texts } };
 
     ghost invariant = { λ r. length r.texts.items + length r.plan ≤ vec_capacity r.texts };
 }
@@ -68,6 +69,43 @@ impl Reading {
             texts,
             buffers: Buffers::new(alloc),
         })
+    }
+
+    /// There is nothing to read. It takes no memory.
+    pub fn nothing(alloc: Global) -> Reading
+        ensures parts { result.parts ≡ [] }
+        ensures taken { result.taken ≡ [] }
+        ensures texts { result.texts ≡ [] }
+    {
+        Reading {
+            plan: Plan::nothing(),
+            texts: Vec::new(alloc),
+            buffers: Buffers::new(alloc),
+        }
+    }
+
+    /// Makes room for the texts of any plan, as many as a call can have.
+    pub fn reserve_for_any(&mut self) -> Result<(), NoMemory>
+        ensures kept { IsKept self.old self.new }
+        ensures room { OnOk result (HasRoomForAny self.new) }
+    {
+        self.texts
+            .reserve(MOST_PARTS.saturating_sub(self.texts.len()))?;
+        self.buffers.reserve(MOST_PARTS)
+    }
+
+    /// Drops what was read, and begins with a plan.
+    pub fn start(&mut self, plan: Plan)
+        requires room { HasRoomForAny self.old }
+        requires few { length plan ≤ 4 }
+        ensures parts { self.new.parts ≡ plan }
+        ensures taken { self.new.taken ≡ [] }
+        ensures texts { self.new.texts ≡ [] }
+        ensures room { HasRoom self.new }
+    {
+        self.texts.clear();
+        self.buffers.clear();
+        self.plan = plan;
     }
 
     /// Makes room for all that is left.
@@ -223,10 +261,13 @@ impl Reading {
         }
     }
 
-    /// The texts, all of which are whole.
-    pub fn into_texts(self) -> Vec<Text>
-        ensures { result.items ≡ self.texts }
+    /// The texts, all of which are whole. Nothing is left to be read then.
+    pub fn take_texts(&mut self) -> Vec<Text>
+        ensures texts { result.items ≡ self.old.texts }
+        ensures parts { self.new.parts ≡ [] }
     {
-        self.texts
+        self.plan = Plan::nothing();
+        let none = Vec::new(*self.texts.allocator());
+        mem::replace(&mut self.texts, none)
     }
 }
