@@ -1,3 +1,5 @@
-pub mod Copied
+pub mod Judging
+pub mod Taken
 pub mod Workers
-pub mod Fitting
+pub mod Dues
+pub mod Answered

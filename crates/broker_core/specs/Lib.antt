@@ -1,3 +1,5 @@
 pub mod Judged
+pub mod Answers
 pub mod Deeds
 pub mod Remembered
+pub mod Taking

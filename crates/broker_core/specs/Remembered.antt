@@ -1,120 +1,130 @@
 -- What a worker remembers of its session, against the session's own steps.
-use Rattle.std.specs.Prelude.{◌≡◌, ℕ, ◌+◌, ◌<◌, ◌≤◌, true, false, List, [], reverse, Option, Some, None, Result, Ok, Err, ◌⊎◌, ◌||◌, suc, if◌then◌else◌}
-use Rattle.hist_model.specs.Kinds.{is_letgo, gives_up, opens, opens_base, checks}
-use Rattle.hist_model.specs.Sessions.{deed, any_of, number_of, first_some, notif_of, reads_of, outcome_in, put_in, take_in, or_some}
-use Rattle.hist_model.specs.Copies.{Progress, Wants, Complete, Faulty, plan}
-use Rattle.hist_model.specs.Fitting.{fits}
-use Rattle.hist_model.specs.Legal.{rules_of, read_answers, judged as judgement}
+use Rattle.std.specs.Prelude.{◌≡◌, ℕ, Bool, true, false, List, [], reverse, Option, Some, None, Result, Ok, Err, ◌⊎◌, ⊤, if◌then◌else◌, ◌==◌}
+use Rattle.hist_model.specs.Kinds.{is_letgo, gives_up, opens, opens_base, checks, is_good_check}
+use Rattle.hist_model.specs.Sessions.{any_of, number_of, first_some, notif_of, reads_of, outcome_in, put_in, take_in}
+use Rattle.hist_model.specs.Copies.{Progress, Complete, Faulty, plan}
+use Rattle.hist_model.specs.Legal.{copied, read_answers}
+use Rattle.hist_model.specs.Requests.{request}
 use Rattle.hist_model.specs.declared.event.What.{What}
-use Rattle.hist_model.specs.declared.event.What.TheVariants.{Check, Read}
 use Rattle.hist_model.specs.declared.policy.Policy.{Policy}
-use Rattle.hist_model.specs.declared.script.Figures.{Figures}
-use Rattle.arg_capture.specs.Captures.{continued, wanted, Follows, Answers}
+use Rattle.hist_model.specs.declared.policy.Rule.{Rule}
+use Rattle.hist_model.specs.declared.policy.Verdict.TheVariants.{Grant}
+use Rattle.hist_model.specs.declared.request.Request.{Request}
+use Rattle.arg_capture.specs.Captures.{Captured, continued, wanted, Follows, HasRoom, HasRoomForAny}
+use Rattle.sys_abi.specs.declared.wire.Notif.{Notif}
+use Rattle.broker_core.specs.Judged.{judgement_as}
 use Rattle.broker_core.specs.declared.judgement.Judgement.{Judgement}
-use Rattle.broker_core.specs.Judged.{fault_of, decision_of}
-use Rattle.broker_core.specs.declared.session.Arguments.{Arguments}
-use Rattle.broker_core.specs.declared.session.Arguments.TheVariants.{Reading, Judged}
+use Rattle.broker_core.specs.declared.session.Stage.{Stage}
+use Rattle.broker_core.specs.declared.session.Stage.TheVariants.{Unchecked, Reading, Judged, Confirmed}
 use Rattle.broker_core.specs.declared.session.Session.{Session}
 use Rattle.broker_core.specs.declared.worker.Worker.{Worker}
-use Rattle.sys_abi.specs.declared.wire.Notif.{Notif}
-use Rattle.sys_abi.specs.Errnos.{efault}
 
 -- the answers of the session's reads, the oldest first
 abbrev pub answers_of : List What → List (Result (List ℕ) ℕ)
 answers_of own = reverse (read_answers (reads_of own))
 
--- the judgement is that of the session's copy, which is complete or has a fault
-pub record JudgedAs (P : Policy) (F : Figures) (n : Notif) (own : List What) (j : Judgement) : Type 0 where
-  pub whole : (rules_of P F).next_piece n (reads_of own) ≡ None
-  pub fault : (rules_of P F).fault n (reads_of own) ≡ fault_of j
-  pub decision : fault_of j ≡ None → (rules_of P F).decide n (reads_of own) ≡ decision_of F j
+-- what was found is the judgement of a complete copy's request, or the fault of a copy
+abbrev pub IsFound : List Rule → Bool → Notif → Progress → Result Judgement ℕ → Type 0
+IsFound rules g n (Complete texts) (Ok j) = j ≡ judgement_as g rules (request n.call.nr n.call.args texts)
+IsFound rules g n (Faulty e) (Err f) = f ≡ e
+IsFound rules g n _ _ = ⊥
 
--- the arguments are those that the session has read
-abbrev pub ArgumentsOf : Policy → Figures → Notif → List What → Arguments → Type 0
-ArgumentsOf P F n own (Reading c) = Follows (plan n.call.nr n.call.args) (answers_of own) c × (number_of checks own ≤ 1)
-ArgumentsOf P F n own (Judged j) = JudgedAs P F n own j × (number_of checks own ≡ 2)
+-- the session has come so far with the arguments that it has read; g says whether its request was granted
+abbrev pub IsAtStage : List Rule → Bool → Notif → List What → Captured → Stage → Type 0
+IsAtStage rules g n own c Unchecked = Follows (plan n.call.nr n.call.args) (answers_of own) c × (g ≡ false)
+IsAtStage rules g n own c Reading = Follows (plan n.call.nr n.call.args) (answers_of own) c × (g ≡ false)
+IsAtStage rules g n own c (Judged found) = IsFound rules g n (copied n (reads_of own)) found
+IsAtStage rules g n own c (Confirmed found) = IsFound rules g n (copied n (reads_of own)) found
 
--- the judgement is that of a copy of a notification's arguments which is complete or has a fault
-abbrev pub IsJudged : Policy → Figures → Notif → Progress → Judgement → Type 0
-IsJudged P F n (Wants addr len) j = ⊥
-IsJudged P F n (Complete texts) j = (fault_of j ≡ None) × (decision_of F j ≡ judgement P F n (Complete texts))
-IsJudged P F n (Faulty e) j = fault_of j ≡ Some e
+-- how many checks were good
+abbrev pub good_checks : Stage → ℕ
+good_checks Unchecked = 0
+good_checks Reading = 1
+good_checks (Judged found) = 1
+good_checks (Confirmed found) = 2
+
+-- what an event keeps of an act is its request, which was granted
+abbrev pub IsEffect : Bool → Stage → Option Request → Type 0
+IsEffect g stage None = ⊤
+IsEffect g (Confirmed (Ok j)) (Some q) = (g ≡ true) × (q ≡ j.request)
+IsEffect g _ (Some q) = ⊥
 
 -- what is remembered of an open session
-pub record Knows (P : Policy) (F : Figures) (own : List What) (s : Session) : Type 0 where
+pub record Knows (rules : List Rule) (own : List What) (c : Captured) (s : Session) : Type 0 where
   pub notif : notif_of own ≡ Some s.notif
   pub stays : any_of is_letgo own ≡ false
   pub gave_up : any_of gives_up own ≡ s.gave_up
   pub opened : any_of opens own ≡ s.opened
   pub based : any_of opens_base own ≡ s.based
-  pub checks : number_of checks own ≡ s.checks
+  pub good : number_of is_good_check own ≡ good_checks s.stage
+  pub checks : s.gave_up ≡ false → number_of checks own ≡ good_checks s.stage
   pub outcome : first_some outcome_in own ≡ s.outcome
   pub put : first_some put_in own ≡ s.put
   pub take : first_some take_in own ≡ s.take
-  pub arguments : ArgumentsOf P F s.notif own s.arguments
+  pub stage : IsAtStage rules s.granted s.notif own c s.stage
+  pub effect : IsEffect s.granted s.stage s.effect
 
 -- no session is open: there was none, or the worker has let go
 abbrev pub Idle : List What → Type 0
 Idle own = (own ≡ []) ⊎ (any_of is_letgo own ≡ true)
 
-abbrev pub KnowsIf : Policy → Figures → List What → Option Session → Type 0
-KnowsIf P F own None = Idle own
-KnowsIf P F own (Some s) = Knows P F own s
+abbrev pub KnowsIf : List Rule → List What → Captured → Option Session → Type 0
+KnowsIf rules own c None = Idle own
+KnowsIf rules own c (Some s) = Knows rules own c s
 
 -- the worker remembers a session of these steps
 abbrev pub Remembers : Policy → List What → Worker → Type 0
-Remembers P own w = KnowsIf P w.figures own w.session
+Remembers P own w = KnowsIf P.rules own w.capture w.session
 
--- ---- What may be taken as the next step
+-- ---- Room for an answer
 
--- the step answers the deed that is due after the steps that the worker remembers
-abbrev pub Fits : Policy → Worker → What → Type 0
-Fits P w what = (own : List What) × Remembers P own w × (fits (deed (rules_of P w.figures) own) what ≡ true)
+-- while the arguments are read there is room for each piece, and once they are read they are judged
+abbrev pub IsReadyAt : Captured → Stage → Type 0
+IsReadyAt c Reading = HasRoom c.reached × (wanted (continued c []) ≡ None → ⊥)
+IsReadyAt c _ = ⊤
 
--- a piece of the arguments may be taken: it answers the piece that is wanted
-abbrev pub FitsPiece : Arguments → Result (List ℕ) ℕ → Type 0
-FitsPiece (Reading c) (Ok bytes) = Answers (wanted (continued c [])) (Ok bytes)
-FitsPiece (Reading c) (Err e) = Answers (wanted (continued c [])) (Err e) × (e ≡ efault)
-FitsPiece (Judged j) answer = ⊥
+-- without a session there is room for the copy of any call
+abbrev pub IsReadyIf : Captured → Option Session → Type 0
+IsReadyIf c None = HasRoomForAny c.reached
+IsReadyIf c (Some s) = IsReadyAt c s.stage
 
--- a check may be taken: the first, or the second, after which nothing more is read
-abbrev pub FitsCheck : ℕ → Arguments → Type 0
-FitsCheck n (Reading c) = (n ≡ 0) ⊎ ((n ≡ 1) × (wanted (continued c []) ≡ None))
-FitsCheck n (Judged j) = ⊥
+-- the worker can take an answer to the deed that is due, without memory
+abbrev pub IsReady : Worker → Type 0
+IsReady w = IsReadyIf w.capture w.session
 
-abbrev pub FitsSession : Session → What → Type 0
-FitsSession s (Check id answer) = FitsCheck s.checks s.arguments
-FitsSession s (Read addr len answer) = FitsPiece s.arguments answer
-FitsSession s _ = Unit {0}
+-- where an act is due its request is there, granted, for the event
+abbrev pub IsReadyToAct : Session → Type 0
+IsReadyToAct s = (j : Judgement) → s.stage ≡ Confirmed (Ok j) → j.verdict ≡ Grant → s.outcome ≡ None → (s.granted ≡ true) × (s.effect ≡ Some j.request)
 
--- ---- The start of a session
+-- ---- The request
 
-abbrev pub StartsReading : Notif → Arguments → Type 0
-StartsReading n (Reading c) = Follows (plan n.call.nr n.call.args) [] c
-StartsReading n (Judged j) = ⊥
+abbrev pub effect_of : Option Session → Option Request
+effect_of None = None
+effect_of (Some s) = s.effect
 
--- the session has just begun
-pub record Begins (n : Notif) (s : Session) : Type 0 where
-  pub notif : s.notif ≡ n
-  pub gave_up : s.gave_up ≡ false
-  pub opened : s.opened ≡ false
-  pub based : s.based ≡ false
-  pub checks : s.checks ≡ 0
-  pub outcome : s.outcome ≡ None
-  pub put : s.put ≡ None
-  pub take : s.take ≡ None
-  pub arguments : StartsReading n s.arguments
+-- the worker has the request of an act, for the event
+abbrev pub HasEffect : Worker → Type 0
+HasEffect w = effect_of w.session ≡ None → ⊥
 
--- ---- One more step
+abbrev pub is_granted_if : Option Session → Bool
+is_granted_if None = false
+is_granted_if (Some s) = s.granted
 
--- what is noted of a step: all but the arguments
-pub record Noted (what : What) (old new : Session) : Type 0 where
-  pub notif : new.notif ≡ old.notif
-  pub arguments : new.arguments ≡ old.arguments
-  pub gave_up : new.gave_up ≡ (gives_up what || old.gave_up)
-  pub opened : new.opened ≡ (opens what || old.opened)
-  pub based : new.based ≡ (opens_base what || old.based)
-  pub checks : new.checks ≡ (if checks what then suc old.checks else old.checks)
-  pub outcome : new.outcome ≡ or_some (outcome_in what) old.outcome
-  pub put : new.put ≡ or_some (put_in what) old.put
-  pub take : new.take ≡ or_some (take_in what) old.take
+-- the request was made the one that the deciding rule grants
+abbrev pub is_granted : Worker → Bool
+is_granted w = is_granted_if w.session
+
+-- the request of a copy without a fault
+abbrev pub request_of_copy : List Rule → Bool → Notif → Progress → Option Request
+request_of_copy rules g n (Complete texts) = let j = judgement_as g rules (request n.call.nr n.call.args texts) in Some j.request
+request_of_copy rules g n _ = None
+
+abbrev pub request_for : List Rule → Bool → List What → Option Notif → Option Request
+request_for rules g own None = None
+request_for rules g own (Some n) = request_of_copy rules g n (copied n (reads_of own))
+
+-- the request that a session works on: from its second good check until it lets go, where its copy had no fault
+abbrev pub request_of : List Rule → Bool → List What → Option Request
+request_of rules g own =
+    if any_of is_letgo own then None else (
+    if number_of is_good_check own == 2 then request_for rules g own (notif_of own) else None)

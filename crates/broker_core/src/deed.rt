@@ -1,13 +1,16 @@
-//! What a worker does next.
+//! What a worker does next, and how that is answered.
 
-use hist_model::event::Back;
+ghost use Rattle.std.specs.Prelude.{◌≡◌};
+ghost use Rattle.broker_core.specs.Answers.{answer_of, done_or_failed, is_let_go, is_not_yet, number_or_failed, told};
+
+use hist_model::event::{Back, What};
 use hist_model::policy::Cap;
-use hist_model::request::Request;
-use sys_abi::wire::Addfd;
+use sys_abi::errno::Errno;
+use sys_abi::wire::{Addfd, Notif};
 
 /// What a worker does next (seccomp_unotify(2)).
 #[derive(Clone, Copy, Debug)]
-pub enum Deed<'a> {
+pub enum Deed {
     /// It receives a notification: SECCOMP_IOCTL_NOTIF_RECV.
     Recv,
     /// It opens the memory of the task that holds a process number.
@@ -28,9 +31,9 @@ pub enum Deed<'a> {
         addr: u64,
         len: u16,
     },
-    /// It does what is granted in the container's tree.
+    /// It does what is granted in the container's tree, as often as the cap of the granting rule allows. The request is the
+    /// worker's, by `Worker::take_effect`.
     Act {
-        request: &'a Request,
         cap: Option<Cap>,
     },
     /// It writes the answer of sysinfo at an address.
@@ -50,4 +53,88 @@ pub enum Deed<'a> {
     },
     /// It closes what it opened for the notification.
     LetGo,
+}
+
+impl Deed {
+    /// It ends the session.
+    pub(crate) fn is_let_go(&self) -> bool
+        ensures { result ≡ is_let_go self.now }
+    {
+        matches!(self, Deed::LetGo)
+    }
+}
+
+/// How the kernel answers a deed. Bytes are lent, since the worker copies them into room of its own.
+#[derive(Clone, Copy, Debug)]
+pub enum Got<'a> {
+    /// A notification was received.
+    Notif(Notif),
+    /// The deed was done.
+    Ok,
+    /// These bytes were read, at least one and at most as many as were asked for.
+    Bytes(&'a [u8]),
+    /// The number that a descriptor got.
+    Number(u32),
+    /// There is no answer yet, and nothing has changed.
+    NotYet,
+    /// The deed failed. A receive fails with ENOENT, and a read with EFAULT.
+    Fault(Errno),
+}
+
+impl Got<'_> {
+    /// There is no answer yet.
+    pub(crate) fn is_not_yet(&self) -> bool
+        ensures { result ≡ is_not_yet (told self.now) }
+    {
+        matches!(self, Got::NotYet)
+    }
+}
+
+/// The answer of a call that gives nothing.
+fn done_or_fault<'a>(answer: Result<(), Errno>) -> Got<'a>
+    ensures { told result ≡ done_or_failed answer }
+{
+    match answer {
+        Ok(()) => Got::Ok,
+        Err(error) => Got::Fault(error),
+    }
+}
+
+/// The answer of a call that gives a descriptor's number.
+fn number_or_fault<'a>(answer: Result<u32, Errno>) -> Got<'a>
+    ensures { told result ≡ number_or_failed answer }
+{
+    match answer {
+        Ok(number) => Got::Number(number),
+        Err(error) => Got::Fault(error),
+    }
+}
+
+/// The answer that a worker's step had, as the history recorded it. A step that is no worker's has none, and a skip is
+/// none.
+pub fn answer_of(what: &What) -> Got<'_>
+    ensures { told result ≡ answer_of what.now }
+{
+    match what {
+        What::Recv { answer: Ok(notif) } => Got::Notif(*notif),
+        What::Recv { answer: Err(error) } => Got::Fault(*error),
+        What::OpenMem { answer, .. }
+        | What::OpenBase { answer, .. }
+        | What::Check { answer, .. }
+        | What::Act { answer, .. }
+        | What::Plant { answer, .. }
+        | What::AddfdPut { answer, .. }
+        | What::Send { answer, .. } => done_or_fault(*answer),
+        What::Read {
+            answer: Ok(bytes),
+            ..
+        } => Got::Bytes(bytes.items()),
+        What::Read {
+            answer: Err(error),
+            ..
+        } => Got::Fault(*error),
+        What::AddfdTake { answer } => number_or_fault(*answer),
+        What::LetGo => Got::Ok,
+        _ => Got::NotYet,
+    }
 }

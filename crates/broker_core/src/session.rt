@@ -1,9 +1,14 @@
-//! What a worker remembers of the notification that it works on.
+//! What a worker remembers of the notification that it works on, and the deed that is due then.
 
 ghost use Rattle.std.specs.Prelude.{◌≡◌, [], None};
+ghost use Rattle.std.specs.Option.{option_copied};
+ghost use Rattle.hist_model.specs.Deeds as definition;
+ghost use Rattle.hist_model.specs.Legal.{cloexec_of};
 ghost use Rattle.hist_model.specs.Sessions.{after_act, inject_deed, addfd_of, back_of_outcome};
-ghost use Rattle.arg_capture.specs.Captures.{continued, wanted};
-ghost use Rattle.broker_core.specs.Deeds.{deed_of, judgement_deed, arguments_deed, checked_deed, session_deed};
+ghost use Rattle.hist_model.specs.declared.request.Request.{Request};
+ghost use Rattle.broker_core.specs.Answers.{shown};
+ghost use Rattle.broker_core.specs.Deeds.{Granting, grant_deed, verdict_deed, found_deed, stage_deed, session_deed};
+ghost use Rattle.broker_core.specs.Taking.{Begins, confirmed_request};
 
 use crate::deed::Deed;
 use crate::judgement::Judgement;
@@ -11,35 +16,45 @@ use arg_capture::Capture;
 use emu_request::base_dirfd;
 use emu_sysinfo::container;
 use hist_model::event::Back;
+use hist_model::policy::Verdict;
+use hist_model::request::Request;
 use hist_model::script::Figures;
 use sys_abi::errno::Errno;
-use sys_abi::wire::{Addfd, Notif, SECCOMP_ADDFD_FLAG_SEND, SECCOMP_ADDFD_FLAG_SETFD};
+use sys_abi::wire::{Addfd, Notif, O_CLOEXEC, SECCOMP_ADDFD_FLAG_SEND, SECCOMP_ADDFD_FLAG_SETFD};
 
-/// The arguments of the call: they are being read, or were read and judged.
+/// How far a session has come with its checks and with the arguments of its call.
 #[derive(Drop)]
-pub enum Arguments {
-    Reading(Capture),
-    Judged(Judgement),
+pub enum Stage {
+    /// No check was good yet.
+    Unchecked,
+    /// The first check was good, and the arguments are read.
+    Reading,
+    /// The arguments were read and judged, or had a fault. The second check is due.
+    Judged(Result<Judgement, Errno>),
+    /// The second check was good.
+    Confirmed(Result<Judgement, Errno>),
 }
 
 /// An open session.
 #[derive(Drop)]
 pub struct Session {
-    pub notif: Notif,
+    pub(crate) notif: Notif,
     /// The worker lets go next.
-    pub gave_up: bool,
+    pub(crate) gave_up: bool,
     /// The memory was opened.
-    pub opened: bool,
+    pub(crate) opened: bool,
     /// The base was opened, or there was none to open.
-    pub based: bool,
-    /// How many checks were made, at most two.
-    pub checks: u8,
+    pub(crate) based: bool,
+    pub(crate) stage: Stage,
+    /// The request was made the one that the deciding rule grants.
+    pub(crate) granted: bool,
+    /// Another of the granted request, which the event of the act keeps.
+    pub(crate) effect: Option<Request>,
     /// What came of the effect.
-    pub outcome: Option<Result<(), Errno>>,
+    pub(crate) outcome: Option<Result<(), Errno>>,
     /// What came of the request for a descriptor, and of taking its number.
-    pub put: Option<Result<(), Errno>>,
-    pub take: Option<Result<u32, Errno>>,
-    pub arguments: Arguments,
+    pub(crate) put: Option<Result<(), Errno>>,
+    pub(crate) take: Option<Result<u32, Errno>>,
 }
 
 /// What is sent after an effect.
@@ -49,6 +64,16 @@ fn back_of_outcome(outcome: Result<(), Errno>) -> Back
     match outcome {
         Ok(()) => Back::Value(0),
         Err(error) => Back::Fail(error),
+    }
+}
+
+/// The descriptor flags of an open: O_CLOEXEC as its caller set it.
+fn cloexec_of(request: &Request) -> u32
+    ensures { result ≡ cloexec_of request.now }
+{
+    match request {
+        Request::OpenAt { flags, .. } => *flags / O_CLOEXEC % 2 * O_CLOEXEC,
+        _ => 0,
     }
 }
 
@@ -75,9 +100,27 @@ fn injection(id: u64, src: u32, at: Option<u32>, newfd_flags: u32) -> Addfd
 }
 
 impl Session {
+    /// The start of a session.
+    pub(crate) fn begun(notif: Notif) -> Session
+        ensures { Begins notif result }
+    {
+        Session {
+            notif,
+            gave_up: false,
+            opened: false,
+            based: false,
+            stage: Stage::Unchecked,
+            granted: false,
+            effect: None,
+            outcome: None,
+            put: None,
+            take: None,
+        }
+    }
+
     /// The steps of an injection: put, take, and an answer where one of them failed.
-    fn inject(&self, asked: Addfd) -> Deed<'_>
-        ensures { deed_of result ≡ inject_deed self.now.notif.id asked self.now.put self.now.take }
+    fn inject(&self, asked: Addfd) -> Deed
+        ensures { result ≡ shown (inject_deed self.now.notif.id asked self.now.put self.now.take) }
     {
         let id = self.notif.id;
         match (self.put, self.take) {
@@ -94,62 +137,77 @@ impl Session {
         }
     }
 
-    /// The deed that the judgement leads to.
-    fn judged<'a>(&'a self, figures: &Figures, judgement: &'a Judgement) -> Deed<'a>
-        ensures { deed_of result ≡ judgement_deed figures.now self.now judgement.now }
+    /// The effect, or once it was tried its outcome is sent.
+    fn effect_or_outcome(&self, effect: Deed) -> Deed
+        ensures { (d : definition.Deed) → effect ≡ shown d → result ≡ shown (after_act self.now.notif.id self.now.outcome d) }
+    {
+        match self.outcome {
+            None => effect,
+            Some(outcome) => Deed::Send {
+                id: self.notif.id,
+                back: back_of_outcome(outcome),
+            },
+        }
+    }
+
+    /// The deed that a grant leads to: sysinfo's answer is written, and every other request is done in the tree.
+    fn granted_deed(&self, figures: &Figures, judgement: &Judgement) -> Deed
+        ensures { (q : Request) → result ≡ shown (grant_deed figures.now self.now judgement.now.cap q judgement.now.request) }
+    {
+        let cap = judgement.cap;
+        match judgement.request {
+            Request::Sysinfo { addr } => self.effect_or_outcome(Deed::Plant {
+                addr,
+                bytes: container(figures),
+                cap,
+            }),
+            _ => self.effect_or_outcome(Deed::Act { cap }),
+        }
+    }
+
+    /// The deed that a judgement leads to.
+    fn judged_deed(&self, figures: &Figures, judgement: &Judgement) -> Deed
+        ensures { (G : Granting) → result ≡ shown (verdict_deed G figures.now self.now judgement.now judgement.now.verdict) }
     {
         let id = self.notif.id;
-        match judgement {
-            Judgement::Faulty(error) | Judgement::Denies(error) => Deed::Send {
+        match judgement.verdict {
+            Verdict::Grant => self.granted_deed(figures, judgement),
+            Verdict::Deny(error) => Deed::Send {
                 id,
-                back: Back::Fail(*error),
+                back: Back::Fail(error),
             },
-            Judgement::Passes => Deed::Send {
+            Verdict::Pass => Deed::Send {
                 id,
                 back: Back::Continue,
             },
-            Judgement::Acts { request, cap } => match self.outcome {
-                None => Deed::Act { request, cap: *cap },
-                Some(outcome) => Deed::Send {
-                    id,
-                    back: back_of_outcome(outcome),
-                },
-            },
-            Judgement::Plants { addr, cap } => match self.outcome {
-                None => Deed::Plant {
-                    addr: *addr,
-                    bytes: container(figures),
-                    cap: *cap,
-                },
-                Some(outcome) => Deed::Send {
-                    id,
-                    back: back_of_outcome(outcome),
-                },
-            },
-            Judgement::Injects { src, at, flags } => self.inject(injection(id, *src, *at, *flags)),
+            Verdict::Inject { src, at } => {
+                self.inject(injection(id, src, at, cloexec_of(&judgement.request)))
+            }
         }
     }
 
     /// The deed after the openings.
-    fn checked(&self, figures: &Figures) -> Deed<'_>
-        ensures { deed_of result ≡ checked_deed figures.now self.now }
+    fn checked_deed(&self, figures: &Figures, capture: &Capture) -> Deed
+        ensures { (G : Granting) → result ≡ shown (stage_deed G figures.now capture.now self.now self.now.stage) }
     {
         let id = self.notif.id;
-        if self.checks == 0 {
-            return Deed::Check { id };
-        }
-        match &self.arguments {
-            Arguments::Reading(capture) => match capture.next() {
+        match &self.stage {
+            Stage::Unchecked | Stage::Judged(_) => Deed::Check { id },
+            Stage::Reading => match capture.next() {
                 Some((addr, len)) => Deed::Read { addr, len },
                 None => Deed::Check { id },
             },
-            Arguments::Judged(judgement) => self.judged(figures, judgement),
+            Stage::Confirmed(Ok(judgement)) => self.judged_deed(figures, judgement),
+            Stage::Confirmed(Err(error)) => Deed::Send {
+                id,
+                back: Back::Fail(*error),
+            },
         }
     }
 
     /// The next deed.
-    pub fn next(&self, figures: &Figures) -> Deed<'_>
-        ensures { deed_of result ≡ session_deed figures.now self.now }
+    pub(crate) fn next(&self, figures: &Figures, capture: &Capture) -> Deed
+        ensures { (G : Granting) → result ≡ shown (session_deed G figures.now capture.now self.now) }
     {
         let pid = self.notif.pid;
         if self.gave_up {
@@ -160,7 +218,17 @@ impl Session {
         }
         match base_dirfd(self.notif.call.nr, &self.notif.call.args) {
             Some(dirfd) if !self.based => Deed::OpenBase { pid, dirfd },
-            _ => self.checked(figures),
+            _ => self.checked_deed(figures, capture),
+        }
+    }
+
+    /// The request that is worked on, from the second good check on, where the copy had no fault.
+    pub(crate) fn request(&self) -> Option<&Request>
+        ensures { option_copied result ≡ confirmed_request self.now.stage }
+    {
+        match &self.stage {
+            Stage::Confirmed(Ok(judgement)) => Some(&judgement.request),
+            _ => None,
         }
     }
 }

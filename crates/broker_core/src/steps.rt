@@ -1,91 +1,73 @@
-//! What a worker's step tells of its session.
+//! What an answer to a deed tells of the session.
 
 ghost use Rattle.std.specs.Prelude.{◌≡◌};
-ghost use Rattle.hist_model.specs.Kinds.{is_letgo, gives_up, opens, opens_base, checks};
+ghost use Rattle.hist_model.specs.Kinds.{gives_up, opens, opens_base};
 ghost use Rattle.hist_model.specs.Sessions.{outcome_in, put_in, take_in};
+ghost use Rattle.hist_model.specs.declared.request.Request.{Request};
+ghost use Rattle.broker_core.specs.Answers.{deed_of, step_of, told};
 
-use hist_model::event::What;
+use crate::deed::{Deed, Got};
 use sys_abi::errno::Errno;
 
-/// The worker lets go.
-pub(crate) fn is_letgo(what: &What) -> bool
-    ensures { result ≡ is_letgo what.now }
+/// The answer ends the session's work: the worker then lets go.
+pub(crate) fn gives_up(deed: &Deed, got: &Got<'_>) -> bool
+    ensures { (q : Request) → result ≡ gives_up (step_of (deed_of q deed.now) (told got.now)) }
 {
-    matches!(what, What::LetGo)
-}
-
-/// The step ends the session's work: the worker then lets go.
-pub(crate) fn gives_up(what: &What) -> bool
-    ensures { result ≡ gives_up what.now }
-{
-    match what {
-        What::OpenMem {
-            answer: Err(error),
-            ..
-        }
-        | What::OpenBase {
-            answer: Err(error),
-            ..
-        } => *error == Errno::ESRCH,
-        What::AddfdPut {
-            answer: Err(error),
-            ..
-        }
-        | What::AddfdTake { answer: Err(error) } => *error == Errno::ENOENT,
-        What::Check { answer: Err(_), .. }
-        | What::AddfdTake { answer: Ok(_) }
-        | What::Send { .. } => true,
+    match (deed, got) {
+        (Deed::OpenMem { .. } | Deed::OpenBase { .. }, Got::Fault(error)) => *error == Errno::ESRCH,
+        (Deed::AddfdPut(_) | Deed::AddfdTake, Got::Fault(error)) => *error == Errno::ENOENT,
+        (Deed::Check { .. } | Deed::Send { .. }, Got::Fault(_)) => true,
+        (Deed::AddfdTake, Got::Number(_)) | (Deed::Send { .. }, Got::Ok) => true,
         _ => false,
     }
 }
 
-/// The step opens the memory.
-pub(crate) fn opens(what: &What) -> bool
-    ensures { result ≡ opens what.now }
+/// The memory was opened, or was to be.
+pub(crate) fn opens(deed: &Deed, got: &Got<'_>) -> bool
+    ensures { (q : Request) → result ≡ opens (step_of (deed_of q deed.now) (told got.now)) }
 {
-    matches!(what, What::OpenMem { .. })
+    matches!((deed, got), (Deed::OpenMem { .. }, Got::Ok | Got::Fault(_)))
 }
 
-/// The step opens the base.
-pub(crate) fn opens_base(what: &What) -> bool
-    ensures { result ≡ opens_base what.now }
+/// The base was opened, or was to be.
+pub(crate) fn opens_base(deed: &Deed, got: &Got<'_>) -> bool
+    ensures { (q : Request) → result ≡ opens_base (step_of (deed_of q deed.now) (told got.now)) }
 {
-    matches!(what, What::OpenBase { .. })
-}
-
-/// The step asks whether the notification is valid.
-pub(crate) fn checks(what: &What) -> bool
-    ensures { result ≡ checks what.now }
-{
-    matches!(what, What::Check { .. })
+    matches!(
+        (deed, got),
+        (Deed::OpenBase { .. }, Got::Ok | Got::Fault(_))
+    )
 }
 
 /// What came of an effect.
-pub(crate) fn outcome_in(what: &What) -> Option<Result<(), Errno>>
-    ensures { result ≡ outcome_in what.now }
+pub(crate) fn outcome_in(deed: &Deed, got: &Got<'_>) -> Option<Result<(), Errno>>
+    ensures { (q : Request) → result ≡ outcome_in (step_of (deed_of q deed.now) (told got.now)) }
 {
-    match what {
-        What::Act { answer, .. } | What::Plant { answer, .. } => Some(*answer),
+    match (deed, got) {
+        (Deed::Act { .. } | Deed::Plant { .. }, Got::Ok) => Some(Ok(())),
+        (Deed::Act { .. } | Deed::Plant { .. }, Got::Fault(error)) => Some(Err(*error)),
         _ => None,
     }
 }
 
 /// What came of a request for a descriptor.
-pub(crate) fn put_in(what: &What) -> Option<Result<(), Errno>>
-    ensures { result ≡ put_in what.now }
+pub(crate) fn put_in(deed: &Deed, got: &Got<'_>) -> Option<Result<(), Errno>>
+    ensures { (q : Request) → result ≡ put_in (step_of (deed_of q deed.now) (told got.now)) }
 {
-    match what {
-        What::AddfdPut { answer, .. } => Some(*answer),
+    match (deed, got) {
+        (Deed::AddfdPut(_), Got::Ok) => Some(Ok(())),
+        (Deed::AddfdPut(_), Got::Fault(error)) => Some(Err(*error)),
         _ => None,
     }
 }
 
 /// What came of taking its number.
-pub(crate) fn take_in(what: &What) -> Option<Result<u32, Errno>>
-    ensures { result ≡ take_in what.now }
+pub(crate) fn take_in(deed: &Deed, got: &Got<'_>) -> Option<Result<u32, Errno>>
+    ensures { (q : Request) → result ≡ take_in (step_of (deed_of q deed.now) (told got.now)) }
 {
-    match what {
-        What::AddfdTake { answer } => Some(*answer),
+    match (deed, got) {
+        (Deed::AddfdTake, Got::Number(number)) => Some(Ok(*number)),
+        (Deed::AddfdTake, Got::Fault(error)) => Some(Err(*error)),
         _ => None,
     }
 }

@@ -1,139 +1,204 @@
-//! How a session takes its worker's steps.
+//! How a session gets ready for an answer, and takes it.
 
-ghost use Rattle.std.specs.Prelude.{◌≡◌, ◌≤◌, [], ◌∷◌, List, OnOk, IfOk, None, false, true};
-ghost use Rattle.hist_model.specs.Kinds.{starts, is_letgo, checks};
-ghost use Rattle.hist_model.specs.Sessions.{number_of};
+ghost use Rattle.std.specs.Prelude.{◌≡◌, ◌∷◌, ◌++◌, [], ℕ, List, Result, OnOk, OnErr, Ok, Some, None, true, false};
+ghost use Rattle.hist_model.specs.Decisions.{granted_by};
+ghost use Rattle.hist_model.specs.declared.copy.Part.{Part};
 ghost use Rattle.hist_model.specs.declared.event.What.{What};
-ghost use Rattle.hist_model.specs.declared.event.What.TheVariants.{Read};
-ghost use Rattle.hist_model.specs.declared.script.Figures.{Figures};
-ghost use Rattle.arg_capture.specs.Captures.{continued, wanted};
-ghost use Rattle.sys_abi.specs.declared.wire.Notif.{Notif};
-ghost use Rattle.broker_core.specs.Remembered.{Knows, FitsSession, FitsPiece, FitsCheck, ArgumentsOf, IsJudged, Noted};
+ghost use Rattle.hist_model.specs.declared.request.Request.{Request};
+ghost use Rattle.hist_model.specs.declared.policy.Rule.{Rule};
+ghost use Rattle.arg_capture.specs.Captures.{Captured, continued, wanted, Follows};
+ghost use Rattle.broker_core.specs.Answers.{deed_of, step_of, told};
+ghost use Rattle.broker_core.specs.Judged.{judgement_as};
+ghost use Rattle.broker_core.specs.Remembered.{IsFound, IsReadyAt, IsReadyToAct, Knows};
+ghost use Rattle.broker_core.specs.Taking.{Advances, CanFeed, CanTake, Noted, confirmed, heard, is_reading};
+ghost use Rattle.broker_core.specs.declared.session.Stage.TheVariants.{Reading};
 
+use crate::deed::{Deed, Got};
 use crate::judgement::{Judgement, judge};
-use crate::session::{Arguments, Session};
-use crate::steps::{checks, gives_up, opens, opens_base, outcome_in, put_in, take_in};
-use arg_capture::Capture;
-use hist_model::event::What;
-use hist_model::policy::Policy;
-use hist_model::request::Fault;
-use hist_model::text::Text;
+use crate::session::{Session, Stage};
+use crate::steps::{gives_up, opens, opens_base, outcome_in, put_in, take_in};
+use arg_capture::{Capture, Fault};
+use hist_model::policy::{Policy, Verdict};
+use hist_model::request::Request;
+use policy_eval::grant;
 use std::alloc::Global;
 use std::mem;
 use sys_abi::errno::Errno;
 use sys_abi::memory::NoMemory;
 use sys_abi::wire::Notif;
 
-/// Takes the answer of a read.
-#[tactic(auto, using(crate::proofs::Copied::read_more))]
-fn read(
-    arguments: &mut Arguments,
-    addr: u64,
-    len: u16,
-    answer: &Result<Text, Errno>,
-) -> Result<(), NoMemory>
-    requires { FitsPiece arguments.old answer.now }
-    ensures { (P : Policy) (F : Figures) (n : Notif) (own : List What) → ArgumentsOf P F n own arguments.old → OnOk result (ArgumentsOf P F n (Read addr len answer.now ∷ own) arguments.new) }
+/// What the policy makes of a copy that is complete, or the fault of the copy.
+#[tactic(auto, using(crate::proofs::Judging::found_copy, crate::proofs::Judging::found_fault))]
+fn found(policy: &Policy, notif: &Notif, capture: &mut Capture) -> Result<Judgement, Errno>
+    requires { wanted (continued capture.old []) ≡ None }
+    ensures { IsFound policy.now.rules false notif.now (continued capture.old []) result }
 {
-    match arguments {
-        Arguments::Reading(capture) => match answer {
-            Ok(bytes) => capture.feed(Ok(bytes.items())),
-            Err(_) => capture.feed(Err(Fault)),
-        },
-        Arguments::Judged(_) => Ok(()),
+    match capture.take_copy() {
+        Ok(copy) => Ok(judge(policy, notif.call.nr, &notif.call.args, copy)),
+        Err(error) => Err(error),
     }
 }
 
-/// The arguments with their judgement: the copy is complete, or has a fault.
-fn judged(
-    alloc: Global,
-    policy: &Policy,
-    notif: &Notif,
-    capture: Capture,
-) -> Result<Judgement, NoMemory>
-    requires { wanted (continued capture []) ≡ None }
-    ensures { IfOk result (λ j. (F : Figures) → IsJudged policy.now F notif.now (continued capture []) j) }
+/// Makes the request of a judgement the one that its rule grants.
+fn grant_request(alloc: Global, policy: &Policy, judgement: &mut Judgement) -> Result<(), NoMemory>
+    ensures granted { OnOk result (judgement.new ≡ record judgement.old { request = granted_by policy.now.rules judgement.old.rule judgement.old.request }) }
+    ensures kept { OnErr result (judgement.new ≡ judgement.old) }
 {
-    match capture.finish() {
-        Ok(copy) => judge(alloc, policy, notif.call.nr, &notif.call.args, copy),
-        Err(error) => Ok(Judgement::Faulty(error)),
+    if judgement.rule < policy.rules.items().len() {
+        grant(alloc, policy, judgement.rule, &mut judgement.request)?;
     }
+    Ok(())
 }
 
-/// Judges the arguments at the second check.
-#[tactic(auto, using(crate::proofs::Copied::judged_after))]
-fn judge_arguments(
+/// Makes the request of a judgement the granted one, unless it is, and another of it for the event.
+#[tactic(auto, using(crate::proofs::Judging::granted_judgement))]
+fn prepare_effect(
     alloc: Global,
     policy: &Policy,
-    notif: &Notif,
-    arguments: &mut Arguments,
-    what: &What,
+    judgement: &mut Judgement,
+    granted: &mut bool,
+    effect: &mut Option<Request>,
 ) -> Result<(), NoMemory>
-    requires fits { FitsCheck 1 arguments.old }
-    requires check { checks what.now ≡ true }
-    ensures { (F : Figures) (own : List What) → number_of checks own ≡ 1 → ArgumentsOf policy.now F notif.now own arguments.old → OnOk result (ArgumentsOf policy.now F notif.now (what.now ∷ own) arguments.new) }
+    ensures judged { (q : Request) → judgement.old ≡ judgement_as granted.old policy.now.rules q → judgement.new ≡ judgement_as granted.new policy.now.rules q }
+    ensures granted { OnOk result (granted.new ≡ true) }
+    ensures effect { OnOk result (effect.new ≡ Some judgement.new.request) }
+    ensures none { OnErr result (effect.new ≡ None) }
 {
-    match mem::replace(arguments, Arguments::Judged(Judgement::Passes)) {
-        Arguments::Reading(capture) => {
-            *arguments = Arguments::Judged(judged(alloc, policy, notif, capture)?);
-            Ok(())
+    *effect = None;
+    if !*granted {
+        grant_request(alloc, policy, judgement)?;
+        *granted = true;
+    }
+    *effect = Some(judgement.request.copied(alloc)?);
+    Ok(())
+}
+
+/// Feeds the answer of a read to the capture.
+fn feed(capture: &mut Capture, got: &Got<'_>)
+    requires { CanFeed capture.old (told got.now) }
+    ensures { (parts : List Part) (answers : List (Result (List ℕ) ℕ)) → Follows parts answers capture.old → Follows parts (answers ++ heard (told got.now)) capture.new }
+{
+    match got {
+        Got::Bytes(bytes) => {
+            let fed = capture.feed(Ok(*bytes)).is_ok();
+            prove!(fed);
         }
-        Arguments::Judged(_) => Ok(()),
+        Got::Fault(_) => {
+            let fed = capture.feed(Err(Fault)).is_ok();
+            prove!(fed);
+        }
+        _ => {}
+    }
+}
+
+impl Stage {
+    /// The arguments are being read.
+    fn is_reading(&self) -> bool
+        ensures { result ≡ is_reading self.now }
+    {
+        matches!(self, Stage::Reading)
     }
 }
 
 impl Session {
-    /// Notes what a step tells, but for the arguments.
-    fn note(&mut self, what: &What)
-        requires { checks what.now ≡ true → self.old.checks ≤ 1 }
-        ensures { Noted what.now self.old self.new }
+    /// Makes room for the next piece, or where nothing is left to be read judges the arguments.
+    #[tactic(auto, using(crate::proofs::Judging::known_room, crate::proofs::Judging::known_judged))]
+    fn ready_to_read(&mut self, policy: &Policy, capture: &mut Capture) -> Result<(), NoMemory>
+        requires reading { self.old.stage ≡ Reading }
+        ensures known { (own : List What) → Knows policy.now.rules own capture.old self.old → Knows policy.now.rules own capture.new self.new }
+        ensures ready { OnOk result (IsReadyAt capture.new self.new.stage) }
+        ensures act { IsReadyToAct self.new }
     {
-        self.gave_up = gives_up(what) || self.gave_up;
-        self.opened = opens(what) || self.opened;
-        self.based = opens_base(what) || self.based;
-        if checks(what) {
-            self.checks += 1;
+        if capture.next().is_some() {
+            return capture.ready();
         }
-        self.outcome = outcome_in(what).or(self.outcome);
-        self.put = put_in(what).or(self.put);
-        self.take = take_in(what).or(self.take);
+        self.stage = Stage::Judged(found(policy, &self.notif, capture));
+        Ok(())
     }
 
-    /// Takes what a step tells of the arguments.
-    fn take_arguments(
-        &mut self,
-        alloc: Global,
-        policy: &Policy,
-        what: &What,
-    ) -> Result<(), NoMemory>
-        requires { FitsSession self.old what.now }
-        ensures kept { self.new ≡ record self.old { arguments = self.new.arguments } }
-        ensures arguments { (F : Figures) (own : List What) → number_of checks own ≡ self.old.checks → ArgumentsOf policy.now F self.old.notif own self.old.arguments → OnOk result (ArgumentsOf policy.now F self.old.notif (what.now ∷ own) self.new.arguments) }
+    /// Makes what an act needs, where the deciding rule grants and nothing was done yet.
+    #[tactic(auto, using(crate::proofs::Judging::known_granted))]
+    fn ready_to_act(&mut self, alloc: Global, policy: &Policy) -> Result<(), NoMemory>
+        ensures known { (own : List What) (c : Captured) → Knows policy.now.rules own c self.old → Knows policy.now.rules own c self.new }
+        ensures ready { (c : Captured) → IsReadyAt c self.old.stage → IsReadyAt c self.new.stage }
+        ensures act { OnOk result (IsReadyToAct self.new) }
     {
-        match what {
-            What::Read { addr, len, answer } => read(&mut self.arguments, *addr, *len, answer),
-            What::Check { .. } if self.checks == 1 => {
-                let notif = self.notif;
-                judge_arguments(alloc, policy, &notif, &mut self.arguments, what)
-            }
+        match &mut self.stage {
+            Stage::Confirmed(Ok(judgement))
+                if judgement.verdict == Verdict::Grant && self.outcome.is_none() => prepare_effect(
+                alloc,
+                policy,
+                judgement,
+                &mut self.granted,
+                &mut self.effect,
+            ),
             _ => Ok(()),
         }
     }
 
-    /// Takes a step of the worker, which neither begins a session nor ends it.
-    #[tactic(auto, using(crate::proofs::Copied::known_after))]
-    pub(crate) fn took(
+    /// Makes room for the answer to the next deed.
+    pub(crate) fn ready(
         &mut self,
         alloc: Global,
         policy: &Policy,
-        what: &What,
+        capture: &mut Capture,
     ) -> Result<(), NoMemory>
-        requires fits { FitsSession self.old what.now }
-        requires goes_on { (starts what.now ≡ false) × (is_letgo what.now ≡ false) }
-        ensures { (F : Figures) (own : List What) → Knows policy.now F own self.old → OnOk result (Knows policy.now F (what.now ∷ own) self.new) }
+        ensures known { (own : List What) → Knows policy.now.rules own capture.old self.old → Knows policy.now.rules own capture.new self.new }
+        ensures ready { OnOk result (IsReadyAt capture.new self.new.stage) }
+        ensures act { OnOk result (IsReadyToAct self.new) }
     {
-        self.take_arguments(alloc, policy, what)?;
-        self.note(what);
-        Ok(())
+        if self.stage.is_reading() {
+            return self.ready_to_read(policy, capture);
+        }
+        self.ready_to_act(alloc, policy)
+    }
+
+    /// A check was good.
+    fn confirm(&mut self)
+        ensures { self.new ≡ record self.old { stage = confirmed self.old.stage } }
+    {
+        self.stage = match mem::replace(&mut self.stage, Stage::Unchecked) {
+            Stage::Unchecked => Stage::Reading,
+            Stage::Judged(found) => Stage::Confirmed(found),
+            stage => stage,
+        };
+    }
+
+    /// Advances the stage or the copy by an answer.
+    fn advance(&mut self, capture: &mut Capture, deed: &Deed, got: &Got<'_>)
+        requires { CanTake deed.now (told got.now) capture.old self.old.stage }
+        ensures { Advances deed.now (told got.now) capture.old capture.new self.old self.new }
+    {
+        match deed {
+            Deed::Read { .. } => feed(capture, got),
+            Deed::Check { .. } => {
+                if matches!(got, Got::Ok) {
+                    self.confirm();
+                }
+            }
+            _ => {}
+        }
+    }
+
+    /// Notes what an answer tells, but for the stage.
+    fn note(&mut self, deed: &Deed, got: &Got<'_>)
+        ensures { (q : Request) → Noted (step_of (deed_of q deed.now) (told got.now)) self.old self.new }
+    {
+        self.gave_up = gives_up(deed, got) || self.gave_up;
+        self.opened = opens(deed, got) || self.opened;
+        self.based = opens_base(deed, got) || self.based;
+        self.outcome = outcome_in(deed, got).or(self.outcome);
+        self.put = put_in(deed, got).or(self.put);
+        self.take = take_in(deed, got).or(self.take);
+    }
+
+    /// Takes the answer to a deed that neither begins the session nor ends it.
+    #[tactic(auto, using(crate::proofs::Taken::known_after))]
+    pub(crate) fn took(&mut self, capture: &mut Capture, deed: &Deed, got: &Got<'_>)
+        requires { CanTake deed.now (told got.now) capture.old self.old.stage }
+        ensures { (rules : List Rule) (own : List What) (q : Request) → Knows rules own capture.old self.old → Knows rules (step_of (deed_of q deed.now) (told got.now) ∷ own) capture.new self.new }
+    {
+        self.advance(capture, deed, got);
+        self.note(deed, got);
     }
 }

@@ -1,14 +1,37 @@
-use Rattle.std.proofs.Common.{◌≡◌, rules}
-use Rattle.std.specs.Prelude.{Ok}
-use Rattle.hist_model.specs.declared.event.What.TheVariants.{Recv}
-use Rattle.broker_core.proofs.Fitting.{fits_session}
-use Rattle.broker_core.proofs.Workers.{begins_with}
+use Rattle.std.proofs.Common.{◌≡◌, ◌∙◌, sym, Some}
+use Rattle.hist_model.specs.Legal.{rules_of}
+use Rattle.hist_model.specs.Sessions.{deed}
+use Rattle.broker_core.specs.Answers.{shown, told}
+use Rattle.broker_core.specs.Deeds.{due}
+use Rattle.broker_core.specs.Remembered.{KnowsIf}
+use Rattle.broker_core.proofs.Answered.{not_yet, idle_after, one_more, fits_as}
+use Rattle.broker_core.proofs.Dues.{can_take}
+use Rattle.broker_core.proofs.Workers.{receives_next}
 use Rattle.broker_core.proofs.worker.Worker.took.Goals as goal
 
-pub returns-in-Recv-Ok-clause-known : goal.returns-in-Recv-Ok-clause-known
-returns-in-Recv-Ok-clause-known c =
-    let e : c.args.what.now ≡ Recv (Ok c.in-Recv-Ok.notif) = first_of (search rules, cc) in
-    λ own h. begins_with c.args.policy.now c.args.self.now.figures own c.in-Recv-Ok.notif c.args.what.now c.in_ok-begin.field-0 e c.in_ok-begin.ensures
+pub returns-then-is_not_yet-clause-known : goal.returns-then-is_not_yet-clause-known
+returns-then-is_not_yet-clause-known c = λ P own r.
+    rw (not_yet (deed (rules_of P c.args.self.now.figures) own) (told c.args.got.now) own (sym c.is_not_yet.ensures ∙ c.if-is_not_yet.true)) r
 
-pub took-requires-clause-fits : goal.took-requires-clause-fits
-took-requires-clause-fits c = fits_session c.args.policy.now c.args.self.now c.in-Some.session c.args.what.now c.in-Some.is c.requires.fits
+pub returns-then-is_let_go-clause-known : goal.returns-then-is_let_go-clause-known
+returns-then-is_let_go-clause-known c = λ P own r.
+    let d = deed (rules_of P c.args.self.now.figures) own in
+    let e : c.next-deed.result ≡ shown d = c.next-deed.ensures.deed P own r in
+    let f = fits_as (due c.args.self.now) (shown d) (told c.args.got.now) (sym c.next-deed.ensures.due ∙ e) c.requires.fits in
+    idle_after d (told c.args.got.now) own (rw e at (sym c.is_let_go.ensures ∙ c.if-is_let_go.true)) f
+
+pub took-requires : goal.took-requires
+took-requires c = can_take c.args.self.now c.in-Some.session c.next-deed.result (told c.args.got.now) c.in-Some.is c.next-deed.ensures.due c.requires.ready c.requires.fits (sym c.is_let_go.ensures ∙ c.if-is_let_go.false)
+
+pub returns-in-None-clause-known : goal.returns-in-None-clause-known
+returns-in-None-clause-known c = λ P own r.
+    rw (receives_next P c.args.self.now.figures own c.args.self.now.capture c.args.self.now.session c.in-None.is r) (c.receive.ensures.known P own r)
+
+pub returns-in-Some-clause-known : goal.returns-in-Some-clause-known
+returns-in-Some-clause-known c = λ P own r.
+    let d = deed (rules_of P c.args.self.now.figures) own in
+    let f = fits_as (due c.args.self.now) c.next-deed.result (told c.args.got.now) (sym c.next-deed.ensures.due) c.requires.fits in
+    let k : KnowsIf P.rules own c.args.self.now.capture (Some c.in-Some.session) = rw c.in-Some.is at r in
+    let t = can_take c.args.self.now c.in-Some.session c.next-deed.result (told c.args.got.now) c.in-Some.is c.next-deed.ensures.due c.requires.ready c.requires.fits (sym c.is_let_go.ensures ∙ c.if-is_let_go.false) in
+    one_more P.rules own c.args.self.now.capture c.took.new.capture c.in-Some.session c.took.new.self d c.next-deed.result (told c.args.got.now) (c.next-deed.ensures.deed P own r)
+    t f (sym c.is_not_yet.ensures ∙ c.if-is_not_yet.false) (λ q. c.took.ensures P.rules own q k) k
