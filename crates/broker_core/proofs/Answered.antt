@@ -97,13 +97,13 @@ not_yet d NotYet own h = unanswered d own
 not_yet d a own h = cc
 
 -- the request of a deed, if it has one
-abbrev request-or : Deed → Request
-request-or (Deed.Act request cap) = request
-request-or d = Sysinfo 0
+abbrev pub request_or : Deed → Request
+request_or (Deed.Act request cap) = request
+request_or d = Sysinfo 0
 
-named-back : (d : Deed) → d ≡ deed_of (request-or d) (shown d)
-named-back (Deed.Act request cap) = refl
-named-back d = refl
+pub named_back : (d : Deed) → d ≡ deed_of (request_or d) (shown d)
+named_back (Deed.Act request cap) = refl
+named_back d = refl
 
 -- what a session can take is a step of it, unless there is no answer yet
 answered : (q : Request) (d : Named) (a : Answer) (c : Captured) (stage : Stage) → CanTake d a c stage → Fits d a → is_not_yet a ≡ false
@@ -141,9 +141,9 @@ goes-on rules (a ∷ own) what c d old new k s h g = rw (k, s) g
 pub one_more : (rules : List Rule) (own : List What) (c c' : Captured) (old new : Session) (d : Deed) (n : Named) (a : Answer) → n ≡ shown d → CanTake n a c old.stage → Fits n a
     → is_not_yet a ≡ false → ((q : Request) → Knows rules (step_of (deed_of q n) a ∷ own) c' new) → Knows rules own c old → Knows rules (with_step (step_of d a) own) c' new
 one_more rules own c c' old new d n a e t f y g k =
-    let q : d ≡ deed_of (request-or d) n = named-back d ∙ ap (deed_of (request-or d)) (sym e) in
-    let p = answered (request-or d) n a c old.stage t f y in
-    let r : Knows rules (with_step (step_of (deed_of (request-or d) n) a) own) c' new = goes-on rules own (step_of (deed_of (request-or d) n) a) c c' old new p.0 p.1 k (g (request-or d)) in
+    let q : d ≡ deed_of (request_or d) n = named_back d ∙ ap (deed_of (request_or d)) (sym e) in
+    let p = answered (request_or d) n a c old.stage t f y in
+    let r : Knows rules (with_step (step_of (deed_of (request_or d) n) a) own) c' new = goes-on rules own (step_of (deed_of (request_or d) n) a) c c' old new p.0 p.1 k (g (request_or d)) in
     rw (ap (λ x. step_of x a) q) r
 
 -- what fits a deed fits it under another name
