@@ -27,19 +27,6 @@ use Rattle.plain_play.specs.Workers.{AllRemember}
 use Rattle.plain_play.specs.Running.{IsAt}
 use Rattle.plain_play.specs.declared.machine.Machine.{Machine}
 
--- a skip leaves what is remembered
-pub remembers_skip : (P : Policy) (K : List Event) (w : ℕ) (x : Worker) → Remembers P (session K w) x → Remembers P (session (ev (WorkerActor w) Skip ∷ K) w) x
-remembers_skip P K w x h = rw (session-skip (ev (WorkerActor w) Skip) K w refl) h
-
--- a step is remembered as the session's newest
-pub remembers_step : (P : Policy) (K : List Event) (w : ℕ) (what : What) (x : Worker) → skips what ≡ false → Remembers P (joined what (session K w)) x → Remembers P (session (ev (WorkerActor w) what ∷ K) w) x
-remembers_step P K w what x s h = rw (session-own (ev (WorkerActor w) what) K w (eq-eqb w w refl) s) h
-
--- the step of a worker is that of its deed
-pub step_of_deed : (P : Policy) (S : Script) (K : List Event) (w : ℕ) → worker_step (system_of S) (rules_of P S.figures) K w ≡ deed_step (system_of S) K w (deed (rules_of P S.figures) (session K w))
-unfolding worker_step
-step_of_deed P S K w = refl
-
 -- an event of no worker leaves what all remember
 all-other : (P : Policy) (F : Figures) (K : List Event) (e : Event) (ws : List Worker) → ((w : ℕ) → is_worker e.who w ≡ false) → AllRemember P F K ws → AllRemember P F (e ∷ K) ws
 all-other P F K e ws h a = λ w d l. (rw (session-other e K w (h w)) (a w d l).0, (a w d l).1)

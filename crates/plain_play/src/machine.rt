@@ -1,26 +1,30 @@
 //! The kernel's plain program and the workers, which take turns.
 
-ghost use Rattle.std.specs.Prelude.{◌≡◌, ℕ, ◌<◌, ◌+◌, ◌^◌, List, [], ◌∷◌, length, reverse, OnOk, IfOk, Ok};
+ghost use Rattle.std.specs.Prelude.{◌≡◌, ℕ, ◌<◌, ◌+◌, ◌^◌, List, [], ◌∷◌, length, reverse, OnOk, IfOk, Ok, Option};
 ghost use Rattle.hist_model.specs.Look.{ev};
 ghost use Rattle.hist_model.specs.Legal.{system_of, rules_of, with_step, with_steps, with_schedule, started, played};
-ghost use Rattle.hist_model.specs.Kinds.{skips};
-ghost use Rattle.hist_model.specs.Sessions.{session};
+ghost use Rattle.hist_model.specs.Sessions.{deed, session};
 ghost use Rattle.hist_model.specs.Steps.{deed_step, worker_step};
 ghost use Rattle.hist_model.specs.declared.event.Event.{Event};
 ghost use Rattle.hist_model.specs.declared.event.Actor.TheVariants.{Task, Worker as WorkerActor};
 ghost use Rattle.hist_model.specs.declared.event.What.TheVariants.{Spawn};
 ghost use Rattle.hist_model.specs.declared.event.SpawnKind.TheVariants.{New};
 ghost use Rattle.hist_model.specs.declared.policy.Policy.{Policy};
-ghost use Rattle.broker_core.specs.Deeds.{deed_of};
+ghost use Rattle.hist_model.specs.declared.event.What.{What};
+ghost use Rattle.hist_model.specs.declared.policy.Cap.{Cap};
+ghost use Rattle.hist_model.specs.declared.request.Request.{Request};
+ghost use Rattle.broker_core.specs.Answers.{deed_of, shown};
+ghost use Rattle.broker_core.specs.Deeds.{due};
+ghost use Rattle.broker_core.specs.declared.deed.Deed.TheVariants.{Act};
 ghost use Rattle.plain_files.specs.Kept.{StandsFor};
-ghost use Rattle.broker_core.specs.Remembered.{Remembers};
-ghost use Rattle.plain_play.specs.Workers.{AllRemember};
+ghost use Rattle.broker_core.specs.Remembered.{HasEffect, Remembers};
+ghost use Rattle.plain_play.specs.Workers.{AllRemember, IsNoAct, KeepsOn};
 
-use broker_core::deed::Deed;
+use broker_core::deed::{Deed, answer_of};
 use broker_core::worker::Worker;
 use hist_model::event::{Actor, Event, SpawnKind, What};
 use hist_model::history::History;
-use hist_model::policy::Policy;
+use hist_model::policy::{Cap, Policy};
 use hist_model::script::{Figures, Script, Step};
 use hist_model::text::TaskName;
 use plain_files::files::Files;
@@ -32,7 +36,7 @@ use std::alloc::Global;
 use sys_abi::memory::NoMemory;
 
 /// How many workers a schedule may name.
-const WORKERS: usize = 16;
+const WORKERS: u8 = 16;
 
 /// A machine that plays: the history so far, the files after it, and what each worker remembers of its session.
 #[derive(Drop)]
@@ -42,38 +46,73 @@ pub struct Machine {
     pub workers: Vec<Worker>,
 }
 
-/// The kernel's step for a worker's deed.
-fn deed_step(
+/// The kernel's step for a deed other than an act.
+fn plain_step(
     alloc: Global,
     script: &Script,
     events: &[Event],
     files: &Files,
-    worker: u8,
-    deed: &Deed<'_>,
+    number: u8,
+    deed: &Deed,
 ) -> Result<What, NoMemory>
-    requires { StandsFor script.now (reverse events.now) files.now }
-    ensures { IfOk result (λ w. w ≡ deed_step (system_of script.now) (reverse events.now) worker (deed_of deed.now)) }
+    requires stands { StandsFor script.now (reverse events.now) files.now }
+    requires plain { IsNoAct deed.now }
+    ensures { (q : Request) → IfOk result (λ w. w ≡ deed_step (system_of script.now) (reverse events.now) number (deed_of q deed.now)) }
 {
     match deed {
         Deed::Recv => Ok(recv(events)),
         Deed::OpenMem { pid } => Ok(open_mem(events, *pid)),
         Deed::OpenBase { pid, dirfd } => Ok(open_base(script, events, files, *pid, *dirfd)),
         Deed::Check { id } => Ok(check(events, *id)),
-        Deed::Read { addr, len } => read(alloc, script, events, worker, *addr, *len),
-        Deed::Act { request, cap } => act(alloc, script, events, files, worker, request, *cap),
+        Deed::Read { addr, len } => read(alloc, script, events, number, *addr, *len),
+        Deed::Act { .. } => unreachable!(),
         Deed::Plant { addr, bytes, cap } => Ok(plant(script, events, *addr, *bytes, *cap)),
         Deed::AddfdPut(asked) => Ok(addfd_put(script, events, *asked)),
-        Deed::AddfdTake => Ok(addfd_take(events, worker)),
+        Deed::AddfdTake => Ok(addfd_take(events, number)),
         Deed::Send { id, back } => Ok(send(events, *id, *back)),
         Deed::LetGo => Ok(What::LetGo),
     }
 }
 
-/// The step is none.
-fn is_skip(what: &What) -> bool
-    ensures { result ≡ skips what.now }
+/// The kernel's step for the act that is due.
+fn act_step(
+    alloc: Global,
+    script: &Script,
+    events: &[Event],
+    files: &Files,
+    number: u8,
+    worker: &mut Worker,
+    cap: Option<Cap>,
+) -> Result<What, NoMemory>
+    requires stands { StandsFor script.now (reverse events.now) files.now }
+    requires effect { HasEffect worker.old }
+    ensures step { (P : Policy) (own : List What) → Remembers P own worker.old → Act cap ≡ shown (deed (rules_of P worker.old.figures) own) → IfOk result (λ w. w ≡ deed_step (system_of script.now) (reverse events.now) number (deed (rules_of P worker.old.figures) own)) }
+    ensures keeps { KeepsOn worker.old worker.new }
 {
-    matches!(what, What::Skip)
+    let request = worker.take_effect();
+    act(alloc, script, events, files, number, &request, cap)
+}
+
+/// The kernel's step for the deed that is due.
+fn due_step(
+    alloc: Global,
+    script: &Script,
+    events: &[Event],
+    files: &Files,
+    number: u8,
+    worker: &mut Worker,
+) -> Result<What, NoMemory>
+    requires stands { StandsFor script.now (reverse events.now) files.now }
+    requires effect { (cap : Option Cap) → due worker.old ≡ Act cap → HasEffect worker.old }
+    ensures step { (P : Policy) (own : List What) → Remembers P own worker.old → IfOk result (λ w. w ≡ deed_step (system_of script.now) (reverse events.now) number (deed (rules_of P worker.old.figures) own)) }
+    ensures due { (P : Policy) (own : List What) → Remembers P own worker.old → due worker.old ≡ shown (deed (rules_of P worker.old.figures) own) }
+    ensures keeps { KeepsOn worker.old worker.new }
+{
+    let deed = worker.next();
+    match deed {
+        Deed::Act { cap } => act_step(alloc, script, events, files, number, worker, cap),
+        _ => plain_step(alloc, script, events, files, number, &deed),
+    }
 }
 
 /// The first event's step: the first task gets the first process number, and memory and descriptors of its own.
@@ -89,7 +128,6 @@ fn first_step(alloc: Global, script: &Script) -> Result<What, NoMemory>
 }
 
 /// A worker's turn: what it does next, with the kernel's answer, which it takes. Where it can't step it takes nothing.
-#[tactic(auto, using(crate::proofs::Turns::remembers_skip, crate::proofs::Turns::step_of_deed))]
 fn worker_step(
     alloc: Global,
     policy: &Policy,
@@ -106,11 +144,9 @@ fn worker_step(
     ensures remembers { IfOk result (λ w. Remembers policy.now (session (ev (WorkerActor number) w ∷ reverse events.now) number) worker.new) }
     ensures figures { worker.new.figures ≡ worker.old.figures }
 {
-    let what = deed_step(alloc, script, events, files, number, &worker.next())?;
-    if is_skip(&what) {
-        return Ok(what);
-    }
-    worker.took(alloc, policy, &what)?;
+    worker.ready(policy)?;
+    let what = due_step(alloc, script, events, files, number, worker)?;
+    worker.took(&answer_of(&what));
     Ok(what)
 }
 
@@ -120,8 +156,8 @@ fn idle_workers(alloc: Global, figures: Figures) -> Result<Vec<Worker>, NoMemory
     ensures idle { IfOk result (λ v. (P : Policy) → AllRemember P figures [] v.items) }
 {
     let mut workers = Vec::new(alloc);
-    for _ in 0..WORKERS {
-        workers.push(Worker::new(figures))?;
+    for number in 0..WORKERS {
+        workers.push(Worker::new(alloc, number, figures))?;
     }
     Ok(workers)
 }

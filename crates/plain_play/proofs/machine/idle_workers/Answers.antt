@@ -2,12 +2,12 @@ use Rattle.std.proofs.Common.{◌≡◌, ◌+◌, ◌++◌, ◌∷◌, [], ◌�
 use Rattle.plain_play.proofs.Turns.{all_push, one_more}
 use Rattle.plain_play.proofs.machine.idle_workers.Goals as goal
 
-pub loop-preserved : goal.loop-preserved
-loop-preserved c =
-    let ws = c.loop.workers.items in
+pub loop-number-preserved : goal.loop-number-preserved
+loop-number-preserved c =
+    let ws = c.loop-number.workers.items in
     let x = c.new.result in
     let e : c.push.new.self.items ≡ ws ++ x ∷ [] = c.in_ok-push.ensures.items in
     record {
-      number = rw e (one_more ws x ∙ ap (λ (n : ℕ). n + 1) c.loop.invariant.number);
-      idle = λ P. rw e (all_push P c.args.figures ws x (c.loop.invariant.idle P) (c.new.ensures.idle P) c.new.ensures.figures);
+      filled = rw e (one_more ws x ∙ ap (λ (n : ℕ). n + 1) c.loop-number.invariant.filled);
+      idle = λ P. rw e (all_push P c.args.figures ws x (c.loop-number.invariant.idle P) (c.new.ensures.idle P) c.new.ensures.figures);
     }
