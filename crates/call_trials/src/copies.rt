@@ -86,3 +86,23 @@ fn texts_are_read_in_pieces(rt: HostRuntime) {
         expect_texts(&rt, copy.texts.items(), texts);
     }
 }
+
+#[test]
+fn a_capture_is_started_anew(rt: HostRuntime) {
+    let alloc = rt.alloc();
+    let memory = Memory {
+        at: 0x100fe,
+        bytes: b"/dev\0name",
+    };
+    let mut capture = Capture::nothing(alloc);
+    let cases: [(u64, &[u8]); 2] = [(0x100fe, b"/dev"), (0x10103, b"name")];
+    for (addr, text) in cases {
+        let args = [addr, 0o20666, 259, 0, 0, 0];
+        capture.ready_for_any().expect(&rt, "memory");
+        capture.start(Plan::of(133, &args));
+        read_all(&rt, alloc, &memory, &mut capture);
+        assert!(rt; capture.next().is_none());
+        let copy = capture.take_copy().ok().expect(&rt, "a copy");
+        expect_texts(&rt, copy.texts.items(), &[text]);
+    }
+}
