@@ -10,7 +10,7 @@ use hist_model::event::{Actor, Event, What};
 use hist_model::history::History;
 use hist_model::policy::Policy;
 use hist_model::request::NodeRef;
-use hist_model::script::{Figures, Script};
+use hist_model::script::{Figures, MapRange, Script};
 use hist_model::text::Sequence;
 use policy_reader::read_policy;
 use std::alloc::{AllocError, Global};
@@ -39,33 +39,28 @@ impl Journalled for Notes {
     }
 }
 
-fn script(alloc: Global) -> Script {
-    Script {
+/// A script of one program that does nothing.
+fn script(alloc: Global) -> Result<Script, AllocError> {
+    let page = MapRange {
+        start: 0x10000,
+        pages: 1,
+    };
+    let program = Sequence::new(Vec::new(alloc));
+    Ok(Script {
         pidbase: 0,
         pidmax: 9,
         firstid: 1,
         rlimit: 4,
         killable: false,
         root: NodeRef { ordinal: 0 },
-        figures: Figures {
-            uptime: 0,
-            used: 0,
-            shared: 0,
-            buffers: 0,
-            swap_used: 0,
-            memory: 0,
-            swap: 0,
-            host_memory: 0,
-            host_swap: 0,
-            procs: 0,
-        },
+        figures: Figures::NONE,
         tree: Sequence::new(Vec::new(alloc)),
         broker: Sequence::new(Vec::new(alloc)),
-        map: Sequence::new(Vec::new(alloc)),
+        map: Sequence::new(vec![in alloc; page]?),
         filters: Sequence::new(Vec::new(alloc)),
-        programs: Sequence::new(Vec::new(alloc)),
+        programs: Sequence::new(vec![in alloc; program]?),
         schedule: Sequence::new(Vec::new(alloc)),
-    }
+    })
 }
 
 fn no_notes<R: Abort>(rt: &R, alloc: Global) -> Notes
@@ -73,7 +68,7 @@ fn no_notes<R: Abort>(rt: &R, alloc: Global) -> Notes
 {
     Notes {
         policy: read_policy(alloc, b"{}").expect(rt, "memory"),
-        script: script(alloc),
+        script: script(alloc).expect(rt, "memory"),
         limit: Some(15),
         history: History::new(alloc),
     }
