@@ -12,3 +12,4 @@ pub mod KeptLines
 pub mod SoundStatements
 pub mod Readings
 pub mod MappedRanges
+pub mod FirstRow

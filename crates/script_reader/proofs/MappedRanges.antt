@@ -1,13 +1,13 @@
 -- Ranges that are apart count each mapped address once, so as many bytes as there are lie in them only where each is mapped.
 -- By induction on the number of bytes, of which the first is split off in each range; and on the ranges.
-use Rattle.std.proofs.Common.{◌≡◌, ℕ, zero, suc, ◌+◌, ◌-◌, ◌*◌, ◌<◌, ◌≤◌, min, max, List, [], ◌∷◌, length, refl, ap, sym, ◌∙◌, inl, inr, arith, cond}
-use Rattle.std.specs.Prelude.{Bool, true, false, ◌&&◌, ◌||◌, ◌==◌, nat_le, nat_lt, sum_by}
-use Rattle.std.specs.List.{list_all, count_by}
-use Rattle.std.proofs.lemmas.Bool.{and_parts, both_ways, cases_Bool, eq-eqb, leb-true, ltb-true, ne_eqb, or_cases, or_from}
+use Rattle.std.proofs.Common.{◌≡◌, ℕ, zero, suc, ◌+◌, ◌-◌, ◌<◌, ◌≤◌, min, max, List, [], ◌∷◌, length, refl, ap, sym, ◌∙◌, inl, inr, arith, cond}
+use Rattle.std.specs.Prelude.{Bool, true, false, ◌&&◌, ◌==◌, nat_le, nat_lt}
+use Rattle.std.specs.List.{count_by}
+use Rattle.std.proofs.lemmas.Bool.{and_parts, cases_Bool, leb-true, ltb-true, ne_eqb, or_cases, or_from}
 use Rattle.std.proofs.lemmas.Bool.Decides.{nat_tests}
 use Rattle.std.proofs.lemmas.List.Sums.{sum_by-cons}
 use Rattle.hist_model.specs.Memory.{all_mapped, is_mapped}
-use Rattle.hist_model.specs.Ranges.{are_all_apart, are_apart, are_mapped, bytes_mapped, bytes_within, end_of, is_apart}
+use Rattle.hist_model.specs.Ranges.{are_all_apart, are_apart, bytes_mapped, bytes_within, end_of, is_apart}
 use Rattle.hist_model.specs.Records.{ScriptRecord}
 use Rattle.hist_model.specs.ScriptRules.{IsScript, stores_mapped}
 use Rattle.hist_model.specs.declared.script.Instr.{Instr}

@@ -17,3 +17,4 @@ pub mod Scripts
 pub mod Views
 pub mod Outcomes
 pub mod Laws
+pub mod Table

@@ -8,7 +8,8 @@
 //! `Statements.antt` say what a line states by itself, `Above.antt` what accepted lines come to, part by part, and what is wrong
 //! with a statement beside them. `Rules.antt` says what a statement and the tables keep, so that every script keeps the rules
 //! of its type. All reading takes time linear in the bytes, but for the look-ups of paths and names, which go through sorted
-//! trees; what a program comes to with all that it starts is kept, not counted again.
+//! trees; what a program comes to with all that it starts is kept, not counted again. `laws` has what follows from the
+//! definitions.
 //!
 //! Below stand `lex_core`, with lines and tokens, `bpf_filter`, with the instructions of filters, and `hist_model`, with the
 //! script. The program stands above.
