@@ -1,6 +1,6 @@
 -- What is kept of a call tells of it, event by event: one more event gives what is kept with one more step. The cases are whether the
 -- event is a call of the same task, and whether an id is given anew.
-use Rattle.std.proofs.Common.{◌≡◌, ℕ, Bool, true, false, ◌&&◌, List, [], ◌∷◌, length, refl, Option, Some, None}
+use Rattle.std.proofs.Common.{◌≡◌, ℕ, Bool, true, false, ◌&&◌, List, [], ◌∷◌, length, refl, Option, Some}
 use Rattle.std.specs.Prelude.{if◌then◌else◌, ◌==◌}
 use Rattle.hist_model.specs.Look.{Name, is_task, is_place}
 use Rattle.hist_model.specs.Kinds.{enters}

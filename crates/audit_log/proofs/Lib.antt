@@ -1,7 +1,9 @@
 pub mod Counted
 pub mod Entered
+pub mod Named
 pub mod Opened
 pub mod Past
+pub mod Recorded
 pub mod Sessions
 pub mod Trimmed
 pub mod Writing

@@ -1,14 +1,13 @@
 -- An open session is its worker's own, by induction on the events: its receive begins both, a later step of the worker joins both, and
 -- a later good receive ends it.
-use Rattle.std.proofs.Common.{◌≡◌, ◌⊎◌, inl, inr, ℕ, ◌<◌, ◌≤◌, Bool, true, false, ◌&&◌, not, List, [], ◌∷◌, length, Some, None, refl, sym, ap, ◌∙◌, arith}
-use Rattle.std.specs.Prelude.{if◌then◌else◌, ◌==◌, Ok}
-use Rattle.std.proofs.lemmas.Bool.{cases_Bool, cases_order, eq-eqb, ne_eqb}
+use Rattle.std.proofs.Common.{◌≡◌, inl, inr, Bool, true, false, ◌&&◌, not, List, [], ◌∷◌, length, Some, None, refl, sym, ap, ◌∙◌, arith}
+use Rattle.std.specs.Prelude.{if◌then◌else◌, Ok}
+use Rattle.std.proofs.lemmas.Bool.{cases_order, eq-eqb, ne_eqb}
 use Rattle.hist_model.specs.Look.{ev, event_at, is_worker}
-use Rattle.hist_model.specs.Kinds.{skips, starts}
+use Rattle.hist_model.specs.Kinds.{skips}
 use Rattle.hist_model.specs.Sessions.{session, joined as with_own}
 use Rattle.hist_model.specs.ReportAudit.{session_at, session_step, joined, is_shut}
 use Rattle.hist_model.specs.declared.event.Actor.TheVariants.{Worker}
-use Rattle.hist_model.specs.declared.event.Event.{Event}
 use Rattle.hist_model.specs.declared.event.What.{What}
 use Rattle.hist_model.specs.declared.event.What.TheVariants.{Recv}
 use Rattle.hist_model.proofs.Look.{event_at-here, event_at-older, event_at-above}

@@ -1,15 +1,15 @@
 //! The calls: a line for each call that a task entered.
 
-ghost use Rattle.std.specs.Prelude.{◌≡◌, ◌++◌, OnOk, length, reverse};
-ghost use Rattle.hist_model.specs.Look.{task_name};
-ghost use Rattle.hist_model.specs.ReportCalls.{call_line_of, calls, first_pid, or_zero, outcome, outcome_text};
+ghost use Rattle.std.specs.Prelude.{◌≡◌, ◌++◌, OnOk, get_or};
+ghost use Rattle.hist_model.specs.ReportCalls.{call_line_of, calls, outcome_text};
+ghost use Rattle.audit_log.specs.Records.{no_record};
 ghost use Rattle.audit_log.specs.Written.{Wrote};
 
 use crate::count::entered;
 use crate::error::ReportError;
 use crate::line::Line;
-use crate::outcome::{first_pid, outcome_of, task_numbers};
 use crate::part::{Part, write_part};
+use crate::records::{CallRecord, records};
 use crate::words::{push_actor, push_call, push_errno};
 use hist_model::event::{Actor, Event, What};
 use hist_model::history::History;
@@ -21,6 +21,7 @@ use sys_abi::memory::NoMemory;
 /// Writes the calls of a history: `calls N` and a line for each of the N calls that a task entered, from the oldest on, with what came of it.
 ///
 /// `WriteFault` comes only where the sink's count of faults rose. After an error the sink took a prefix of the calls.
+#[tactic(auto, using(crate::proofs::Recorded::lines_same))]
 pub fn write_calls<O: Sink>(
     alloc: Global,
     history: &History,
@@ -29,53 +30,48 @@ pub fn write_calls<O: Sink>(
     ensures { Wrote (O.state out.old) (calls history.now.events) result (O.state out.new) }
 {
     let events = history.events();
-    write_part(
-        alloc,
-        &Calls { events },
-        "calls",
-        entered(events),
-        events,
-        out,
-    )
+    let records = records(alloc, events)?;
+    let part = Calls {
+        records: records.as_slice(),
+    };
+    write_part(alloc, &part, "calls", entered(events), events, out)
 }
 
 /// The calls as a part of the report.
 #[derive(Drop)]
 struct Calls<'a> {
-    /// All events of the history.
-    events: &'a [Event],
+    /// Of each event of the history, by its place.
+    records: &'a [CallRecord],
 }
 
 impl Part for Calls<'_> {
-    ghost use Rattle.std.specs.Prelude.{reverse};
-    ghost use Rattle.hist_model.specs.ReportCalls.{call_line};
+    ghost use Rattle.audit_log.specs.Records.{recorded_line};
 
-    ghost text = { λ c. call_line (reverse c.events.now) };
+    ghost text = { λ c. recorded_line c.records.now };
 
     #[tactic(auto, using(crate::proofs::Past::length_past))]
     fn push_line(&self, line: &mut Line, before: &[Event], event: &Event) -> Result<(), NoMemory> {
+        let place = before.len();
         match &event.what {
-            What::Enter { nr, .. } => push_entry(line, self.events, before, &event.who, *nr),
+            What::Enter { nr, .. } => {
+                let record = self.record(place);
+                push_call_line(line, place, &event.who, record.pid, *nr, record.outcome)
+            }
             _ => Ok(()),
         }
     }
 }
 
-/// Adds the line of the call that is entered after `before`.
-#[tactic(auto, using(crate::proofs::Past::length_past))]
-fn push_entry(
-    line: &mut Line,
-    events: &[Event],
-    before: &[Event],
-    who: &Actor,
-    nr: i32,
-) -> Result<(), NoMemory>
-    ensures { OnOk result (line.new ≡ line.old ++ call_line_of (length before.now) who.now (or_zero (first_pid (task_name who.now) (reverse before.now))) nr (outcome (task_name who.now) (length before.now) (reverse events.now))) }
-{
-    let task = task_numbers(who);
-    let pid = first_pid(before, task).unwrap_or(0);
-    let outcome = outcome_of(events, task, before.len());
-    push_call_line(line, before.len(), who, pid, nr, outcome)
+impl Calls<'_> {
+    /// Of the event at a place.
+    fn record(&self, place: usize) -> CallRecord
+        ensures { result ≡ get_or self.now.records.now place no_record }
+    {
+        match self.records.get(place) {
+            Some(record) => *record,
+            None => CallRecord::NONE,
+        }
+    }
 }
 
 /// Adds the line of a call.

@@ -2,7 +2,7 @@
 
 ghost use Rattle.std.specs.Prelude.{◌≡◌, ◌<◌, IfSome, length, reverse};
 ghost use Rattle.hist_model.specs.Look.{is_task, task_name};
-ghost use Rattle.hist_model.specs.ReportCalls.{first_pid, is_pending, newest_call, outcome, outcome_at_entry, outcome_by, outcome_next, outcome_of_verdict, outcome_step, pid_given};
+ghost use Rattle.hist_model.specs.ReportCalls.{is_pending, newest_call, outcome_at_entry, outcome_by, outcome_next, outcome_of_verdict, outcome_step};
 ghost use Rattle.audit_log.specs.Calls.{call_after, call_facts, counts};
 
 use crate::count::enters;
@@ -46,7 +46,7 @@ fn outcome_of_verdict(verdict: Entered) -> Outcome
 }
 
 /// What the step that enters a call makes of it.
-fn outcome_at_entry(what: &What) -> Outcome
+pub(crate) fn outcome_at_entry(what: &What) -> Outcome
     ensures { result ≡ outcome_at_entry what.now }
 {
     match what {
@@ -92,7 +92,7 @@ fn outcome_of_delivery(effect: Delivered) -> Outcome
 }
 
 /// What came of a call with one more step of its task: the first step that something came of decides.
-fn outcome_next(before: Outcome, what: &What) -> Outcome
+pub(crate) fn outcome_next(before: Outcome, what: &What) -> Outcome
     ensures { result ≡ outcome_next before what.now }
 {
     match before {
@@ -172,13 +172,6 @@ impl CallFacts {
     }
 }
 
-/// What came of the call that a task entered at a place.
-pub(crate) fn outcome_of(events: &[Event], task: &[u32], call: usize) -> Outcome
-    ensures { result ≡ outcome task.now call (reverse events.now) }
-{
-    CallFacts::of(events, task, call).outcome
-}
-
 /// The place of the newest call that a task entered.
 #[tactic(auto, using(crate::proofs::Past::past_more, crate::proofs::Past::length_taken), unfolding(hist_model::specs::ReportCalls::newest_call))]
 pub(crate) fn newest_call(events: &[Event], task: &[u32]) -> Option<usize>
@@ -191,31 +184,6 @@ pub(crate) fn newest_call(events: &[Event], task: &[u32]) -> Option<usize>
         if same_task(&event.who, task) && enters(&event.what) {
             found = Some(place);
         }
-    }
-    found
-}
-
-/// The process number that the step gave to the task.
-fn pid_given(what: &What, task: &[u32]) -> Option<u32>
-    ensures { result ≡ pid_given what.now task.now }
-{
-    match what {
-        What::Spawn {
-            child,
-            answer: Ok((pid, _)),
-        } if child.items() == task => Some(*pid),
-        _ => None,
-    }
-}
-
-/// The first process number that a task was given.
-#[tactic(auto, using(crate::proofs::Past::past_more), unfolding(hist_model::specs::ReportCalls::first_pid))]
-pub(crate) fn first_pid(events: &[Event], task: &[u32]) -> Option<u32>
-    ensures { result ≡ first_pid task.now (reverse events.now) }
-{
-    let mut found = None;
-    for event in events {
-        found = found.or(pid_given(&event.what, task));
     }
     found
 }

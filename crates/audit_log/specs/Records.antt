@@ -1,0 +1,44 @@
+-- What is kept of each event while the events are gone through, as if each entered a call: its task's process number, and what came of it.
+use Rattle.std.specs.Prelude.{◌≡◌, ℕ, List, ◌∷◌, ◌++◌, [], length, get_or, set, Option, Some, None}
+use Rattle.hist_model.specs.Look.{task_name}
+use Rattle.hist_model.specs.ReportCalls.{call_line_of, first_pid, or_zero, outcome, outcome_at_entry, outcome_next}
+use Rattle.hist_model.specs.declared.event.Actor.{Actor}
+use Rattle.hist_model.specs.declared.event.Event.{Event}
+use Rattle.hist_model.specs.declared.event.What.{What}
+use Rattle.hist_model.specs.declared.event.What.TheVariants.{Enter}
+use Rattle.hist_model.specs.declared.report.Outcome.TheVariants.{Open}
+use Rattle.audit_log.specs.Tasks.{call_of}
+use Rattle.audit_log.specs.declared.records.CallRecord.{CallRecord}
+use Rattle.audit_log.specs.declared.tasks.TaskFacts.{TaskFacts}
+
+abbrev pub no_record : CallRecord
+no_record = record { pid = 0; outcome = Open }
+
+-- in the history H, of the event that comes after K
+abbrev pub record_of : List Event → List Event → Event → CallRecord
+record_of H K e = record { pid = or_zero (first_pid (task_name e.who) K); outcome = outcome (task_name e.who) (length K) H }
+
+-- the records tell of each event of the history, by its place
+abbrev pub Tells : List Event → List CallRecord → Type 0
+Tells H records = (later K : List Event) (e : Event) → H ≡ later ++ e ∷ K → get_or records (length K) no_record ≡ record_of H K e
+
+-- of the call at a place, if there is one, with one more step of its task
+abbrev pub advanced : Option ℕ → What → List CallRecord → List CallRecord
+advanced None a records = records
+advanced (Some c) a records = set records c (record { pid = (get_or records c no_record).pid; outcome = outcome_next (get_or records c no_record).outcome a })
+
+-- of an event as it happens, by what is kept of the tasks
+abbrev pub first_record : Event → (List ℕ → TaskFacts) → CallRecord
+first_record e facts = record { pid = or_zero (facts (task_name e.who)).pid; outcome = outcome_at_entry e.what }
+
+-- with one more event
+abbrev pub recorded : Event → (List ℕ → TaskFacts) → List CallRecord → List CallRecord
+recorded e facts records = advanced (call_of e.who facts) e.what records ++ first_record e facts ∷ []
+
+-- the line of an event that enters a call, by its record
+abbrev pub recorded_by : CallRecord → ℕ → Actor → What → List ℕ
+recorded_by r place who (Enter nr args verdict) = call_line_of place who r.pid nr r.outcome
+recorded_by r place who _ = []
+
+abbrev pub recorded_line : List CallRecord → List Event → Event → List ℕ
+recorded_line records K e = recorded_by (get_or records (length K) no_record) (length K) e.who e.what

@@ -1,0 +1,46 @@
+-- What is kept of each task while the events are gone through: the first process number that it was given, and its newest call.
+use Rattle.std.specs.Prelude.{◌≡◌, ℕ, ◌&&◌, if◌then◌else◌, List, Option, Some, None}
+use Rattle.std.specs.BTreeMap.{get_by}
+use Rattle.std.specs.Cmp.Lexicographic.{slice_cmp}
+use Rattle.std.specs.Ordering.{nat_cmp}
+use Rattle.hist_model.specs.Look.{Name, is_task, or_else}
+use Rattle.hist_model.specs.Kinds.{enters}
+use Rattle.hist_model.specs.ReportCalls.{newest_call, first_pid, pid_given}
+use Rattle.hist_model.specs.declared.event.Actor.{Actor}
+use Rattle.hist_model.specs.declared.event.Actor.TheVariants.{Task}
+use Rattle.hist_model.specs.declared.event.Event.{Event}
+use Rattle.audit_log.specs.declared.tasks.TaskFacts.{TaskFacts}
+use Rattle.audit_log.specs.declared.tasks.Tasks.{Tasks}
+
+-- of a task of which nothing was seen
+abbrev pub no_task : TaskFacts
+no_task = record { pid = None; newest = None }
+
+-- what was found, or else nothing
+abbrev pub facts_or_none : Option TaskFacts → TaskFacts
+facts_or_none (Some f) = f
+facts_or_none None = no_task
+
+-- what the table has of task n
+abbrev pub facts_in : Tasks → Name → TaskFacts
+facts_in t n = facts_or_none (get_by (λ key. slice_cmp nat_cmp n key.items) t.rows)
+
+-- of task n in these events
+abbrev pub task_facts : List Event → Name → TaskFacts
+task_facts K n = record { pid = first_pid n K; newest = newest_call n K }
+
+-- of task n with one more event, which has this place
+abbrev pub task_after : ℕ → Event → Name → TaskFacts → TaskFacts
+task_after place e n f = record {
+  pid = or_else f.pid (pid_given e.what n);
+  newest = if is_task e.who n && enters e.what then Some place else f.newest;
+}
+
+-- the table tells of each task in these events
+abbrev pub Knows : List Event → Tasks → Type 0
+Knows K t = (n : Name) → facts_in t n ≡ task_facts K n
+
+-- the newest call of the actor, where it is a task
+abbrev pub call_of : Actor → (Name → TaskFacts) → Option ℕ
+call_of (Task n) facts = (facts n).newest
+call_of who facts = None

@@ -1,0 +1,72 @@
+//! What came of each call, in one pass over the events.
+
+ghost use Rattle.std.specs.Prelude.{◌≡◌, IfOk, OnOk, reverse};
+ghost use Rattle.hist_model.specs.declared.report.Outcome.{Outcome};
+ghost use Rattle.audit_log.specs.Records.{Tells, advanced, recorded};
+ghost use Rattle.audit_log.specs.Tasks.{facts_in};
+
+use crate::outcome::{outcome_at_entry, outcome_next, task_numbers};
+use crate::tasks::Tasks;
+use hist_model::event::{Event, What};
+use hist_model::report::Outcome;
+use std::alloc::Global;
+use sys_abi::memory::NoMemory;
+
+/// What is kept of an event, as if it entered a call.
+#[derive(Clone, Copy, PartialEq, Eq, Debug)]
+pub(crate) struct CallRecord {
+    /// The first process number that its task was given before it; 0 where there is none.
+    pub(crate) pid: u32,
+    /// What came of the call.
+    pub(crate) outcome: Outcome,
+}
+
+impl CallRecord {
+    /// Of no event.
+    pub(crate) const NONE: CallRecord = CallRecord {
+        pid: 0,
+        outcome: Outcome::Open,
+    };
+}
+
+/// One more step of the task whose newest call is at a place, if it has one.
+fn advance(records: &mut Vec<CallRecord>, call: Option<usize>, what: &What)
+    ensures { records.new.items ≡ advanced call what.now records.old.items }
+{
+    let Some(place) = call else {
+        return;
+    };
+    if place < records.len() {
+        let before = records[place];
+        records[place] = CallRecord {
+            outcome: outcome_next(before.outcome, what),
+            ..before
+        };
+    }
+}
+
+/// With one more event.
+fn record(records: &mut Vec<CallRecord>, tasks: &Tasks, event: &Event) -> Result<(), NoMemory>
+    ensures { OnOk result (records.new.items ≡ recorded event.now (facts_in tasks.now) records.old.items) }
+{
+    let pid = tasks.get(task_numbers(&event.who)).pid.unwrap_or(0);
+    let outcome: Outcome = outcome_at_entry(&event.what);
+    advance(records, tasks.call_of(&event.who), &event.what);
+    records.push(CallRecord { pid, outcome })?;
+    Ok(())
+}
+
+/// Of each event, by its place.
+#[tactic(auto, using(crate::proofs::Recorded::none_told, crate::proofs::Recorded::known_none))]
+pub(crate) fn records(alloc: Global, events: &[Event]) -> Result<Vec<CallRecord>, NoMemory>
+    ensures { IfOk result (λ found. Tells (reverse events.now) found.items) }
+{
+    let mut tasks = Tasks::new(alloc);
+    let mut records = Vec::new(alloc);
+    for place in 0..events.len() {
+        let event = &events[place];
+        record(&mut records, &tasks, event)?;
+        tasks.note(place, event)?;
+    }
+    Ok(records)
+}

@@ -1,0 +1,122 @@
+//! What is kept of each task while the events are gone through.
+
+ghost use Rattle.std.specs.Prelude.{◌≡◌, ℕ, List, OnOk, Some, if◌then◌else◌};
+ghost use Rattle.hist_model.specs.Look.{is_task, name_eq, or_else};
+ghost use Rattle.audit_log.specs.Tasks.{call_of, facts_in, no_task, task_after};
+
+use hist_model::event::{Actor, Event, What};
+use std::alloc::Global;
+use std::collections::BTreeMap;
+use sys_abi::memory::NoMemory;
+
+/// What is kept of a task.
+#[derive(Clone, Copy, PartialEq, Eq, Debug)]
+pub(crate) struct TaskFacts {
+    /// The first process number that it was given.
+    pub(crate) pid: Option<u32>,
+    /// The place of its newest call.
+    pub(crate) newest: Option<usize>,
+}
+
+impl TaskFacts {
+    /// Of a task of which nothing was seen.
+    const NONE: TaskFacts = TaskFacts {
+        pid: None,
+        newest: None,
+    };
+}
+
+/// The tasks of which something was seen, by their names.
+#[derive(Drop)]
+pub(crate) struct Tasks {
+    alloc: Global,
+    rows: BTreeMap<Vec<u32>, TaskFacts>,
+}
+
+impl Tasks {
+    /// Before all events.
+    pub(crate) fn new(alloc: Global) -> Tasks
+        ensures { (n : List ℕ) → facts_in result n ≡ no_task }
+    {
+        Tasks {
+            alloc,
+            rows: BTreeMap::new(alloc),
+        }
+    }
+
+    /// Of the task with this name.
+    pub(crate) fn get(&self, name: &[u32]) -> TaskFacts
+        ensures { result ≡ facts_in self.now name.now }
+    {
+        match self.rows.get(name) {
+            Some(facts) => *facts,
+            None => TaskFacts::NONE,
+        }
+    }
+
+    /// The place of the newest call of an actor, where it is a task.
+    pub(crate) fn call_of(&self, who: &Actor) -> Option<usize>
+        ensures { result ≡ call_of who.now (facts_in self.now) }
+    {
+        match who {
+            Actor::Task(name) => self.get(name.items()).newest,
+            _ => None,
+        }
+    }
+
+    /// Keeps this of the task with this name.
+    fn put(&mut self, name: &[u32], facts: TaskFacts) -> Result<(), NoMemory>
+        ensures { OnOk result ((n : List ℕ) → facts_in self.new n ≡ (if name_eq name.now n then facts else facts_in self.old n)) }
+    {
+        let key = Vec::from_slice(self.alloc, name)?;
+        self.rows.insert(key, facts)?;
+        Ok(())
+    }
+
+    /// A task was given a process number.
+    fn put_pid(&mut self, name: &[u32], pid: u32) -> Result<(), NoMemory>
+        ensures { OnOk result ((n : List ℕ) → facts_in self.new n ≡ (if name_eq name.now n then record { pid = or_else (facts_in self.old name.now).pid (Some pid); newest = (facts_in self.old name.now).newest } else facts_in self.old n)) }
+    {
+        let before = self.get(name);
+        let facts = TaskFacts {
+            pid: before.pid.or(Some(pid)),
+            ..before
+        };
+        self.put(name, facts)
+    }
+
+    /// A task entered a call.
+    fn put_call(&mut self, name: &[u32], place: usize) -> Result<(), NoMemory>
+        ensures { OnOk result ((n : List ℕ) → facts_in self.new n ≡ (if name_eq name.now n then record { pid = (facts_in self.old name.now).pid; newest = Some place } else facts_in self.old n)) }
+    {
+        let facts = TaskFacts {
+            newest: Some(place),
+            ..self.get(name)
+        };
+        self.put(name, facts)
+    }
+
+    /// With one more event, which has this place.
+    pub(crate) fn note(&mut self, place: usize, event: &Event) -> Result<(), NoMemory>
+        ensures { OnOk result ((n : List ℕ) → facts_in self.new n ≡ task_after place event.now n (facts_in self.old n)) }
+    {
+        match &event.what {
+            What::Spawn {
+                child,
+                answer: Ok((pid, _)),
+            } => self.put_pid(child.items(), *pid),
+            What::Enter { .. } => self.note_call(place, &event.who),
+            _ => Ok(()),
+        }
+    }
+
+    /// A task entered a call; of another actor nothing is kept.
+    fn note_call(&mut self, place: usize, who: &Actor) -> Result<(), NoMemory>
+        ensures { OnOk result ((n : List ℕ) → facts_in self.new n ≡ record { pid = (facts_in self.old n).pid; newest = if is_task who.now n then Some place else (facts_in self.old n).newest }) }
+    {
+        match who {
+            Actor::Task(name) => self.put_call(name.items(), place),
+            _ => Ok(()),
+        }
+    }
+}
