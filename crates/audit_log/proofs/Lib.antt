@@ -3,6 +3,7 @@ pub mod Entered
 pub mod Named
 pub mod Opened
 pub mod Past
+pub mod ReceivedCalls
 pub mod Recorded
 pub mod Sessions
 pub mod Trimmed

@@ -1,6 +1,6 @@
 -- The records of a history tell of its calls: one more event changes the record of its task's newest call alone, and adds its own.
 -- By cases on whether the event is the last one, and by `newest_own`: the newest call of a task is its own.
-use Rattle.std.proofs.Common.{◌≡◌, inl, inr, ℕ, ◌+◌, ◌<◌, Bool, true, false, ◌&&◌, List, [], ◌∷◌, ◌++◌, length, get_or, Option, Some, None, refl, sym, ap, ◌∙◌, subst, append_assoc, arith}
+use Rattle.std.proofs.Common.{◌≡◌, inl, inr, ℕ, ◌+◌, ◌<◌, ◌≤◌, Bool, true, false, ◌&&◌, List, [], ◌∷◌, ◌++◌, length, get_or, Option, Some, None, refl, sym, ap, ◌∙◌, subst, append_assoc, arith}
 use Rattle.std.specs.Prelude.{if◌then◌else◌, ◌==◌}
 use Rattle.std.proofs.lemmas.Bool.{cases_Bool, eqb-true, eq-eqb, ne_eqb}
 use Rattle.std.proofs.lemmas.List.{length-append, get_or_at, get_or_append_left, get_or-set_other}
@@ -9,7 +9,8 @@ use Rattle.std.proofs.lemmas.Grind.{get_or-set_at}
 use Rattle.hist_model.specs.Look.{Name, name_eq, is_task, is_place, task_name}
 use Rattle.hist_model.specs.Kinds.{enters}
 use Rattle.hist_model.specs.ReportJournal.{lines_of}
-use Rattle.hist_model.specs.ReportCalls.{call_line, call_line_by, first_pid, newest_call, outcome, outcome_next, outcome_step}
+use Rattle.hist_model.specs.ReportAudit.{installed, number_given}
+use Rattle.hist_model.specs.ReportCalls.{is_pending, call_line, call_line_by, first_pid, newest_call, outcome, outcome_next, outcome_step}
 use Rattle.hist_model.specs.declared.event.Actor.{Actor}
 use Rattle.hist_model.specs.declared.event.Actor.TheVariants.{Start, Task, Worker, Listener}
 use Rattle.hist_model.specs.declared.event.Event.{Event}
@@ -17,7 +18,7 @@ use Rattle.hist_model.specs.declared.event.What.{What}
 use Rattle.hist_model.specs.declared.event.What.TheVariants.{Enter}
 use Rattle.hist_model.proofs.Look.{name_eq-true, name_eq-refl}
 use Rattle.audit_log.specs.Tasks.{Knows, call_of, facts_in, task_facts, task_after}
-use Rattle.audit_log.specs.Records.{Tells, advanced, first_record, no_record, record_of, recorded, recorded_by, recorded_line}
+use Rattle.audit_log.specs.Records.{Tells, advanced, first_record, no_record, record_after, record_of, recorded, recorded_by, recorded_line}
 use Rattle.audit_log.specs.declared.records.CallRecord.{CallRecord}
 use Rattle.audit_log.specs.declared.tasks.Tasks.{Tasks}
 
@@ -88,7 +89,7 @@ in_call (Task m) n c K own = elim (cases_Bool (name_eq m n)) [
 
 -- a record with one more step, which may be its task's
 abbrev with_step : Bool → What → CallRecord → CallRecord
-with_step true a r = record { pid = r.pid; outcome = outcome_next r.outcome a }
+with_step true a r = record_after a r
 with_step false a r = r
 
 advanced_at : (o : Option ℕ) (a : What) (records : List CallRecord) (c : ℕ) → c < length records
@@ -103,19 +104,43 @@ length-advanced : (o : Option ℕ) (a : What) (records : List CallRecord) → le
 length-advanced None a records = refl
 length-advanced (Some c) a records = length-set records c (with_step true a (get_or records c no_record))
 
+and_false : (b : Bool) → (b && false) ≡ false
+and_false true = refl
+and_false false = refl
+
+-- no call is at a place past the events
+not_yet : (n : Name) (c : ℕ) (K : List Event) → length K ≤ c → is_place (newest_call n K) c ≡ false
+not_yet n c K l = by (newest_call n K) refl
+  where
+    by : (o : Option ℕ) → newest_call n K ≡ o → is_place o c ≡ false
+    by None q = refl
+    by (Some k) q =
+        let b = newest_below n k K q in
+        let m : (k ≡ c → ⊥) = omega arith in
+        ne_eqb k c m
+
+-- and nothing is installed for it
+no_number : (n : Name) (c : ℕ) (K : List Event) → length K ≤ c → installed n c K ≡ None
+unfolding installed
+no_number n c [] l = refl
+no_number n c (e ∷ K) l = rw (not_yet n c K (omega arith), and_false (is_task e.who n), no_number n c K (omega arith)) refl
+
 -- the record of the newest event
 here : (e : Event) (K : List Event) → first_record e (task_facts K) ≡ record_of (e ∷ K) K e
-unfolding outcome
-here e K = rw (eq-eqb (length K) (length K) refl) refl
+unfolding outcome installed
+here e K =
+    let n = task_name e.who in
+    rw (eq-eqb (length K) (length K) refl, not_yet n (length K) K (omega arith), and_false (is_task e.who n), no_number n (length K) K (omega arith)) refl
 
-stepped : (b : Bool) (r : CallRecord) (a : What) → with_step b a r ≡ record { pid = r.pid; outcome = outcome_step false b r.outcome a }
+stepped : (b : Bool) (r : CallRecord) (a : What)
+    → with_step b a r ≡ record { pid = r.pid; outcome = outcome_step false b r.outcome a; number = number_given (b && is_pending r.outcome) a r.number }
 stepped true r a = refl
 stepped false r a = refl
 
 -- the record of an earlier one, f
 earlier : (later K : List Event) (f e : Event) → let H = later ++ f ∷ K in
     with_step (is_place (call_of e.who (task_facts H)) (length K)) e.what (record_of H K f) ≡ record_of (e ∷ H) K f
-unfolding outcome
+unfolding outcome installed
 earlier later K f e =
     let H = later ++ f ∷ K in
     let l : length H ≡ length later + length (f ∷ K) = length-append later (f ∷ K) in

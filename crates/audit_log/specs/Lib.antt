@@ -1,5 +1,7 @@
 pub mod Calls
 pub mod Laws
+pub mod Numbers
+pub mod Received
 pub mod Records
 pub mod Sessions
 pub mod Tasks

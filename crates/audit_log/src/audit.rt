@@ -2,15 +2,16 @@
 
 ghost use Rattle.std.specs.Prelude.{◌≡◌, ◌++◌, ◌||◌, IfOk, OnOk, codes, decimal, is_some, reverse};
 ghost use Rattle.hist_model.specs.ReportWords.{call_text};
-ghost use Rattle.hist_model.specs.ReportAudit.{answer_of, answer_text, arrival_of, arrival_text, audit, audit_line_of, audit_of, finding_by, finding_of, finding_of_verdict, finding_text, reads, rule_of, rule_text, session_at};
+ghost use Rattle.hist_model.specs.ReportAudit.{answer_of, answer_text, arrival_of, arrival_text, audit, audit_by, audit_line_of, finding_by, finding_of, finding_of_verdict, finding_text, reads, rule_of, rule_text, session_at};
 ghost use Rattle.audit_log.specs.Written.{Wrote};
 
 use crate::count::begun;
 use crate::error::ReportError;
 use crate::judge::Judge;
 use crate::line::Line;
+use crate::numbers::Numbers;
 use crate::part::{Part, write_part};
-use crate::session::{Facts, installed_for};
+use crate::session::Facts;
 use crate::words::{push_back, push_call};
 use hist_model::event::{Actor, Back, Event, What};
 use hist_model::history::History;
@@ -24,6 +25,7 @@ use sys_abi::wire::Notif;
 /// Writes the audit of a history: `audit N` and a line for each of the N sessions, from the oldest on, with the rule that decided, what was answered, and whether that reached the call.
 ///
 /// `WriteFault` comes only where the sink's count of faults rose. After an error the sink took a prefix of the audit.
+#[tactic(auto, using(crate::proofs::ReceivedCalls::audit_numbered))]
 pub fn write_audit<J: Judge, O: Sink>(
     alloc: Global,
     judge: &J,
@@ -33,10 +35,12 @@ pub fn write_audit<J: Judge, O: Sink>(
     ensures { Wrote (O.state out.old) (audit (J.judging judge.now) history.now.events) result (O.state out.new) }
 {
     let events = history.events();
+    let numbers = Numbers::of(alloc, events)?;
     let part = Audits {
         alloc,
         judge,
         events,
+        numbers: &numbers,
     };
     write_part(alloc, &part, "audit", begun(events), events, out)
 }
@@ -48,41 +52,44 @@ struct Audits<'a, J> {
     judge: &'a J,
     /// All events of the history.
     events: &'a [Event],
+    numbers: &'a Numbers,
 }
 
 impl<J: Judge> Part for Audits<'_, J> {
     ghost use Rattle.std.specs.Prelude.{reverse};
-    ghost use Rattle.hist_model.specs.ReportAudit.{audit_line};
+    ghost use Rattle.audit_log.specs.Numbers.{numbered_line};
 
-    ghost text = { λ a. audit_line (J.judging a.judge.now) (reverse a.events.now) };
+    ghost text = { λ a. numbered_line (J.judging a.judge.now) (reverse a.events.now) a.numbers.now };
 
     #[tactic(auto, using(crate::proofs::Past::length_past))]
     fn push_line(&self, line: &mut Line, before: &[Event], event: &Event) -> Result<(), NoMemory> {
         match (&event.who, &event.what) {
             (Actor::Worker(worker), What::Recv { answer: Ok(notif) }) => {
-                let audit = audit_of(self.alloc, self.judge, self.events, before, *worker, notif)?;
-                push_session(line, self.judge, before.len(), *worker, notif, audit)
+                let place = before.len();
+                let number = self.numbers.received_at(place);
+                let audit = audit_of(
+                    self.alloc, self.judge, self.events, place, *worker, notif, number,
+                )?;
+                push_session(line, self.judge, place, *worker, notif, audit)
             }
             _ => Ok(()),
         }
     }
 }
 
-/// What came of the session that a worker began with a notification after `before`.
-#[tactic(auto, using(crate::proofs::Past::length_past))]
+/// What came of the session that a worker began with a notification at a place, for whose call this number was installed.
 pub(crate) fn audit_of<J: Judge>(
     alloc: Global,
     judge: &J,
     events: &[Event],
-    before: &[Event],
+    place: usize,
     worker: u8,
     notif: &Notif,
+    number: Option<u32>,
 ) -> Result<Audit, NoMemory>
-    ensures { IfOk result (λ a. a ≡ audit_of (J.judging judge.now) (reverse events.now) (reverse before.now) worker notif.now) }
+    ensures { IfOk result (λ a. a ≡ audit_by (J.judging judge.now) notif.now (session_at worker place (reverse events.now)) number) }
 {
-    let place = before.len();
     let facts = Facts::of(events, worker, place);
-    let number = installed_for(events, before, notif.id);
     let finding = find(alloc, judge, &facts, notif, events, worker, place)?;
     Ok(Audit {
         finding,

@@ -115,7 +115,7 @@ fn outcome_step(entry: bool, own: bool, before: Outcome, what: &What) -> Outcome
 }
 
 /// Whether nothing came of a call yet.
-fn is_pending(outcome: Outcome) -> bool
+pub(crate) fn is_pending(outcome: Outcome) -> bool
     ensures { result ≡ is_pending outcome }
 {
     matches!(outcome, Outcome::Open)

@@ -2,10 +2,11 @@
 
 ghost use Rattle.std.specs.Prelude.{◌≡◌, IfOk, OnOk, reverse};
 ghost use Rattle.hist_model.specs.declared.report.Outcome.{Outcome};
-ghost use Rattle.audit_log.specs.Records.{Tells, advanced, recorded};
+ghost use Rattle.audit_log.specs.Records.{Tells, advanced, record_after, recorded};
 ghost use Rattle.audit_log.specs.Tasks.{facts_in};
 
-use crate::outcome::{outcome_at_entry, outcome_next, task_numbers};
+use crate::outcome::{is_pending, outcome_at_entry, outcome_next, task_numbers};
+use crate::session::number_given;
 use crate::tasks::Tasks;
 use hist_model::event::{Event, What};
 use hist_model::report::Outcome;
@@ -19,6 +20,8 @@ pub(crate) struct CallRecord {
     pub(crate) pid: u32,
     /// What came of the call.
     pub(crate) outcome: Outcome,
+    /// The number of the descriptor that was installed for it.
+    pub(crate) number: Option<u32>,
 }
 
 impl CallRecord {
@@ -26,7 +29,19 @@ impl CallRecord {
     pub(crate) const NONE: CallRecord = CallRecord {
         pid: 0,
         outcome: Outcome::Open,
+        number: None,
     };
+
+    /// With one more step of its task.
+    fn after(self, what: &What) -> CallRecord
+        ensures { result ≡ record_after what.now self }
+    {
+        CallRecord {
+            pid: self.pid,
+            outcome: outcome_next(self.outcome, what),
+            number: number_given(is_pending(self.outcome), what, self.number),
+        }
+    }
 }
 
 /// One more step of the task whose newest call is at a place, if it has one.
@@ -38,10 +53,7 @@ fn advance(records: &mut Vec<CallRecord>, call: Option<usize>, what: &What)
     };
     if place < records.len() {
         let before = records[place];
-        records[place] = CallRecord {
-            outcome: outcome_next(before.outcome, what),
-            ..before
-        };
+        records[place] = before.after(what);
     }
 }
 
@@ -52,7 +64,11 @@ fn record(records: &mut Vec<CallRecord>, tasks: &Tasks, event: &Event) -> Result
     let pid = tasks.get(task_numbers(&event.who)).pid.unwrap_or(0);
     let outcome: Outcome = outcome_at_entry(&event.what);
     advance(records, tasks.call_of(&event.who), &event.what);
-    records.push(CallRecord { pid, outcome })?;
+    records.push(CallRecord {
+        pid,
+        outcome,
+        number: None,
+    })?;
     Ok(())
 }
 

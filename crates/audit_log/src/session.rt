@@ -1,12 +1,11 @@
-//! The sessions of a history: what their workers did, and what was installed for their calls.
+//! The sessions of a history: what their workers did.
 
-ghost use Rattle.std.specs.Prelude.{◌≡◌, ◌<◌, ◌&&◌, IfSome, length, not, reverse};
+ghost use Rattle.std.specs.Prelude.{◌≡◌, ◌&&◌, not, reverse};
 ghost use Rattle.hist_model.specs.Look.{is_worker};
 ghost use Rattle.hist_model.specs.Kinds.{is_good_check, is_letgo, skips, starts, is_gone, misses_call, is_sent, is_spent};
-ghost use Rattle.hist_model.specs.ReportAudit.{call_with_id, installed, installed_at, is_notified, back_in, number_given, session_at};
+ghost use Rattle.hist_model.specs.ReportAudit.{is_notified, back_in, number_given, session_at};
 ghost use Rattle.audit_log.specs.Sessions.{facts_after, facts_joined, facts_of, facts_with, no_facts};
 
-use crate::outcome::{CallFacts, same_task, task_numbers};
 use hist_model::event::{Actor, Back, Entered, Event, What};
 use sys_abi::errno::Errno;
 
@@ -216,54 +215,12 @@ pub(crate) fn is_notified(what: &What, id: u64) -> bool
     }
 }
 
-/// The place of the newest call with this id.
-#[tactic(auto, using(crate::proofs::Past::past_more, crate::proofs::Past::length_taken), unfolding(hist_model::specs::ReportAudit::call_with_id))]
-fn call_with_id(events: &[Event], id: u64) -> Option<usize>
-    ensures place { result ≡ call_with_id id (reverse events.now) }
-    ensures bound { IfSome result (λ c. c < length events.now) }
-{
-    let mut found = None;
-    for place in 0..events.len() {
-        if is_notified(&events[place].what, id) {
-            found = Some(place);
-        }
-    }
-    found
-}
-
 /// The number that a step gave, where it may count; else the one before.
-fn number_given(counts: bool, what: &What, before: Option<u32>) -> Option<u32>
+pub(crate) fn number_given(counts: bool, what: &What, before: Option<u32>) -> Option<u32>
     ensures { result ≡ number_given counts what.now before }
 {
     match what {
         What::Install { answer: Ok(number) } if counts => Some(*number),
         _ => before,
-    }
-}
-
-/// The number that was installed for the call that a task entered at a place.
-#[tactic(auto, using(crate::proofs::Past::past_more, crate::proofs::Past::length_taken, crate::proofs::Entered::call_more, crate::proofs::Entered::call_none), unfolding(hist_model::specs::ReportAudit::installed))]
-fn installed(events: &[Event], task: &[u32], call: usize) -> Option<u32>
-    ensures { result ≡ installed task.now call (reverse events.now) }
-{
-    let mut facts = CallFacts::NONE;
-    let mut number = None;
-    for place in 0..events.len() {
-        let event = &events[place];
-        let own = same_task(&event.who, task);
-        number = number_given(facts.counts(own), &event.what, number);
-        facts = facts.after(place == call, own, &event.what);
-    }
-    number
-}
-
-/// The number that was installed for the call with this id that is the newest of those before.
-#[tactic(auto, using(crate::proofs::Past::event_past))]
-pub(crate) fn installed_for(events: &[Event], before: &[Event], id: u64) -> Option<u32>
-    ensures { result ≡ installed_at (reverse events.now) (reverse before.now) (call_with_id id (reverse before.now)) }
-{
-    match call_with_id(before, id) {
-        Some(call) => installed(events, task_numbers(&before[call].who), call),
-        None => None,
     }
 }

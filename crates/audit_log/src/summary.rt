@@ -2,8 +2,9 @@
 
 ghost use Rattle.std.specs.Prelude.{◌≡◌, ◌++◌, IfOk, OnOk, count_by, decimal, length, reverse};
 ghost use Rattle.hist_model.specs.Kinds.{notifies, enters};
-ghost use Rattle.hist_model.specs.Report.{audits, audits_by, counts_text, findings_text, summary};
+ghost use Rattle.hist_model.specs.Report.{audits, counts_text, findings_text, summary};
 ghost use Rattle.hist_model.specs.ReportRequests.{answer_count};
+ghost use Rattle.audit_log.specs.Numbers.{numbered_audits};
 ghost use Rattle.audit_log.specs.Written.{Wrote};
 
 use crate::answer::answered;
@@ -12,6 +13,7 @@ use crate::count::{denied, entered, faulty, gone, granted, injected, lost, notif
 use crate::error::ReportError;
 use crate::judge::Judge;
 use crate::line::Line;
+use crate::numbers::Numbers;
 use crate::part::write_line;
 use hist_model::event::{Actor, Event, What};
 use hist_model::history::History;
@@ -52,6 +54,7 @@ fn summary_line<J: Judge>(alloc: Global, judge: &J, events: &[Event]) -> Result<
 fn audits<J: Judge>(alloc: Global, judge: &J, events: &[Event]) -> Result<Vec<Audit>, NoMemory>
     ensures { IfOk result (λ found. found.items ≡ audits (J.judging judge.now) (reverse events.now) (reverse events.now)) }
 {
+    let numbers = Numbers::of(alloc, events)?;
     let mut found = Vec::new(alloc);
     for place in 0..events.len() {
         push_audit(
@@ -59,27 +62,29 @@ fn audits<J: Judge>(alloc: Global, judge: &J, events: &[Event]) -> Result<Vec<Au
             alloc,
             judge,
             events,
-            &events[..place],
+            place,
             &events[place],
+            numbers.received_at(place),
         )?;
     }
     Ok(found)
 }
 
-/// Adds what came of the session that the event after `before` begins, if it begins one.
+/// Adds what came of the session that the event at a place begins, if it begins one, for whose call this number was installed.
 fn push_audit<J: Judge>(
     found: &mut Vec<Audit>,
     alloc: Global,
     judge: &J,
     events: &[Event],
-    before: &[Event],
+    place: usize,
     event: &Event,
+    number: Option<u32>,
 ) -> Result<(), NoMemory>
-    ensures { OnOk result (found.new.items ≡ found.old.items ++ audits_by (J.judging judge.now) (reverse events.now) (reverse before.now) event.now.who event.now.what) }
+    ensures { OnOk result (found.new.items ≡ found.old.items ++ numbered_audits (J.judging judge.now) (reverse events.now) number place event.now.who event.now.what) }
 {
     match (&event.who, &event.what) {
         (Actor::Worker(worker), What::Recv { answer: Ok(notif) }) => {
-            let audit = audit_of(alloc, judge, events, before, *worker, notif)?;
+            let audit = audit_of(alloc, judge, events, place, *worker, notif, number)?;
             found.push(audit)?;
             Ok(())
         }

@@ -1,0 +1,143 @@
+-- The calls of received notifications are kept, and so is the number that was installed for each.
+-- By cases on whether the event is the last one, and by the record of the call that an id names (`Tells`).
+use Rattle.std.proofs.Common.{◌≡◌, inl, inr, ℕ, ◌+◌, ◌<◌, ◌≤◌, Bool, true, false, List, [], ◌∷◌, ◌++◌, length, get_or, Option, Some, None, refl, sym, ap, ◌∙◌, subst, append_assoc, take, drop, reverse, arith}
+use Rattle.std.specs.Prelude.{if◌then◌else◌, Ok}
+use Rattle.std.proofs.lemmas.Bool.{cases_order}
+use Rattle.std.proofs.lemmas.List.{length-append, get_or_at, get_or_append_left, reverse-append, take-append-drop}
+use Rattle.hist_model.specs.Look.{event_at, task_name}
+use Rattle.hist_model.specs.Calls.{actor_in, caller}
+use Rattle.hist_model.specs.ReportAudit.{Judging, audit_by, audit_line, audit_line_by, audit_line_of, call_with_id, installed, installed_at, is_notified, session_at}
+use Rattle.hist_model.specs.Report.{audits, audits_by}
+use Rattle.hist_model.specs.ReportJournal.{lines_of}
+use Rattle.hist_model.specs.declared.event.Actor.{Actor}
+use Rattle.hist_model.specs.declared.event.Actor.TheVariants.{Worker}
+use Rattle.hist_model.specs.declared.event.What.{What}
+use Rattle.hist_model.specs.declared.event.What.TheVariants.{Recv}
+use Rattle.sys_abi.specs.declared.wire.Notif.{Notif}
+use Rattle.hist_model.specs.declared.event.Event.{Event}
+use Rattle.hist_model.proofs.Look.{event_at-here, event_at-older}
+use Rattle.audit_log.proofs.Past.{past_more, length_taken}
+use Rattle.audit_log.specs.Numbers.{TellsNumbers, number_in, numbered_audits, numbered_by, numbered_line}
+use Rattle.audit_log.specs.declared.numbers.Numbers.{Numbers}
+use Rattle.audit_log.specs.Received.{Names, TellsReceived, place_in, received_by}
+use Rattle.audit_log.specs.Records.{Tells, no_record, number_at}
+use Rattle.audit_log.specs.declared.received.Ids.{Ids}
+use Rattle.audit_log.specs.declared.records.CallRecord.{CallRecord}
+
+-- of no event
+pub none_received : (calls : List (Option ℕ)) (H : List Event) → H ≡ [] → TellsReceived H calls
+none_received calls H q [] K e h = let n : [] ≡ e ∷ K = sym q ∙ h in cc
+none_received calls H q (x ∷ later) K e h = let n : [] ≡ x ∷ (later ++ e ∷ K) = sym q ∙ h in cc
+
+pub none_named : (x : ℕ) → call_with_id x [] ≡ None
+unfolding call_with_id
+none_named x = refl
+
+received-step : (K : List Event) (e : Event) (calls : List (Option ℕ)) → length calls ≡ length K → TellsReceived K calls
+    → TellsReceived (e ∷ K) (calls ++ received_by (λ x. call_with_id x K) e.what ∷ [])
+received-step K e calls l t [] M f h =
+    let p : f ≡ e = cc in
+    let q : M ≡ K = cc in
+    rw (p, q) (get_or_at calls (received_by (λ x. call_with_id x K) e.what) [] None (length K) l)
+received-step K e calls l t (x ∷ later) M f h =
+    let q : K ≡ later ++ f ∷ M = cc in
+    let m : length (later ++ f ∷ M) ≡ length later + length (f ∷ M) = length-append later (f ∷ M) in
+    let n : length K ≡ length (later ++ f ∷ M) = ap length q in
+    let a : length M < length calls = omega arith in
+    get_or_append_left calls (received_by (λ x. call_with_id x K) e.what ∷ []) None (length M) a ∙ t later M f q
+
+named-step : (x : ℕ) (e : Event) (K : List Event) → call_with_id x (e ∷ K) ≡ (if is_notified e.what x then Some (length K) else call_with_id x K)
+unfolding call_with_id
+named-step x e K = refl
+
+-- with one more event, which has this place
+pub received_more : (K : List Event) (e : Event) (place : ℕ) (old new : Ids) (before after : List (Option ℕ)) → length K ≡ place → length before ≡ place
+    → TellsReceived K before → Names K old → after ≡ before ++ received_by (place_in old) e.what ∷ []
+    → ((x : ℕ) → place_in new x ≡ (if is_notified e.what x then Some place else place_in old x))
+    → (length after ≡ place + 1) × TellsReceived (e ∷ K) after × Names (e ∷ K) new
+received_more K e place old new before after l m t k q h =
+    let f : place_in old ≡ (λ x. call_with_id x K) = λ i. λ x. k x i in
+    let r : after ≡ before ++ received_by (λ x. call_with_id x K) e.what ∷ [] = q ∙ ap (λ call. before ++ received_by call e.what ∷ []) f in
+    let c : length after ≡ length (before ++ received_by (λ x. call_with_id x K) e.what ∷ []) = ap length r in
+    let a : length (before ++ received_by (λ x. call_with_id x K) e.what ∷ []) ≡ length before + 1 = length-append before (received_by (λ x. call_with_id x K) e.what ∷ []) in
+    (
+      omega arith,
+      subst (TellsReceived (e ∷ K)) (sym r) (received-step K e before (m ∙ sym l) t),
+      λ x. h x ∙ ap (λ o. if is_notified e.what x then Some place else o) (k x) ∙ ap (λ p. if is_notified e.what x then Some p else call_with_id x K) (sym l) ∙ sym (named-step x e K),
+    )
+
+named-below : (x c : ℕ) (K : List Event) → call_with_id x K ≡ Some c → c < length K
+unfolding call_with_id
+named-below x c [] h = cc
+named-below x c (e ∷ K) h = by (is_notified e.what x) (named-below x c K) h
+  where
+    by : (b : Bool) → (call_with_id x K ≡ Some c → c < length K) → (if b then Some (length K) else call_with_id x K) ≡ Some c → c < length (e ∷ K)
+    by true below h = let q : length K ≡ c = cc in omega arith
+    by false below h = let q = below h in omega arith
+
+-- the events at a place below the last one
+at-place : (K : List Event) (c : ℕ) → c < length K → (l : List Event) × (f : Event) × (M : List Event) × (K ≡ l ++ f ∷ M) × (length M ≡ c) × (event_at K c ≡ Some f)
+at-place [] c l = absurd (omega arith)
+at-place (e ∷ K) c l = elim (cases_order c (length K)) [
+  | inl q ↦ ([], e, K, refl, sym q, ap (event_at (e ∷ K)) q ∙ event_at-here e K)
+  | inr o ↦ elim o [
+    | inl m ↦ let (later, f, M, p, n, v) = at-place K c m in (e ∷ later, f, M, ap (λ x. e ∷ x) p, n, event_at-older e K c m ∙ v)
+    | inr m ↦ absurd (omega arith)
+  ]
+]
+
+-- the number that was installed for the call that an id names is in that call's record
+pub number_told : (H : List Event) (records : List CallRecord) → Tells H records → (later K : List Event) (x : ℕ) → H ≡ later ++ K
+    → number_at records (call_with_id x K) ≡ installed_at H K (call_with_id x K)
+number_told H records t later K x h = by (call_with_id x K) refl
+  where
+    by : (o : Option ℕ) → call_with_id x K ≡ o → number_at records o ≡ installed_at H K o
+    by None q = refl
+    by (Some c) q =
+        let (l, f, M, p, n, v) = at-place K c (named-below x c K q) in
+        let whole : H ≡ (later ++ l) ++ f ∷ M = h ∙ ap (λ y. later ++ y) p ∙ sym (append_assoc later l (f ∷ M)) in
+        let told : (get_or records (length M) no_record).number ≡ installed (task_name f.who) (length M) H = ap (λ r. r.number) (t (later ++ l) M f whole) in
+        let who : task_name f.who ≡ caller K c = sym (ap actor_in v) in
+        subst (λ y. (get_or records y no_record).number ≡ installed (caller K c) y H) n (subst (λ y. (get_or records (length M) no_record).number ≡ installed y (length M) H) who told)
+
+pub numbers_told : (n : Numbers) (H : List Event) → Tells H n.records.items → TellsReceived H n.calls.items → TellsNumbers H n
+numbers_told n H t r later K e notif h q =
+    let named : get_or n.calls.items (length K) None ≡ call_with_id notif.id K = r later K e h ∙ ap (received_by (λ x. call_with_id x K)) q in
+    let whole : H ≡ (later ++ e ∷ []) ++ K = h ∙ sym (append_assoc later (e ∷ []) K) in
+    ap (number_at n.records.items) named ∙ number_told H n.records.items t (later ++ e ∷ []) K notif.id whole
+
+-- what came of a session with the number that was kept for its call
+pub audits_numbered : (J : Judging) (H K : List Event) (number : Option ℕ) (who : Actor) (what : What)
+    → ((notif : Notif) → what ≡ Recv (Ok notif) → number ≡ installed_at H K (call_with_id notif.id K))
+    → numbered_audits J H number (length K) who what ≡ audits_by J H K who what
+audits_numbered J H K number (Worker w) (Recv (Ok notif)) q = ap (λ o. audit_by J notif (session_at w (length K) H) o ∷ []) (q notif refl)
+audits_numbered J H K number _ _ q = refl
+
+line-numbered : (J : Judging) (H K : List Event) (number : Option ℕ) (who : Actor) (what : What)
+    → ((notif : Notif) → what ≡ Recv (Ok notif) → number ≡ installed_at H K (call_with_id notif.id K))
+    → numbered_by J H number (length K) who what ≡ audit_line_by J H K who what
+line-numbered J H K number (Worker w) (Recv (Ok notif)) q = ap (λ o. audit_line_of J (length K) w notif (audit_by J notif (session_at w (length K) H) o)) (q notif refl)
+line-numbered J H K number _ _ q = refl
+
+lines-numbered : (J : Judging) (n : Numbers) (H later K : List Event) → TellsNumbers H n → H ≡ later ++ K → lines_of (numbered_line J H n) K ≡ lines_of (audit_line J H) K
+unfolding lines_of
+lines-numbered J n H later [] t h = refl
+lines-numbered J n H later (e ∷ K) t h =
+    let q : H ≡ (later ++ e ∷ []) ++ K = h ∙ sym (append_assoc later (e ∷ []) K) in
+    rw (lines-numbered J n H (later ++ e ∷ []) K t q, line-numbered J H K (number_in n (length K)) e.who e.what (λ notif. t later K e notif h)) refl
+
+pub audit_numbered : (J : Judging) (n : Numbers) (H : List Event) → TellsNumbers H n → lines_of (numbered_line J H n) H ≡ lines_of (audit_line J H) H
+audit_numbered J n H t = lines-numbered J n H [] H t refl
+
+-- what came of the sessions up to one more event
+pub audits_more : (J : Judging) (n : Numbers) (xs : List Event) (i : ℕ) (e : Event) → i < length xs → e ≡ get_or xs i e → TellsNumbers (reverse xs) n
+    → audits J (reverse xs) (reverse (take (i + 1) xs)) ≡ audits J (reverse xs) (reverse (take i xs)) ++ numbered_audits J (reverse xs) (number_in n i) i e.who e.what
+unfolding audits
+audits_more J n xs i e l is t =
+    let K = reverse (take i xs) in
+    let m : reverse (take (i + 1) xs) ≡ e ∷ K = past_more xs i e l ∙ ap (λ x. x ∷ K) (sym is) in
+    let whole : reverse xs ≡ reverse (drop (i + 1) xs) ++ e ∷ K =
+        ap reverse (sym (take-append-drop (i + 1) xs)) ∙ reverse-append (take (i + 1) xs) (drop (i + 1) xs) ∙ ap (λ x. reverse (drop (i + 1) xs) ++ x) m in
+    let p : length K ≡ i = length_taken xs i (omega arith) in
+    let told = audits_numbered J (reverse xs) K (number_in n (length K)) e.who e.what (λ notif. t (reverse (drop (i + 1) xs)) K e notif whole) in
+    rw m (ap (λ x. audits J (reverse xs) K ++ x) (sym told ∙ ap (λ j. numbered_audits J (reverse xs) (number_in n j) j e.who e.what) p))

@@ -1,0 +1,69 @@
+//! The call of each notification that is received, in one pass over the events.
+
+ghost use Rattle.std.specs.Prelude.{◌≡◌, ℕ, IfOk, OnOk, None, Some, if◌then◌else◌, reverse};
+ghost use Rattle.hist_model.specs.ReportAudit.{is_notified};
+ghost use Rattle.audit_log.specs.Received.{TellsReceived, place_in, received_by};
+
+use hist_model::event::{Entered, Event, What};
+use std::alloc::Global;
+use std::collections::BTreeMap;
+use sys_abi::memory::NoMemory;
+
+/// The newest call with each id.
+#[derive(Drop)]
+struct Ids {
+    places: BTreeMap<u64, usize>,
+}
+
+impl Ids {
+    /// Before all events.
+    fn new(alloc: Global) -> Ids
+        ensures { (x : ℕ) → place_in result x ≡ None }
+    {
+        Ids {
+            places: BTreeMap::new(alloc),
+        }
+    }
+
+    /// With one more step, which has this place.
+    fn note(&mut self, place: usize, what: &What) -> Result<(), NoMemory>
+        ensures { OnOk result ((x : ℕ) → place_in self.new x ≡ (if is_notified what.now x then Some place else place_in self.old x)) }
+    {
+        if let What::Enter {
+            verdict: Entered::Notify { id },
+            ..
+        } = what
+        {
+            self.places.insert(*id, place)?;
+        }
+        Ok(())
+    }
+
+    /// The call of the notification that a step receives.
+    fn received(&self, what: &What) -> Option<usize>
+        ensures { result ≡ received_by (place_in self.now) what.now }
+    {
+        match what {
+            What::Recv { answer: Ok(notif) } => self.places.get(&notif.id).copied(),
+            _ => None,
+        }
+    }
+}
+
+/// Of each event, by its place, the call of the notification that it receives: the newest with its id.
+#[tactic(auto, using(crate::proofs::ReceivedCalls::none_received, crate::proofs::ReceivedCalls::none_named))]
+pub(crate) fn received_calls(
+    alloc: Global,
+    events: &[Event],
+) -> Result<Vec<Option<usize>>, NoMemory>
+    ensures { IfOk result (λ found. TellsReceived (reverse events.now) found.items) }
+{
+    let mut ids = Ids::new(alloc);
+    let mut calls = Vec::new(alloc);
+    for place in 0..events.len() {
+        let what = &events[place].what;
+        calls.push(ids.received(what))?;
+        ids.note(place, what)?;
+    }
+    Ok(calls)
+}
