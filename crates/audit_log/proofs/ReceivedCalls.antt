@@ -1,6 +1,6 @@
 -- The calls of received notifications are kept, and so is the number that was installed for each.
 -- By cases on whether the event is the last one, and by the record of the call that an id names (`Tells`).
-use Rattle.std.proofs.Common.{◌≡◌, inl, inr, ℕ, ◌+◌, ◌<◌, ◌≤◌, Bool, true, false, List, [], ◌∷◌, ◌++◌, length, get_or, Option, Some, None, refl, sym, ap, ◌∙◌, subst, append_assoc, take, drop, reverse, arith}
+use Rattle.std.proofs.Common.{◌≡◌, inl, inr, ℕ, ◌+◌, ◌<◌, Bool, true, false, List, [], ◌∷◌, ◌++◌, length, get_or, Option, Some, None, refl, sym, ap, ◌∙◌, subst, append_assoc, take, drop, reverse, arith}
 use Rattle.std.specs.Prelude.{if◌then◌else◌, Ok}
 use Rattle.std.proofs.lemmas.Bool.{cases_order}
 use Rattle.std.proofs.lemmas.List.{length-append, get_or_at, get_or_append_left, reverse-append, take-append-drop}
@@ -59,8 +59,7 @@ received_more K e place old new before after l m t k q h =
     let f : place_in old ≡ (λ x. call_with_id x K) = λ i. λ x. k x i in
     let r : after ≡ before ++ received_by (λ x. call_with_id x K) e.what ∷ [] = q ∙ ap (λ call. before ++ received_by call e.what ∷ []) f in
     let c : length after ≡ length (before ++ received_by (λ x. call_with_id x K) e.what ∷ []) = ap length r in
-    let a : length (before ++ received_by (λ x. call_with_id x K) e.what ∷ []) ≡ length before + 1 = length-append before (received_by (λ x. call_with_id x K) e.what ∷ []) in
-    (
+    let a : length (before ++ received_by (λ x. call_with_id x K) e.what ∷ []) ≡ length before + 1 = length-append before (received_by (λ x. call_with_id x K) e.what ∷ []) in (
       omega arith,
       subst (TellsReceived (e ∷ K)) (sym r) (received-step K e before (m ∙ sym l) t),
       λ x. h x ∙ ap (λ o. if is_notified e.what x then Some place else o) (k x) ∙ ap (λ p. if is_notified e.what x then Some p else call_with_id x K) (sym l) ∙ sym (named-step x e K),
@@ -137,7 +136,7 @@ audits_more J n xs i e l is t =
     let K = reverse (take i xs) in
     let m : reverse (take (i + 1) xs) ≡ e ∷ K = past_more xs i e l ∙ ap (λ x. x ∷ K) (sym is) in
     let whole : reverse xs ≡ reverse (drop (i + 1) xs) ++ e ∷ K =
-        ap reverse (sym (take-append-drop (i + 1) xs)) ∙ reverse-append (take (i + 1) xs) (drop (i + 1) xs) ∙ ap (λ x. reverse (drop (i + 1) xs) ++ x) m in
+    ap reverse (sym (take-append-drop (i + 1) xs)) ∙ reverse-append (take (i + 1) xs) (drop (i + 1) xs) ∙ ap (λ x. reverse (drop (i + 1) xs) ++ x) m in
     let p : length K ≡ i = length_taken xs i (omega arith) in
     let told = audits_numbered J (reverse xs) K (number_in n (length K)) e.who e.what (λ notif. t (reverse (drop (i + 1) xs)) K e notif whole) in
     rw m (ap (λ x. audits J (reverse xs) K ++ x) (sym told ∙ ap (λ j. numbered_audits J (reverse xs) (number_in n j) j e.who e.what) p))

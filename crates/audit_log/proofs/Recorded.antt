@@ -10,7 +10,7 @@ use Rattle.hist_model.specs.Look.{Name, name_eq, is_task, is_place, task_name}
 use Rattle.hist_model.specs.Kinds.{enters}
 use Rattle.hist_model.specs.ReportJournal.{lines_of}
 use Rattle.hist_model.specs.ReportAudit.{installed, number_given}
-use Rattle.hist_model.specs.ReportCalls.{is_pending, call_line, call_line_by, first_pid, newest_call, outcome, outcome_next, outcome_step}
+use Rattle.hist_model.specs.ReportCalls.{is_pending, call_line, call_line_by, first_pid, newest_call, outcome, outcome_step}
 use Rattle.hist_model.specs.declared.event.Actor.{Actor}
 use Rattle.hist_model.specs.declared.event.Actor.TheVariants.{Start, Task, Worker, Listener}
 use Rattle.hist_model.specs.declared.event.Event.{Event}

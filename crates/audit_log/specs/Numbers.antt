@@ -1,5 +1,5 @@
 -- The number that was installed for the call of a received notification, as it is kept, and what is written by it.
-use Rattle.std.specs.Prelude.{◌≡◌, ℕ, List, [], ◌∷◌, ◌++◌, length, get_or, Option, Some, None, Ok}
+use Rattle.std.specs.Prelude.{◌≡◌, ℕ, List, [], ◌∷◌, ◌++◌, length, get_or, Option, None, Ok}
 use Rattle.sys_abi.specs.declared.wire.Notif.{Notif}
 use Rattle.hist_model.specs.ReportAudit.{Judging, audit_by, audit_line_of, call_with_id, installed_at, session_at}
 use Rattle.hist_model.specs.declared.event.Actor.{Actor}

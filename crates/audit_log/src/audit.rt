@@ -68,7 +68,13 @@ impl<J: Judge> Part for Audits<'_, J> {
                 let place = before.len();
                 let number = self.numbers.received_at(place);
                 let audit = audit_of(
-                    self.alloc, self.judge, self.events, place, *worker, notif, number,
+                    self.alloc,
+                    self.judge,
+                    self.events,
+                    place,
+                    *worker,
+                    notif,
+                    number,
                 )?;
                 push_session(line, self.judge, place, *worker, notif, audit)
             }

@@ -13,8 +13,8 @@ loop-place-preserved c =
     let K = reverse (take i xs) in
     let m : reverse (take (i + 1) xs) ≡ e ∷ K = past_more xs i c.index-events-place.result (omega arith) in
     let p =
-        received_more K e i c.loop-place.ids c.note.new.self c.loop-place.calls.items c.push.new.self.items (length_taken xs i (omega arith)) c.loop-place.invariant.len
-        c.loop-place.invariant.tells c.loop-place.invariant.names (c.in_ok-push.ensures.items ∙ ap (λ o. c.loop-place.calls.items ++ o ∷ []) c.received.ensures) c.in_ok-note.ensures in
+    received_more K e i c.loop-place.ids c.note.new.self c.loop-place.calls.items c.push.new.self.items (length_taken xs i (omega arith)) c.loop-place.invariant.len
+    c.loop-place.invariant.tells c.loop-place.invariant.names (c.in_ok-push.ensures.items ∙ ap (λ o. c.loop-place.calls.items ++ o ∷ []) c.received.ensures) c.in_ok-note.ensures in
     record {
       len = p.0;
       tells = subst (λ H. TellsReceived H c.push.new.self.items) (sym m) p.1;

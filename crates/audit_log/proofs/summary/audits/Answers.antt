@@ -1,5 +1,5 @@
 -- One more event is past: by `audits_more`.
-use Rattle.std.proofs.Common.{◌≡◌, ◌++◌, reverse, ap, sym, ◌∙◌, arith}
+use Rattle.std.proofs.Common.{◌++◌, reverse, ap, sym, ◌∙◌, arith}
 use Rattle.audit_log.proofs.ReceivedCalls.{audits_more}
 use Rattle.audit_log.specs.Numbers.{number_in, numbered_audits}
 use Rattle.audit_log.proofs.summary.audits.Goals as goal
