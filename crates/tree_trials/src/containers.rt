@@ -1,10 +1,9 @@
 //! A container of one task, by the rules of the manual pages.
 
 use crate::events::{by_task, start};
-use crate::nodes::node_ref;
 use crate::texts::text;
 use hist_model::event::{Event, What};
-use hist_model::request::{Obj, Request};
+use hist_model::request::{NodeRef, Obj, Request};
 use hist_model::script::{Figures, MapRange, Script};
 use hist_model::text::Sequence;
 use plain_files::files::Files;
@@ -19,44 +18,28 @@ use sys_abi::memory::NoMemory;
 /// Where the page is.
 const PAGE: u64 = 0x10000;
 
-const FIGURES: Figures = Figures {
-    uptime: 9,
-    used: 0,
-    shared: 0,
-    buffers: 0,
-    swap_used: 0,
-    memory: 0,
-    swap: 0,
-    host_memory: 0,
-    host_swap: 0,
-    procs: 0,
-};
-
-/// A script with this map, and with no program.
-fn script(alloc: Global, map: Vec<MapRange>) -> Script {
-    Script {
-        pidbase: 0,
-        pidmax: 9,
-        firstid: 1,
-        rlimit: 4,
-        killable: false,
-        root: node_ref(0),
-        figures: FIGURES,
-        tree: Sequence::new(Vec::new(alloc)),
-        broker: Sequence::new(Vec::new(alloc)),
-        map: Sequence::new(map),
-        filters: Sequence::new(Vec::new(alloc)),
-        programs: Sequence::new(Vec::new(alloc)),
-        schedule: Sequence::new(Vec::new(alloc)),
-    }
-}
-
+/// A script with one page, and with a program that does nothing.
 fn one_page(alloc: Global) -> Result<Script, NoMemory> {
     let page = MapRange {
         start: PAGE,
         pages: 1,
     };
-    Ok(script(alloc, vec![in alloc; page]?))
+    let program = Sequence::new(Vec::new(alloc));
+    Ok(Script {
+        pidbase: 0,
+        pidmax: 9,
+        firstid: 1,
+        rlimit: 4,
+        killable: false,
+        root: NodeRef { ordinal: 0 },
+        figures: Figures::NONE,
+        tree: Sequence::new(Vec::new(alloc)),
+        broker: Sequence::new(Vec::new(alloc)),
+        map: Sequence::new(vec![in alloc; page]?),
+        filters: Sequence::new(Vec::new(alloc)),
+        programs: Sequence::new(vec![in alloc; program]?),
+        schedule: Sequence::new(Vec::new(alloc)),
+    })
 }
 
 /// The first task writes a path behind the first byte of the page.
