@@ -29,82 +29,89 @@ fn container(alloc: Global) -> Result<Tree, Fail> {
     Ok(tree)
 }
 
-#[test]
-fn requests_of_a_container(rt: HostRuntime) -> Result<(), Fail> {
-    let alloc = rt.alloc();
-    let root = node_ref(1);
-    let mut tree = container(alloc)?;
+/// The number of the error with which a request is refused, or 0.
+fn refusal(answer: Result<(), OrNoMemory<Errno>>) -> Result<u16, NoMemory> {
+    match answer {
+        Ok(()) => Ok(0),
+        Err(OrNoMemory::Refused(errno)) => Ok(errno.number()),
+        Err(OrNoMemory::NoMemory) => Err(NoMemory),
+    }
+}
+
+/// Makes a device at a path of the container whose root is `/c`.
+fn make_device(alloc: Global, tree: &mut Tree, path: &[u8]) -> Result<u16, NoMemory> {
     let mut walk = Walk::new(alloc)?;
     tree.ready(255)?;
-    let made = make(
-        &mut tree,
-        root,
-        None,
-        b"/l/null",
-        Node::Chr(1, 3),
-        &mut walk,
-    );
-    assert_eq!(rt; made.is_ok(), true);
-    let again = make(
-        &mut tree,
-        root,
-        None,
-        b"/etc/null",
-        Node::Chr(1, 3),
-        &mut walk,
-    );
-    assert_eq!(rt; refusal(again), 17);
+    refusal(make(tree, node_ref(1), None, path, Node::Chr(1, 3), &mut walk))
+}
+
+/// Mounts a disk there.
+fn mount_disk(alloc: Global, tree: &mut Tree, path: &[u8]) -> Result<u16, NoMemory> {
+    let mut walk = Walk::new(alloc)?;
     tree.ready(13)?;
-    let mounted = mount(&mut tree, root, None, b"/l", disk(), &mut walk);
-    assert_eq!(rt; mounted.is_ok(), true);
-    let hidden = follow(&tree, root, None, b"/etc/null", &mut walk);
-    assert_eq!(rt; hidden.is_err(), true);
+    refusal(mount(tree, node_ref(1), None, path, disk(), &mut walk))
+}
+
+/// Sets an attribute there that isn't set yet.
+fn set_new_attr(alloc: Global, tree: &mut Tree, path: &[u8]) -> Result<u16, NoMemory> {
+    let mut walk = Walk::new(alloc)?;
     let change = AttrChange {
         name: b"user.a",
         value: b"1",
         flags: 1,
     };
     tree.ready(7)?;
-    let set = set_attr(&mut tree, root, None, b"/etc", change, &mut walk);
-    assert_eq!(rt; set.is_ok(), true);
-    let opened = TreeOp::Open {
-        path: text(alloc, b"/f")?,
+    refusal(set_attr(tree, node_ref(1), None, path, change, &mut walk))
+}
+
+/// Opens what is there.
+fn open(alloc: Global, tree: &mut Tree, path: &[u8]) -> Result<u16, NoMemory> {
+    let mut walk = Walk::new(alloc)?;
+    let op = TreeOp::Open {
+        path: text(alloc, path)?,
         cloexec: false,
     };
-    let performed = perform(&mut tree, root, None, opened, &mut walk);
-    assert_eq!(rt; performed.is_ok(), true);
+    refusal(perform(tree, node_ref(1), None, op, &mut walk))
+}
+
+/// Whether a path leads to a node.
+fn leads(alloc: Global, tree: &Tree, path: &[u8]) -> Result<bool, NoMemory> {
+    let mut walk = Walk::new(alloc)?;
+    Ok(follow(tree, node_ref(1), None, path, &mut walk).is_ok())
+}
+
+#[test]
+fn requests_of_a_container(rt: HostRuntime) -> Result<(), Fail> {
+    let alloc = rt.alloc();
+    let mut tree = container(alloc)?;
+    assert_eq!(rt; make_device(alloc, &mut tree, b"/l/null")?, 0);
+    assert_eq!(rt; make_device(alloc, &mut tree, b"/etc/null")?, 17);
+    assert!(rt; leads(alloc, &tree, b"/etc/null")?);
+    assert_eq!(rt; mount_disk(alloc, &mut tree, b"/l")?, 0);
+    assert!(rt; !leads(alloc, &tree, b"/etc/null")?);
+    assert_eq!(rt; set_new_attr(alloc, &mut tree, b"/etc")?, 0);
+    assert_eq!(rt; open(alloc, &mut tree, b"/f")?, 0);
     Ok(())
 }
 
-/// mknod of a device at a path.
-fn mknod(alloc: Global, path: &[u8]) -> Result<Request, NoMemory> {
-    Ok(Request::Mknod {
+/// mknod of a device at a path, by a request that is borrowed.
+fn make_by_request(alloc: Global, tree: &mut Tree, path: &[u8]) -> Result<u16, NoMemory> {
+    let mut walk = Walk::new(alloc)?;
+    let request = Request::Mknod {
         dirfd: None,
         path: text(alloc, path)?,
         mode: 0o020666,
         dev: 259,
-    })
+    };
+    tree.ready(255)?;
+    refusal(perform_request(tree, node_ref(1), None, &request, &mut walk))
 }
 
 #[test]
 fn requests_that_are_borrowed(rt: HostRuntime) -> Result<(), Fail> {
     let alloc = rt.alloc();
-    let root = node_ref(1);
     let mut tree = container(alloc)?;
-    let mut walk = Walk::new(alloc)?;
-    let request = mknod(alloc, b"/l/null")?;
-    tree.ready(255)?;
-    let made = perform_request(&mut tree, root, None, &request, &mut walk);
-    assert_eq!(rt; made.is_ok(), true);
-    let again = perform_request(&mut tree, root, None, &request, &mut walk);
-    assert_eq!(rt; refusal(again), 17);
+    assert_eq!(rt; make_by_request(alloc, &mut tree, b"/l/null")?, 0);
+    assert_eq!(rt; make_by_request(alloc, &mut tree, b"/l/null")?, 17);
     Ok(())
-}
-
-/// The number of the error with which a request is refused, or 0.
-fn refusal(answer: Result<(), OrNoMemory<Errno>>) -> u16 {
-    match answer {
-        Err(OrNoMemory::Refused(errno)) => errno.number(),
-        _ => 0,
-    }
 }
