@@ -1,0 +1,2 @@
+pub mod GeneratedPolicy
+pub mod GeneratedScript
