@@ -2,22 +2,37 @@
 use Rattle.std.specs.Prelude.{◌≡◌, ℕ, ◌≤◌, ◌++◌, true, false, List, Option, Some, None, Result, Ok, Err, ◌⊎◌}
 use Rattle.hist_model.specs.Legal.{played}
 use Rattle.hist_model.specs.Mediated.{Mediated}
-use Rattle.hist_model.specs.Report.{report}
-use Rattle.hist_model.specs.ReportAudit.{judging_by}
-use Rattle.hist_model.specs.Words.{Form, Play}
+use Rattle.hist_model.specs.Report.{report, summary}
+use Rattle.hist_model.specs.ReportAudit.{Judging, judging_by}
+use Rattle.hist_model.specs.Words.{Form, Play, Run, Stress}
+use Rattle.hist_model.specs.declared.event.Event.{Event}
 use Rattle.hist_model.specs.declared.policy.Policy.{Policy}
 use Rattle.hist_model.specs.declared.script.Script.{Script}
 use Rattle.io_edge.specs.Faults.{Rose}
 use Rattle.io_edge.specs.FileState.{FileState}
 use Rattle.io_edge.specs.SinkState.{SinkState, AddsPrefix}
+use Rattle.generated_input.specs.GeneratedPolicy.{generated_policy}
+use Rattle.generated_input.specs.GeneratedScript.{generated_script}
 use Rattle.broker_app.specs.Inputs.{PolicyIs, ScriptIs, IsLonger, policy_limit, script_limit}
+use Rattle.broker_app.specs.declared.printing.Printout.{Printout}
+use Rattle.broker_app.specs.declared.printing.Printout.TheVariants.{Report, Summary}
+use Rattle.broker_app.specs.declared.status.InputFile.{InputFile}
 use Rattle.broker_app.specs.declared.status.InputFile.TheVariants.{Policy as PolicyFile, Script as ScriptFile}
 use Rattle.broker_app.specs.declared.status.Status.{Status}
 use Rattle.broker_app.specs.declared.status.Status.TheVariants.{Done, Usage, ReadFault, TooLong, BadPolicy, BadScript, WriteFault, NoMemory, NotBuilt}
 
 -- ---- What was printed
 
--- the report of the history that a policy and a script play
+-- the whole report of a history, or its summary alone
+abbrev pub text_of : Printout → Judging → List Event → List ℕ
+text_of Report J H = report J H
+text_of Summary J H = summary J H
+
+-- that of the history that a policy and a script play
+abbrev pub printout_of : Printout → Policy → Script → List ℕ
+printout_of printout P S = text_of printout (judging_by P.rules) (played P S)
+
+-- the report of the history that they play
 abbrev pub report_of : Policy → Script → List ℕ
 report_of P S = report (judging_by P.rules) (played P S)
 
@@ -43,12 +58,30 @@ TookReport files policy script old new = (P : Policy) × (S : Script) × AreRead
 abbrev pub Stands : SinkState → Type 0
 Stands sink = sink.pending ≡ false
 
--- what a play of a policy and a script wrote
-abbrev pub Reported : Policy → Script → SinkState → SinkState → Result (Unit {0}) Status → Type 0
-Reported P S old new (Ok u) = (old.tells ≡ true → new.taken ≡ old.taken ++ report_of P S) × Stands new
-Reported P S old new (Err WriteFault) = Rose old.faults new.faults × (old.tells ≡ true → AddsPrefix old.taken (report_of P S) new.taken)
-Reported P S old new (Err NoMemory) = old.tells ≡ true → AddsPrefix old.taken (report_of P S) new.taken
-Reported P S old new (Err status) = ⊥
+-- what the printing of a text came to
+abbrev pub Printed : List ℕ → SinkState → SinkState → Result (Unit {0}) Status → Type 0
+Printed text old new (Ok u) = (old.tells ≡ true → new.taken ≡ old.taken ++ text) × Stands new
+Printed text old new (Err WriteFault) = Rose old.faults new.faults × (old.tells ≡ true → AddsPrefix old.taken text new.taken)
+Printed text old new (Err NoMemory) = old.tells ≡ true → AddsPrefix old.taken text new.taken
+Printed text old new (Err status) = ⊥
+
+-- ---- Generated input
+
+-- the summary of the history that generated input plays
+abbrev pub generated_summary : ℕ → ℕ → List ℕ
+generated_summary from count = printout_of Summary generated_policy (generated_script from count)
+
+-- that history is mediated
+abbrev pub GeneratedIsMediated : ℕ → ℕ → Type 0
+GeneratedIsMediated from count = Mediated generated_policy (generated_script from count) (played generated_policy (generated_script from count))
+
+-- the sink took a prefix of the summary of a mediated history
+abbrev pub TookSummaryPrefix : ℕ → ℕ → SinkState → SinkState → Type 0
+TookSummaryPrefix from count old new = GeneratedIsMediated from count × (old.tells ≡ true → AddsPrefix old.taken (generated_summary from count) new.taken)
+
+-- the sink took the whole summary of a mediated history
+abbrev pub TookSummary : ℕ → ℕ → SinkState → SinkState → Type 0
+TookSummary from count old new = GeneratedIsMediated from count × (old.tells ≡ true → new.taken ≡ old.taken ++ generated_summary from count)
 
 -- ---- What was read
 
@@ -59,6 +92,13 @@ CannotRead files after name = Rose files.faults after.faults × (files.sound ≡
 -- no file was opened after the one of this name
 abbrev pub OpenedLast : FileState → FileState → List ℕ → Type 0
 OpenedLast files after name = files.tells ≡ true → after.current ≡ Some name
+
+-- why the bytes of a file weren't read: this file's, of which there may be so many
+abbrev pub FileRefused : InputFile → ℕ → FileState → FileState → List ℕ → Status → Type 0
+FileRefused file limit files after name (ReadFault which) = (which ≡ file) × CannotRead files after name
+FileRefused file limit files after name (TooLong which) = (which ≡ file) × (files.tells ≡ true → IsLonger limit (files.bytes name))
+FileRefused file limit files after name NoMemory = Unit {0}
+FileRefused file limit files after name _ = ⊥
 
 -- why the policy wasn't taken
 abbrev pub PolicyRefused : FileState → FileState → List ℕ → Status → Type 0
@@ -95,6 +135,13 @@ PlayEnds files after old new policy script (TooLong ScriptFile) = OnlyPolicy fil
 PlayEnds files after old new policy script (BadScript error) = OnlyPolicy files after policy script (BadScript error) × TookNothing old new
 PlayEnds files after old new policy script _ = ⊥
 
+-- how the play of generated input ended
+abbrev pub StressEnds : ℕ → ℕ → SinkState → SinkState → Status → Type 0
+StressEnds from count old new Done = TookSummary from count old new × Stands new
+StressEnds from count old new WriteFault = Rose old.faults new.faults × TookSummaryPrefix from count old new
+StressEnds from count old new NoMemory = TookSummaryPrefix from count old new
+StressEnds from count old new _ = ⊥
+
 -- the words have no form
 abbrev pub IsUsage : Status → Type 0
 IsUsage Usage = Unit {0}
@@ -108,7 +155,8 @@ IsUnbuilt _ = ⊥
 abbrev pub Answers : Option Form → FileState → FileState → SinkState → SinkState → Status → Type 0
 Answers None files after old new status = IsUsage status × TookNothing old new
 Answers (Some (Play policy script)) files after old new status = PlayEnds files after old new policy script status
-Answers (Some form) files after old new status = IsUnbuilt status × TookNothing old new
+Answers (Some (Stress from count)) files after old new status = StressEnds from count old new status
+Answers (Some (Run policy script workers cpus)) files after old new status = IsUnbuilt status × TookNothing old new
 
 -- the status that an outcome is
 abbrev pub status_of : Result (Unit {0}) Status → Status

@@ -1,5 +1,5 @@
 -- The forms of words, as the program's code has them.
-use Rattle.std.specs.Prelude.{ℕ, List, map, String}
+use Rattle.std.specs.Prelude.{ℕ, ◌≤◌, List, map, String}
 use Rattle.std.specs.String.{string_bytes}
 use Rattle.std.specs.declared.alloc.Global.{Global}
 use Rattle.hist_model.specs.Words.{Form as Meaning, Play as Plays, Run as Runs, Stress as Stresses}
@@ -15,3 +15,8 @@ abbrev pub form_of : Form → Meaning
 form_of (Play policy script) = Plays policy.now script.now
 form_of (Run policy script workers cpus) = Runs policy.now script.now workers cpus
 form_of (Stress from count) = Stresses from count
+
+-- generated input has at most 4000 calls
+abbrev pub HasFewCalls : Form → Type 0
+HasFewCalls (Stress from count) = count ≤ 4000
+HasFewCalls _ = Unit {0}

@@ -20,6 +20,10 @@ abbrev pub ReadsAs : {A : Type 0} → (List ℕ → A) → ℕ → Option (List 
 ReadsAs read limit None reading = ⊥
 ReadsAs read limit (Some bytes) reading = (length bytes ≤ limit) × (read bytes ≡ reading)
 
+-- the file is there and within the limit, and has these bytes
+abbrev pub HasBytes : ℕ → Option (List ℕ) → List ℕ → Type 0
+HasBytes limit file bytes = (file ≡ Some bytes) × (length bytes ≤ limit)
+
 -- the file is longer than it may be
 abbrev pub IsLonger : ℕ → Option (List ℕ) → Type 0
 IsLonger limit None = ⊥

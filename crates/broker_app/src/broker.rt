@@ -1,100 +1,41 @@
 //! The top call.
 
-ghost use Rattle.std.specs.Prelude.{◌≡◌, ◌++◌, true, None, OnOk, Err};
+ghost use Rattle.std.specs.Prelude.{◌≡◌, ◌≤◌, true, None, Err};
 ghost use Rattle.hist_model.specs.Legal.{played};
 ghost use Rattle.hist_model.specs.Mediated.{Mediated};
-ghost use Rattle.hist_model.specs.Report.{report};
-ghost use Rattle.hist_model.specs.ReportJournal.{journal};
-ghost use Rattle.hist_model.specs.ReportCalls.{calls};
-ghost use Rattle.hist_model.specs.ReportAudit.{judging_by, audit};
 ghost use Rattle.hist_model.specs.Words.{form};
-ghost use Rattle.audit_log.specs.Written.{Wrote};
 ghost use Rattle.broker_app.specs.Forms.{texts};
-ghost use Rattle.broker_app.specs.Answers.{Reported, PlayEnds, Stands, Answers, Said, status_of};
+ghost use Rattle.broker_app.specs.Answers.{Answers, GeneratedIsMediated, PlayEnds, Printed, Said, StressEnds, generated_summary, printout_of, status_of};
 ghost use Rattle.broker_app.specs.Lines.{line_of};
 ghost use Rattle.broker_app.specs.declared.status.InputFile.TheVariants.{Policy as PolicyFile};
 ghost use Rattle.broker_app.specs.declared.status.Status.TheVariants.{ReadFault};
 
 use crate::inputs::{read_policy, read_script};
 use crate::lines::say;
+use crate::printing::{Printout, print_history};
 use crate::status::Status;
 use crate::words::{Form, read_form};
-use audit_log::audit::write_audit;
-use audit_log::calls::write_calls;
-use audit_log::error::ReportError;
-use audit_log::journal::write_journal;
-use audit_log::summary::write_summary;
-use hist_model::history::History;
+use generated_input::{generated_policy, generated_script};
 use hist_model::policy::Policy;
 use hist_model::script::Script;
 use io_edge::files::Files;
 use io_edge::sink::Sink;
 use plain_play::machine::play;
-use policy_judge::PolicyJudge;
 use std::alloc::Global;
 
-/// Writes the journal and the calls.
-fn write_events<O: Sink>(alloc: Global, history: &History, out: &mut O) -> Result<(), ReportError>
-    ensures { Wrote (O.state out.old) (journal history.now.events ++ calls history.now.events) result (O.state out.new) }
-{
-    write_journal(alloc, history, out)?;
-    write_calls(alloc, history, out)
-}
-
-/// Writes the journal, the calls and the audit.
-fn write_sessions<O: Sink>(
-    alloc: Global,
-    policy: &Policy,
-    history: &History,
-    out: &mut O,
-) -> Result<(), ReportError>
-    ensures { Wrote (O.state out.old) (journal history.now.events ++ calls history.now.events ++ audit (judging_by policy.now.rules) history.now.events) result (O.state out.new) }
-{
-    write_events(alloc, history, out)?;
-    write_audit(alloc, &PolicyJudge::new(policy), history, out)
-}
-
-/// Writes the report.
-fn write_report<O: Sink>(
-    alloc: Global,
-    policy: &Policy,
-    history: &History,
-    out: &mut O,
-) -> Result<(), ReportError>
-    ensures { Wrote (O.state out.old) (report (judging_by policy.now.rules) history.now.events) result (O.state out.new) }
-{
-    write_sessions(alloc, policy, history, out)?;
-    write_summary(alloc, &PolicyJudge::new(policy), history, out)
-}
-
-/// Writes the report, and sees that it stands.
-#[tactic(auto, using(crate::proofs::Ends::flushed))]
-fn print_report<O: Sink>(
-    alloc: Global,
-    policy: &Policy,
-    history: &History,
-    out: &mut O,
-) -> Result<(), ReportError>
-    ensures wrote { Wrote (O.state out.old) (report (judging_by policy.now.rules) history.now.events) result (O.state out.new) }
-    ensures stands { OnOk result (Stands (O.state out.new)) }
-{
-    write_report(alloc, policy, history, out)?;
-    out.flush()?;
-    Ok(())
-}
-
-/// Plays a script under a policy and writes the report.
+/// Plays a script under a policy and prints what is asked of it.
 #[tactic(auto, using(crate::proofs::Ends::ends_written, crate::proofs::Ends::ends_cut, crate::proofs::Ends::ends_unplayed))]
-fn report_play<O: Sink>(
+fn print_played<O: Sink>(
     alloc: Global,
+    printout: Printout,
     policy: &Policy,
     script: &Script,
     out: &mut O,
 ) -> Result<(), Status>
-    ensures { Reported policy.now script.now (O.state out.old) (O.state out.new) result }
+    ensures { Printed (printout_of printout policy.now script.now) (O.state out.old) (O.state out.new) result }
 {
     let history = play(alloc, policy, script)?;
-    print_report(alloc, policy, &history, out)?;
+    print_history(alloc, printout, policy, &history, out)?;
     Ok(())
 }
 
@@ -104,6 +45,32 @@ fn is_mediated(policy: &Policy, script: &Script)
     ensures { Mediated policy.now script.now (played policy.now script.now) }
 {
     let _schedule = &script.schedule;
+}
+
+/// What generated input plays is mediated.
+fn generated_is_mediated(from: u64, count: u32)
+    requires { count ≤ 4000 }
+    ensures { GeneratedIsMediated from count }
+{}
+
+/// Plays generated input and prints the summary.
+#[tactic(auto, using(crate::proofs::Ends::ends_unplayed, crate::proofs::Ends::generated_printed))]
+fn print_generated<O: Sink>(alloc: Global, from: u64, count: u32, out: &mut O) -> Result<(), Status>
+    requires { count ≤ 4000 }
+    ensures { Printed (generated_summary from count) (O.state out.old) (O.state out.new) result }
+{
+    let policy = generated_policy(alloc)?;
+    let script = generated_script(alloc, from, count)?;
+    print_played(alloc, Printout::Summary, &policy, &script, out)
+}
+
+/// Plays generated input, whose history is mediated, and prints the summary.
+fn stress<O: Sink>(alloc: Global, from: u64, count: u32, out: &mut O) -> Result<(), Status>
+    requires { count ≤ 4000 }
+    ensures { StressEnds from count (O.state out.old) (O.state out.new) (status_of result) }
+{
+    generated_is_mediated(from, count);
+    print_generated(alloc, from, count, out)
 }
 
 /// Plays the script of a file under the policy of another, and writes the report.
@@ -120,7 +87,7 @@ fn play_files<F: Files, O: Sink>(
     let policy = read_policy(alloc, files, policy)?;
     let script = read_script(alloc, files, script)?;
     is_mediated(&policy, &script);
-    report_play(alloc, &policy, &script, out)
+    print_played(alloc, Printout::Report, &policy, &script, out)
 }
 
 /// Does what the words ask for.
@@ -135,7 +102,8 @@ fn answer<F: Files, O: Sink>(
     match read_form(words) {
         None => Err(Status::Usage),
         Some(Form::Play { policy, script }) => play_files(alloc, files, policy, script, out),
-        Some(_) => Err(Status::NotBuilt),
+        Some(Form::Stress { from, count }) => stress(alloc, from, count, out),
+        Some(Form::Run { .. }) => Err(Status::NotBuilt),
     }
 }
 

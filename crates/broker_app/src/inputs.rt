@@ -1,9 +1,9 @@
 //! The two files that a play reads.
 
-ghost use Rattle.std.specs.Prelude.{◌≡◌, true, None, Ok, IfOk, IfErr, Err};
+ghost use Rattle.std.specs.Prelude.{◌≡◌, ◌^◌, ◌-◌, ◌<◌, ◌≤◌, true, length, None, Some, Ok, IfOk, IfErr, OnOk, Err};
 ghost use Rattle.io_edge.specs.FileState.{SameFiles};
-ghost use Rattle.broker_app.specs.Answers.{PolicyRefused, ScriptRefused};
-ghost use Rattle.broker_app.specs.Inputs.{PolicyIs, ScriptIs};
+ghost use Rattle.broker_app.specs.Answers.{FileRefused, PolicyRefused, ScriptRefused};
+ghost use Rattle.broker_app.specs.Inputs.{HasBytes, PolicyIs, ScriptIs};
 ghost use Rattle.broker_app.specs.declared.status.InputFile.TheVariants.{Policy as PolicyFile, Script as ScriptFile};
 ghost use Rattle.broker_app.specs.declared.status.Status.TheVariants.{ReadFault};
 
@@ -22,7 +22,33 @@ const POLICY_LIMIT: u64 = 1_048_576;
 /// How many bytes of a script are read at most.
 const SCRIPT_LIMIT: u64 = 8_388_608;
 
+/// Reads the whole file of this name, of at most so many bytes; `file` says which of the two it is.
+fn read_file<F: Files>(
+    alloc: Global,
+    files: &mut F,
+    name: &str,
+    file: InputFile,
+    limit: u64,
+) -> Result<Vec<u8>, Status>
+    requires { limit < 2 ^ 64 - 1 }
+    ensures same { SameFiles (F.state files.old) (F.state files.new) }
+    ensures read { IfOk result (λ v. (F.state files.old).tells ≡ true → HasBytes limit ((F.state files.old).bytes name.now) v.items) }
+    ensures within { IfOk result (λ v. length v.items ≤ limit) }
+    ensures refused { IfErr result (λ s. FileRefused file limit (F.state files.old) (F.state files.new) name.now s) }
+    ensures opened { OnOk result ((F.state files.old).tells ≡ true → (F.state files.new).current ≡ Some name.now) }
+    ensures absent { (F.state files.old).sound ≡ true → (F.state files.old).bytes name.now ≡ None → result ≡ Err (ReadFault file) }
+{
+    let mut bytes = Vec::new(alloc);
+    match read_all(files, name, limit, &mut bytes) {
+        Ok(()) => Ok(bytes),
+        Err(ReadAllError::ReadFault) => Err(Status::ReadFault(file)),
+        Err(ReadAllError::TooLong) => Err(Status::TooLong(file)),
+        Err(ReadAllError::NoMemory) => Err(Status::NoMemory),
+    }
+}
+
 /// Reads the policy of this name.
+#[tactic(auto, using(crate::proofs::Reading::reads_as, crate::proofs::Reading::policy_unread))]
 pub(crate) fn read_policy<F: Files>(
     alloc: Global,
     files: &mut F,
@@ -33,13 +59,7 @@ pub(crate) fn read_policy<F: Files>(
     ensures refused { IfErr result (λ s. PolicyRefused (F.state files.old) (F.state files.new) name.now s) }
     ensures absent { (F.state files.old).sound ≡ true → (F.state files.old).bytes name.now ≡ None → result ≡ Err (ReadFault PolicyFile) }
 {
-    let mut bytes = Vec::new(alloc);
-    match read_all(files, name, POLICY_LIMIT, &mut bytes) {
-        Err(ReadAllError::ReadFault) => return Err(Status::ReadFault(InputFile::Policy)),
-        Err(ReadAllError::TooLong) => return Err(Status::TooLong(InputFile::Policy)),
-        Err(ReadAllError::NoMemory) => return Err(Status::NoMemory),
-        Ok(()) => {}
-    }
+    let bytes = read_file(alloc, files, name, InputFile::Policy, POLICY_LIMIT)?;
     match policy_reader::read_policy(alloc, bytes.as_slice()) {
         Ok(policy) => Ok(policy),
         Err(OrNoMemory::Refused(error)) => Err(Status::BadPolicy(error)),
@@ -48,6 +68,7 @@ pub(crate) fn read_policy<F: Files>(
 }
 
 /// Reads the script of this name.
+#[tactic(auto, using(crate::proofs::Reading::reads_as, crate::proofs::Reading::script_unread))]
 pub(crate) fn read_script<F: Files>(
     alloc: Global,
     files: &mut F,
@@ -58,13 +79,7 @@ pub(crate) fn read_script<F: Files>(
     ensures refused { IfErr result (λ s. ScriptRefused (F.state files.old) (F.state files.new) name.now s) }
     ensures absent { (F.state files.old).sound ≡ true → (F.state files.old).bytes name.now ≡ None → result ≡ Err (ReadFault ScriptFile) }
 {
-    let mut bytes = Vec::new(alloc);
-    match read_all(files, name, SCRIPT_LIMIT, &mut bytes) {
-        Err(ReadAllError::ReadFault) => return Err(Status::ReadFault(InputFile::Script)),
-        Err(ReadAllError::TooLong) => return Err(Status::TooLong(InputFile::Script)),
-        Err(ReadAllError::NoMemory) => return Err(Status::NoMemory),
-        Ok(()) => {}
-    }
+    let bytes = read_file(alloc, files, name, InputFile::Script, SCRIPT_LIMIT)?;
     match script_reader::read_script(alloc, bytes.as_slice()) {
         Ok(script) => Ok(script),
         Err(ScriptError::BadLine { line, reason }) => {

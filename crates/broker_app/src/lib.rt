@@ -1,18 +1,21 @@
 //! The top call of the program: from words and two files to a report, an exit status and a line on standard error.
 //!
-//! `broker::broker` reads the words (`words`), the policy (`policies`) and the script (`scripts`), plays, and writes the
-//! report to its output, one write a line. `status` has the exit statuses and their lines.
+//! `broker::broker` reads the words (`words`) and the policy and the script of two files (`inputs`), or takes generated ones,
+//! plays, and writes the report or its summary (`printing`) to its output, one write a line. `status` has the exit statuses,
+//! and `lines` their lines.
 //!
 //! It works over the traits of `io_edge`, so its contract tells for any files and outputs what each answer means: with
-//! status 0 the output took the report of the history that the policy and the script play, and that history is mediated;
-//! each other status has its cause. `specs/Answers.antt` states it.
+//! status 0 the output took the report of the history that the policy and the script play, or its summary where they were
+//! generated, and that history is mediated; each other status has its cause. `specs/Answers.antt` states it.
 //!
-//! Below stand the readers (`policy_reader`, `script_reader`), the play (`plain_play`), the report (`audit_log`,
-//! `policy_judge`) and the law (`mediation`). Above stands `main`, which hands the machine's files and outputs over.
+//! Below stand the readers (`policy_reader`, `script_reader`), the generator of input (`generated_input`), the play
+//! (`plain_play`), the report (`audit_log`, `policy_judge`) and the law (`mediation`). Above stands `main`, which hands the
+//! machine's files and outputs over.
 #![tactic(auto)]
 
 pub mod broker;
 mod inputs;
 mod lines;
+mod printing;
 pub mod status;
 pub mod words;

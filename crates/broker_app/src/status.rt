@@ -18,7 +18,7 @@ pub enum InputFile {
 /// How the program ends.
 #[derive(PartialEq, Eq, Debug, Drop)]
 pub enum Status {
-    /// The report was written whole.
+    /// What is printed was written whole.
     Done,
     /// The words have no form.
     Usage,
@@ -30,7 +30,7 @@ pub enum Status {
     BadPolicy(PolicyError),
     /// The script is refused.
     BadScript(ScriptError),
-    /// The report couldn't be written.
+    /// What is printed couldn't be written.
     WriteFault,
     /// There was no memory.
     NoMemory,

@@ -1,9 +1,9 @@
 //! The words with which the program is called.
 
-ghost use Rattle.std.specs.Prelude.{◌≡◌, ◌^◌, ◌-◌, map};
+ghost use Rattle.std.specs.Prelude.{◌≡◌, ◌^◌, ◌-◌, map, IfSome};
 ghost use Rattle.std.specs.Option.{option_map};
 ghost use Rattle.hist_model.specs.Words.{number_between, run_form, stress_form, three_words, five_words, form};
-ghost use Rattle.broker_app.specs.Forms.{form_of, texts};
+ghost use Rattle.broker_app.specs.Forms.{HasFewCalls, form_of, texts};
 
 use plain_words::number_between;
 
@@ -22,15 +22,16 @@ pub enum Form<'a> {
         workers: u8,
         cpus: u8,
     },
-    /// Play generated input.
+    /// Play generated input, of 1 to 4000 calls.
     Stress {
         from: u64,
-        count: u64,
+        count: u32,
     },
 }
 
 fn run_form<'a>(policy: &'a str, script: &'a str, workers: &str, cpus: &str) -> Option<Form<'a>>
-    ensures { option_map form_of result ≡ run_form policy.now script.now (number_between 0 16 workers.now) (number_between 0 16 cpus.now) }
+    ensures meant { option_map form_of result ≡ run_form policy.now script.now (number_between 0 16 workers.now) (number_between 0 16 cpus.now) }
+    ensures few { IfSome result (λ f. HasFewCalls f) }
 {
     let workers = number_between(workers.as_bytes(), 0, 16)?;
     let cpus = number_between(cpus.as_bytes(), 0, 16)?;
@@ -43,15 +44,20 @@ fn run_form<'a>(policy: &'a str, script: &'a str, workers: &str, cpus: &str) -> 
 }
 
 fn stress_form<'a>(from: &str, count: &str) -> Option<Form<'a>>
-    ensures { option_map form_of result ≡ stress_form (number_between 0 (2 ^ 64 - 1) from.now) (number_between 1 4000 count.now) }
+    ensures meant { option_map form_of result ≡ stress_form (number_between 0 (2 ^ 64 - 1) from.now) (number_between 1 4000 count.now) }
+    ensures few { IfSome result (λ f. HasFewCalls f) }
 {
     let from = number_between(from.as_bytes(), 0, u64::MAX)?;
     let count = number_between(count.as_bytes(), 1, 4000)?;
-    Some(Form::Stress { from, count })
+    Some(Form::Stress {
+        from,
+        count: count as u32,
+    })
 }
 
 fn three_words<'a>(command: &str, a: &'a str, b: &'a str) -> Option<Form<'a>>
-    ensures { option_map form_of result ≡ three_words command.now a.now b.now }
+    ensures meant { option_map form_of result ≡ three_words command.now a.now b.now }
+    ensures few { IfSome result (λ f. HasFewCalls f) }
 {
     if command.as_bytes() == b"play".as_slice() {
         Some(Form::Play {
@@ -66,7 +72,8 @@ fn three_words<'a>(command: &str, a: &'a str, b: &'a str) -> Option<Form<'a>>
 }
 
 fn five_words<'a>(command: &str, a: &'a str, b: &'a str, c: &str, d: &str) -> Option<Form<'a>>
-    ensures { option_map form_of result ≡ five_words command.now a.now b.now c.now d.now }
+    ensures meant { option_map form_of result ≡ five_words command.now a.now b.now c.now d.now }
+    ensures few { IfSome result (λ f. HasFewCalls f) }
 {
     if command.as_bytes() == b"run".as_slice() {
         run_form(a, b, c, d)
@@ -77,7 +84,8 @@ fn five_words<'a>(command: &str, a: &'a str, b: &'a str, c: &str, d: &str) -> Op
 
 /// The form of the words, if they have one.
 pub fn read_form(words: &[String]) -> Option<Form<'_>>
-    ensures { option_map form_of result ≡ form (texts words.now) }
+    ensures meant { option_map form_of result ≡ form (texts words.now) }
+    ensures few { IfSome result (λ f. HasFewCalls f) }
 {
     if let [command, a, b] = words {
         return three_words(command.as_str(), a.as_str(), b.as_str());

@@ -16,6 +16,16 @@ const SCRIPT: &str =
 const REPORT: &str =
     "journal 15\n0 - spawn 0 pid=1 new\n1 t0 poke 65536 2f6e756c6c00\n2 t0 call mknod 65536 8630 259 0 0 0 notify id=1\n3 w0 recv id=1 pid=1\n4 w0 open-mem 1 ok\n5 w0 open-base 1 -100 ok\n6 w0 check 1 ok\n7 w0 read 65536 256 2f6e756c6c\n8 w0 check 1 ok\n9 w0 act mknod \"/null\" chr 1:3 ok\n10 w0 send 1 0 ok\n11 w0 let-go\n12 t0 resume 0\n13 t0 exit\n14 listener close\ncalls 1\n2 t0 pid=1 mknod 0\naudit 1\n3 w0 id=1 mknod rule=lxd.mknod.1:3 verdict=grant answer=0 reply=sent\nsummary events=15 calls=1 notified=1 answered=1 granted=1 denied=0 passed=0 injected=0 faults=0 gone=0 lost=0\n";
 
+/// The words that play this script under this policy.
+const PLAY: [&'static str; 3] = ["play", "p", "s"];
+
+/// The words that play generated input of three calls: one is passed, one is granted, and the task of one is killed.
+const STRESS: [&'static str; 3] = ["stress", "7", "3"];
+
+/// Its summary, worked out by hand.
+const SUMMARY: &str =
+    "summary events=40 calls=3 notified=3 answered=2 granted=1 denied=0 passed=1 injected=0 faults=0 gone=1 lost=0\n";
+
 /// The size of the sinks, in bytes.
 const ROOM: usize = 8192;
 
@@ -36,10 +46,11 @@ struct Want<'a> {
     report: &'a str,
 }
 
-/// `play p s`, where this call of the files and this write to `out` fail; none is the call 0.
+/// The program with these words, where this call of the files and this write to `out` fail; none is the call 0.
 fn check<R: Abort>(
     rt: &R,
     alloc: Global,
+    command: [&'static str; 3],
     failing_call: u64,
     failing_write: u64,
     want: Want<'_>,
@@ -49,7 +60,7 @@ fn check<R: Abort>(
     let mut out = MemSink::new(alloc, ROOM, vec![in alloc; failing_write]?)?;
     let mut err = MemSink::new(alloc, ROOM, Vec::new(alloc))?;
     let mut words = Vec::new(alloc);
-    for word in ["play", "p", "s"] {
+    for word in command {
         words.push(String::from_str(alloc, word)?)?;
     }
     let status = broker(alloc, words.as_slice(), &mut files, &mut out, &mut err);
@@ -88,7 +99,7 @@ fn prints_the_report(rt: HostRuntime) -> Result<(), Fail> {
         line: "",
         report: REPORT,
     };
-    check(&rt, rt.alloc(), 0, 0, whole)
+    check(&rt, rt.alloc(), PLAY, 0, 0, whole)
 }
 
 #[test]
@@ -96,18 +107,30 @@ fn names_the_file_that_a_call_failed_on(rt: HostRuntime) -> Result<(), Fail> {
     // The first call opens the policy, the next two read it, and then comes the script.
     for call in 1..4 {
         let want = read_fault(InputFile::Policy, "read fault: policy\n");
-        check(&rt, rt.alloc(), call, 0, want)?;
+        check(&rt, rt.alloc(), PLAY, call, 0, want)?;
     }
     for call in 4..7 {
         let want = read_fault(InputFile::Script, "read fault: script\n");
-        check(&rt, rt.alloc(), call, 0, want)?;
+        check(&rt, rt.alloc(), PLAY, call, 0, want)?;
     }
     Ok(())
 }
 
 #[test]
 fn leaves_a_prefix_where_a_write_fails(rt: HostRuntime) -> Result<(), Fail> {
-    check(&rt, rt.alloc(), 0, 1, write_fault(""))?;
+    check(&rt, rt.alloc(), PLAY, 0, 1, write_fault(""))?;
     let two_lines = "journal 15\n0 - spawn 0 pid=1 new\n";
-    check(&rt, rt.alloc(), 0, 3, write_fault(two_lines))
+    check(&rt, rt.alloc(), PLAY, 0, 3, write_fault(two_lines))
+}
+
+#[test]
+fn prints_the_summary_of_generated_input(rt: HostRuntime) -> Result<(), Fail> {
+    let whole = Want {
+        status: Status::Done,
+        code: 0,
+        line: "",
+        report: SUMMARY,
+    };
+    check(&rt, rt.alloc(), STRESS, 0, 0, whole)?;
+    check(&rt, rt.alloc(), STRESS, 0, 1, write_fault(""))
 }

@@ -3,7 +3,7 @@ use Rattle.hist_model.specs.ReportJournal.{journal}
 use Rattle.hist_model.specs.ReportCalls.{calls}
 use Rattle.audit_log.proofs.Writing.{wrote_more}
 use Rattle.broker_app.proofs.Ends.{wrote_stopped}
-use Rattle.broker_app.proofs.broker.write_events.Goals as goal
+use Rattle.broker_app.proofs.printing.write_events.Goals as goal
 
 pub returns-in_err-write_journal : goal.returns-in_err-write_journal
 returns-in_err-write_journal g c =

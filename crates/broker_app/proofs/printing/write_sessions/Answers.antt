@@ -4,7 +4,7 @@ use Rattle.hist_model.specs.ReportJournal.{journal}
 use Rattle.hist_model.specs.ReportCalls.{calls}
 use Rattle.hist_model.specs.ReportAudit.{audit, judging_by}
 use Rattle.broker_app.proofs.Ends.{wrote_stopped, wrote_next}
-use Rattle.broker_app.proofs.broker.write_sessions.Goals as goal
+use Rattle.broker_app.proofs.printing.write_sessions.Goals as goal
 
 pub returns-in_err-write_events : goal.returns-in_err-write_events
 returns-in_err-write_events g c =

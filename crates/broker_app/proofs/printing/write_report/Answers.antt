@@ -1,11 +1,11 @@
-use Rattle.std.proofs.Common.{rules, ◌≡◌, ◌++◌, Err, ap}
-use Rattle.hist_model.specs.declared.policy.Policy.{Policy}
+use Rattle.std.proofs.Common.{rules, ◌≡◌, ◌++◌, Err}
 use Rattle.hist_model.specs.ReportJournal.{journal}
 use Rattle.hist_model.specs.ReportCalls.{calls}
 use Rattle.hist_model.specs.ReportAudit.{audit, judging_by}
 use Rattle.hist_model.specs.Report.{summary}
-use Rattle.broker_app.proofs.Ends.{wrote_stopped, wrote_next}
-use Rattle.broker_app.proofs.broker.write_report.Goals as goal
+use Rattle.audit_log.proofs.Writing.{wrote_more}
+use Rattle.broker_app.proofs.Ends.{wrote_stopped}
+use Rattle.broker_app.proofs.printing.write_report.Goals as goal
 
 pub returns-in_err-write_sessions : goal.returns-in_err-write_sessions
 returns-in_err-write_sessions g c =
@@ -16,4 +16,4 @@ returns-in_err-write_sessions g c =
 pub returns : goal.returns
 returns g c =
     let K = c.args.history.now.events in
-    wrote_next _ _ _ _ _ _ _ (ap (λ (p : Policy). summary (judging_by p.rules) K) c.new.ensures) c.in_ok-write_sessions.ensures c.write_summary.ensures
+    wrote_more _ _ _ _ (summary (judging_by c.args.policy.now.rules) K) _ c.in_ok-write_sessions.ensures c.write_last_line.ensures
