@@ -1,0 +1,298 @@
+//! The listener of a kernel.
+
+ghost use Rattle.std.specs.Prelude.{◌≡◌, ◌↔◌, ℕ, ◌+◌, ◌%◌, ◌^◌, ◌<◌, ◌≤◌, List, [], ◌∷◌, Option, Some, None, Ok, Err, Result, IfOk, OnOk, OnErr, IfSome, IsOk, true, false};
+ghost use Rattle.hist_model.specs.Calls.{calls, count, fetched, is_call, id as id_at, listed, named, queue, state_at};
+ghost use Rattle.hist_model.specs.Steps.{check_answer, oldest_unfetched, put_answer, request_of, send_answer, take_step, install_at, request_listed};
+ghost use Rattle.hist_model.specs.Systems.{System};
+ghost use Rattle.hist_model.specs.declared.event.Event.{Event};
+ghost use Rattle.hist_model.specs.declared.event.Actor.TheVariants.{Worker};
+ghost use Rattle.hist_model.specs.declared.notification.State.TheVariants.{Fetched as FetchedState};
+ghost use Rattle.hist_model.specs.declared.event.What.TheVariants.{AddfdPut, Recv, Send};
+ghost use Rattle.addfd.specs.Puts.{is_known};
+ghost use Rattle.addfd.specs.Requests.{has_request};
+ghost use Rattle.addfd.specs.Stands.{is_asking, oldest_in, take_of};
+ghost use Rattle.notif_queue.specs.Stands.{IsEntry, IsLeaving, IsNext, IsReceipt};
+ghost use Rattle.notif_queue.specs.Stands as calls_stand;
+ghost use Rattle.notif_queue.specs.Table as rooms;
+ghost use Rattle.notif_queue.specs.declared.queue.FetchError.TheVariants.{Empty, Gone};
+ghost use Rattle.addfd.specs.declared.requests.TakeError.TheVariants.{Pending};
+ghost use Rattle.sys_abi.specs.Errnos.{enoent};
+ghost use Rattle.hist_model.specs.Kinds.{closes};
+ghost use Rattle.listener.specs.Replies.{reply_of, back_of, is_answered, was_fetched};
+ghost use Rattle.listener.specs.Stands.{StandsFor, IsListedAs, IsSettledBy, IsInstall};
+
+use addfd::{Requests, TakeError, admit_put};
+use hist_model::event::Back;
+use hist_model::notification::{Fetched, Reply, State};
+use hist_model::request::TaskRef;
+use notif_ioctl::{admit_send, check_valid};
+use notif_queue::{FetchError, Queue};
+use std::alloc::Global;
+use sys_abi::errno::Errno;
+use sys_abi::memory::NoMemory;
+use sys_abi::wire::{Addfd, SECCOMP_ADDFD_FLAG_SEND};
+
+/// The listed calls of a listener, and the requests for descriptors of workers 0 to 16.
+#[derive(Drop)]
+pub struct Listener {
+    queue: Queue,
+    requests: Requests,
+}
+
+/// The reply of a call that is answered so.
+fn reply_of(back: Back) -> Reply
+    ensures { result ≡ reply_of back }
+{
+    match back {
+        Back::Value(value) => Reply::Value(value),
+        Back::Fail(errno) => Reply::Fail(errno),
+        Back::Continue => Reply::Continue,
+    }
+}
+
+/// How a call with this reply returns; none where its descriptor isn't installed yet.
+fn back_of(reply: Reply) -> Option<Back>
+    ensures { result ≡ back_of reply }
+{
+    match reply {
+        Reply::Value(value) => Some(Back::Value(value)),
+        Reply::Fail(errno) => Some(Back::Fail(errno)),
+        Reply::Continue => Some(Back::Continue),
+        Reply::Installing => None,
+    }
+}
+
+/// A call of this state was answered.
+fn is_answered(state: Option<State>) -> bool
+    ensures { result ≡ is_answered state }
+{
+    matches!(state, Some(State::Answered))
+}
+
+/// The notification of a call of this state was received.
+fn was_fetched(state: Option<State>) -> bool
+    ensures { result ≡ was_fetched state }
+{
+    matches!(state, Some(State::Fetched | State::Answered))
+}
+
+/// Notes a request, which was taken: one with SECCOMP_ADDFD_FLAG_SEND answers its call.
+fn note_put(queue: &mut Queue, asked: &Addfd)
+    requires { rooms.state_found queue.old asked.now.id ≡ Some FetchedState }
+    ensures { (first : ℕ) (K : List Event) (e : Event) → calls_stand.StandsFor first K queue.old → state_at K (named K asked.now.id) ≡ Some FetchedState → e.what ≡ AddfdPut asked.now (Ok tt) → calls_stand.StandsFor first (e ∷ K) queue.new }
+{
+    if asked.flags >= SECCOMP_ADDFD_FLAG_SEND {
+        queue.answer(asked.id, Reply::Installing);
+    }
+}
+
+/// Notes what the installation of a request, the oldest one of the listed call with this id, answered.
+fn note_installation(queue: &mut Queue, id: u64, asked: &Addfd, answer: &Result<u32, Errno>)
+    ensures { (first : ℕ) (K : List Event) (e : Event) (c w : ℕ) → calls_stand.StandsFor first K queue.old → IsListedAs K c id → IsInstall K e c w asked.now answer.now → calls_stand.StandsFor first (e ∷ K) queue.new }
+{
+    if asked.flags >= SECCOMP_ADDFD_FLAG_SEND {
+        note_answer(queue, id, answer);
+    }
+}
+
+/// Notes what the installation answered of the descriptor that is to answer the call with this id.
+fn note_answer(queue: &mut Queue, id: u64, answer: &Result<u32, Errno>)
+    ensures { (first : ℕ) (K : List Event) (e : Event) → calls_stand.StandsFor first K queue.old → calls_stand.IsInstall K e id answer.now → calls_stand.StandsFor first (e ∷ K) queue.new }
+{
+    match answer {
+        Ok(number) => queue.installed(id, *number),
+        Err(_) => queue.reopen(id),
+    }
+}
+
+impl Listener {
+    /// A listener without calls, whose first notification will have this id.
+    pub fn new(alloc: Global, first: u64) -> Result<Listener, NoMemory>
+        ensures { IfOk result (λ l. StandsFor first [] l) }
+    {
+        Ok(Listener {
+            queue: Queue::new(alloc, first),
+            requests: Requests::new(alloc)?,
+        })
+    }
+
+    /// Whether an id is valid (SECCOMP_IOCTL_NOTIF_ID_VALID): ENOENT exactly where it names no call that was received and
+    /// waits for its answer.
+    pub fn check(&self, id: u64) -> Result<(), Errno>
+        ensures { (first : ℕ) (K : List Event) → StandsFor first K self.now → result ≡ check_answer K (named K id) }
+    {
+        check_valid(self.queue.state_of(id))
+    }
+
+    /// Receives the notification of the oldest call that wasn't received (SECCOMP_IOCTL_NOTIF_RECV). `Empty` comes exactly
+    /// where the count of requests is 0, and leaves all as it was; `Gone` where it isn't and there is no such call, which
+    /// lowers the count.
+    pub fn receive(&mut self) -> Result<Fetched, FetchError>
+        ensures next { IfOk result (λ f. (first : ℕ) (K : List Event) → StandsFor first K self.old → (0 < count K) × IsNext K f) }
+        ensures step { IfOk result (λ f. (first : ℕ) (K : List Event) (e : Event) → StandsFor first K self.old → IsReceipt e f.id → StandsFor first (e ∷ K) self.new) }
+        ensures gone { result ≡ Err Gone → (first : ℕ) (K : List Event) → StandsFor first K self.old → (0 < count K) × (oldest_unfetched K ≡ None) }
+        ensures gone_step { result ≡ Err Gone → (first : ℕ) (K : List Event) (e : Event) → StandsFor first K self.old → e.what ≡ Recv (Err enoent) → StandsFor first (e ∷ K) self.new }
+        ensures empty { result ≡ Err Empty → (first : ℕ) (K : List Event) → StandsFor first K self.old → count K ≡ 0 }
+        ensures same { result ≡ Err Empty → self.new ≡ self.old }
+        ensures room { rooms.HasRoom self.old.queue → rooms.HasRoom self.new.queue }
+    {
+        self.queue.fetch()
+    }
+
+    /// Answers the call with this id (SECCOMP_IOCTL_NOTIF_SEND): ENOENT exactly where no listed call has it, EINPROGRESS where
+    /// its notification wasn't received, or it was answered. An answer that isn't taken leaves all as it was.
+    pub fn send(&mut self, id: u64, back: Back) -> Result<(), Errno>
+        ensures answer { (first : ℕ) (K : List Event) → StandsFor first K self.old → result ≡ send_answer K (named K id) }
+        ensures step { (first : ℕ) (K : List Event) (e : Event) → StandsFor first K self.old → e.what ≡ Send id back result → StandsFor first (e ∷ K) self.new }
+        ensures refused { OnErr result (self.new ≡ self.old) }
+    {
+        match admit_send(self.queue.state_of(id)) {
+            Ok(()) => {
+                self.queue.answer(id, reply_of(back));
+                Ok(())
+            }
+            Err(error) => Err(error),
+        }
+    }
+
+    /// Whether a worker has a request for a descriptor.
+    pub fn has_request(&self, worker: u8) -> bool
+        ensures has { result ≡ has_request self.now.requests worker }
+        ensures stands { (first : ℕ) (K : List Event) → StandsFor first K self.now → result ≡ is_asking (request_of K worker) }
+    {
+        self.requests.has_request(worker)
+    }
+
+    /// Asks for a descriptor in the caller of the call that the request's id names (SECCOMP_IOCTL_NOTIF_ADDFD): ENOENT exactly
+    /// where there is none, EINPROGRESS where its notification wasn't received, or it was answered, and EBUSY for a request
+    /// with SECCOMP_ADDFD_FLAG_SEND where another of the call's isn't installed yet. The worker has no request, and the flags
+    /// are known. A request that isn't taken leaves all as it was.
+    pub fn put(&mut self, worker: u8, asked: Addfd) -> Result<(), Errno>
+        requires worker { worker ≤ 16 }
+        requires free { has_request self.old.requests worker ≡ false }
+        requires known { is_known asked ≡ true }
+        ensures answer { (S : System) (first : ℕ) (K : List Event) → StandsFor first K self.old → result ≡ put_answer S K asked (named K asked.id) }
+        ensures step { (first : ℕ) (K : List Event) (e : Event) → StandsFor first K self.old → e.who ≡ Worker worker → e.what ≡ AddfdPut asked result → StandsFor first (e ∷ K) self.new }
+        ensures refused { OnErr result (self.new ≡ self.old) }
+    {
+        let state = self.queue.state_of(asked.id);
+        match admit_put(&asked, state, self.requests.queued(asked.id)) {
+            Ok(()) => {
+                note_put(&mut self.queue, &asked);
+                self.requests.put(worker, asked);
+                Ok(())
+            }
+            Err(error) => Err(error),
+        }
+    }
+
+    /// Takes what came of a worker's request, which it has (SECCOMP_IOCTL_NOTIF_ADDFD): the number that was installed, or
+    /// `Fault` with the errno with which the installation failed. Without an installation `Pending` exactly where the
+    /// request's call is listed, which leaves all as it was; else `Fault(ENOENT)`.
+    pub fn take(&mut self, worker: u8) -> Result<u32, TakeError>
+        requires { has_request self.old.requests worker ≡ true }
+        ensures answer { (first : ℕ) (K : List Event) → StandsFor first K self.old → take_of result ≡ take_step (install_at K (request_of K worker)) (request_listed K (request_of K worker)) }
+        ensures step { (first : ℕ) (K : List Event) (e : Event) → StandsFor first K self.old → e.who ≡ Worker worker → e.what ≡ take_of result → StandsFor first (e ∷ K) self.new }
+        ensures queue { self.new.queue ≡ self.old.queue }
+    {
+        let listed = self.is_asked_call_listed(worker);
+        self.requests.take(worker, listed)
+    }
+
+    /// Whether the call is listed for which a worker, which has a request, asked for a descriptor.
+    fn is_asked_call_listed(&self, worker: u8) -> bool
+        requires { has_request self.now.requests worker ≡ true }
+        ensures { (first : ℕ) (K : List Event) → StandsFor first K self.now → result ≡ request_listed K (request_of K worker) }
+    {
+        let Some(asked) = self.requests.asked_by(worker) else {
+            unreachable!()
+        };
+        self.queue.state_of(asked.id).is_some()
+    }
+
+    /// Makes room for one `enter`. There is none for the 2^64-th call.
+    pub fn ready(&mut self) -> Result<(), NoMemory>
+        ensures room { OnOk result (rooms.HasRoom self.new.queue) }
+        ensures had_room { rooms.HasRoom self.old.queue → IsOk result }
+        ensures calls { rooms.SameCalls self.old.queue self.new.queue }
+        ensures requests { self.new.requests ≡ self.old.requests }
+        ensures stands { (first : ℕ) (K : List Event) → StandsFor first K self.old ↔ StandsFor first K self.new }
+    {
+        self.queue.ready()
+    }
+
+    /// Lists a call of this task, for which there is room, and gives its id: the ids count from the first one on.
+    pub fn enter(&mut self, owner: TaskRef) -> u64
+        requires { rooms.HasRoom self.old.queue }
+        ensures id { (first : ℕ) (K : List Event) → StandsFor first K self.old → result ≡ (first + calls K) % 2 ^ 64 }
+        ensures step { (first : ℕ) (K : List Event) (e : Event) → StandsFor first K self.old → IsEntry K e owner result → StandsFor first (e ∷ K) self.new }
+    {
+        let Ok(id) = self.queue.enter(owner) else {
+            unreachable!()
+        };
+        id
+    }
+
+    /// How the listed call with this id returns, where it was settled: answered, and with its descriptor installed where it
+    /// was answered by a request for one.
+    pub fn settled_back(&self, id: u64) -> Option<Back>
+        ensures { (first : ℕ) (K : List Event) (c : ℕ) → StandsFor first K self.now → IsListedAs K c id → IsSettledBy K c result }
+    {
+        if is_answered(self.queue.state_of(id)) {
+            back_of(self.queue.reply_of(id))
+        } else {
+            None
+        }
+    }
+
+    /// Whether the notification of the listed call with this id was received.
+    pub fn was_received(&self, id: u64) -> bool
+        ensures { (first : ℕ) (K : List Event) (c : ℕ) → StandsFor first K self.now → IsListedAs K c id → result ≡ fetched K c }
+    {
+        was_fetched(self.queue.state_of(id))
+    }
+
+    /// The oldest request for the listed call with this id that isn't installed, with its worker: None exactly where there is
+    /// none.
+    pub fn next_request(&self, id: u64) -> Option<(u8, Addfd)>
+        ensures stands { (first : ℕ) (K : List Event) (c : ℕ) → StandsFor first K self.now → IsListedAs K c id → result ≡ oldest_in K (queue K c) }
+        ensures known { IfSome result (λ r. has_request self.now.requests r.0 ≡ true) }
+    {
+        self.requests.oldest(id)
+    }
+
+    /// Notes what the installation of a worker's request, the oldest one of the listed call with this id, answered. Where the
+    /// request has SECCOMP_ADDFD_FLAG_SEND the number is what the call returns, and after a failed one the call waits for an
+    /// answer again.
+    pub fn installed(&mut self, id: u64, worker: u8, asked: &Addfd, answer: Result<u32, Errno>)
+        requires { has_request self.old.requests worker ≡ true }
+        ensures { (first : ℕ) (K : List Event) (e : Event) (c : ℕ) → StandsFor first K self.old → IsListedAs K c id → IsInstall K e c worker asked.now answer → StandsFor first (e ∷ K) self.new }
+    {
+        note_installation(&mut self.queue, id, asked, &answer);
+        self.requests.done(worker, answer);
+    }
+
+    /// Takes the listed call with this id off the list, since its task resumes or has a delivery in it.
+    pub fn leave(&mut self, id: u64)
+        ensures { (first : ℕ) (K : List Event) (e : Event) → StandsFor first K self.old → IsLeaving K e id → StandsFor first (e ∷ K) self.new }
+    {
+        if self.queue.state_of(id).is_some() {
+            self.queue.finish(id);
+        }
+    }
+
+    /// Takes all calls off the list, since the listener closes.
+    pub fn close(&mut self)
+        ensures { (first : ℕ) (K : List Event) (e : Event) → StandsFor first K self.old → closes e.what ≡ true → StandsFor first (e ∷ K) self.new }
+    {
+        self.queue.close();
+    }
+
+    /// Whether no call is listed.
+    pub fn is_idle(&self) -> bool
+        ensures none { result ≡ true → (first : ℕ) (K : List Event) → StandsFor first K self.now → (c : ℕ) → listed K c ≡ false }
+        ensures some { result ≡ false → (first : ℕ) (K : List Event) → StandsFor first K self.now → (c : ℕ) × (listed K c ≡ true) }
+    {
+        self.queue.is_empty()
+    }
+}
