@@ -1,0 +1,4 @@
+pub mod Frames
+pub mod Kept
+pub mod Counted
+pub mod Times
