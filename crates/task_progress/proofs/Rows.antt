@@ -1,0 +1,182 @@
+-- The row of a task after an event: as it was where the event leaves the task, and after the task's own step.
+-- Field by field, by the lemmas of `Frames`, and by what `StepFacts` tells of each kind of step.
+use Rattle.std.proofs.Common.{◌≡◌, ℕ, zero, suc, ◌+◌, ◌-◌, ◌<◌, ◌≤◌, ◌^◌, Bool, true, false, ◌&&◌, ◌||◌, List, [], ◌∷◌, length, Option, Some, None, refl, sym, ap, ◌∙◌, subst, arith}
+use Rattle.std.specs.Prelude.{if◌then◌else◌, slice_get, IsSome}
+use Rattle.std.proofs.lemmas.Bool.{both_ways, cases_Bool, or_left, or_right, or_cases}
+use Rattle.hist_model.specs.Look.{Name, name_eq, is_task, ev}
+use Rattle.hist_model.specs.Kinds.{ends, enters, owes, skips, closes, makes}
+use Rattle.hist_model.specs.Legal.{system_of}
+use Rattle.hist_model.specs.Memory.{group_named, last_call}
+use Rattle.hist_model.specs.Programs.{program, program_at}
+use Rattle.hist_model.specs.Signals.{call_of}
+use Rattle.hist_model.specs.Steps.{steps_of, counts, recounts, is_spawn, owes_native, next_instr}
+use Rattle.hist_model.specs.declared.event.Event.{Event}
+use Rattle.hist_model.specs.declared.event.Actor.{Actor}
+use Rattle.hist_model.specs.declared.event.Actor.TheVariants.{Task}
+use Rattle.hist_model.specs.declared.event.Delivered.TheVariants.{Restart}
+use Rattle.hist_model.specs.declared.event.What.{What}
+use Rattle.hist_model.specs.declared.event.What.TheVariants.{Spawn, Enter, Resume, Signal, Deliver, Reap, Exit, Skip, Handler, Poke, Native, Install, Close}
+use Rattle.hist_model.specs.declared.script.Instr.{Instr}
+use Rattle.hist_model.specs.declared.script.Instr.TheVariants.{Call}
+use Rattle.hist_model.specs.declared.script.Script.{Script}
+use Rattle.hist_model.proofs.Look.{name_eq-refl}
+use Rattle.history_frames.specs.Ordinals.{group_of}
+use Rattle.history_frames.proofs.Groups.{group-stays, group-named-kept}
+use Rattle.task_progress.specs.declared.row.EnteredCall.{EnteredCall}
+use Rattle.task_progress.specs.declared.row.Progress.{Progress}
+use Rattle.task_progress.specs.Rows.{IsAfter, call_after, entered_after, is_in, is_in_call}
+use Rattle.task_progress.specs.Stands.{IsTask, IsGroupOf, IsEntry, IsBehindCall, call_id, id_at, started_before, starts}
+use Rattle.task_progress.proofs.Frames.{Leaves, steps-left, owes-left, ended-left, last-left, call_id-left, steps-own, owes-own, ended-own, last-own, call-own}
+use Rattle.task_progress.proofs.StepFacts.{Facts, IsWaiting, IsNext, IsCounted}
+use Rattle.task_progress.proofs.Started.{started-yes, started-no}
+
+-- the group of a task that was made stays its own
+pub group-is-kept : (e : Event) (K : List Event) (n : Name) (o : ℕ) → IsGroupOf K n o → IsGroupOf (e ∷ K) n o
+group-is-kept e K n o h = (h.0, group-stays e K o h.0 h.1, group-named-kept e K n h.0 h.2)
+
+pub task-left : (S : Script) (e : Event) (K : List Event) (n : Name) (r : Progress) → Leaves e n → IsTask S K n r → IsTask S (e ∷ K) n r
+task-left S e K n r l i = record {
+  group_is = group-is-kept e K n r.group i.group_is;
+  program_is = i.program_is;
+  next_is = omega (arith, i.next_is, steps-left counts refl e K n l, steps-left recounts refl e K n l);
+  starts_are = i.starts_are ∙ sym (steps-left is_spawn refl e K n l);
+  call_is = i.call_is ∙ sym (call_id-left e K n l);
+  entered_is = subst (λ w. IsEntry r.entered w) (sym (last-left e K n l)) i.entered_is;
+  owes_is = i.owes_is ∙ sym (owes-left e K n l);
+  ended_is = i.ended_is ∙ sym (ended-left e K n l);
+  behind_call = i.behind_call;
+}
+
+-- ---- the task that takes the step
+
+-- no more steps are counted than there are events
+counts-one : (w : What) → counts w ≤ 1
+counts-one (Spawn n a) = omega arith
+counts-one (Poke a b) = omega arith
+counts-one (Handler s m) = omega arith
+counts-one (Enter nr args v) = omega arith
+counts-one (Signal p s a) = omega arith
+counts-one (Reap a) = omega arith
+counts-one w = omega arith
+
+counted-one : (b : Bool) (w : What) → (if b then counts w else 0) ≤ 1
+counted-one true w = counts-one w
+counted-one false w = omega arith
+
+pub counts-below : (K : List Event) (n : Name) → steps_of counts K n ≤ length K
+unfolding steps_of
+counts-below [] n = omega arith
+counts-below (e ∷ K) n = omega (arith, counts-below K n, counted-one (is_task e.who n) e.what)
+
+module _ (S : Script) (K : List Event) (n : Name) (r : Progress) (i : IsTask S K n r) where
+  waits-in : IsWaiting K n → is_in r.call ≡ true
+  waits-in h = let q : r.call ≡ Some _ = i.call_is ∙ ap (id_at K) h.1 in rw q refl
+
+  none-in : call_of K n ≡ None → is_in r.call ≡ false
+  none-in h = let q : r.call ≡ None = i.call_is ∙ ap (id_at K) h in rw q refl
+
+  behind-in : is_in r.call ≡ true → IsBehindCall (program S n) r.next r.entered
+  behind-in h = i.behind_call (or_left (is_in r.call) r.owes h)
+
+  pub entered-waiting : IsWaiting K n → IsSome r.entered
+  entered-waiting h = let b = behind-in (waits-in h) in rw b.3 refl
+
+  pub entered-owing : owes_native K n ≡ true → IsSome r.entered
+  entered-owing h = let b = i.behind_call (or_right (is_in r.call) r.owes (i.owes_is ∙ h)) in rw b.3 refl
+
+  pub next-at : (j : Instr) → next_instr (system_of S) K n ≡ Some j → slice_get (program S n) r.next ≡ Some j
+  next-at j h = let q : r.next ≡ steps_of counts K n - steps_of recounts K n = omega (arith, i.next_is) in ap (slice_get (program S n)) q ∙ h
+
+  pub next-is : next_instr (system_of S) K n ≡ slice_get (program_at S.programs (Some r.program)) r.next
+  next-is =
+      let q : steps_of counts K n - steps_of recounts K n ≡ r.next = omega (arith, i.next_is) in
+      ap (slice_get (program S n)) q ∙ ap (λ (body : List Instr). slice_get body r.next) i.program_is
+
+  recounts-below : (w : What) → Facts (system_of S) K n w → recounts w ≤ r.next
+  recounts-below (Deliver s Restart) f = let b = behind-in (waits-in f) in omega (arith, b.2)
+  recounts-below w f = omega arith
+
+  -- the instructions before the next one that start a task
+  counted-no : IsCounted (system_of S) K n false → started_before (program S n) (r.next + 1 - 0) ≡ started_before (program S n) r.next + 0
+  counted-no f = ap (started_before (program S n)) (omega arith) ∙ (started-no (program S n) r.next f.0 (next-at f.0 f.1.1) f.2 ∙ omega arith)
+
+  stays-at : started_before (program S n) (r.next + 0 - 0) ≡ started_before (program S n) r.next + 0
+  stays-at = let q : r.next + 0 - 0 ≡ r.next = omega arith in rw q (omega arith)
+
+  goes-back : IsBehindCall (program S n) r.next r.entered → started_before (program S n) (r.next + 0 - 1) ≡ started_before (program S n) r.next + 0
+  goes-back b =
+      let here = started-no (program S n) b.0 (Call b.1.nr b.1.args) b.4 refl in
+      ap (started_before (program S n)) (omega (arith, b.2)) ∙ (sym here ∙ (ap (started_before (program S n)) (sym b.2) ∙ omega arith))
+
+  starts-own : (w : What) → Facts (system_of S) K n w → started_before (program S n) (r.next + counts w - recounts w) ≡ started_before (program S n) r.next + is_spawn w
+  starts-own (Spawn m a) f = ap (started_before (program S n)) (omega arith) ∙ started-yes (program S n) r.next f.0 (next-at f.0 f.1.1) f.2
+  starts-own (Poke a b) f = counted-no f
+  starts-own (Handler s m) f = counted-no f
+  starts-own (Signal p s a) f = counted-no f
+  starts-own (Reap a) f = counted-no f
+  starts-own (Enter nr args v) f = counted-no (Call nr args, f, refl)
+  starts-own (Deliver s Restart) f = goes-back (behind-in (waits-in f))
+  starts-own w f = stays-at
+
+  -- a task in a call stands behind the call that it entered
+  out-of-call : {A : Type 0} → call_of K n ≡ None → (is_in r.call || false) ≡ true → A
+  out-of-call q h = let z = none-in q in let h' : (false || false) ≡ true = rw z at h in cc
+
+  still-behind : IsBehindCall (program S n) r.next r.entered → IsBehindCall (program S n) (r.next + 0 - 0) r.entered
+  still-behind b = (b.0, b.1, omega (arith, b.2), b.3, b.4)
+
+  still-in : (is_in r.call || false) ≡ true → IsBehindCall (program S n) (r.next + 0 - 0) r.entered
+  still-in h = still-behind (behind-in (from-or (is_in r.call) h))
+    where
+      from-or : (b : Bool) → (b || false) ≡ true → b ≡ true
+      from-or b h = grind arith
+
+  behind-own : (w : What) → Facts (system_of S) K n w → (is_in (call_after w r.call) || (if skips w then r.owes else owes w)) ≡ true
+      → IsBehindCall (program S n) (r.next + counts w - recounts w) (entered_after w r.entered)
+  behind-own (Enter nr args v) f h = (r.next, record { nr = nr; args = args }, omega arith, refl, next-at (Call nr args) f.1)
+  behind-own (Spawn m a) f h = out-of-call f.1.0 h
+  behind-own (Poke a b) f h = out-of-call f.1.0 h
+  behind-own (Handler s m) f h = out-of-call f.1.0 h
+  behind-own (Signal p s a) f h = out-of-call f.1.0 h
+  behind-own (Reap a) f h = out-of-call f.1.0 h
+  behind-own (Resume back) f h = still-behind (behind-in (waits-in f))
+  behind-own (Deliver s e) f h = absurd (cc)
+  behind-own (Native a) f h = still-in h
+  behind-own (Install a) f h = still-in h
+  behind-own Exit f h = still-in h
+  behind-own Skip f h = still-behind (i.behind_call h)
+  behind-own w f h = absurd f
+
+pub facts-close : (S : Script) (K : List Event) (n : Name) (w : What) → Facts (system_of S) K n w → closes w ≡ false
+facts-close S K n Close f = absurd f
+facts-close S K n w f = refl
+
+entry-own : (w old : What) (entered : Option EnteredCall) → IsEntry entered old → IsEntry (entered_after w entered) (if enters w then w else old)
+entry-own (Enter nr args v) old entered h = (v, refl)
+entry-own w old entered h = h
+
+in-same : (a b : Option ℕ) (c d : Bool) → a ≡ b → c ≡ d → (is_in a || c) ≡ true → (is_in b || d) ≡ true
+in-same a b c d p q h = rw (← p, ← q) h
+
+pub task-own : (S : Script) (K : List Event) (n : Name) (e : Event) (r q : Progress) → IsTask S K n r → e.who ≡ Task n → Facts (system_of S) K n e.what → IsAfter r e.what q → length (e ∷ K) < 2 ^ 64 → IsTask S (e ∷ K) n q
+task-own S K n e r q i who f a few =
+    let w = e.what in
+    let own : is_task e.who n ≡ true = rw who (name_eq-refl n) in
+    let room : r.next + counts w < 2 ^ 64 = omega (arith, i.next_is, counts-below K n, counts-one w) in
+    let next : q.next ≡ r.next + counts w - recounts w = a.next room in
+    let back : recounts w ≤ r.next = recounts-below S K n r i w f in
+    let call : call_id (e ∷ K) n ≡ call_after w (call_id K n) = subst (λ x. call_id (record { who = x; what = w } ∷ K) n ≡ call_after w (call_id K n)) (sym who) (call-own K n w (facts-close S K n w f)) in
+    record {
+      group_is = subst (λ g. IsGroupOf (e ∷ K) n g) (sym a.group) (group-is-kept e K n r.group i.group_is);
+      program_is = i.program_is ∙ ap (λ p. program_at S.programs (Some p)) (sym a.program);
+      next_is = omega (arith, i.next_is, next, back, steps-own e K n own counts, steps-own e K n own recounts);
+      starts_are = ap (started_before (program S n)) next ∙ (starts-own S K n r i w f ∙ (ap (λ x. x + is_spawn w) i.starts_are ∙ sym (steps-own e K n own is_spawn)));
+      call_is = a.call ∙ (ap (call_after w) i.call_is ∙ sym call);
+      entered_is = subst (λ x. IsEntry x (last_call (e ∷ K) n)) (sym a.entered) (subst (λ x. IsEntry (entered_after w r.entered) x) (sym (last-own e K n own)) (entry-own w (last_call K n) r.entered i.entered_is));
+      owes_is = a.owes ∙ (ap (λ x. if skips w then x else owes w) i.owes_is ∙ sym (owes-own e K n own));
+      ended_is = a.ended ∙ (ap (λ x. ends w || x) i.ended_is ∙ sym (ended-own e K n own));
+      behind_call = λ h.
+          let h' = in-same q.call (call_after w r.call) q.owes (if skips w then r.owes else owes w) a.call a.owes h in
+          let b = behind-own S K n r i w f h' in
+          (b.0, b.1, next ∙ b.2, a.entered ∙ b.3, b.4);
+    }
