@@ -1,0 +1,4 @@
+pub mod Held
+pub mod Maps
+pub mod Rooms
+pub mod Stored
