@@ -1,6 +1,6 @@
 -- What the acts of a table make of it, after one row was put or one was added.
 -- By `stands-step`, `stands-spawn` and `stands-first`, with the counts of the tasks that haven't ended.
-use Rattle.std.proofs.Common.{◌≡◌, ℕ, ◌+◌, ◌-◌, ◌<◌, ◌≤◌, ◌^◌, Bool, true, false, ◌&&◌, ◌||◌, not, List, [], ◌∷◌, ◌++◌, length, set, Option, Some, None, refl, sym, ap, ◌∙◌, subst, arith}
+use Rattle.std.proofs.Common.{◌≡◌, ℕ, ◌+◌, ◌-◌, ◌<◌, ◌^◌, Bool, true, false, ◌&&◌, not, List, [], ◌∷◌, ◌++◌, length, set, Option, Some, None, refl, sym, ap, ◌∙◌, subst, arith}
 use Rattle.std.specs.Prelude.{if◌then◌else◌, Ok, count_by, slice_get}
 use Rattle.hist_model.specs.Kinds.{makes}
 use Rattle.hist_model.specs.Legal.{system_of}
@@ -14,7 +14,7 @@ use Rattle.hist_model.specs.declared.script.Script.{Script}
 use Rattle.history_frames.specs.Ordinals.{task_name_of}
 use Rattle.task_progress.specs.declared.row.Progress.{Progress}
 use Rattle.task_progress.specs.declared.table.TaskProgress.{TaskProgress}
-use Rattle.task_progress.specs.Rows.{HasRoom, SameTasks, IsAfter, IsPut, IsAdded, IsAdvanced, new_row, row_at, made, living, living_in, is_living, lives_in, one_if, one_ended}
+use Rattle.task_progress.specs.Rows.{HasRoom, SameTasks, IsAfter, IsAdded, IsAdvanced, new_row, row_at, made, living, living_in, is_living, lives_in, one_if}
 use Rattle.task_progress.specs.Stands.{StandsFor, IsStepOf, IsSpawn}
 use Rattle.task_progress.proofs.Lists.{one, count-put}
 use Rattle.task_progress.proofs.Stepped.{stands-step, stands-room}
@@ -23,23 +23,11 @@ use Rattle.task_progress.proofs.Counted.{living-step, living-added, living_in-ad
 
 -- ---- a step that makes no task
 
-module _ (old new : TaskProgress) (o : ℕ) (w : What) (r q : Progress) (at : row_at old o ≡ Some r) (a : IsAfter r w q) (put : new.rows.items ≡ set old.rows.items o q) where
-  -- the number of tasks that haven't ended, one less where the step ended its task
-  ended-now : old.living ≡ living old → q.ended ≡ true → r.ended ≡ false → new.living ≡ old.living - 1 → new.living ≡ living new
-  ended-now s t f h = let l = living-step old new o w r q at a put in h ∙ (ap (λ x. x - 1) s ∙ sym (l ∙ (rw (t, f))))
-
-  not-ended : old.living ≡ living old → (q.ended && not r.ended) ≡ false → new.living ≡ old.living → new.living ≡ living new
-  not-ended s f h = let l = living-step old new o w r q at a put in h ∙ (s ∙ sym (l ∙ (rw f)))
-
-pub stands-ended : (S : Script) (K : List Event) (e : Event) (old new : TaskProgress) (o : ℕ) (w : What) (r q : Progress) → StandsFor S K old → IsStepOf S K e o → e.what ≡ w → makes w ≡ false
-    → row_at old o ≡ Some r → IsAfter r w q → new.rows.items ≡ set old.rows.items o q → q.ended ≡ true → r.ended ≡ false → new.living ≡ old.living - 1 → StandsFor S (e ∷ K) new
-stands-ended S K e old new o w r q s p is m at a put t f h =
-    stands-step S K e old new o r q s p (ap makes is ∙ m) at (subst (λ x. IsAfter r x q) (sym is) a) put (ended-now old new o w r q at a put s.living_is t f h)
-
-pub stands-kept : (S : Script) (K : List Event) (e : Event) (old new : TaskProgress) (o : ℕ) (w : What) (r q : Progress) → StandsFor S K old → IsStepOf S K e o → e.what ≡ w → makes w ≡ false
-    → row_at old o ≡ Some r → IsAfter r w q → new.rows.items ≡ set old.rows.items o q → (q.ended && not r.ended) ≡ false → new.living ≡ old.living → StandsFor S (e ∷ K) new
-stands-kept S K e old new o w r q s p is m at a put f h =
-    stands-step S K e old new o r q s p (ap makes is ∙ m) at (subst (λ x. IsAfter r x q) (sym is) a) put (not-ended old new o w r q at a put s.living_is f h)
+pub stands-own : (S : Script) (K : List Event) (e : Event) (old new : TaskProgress) (o : ℕ) (w : What) (r q : Progress) (b : Bool) → StandsFor S K old → IsStepOf S K e o → e.what ≡ w → makes w ≡ false
+    → row_at old o ≡ Some r → IsAfter r w q → new.rows.items ≡ set old.rows.items o q → (q.ended && not r.ended) ≡ b → new.living ≡ (if b then old.living - 1 else old.living) → StandsFor S (e ∷ K) new
+stands-own S K e old new o w r q b s p is m at a put f h =
+    let count : new.living ≡ living new = h ∙ (ap (λ x. if b then x - 1 else x) s.living_is ∙ sym (living-step old new o w r q at a put ∙ ap (λ x. if x then living old - 1 else living old) f)) in
+    stands-step S K e old new o r q s p (ap makes is ∙ m) at (subst (λ x. IsAfter r x q) (sym is) a) put count
 
 -- ---- a step that makes a task
 

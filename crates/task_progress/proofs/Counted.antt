@@ -1,8 +1,8 @@
 -- How many tasks haven't ended, and how many of a group: after a step, and none where each task that was made has ended.
 -- By the sums over a list in which one row was put, or to which one was added.
-use Rattle.std.proofs.Common.{◌≡◌, inl, inr, ℕ, zero, suc, ◌+◌, ◌-◌, ◌<◌, ◌≤◌, ◌^◌, Bool, true, false, ◌&&◌, ◌||◌, not, List, [], ◌∷◌, ◌++◌, length, get_or, set, Option, Some, None, refl, sym, ap, ◌∙◌, arith}
+use Rattle.std.proofs.Common.{◌≡◌, inl, inr, ℕ, zero, suc, ◌+◌, ◌-◌, ◌<◌, ◌≤◌, Bool, true, false, ◌&&◌, ◌||◌, not, List, [], ◌∷◌, ◌++◌, length, get_or, set, Option, Some, None, refl, sym, ap, ◌∙◌, arith}
 use Rattle.std.specs.Prelude.{if◌then◌else◌, ◌==◌, ◌↔◌, slice_get, count_by}
-use Rattle.std.proofs.lemmas.Bool.{cases_Bool, and_parts, or_cases, both_ways, eq-eqb}
+use Rattle.std.proofs.lemmas.Bool.{and_parts, or_cases, eq-eqb}
 use Rattle.std.proofs.lemmas.List.Sums.{sum_by-cons, count_by-le-length}
 use Rattle.std.proofs.lemmas.Option.{slice_get-get_or}
 use Rattle.hist_model.specs.Look.{Name, name_eq, event_at}
@@ -13,11 +13,11 @@ use Rattle.hist_model.specs.declared.event.Event.{Event}
 use Rattle.hist_model.specs.declared.event.What.{What}
 use Rattle.hist_model.specs.declared.script.Script.{Script}
 use Rattle.hist_model.proofs.Look.{event_at-here, event_at-older, name_eq-true}
-use Rattle.history_frames.specs.Ordinals.{tasks_made, task_name_of, name_at, place_of}
+use Rattle.history_frames.specs.Ordinals.{tasks_made, task_name_of, name_at}
 use Rattle.history_frames.proofs.Ordinals.{make-place, makes-below, name-older, place-below}
 use Rattle.task_progress.specs.declared.row.Progress.{Progress}
 use Rattle.task_progress.specs.declared.table.TaskProgress.{TaskProgress}
-use Rattle.task_progress.specs.Rows.{HasRoom, IsAfter, SameTasks, living, living_in, is_living, lives_in, one_ended, one_if, made, row_at, ended_at, group_at, ended_in, group_in, new_row}
+use Rattle.task_progress.specs.Rows.{IsAfter, SameTasks, living, living_in, is_living, lives_in, one_ended, one_if, made, row_at, ended_at, group_at, ended_in, group_in, new_row}
 use Rattle.task_progress.specs.Stands.{StandsFor}
 use Rattle.task_progress.proofs.Lists.{one, count-put, count-added}
 use Rattle.task_progress.proofs.Stepped.{ordinal-made, row-there}

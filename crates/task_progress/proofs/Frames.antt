@@ -1,21 +1,21 @@
 -- What one more event changes of how far a task is: the steps counted, the call in which it waits, the call entered last, what it owes.
 -- By the one event that each definition looks at first; for the call, by the test of each place below the event.
-use Rattle.std.proofs.Common.{◌≡◌, inl, inr, ℕ, zero, suc, ◌+◌, ◌<◌, ◌≤◌, Bool, true, false, ◌&&◌, ◌||◌, not, List, [], ◌∷◌, length, Option, Some, None, refl, sym, ap, ◌∙◌, arith}
+use Rattle.std.proofs.Common.{◌≡◌, inl, inr, ℕ, zero, suc, ◌+◌, ◌<◌, Bool, true, false, ◌&&◌, ◌||◌, not, List, ◌∷◌, length, Option, Some, None, refl, ap, ◌∙◌, arith}
 use Rattle.std.specs.Prelude.{if◌then◌else◌}
-use Rattle.std.proofs.lemmas.Bool.{cases_Bool, and_parts, both_ways, false_from_ne_true}
+use Rattle.std.proofs.lemmas.Bool.{cases_Bool, false_from_ne_true}
 use Rattle.hist_model.specs.Look.{Name, name_eq, is_task, task_name, newest}
 use Rattle.hist_model.specs.Kinds.{ends, enters, owes, skips, leaves, closes, notifies}
 use Rattle.hist_model.specs.Calls.{listed, caller, id, unlists, notify_id}
 use Rattle.hist_model.specs.Memory.{last_call}
 use Rattle.hist_model.specs.Signals.{call_of}
-use Rattle.hist_model.specs.Steps.{steps_of, counts, owes_native}
+use Rattle.hist_model.specs.Steps.{steps_of, owes_native}
 use Rattle.hist_model.specs.Tasks.{ended}
 use Rattle.hist_model.specs.declared.event.Event.{Event}
 use Rattle.hist_model.specs.declared.event.Actor.TheVariants.{Task}
 use Rattle.hist_model.specs.declared.event.What.{What}
 use Rattle.hist_model.specs.declared.event.What.TheVariants.{Enter, Resume, Deliver, Skip}
 use Rattle.hist_model.specs.declared.event.Entered.TheVariants.{Notify}
-use Rattle.hist_model.proofs.Look.{name_eq-true, name_eq-refl, event_at-here, event_at-older, newest-some}
+use Rattle.hist_model.proofs.Look.{name_eq-true, name_eq-refl, event_at-here, newest-some}
 use Rattle.history_frames.proofs.Listed.{listed-here, listed-older, caller-older, id-older}
 use Rattle.task_progress.specs.Rows.{call_after}
 use Rattle.task_progress.specs.Stands.{call_id, id_at}

@@ -1,17 +1,16 @@
 -- The row of a task after an event: as it was where the event leaves the task, and after the task's own step.
 -- Field by field, by the lemmas of `Frames`, and by what `StepFacts` tells of each kind of step.
-use Rattle.std.proofs.Common.{◌≡◌, ℕ, zero, suc, ◌+◌, ◌-◌, ◌<◌, ◌≤◌, ◌^◌, Bool, true, false, ◌&&◌, ◌||◌, List, [], ◌∷◌, length, Option, Some, None, refl, sym, ap, ◌∙◌, subst, arith}
+use Rattle.std.proofs.Common.{◌≡◌, ℕ, ◌+◌, ◌-◌, ◌<◌, ◌≤◌, ◌^◌, Bool, true, false, ◌||◌, List, ◌∷◌, Option, Some, None, refl, sym, ap, ◌∙◌, subst, arith}
 use Rattle.std.specs.Prelude.{if◌then◌else◌, slice_get, IsSome}
-use Rattle.std.proofs.lemmas.Bool.{both_ways, cases_Bool, or_left, or_right, or_cases}
-use Rattle.hist_model.specs.Look.{Name, name_eq, is_task, ev}
-use Rattle.hist_model.specs.Kinds.{ends, enters, owes, skips, closes, makes}
+use Rattle.std.proofs.lemmas.Bool.{or_left, or_right}
+use Rattle.hist_model.specs.Look.{Name, is_task}
+use Rattle.hist_model.specs.Kinds.{ends, enters, owes, skips, closes}
 use Rattle.hist_model.specs.Legal.{system_of}
-use Rattle.hist_model.specs.Memory.{group_named, last_call}
+use Rattle.hist_model.specs.Memory.{last_call}
 use Rattle.hist_model.specs.Programs.{program, program_at}
 use Rattle.hist_model.specs.Signals.{call_of}
 use Rattle.hist_model.specs.Steps.{steps_of, counts, recounts, is_spawn, owes_native, next_instr}
 use Rattle.hist_model.specs.declared.event.Event.{Event}
-use Rattle.hist_model.specs.declared.event.Actor.{Actor}
 use Rattle.hist_model.specs.declared.event.Actor.TheVariants.{Task}
 use Rattle.hist_model.specs.declared.event.Delivered.TheVariants.{Restart}
 use Rattle.hist_model.specs.declared.event.What.{What}
@@ -20,14 +19,13 @@ use Rattle.hist_model.specs.declared.script.Instr.{Instr}
 use Rattle.hist_model.specs.declared.script.Instr.TheVariants.{Call}
 use Rattle.hist_model.specs.declared.script.Script.{Script}
 use Rattle.hist_model.proofs.Look.{name_eq-refl}
-use Rattle.history_frames.specs.Ordinals.{group_of}
 use Rattle.history_frames.proofs.Groups.{group-stays, group-named-kept}
 use Rattle.task_progress.specs.declared.row.EnteredCall.{EnteredCall}
 use Rattle.task_progress.specs.declared.row.Progress.{Progress}
-use Rattle.task_progress.specs.Rows.{IsAfter, call_after, entered_after, is_in, is_in_call}
-use Rattle.task_progress.specs.Stands.{IsTask, IsGroupOf, IsEntry, IsBehindCall, call_id, id_at, started_before, starts}
+use Rattle.task_progress.specs.Rows.{IsAfter, call_after, entered_after, is_in}
+use Rattle.task_progress.specs.Stands.{IsTask, IsGroupOf, IsEntry, IsBehindCall, call_id, id_at, started_before}
 use Rattle.task_progress.proofs.Frames.{Leaves, steps-left, owes-left, ended-left, last-left, call_id-left, steps-own, owes-own, ended-own, last-own, call-own}
-use Rattle.task_progress.proofs.StepFacts.{Facts, IsWaiting, IsNext, IsCounted}
+use Rattle.task_progress.proofs.StepFacts.{Facts, IsWaiting, IsCounted}
 use Rattle.task_progress.proofs.Started.{started-yes, started-no}
 
 -- the group of a task that was made stays its own
@@ -49,7 +47,7 @@ task-left S e K n r l i = record {
 
 -- ---- the task that takes the step
 
--- no more steps are counted than there are events
+-- an event counts at most one step
 counts-one : (w : What) → counts w ≤ 1
 counts-one (Spawn n a) = omega arith
 counts-one (Poke a b) = omega arith
@@ -63,10 +61,9 @@ counted-one : (b : Bool) (w : What) → (if b then counts w else 0) ≤ 1
 counted-one true w = counts-one w
 counted-one false w = omega arith
 
-pub counts-below : (K : List Event) (n : Name) → steps_of counts K n ≤ length K
+pub counts-more : (e : Event) (K : List Event) (n : Name) → steps_of counts (e ∷ K) n ≤ steps_of counts K n + 1
 unfolding steps_of
-counts-below [] n = omega arith
-counts-below (e ∷ K) n = omega (arith, counts-below K n, counted-one (is_task e.who n) e.what)
+counts-more e K n = omega (arith, counted-one (is_task e.who n) e.what)
 
 module _ (S : Script) (K : List Event) (n : Name) (r : Progress) (i : IsTask S K n r) where
   waits-in : IsWaiting K n → is_in r.call ≡ true
@@ -158,11 +155,11 @@ entry-own w old entered h = h
 in-same : (a b : Option ℕ) (c d : Bool) → a ≡ b → c ≡ d → (is_in a || c) ≡ true → (is_in b || d) ≡ true
 in-same a b c d p q h = rw (← p, ← q) h
 
-pub task-own : (S : Script) (K : List Event) (n : Name) (e : Event) (r q : Progress) → IsTask S K n r → e.who ≡ Task n → Facts (system_of S) K n e.what → IsAfter r e.what q → length (e ∷ K) < 2 ^ 64 → IsTask S (e ∷ K) n q
+pub task-own : (S : Script) (K : List Event) (n : Name) (e : Event) (r q : Progress) → IsTask S K n r → e.who ≡ Task n → Facts (system_of S) K n e.what → IsAfter r e.what q → steps_of counts K n + 1 < 2 ^ 64 → IsTask S (e ∷ K) n q
 task-own S K n e r q i who f a few =
     let w = e.what in
     let own : is_task e.who n ≡ true = rw who (name_eq-refl n) in
-    let room : r.next + counts w < 2 ^ 64 = omega (arith, i.next_is, counts-below K n, counts-one w) in
+    let room : r.next + counts w < 2 ^ 64 = omega (arith, i.next_is, few, counts-one w) in
     let next : q.next ≡ r.next + counts w - recounts w = a.next room in
     let back : recounts w ≤ r.next = recounts-below S K n r i w f in
     let call : call_id (e ∷ K) n ≡ call_after w (call_id K n) = subst (λ x. call_id (record { who = x; what = w } ∷ K) n ≡ call_after w (call_id K n)) (sym who) (call-own K n w (facts-close S K n w f)) in

@@ -1,37 +1,34 @@
 -- A table after a step that makes a task: its new row, that of the task that made it, and those that the step leaves.
 -- By `task-own` and `task-left` for the tasks that were there; nothing has happened yet to the new one.
-use Rattle.std.proofs.Common.{◌≡◌, ◌≢◌, inl, inr, ℕ, zero, suc, ◌+◌, ◌<◌, Bool, true, false, ◌&&◌, ◌||◌, not, List, [], ◌∷◌, ◌++◌, length, set, Option, Some, None, refl, sym, ap, ◌∙◌, subst, arith}
+use Rattle.std.proofs.Common.{◌≡◌, inl, inr, ℕ, ◌+◌, ◌<◌, Bool, true, false, ◌&&◌, ◌||◌, not, List, [], ◌∷◌, ◌++◌, length, set, Option, Some, None, refl, sym, ap, ◌∙◌, subst, arith}
 use Rattle.std.specs.Prelude.{slice_get, Ok, if◌then◌else◌, ◌-◌}
-use Rattle.std.proofs.lemmas.Bool.{both_ways, cases_eq, cases_Bool, and_from, and_parts, or_cases}
+use Rattle.std.proofs.lemmas.Bool.{both_ways, and_parts}
 use Rattle.std.proofs.lemmas.List.{length-set, length_push}
-use Rattle.std.proofs.lemmas.Option.{slice_get_within}
-use Rattle.hist_model.specs.Look.{Name, name_eq, is_task, task_name, event_at, oldest, or_else}
-use Rattle.hist_model.specs.Kinds.{makes, closes, notifies, skips, shares_now}
+use Rattle.hist_model.specs.Look.{Name, name_eq, task_name, event_at, oldest, or_else}
+use Rattle.hist_model.specs.Kinds.{makes, shares_now}
 use Rattle.hist_model.specs.Legal.{system_of}
-use Rattle.hist_model.specs.Memory.{group_named}
-use Rattle.hist_model.specs.Programs.{program, program_at, program_from, nth_started, started}
-use Rattle.hist_model.specs.Steps.{is_spawn, steps_of, next_child, next_instr, task_place, opened, group, place_or, makes_in, start}
-use Rattle.hist_model.specs.Tasks.{is_made, is_none, child_of, name_of}
+use Rattle.hist_model.specs.Programs.{program, program_at, program_from, nth_started}
+use Rattle.hist_model.specs.Steps.{counts, is_spawn, steps_of, next_child, task_place, opened, group, place_or, makes_in, start}
+use Rattle.hist_model.specs.Tasks.{is_made, child_of, name_of}
 use Rattle.hist_model.specs.declared.event.Event.{Event}
 use Rattle.hist_model.specs.declared.event.Actor.TheVariants.{Task}
 use Rattle.hist_model.specs.declared.event.SpawnKind.{SpawnKind}
 use Rattle.hist_model.specs.declared.event.SpawnKind.TheVariants.{New, Copied, Shared}
-use Rattle.hist_model.specs.declared.event.What.{What}
 use Rattle.hist_model.specs.declared.event.What.TheVariants.{Spawn}
 use Rattle.hist_model.specs.declared.script.Instr.{Instr}
 use Rattle.hist_model.specs.declared.script.Script.{Script}
 use Rattle.hist_model.proofs.Look.{event_at-here, event_at-older, oldest-some, name_eq-true, name_eq-refl}
-use Rattle.history_frames.specs.Ordinals.{count_of, tasks_made, place_of, name_at, task_name_of, groups_made, group_of, makes_group}
+use Rattle.history_frames.specs.Ordinals.{count_of, tasks_made, name_at, task_name_of, groups_made, makes_group}
 use Rattle.history_frames.proofs.Ordinals.{made-more, place-new, name-older}
-use Rattle.history_frames.proofs.Held.{names-more, unmade-less, made-is, older-made, here-made}
+use Rattle.history_frames.proofs.Held.{names-more, unmade-less, made-is}
 use Rattle.history_frames.proofs.Groups.{group-made, group-shared, group-stays}
 use Rattle.task_progress.specs.declared.row.Progress.{Progress}
 use Rattle.task_progress.specs.declared.table.TaskProgress.{TaskProgress}
-use Rattle.task_progress.specs.Rows.{IsAfter, new_row, living, made, row_at}
-use Rattle.task_progress.specs.Stands.{StandsFor, IsTask, IsUntouched, IsOrderly, IsStepOf, IsSpawn, IsGroupOf, IsNewGroup, IsEntry, id_at, starts, started_before}
-use Rattle.task_progress.proofs.Frames.{Leaves, names-apart}
-use Rattle.task_progress.proofs.Lists.{found-put, found-other, found-added}
-use Rattle.task_progress.proofs.Rows.{task-left, task-own, facts-close, next-at, group-is-kept}
+use Rattle.task_progress.specs.Rows.{IsAfter, new_row, living, row_at}
+use Rattle.task_progress.specs.Stands.{StandsFor, IsTask, IsUntouched, IsOrderly, IsSpawn, IsGroupOf, IsNewGroup, id_at, starts}
+use Rattle.task_progress.proofs.Frames.{Leaves, names-apart, steps-left}
+use Rattle.task_progress.proofs.Lists.{found-added}
+use Rattle.task_progress.proofs.Rows.{next-at, counts-more}
 use Rattle.task_progress.proofs.Started.{started-none, nth-next}
 use Rattle.task_progress.proofs.Stepped.{ordinal-made, row-there, rows-after, untouched-left, unmade-left}
 
@@ -116,11 +113,12 @@ unmade-new e K n d h = rw (d, h) (never (makes e.what))
     never b = grind arith
 
 -- the event makes a task of a new name, and leaves those that weren't made
-pub orderly-new : (e : Event) (K : List Event) → is_made K (child_of e.what) ≡ false → (child_of e.what ≡ [] → ⊥) → ((m : Name) → is_made K m ≡ false → Leaves e m) → IsOrderly K → IsOrderly (e ∷ K)
-orderly-new e K u d l o = record {
+pub orderly-new : (e : Event) (K : List Event) → is_made K (child_of e.what) ≡ false → (child_of e.what ≡ [] → ⊥) → ((m : Name) → is_made K m ≡ false → Leaves e m) → ((n : Name) → steps_of counts (e ∷ K) n < length (e ∷ K)) → IsOrderly K → IsOrderly (e ∷ K)
+orderly-new e K u d l t o = record {
   names = names-more e K (λ z. u) o.names;
   unmade = λ n h. let v = unmade-less e K n h in untouched-left e K n (l n v) (o.unmade n v);
   nameless = unmade-new e K [] (names-apart (child_of e.what) [] d) o.nameless;
+  counted = λ n h. t n;
 }
 
 -- ---- the table
@@ -136,7 +134,7 @@ stands-spawn S K e old new o g p r q s h at a put count = record {
         let name : task_name_of (e ∷ K) u ≡ child_of e.what = ap (task_name_of (e ∷ K)) (w.0 ∙ here) ∙ name-new e K m in
         subst (λ y. IsTask S (e ∷ K) y x) (sym name) (subst (λ y. IsTask S (e ∷ K) (child_of e.what) y) w.1 fresh)
   ];
-  orderly = orderly-new e K unmade (λ z. child-named n (steps_of is_spawn K n + 1) (sym child ∙ z)) (unmade-left S K e o h.own) s.orderly;
+  orderly = orderly-new e K unmade (λ z. child-named n (steps_of is_spawn K n + 1) (sym child ∙ z)) (unmade-left S K e o h.own) (λ x. omega (arith, s.orderly.counted x (omega (arith, h.own.there)), counts-more e K x)) s.orderly;
 }
   where
     n : Name
@@ -208,11 +206,14 @@ stands-first S old new p s q put count = record {
         let name : task_name_of (e ∷ []) u ≡ 0 ∷ [] = ap (task_name_of (e ∷ [])) (w.0 ∙ s.made_is) ∙ name-new e [] refl in
         subst (λ y. IsTask S (e ∷ []) y x) (sym name) (subst (λ y. IsTask S (e ∷ []) (0 ∷ []) y) w.1 new-one)
   ];
-  orderly = orderly-new e [] (first-unmade S (0 ∷ [])) (λ z. cc) (λ m h. first-left S m) s.orderly;
+  orderly = orderly-new e [] (first-unmade S (0 ∷ [])) (λ z. cc) (λ m h. first-left S m) (λ x. omega (arith, steps-left counts refl e [] x (first-left S x), none-counted x)) s.orderly;
 }
   where
     e : Event
     e = start (system_of S)
+
+    none-counted : (n : Name) → steps_of counts [] n ≡ 0
+    none-counted n = (s.orderly.unmade n (first-unmade S n)).no_counts
 
     new-one : IsTask S (e ∷ []) (0 ∷ []) (new_row 0 p)
     new-one = task-new S (e ∷ []) (0 ∷ []) 0 p (untouched-left e [] (0 ∷ []) (first-left S (0 ∷ [])) (s.orderly.unmade (0 ∷ []) (first-unmade S (0 ∷ []))))

@@ -1,14 +1,13 @@
 -- What a step of a task tells of the history before it: whether it waits in a call, and which instruction comes next.
 -- By the cases of `task_step`.
-use Rattle.std.proofs.Common.{◌≡◌, ℕ, Bool, true, false, ◌&&◌, List, [], ◌∷◌, Option, Some, None, refl, sym, ap, ◌∙◌}
-use Rattle.std.specs.Prelude.{if◌then◌else◌, ◌==◌, slice_get}
+use Rattle.std.proofs.Common.{◌≡◌, ℕ, Bool, true, false, List, [], ◌∷◌, Option, Some, None, refl}
+use Rattle.std.specs.Prelude.{if◌then◌else◌, ◌==◌}
 use Rattle.hist_model.specs.Look.{Name}
-use Rattle.hist_model.specs.Programs.{started}
 use Rattle.hist_model.specs.Calls.{settled, queue}
 use Rattle.hist_model.specs.Signals.{call_of, next_signal, effect_in_call, effect_outside}
-use Rattle.hist_model.specs.Steps.{task_step, living_step, instr_step, install_step, next_instr, owes_native, deliver_or, wait_step, is_child, is_ended_child, reply}
+use Rattle.hist_model.specs.Steps.{task_step, living_step, instr_step, install_step, next_instr, owes_native, deliver_or, wait_step, reply}
 use Rattle.hist_model.specs.Systems.{System}
-use Rattle.hist_model.specs.Tasks.{alive, is_none, mode}
+use Rattle.hist_model.specs.Tasks.{alive, mode}
 use Rattle.hist_model.specs.declared.event.Event.{Event}
 use Rattle.hist_model.specs.declared.event.Delivered.{Delivered}
 use Rattle.hist_model.specs.declared.event.Delivered.TheVariants.{Restart}

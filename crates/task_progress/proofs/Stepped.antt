@@ -1,31 +1,30 @@
 -- A table after a step that makes no task: a task's own one, and those that change no task.
 -- By `task-own` for the row of the task and `task-left` for the others, whose names differ.
-use Rattle.std.proofs.Common.{◌≡◌, ◌≢◌, inl, inr, ℕ, ◌+◌, ◌<◌, Bool, true, false, ◌&&◌, not, List, [], ◌∷◌, length, set, Option, Some, None, refl, sym, ap, ◌∙◌, subst, arith}
+use Rattle.std.proofs.Common.{◌≡◌, ◌≢◌, inl, inr, ℕ, ◌+◌, ◌<◌, ◌^◌, true, false, List, [], ◌∷◌, length, set, Some, refl, sym, ap, ◌∙◌, subst, arith}
 use Rattle.std.specs.Prelude.{slice_get, count_by}
 use Rattle.std.proofs.lemmas.Bool.{both_ways, cases_eq}
 use Rattle.std.proofs.lemmas.List.{length-set}
 use Rattle.std.proofs.lemmas.Option.{slice_get_within}
 use Rattle.hist_model.specs.Look.{Name, name_eq, is_task, task_name, newest}
-use Rattle.hist_model.specs.Kinds.{makes, closes, notifies, skips}
+use Rattle.hist_model.specs.Kinds.{makes, closes, notifies}
 use Rattle.hist_model.specs.Legal.{system_of}
 use Rattle.hist_model.specs.Steps.{counts, recounts, is_spawn, owes_native, steps_of}
 use Rattle.hist_model.specs.Memory.{last_call}
 use Rattle.hist_model.specs.Signals.{call_of}
-use Rattle.hist_model.specs.Tasks.{is_made, child_of, name_of, ended}
+use Rattle.hist_model.specs.Tasks.{is_made, name_of, ended}
 use Rattle.hist_model.specs.declared.event.Event.{Event}
 use Rattle.hist_model.specs.declared.event.Actor.TheVariants.{Task}
-use Rattle.hist_model.specs.declared.event.What.{What}
 use Rattle.hist_model.specs.declared.script.Script.{Script}
-use Rattle.history_frames.specs.Ordinals.{count_of, tasks_made, place_of, name_at, task_name_of}
+use Rattle.history_frames.specs.Ordinals.{count_of, tasks_made, name_at, task_name_of}
 use Rattle.history_frames.proofs.Ordinals.{made-same, made-place, place-old, place-below, place-makes, place-one, name-older, makes-below}
 use Rattle.history_frames.proofs.Held.{names-more, unmade-less, made-is}
 use Rattle.task_progress.specs.declared.row.Progress.{Progress}
 use Rattle.task_progress.specs.declared.table.TaskProgress.{TaskProgress}
-use Rattle.task_progress.specs.Rows.{IsAfter, SameTasks, is_living, living, made, row_at}
+use Rattle.task_progress.specs.Rows.{IsAfter, SameTasks, is_living, living, row_at}
 use Rattle.task_progress.specs.Stands.{StandsFor, IsTask, IsUntouched, IsOrderly, IsStepOf, IsOther}
 use Rattle.task_progress.proofs.Frames.{Leaves, never, names-apart, steps-left, owes-left, ended-left, last-left, call-left}
 use Rattle.task_progress.proofs.StepFacts.{Facts, facts}
-use Rattle.task_progress.proofs.Rows.{task-left, task-own, facts-close}
+use Rattle.task_progress.proofs.Rows.{task-left, task-own, facts-close, counts-more}
 use Rattle.task_progress.proofs.Lists.{found-put, found-other}
 
 -- ---- names and ordinals
@@ -86,6 +85,7 @@ orderly-same e K m l o = record {
   names = names-more e K (λ z. absurd (both_ways (makes e.what) m z)) o.names;
   unmade = λ n h. let v = unmade-less e K n h in untouched-left e K n (l n v) (o.unmade n v);
   nameless = unmade-same e K [] m ∙ o.nameless;
+  counted = λ n h. omega (arith, o.counted n (omega (arith, h, made-same makes e K m)), counts-more e K n);
 }
 
 -- ---- the table
@@ -99,12 +99,13 @@ pub rows-after : (S : Script) (K : List Event) (e : Event) (old : TaskProgress) 
 rows-after S K e old o r q s p at a u x h =
     let n = task_name_of K o in
     let f = step-facts S K e o p in
+    let room : steps_of counts K n + 1 < 2 ^ 64 = omega (arith, s.orderly.counted n (omega (arith, p.there)), p.few) in
     elim (cases_eq u o) [
       | inl z ↦
           let same : Some q ≡ Some x = sym (found-put old.rows.items o q (slice_get_within old.rows.items o r at)) ∙ (ap (slice_get (set old.rows.items o q)) (sym z) ∙ h) in
           let w : q ≡ x = cc in
           let name : task_name_of (e ∷ K) u ≡ n = ap (task_name_of (e ∷ K)) z ∙ name-kept e K o p.there in
-          subst (λ y. IsTask S (e ∷ K) y x) (sym name) (subst (λ y. IsTask S (e ∷ K) n y) w (task-own S K n e r q (s.tasks o r at) p.who f a p.few))
+          subst (λ y. IsTask S (e ∷ K) y x) (sym name) (subst (λ y. IsTask S (e ∷ K) n y) w (task-own S K n e r q (s.tasks o r at) p.who f a room))
       | inr z ↦
           let g : row_at old u ≡ Some x = sym (found-other old.rows.items o q u z) ∙ h in
           let l = row-there S K old u x s g in
@@ -163,6 +164,7 @@ stands-none S T h z = record {
     names = λ t u a b q. absurd (omega (arith, makes-below [] t a));
     unmade = λ n h. record { no_counts = refl; no_recounts = refl; no_spawns = refl; no_call = refl; no_entry = refl; no_debt = refl; no_end = refl };
     nameless = refl;
+    counted = λ n h. absurd (omega (arith, h));
   };
 }
   where

@@ -1,5 +1,5 @@
 -- What is kept of each task, what a step makes of it, and how many tasks of a group haven't ended.
-use Rattle.std.specs.Prelude.{◌≡◌, ℕ, ◌+◌, ◌-◌, ◌<◌, ◌^◌, Bool, true, false, ◌&&◌, ◌||◌, not, if◌then◌else◌, ◌==◌, List, [], ◌∷◌, ◌++◌, length, set, Option, Some, None, slice_get, vec_len, vec_capacity, count_by}
+use Rattle.std.specs.Prelude.{◌≡◌, ℕ, ◌+◌, ◌-◌, ◌<◌, ◌^◌, Bool, true, false, ◌&&◌, ◌||◌, not, if◌then◌else◌, ◌==◌, [], ◌∷◌, ◌++◌, length, set, Option, Some, None, slice_get, vec_len, vec_capacity, count_by}
 use Rattle.hist_model.specs.Kinds.{ends, owes, skips}
 use Rattle.hist_model.specs.Steps.{counts, recounts}
 use Rattle.hist_model.specs.declared.event.Entered.TheVariants.{Notify}

@@ -1,5 +1,5 @@
 -- Which histories the progress of tasks stands for.
-use Rattle.std.specs.Prelude.{◌≡◌, ℕ, ◌+◌, ◌<◌, ◌^◌, Bool, true, false, not, List, [], ◌∷◌, length, take, Option, Some, None, Ok, slice_get, count_by}
+use Rattle.std.specs.Prelude.{◌≡◌, ℕ, ◌+◌, ◌<◌, ◌^◌, Bool, true, false, not, List, [], length, take, Option, Some, None, Ok, slice_get, count_by}
 use Rattle.hist_model.specs.Kinds.{makes, closes, notifies}
 use Rattle.hist_model.specs.Look.{Name, event_at, is_task}
 use Rattle.hist_model.specs.Legal.{system_of}
@@ -23,7 +23,7 @@ use Rattle.history_frames.specs.Ordinals.{tasks_made, task_name_of, groups_made,
 use Rattle.task_progress.specs.declared.row.EnteredCall.{EnteredCall}
 use Rattle.task_progress.specs.declared.row.Progress.{Progress}
 use Rattle.task_progress.specs.declared.table.TaskProgress.{TaskProgress}
-use Rattle.task_progress.specs.Rows.{is_in_call, is_living, made, living, row_at}
+use Rattle.task_progress.specs.Rows.{is_in_call, made, living, row_at}
 
 -- the ordinal is that of the group of the task of this name
 abbrev pub IsGroupOf : List Event → Name → ℕ → Type 0
@@ -76,11 +76,12 @@ pub record IsUntouched (K : List Event) (n : Name) : Type 0 where
   pub no_debt : owes_native K n ≡ false
   pub no_end : ended K n ≡ false
 
--- what holds of a history of tasks: names differ, and nothing happens to tasks that were not made
+-- what holds of a history of tasks: names differ, nothing happens to tasks that were not made, and the start isn't counted
 pub record IsOrderly (K : List Event) : Type 0 where
   pub names : (t u : ℕ) → makes_in (event_at K t) ≡ true → makes_in (event_at K u) ≡ true → name_of K t ≡ name_of K u → t ≡ u
   pub unmade : (n : Name) → is_made K n ≡ false → IsUntouched K n
   pub nameless : is_made K [] ≡ false
+  pub counted : (n : Name) → 0 < tasks_made K → steps_of counts K n < length K
 
 -- the table stands for the history of a script
 pub record StandsFor (S : Script) (K : List Event) (T : TaskProgress) : Type 0 where
@@ -94,7 +95,7 @@ pub record IsStepOf (S : Script) (K : List Event) (e : Event) (o : ℕ) : Type 0
   pub there : o < tasks_made K
   pub who : e.who ≡ Task (task_name_of K o)
   pub step : e.what ≡ task_step (system_of S) K (task_name_of K o)
-  pub few : length (e ∷ K) < 2 ^ 64
+  pub few : length K < 2 ^ 64
 
 -- the group of a new task has this ordinal: it is a new one, or that of the task that makes it
 abbrev pub IsNewGroup : List Event → Name → SpawnKind → ℕ → Type 0
