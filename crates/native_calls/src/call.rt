@@ -1,0 +1,102 @@
+//! Native calls whose arguments were read.
+
+ghost use Rattle.std.specs.Prelude.{◌≡◌, ℕ, ◌%◌, ◌^◌, List, Some, IfOk};
+ghost use Rattle.hist_model.specs.Copies.{plan, copy_of};
+ghost use Rattle.hist_model.specs.Memory.{mapped_byte};
+ghost use Rattle.hist_model.specs.declared.event.Event.{Event};
+ghost use Rattle.hist_model.specs.declared.script.Script.{Script};
+ghost use Rattle.history_frames.specs.Ordinals.{group_of};
+ghost use Rattle.task_memory.specs.Spaces.{IsHeld};
+ghost use Rattle.task_memory.specs.Stands.{StandsFor};
+ghost use Rattle.native_calls.specs.Prepared.{requested};
+
+use crate::copies::copy_arguments;
+use arg_capture::Capture;
+use emu_request::{base_dirfd, request};
+use hist_model::request::Request;
+use sys_abi::calls::{CLOSE, GETPID, SYSINFO};
+use sys_abi::errno::Errno;
+use sys_abi::memory::NoMemory;
+use task_memory::{SpaceRef, Spaces};
+
+/// A native call with its arguments read.
+#[derive(Debug, Drop)]
+pub enum NativeCall {
+    /// close(2) of a number.
+    Close {
+        number: u32,
+    },
+    /// getpid(2).
+    GetPid,
+    /// sysinfo(2), with the address of its answer.
+    Sysinfo {
+        addr: u64,
+    },
+    /// A call with paths: the descriptor from which relative ones go, and what it asks for, or the fault of its arguments.
+    Request {
+        dirfd: i32,
+        request: Result<Request, Errno>,
+    },
+    /// A call that isn't known here.
+    Unknown,
+}
+
+/// The low 32 bits of an argument.
+fn low_32(argument: u64) -> u32
+    ensures { result ≡ argument % 2 ^ 32 }
+{
+    (argument % 0x1_0000_0000) as u32
+}
+
+/// What a call with paths asks for, with its arguments as they are in a space now; or the fault of their copy.
+fn read_request(
+    spaces: &Spaces,
+    space: SpaceRef,
+    nr: i32,
+    args: &[u64; 6],
+    capture: &mut Capture,
+    piece: &mut Vec<u8>,
+) -> Result<Result<Request, Errno>, NoMemory>
+    ensures { IfOk result (λ r. (S : Script) (K : List Event) (g : ℕ) → StandsFor S K spaces.now → IsHeld spaces.now space → group_of K space.ordinal ≡ Some g
+        → r ≡ requested nr args.now (copy_of (mapped_byte S K g) (plan nr args.now))) }
+{
+    Ok(
+        match copy_arguments(spaces, space, nr, args, capture, piece)? {
+            Ok(copy) => Ok(request(nr, args, copy)),
+            Err(errno) => Err(errno),
+        },
+    )
+}
+
+impl NativeCall {
+    ghost use Rattle.native_calls.specs.Prepared.{IsPrepared};
+
+    /// The call of this number with these arguments, whose texts are read out of its caller's space as they are now, by pieces:
+    /// a text that isn't mapped is EFAULT, one that doesn't end is its part's fault, and a value over 4096 bytes is E2BIG.
+    pub fn prepare(
+        spaces: &Spaces,
+        space: SpaceRef,
+        nr: i32,
+        args: &[u64; 6],
+        capture: &mut Capture,
+        piece: &mut Vec<u8>,
+    ) -> Result<NativeCall, NoMemory>
+        ensures { IfOk result (λ call. (S : Script) (K : List Event) (g : ℕ) → StandsFor S K spaces.now → IsHeld spaces.now space → group_of K space.ordinal ≡ Some g
+            → IsPrepared S K g nr args.now call) }
+    {
+        match nr {
+            CLOSE => Ok(NativeCall::Close {
+                number: low_32(args[0]),
+            }),
+            GETPID => Ok(NativeCall::GetPid),
+            SYSINFO => Ok(NativeCall::Sysinfo { addr: args[0] }),
+            _ => match base_dirfd(nr, args) {
+                Some(dirfd) => Ok(NativeCall::Request {
+                    dirfd,
+                    request: read_request(spaces, space, nr, args, capture, piece)?,
+                }),
+                None => Ok(NativeCall::Unknown),
+            },
+        }
+    }
+}
