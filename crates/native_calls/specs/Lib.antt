@@ -1,2 +1,4 @@
 pub mod Copied
 pub mod Prepared
+pub mod Done
+pub mod Stands

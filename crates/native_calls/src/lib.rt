@@ -10,7 +10,14 @@
 #![tactic(auto)]
 
 mod call;
+mod changes;
 mod copies;
+mod files;
+mod memory;
+mod requests;
+mod running;
 
 pub use call::NativeCall;
 pub use copies::copy_arguments;
+pub use files::base_of;
+pub use running::{Caller, Container, run};

@@ -1,0 +1,79 @@
+//! Changes of the tree, as native calls answer them (mknod(2), setxattr(2)).
+
+ghost use Rattle.std.specs.Prelude.{◌≡◌, ◌≤◌, ◌||◌, ℕ, List, true, nat_eq, codes, IfOk, OnErr, IsOk};
+ghost use Rattle.std.specs.List.{starts_with};
+ghost use Rattle.hist_model.specs.Trees.{ordinal_of};
+ghost use Rattle.hist_model.specs.Paths.{Create, reaches};
+ghost use Rattle.hist_model.specs.Effects.{effect, making, made, perform};
+ghost use Rattle.hist_model.specs.Requests.{kind_of};
+ghost use Rattle.hist_model.specs.Natives as natives;
+ghost use Rattle.hist_model.specs.Natives.{changed, is_device, is_refused, make_natively};
+ghost use Rattle.hist_model.specs.declared.request.Node.{Node};
+ghost use Rattle.path_walk.specs.Performed.{room_wanted};
+ghost use Rattle.native_calls.specs.Done.{TreeRun};
+
+use hist_model::request::{Kind, NodeRef, Request};
+use mount_tree::tree::Tree;
+use path_walk::effects::perform_request;
+use path_walk::places::{Last, Place};
+use path_walk::resolution::{Walk, resolve};
+use sys_abi::errno::Errno;
+use sys_abi::memory::{NoMemory, OrNoMemory};
+
+/// The flags that setxattr(2) knows are below this.
+const ATTR_FLAGS: u32 = 4;
+
+/// Does what a request asks for.
+#[tactic(auto, using(crate::proofs::Runs::change_made, crate::proofs::Runs::change_refused))]
+pub(crate) fn change(
+    tree: &mut Tree,
+    walk: &mut Walk,
+    root: NodeRef,
+    base: Option<NodeRef>,
+    request: &Request,
+) -> Result<Result<u32, Errno>, NoMemory>
+    ensures run { IfOk result (λ r. TreeRun (changed (perform tree.old.tree root.ordinal (ordinal_of base) (effect request.now))) r tree.old.tree tree.new.tree) }
+    ensures room { room_wanted (effect request.now) ≤ tree.old.spare → IsOk result }
+    ensures refused { IfOk result (λ r. OnErr r (tree.new ≡ tree.old)) }
+    ensures same { OnErr result (tree.new ≡ tree.old) }
+{
+    match perform_request(tree, root, base, request, walk) {
+        Ok(()) => Ok(Ok(0)),
+        Err(OrNoMemory::Refused(errno)) => Ok(Err(errno)),
+        Err(OrNoMemory::NoMemory) => Err(NoMemory),
+    }
+}
+
+/// Whether a mode asks for a device.
+pub(crate) fn makes_device(mode: u16) -> bool
+    ensures { (path : List ℕ) (dev : ℕ) → result ≡ is_device (making path dev (kind_of mode)) }
+{
+    matches!(Kind::of_mode(mode), Kind::Chr | Kind::Blk)
+}
+
+/// Why no device is made at a path: EPERM where the tree would take the node. The tree stays as it is.
+pub(crate) fn device_errno(
+    tree: &Tree,
+    walk: &mut Walk,
+    root: NodeRef,
+    base: Option<NodeRef>,
+    path: &[u8],
+) -> Errno
+    ensures { (node : Node) → make_natively true (made tree.now.tree node (reaches tree.now.tree root.ordinal (ordinal_of base) path.now Create)) ≡ natives.Fails result }
+{
+    match resolve(tree, root, base, path, Last::Create, walk) {
+        Ok(Place::New { dir }) => match tree.entry(dir, walk.name()) {
+            Some(_) => Errno::EEXIST,
+            None => Errno::EPERM,
+        },
+        Ok(Place::At(_)) => Errno::EEXIST,
+        Err(error) => error.errno(),
+    }
+}
+
+/// Whether setting an attribute is left to the tree: for a name of the user's own, and for flags that the tree refuses.
+pub(crate) fn may_set(name: &[u8], flags: u32) -> bool
+    ensures { (path : List ℕ) (value : List ℕ) → result ≡ (is_refused (effect (Request.SetXattr path name.now value flags)) || starts_with nat_eq name.now (codes "user.")) }
+{
+    flags >= ATTR_FLAGS || name.starts_with(b"user.")
+}
