@@ -136,3 +136,10 @@ run_stands container caller call T U M N D E (Ok a) run = λ S K n due.
       spaces_stand = spaces-after S K n g group caller.space.ordinal (stored_by S call) a M N due.caller_is.space_is (stores-is S K n g call due.entered) due.stand.spaces_stand h.spaces_done;
       tables_stand = tables-after S K n g group (step_of S K (files S K) n g call) a D E step h.answer_is due.stand.tables_stand h.tables_done;
     }
+
+-- ---- room
+
+-- with other room all stands for what it stood for
+pub room_stands : (S : Script) (K : List Event) (T U : Tree) (M N : Spaces) (D E : Tables) → U ≡ T → (memory.StandsFor S K M → memory.StandsFor S K N) → (descriptors.StandsFor S K D → descriptors.StandsFor S K E)
+    → StandFor S K T M D → StandFor S K U N E
+room_stands S K T U M N D E t m d h = record { tree_is = t ∙ h.tree_is; spaces_stand = m h.spaces_stand; tables_stand = d h.tables_stand }

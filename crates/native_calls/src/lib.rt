@@ -15,9 +15,11 @@ mod copies;
 mod files;
 mod memory;
 mod requests;
+mod rooms;
 mod running;
 
 pub use call::NativeCall;
 pub use copies::copy_arguments;
 pub use files::base_of;
+pub use rooms::ready;
 pub use running::{Caller, Container, run};
