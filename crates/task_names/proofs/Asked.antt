@@ -12,7 +12,7 @@ use Rattle.history_frames.specs.Ordinals.{tasks_made, task_name_of}
 use Rattle.task_names.specs.declared.names.Child.{Child}
 use Rattle.task_names.specs.declared.names.TaskNames.{TaskNames}
 use Rattle.task_names.specs.Rows.{Row, row_of, rows_of, row_at, name_in, name_at, pid_in, parent_pid_in, child_or_none, child_in, child_at, pid_or_none, next_name, IsTask}
-use Rattle.task_names.specs.Stands.{IsOrderly, IsEntry, IsFamily, StandsFor}
+use Rattle.task_names.specs.Stands.{IsOrderly, IsEntry, AreChildren, StandsFor}
 use Rattle.task_names.proofs.Listed.{snoc-nil}
 use Rattle.task_names.proofs.Named.{name-none, name-made, made-ordinal, pid-none}
 use Rattle.task_names.proofs.Entered.{rows-stand, row-there}
@@ -62,14 +62,14 @@ pub next-is : (K : List Event) (T : TaskNames) (o : ℕ) → StandsFor K T → o
 next-is K T o h l =
     let r = row-there K (rows_of T) o (rows-stand K T h) l in
     let i = h.rows o r.0 r.1 in
-    ap next_name r.1 ∙ rw (i.family.count, i.name_is) refl
+    ap next_name r.1 ∙ rw (i.children_are.count, i.name_is) refl
 
 -- a task's k-th entry, if it has one, is that of its k-th child
-family-child : (K : List Event) (n : Name) (children : List (Option Child)) (k : ℕ) → IsOrderly K → is_made K n ≡ true → IsFamily K n children → IsEntry K (n ++ k ∷ []) (child_in children k)
-family-child K n children k o m f = go k
+child-entry : (K : List Event) (n : Name) (children : List (Option Child)) (k : ℕ) → IsOrderly K → is_made K n ≡ true → AreChildren K n children → IsEntry K (n ++ k ∷ []) (child_in children k)
+child-entry K n children k o m f = go k
   where
     unmade : (i : ℕ) → (1 ≤ i → i ≤ steps_of is_spawn K n → ⊥) → is_made K (n ++ i ∷ []) ≡ false
-    unmade i d = false_from_ne_true (is_made K (n ++ i ∷ [])) (λ q. elim (o.born n i q) [
+    unmade i d = false_from_ne_true (is_made K (n ++ i ∷ [])) (λ q. elim (o.lineage n i q) [
       | inl p ↦ let m' : is_made K [] ≡ true = rw p.0 at m in both_ways (is_made K []) o.nameless m'
       | inr p ↦ d p.1 p.2
     ])
@@ -95,7 +95,7 @@ child-is K T o k h l =
     let r = row-there K (rows_of T) o (rows-stand K T h) l in
     let i = h.rows o r.0 r.1 in
     let m : is_made K r.0.name ≡ true = rw i.name_is (name-made K o l) in
-    let f = family-child K r.0.name r.0.children k h.orderly m i.family in
+    let f = child-entry K r.0.name r.0.children k h.orderly m i.children_are in
     rw (r.1, ← i.name_is) f
 
 pub child-pid-is : (K : List Event) (T : TaskNames) (o k : ℕ) → StandsFor K T → o < tasks_made K → pid_or_none (child_at T o k) ≡ pid_named K (task_name_of K o ++ k ∷ [])
@@ -110,14 +110,14 @@ made-front : (K : List Event) (n rest : Name) → IsOrderly K → (n ≡ [] → 
 made-front K n [] o d h = rw append-nil at h
 made-front K n (x ∷ rest) o d h =
     let h' : is_made K ((n ++ x ∷ []) ++ rest) ≡ true = rw append_assoc h in
-    elim (o.born n x (made-front K (n ++ x ∷ []) rest o (snoc-nil n x) h')) [
+    elim (o.lineage n x (made-front K (n ++ x ∷ []) rest o (snoc-nil n x) h')) [
       | inl p ↦ absurd (d p.0)
       | inr p ↦ p.0
     ]
 
 -- no name begins with another number than that of the first task
 pub root-unmade : (K : List Event) (x : ℕ) (rest : Name) → IsOrderly K → (x ≡ 0 → ⊥) → is_made K (x ∷ rest) ≡ false
-root-unmade K x rest o d = false_from_ne_true (is_made K (x ∷ rest)) (λ h. elim (o.born [] x (made-front K (x ∷ []) rest o (λ q. cc) h)) [
+root-unmade K x rest o d = false_from_ne_true (is_made K (x ∷ rest)) (λ h. elim (o.lineage [] x (made-front K (x ∷ []) rest o (λ q. cc) h)) [
   | inl p ↦ d p.1
   | inr p ↦ both_ways (is_made K []) o.nameless p.0
 ])

@@ -18,12 +18,12 @@ use Rattle.history_frames.specs.Ordinals.{count_of, tasks_made, task_name_of}
 use Rattle.history_frames.proofs.Ordinals.{made-more, made-same}
 use Rattle.task_names.specs.declared.names.Child.{Child}
 use Rattle.task_names.specs.declared.names.TaskNames.{TaskNames}
-use Rattle.task_names.specs.Rows.{Row, rows_of, rows_entered, with_entry, SameRows}
+use Rattle.task_names.specs.Rows.{Row, rows_of, rows_with_entry, with_entry, SameRows}
 use Rattle.task_names.specs.Stands.{IsOrderly, IsEntry, IsRow, StandsFor, IsFirst, IsSpawn, IsRefusal, IsOther, IsNoSpawn}
 use Rattle.task_names.proofs.Listed.{get-snoc, get-set}
 use Rattle.task_names.proofs.Named.{name-new, name-made, made-same-name, pid-none, pid-new, spawns-same}
 use Rattle.task_names.proofs.Orderly.{IsTry, IsIdle, child-unmade, orderly-none, orderly-try, orderly-idle, orderly-first}
-use Rattle.task_names.proofs.Kept.{family-kept, row-with, row-other, row-own, row-new}
+use Rattle.task_names.proofs.Kept.{children-kept, row-with, row-other, row-own, row-new}
 
 -- the rows are those of the tasks of a history
 pub record AreRows (K : List Event) (rows : List Row) : Type 0 where
@@ -59,7 +59,7 @@ row-there K rows o h l = go (slice_get rows o) refl
     go None q = absurd (there rows o (omega (arith, h.count)) q)
 
 -- the rows after a spawn, with its entry
-rows-more : (K : List Event) (e : Event) (rows : List Row) (o : ℕ) (x : Option Child) → AreRows K rows → IsOrderly K → IsOrderly (e ∷ K) → IsTry K e (task_name_of K o) → o < tasks_made K → IsEntry (e ∷ K) (next_child K (task_name_of K o)) x → (p : ℕ) (r : Row) → slice_get (rows_entered rows o x) p ≡ Some r → IsRow (e ∷ K) p r
+rows-more : (K : List Event) (e : Event) (rows : List Row) (o : ℕ) (x : Option Child) → AreRows K rows → IsOrderly K → IsOrderly (e ∷ K) → IsTry K e (task_name_of K o) → o < tasks_made K → IsEntry (e ∷ K) (next_child K (task_name_of K o)) x → (p : ℕ) (r : Row) → slice_get (rows_with_entry rows o x) p ≡ Some r → IsRow (e ∷ K) p r
 rows-more K e rows o x h a b t l new p r g =
     let q = row-there K rows o h l in
     let g' : slice_get (set rows o (with_entry x q.0)) p ≡ Some r = rw q.1 at g in
@@ -71,27 +71,27 @@ rows-more K e rows o x h a b t l new p r g =
           row-other K e (task_name_of K o) p r a b t m (λ z. s.0 (a.once p o m l (sym i.name_is ∙ z))) i
     ]
 
-length-entered : (rows : List Row) (o : ℕ) (x : Option Child) → length (rows_entered rows o x) ≡ length rows
-length-entered rows o x = go (slice_get rows o) refl
+length-with-entry : (rows : List Row) (o : ℕ) (x : Option Child) → length (rows_with_entry rows o x) ≡ length rows
+length-with-entry rows o x = go (slice_get rows o) refl
   where
-    go : (r : Option Row) → slice_get rows o ≡ r → length (rows_entered rows o x) ≡ length rows
+    go : (r : Option Row) → slice_get rows o ≡ r → length (rows_with_entry rows o x) ≡ length rows
     go None q = rw q
     go (Some r) q = rw q (length-set rows o (with_entry x r))
 
 -- after a spawn that was refused
-pub stands-refused : (K : List Event) (e : Event) (old new : TaskNames) (o : ℕ) → StandsFor K old → o < tasks_made K → IsRefusal K e o → rows_of new ≡ rows_entered (rows_of old) o None → StandsFor (e ∷ K) new
+pub stands-refused : (K : List Event) (e : Event) (old new : TaskNames) (o : ℕ) → StandsFor K old → o < tasks_made K → IsRefusal K e o → rows_of new ≡ rows_with_entry (rows_of old) o None → StandsFor (e ∷ K) new
 stands-refused K e old new o h l f q =
     let t : IsTry K e (task_name_of K o) = record { who = f.who; made = name-made K o l; child = rw f.is; spawn = rw f.is } in
     let m : makes e.what ≡ false = rw f.is in
     let b = orderly-try K e (task_name_of K o) h.orderly t in
     let u = child-unmade K (task_name_of K o) h.orderly t.made in
-    stands-with (e ∷ K) new (rows_entered (rows_of old) o None) q (record {
-      count = length-entered (rows_of old) o None ∙ (h.count ∙ sym (made-same makes e K m));
+    stands-with (e ∷ K) new (rows_with_entry (rows_of old) o None) q (record {
+      count = length-with-entry (rows_of old) o None ∙ (h.count ∙ sym (made-same makes e K m));
       each = rows-more K e (rows_of old) o None (rows-stand K old h) h.orderly b t l (made-same-name e K (next_child K (task_name_of K o)) m ∙ u);
     }) b
 
 -- after one that made a task
-pub stands-spawned : (K : List Event) (e : Event) (old new : TaskNames) (o pid parent_pid ordinal : ℕ) (name : Name) → StandsFor K old → o < tasks_made K → IsSpawn K e o pid → ordinal ≡ tasks_made K → name ≡ next_child K (task_name_of K o) → parent_pid ≡ pid_named K (task_name_of K o) → rows_of new ≡ rows_entered (rows_of old) o (Some (record { pid = pid; ordinal = ordinal })) ++ record { name = name; pid = pid; parent_pid = parent_pid; children = [] } ∷ [] → StandsFor (e ∷ K) new
+pub stands-spawned : (K : List Event) (e : Event) (old new : TaskNames) (o pid parent_pid ordinal : ℕ) (name : Name) → StandsFor K old → o < tasks_made K → IsSpawn K e o pid → ordinal ≡ tasks_made K → name ≡ next_child K (task_name_of K o) → parent_pid ≡ pid_named K (task_name_of K o) → rows_of new ≡ rows_with_entry (rows_of old) o (Some (record { pid = pid; ordinal = ordinal })) ++ record { name = name; pid = pid; parent_pid = parent_pid; children = [] } ∷ [] → StandsFor (e ∷ K) new
 stands-spawned K e old new o pid parent_pid ordinal name h l f i w g q =
     let t : IsTry K e (task_name_of K o) = record { who = f.who; made = name-made K o l; child = rw f.is; spawn = rw f.is } in
     let m : makes e.what ≡ true = rw f.is in
@@ -100,11 +100,11 @@ stands-spawned K e old new o pid parent_pid ordinal name h l f i w g q =
     let c : Child = record { pid = pid; ordinal = ordinal } in
     let x : IsEntry (e ∷ K) (next_child K (task_name_of K o)) (Some c) = (omega (arith, i, made-more makes e K m), rw i (name-new e K m ∙ t.child), sym (pid-new e K (next_child K (task_name_of K o)) pid f.kind f.is u)) in
     let z = row-new K e (task_name_of K o) pid parent_pid f.kind h.orderly t f.is g in
-    stands-with (e ∷ K) new (rows_entered (rows_of old) o (Some c) ++ record { name = name; pid = pid; parent_pid = parent_pid; children = [] } ∷ []) q (record {
-      count = omega (arith, length_push (rows_entered (rows_of old) o (Some c)) (record { name = name; pid = pid; parent_pid = parent_pid; children = [] }), length-entered (rows_of old) o (Some c), h.count, made-more makes e K m);
-      each = λ p r s. elim (get-snoc (rows_entered (rows_of old) o (Some c)) (record { name = name; pid = pid; parent_pid = parent_pid; children = [] }) r p s) [
+    stands-with (e ∷ K) new (rows_with_entry (rows_of old) o (Some c) ++ record { name = name; pid = pid; parent_pid = parent_pid; children = [] } ∷ []) q (record {
+      count = omega (arith, length_push (rows_with_entry (rows_of old) o (Some c)) (record { name = name; pid = pid; parent_pid = parent_pid; children = [] }), length-with-entry (rows_of old) o (Some c), h.count, made-more makes e K m);
+      each = λ p r s. elim (get-snoc (rows_with_entry (rows_of old) o (Some c)) (record { name = name; pid = pid; parent_pid = parent_pid; children = [] }) r p s) [
         | inl d ↦ rows-more K e (rows_of old) o (Some c) (rows-stand K old h) h.orderly b t l x p r d
-        | inr d ↦ let d' : p ≡ tasks_made K = d.0 ∙ (length-entered (rows_of old) o (Some c) ∙ h.count) in rw (d', ← d.1, w) z
+        | inr d ↦ let d' : p ≡ tasks_made K = d.0 ∙ (length-with-entry (rows_of old) o (Some c) ∙ h.count) in rw (d', ← d.1, w) z
       ];
     }) b
 
@@ -131,7 +131,7 @@ stands-other K e T h i =
       count = h.count ∙ sym (made-same makes e K d.unmade);
       rows = λ o r g.
           let f = h.rows o r g in
-          row-with K e o r r.children h.orderly b (omega (arith, slice_get_within (rows_of T) o r g, h.count)) f (family-kept K e r.name r.children f.family (spawns-same e K r.name (d.spawn r.name)) (λ k m. made-same-name e K (r.name ++ k ∷ []) d.unmade));
+          row-with K e o r r.children h.orderly b (omega (arith, slice_get_within (rows_of T) o r g, h.count)) f (children-kept K e r.name r.children f.children_are (spawns-same e K r.name (d.spawn r.name)) (λ k m. made-same-name e K (r.name ++ k ∷ []) d.unmade));
       orderly = b;
     }
 
@@ -152,8 +152,8 @@ stands-first e old new pid h f q =
       name_is = sym (rw z at (name-new e [] m) ∙ c);
       pid_is = sym (pid-new e [] (0 ∷ []) pid f.kind f.is u);
       parent_is = sym (pid-none (e ∷ []) [] b.nameless);
-      family = record {
-        count = sym (spawns-same e [] (0 ∷ []) (λ s. let s' : false ≡ true = rw f.who at s in cc) ∙ orderly-none.idle (0 ∷ []) u);
+      children_are = record {
+        count = sym (spawns-same e [] (0 ∷ []) (λ s. let s' : false ≡ true = rw f.who at s in cc) ∙ orderly-none.unmade (0 ∷ []) u);
         each = λ j x g. cc;
       };
     } in

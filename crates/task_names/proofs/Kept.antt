@@ -16,7 +16,7 @@ use Rattle.history_frames.specs.Ordinals.{tasks_made}
 use Rattle.history_frames.proofs.Held.{older-made}
 use Rattle.task_names.specs.declared.names.Child.{Child}
 use Rattle.task_names.specs.Rows.{Row, with_entry}
-use Rattle.task_names.specs.Stands.{IsOrderly, IsEntry, IsFamily, IsRow}
+use Rattle.task_names.specs.Stands.{IsOrderly, IsEntry, AreChildren, IsRow}
 use Rattle.task_names.proofs.Listed.{snoc-parts, parent-snoc, get-snoc}
 use Rattle.task_names.proofs.Named.{made-least, name-kept, name-new, name-made, pid-stays, pid-kept, pid-new}
 use Rattle.task_names.proofs.Orderly.{IsTry, child-unmade, parent-made, try-made, try-spawns, try-others}
@@ -26,15 +26,15 @@ entry-kept K e n (Some c) h q = (omega (arith, h.0, made-least e K), name-kept e
 entry-kept K e n None h q = q ∙ h
 
 -- the children of which the event makes none
-pub family-kept : (K : List Event) (e : Event) (n : Name) (children : List (Option Child)) → IsFamily K n children → steps_of is_spawn (e ∷ K) n ≡ steps_of is_spawn K n → ((k : ℕ) → k ≤ steps_of is_spawn K n → is_made (e ∷ K) (n ++ k ∷ []) ≡ is_made K (n ++ k ∷ [])) → IsFamily (e ∷ K) n children
-family-kept K e n children f s same = record {
+pub children-kept : (K : List Event) (e : Event) (n : Name) (children : List (Option Child)) → AreChildren K n children → steps_of is_spawn (e ∷ K) n ≡ steps_of is_spawn K n → ((k : ℕ) → k ≤ steps_of is_spawn K n → is_made (e ∷ K) (n ++ k ∷ []) ≡ is_made K (n ++ k ∷ [])) → AreChildren (e ∷ K) n children
+children-kept K e n children f s same = record {
   count = f.count ∙ sym s;
   each = λ j x g. entry-kept K e (n ++ (j + 1) ∷ []) x (f.each j x g) (same (j + 1) (omega (arith, slice_get_within children j x g, f.count)));
 }
 
 -- and those that become one more
-pub family-more : (K : List Event) (e : Event) (n : Name) (children : List (Option Child)) (x : Option Child) → IsFamily K n children → steps_of is_spawn (e ∷ K) n ≡ steps_of is_spawn K n + 1 → ((k : ℕ) → k ≤ steps_of is_spawn K n → is_made (e ∷ K) (n ++ k ∷ []) ≡ is_made K (n ++ k ∷ [])) → IsEntry (e ∷ K) (next_child K n) x → IsFamily (e ∷ K) n (children ++ x ∷ [])
-family-more K e n children x f s same new = record {
+pub children-more : (K : List Event) (e : Event) (n : Name) (children : List (Option Child)) (x : Option Child) → AreChildren K n children → steps_of is_spawn (e ∷ K) n ≡ steps_of is_spawn K n + 1 → ((k : ℕ) → k ≤ steps_of is_spawn K n → is_made (e ∷ K) (n ++ k ∷ []) ≡ is_made K (n ++ k ∷ [])) → IsEntry (e ∷ K) (next_child K n) x → AreChildren (e ∷ K) n (children ++ x ∷ [])
+children-more K e n children x f s same new = record {
   count = omega (arith, length_push children x, f.count, s);
   each = λ j y g. elim (get-snoc children x y j g) [
     | inl p ↦ entry-kept K e (n ++ (j + 1) ∷ []) y (f.each j y p) (same (j + 1) (omega (arith, slice_get_within children j y p, f.count)))
@@ -43,7 +43,7 @@ family-more K e n children x f s same new = record {
 }
 
 -- the row of a task, with these children after the event
-pub row-with : (K : List Event) (e : Event) (o : ℕ) (r : Row) (children : List (Option Child)) → IsOrderly K → IsOrderly (e ∷ K) → o < tasks_made K → IsRow K o r → IsFamily (e ∷ K) r.name children → IsRow (e ∷ K) o (record r { children = children })
+pub row-with : (K : List Event) (e : Event) (o : ℕ) (r : Row) (children : List (Option Child)) → IsOrderly K → IsOrderly (e ∷ K) → o < tasks_made K → IsRow K o r → AreChildren (e ∷ K) r.name children → IsRow (e ∷ K) o (record r { children = children })
 row-with K e o r children a b l h f = record {
   name_is = h.name_is ∙ sym (name-kept e K o l);
   pid_is = h.pid_is ∙ sym (pid-stays e K r.name made);
@@ -51,7 +51,7 @@ row-with K e o r children a b l h f = record {
     | inl p ↦ rw p (pid-kept e K [] (b.nameless ∙ sym a.nameless))
     | inr p ↦ pid-stays e K (parent r.name) p
   ]);
-  family = f;
+  children_are = f;
 }
   where
     made : is_made K r.name ≡ true
@@ -69,14 +69,14 @@ try-child K e n m k t d = elim (cases_Bool (is_made K (m ++ k ∷ []))) [
 
 -- the row of another task than the one that spawned
 pub row-other : (K : List Event) (e : Event) (n : Name) (o : ℕ) (r : Row) → IsOrderly K → IsOrderly (e ∷ K) → IsTry K e n → o < tasks_made K → (r.name ≡ n → ⊥) → IsRow K o r → IsRow (e ∷ K) o r
-row-other K e n o r a b t l d h = row-with K e o r r.children a b l h (family-kept K e r.name r.children h.family (try-others K e n r.name t (λ q. d (sym q))) (λ k m. try-child K e n r.name k t (λ q. absurd (d q))))
+row-other K e n o r a b t l d h = row-with K e o r r.children a b l h (children-kept K e r.name r.children h.children_are (try-others K e n r.name t (λ q. d (sym q))) (λ k m. try-child K e n r.name k t (λ q. absurd (d q))))
 
 -- and that of this one
 pub row-own : (K : List Event) (e : Event) (n : Name) (o : ℕ) (r : Row) (x : Option Child) → IsOrderly K → IsOrderly (e ∷ K) → IsTry K e n → o < tasks_made K → r.name ≡ n → IsRow K o r → IsEntry (e ∷ K) (next_child K n) x → IsRow (e ∷ K) o (with_entry x r)
 row-own K e n o r x a b t l q h new =
     let t' : IsTry K e r.name = rw q t in
     let new' : IsEntry (e ∷ K) (next_child K r.name) x = rw q new in
-    row-with K e o r (r.children ++ x ∷ []) a b l h (family-more K e r.name r.children x h.family (try-spawns K e r.name t') (λ k m. try-child K e r.name r.name k t' (λ s. m)) new')
+    row-with K e o r (r.children ++ x ∷ []) a b l h (children-more K e r.name r.children x h.children_are (try-spawns K e r.name t') (λ k m. try-child K e r.name r.name k t' (λ s. m)) new')
 
 -- the new row
 pub row-new : (K : List Event) (e : Event) (n : Name) (pid parent_pid : ℕ) (kind : SpawnKind) → IsOrderly K → IsTry K e n → e.what ≡ Spawn (next_child K n) (Ok (pid, kind)) → parent_pid ≡ pid_named K n → IsRow (e ∷ K) (tasks_made K) (record { name = next_child K n; pid = pid; parent_pid = parent_pid; children = [] })
@@ -87,8 +87,8 @@ row-new K e n pid parent_pid kind a t w q =
       name_is = sym t.child ∙ sym (name-new e K m);
       pid_is = sym (pid-new e K (next_child K n) pid kind w u);
       parent_is = q ∙ (sym (pid-stays e K n t.made) ∙ ap (pid_named (e ∷ K)) (sym (parent-snoc n (steps_of is_spawn K n + 1))));
-      family = record {
-        count = sym (try-others K e n (next_child K n) t (λ h. both_ways (is_made K (next_child K n)) u (rw h at t.made)) ∙ a.idle (next_child K n) u);
+      children_are = record {
+        count = sym (try-others K e n (next_child K n) t (λ h. both_ways (is_made K (next_child K n)) u (rw h at t.made)) ∙ a.unmade (next_child K n) u);
         each = λ j x g. cc;
       };
     }

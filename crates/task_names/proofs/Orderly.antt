@@ -13,7 +13,7 @@ use Rattle.hist_model.proofs.Look.{below_or_last, name_eq-true}
 use Rattle.history_frames.specs.Ordinals.{count_of, tasks_made, task_name_of}
 use Rattle.history_frames.proofs.Ordinals.{made-more, made-same}
 use Rattle.history_frames.proofs.Held.{older-made}
-use Rattle.task_names.specs.Stands.{IsOrderly, IsBorn, IsFirst}
+use Rattle.task_names.specs.Stands.{IsOrderly, IsFirstOrChild, IsFirst}
 use Rattle.task_names.proofs.Listed.{snoc-nil, snoc-parts, parent-snoc, last-split}
 use Rattle.task_names.proofs.Named.{name-kept, name-new, name-made, made-cases, made-ordinal, made-same-name, spawns-own, spawns-same, spawns-least}
 
@@ -31,7 +31,7 @@ pub record IsIdle (e : Event) : Type 0 where
 
 -- a task of the next child's name was never made
 pub child-unmade : (K : List Event) (n : Name) → IsOrderly K → is_made K n ≡ true → is_made K (next_child K n) ≡ false
-child-unmade K n o m = false_from_ne_true (is_made K (next_child K n)) (λ h. elim (o.born n (steps_of is_spawn K n + 1) h) [
+child-unmade K n o m = false_from_ne_true (is_made K (next_child K n)) (λ h. elim (o.lineage n (steps_of is_spawn K n + 1) h) [
   | inl p ↦ let m' : is_made K [] ≡ true = rw p.0 at m in both_ways (is_made K []) o.nameless m'
   | inr p ↦ omega (arith, p.2)
 ])
@@ -50,7 +50,7 @@ pub parent-made : (K : List Event) (n : Name) → IsOrderly K → is_made K n �
 parent-made K n o m =
     let s = last-split n (name-full K n o m) in
     let p : parent n ≡ s.0 = ap parent s.2 ∙ parent-snoc s.0 s.1 in
-    elim (o.born s.0 s.1 (rw s.2 at m)) [
+    elim (o.lineage s.0 s.1 (rw s.2 at m)) [
       | inl b ↦ inl (p ∙ b.0)
       | inr b ↦ inr (rw p b.0)
     ]
@@ -94,9 +94,9 @@ once-more K e r fresh o p l m q = elim (cases_Bool (makes e.what)) [
     clash : (i : ℕ) → i < tasks_made K → makes e.what ≡ true → task_name_of K i ≡ child_of e.what → ⊥
     clash i a h c = both_ways (is_made K (child_of e.what)) (fresh h) (rw c at (name-made K i a))
 
-born-more : (K : List Event) (e : Event) (m : Name) (k : ℕ) → IsBorn K m k → IsBorn (e ∷ K) m k
-born-more K e m k (inl p) = inl p
-born-more K e m k (inr p) = inr (older-made e K m p.0, p.1, omega (arith, p.2, spawns-least e K m))
+lineage-more : (K : List Event) (e : Event) (m : Name) (k : ℕ) → IsFirstOrChild K m k → IsFirstOrChild (e ∷ K) m k
+lineage-more K e m k (inl p) = inl p
+lineage-more K e m k (inr p) = inr (older-made e K m p.0, p.1, omega (arith, p.2, spawns-least e K m))
 
 -- a history without tasks
 pub orderly-none : IsOrderly []
@@ -104,8 +104,8 @@ orderly-none = record {
   first = λ l. absurd (none l);
   once = λ o p l m q. absurd (none-of o l);
   nameless = unfold is_made in refl;
-  born = λ m k h. absurd (unmade (m ++ k ∷ []) h);
-  idle = λ n h. unfold steps_of in refl;
+  lineage = λ m k h. absurd (unmade (m ++ k ∷ []) h);
+  unmade = λ n h. unfold steps_of in refl;
 }
   where
     none : 0 < tasks_made [] → ⊥
@@ -126,17 +126,17 @@ orderly-try K e n r t = record {
     | inl p ↦ both_ways (is_made K []) r.nameless p
     | inr p ↦ snoc-nil n (steps_of is_spawn K n + 1) (sym p)
   ]);
-  born = λ m k h. elim (try-made K e n (m ++ k ∷ []) t h) [
-    | inl p ↦ born-more K e m k (r.born m k p)
-    | inr p ↦ new-born m k (snoc-parts m n k (steps_of is_spawn K n + 1) p)
+  lineage = λ m k h. elim (try-made K e n (m ++ k ∷ []) t h) [
+    | inl p ↦ lineage-more K e m k (r.lineage m k p)
+    | inr p ↦ new-child m k (snoc-parts m n k (steps_of is_spawn K n + 1) p)
   ];
-  idle = λ m h.
+  unmade = λ m h.
       let u = unmade-older K e m h in
-      try-others K e n m t (λ q. both_ways (is_made K m) u (rw q at t.made)) ∙ r.idle m u;
+      try-others K e n m t (λ q. both_ways (is_made K m) u (rw q at t.made)) ∙ r.unmade m u;
 }
   where
-    new-born : (m : Name) (k : ℕ) → (m ≡ n) × (k ≡ steps_of is_spawn K n + 1) → IsBorn (e ∷ K) m k
-    new-born m k p =
+    new-child : (m : Name) (k : ℕ) → (m ≡ n) × (k ≡ steps_of is_spawn K n + 1) → IsFirstOrChild (e ∷ K) m k
+    new-child m k p =
         let a : is_made (e ∷ K) m ≡ true = rw p.0 (older-made e K n t.made) in
         let b : k ≤ steps_of is_spawn (e ∷ K) m = rw (p.0, try-spawns K e n t, p.1) (omega arith) in
         inr (a, omega (arith, p.1), b)
@@ -147,8 +147,8 @@ orderly-idle K e r i = record {
   first = λ l. let p : 0 < tasks_made K = omega (arith, made-same makes e K i.unmade) in name-kept e K 0 p ∙ r.first p;
   once = once-more K e r (λ h. absurd (both_ways (makes e.what) i.unmade h));
   nameless = made-same-name e K [] i.unmade ∙ r.nameless;
-  born = λ m k h. born-more K e m k (r.born m k (sym (made-same-name e K (m ++ k ∷ []) i.unmade) ∙ h));
-  idle = λ m h. spawns-same e K m (i.spawn m) ∙ r.idle m (unmade-older K e m h);
+  lineage = λ m k h. lineage-more K e m k (r.lineage m k (sym (made-same-name e K (m ++ k ∷ []) i.unmade) ∙ h));
+  unmade = λ m h. spawns-same e K m (i.spawn m) ∙ r.unmade m (unmade-older K e m h);
 }
 
 -- after the start
@@ -164,9 +164,9 @@ orderly-first e pid f =
         | inl p ↦ let q : 0 ∷ [] ≡ [] = sym c ∙ p.1 in cc
         | inr p ↦ both_ways (is_made [] []) (orderly-none.nameless) p
       ]);
-      born = λ l k h. elim (made-cases e [] (l ++ k ∷ []) h) [
+      lineage = λ l k h. elim (made-cases e [] (l ++ k ∷ []) h) [
         | inl p ↦ inl (snoc-parts l [] k 0 (sym p.1 ∙ c))
-        | inr p ↦ born-more [] e l k (orderly-none.born l k p)
+        | inr p ↦ lineage-more [] e l k (orderly-none.lineage l k p)
       ];
-      idle = λ n h. spawns-same e [] n (λ q. let q' : false ≡ true = rw f.who at q in cc) ∙ orderly-none.idle n (unmade-older [] e n h);
+      unmade = λ n h. spawns-same e [] n (λ q. let q' : false ≡ true = rw f.who at q in cc) ∙ orderly-none.unmade n (unmade-older [] e n h);
     }

@@ -11,7 +11,7 @@ use Rattle.task_names.specs.declared.names.Child.{Child}
 use Rattle.task_names.specs.declared.names.NameRow.{NameRow}
 use Rattle.sys_abi.specs.declared.memory.NoMemory.{NoMemory}
 use Rattle.task_names.specs.declared.names.TaskNames.{TaskNames}
-use Rattle.task_names.specs.Rows.{row_of, row_at, rows_entered, with_entry, name_in, name_at, next_name, SameRows, IsTask, HasNumber, HasEntryRoom, HasRoom}
+use Rattle.task_names.specs.Rows.{row_of, row_at, rows_with_entry, with_entry, name_in, name_at, next_name, SameRows, IsTask, HasNumber, HasEntryRoom, HasRoom}
 
 -- the row that was read
 pub read-row : (rows : List NameRow) (i : ℕ) (r : NameRow) → i < length rows → r ≡ get_or rows i r → slice_get (map row_of rows) i ≡ Some (row_of r)
@@ -27,8 +27,8 @@ none-row rows i (Some r) h = tt
 none-row rows i None h = slice_get-map row_of rows i ∙ rw (slice_get_past rows i h) refl
 
 -- a row with one more entry was written
-pub set-entered : (rows : List NameRow) (i : ℕ) (r s : NameRow) (x : Option Child) → i < length rows → r ≡ get_or rows i r → row_of s ≡ with_entry x (row_of r) → map row_of (slice_set rows i s) ≡ rows_entered (map row_of rows) i x
-set-entered rows i r s x l q w = map-set row_of rows i s ∙ rw (read-row rows i r l q, w) refl
+pub set-entry : (rows : List NameRow) (i : ℕ) (r s : NameRow) (x : Option Child) → i < length rows → r ≡ get_or rows i r → row_of s ≡ with_entry x (row_of r) → map row_of (slice_set rows i s) ≡ rows_with_entry (map row_of rows) i x
+set-entry rows i r s x l q w = map-set row_of rows i s ∙ rw (read-row rows i r l q, w) refl
 
 -- a row with other room was written
 pub set-same : (rows : List NameRow) (i : ℕ) (r s : NameRow) → r ≡ get_or rows i r → row_of s ≡ row_of r → map row_of (slice_set rows i s) ≡ map row_of rows

@@ -69,13 +69,13 @@ pid_or_none None = 0
 abbrev pub with_entry : Option Child → Row → Row
 with_entry entry r = record r { children = r.children ++ entry ∷ [] }
 
-abbrev pub entered : Option Child → Option Row → List Row → ℕ → List Row
-entered entry (Some r) rows o = slice_set rows o (with_entry entry r)
-entered entry None rows o = rows
+abbrev pub put_entry : Option Child → Option Row → List Row → ℕ → List Row
+put_entry entry (Some r) rows o = slice_set rows o (with_entry entry r)
+put_entry entry None rows o = rows
 
 -- the rows with one more entry in that of this ordinal
-abbrev pub rows_entered : List Row → ℕ → Option Child → List Row
-rows_entered rows o entry = entered entry (slice_get rows o) rows o
+abbrev pub rows_with_entry : List Row → ℕ → Option Child → List Row
+rows_with_entry rows o entry = put_entry entry (slice_get rows o) rows o
 
 -- the names are as before, but for their room
 abbrev pub SameRows : TaskNames → TaskNames → Type 0

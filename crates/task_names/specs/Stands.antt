@@ -14,18 +14,18 @@ use Rattle.task_names.specs.declared.names.Child.{Child}
 use Rattle.task_names.specs.declared.names.TaskNames.{TaskNames}
 use Rattle.task_names.specs.Rows.{Row, rows_of}
 
--- the name is that of the first task, or its task's parent was made and has spawned so often
-abbrev pub IsBorn : List Event → Name → ℕ → Type 0
-IsBorn K m k = ((m ≡ []) × (k ≡ 0)) ⊎ ((is_made K m ≡ true) × (1 ≤ k) × (k ≤ steps_of is_spawn K m))
+-- the name m with the last number k is that of the first task, or that of one of the spawns of a task that was made
+abbrev pub IsFirstOrChild : List Event → Name → ℕ → Type 0
+IsFirstOrChild K m k = ((m ≡ []) × (k ≡ 0)) ⊎ ((is_made K m ≡ true) × (1 ≤ k) × (k ≤ steps_of is_spawn K m))
 
--- what holds of a history of tasks: names differ, each but the first is that of a child of a task, and who wasn't made
--- spawns nothing
+-- what holds of a history of tasks: names differ, each but the first task's is that of a task's child, and a task that
+-- wasn't made has spawned nothing
 pub record IsOrderly (K : List Event) : Type 0 where
   pub first : 0 < tasks_made K → task_name_of K 0 ≡ 0 ∷ []
   pub once : (o p : ℕ) → o < tasks_made K → p < tasks_made K → task_name_of K o ≡ task_name_of K p → o ≡ p
   pub nameless : is_made K [] ≡ false
-  pub born : (m : Name) (k : ℕ) → is_made K (m ++ k ∷ []) ≡ true → IsBorn K m k
-  pub idle : (n : Name) → is_made K n ≡ false → steps_of is_spawn K n ≡ 0
+  pub lineage : (m : Name) (k : ℕ) → is_made K (m ++ k ∷ []) ≡ true → IsFirstOrChild K m k
+  pub unmade : (n : Name) → is_made K n ≡ false → steps_of is_spawn K n ≡ 0
 
 -- the entry is that of the task of this name, or none where no task of the name was made
 abbrev pub IsEntry : List Event → Name → Option Child → Type 0
@@ -33,7 +33,7 @@ IsEntry K n (Some c) = (c.ordinal < tasks_made K) × (task_name_of K c.ordinal �
 IsEntry K n None = is_made K n ≡ false
 
 -- the entries are those of the children of the task of this name, from the first one on
-pub record IsFamily (K : List Event) (n : Name) (children : List (Option Child)) : Type 0 where
+pub record AreChildren (K : List Event) (n : Name) (children : List (Option Child)) : Type 0 where
   pub count : length children ≡ steps_of is_spawn K n
   pub each : (j : ℕ) (entry : Option Child) → slice_get children j ≡ Some entry → IsEntry K (n ++ (j + 1) ∷ []) entry
 
@@ -42,7 +42,7 @@ pub record IsRow (K : List Event) (o : ℕ) (r : Row) : Type 0 where
   pub name_is : r.name ≡ task_name_of K o
   pub pid_is : r.pid ≡ pid_named K r.name
   pub parent_is : r.parent_pid ≡ pid_named K (parent r.name)
-  pub family : IsFamily K r.name r.children
+  pub children_are : AreChildren K r.name r.children
 
 -- the names stand for the history
 pub record StandsFor (K : List Event) (T : TaskNames) : Type 0 where

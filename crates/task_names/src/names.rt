@@ -6,7 +6,7 @@ ghost use Rattle.hist_model.specs.Tasks.{is_made, parent as parent_name};
 ghost use Rattle.hist_model.specs.Steps.{pid_named, next_child, signalled};
 ghost use Rattle.hist_model.specs.declared.event.Event.{Event};
 ghost use Rattle.history_frames.specs.Ordinals.{tasks_made, task_name_of};
-ghost use Rattle.task_names.specs.Rows.{Row, row_of, rows_of, row_at, rows_entered, name_at, pid_in, parent_pid_in, child_at, pid_or_none, IsTask, HasNumber, HasEntryRoom, HasRoom, SameRows};
+ghost use Rattle.task_names.specs.Rows.{row_of, rows_of, row_at, rows_with_entry, name_at, child_at, IsTask, HasNumber, HasEntryRoom, HasRoom, SameRows};
 ghost use Rattle.task_names.specs.Stands.{StandsFor, IsFirst, IsSpawn, IsRefusal};
 
 use hist_model::script::Whom;
@@ -54,9 +54,10 @@ impl TaskNames {
         }
     }
 
-    /// Names the first task, where there is none yet.
+    /// Names the first task, where there is none yet: its name is 0 alone.
     pub fn first(&mut self, pid: u32) -> Result<(), NoMemory>
         ensures step { OnOk result ((e : Event) → StandsFor [] self.old → IsFirst e pid → StandsFor (e ∷ []) self.new) }
+        ensures task { OnOk result (IsTask self.new 0) }
         ensures refused { OnErr result (SameRows self.old self.new) }
     {
         let name = Vec::from_slice(self.alloc, &[0])?;
@@ -83,7 +84,7 @@ impl TaskNames {
     }
 
     /// Makes room for one `spawned` or `refused` of a task, which then takes no memory. There is none for the 2^32-th task,
-    /// nor for a task's 2^32-th child.
+    /// nor for a task's 2^32-th spawn.
     pub fn ready(&mut self, parent: u32) -> Result<(), NoMemory>
         requires { IsTask self.old parent }
         ensures room { OnOk result (HasRoom self.new parent) }
@@ -120,10 +121,10 @@ impl TaskNames {
     }
 
     /// Adds an entry to those of a task, for which there is room.
-    fn enter(&mut self, parent: u32, entry: Option<Child>)
+    fn add_entry(&mut self, parent: u32, entry: Option<Child>)
         requires is_task { IsTask self.old parent }
         requires room { HasEntryRoom (slice_get self.old.rows.items parent) }
-        ensures rows { rows_of self.new ≡ rows_entered (rows_of self.old) parent entry }
+        ensures rows { rows_of self.new ≡ rows_with_entry (rows_of self.old) parent entry }
         ensures room { (vec_len self.new.rows ≡ vec_len self.old.rows) × (vec_capacity self.new.rows ≡ vec_capacity self.old.rows) }
     {
         self.rows[parent as usize].children.push_reserved(entry);
@@ -139,7 +140,7 @@ impl TaskNames {
         let parent_pid = self.rows[parent as usize].pid;
         let room = mem::replace(&mut self.spare, Vec::new(self.alloc));
         let name = self.next_child(parent, room);
-        self.enter(parent, Some(Child { pid, ordinal }));
+        self.add_entry(parent, Some(Child { pid, ordinal }));
         self.rows.push_reserved(NameRow {
             name,
             pid,
@@ -153,7 +154,7 @@ impl TaskNames {
         requires { HasRoom self.old parent }
         ensures { (K : List Event) (e : Event) → StandsFor K self.old → IsRefusal K e parent → StandsFor (e ∷ K) self.new }
     {
-        self.enter(parent, None);
+        self.add_entry(parent, None);
     }
 
     /// How many tasks were made.
@@ -244,7 +245,7 @@ impl TaskNames {
     }
 
     /// The first task, if it was made and is called by this number.
-    fn root(&self, number: u32) -> Option<u32>
+    fn first_task(&self, number: u32) -> Option<u32>
         ensures some { IfSome result (λ o. (K : List Event) → StandsFor K self.now → (o < tasks_made K) × (task_name_of K o ≡ number ∷ [])) }
         ensures none { IfNone result ((K : List Event) (rest : Name) → StandsFor K self.now → is_made K (number ∷ rest) ≡ false) }
     {
@@ -256,7 +257,7 @@ impl TaskNames {
     }
 
     /// A task's child of this number, if it was made.
-    fn step(&self, o: u32, k: u32) -> Option<u32>
+    fn child_ordinal(&self, o: u32, k: u32) -> Option<u32>
         ensures some { IfSome result (λ p. (K : List Event) → StandsFor K self.now → o < tasks_made K → (p < tasks_made K) × (task_name_of K p ≡ task_name_of K o ++ k ∷ [])) }
         ensures none { IfNone result ((K : List Event) (rest : Name) → StandsFor K self.now → o < tasks_made K → is_made K (task_name_of K o ++ k ∷ rest) ≡ false) }
     {
@@ -272,9 +273,9 @@ impl TaskNames {
         ensures none { IfNone result ((K : List Event) → StandsFor K self.now → is_made K name.now ≡ false) }
     {
         let (first, children) = name.split_first()?;
-        let mut task = self.root(*first)?;
+        let mut task = self.first_task(*first)?;
         for number in children {
-            task = self.step(task, *number)?;
+            task = self.child_ordinal(task, *number)?;
         }
         Some(task)
     }

@@ -11,5 +11,5 @@ returns c K e h f =
     let T = c.args.self.now in
     let o = c.args.parent in
     let row = ap pid_in (read-row T.rows.items o c.index.result.now c.requires.is_task c.index.ensures) in
-    let pushed = rows-pushed c.enter.new.self.rows.items c.push_reserved.new.self.items _ c.push_reserved.ensures.items c.new-2.ensures.items in
-    stands-spawned K e T _ o c.args.pid _ _ _ h (task-made K T o h c.requires.is_task) f (omega (arith, h.count, length-map T.rows.items row_of, T.rows.ok.0)) (c.next_child-name.ensures K (stands-room K T _ refl h)) (sym row ∙ pid-is K T o h) (rw c.enter.ensures.rows at pushed)
+    let pushed = rows-pushed c.add_entry.new.self.rows.items c.push_reserved.new.self.items _ c.push_reserved.ensures.items c.new-2.ensures.items in
+    stands-spawned K e T _ o c.args.pid _ _ _ h (task-made K T o h c.requires.is_task) f (omega (arith, h.count, length-map T.rows.items row_of, T.rows.ok.0)) (c.next_child-name.ensures K (stands-room K T _ refl h)) (sym row ∙ pid-is K T o h) (rw c.add_entry.ensures.rows at pushed)

@@ -4,8 +4,8 @@ use Rattle.std.proofs.lemmas.Bool.{eqb-true}
 use Rattle.std.proofs.lemmas.List.{length-map}
 use Rattle.task_names.specs.Rows.{row_of}
 use Rattle.task_names.proofs.Asked.{root-unmade, none-made}
-use Rattle.task_names.proofs.names.TaskNames.root.Goals.{else-number-eq0-via-then-number-eq0+else-not-is_empty, else-number-eq0-via-else-number-eq0}
-use Rattle.task_names.proofs.names.TaskNames.root.Goals as goal
+use Rattle.task_names.proofs.names.TaskNames.first_task.Goals.{else-number-eq0-via-then-number-eq0+else-not-is_empty, else-number-eq0-via-else-number-eq0}
+use Rattle.task_names.proofs.names.TaskNames.first_task.Goals as goal
 
 pub returns-else-number-eq0-clause-none : goal.returns-else-number-eq0-clause-none
 returns-else-number-eq0-clause-none c K rest h = elim c.else-number-eq0.branch [
