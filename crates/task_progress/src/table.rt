@@ -1,6 +1,6 @@
 //! The table of how far the tasks are.
 
-ghost use Rattle.std.specs.Prelude.{◌≡◌, ◌↔◌, ℕ, ◌+◌, ◌-◌, ◌<◌, false, true, List, ◌∷◌, [], length, Option, Some, None, IfOk, OnOk, OnErr, IsOk, IsSome, slice_get};
+ghost use Rattle.std.specs.Prelude.{◌≡◌, ◌↔◌, ℕ, ◌+◌, ◌-◌, ◌<◌, false, true, List, ◌∷◌, [], length, Option, Some, None, OnOk, OnErr, IsOk, IsSome, slice_get};
 ghost use Rattle.std.specs.Option.{option_copied};
 ghost use Rattle.hist_model.specs.Kinds.{makes};
 ghost use Rattle.hist_model.specs.Legal.{system_of};
@@ -13,7 +13,7 @@ ghost use Rattle.hist_model.specs.Tasks.{ended, is_made};
 ghost use Rattle.hist_model.specs.declared.event.Event.{Event};
 ghost use Rattle.hist_model.specs.declared.script.Script.{Script};
 ghost use Rattle.history_frames.specs.Ordinals.{tasks_made, task_name_of};
-ghost use Rattle.task_progress.specs.Rows.{HasRoom, SameTasks, IsAfter, row_at, group_at, ended_at, living, living_in, one_ended, one_if, new_row, IsPut, IsAdvanced, IsAdded};
+ghost use Rattle.task_progress.specs.Rows.{HasRoom, SameTasks, row_at, group_at, ended_at, living, living_in, one_ended, one_if, new_row, IsPut, IsAdvanced, IsAdded};
 ghost use Rattle.task_progress.specs.Stands.{StandsFor, IsStepOf, IsSpawn, IsGroupOf, IsEntry, call_id};
 
 use crate::row::{EnteredCall, Progress};
@@ -118,7 +118,7 @@ impl TaskProgress {
         self.add(group, program);
     }
 
-    /// A task takes a step that makes no task: also a spawn that was refused, and none.
+    /// A task takes a step that makes no task, as a spawn that was refused; or it takes none, which is a `Skip`.
     pub fn stepped(&mut self, o: u32, what: &What)
         ensures stands { (S : Script) (K : List Event) (e : Event) → StandsFor S K self.old → IsStepOf S K e o → e.what ≡ what.now → makes what.now ≡ false → StandsFor S (e ∷ K) self.new }
         ensures count { (g : ℕ) → living_in self.new g + one_ended self.old o what.now g ≡ living_in self.old g }
