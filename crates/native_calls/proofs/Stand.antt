@@ -2,12 +2,13 @@
 -- By cases on the call's step, with what the tables say of events that store bytes and set slots.
 use Rattle.std.proofs.Common.{◌≡◌, ℕ, Bool, true, false, List, ◌∷◌, Option, Some, None, refl, ap, ◌∙◌}
 use Rattle.std.specs.Prelude.{Result, Ok, Err, IfOk, if◌then◌else◌}
-use Rattle.hist_model.specs.Look.{Name, ev}
-use Rattle.hist_model.specs.Files.{files, files_after}
+use Rattle.hist_model.specs.Look.{Name, ev, task_name}
+use Rattle.hist_model.specs.Files.{files, files_after, after_native}
 use Rattle.hist_model.specs.Memory.{group_named, own_group, all_mapped, sysinfo_size, last_call, stored_by_call}
-use Rattle.hist_model.specs.Natives.{NativeStep, Fails, Gives, Changes, Opens, Closes, Writes, native_answer, native_step, call_natively, close_natively}
+use Rattle.hist_model.specs.Natives.{Files, NativeStep, Fails, Gives, Changes, Opens, Closes, Writes, native_answer, native_step, call_natively, close_natively}
 use Rattle.hist_model.specs.Steps.{place_or}
 use Rattle.hist_model.specs.Trees.{Tree}
+use Rattle.hist_model.specs.declared.event.Actor.{Actor}
 use Rattle.hist_model.specs.declared.event.Actor.TheVariants.{Task}
 use Rattle.hist_model.specs.declared.event.Event.{Event}
 use Rattle.hist_model.specs.declared.event.What.{What}
@@ -143,3 +144,19 @@ run_stands container caller call T U M N D E (Ok a) run = λ S K n due.
 pub room_stands : (S : Script) (K : List Event) (T U : Tree) (M N : Spaces) (D E : Tables) → U ≡ T → (memory.StandsFor S K M → memory.StandsFor S K N) → (descriptors.StandsFor S K D → descriptors.StandsFor S K E)
     → StandFor S K T M D → StandFor S K U N E
 room_stands S K T U M N D E t m d h = record { tree_is = t ∙ h.tree_is; spaces_stand = m h.spaces_stand; tables_stand = d h.tables_stand }
+
+-- ---- bases
+
+base-kept : (F : Files) (g w : ℕ) (s : NativeStep) → (after_native F g s).base w ≡ F.base w
+base-kept F g w (Changes T) = refl
+base-kept F g w (Opens n x) = refl
+base-kept F g w (Closes n) = refl
+base-kept F g w s = refl
+
+bases-kept : (S : Script) (K : List Event) (a : Actor) (answer : Result ℕ ℕ) (w : ℕ) → (files_after S K (files S K) a (Native answer)).base w ≡ (files S K).base w
+bases-kept S K a (Ok n) w = base-kept (files S K) (own_group K a) w (native_step S K (files S K) (task_name a))
+bases-kept S K a (Err e) w = refl
+
+pub native_bases : (S : Script) (K : List Event) (e : Event) (answer : Result ℕ ℕ) (w : ℕ) → e.what ≡ Native answer → (files S (e ∷ K)).base w ≡ (files S K).base w
+unfolding files
+native_bases S K e answer w h = ap (λ (x : What). (files_after S K (files S K) e.who x).base w) h ∙ bases-kept S K e.who answer w

@@ -13,6 +13,7 @@ mod call;
 mod changes;
 mod copies;
 mod files;
+pub mod laws;
 mod memory;
 mod requests;
 mod rooms;
