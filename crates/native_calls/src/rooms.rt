@@ -3,7 +3,8 @@
 ghost use Rattle.std.specs.Prelude.{◌≡◌, ◌+◌, ◌≤◌, ℕ, List, length, IfOk, OnOk};
 ghost use Rattle.hist_model.specs.declared.event.Event.{Event};
 ghost use Rattle.hist_model.specs.declared.script.Script.{Script};
-ghost use Rattle.fd_table.specs.Tables.{IsHeld, SameTables};
+ghost use Rattle.fd_table.specs.declared.tables.TableRef.{TableRef};
+ghost use Rattle.fd_table.specs.Tables.{IsHeld, SameTables, reached};
 ghost use Rattle.task_memory.specs.Spaces.{SameSpaces};
 ghost use Rattle.native_calls.specs.Done.{room_natively};
 ghost use Rattle.native_calls.specs.Stands.{StandFor, IsReady, room_of};
@@ -68,6 +69,7 @@ pub fn ready(
     ensures room { OnOk result (IsReady call.now caller tree.new.spare spaces.new tables.new) }
     ensures tree { tree.new.tree ≡ tree.old.tree }
     ensures spaces { SameSpaces spaces.old spaces.new }
+    ensures reached { (t : TableRef) → reached tables.new t ≡ reached tables.old t }
     ensures tables { SameTables tables.old tables.new }
     ensures stand { (S : Script) (K : List Event) → StandFor S K tree.old.tree spaces.old tables.old → StandFor S K tree.new.tree spaces.new tables.new }
 {
