@@ -43,7 +43,7 @@ pub struct Caller {
     pub pid: u32,
 }
 
-/// Answers a call and does what it does.
+/// Does the step of a call, and answers it.
 fn act(
     call: NativeCall,
     container: &Container,
@@ -93,7 +93,14 @@ fn act(
     }
 }
 
-/// Runs a native call.
+/// Runs a prepared call of a task: answers it, and applies it to what it changes, in one walk of its path. It takes no memory
+/// where `ready` made room, and after `NoMemory` or an errno all is as it was.
+///
+/// close(2) answers EBADF for a number that isn't open. getpid(2) gives the task's number. sysinfo(2) stores the host's figures,
+/// and answers EFAULT where they don't fit in mapped memory. A call with paths answers the fault of its arguments first, and
+/// a relative path from a number that leads to no directory EBADF; then mknod(2) and setxattr(2) answer what the tree does, but
+/// EPERM for a device that the tree would take and for an attribute that isn't the user's own; mount(2) answers EPERM; and
+/// openat(2) gives the lowest free number, and answers EMFILE where none below the limit is free. Every other call is ENOSYS.
 pub fn run(
     call: NativeCall,
     container: &Container,
