@@ -1,6 +1,6 @@
 //! The rows of the broker's workers.
 
-ghost use Rattle.std.specs.Prelude.{◌≡◌, ◌↔◌, ℕ, ◌≤◌, false, true, List, [], ◌∷◌, set, is_some};
+ghost use Rattle.std.specs.Prelude.{◌≡◌, ◌↔◌, ℕ, ◌≤◌, false, true, List, [], ◌∷◌, set, replicate, Some, is_some};
 ghost use Rattle.std.specs.List.{count_by};
 ghost use Rattle.hist_model.specs.Files.{files};
 ghost use Rattle.hist_model.specs.Kinds.{starts};
@@ -27,7 +27,7 @@ pub struct WorkerRow {
     /// The directory from which relative paths go, if one is open.
     base: Option<NodeRef>,
     /// The group whose memory is open, by its ordinal.
-    memory: Option<u64>,
+    memory: Option<u32>,
     /// It received a notification, and has not let go.
     has_session: bool,
 }
@@ -64,7 +64,8 @@ impl Model for WorkerRows {
 impl WorkerRows {
     /// Nobody has opened anything.
     pub fn new() -> WorkerRows
-        ensures { (S : Script) → StandsFor S [] result }
+        ensures stands { (S : Script) → StandsFor S [] result }
+        ensures rows { result ≡ replicate 17 idle }
     {
         WorkerRows {
             rows: [WorkerRow::IDLE; WORKERS],
@@ -102,7 +103,7 @@ impl WorkerRows {
     }
 
     /// The ordinal of the group whose memory a worker has open. None exactly where it has none open.
-    pub fn memory(&self, worker: u8) -> Option<u64>
+    pub fn memory(&self, worker: u8) -> Option<u32>
         ensures found { result ≡ (row_of self.now worker).memory }
         ensures stands { (S : Script) (K : List Event) → StandsFor S K self.now → IsMemory K (mem K worker) result }
     {
@@ -136,7 +137,8 @@ impl WorkerRows {
     /// A worker received a notification. A receive that found none changes nothing.
     pub fn received(&mut self, worker: u8)
         requires { worker ≤ 16 }
-        ensures { (S : Script) (K : List Event) (e : Event) → StandsFor S K self.old → e.who ≡ Worker worker → starts e.what ≡ true → StandsFor S (e ∷ K) self.new }
+        ensures stands { (S : Script) (K : List Event) (e : Event) → StandsFor S K self.old → e.who ≡ Worker worker → starts e.what ≡ true → StandsFor S (e ∷ K) self.new }
+        ensures row { self.new ≡ set self.old worker (record (row_of self.old worker) { has_session = true }) }
     {
         let row = self.row(worker);
         self.set(
@@ -149,9 +151,10 @@ impl WorkerRows {
     }
 
     /// A worker opened the memory of a group, which has this ordinal. An opening that failed changes nothing.
-    pub fn opened_memory(&mut self, worker: u8, group: u64)
+    pub fn opened_memory(&mut self, worker: u8, group: u32)
         requires { worker ≤ 16 }
-        ensures { (S : Script) (K : List Event) (e : Event) → StandsFor S K self.old → IsMemoryOpening K e worker group → StandsFor S (e ∷ K) self.new }
+        ensures stands { (S : Script) (K : List Event) (e : Event) → StandsFor S K self.old → IsMemoryOpening K e worker group → StandsFor S (e ∷ K) self.new }
+        ensures row { self.new ≡ set self.old worker (record (row_of self.old worker) { memory = Some group }) }
     {
         let row = self.row(worker);
         let memory = Some(group);
@@ -161,7 +164,8 @@ impl WorkerRows {
     /// A worker opened this directory for relative paths. An opening that failed changes nothing.
     pub fn opened_base(&mut self, worker: u8, base: Option<NodeRef>)
         requires { worker ≤ 16 }
-        ensures { (S : Script) (K : List Event) (e : Event) → StandsFor S K self.old → IsBaseOpening S K e worker base → StandsFor S (e ∷ K) self.new }
+        ensures stands { (S : Script) (K : List Event) (e : Event) → StandsFor S K self.old → IsBaseOpening S K e worker base → StandsFor S (e ∷ K) self.new }
+        ensures row { self.new ≡ set self.old worker (record (row_of self.old worker) { base = base }) }
     {
         let row = self.row(worker);
         self.set(worker, WorkerRow { base, ..row });
@@ -170,7 +174,8 @@ impl WorkerRows {
     /// A worker closed what it had opened.
     pub fn let_go(&mut self, worker: u8)
         requires { worker ≤ 16 }
-        ensures { (S : Script) (K : List Event) (e : Event) → StandsFor S K self.old → e.who ≡ Worker worker → e.what ≡ LetGo → StandsFor S (e ∷ K) self.new }
+        ensures stands { (S : Script) (K : List Event) (e : Event) → StandsFor S K self.old → e.who ≡ Worker worker → e.what ≡ LetGo → StandsFor S (e ∷ K) self.new }
+        ensures row { self.new ≡ set self.old worker idle }
     {
         self.set(worker, WorkerRow::IDLE);
     }
