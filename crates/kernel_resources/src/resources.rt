@@ -1,0 +1,47 @@
+//! The resources of a container.
+
+ghost use Rattle.std.specs.Prelude.{◌≡◌, ℕ, ◌<◌, ◌≤◌, List, [], ◌∷◌, Some, None, IfOk};
+ghost use Rattle.hist_model.specs.declared.script.Script.{Script as ScriptData};
+ghost use Rattle.kernel_resources.specs.Stands.{StandsFor};
+
+use hist_model::script::Script;
+use listener::Listener;
+use mount_tree::tree::Tree;
+use native_calls::Container;
+use path_walk::resolution::Walk;
+use std::alloc::Global;
+use sys_abi::memory::NoMemory;
+use task_groups::Groups;
+use worker_rows::{SpentRows, WorkerRows};
+
+/// What tasks and workers use.
+#[derive(Drop)]
+pub struct Resources {
+    pub(crate) groups: Groups,
+    pub(crate) listener: Listener,
+    pub(crate) tree: Tree,
+    pub(crate) walk: Walk,
+    pub(crate) workers: WorkerRows,
+    pub(crate) spent: SpentRows,
+    pub(crate) container: Container,
+}
+
+impl Resources {
+    /// The resources of a script before its first event: the stated tree, and nothing open.
+    pub fn new(alloc: Global, script: &Script) -> Result<Resources, NoMemory>
+        ensures { IfOk result (λ r. StandsFor script.now [] (λ o. 0) r) }
+    {
+        Ok(Resources {
+            groups: Groups::new(alloc, script)?,
+            listener: Listener::new(alloc, script.firstid)?,
+            tree: Tree::stated(alloc, script.tree.items())?,
+            walk: Walk::new(alloc)?,
+            workers: WorkerRows::new(),
+            spent: SpentRows::new(alloc),
+            container: Container {
+                root: script.root,
+                figures: script.figures,
+            },
+        })
+    }
+}
