@@ -1,0 +1,45 @@
+//! What holds of the tasks of a history for which a kernel's tasks stand.
+
+ghost use Rattle.std.specs.Prelude.{◌≡◌, ◌↔◌, ℕ, ◌<◌, List, ◌∷◌, Some, not, true, false};
+ghost use Rattle.hist_model.specs.Kinds.{skips};
+ghost use Rattle.hist_model.specs.Legal.{system_of};
+ghost use Rattle.hist_model.specs.Signals.{call_of};
+ghost use Rattle.hist_model.specs.Steps.{living_step, opened, task_place, task_step};
+ghost use Rattle.hist_model.specs.Systems.{System};
+ghost use Rattle.hist_model.specs.Tasks.{alive, ended, is_made};
+ghost use Rattle.hist_model.specs.declared.event.Event.{Event};
+ghost use Rattle.hist_model.specs.declared.event.What.TheVariants.{Skip};
+ghost use Rattle.hist_model.specs.declared.script.Script.{Script};
+ghost use Rattle.history_frames.specs.Ordinals.{tasks_made, place_of, task_name_of, group_of};
+ghost use Rattle.task_progress.specs.Rows.{living_in};
+ghost use Rattle.task_progress.specs.Stands.{IsGroupOf, IsStepOf};
+ghost use Rattle.kernel_tasks.specs.declared.tasks.Tasks.{Tasks};
+ghost use Rattle.kernel_tasks.specs.Rows.{SameTasks};
+ghost use Rattle.kernel_tasks.specs.Stands.{StandsFor, IsOther};
+
+/// After an event that is no step of a task and does nothing to one, enters no call and doesn't close the listener, the
+/// tasks stand for the longer history as they are: each step of a worker is such an event.
+pub fn others_change_nothing()
+    ensures { (S : Script) (K : List Event) (e : Event) (T : Tasks) → StandsFor S K T → IsOther e → StandsFor S (e ∷ K) T }
+{}
+
+/// Tasks with other room stand for what they stood for, and count what they counted.
+pub fn room_changes_nothing()
+    ensures stands { (S : Script) (K : List Event) (old new : Tasks) → SameTasks old new → StandsFor S K old ↔ StandsFor S K new }
+    ensures count { (old new : Tasks) (g : ℕ) → SameTasks old new → living_in new.progress g ≡ living_in old.progress g }
+{}
+
+/// A task's name leads to its place, and from there to its group, which it was given when it was made.
+pub fn names_lead_to_places()
+    ensures place { (S : Script) (K : List Event) (T : Tasks) (o : ℕ) → StandsFor S K T → o < tasks_made K → task_place K (task_name_of K o) ≡ place_of K o }
+    ensures group { (S : Script) (K : List Event) (T : Tasks) (o g : ℕ) → StandsFor S K T → o < tasks_made K → IsGroupOf K (task_name_of K o) g → opened K (place_of K o) ≡ group_of K g }
+{}
+
+/// A task that was made lives until it has ended, and steps until then.
+pub fn tasks_live_until_they_end()
+    ensures made { (K : List Event) (o : ℕ) → o < tasks_made K → is_made K (task_name_of K o) ≡ true }
+    ensures alive { (K : List Event) (o : ℕ) → o < tasks_made K → alive K (task_name_of K o) ≡ not (ended K (task_name_of K o)) }
+    ensures step { (S : System) (K : List Event) (o : ℕ) → o < tasks_made K → ended K (task_name_of K o) ≡ false → task_step S K (task_name_of K o) ≡ living_step S K (task_name_of K o) (call_of K (task_name_of K o)) }
+    ensures none { (S : System) (K : List Event) (o : ℕ) → ended K (task_name_of K o) ≡ true → task_step S K (task_name_of K o) ≡ Skip }
+    ensures stepped { (S : Script) (K : List Event) (e : Event) (o : ℕ) → IsStepOf S K e o → skips e.what ≡ false → ended K (task_name_of K o) ≡ false }
+{}
