@@ -4,7 +4,7 @@ use Rattle.std.proofs.Common.{◌≡◌, inl, inr, ℕ, Bool, true, false, List,
 use Rattle.std.specs.Prelude.{Ok, Err}
 use Rattle.hist_model.specs.Look.{Name}
 use Rattle.hist_model.specs.Kinds.{makes, ends, exits, skips}
-use Rattle.hist_model.specs.Steps.{is_spawn}
+use Rattle.hist_model.specs.Steps.{deliver_or, is_spawn}
 use Rattle.hist_model.specs.Tasks.{mode}
 use Rattle.hist_model.specs.declared.event.Actor.{Actor}
 use Rattle.hist_model.specs.declared.event.Delivered.{Delivered}
@@ -16,7 +16,7 @@ use Rattle.hist_model.specs.declared.event.What.TheVariants.{Spawn, Enter, Exit,
 use Rattle.task_table.specs.Sets.{with_mode}
 use Rattle.task_table.specs.Stands as table
 use Rattle.task_names.specs.Stands as names
-use Rattle.kernel_tasks.specs.Rows.{keeps_tasks, effect_of, delivery, IsReap}
+use Rattle.kernel_tasks.specs.Rows.{keeps_tasks, effect_of, delivery, IsReap, step_or}
 
 pub keeps-table : (K : List Event) (w : What) → keeps_tasks w ≡ true → table.IsOther K w
 keeps-table K (Spawn n a) h = cc
@@ -71,6 +71,10 @@ none-delivered K n in_call (Some s) q = cc
 pub is-delivery : (w : What) (in_call : Bool) (sig : ℕ) (m : Mode) → w ≡ Deliver sig (effect_of in_call sig m) → table.IsDelivery w sig m
 is-delivery w true sig m q = inl q
 is-delivery w false sig m q = inr q
+
+pub delivery-first : (K : List Event) (n : Name) (in_call : Bool) (due : Option ℕ) (other : What) → step_or (delivery K n in_call due) other ≡ deliver_or due (λ s. effect_of in_call s (mode K n s)) other
+delivery-first K n in_call None other = refl
+delivery-first K n in_call (Some s) other = refl
 
 -- ---- waits
 

@@ -56,10 +56,14 @@ abbrev pub delivery : List Event → Name → Bool → Option ℕ → Option Wha
 delivery K n in_call (Some sig) = Some (Deliver sig (effect_of in_call sig (mode K n sig)))
 delivery K n in_call None = None
 
+-- the step, and another one where there is none
+abbrev pub step_or : Option What → What → What
+step_or (Some w) other = w
+step_or None other = other
+
 -- the step, and Skip where there is none
 abbrev pub step_of : Option What → What
-step_of (Some w) = w
-step_of None = Skip
+step_of w = step_or w Skip
 
 -- 1 where the step makes a task and its group is this one, else 0
 abbrev pub one_made : What → ℕ → ℕ → ℕ

@@ -1,20 +1,22 @@
 //! What holds of the tasks of a history for which a kernel's tasks stand.
 
-ghost use Rattle.std.specs.Prelude.{◌≡◌, ◌↔◌, ℕ, ◌<◌, List, ◌∷◌, Some, not, true, false};
+ghost use Rattle.std.specs.Prelude.{◌≡◌, ◌↔◌, ℕ, ◌<◌, Bool, List, ◌∷◌, Option, Some, not, true, false};
 ghost use Rattle.hist_model.specs.Kinds.{skips};
 ghost use Rattle.hist_model.specs.Legal.{system_of};
+ghost use Rattle.hist_model.specs.Look.{Name};
 ghost use Rattle.hist_model.specs.Signals.{call_of};
-ghost use Rattle.hist_model.specs.Steps.{living_step, opened, task_place, task_step};
+ghost use Rattle.hist_model.specs.Steps.{deliver_or, living_step, opened, task_place, task_step};
 ghost use Rattle.hist_model.specs.Systems.{System};
-ghost use Rattle.hist_model.specs.Tasks.{alive, ended, is_made};
+ghost use Rattle.hist_model.specs.Tasks.{alive, ended, is_made, mode};
 ghost use Rattle.hist_model.specs.declared.event.Event.{Event};
+ghost use Rattle.hist_model.specs.declared.event.What.{What};
 ghost use Rattle.hist_model.specs.declared.event.What.TheVariants.{Skip};
 ghost use Rattle.hist_model.specs.declared.script.Script.{Script};
 ghost use Rattle.history_frames.specs.Ordinals.{tasks_made, place_of, task_name_of, group_of};
 ghost use Rattle.task_progress.specs.Rows.{living_in};
 ghost use Rattle.task_progress.specs.Stands.{IsGroupOf, IsStepOf};
 ghost use Rattle.kernel_tasks.specs.declared.tasks.Tasks.{Tasks};
-ghost use Rattle.kernel_tasks.specs.Rows.{SameTasks};
+ghost use Rattle.kernel_tasks.specs.Rows.{SameTasks, delivery, effect_of, step_or};
 ghost use Rattle.kernel_tasks.specs.Stands.{StandsFor, IsOther};
 
 /// After an event that is no step of a task and does nothing to one, enters no call and doesn't close the listener, the
@@ -42,4 +44,9 @@ pub fn tasks_live_until_they_end()
     ensures step { (S : System) (K : List Event) (o : ℕ) → o < tasks_made K → ended K (task_name_of K o) ≡ false → task_step S K (task_name_of K o) ≡ living_step S K (task_name_of K o) (call_of K (task_name_of K o)) }
     ensures none { (S : System) (K : List Event) (o : ℕ) → ended K (task_name_of K o) ≡ true → task_step S K (task_name_of K o) ≡ Skip }
     ensures stepped { (S : Script) (K : List Event) (e : Event) (o : ℕ) → IsStepOf S K e o → skips e.what ≡ false → ended K (task_name_of K o) ≡ false }
+{}
+
+/// A delivery comes before what else its task would do.
+pub fn deliveries_come_first()
+    ensures { (K : List Event) (n : Name) (in_call : Bool) (due : Option ℕ) (other : What) → step_or (delivery K n in_call due) other ≡ deliver_or due (λ s. effect_of in_call s (mode K n s)) other }
 {}
