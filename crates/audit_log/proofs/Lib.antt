@@ -1,3 +1,4 @@
+pub mod Audited
 pub mod Counted
 pub mod Entered
 pub mod Named
@@ -5,6 +6,5 @@ pub mod Opened
 pub mod Past
 pub mod ReceivedCalls
 pub mod Recorded
-pub mod Sessions
 pub mod Trimmed
 pub mod Writing

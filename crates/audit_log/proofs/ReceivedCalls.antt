@@ -1,23 +1,15 @@
 -- The calls of received notifications are kept, and so is the number that was installed for each.
 -- By cases on whether the event is the last one, and by the record of the call that an id names (`Tells`).
-use Rattle.std.proofs.Common.{◌≡◌, inl, inr, ℕ, ◌+◌, ◌<◌, Bool, true, false, List, [], ◌∷◌, ◌++◌, length, get_or, Option, Some, None, refl, sym, ap, ◌∙◌, subst, append_assoc, take, drop, reverse, arith}
-use Rattle.std.specs.Prelude.{if◌then◌else◌, Ok}
+use Rattle.std.proofs.Common.{◌≡◌, inl, inr, ℕ, ◌+◌, ◌<◌, Bool, true, false, List, [], ◌∷◌, ◌++◌, length, get_or, Option, Some, None, refl, sym, ap, ◌∙◌, subst, append_assoc, arith}
+use Rattle.std.specs.Prelude.{if◌then◌else◌}
 use Rattle.std.proofs.lemmas.Bool.{cases_order}
-use Rattle.std.proofs.lemmas.List.{length-append, get_or_at, get_or_append_left, reverse-append, take-append-drop}
+use Rattle.std.proofs.lemmas.List.{length-append, get_or_at, get_or_append_left}
 use Rattle.hist_model.specs.Look.{event_at, task_name}
 use Rattle.hist_model.specs.Calls.{actor_in, caller}
-use Rattle.hist_model.specs.ReportAudit.{Judging, audit_by, audit_line, audit_line_by, audit_line_of, call_with_id, installed, installed_at, is_notified, session_at}
-use Rattle.hist_model.specs.Report.{audits, audits_by}
-use Rattle.hist_model.specs.ReportJournal.{lines_of}
-use Rattle.hist_model.specs.declared.event.Actor.{Actor}
-use Rattle.hist_model.specs.declared.event.Actor.TheVariants.{Worker}
-use Rattle.hist_model.specs.declared.event.What.{What}
-use Rattle.hist_model.specs.declared.event.What.TheVariants.{Recv}
-use Rattle.sys_abi.specs.declared.wire.Notif.{Notif}
+use Rattle.hist_model.specs.ReportAudit.{call_with_id, installed, installed_at, is_notified}
 use Rattle.hist_model.specs.declared.event.Event.{Event}
 use Rattle.hist_model.proofs.Look.{event_at-here, event_at-older}
-use Rattle.audit_log.proofs.Past.{past_more, length_taken}
-use Rattle.audit_log.specs.Numbers.{TellsNumbers, number_in, numbered_audits, numbered_by, numbered_line}
+use Rattle.audit_log.specs.Numbers.{TellsNumbers}
 use Rattle.audit_log.specs.declared.numbers.Numbers.{Numbers}
 use Rattle.audit_log.specs.Received.{Names, TellsReceived, place_in, received_by}
 use Rattle.audit_log.specs.Records.{Tells, no_record, number_at}
@@ -104,39 +96,3 @@ numbers_told n H t r later K e notif h q =
     let named : get_or n.calls.items (length K) None ≡ call_with_id notif.id K = r later K e h ∙ ap (received_by (λ x. call_with_id x K)) q in
     let whole : H ≡ (later ++ e ∷ []) ++ K = h ∙ sym (append_assoc later (e ∷ []) K) in
     ap (number_at n.records.items) named ∙ number_told H n.records.items t (later ++ e ∷ []) K notif.id whole
-
--- what came of a session with the number that was kept for its call
-pub audits_numbered : (J : Judging) (H K : List Event) (number : Option ℕ) (who : Actor) (what : What)
-    → ((notif : Notif) → what ≡ Recv (Ok notif) → number ≡ installed_at H K (call_with_id notif.id K))
-    → numbered_audits J H number (length K) who what ≡ audits_by J H K who what
-audits_numbered J H K number (Worker w) (Recv (Ok notif)) q = ap (λ o. audit_by J notif (session_at w (length K) H) o ∷ []) (q notif refl)
-audits_numbered J H K number _ _ q = refl
-
-line-numbered : (J : Judging) (H K : List Event) (number : Option ℕ) (who : Actor) (what : What)
-    → ((notif : Notif) → what ≡ Recv (Ok notif) → number ≡ installed_at H K (call_with_id notif.id K))
-    → numbered_by J H number (length K) who what ≡ audit_line_by J H K who what
-line-numbered J H K number (Worker w) (Recv (Ok notif)) q = ap (λ o. audit_line_of J (length K) w notif (audit_by J notif (session_at w (length K) H) o)) (q notif refl)
-line-numbered J H K number _ _ q = refl
-
-lines-numbered : (J : Judging) (n : Numbers) (H later K : List Event) → TellsNumbers H n → H ≡ later ++ K → lines_of (numbered_line J H n) K ≡ lines_of (audit_line J H) K
-unfolding lines_of
-lines-numbered J n H later [] t h = refl
-lines-numbered J n H later (e ∷ K) t h =
-    let q : H ≡ (later ++ e ∷ []) ++ K = h ∙ sym (append_assoc later (e ∷ []) K) in
-    rw (lines-numbered J n H (later ++ e ∷ []) K t q, line-numbered J H K (number_in n (length K)) e.who e.what (λ notif. t later K e notif h)) refl
-
-pub audit_numbered : (J : Judging) (n : Numbers) (H : List Event) → TellsNumbers H n → lines_of (numbered_line J H n) H ≡ lines_of (audit_line J H) H
-audit_numbered J n H t = lines-numbered J n H [] H t refl
-
--- what came of the sessions up to one more event
-pub audits_more : (J : Judging) (n : Numbers) (xs : List Event) (i : ℕ) (e : Event) → i < length xs → e ≡ get_or xs i e → TellsNumbers (reverse xs) n
-    → audits J (reverse xs) (reverse (take (i + 1) xs)) ≡ audits J (reverse xs) (reverse (take i xs)) ++ numbered_audits J (reverse xs) (number_in n i) i e.who e.what
-unfolding audits
-audits_more J n xs i e l is t =
-    let K = reverse (take i xs) in
-    let m : reverse (take (i + 1) xs) ≡ e ∷ K = past_more xs i e l ∙ ap (λ x. x ∷ K) (sym is) in
-    let whole : reverse xs ≡ reverse (drop (i + 1) xs) ++ e ∷ K =
-    ap reverse (sym (take-append-drop (i + 1) xs)) ∙ reverse-append (take (i + 1) xs) (drop (i + 1) xs) ∙ ap (λ x. reverse (drop (i + 1) xs) ++ x) m in
-    let p : length K ≡ i = length_taken xs i (omega arith) in
-    let told = audits_numbered J (reverse xs) K (number_in n (length K)) e.who e.what (λ notif. t (reverse (drop (i + 1) xs)) K e notif whole) in
-    rw m (ap (λ x. audits J (reverse xs) K ++ x) (sym told ∙ ap (λ j. numbered_audits J (reverse xs) (number_in n j) j e.who e.what) p))

@@ -8,7 +8,7 @@ ghost use Rattle.hist_model.specs.ReportCalls.{newest_call};
 ghost use Rattle.hist_model.specs.Look.{task_name};
 
 use crate::outcome::{CallFacts, newest_call, same_task, task_numbers};
-use crate::session::is_notified;
+use crate::step::is_notified;
 use hist_model::event::{Entered, Event, What};
 use std::alloc::Global;
 use sys_abi::memory::NoMemory;

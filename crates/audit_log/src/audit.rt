@@ -1,23 +1,29 @@
 //! The audit: a line for each session.
 
-ghost use Rattle.std.specs.Prelude.{◌≡◌, ◌++◌, ◌||◌, IfOk, OnOk, codes, decimal, is_some, reverse};
+ghost use Rattle.std.specs.Prelude.{◌≡◌, ◌++◌, ◌||◌, OnOk, codes, decimal, is_some};
+ghost use Rattle.std.specs.List.{flat_map};
+ghost use Rattle.hist_model.specs.Decisions.{rule_name};
+ghost use Rattle.hist_model.specs.ReportJournal.{title};
 ghost use Rattle.hist_model.specs.ReportWords.{call_text};
-ghost use Rattle.hist_model.specs.ReportAudit.{answer_of, answer_text, arrival_of, arrival_text, audit, audit_by, audit_line_of, finding_by, finding_of, finding_of_verdict, finding_text, reads, rule_of, rule_text, session_at};
+ghost use Rattle.hist_model.specs.ReportAudit.{answer_of, answer_text, arrival_of, arrival_text, audit, audit_line_of, finding_text, judging_by, rule_of, rule_text};
+ghost use Rattle.audit_log.specs.Audited.{audited, session_line};
 ghost use Rattle.audit_log.specs.Written.{Wrote};
 
 use crate::count::begun;
 use crate::error::ReportError;
-use crate::judge::Judge;
 use crate::line::Line;
 use crate::numbers::Numbers;
-use crate::part::{Part, write_part};
-use crate::session::Facts;
+use crate::part::{write_line, write_title};
 use crate::words::{push_back, push_call};
-use hist_model::event::{Actor, Back, Event, What};
+use hist_model::event::Back;
 use hist_model::history::History;
-use hist_model::policy::Verdict;
-use hist_model::report::{Arrival, Audit, Finding, Judged};
+use hist_model::policy::Policy;
+use hist_model::report::{Arrival, Finding};
 use io_edge::sink::Sink;
+use policy_eval::rule_name;
+use session_facts::facts::Facts;
+use session_facts::session::Session;
+use session_table::sessions;
 use std::alloc::Global;
 use sys_abi::memory::NoMemory;
 use sys_abi::wire::Notif;
@@ -25,90 +31,79 @@ use sys_abi::wire::Notif;
 /// Writes the audit of a history: `audit N` and a line for each of the N sessions, from the oldest on, with the rule that decided, what was answered, and whether that reached the call.
 ///
 /// `WriteFault` comes only where the sink's count of faults rose. After an error the sink took a prefix of the audit.
-#[tactic(auto, using(crate::proofs::ReceivedCalls::audit_numbered))]
-pub fn write_audit<J: Judge, O: Sink>(
+pub fn write_audit<O: Sink>(
     alloc: Global,
-    judge: &J,
+    policy: &Policy,
     history: &History,
     out: &mut O,
 ) -> Result<(), ReportError>
-    ensures { Wrote (O.state out.old) (audit (J.judging judge.now) history.now.events) result (O.state out.new) }
+    ensures { Wrote (O.state out.old) (audit (judging_by policy.now.rules) history.now.events) result (O.state out.new) }
 {
     let events = history.events();
     let numbers = Numbers::of(alloc, events)?;
-    let part = Audits {
-        alloc,
-        judge,
-        events,
-        numbers: &numbers,
-    };
-    write_part(alloc, &part, "audit", begun(events), events, out)
+    let found = sessions(alloc, policy, events)?;
+    let mut line = Line::new(alloc);
+    write_titled(
+        policy,
+        &numbers,
+        found.as_slice(),
+        begun(events),
+        &mut line,
+        out,
+    )
 }
 
-/// The audit as a part of the report.
-#[derive(Drop)]
-struct Audits<'a, J> {
-    alloc: Global,
-    judge: &'a J,
-    /// All events of the history.
-    events: &'a [Event],
-    numbers: &'a Numbers,
-}
-
-impl<J: Judge> Part for Audits<'_, J> {
-    ghost use Rattle.std.specs.Prelude.{reverse};
-    ghost use Rattle.audit_log.specs.Numbers.{numbered_line};
-
-    ghost text = { λ a. numbered_line (J.judging a.judge.now) (reverse a.events.now) a.numbers.now };
-
-    #[tactic(auto, using(crate::proofs::Past::length_past))]
-    fn push_line(&self, line: &mut Line, before: &[Event], event: &Event) -> Result<(), NoMemory> {
-        match (&event.who, &event.what) {
-            (Actor::Worker(worker), What::Recv { answer: Ok(notif) }) => {
-                let place = before.len();
-                let number = self.numbers.received_at(place);
-                let audit = audit_of(
-                    self.alloc,
-                    self.judge,
-                    self.events,
-                    place,
-                    *worker,
-                    notif,
-                    number,
-                )?;
-                push_session(line, self.judge, place, *worker, notif, audit)
-            }
-            _ => Ok(()),
-        }
-    }
-}
-
-/// What came of the session that a worker began with a notification at a place, for whose call this number was installed.
-pub(crate) fn audit_of<J: Judge>(
-    alloc: Global,
-    judge: &J,
-    events: &[Event],
-    place: usize,
-    worker: u8,
-    notif: &Notif,
-    number: Option<u32>,
-) -> Result<Audit, NoMemory>
-    ensures { IfOk result (λ a. a ≡ audit_by (J.judging judge.now) notif.now (session_at worker place (reverse events.now)) number) }
+/// Writes the title, with the number of sessions, and their lines.
+fn write_titled<O: Sink>(
+    policy: &Policy,
+    numbers: &Numbers,
+    sessions: &[Session],
+    count: usize,
+    line: &mut Line,
+    out: &mut O,
+) -> Result<(), ReportError>
+    ensures { Wrote (O.state out.old) (title (codes "audit") count ++ flat_map (session_line (judging_by policy.now.rules) numbers.now) sessions.now) result (O.state out.new) }
 {
-    let facts = Facts::of(events, worker, place);
-    let finding = find(alloc, judge, &facts, notif, events, worker, place)?;
-    Ok(Audit {
-        finding,
-        answer: answer(&facts, number),
-        arrival: arrival(&facts, number),
-    })
+    write_title(line, "audit", count, out)?;
+    write_sessions(policy, numbers, sessions, line, out)
+}
+
+/// Writes the lines of the sessions, from the oldest on.
+fn write_sessions<O: Sink>(
+    policy: &Policy,
+    numbers: &Numbers,
+    sessions: &[Session],
+    line: &mut Line,
+    out: &mut O,
+) -> Result<(), ReportError>
+    ensures { Wrote (O.state out.old) (flat_map (session_line (judging_by policy.now.rules) numbers.now) sessions.now) result (O.state out.new) }
+{
+    for row in 0..sessions.len() {
+        write_session(policy, numbers, &sessions[row], line, out)?;
+    }
+    Ok(())
+}
+
+/// Writes the line of a session.
+fn write_session<O: Sink>(
+    policy: &Policy,
+    numbers: &Numbers,
+    session: &Session,
+    line: &mut Line,
+    out: &mut O,
+) -> Result<(), ReportError>
+    ensures { Wrote (O.state out.old) (session_line (judging_by policy.now.rules) numbers.now session.now) result (O.state out.new) }
+{
+    line.clear();
+    push_session(line, policy, session, numbers.received_at(session.place))?;
+    write_line(line, out)
 }
 
 /// What was sent, else the number that was installed.
-fn answer(facts: &Facts, number: Option<u32>) -> Option<Back>
-    ensures { result ≡ answer_of facts.now.back number }
+pub(crate) fn answer(back: Option<Back>, number: Option<u32>) -> Option<Back>
+    ensures { result ≡ answer_of back number }
 {
-    match (facts.back, number) {
+    match (back, number) {
         (Some(back), _) => Some(back),
         (None, Some(number)) => Some(Back::Value(i64::from(number))),
         (None, None) => None,
@@ -116,7 +111,7 @@ fn answer(facts: &Facts, number: Option<u32>) -> Option<Back>
 }
 
 /// Whether the answer arrived: one was sent, or a descriptor was installed.
-fn arrival(facts: &Facts, number: Option<u32>) -> Arrival
+pub(crate) fn arrival(facts: &Facts, number: Option<u32>) -> Arrival
     ensures { result ≡ arrival_of (facts.now.sent || is_some number) facts.now.lost }
 {
     if facts.sent || number.is_some() {
@@ -128,79 +123,30 @@ fn arrival(facts: &Facts, number: Option<u32>) -> Arrival
     }
 }
 
-/// What a session came to: it is judged where its second check was good.
-fn find<J: Judge>(
-    alloc: Global,
-    judge: &J,
-    facts: &Facts,
-    notif: &Notif,
-    events: &[Event],
-    worker: u8,
-    place: usize,
-) -> Result<Finding, NoMemory>
-    ensures { IfOk result (λ f. f ≡ finding_by facts.now.gone facts.now.checked_twice ((J.judging judge.now).judge notif.now (reads (session_at worker place (reverse events.now)))) facts.now.spent) }
-{
-    if facts.gone {
-        return Ok(Finding::Gone);
-    }
-    if !facts.checked_twice {
-        return Ok(Finding::Open);
-    }
-    let judged = judge.judge(alloc, notif, events, worker, place)?;
-    Ok(finding_of(judged, facts.spent))
-}
-
-/// What a judged session came to, and whether its effect was refused since the rule's times were spent.
-fn finding_of(judged: Judged, spent: bool) -> Finding
-    ensures { result ≡ finding_of judged spent }
-{
-    match judged {
-        Judged::Unfinished => Finding::Open,
-        Judged::Faulty(_) => Finding::Fault,
-        Judged::Decided(rule, verdict) => {
-            if spent {
-                Finding::Spent(rule)
-            } else {
-                finding_of_verdict(rule, verdict)
-            }
-        }
-    }
-}
-
-/// What a session came to, by the rule at a place and its verdict.
-fn finding_of_verdict(rule: usize, verdict: Verdict) -> Finding
-    ensures { result ≡ finding_of_verdict rule verdict }
-{
-    match verdict {
-        Verdict::Grant => Finding::Granted(rule),
-        Verdict::Deny(_) => Finding::Denied(rule),
-        Verdict::Pass => Finding::Passed(rule),
-        Verdict::Inject { .. } => Finding::Injected(rule),
-    }
-}
-
-/// Adds the line of a session.
-fn push_session<J: Judge>(
+/// Adds the line of a session for whose call this number was installed.
+fn push_session(
     line: &mut Line,
-    judge: &J,
-    place: usize,
-    worker: u8,
-    notif: &Notif,
-    audit: Audit,
+    policy: &Policy,
+    session: &Session,
+    number: Option<u32>,
 ) -> Result<(), NoMemory>
-    ensures { OnOk result (line.new ≡ line.old ++ audit_line_of (J.judging judge.now) place worker notif.now audit) }
+    ensures { OnOk result (line.new ≡ line.old ++ audit_line_of (judging_by policy.now.rules) session.now.place session.now.worker session.now.notif (audited number session.now)) }
 {
-    push_notified(line, place, worker, notif)?;
-    push_finding(line, judge, audit.finding)?;
-    push_reply(line, audit.answer, audit.arrival)
+    push_notified(line, session.place, session.worker, &session.notif)?;
+    push_finding(line, policy, session.finding())?;
+    push_reply(
+        line,
+        answer(session.back, number),
+        arrival(&session.facts, number),
+    )
 }
 
 /// Adds the rule that decided, and the verdict.
-fn push_finding<J: Judge>(line: &mut Line, judge: &J, finding: Finding) -> Result<(), NoMemory>
-    ensures { OnOk result (line.new ≡ line.old ++ (codes " rule=" ++ rule_text (J.judging judge.now) (rule_of finding) ++ codes " verdict=" ++ finding_text finding)) }
+fn push_finding(line: &mut Line, policy: &Policy, finding: Finding) -> Result<(), NoMemory>
+    ensures { OnOk result (line.new ≡ line.old ++ (codes " rule=" ++ rule_text (judging_by policy.now.rules) (rule_of finding) ++ codes " verdict=" ++ finding_text finding)) }
 {
     line.push(" rule=")?;
-    push_rule(line, judge, rule_of(finding))?;
+    push_rule(line, policy, rule_of(finding))?;
     line.push(" verdict=")?;
     line.push(finding_word(finding))
 }
@@ -243,12 +189,23 @@ fn rule_of(finding: Finding) -> Option<usize>
     }
 }
 
+/// The name of the rule at a place; empty where there is none.
+fn name_of(policy: &Policy, place: usize) -> &[u8]
+    ensures { result.now ≡ rule_name policy.now.rules place }
+{
+    if place < policy.rules.items().len() {
+        rule_name(policy, place)
+    } else {
+        &[]
+    }
+}
+
 /// Adds a rule's name, or `-` where there is none.
-fn push_rule<J: Judge>(line: &mut Line, judge: &J, rule: Option<usize>) -> Result<(), NoMemory>
-    ensures { OnOk result (line.new ≡ line.old ++ rule_text (J.judging judge.now) rule) }
+fn push_rule(line: &mut Line, policy: &Policy, rule: Option<usize>) -> Result<(), NoMemory>
+    ensures { OnOk result (line.new ≡ line.old ++ rule_text (judging_by policy.now.rules) rule) }
 {
     match rule {
-        Some(place) => line.push_bytes(judge.rule_name(place)),
+        Some(place) => line.push_bytes(name_of(policy, place)),
         None => line.push("-"),
     }
 }

@@ -3,8 +3,8 @@
 //! The writers' model is the text that `hist_model` defines for any list of events. Each writes its part to a sink, line by
 //! line, one write for each; after any error the sink took a prefix of that part.
 //!
-//! Below stand the plain types and the definitions (`hist_model`) and the sinks (`io_edge`). Above stands the program, which
-//! writes the report of what it played.
+//! Below stand what came of the sessions (`session_table`), the rules' names (`policy_eval`), the plain types and the
+//! definitions (`hist_model`) and the sinks (`io_edge`). Above stands the program, which writes the report of what it played.
 #![tactic(auto)]
 
 mod answer;
@@ -14,7 +14,6 @@ mod count;
 pub mod error;
 mod event;
 pub mod journal;
-pub mod judge;
 pub mod laws;
 mod line;
 mod numbers;
@@ -23,7 +22,7 @@ mod part;
 mod received;
 mod records;
 mod request;
-pub mod session;
+mod step;
 pub mod summary;
 mod tasks;
 mod words;

@@ -46,7 +46,7 @@ fn push_title(line: &mut Line, word: &str, count: usize) -> Result<(), NoMemory>
 }
 
 /// Writes the title of a part.
-fn write_title<O: Sink>(
+pub(crate) fn write_title<O: Sink>(
     line: &mut Line,
     word: &str,
     count: usize,

@@ -6,7 +6,7 @@ ghost use Rattle.audit_log.specs.Records.{Tells, advanced, record_after, recorde
 ghost use Rattle.audit_log.specs.Tasks.{facts_in};
 
 use crate::outcome::{is_pending, outcome_at_entry, outcome_next, task_numbers};
-use crate::session::number_given;
+use crate::step::number_given;
 use crate::tasks::Tasks;
 use hist_model::event::{Event, What};
 use hist_model::report::Outcome;

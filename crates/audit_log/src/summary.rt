@@ -1,48 +1,52 @@
 //! The summary: one line of counts.
 
-ghost use Rattle.std.specs.Prelude.{◌≡◌, ◌++◌, IfOk, OnOk, count_by, decimal, length, reverse};
+ghost use Rattle.std.specs.Prelude.{◌≡◌, ◌++◌, ◌∷◌, [], IfOk, OnOk, count_by, decimal, length, map, reverse};
 ghost use Rattle.hist_model.specs.Kinds.{notifies, enters};
+ghost use Rattle.hist_model.specs.ReportAudit.{judging_by};
 ghost use Rattle.hist_model.specs.Report.{audits, counts_text, findings_text, summary};
 ghost use Rattle.hist_model.specs.ReportRequests.{answer_count};
-ghost use Rattle.audit_log.specs.Numbers.{numbered_audits};
+ghost use Rattle.audit_log.specs.Audited.{audited};
+ghost use Rattle.audit_log.specs.Numbers.{number_in};
 ghost use Rattle.audit_log.specs.Written.{Wrote};
 
 use crate::answer::answered;
-use crate::audit::audit_of;
+use crate::audit::{answer, arrival};
 use crate::count::{denied, entered, faulty, gone, granted, injected, lost, notified, passed};
 use crate::error::ReportError;
-use crate::judge::Judge;
 use crate::line::Line;
 use crate::numbers::Numbers;
 use crate::part::write_line;
-use hist_model::event::{Actor, Event, What};
+use hist_model::event::{Back, Event};
 use hist_model::history::History;
+use hist_model::policy::Policy;
 use hist_model::report::Audit;
 use io_edge::sink::Sink;
+use session_facts::session::Session;
+use session_table::sessions;
 use std::alloc::Global;
 use sys_abi::memory::NoMemory;
 
 /// Writes the summary of a history: how many events, calls, listed calls and answers it has, and how many sessions came to what.
 ///
 /// `WriteFault` comes only where the sink's count of faults rose. After an error the sink took a prefix of the summary.
-pub fn write_summary<J: Judge, O: Sink>(
+pub fn write_summary<O: Sink>(
     alloc: Global,
-    judge: &J,
+    policy: &Policy,
     history: &History,
     out: &mut O,
 ) -> Result<(), ReportError>
-    ensures { Wrote (O.state out.old) (summary (J.judging judge.now) history.now.events) result (O.state out.new) }
+    ensures { Wrote (O.state out.old) (summary (judging_by policy.now.rules) history.now.events) result (O.state out.new) }
 {
-    let line = summary_line(alloc, judge, history.events())?;
+    let line = summary_line(alloc, policy, history.events())?;
     write_line(&line, out)
 }
 
 /// The line of the summary.
 #[tactic(auto, using(crate::proofs::Past::length_past))]
-fn summary_line<J: Judge>(alloc: Global, judge: &J, events: &[Event]) -> Result<Line, NoMemory>
-    ensures { IfOk result (λ line. line ≡ summary (J.judging judge.now) (reverse events.now)) }
+fn summary_line(alloc: Global, policy: &Policy, events: &[Event]) -> Result<Line, NoMemory>
+    ensures { IfOk result (λ line. line ≡ summary (judging_by policy.now.rules) (reverse events.now)) }
 {
-    let found = audits(alloc, judge, events)?;
+    let found = audits(alloc, policy, events)?;
     let mut line = Line::new(alloc);
     push_counts(&mut line, alloc, events)?;
     push_findings(&mut line, found.as_slice())?;
@@ -50,46 +54,41 @@ fn summary_line<J: Judge>(alloc: Global, judge: &J, events: &[Event]) -> Result<
 }
 
 /// What came of each session, from the oldest on.
-#[tactic(auto, using(crate::proofs::Past::past_more), unfolding(hist_model::specs::Report::audits))]
-fn audits<J: Judge>(alloc: Global, judge: &J, events: &[Event]) -> Result<Vec<Audit>, NoMemory>
-    ensures { IfOk result (λ found. found.items ≡ audits (J.judging judge.now) (reverse events.now) (reverse events.now)) }
+fn audits(alloc: Global, policy: &Policy, events: &[Event]) -> Result<Vec<Audit>, NoMemory>
+    ensures { IfOk result (λ found. found.items ≡ audits (judging_by policy.now.rules) (reverse events.now) (reverse events.now)) }
 {
     let numbers = Numbers::of(alloc, events)?;
+    let sessions = sessions(alloc, policy, events)?;
+    audits_of(alloc, &numbers, sessions.as_slice())
+}
+
+/// What came of each of these sessions.
+fn audits_of(alloc: Global, numbers: &Numbers, sessions: &[Session]) -> Result<Vec<Audit>, NoMemory>
+    ensures { IfOk result (λ found. found.items ≡ map (λ s. audited (number_in numbers.now s.place) s) sessions.now) }
+{
     let mut found = Vec::new(alloc);
-    for place in 0..events.len() {
-        push_audit(
-            &mut found,
-            alloc,
-            judge,
-            events,
-            place,
-            &events[place],
-            numbers.received_at(place),
-        )?;
+    for row in 0..sessions.len() {
+        let session = &sessions[row];
+        push_audit(&mut found, session, numbers.received_at(session.place))?;
     }
     Ok(found)
 }
 
-/// Adds what came of the session that the event at a place begins, if it begins one, for whose call this number was installed.
-fn push_audit<J: Judge>(
+/// Adds what came of a session for whose call this number was installed.
+fn push_audit(
     found: &mut Vec<Audit>,
-    alloc: Global,
-    judge: &J,
-    events: &[Event],
-    place: usize,
-    event: &Event,
+    session: &Session,
     number: Option<u32>,
 ) -> Result<(), NoMemory>
-    ensures { OnOk result (found.new.items ≡ found.old.items ++ numbered_audits (J.judging judge.now) (reverse events.now) number place event.now.who event.now.what) }
+    ensures { OnOk result (found.new.items ≡ found.old.items ++ audited number session.now ∷ []) }
 {
-    match (&event.who, &event.what) {
-        (Actor::Worker(worker), What::Recv { answer: Ok(notif) }) => {
-            let audit = audit_of(alloc, judge, events, place, *worker, notif, number)?;
-            found.push(audit)?;
-            Ok(())
-        }
-        _ => Ok(()),
-    }
+    let answer: Option<Back> = answer(session.back, number);
+    found.push(Audit {
+        finding: session.finding(),
+        answer,
+        arrival: arrival(&session.facts, number),
+    })?;
+    Ok(())
 }
 
 /// Adds the numbers of events, calls, listed calls and answers.

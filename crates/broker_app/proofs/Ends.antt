@@ -10,7 +10,7 @@ use Rattle.hist_model.specs.declared.policy.Policy.{Policy}
 use Rattle.hist_model.specs.declared.script.Script.{Script}
 use Rattle.io_edge.proofs.Laws.{then_rose}
 use Rattle.io_edge.specs.SinkState.{SinkState, AddsPrefix, Flushes}
-use Rattle.audit_log.proofs.Writing.{adds_nothing, wrote_front, wrote_more}
+use Rattle.audit_log.proofs.Writing.{adds_nothing, wrote_front}
 use Rattle.audit_log.specs.Written.{Wrote}
 use Rattle.audit_log.specs.declared.error.ReportError.{ReportError}
 use Rattle.audit_log.specs.declared.error.ReportError.TheVariants.{WriteFault, NoMemory}
@@ -26,14 +26,6 @@ use Rattle.broker_app.specs.declared.status.Status.TheVariants.{Done, NoMemory a
 -- a part that failed ends what it is a part of
 pub wrote_stopped : (old new : SinkState) (a b : List ℕ) (e : ReportError) (r : Result (Unit {0}) ReportError) → r ≡ Err e → Wrote old a (Err e) new → Wrote old (a ++ b) r new
 wrote_stopped old new a b e r is w = rw is (wrote_front old new a b e w)
-
--- a part was written after another, and its text is this one
-pub wrote_next : (old mid new : SinkState) (a b same : List ℕ) (r : Result (Unit {0}) ReportError) → b ≡ same → Wrote old a (Ok tt) mid → Wrote mid b r new → Wrote old (a ++ same) r new
-wrote_next old mid new a b same r is f g = rw (sym is) (wrote_more old mid new a b r f g)
-
--- a text that is this one
-pub wrote_same : (old new : SinkState) (text same : List ℕ) (r : Result (Unit {0}) ReportError) → text ≡ same → Wrote old text r new → Wrote old same r new
-wrote_same old new text same r is w = rw (sym is) w
 
 -- a text that is this one was written whole
 told_whole : (text same : List ℕ) (old new : SinkState) → text ≡ same → Wrote old text (Ok tt) new → old.tells ≡ true → new.taken ≡ old.taken ++ same

@@ -16,7 +16,6 @@ use audit_log::summary::write_summary;
 use hist_model::history::History;
 use hist_model::policy::Policy;
 use io_edge::sink::Sink;
-use policy_judge::PolicyJudge;
 use std::alloc::Global;
 
 /// What is printed of a history.
@@ -46,7 +45,7 @@ fn write_sessions<O: Sink>(
     ensures { Wrote (O.state out.old) (journal history.now.events ++ calls history.now.events ++ audit (judging_by policy.now.rules) history.now.events) result (O.state out.new) }
 {
     write_events(alloc, history, out)?;
-    write_audit(alloc, &PolicyJudge::new(policy), history, out)
+    write_audit(alloc, policy, history, out)
 }
 
 /// Writes the summary.
@@ -58,7 +57,7 @@ fn write_last_line<O: Sink>(
 ) -> Result<(), ReportError>
     ensures { Wrote (O.state out.old) (summary (judging_by policy.now.rules) history.now.events) result (O.state out.new) }
 {
-    write_summary(alloc, &PolicyJudge::new(policy), history, out)
+    write_summary(alloc, policy, history, out)
 }
 
 /// Writes the report.

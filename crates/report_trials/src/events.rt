@@ -1,4 +1,4 @@
-//! Events that are added to a history: the first task's and the first worker's, for calls of mknod(2).
+//! Events that are added to a history: the first task's and the first worker's, for calls of mknod(2) and openat(2).
 
 use crate::texts::text;
 use hist_model::event::{Actor, Entered, Event, SpawnKind, What};
@@ -6,6 +6,7 @@ use hist_model::history::History;
 use hist_model::text::{TaskName, Text};
 use std::alloc::Global;
 use std::test::Fail;
+use sys_abi::calls::{MKNOD, OPENAT};
 use sys_abi::errno::Errno;
 use sys_abi::memory::NoMemory;
 use sys_abi::wire::{Notif, SeccompData};
@@ -47,30 +48,37 @@ pub fn worker(history: &mut History, what: What) -> Result<(), Fail> {
 }
 
 /// The first task's notification for a call with this id.
-pub fn notification(id: u64) -> Notif {
+fn notification(id: u64, nr: i32, args: [u64; 6]) -> Notif {
     Notif {
         id,
         pid: 1,
         flags: 0,
         call: SeccompData {
-            nr: 133,
+            nr,
             arch: 0xc000_003e,
             ip: 0,
-            args: NULL_DEVICE,
+            args,
         },
     }
 }
 
-/// Adds the call with this id, and that the worker receives its notification.
-pub fn call(history: &mut History, alloc: Global, id: u64) -> Result<(), Fail> {
-    let enter = What::Enter {
-        nr: 133,
-        args: NULL_DEVICE,
-        verdict: Entered::Notify { id },
-    };
-    task(history, alloc, enter)?;
-    let answer = Ok(notification(id));
+/// Adds a call with an id, and that the worker receives its notification.
+fn call(
+    history: &mut History,
+    alloc: Global,
+    id: u64,
+    nr: i32,
+    args: [u64; 6],
+) -> Result<(), Fail> {
+    let verdict = Entered::Notify { id };
+    task(history, alloc, What::Enter { nr, args, verdict })?;
+    let answer = Ok(notification(id, nr, args));
     worker(history, What::Recv { answer })
+}
+
+/// Adds an openat of the path with this id.
+pub fn open(history: &mut History, alloc: Global, id: u64) -> Result<(), Fail> {
+    call(history, alloc, id, OPENAT, [0, 65536, 0, 0, 0, 0])
 }
 
 /// A task that stores a path and calls mknod, and a worker that receives the call's notification.
@@ -78,7 +86,7 @@ pub fn asked(alloc: Global) -> Result<History, Fail> {
     let mut history = started(alloc)?;
     let bytes = text(alloc, b"/null\0")?;
     task(&mut history, alloc, What::Poke { addr: 65536, bytes })?;
-    call(&mut history, alloc, 1)?;
+    call(&mut history, alloc, 1, MKNOD, NULL_DEVICE)?;
     Ok(history)
 }
 

@@ -1,15 +1,34 @@
 //! What LXD's rules for device nodes say of a session, by what was read in it.
 
-use crate::events::{add, asked, notification, read, worker};
+use crate::events::{add, asked, check, read, worker};
 use crate::texts::text;
-use audit_log::judge::Judge;
 use hist_model::event::Actor;
-use hist_model::policy::Verdict;
-use hist_model::report::Judged;
-use policy_judge::PolicyJudge;
+use hist_model::history::History;
+use hist_model::policy::Policy;
+use hist_model::report::Finding;
 use policy_reader::read_policy;
+use session_table::sessions;
+use std::alloc::Global;
 use std::test::Fail;
 use sys_abi::errno::Errno;
+
+/// Adds a check of the first call, a read that has an error which no read has, and another worker's read: both count for nothing.
+fn checked(alloc: Global) -> Result<History, Fail> {
+    let mut history = asked(alloc)?;
+    check(&mut history, 1)?;
+    worker(&mut history, read(Err(Errno::EPERM)))?;
+    add(&mut history, Actor::Worker(1), read(Err(Errno::EFAULT)))?;
+    Ok(history)
+}
+
+/// What the first session came to.
+fn finding(alloc: Global, policy: &Policy, history: &History) -> Result<Option<Finding>, Fail> {
+    let found = sessions(alloc, policy, history.events())?;
+    match found.first() {
+        Some(session) => Ok(Some(session.finding())),
+        None => Ok(None),
+    }
+}
 
 #[test]
 fn judges_what_was_read(rt: HostRuntime) -> Result<(), Fail> {
@@ -18,27 +37,16 @@ fn judges_what_was_read(rt: HostRuntime) -> Result<(), Fail> {
         alloc,
         b"{\"config\":{\"security.syscalls.intercept.mknod\":\"true\"}}",
     )?;
-    let judge = PolicyJudge::new(&policy);
-    let notif = notification(1);
-    // An error that no read has counts for nothing, and neither does another worker's read.
-    let mut history = asked(alloc)?;
-    worker(&mut history, read(Err(Errno::EPERM)))?;
-    add(&mut history, Actor::Worker(1), read(Err(Errno::EFAULT)))?;
-    assert_eq!(rt;
-        judge.judge(alloc, &notif, history.events(), 0, 3)?,
-        Judged::Unfinished
-    );
-    worker(&mut history, read(Ok(text(alloc, b"/null\0")?)))?;
-    assert_eq!(rt;
-        judge.judge(alloc, &notif, history.events(), 0, 3)?,
-        Judged::Decided(3, Verdict::Grant)
-    );
-    let mut unmapped = asked(alloc)?;
+    let mut unread = checked(alloc)?;
+    check(&mut unread, 1)?;
+    assert_eq!(rt; finding(alloc, &policy, &unread)?, Some(Finding::Open));
+    let mut whole = checked(alloc)?;
+    worker(&mut whole, read(Ok(text(alloc, b"/null\0")?)))?;
+    check(&mut whole, 1)?;
+    assert_eq!(rt; finding(alloc, &policy, &whole)?, Some(Finding::Granted(3)));
+    let mut unmapped = checked(alloc)?;
     worker(&mut unmapped, read(Err(Errno::EFAULT)))?;
-    assert_eq!(rt;
-        judge.judge(alloc, &notif, unmapped.events(), 0, 3)?,
-        Judged::Faulty(Errno::EFAULT)
-    );
-    assert_eq!(rt; judge.rule_name(1000), b"".as_slice());
+    check(&mut unmapped, 1)?;
+    assert_eq!(rt; finding(alloc, &policy, &unmapped)?, Some(Finding::Fault));
     Ok(())
 }

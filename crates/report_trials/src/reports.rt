@@ -1,52 +1,25 @@
 //! The report of a history with injected descriptors, compared with one that was worked out by hand.
 
-use crate::events::{call, check, started, task, worker};
+use crate::events::{check, open, read, started, task, worker};
+use crate::texts::text;
 use audit_log::audit::write_audit;
 use audit_log::calls::write_calls;
 use audit_log::journal::write_journal;
-use audit_log::judge::Judge;
 use audit_log::summary::write_summary;
-use hist_model::event::{Back, Delivered, Event, Mode, What};
+use hist_model::event::{Back, Delivered, Mode, What};
 use hist_model::history::History;
-use hist_model::policy::Verdict;
-use hist_model::report::Judged;
 use io_edge::memory::MemSink;
+use policy_reader::read_policy;
 use std::alloc::Global;
 use std::test::Fail;
 use sys_abi::errno::Errno;
-use sys_abi::memory::NoMemory;
-use sys_abi::wire::{Addfd, Notif};
-
-/// Judges every session alike, by rules that have one name.
-#[derive(Drop)]
-struct Always {
-    judged: Judged,
-    name: &'static str,
-}
-
-impl Judge for Always {
-    ghost judging = { λ a. record { judge = λ notif answers. a.judged; name = λ place. a.name.now } };
-
-    fn judge(
-        &self,
-        _alloc: Global,
-        _notif: &Notif,
-        _events: &[Event],
-        _worker: u8,
-        _place: usize,
-    ) -> Result<Judged, NoMemory> {
-        Ok(self.judged)
-    }
-
-    fn rule_name(&self, _place: usize) -> &[u8] {
-        self.name.as_bytes()
-    }
-}
+use sys_abi::wire::Addfd;
 
 /// Asks for a descriptor, for a call that is entered and received first.
 fn ask(history: &mut History, alloc: Global, id: u64) -> Result<(), Fail> {
-    call(history, alloc, id)?;
+    open(history, alloc, id)?;
     check(history, id)?;
+    worker(history, read(Ok(text(alloc, b"/null\0")?)))?;
     check(history, id)?;
     let asked = Addfd {
         id,
@@ -100,26 +73,26 @@ fn injected(alloc: Global) -> Result<History, Fail> {
 #[test]
 fn tells_lost_and_installed(rt: HostRuntime) -> Result<(), Fail> {
     let alloc = rt.alloc();
-    let judge = Always {
-        judged: Judged::Decided(0, Verdict::Inject { src: 5, at: None }),
-        name: "feed",
-    };
+    let policy = read_policy(
+        alloc,
+        b"{\"rules\": [{\"name\": \"feed\", \"call\": \"openat\", \"when\": {\"path\": \"/null\"}, \"then\": {\"inject\": 5}}]}",
+    )?;
     let history = injected(alloc)?;
     let mut journal = MemSink::new(alloc, 4096, Vec::new(alloc))?;
     write_journal(alloc, &history, &mut journal)?;
     let mut out = MemSink::new(alloc, 4096, Vec::new(alloc))?;
     write_calls(alloc, &history, &mut out)?;
-    write_audit(alloc, &judge, &history, &mut out)?;
-    write_summary(alloc, &judge, &history, &mut out)?;
+    write_audit(alloc, &policy, &history, &mut out)?;
+    write_summary(alloc, &policy, &history, &mut out)?;
     let want = "calls 3
-2 t0 pid=1 mknod 3
-11 t0 pid=1 mknod EINTR
-20 t0 pid=1 mknod open
+2 t0 pid=1 openat 3
+12 t0 pid=1 openat EINTR
+22 t0 pid=1 openat open
 audit 3
-3 w0 id=1 mknod rule=feed verdict=inject answer=3 reply=sent
-12 w0 id=2 mknod rule=feed verdict=inject answer=- reply=lost
-21 w0 id=3 mknod rule=feed verdict=inject answer=4 reply=sent
-summary events=26 calls=3 notified=3 answered=2 granted=0 denied=0 passed=0 injected=3 faults=0 gone=0 lost=1
+3 w0 id=1 openat rule=feed verdict=inject answer=3 reply=sent
+13 w0 id=2 openat rule=feed verdict=inject answer=- reply=lost
+23 w0 id=3 openat rule=feed verdict=inject answer=4 reply=sent
+summary events=29 calls=3 notified=3 answered=2 granted=0 denied=0 passed=0 injected=3 faults=0 gone=0 lost=1
 ";
     assert_eq!(rt; out.taken(), want.as_bytes());
     Ok(())

@@ -5,7 +5,7 @@ use Rattle.hist_model.specs.ReportAudit.{Judging, checked_twice, finding_of, joi
 use Rattle.hist_model.specs.declared.event.Back.{Back}
 use Rattle.hist_model.specs.declared.event.What.{What}
 use Rattle.hist_model.specs.declared.report.Finding.{Finding}
-use Rattle.hist_model.specs.declared.report.Finding.TheVariants.{Open, Spent, Granted, Denied, Passed, Injected}
+use Rattle.hist_model.specs.declared.report.Finding.TheVariants.{Gone, Open, Spent, Granted, Denied, Passed, Injected}
 use Rattle.arg_capture.specs.Captures.{Captured, Follows}
 use Rattle.sys_abi.specs.declared.wire.Notif.{Notif}
 use Rattle.session_facts.specs.Facts.{facts_of}
@@ -36,6 +36,9 @@ spent (Denied i) = Spent i
 spent (Passed i) = Spent i
 spent (Injected i) = Spent i
 spent found = found
+
+abbrev pub finding_in : Session → Finding
+finding_in x = if x.facts.gone then Gone else (if x.facts.spent then spent x.found else x.found)
 
 abbrev pub told : Judging → Begun → Session
 told J s = record { place = s.place; worker = s.worker; notif = s.notif; facts = facts_of s.steps; back = sent_back s.steps; found = found_so_far J s.notif s.steps }

@@ -2,10 +2,10 @@
 
 ghost use Rattle.std.specs.Prelude.{◌≡◌, [], false, List, ℕ, Result, IfOk, if◌then◌else◌};
 ghost use Rattle.hist_model.specs.Copies.{plan, progress};
-ghost use Rattle.hist_model.specs.ReportAudit.{Judging, finding, finding_of, finding_of_verdict, judged_by, judging_by};
+ghost use Rattle.hist_model.specs.ReportAudit.{finding_of, finding_of_verdict, judged_by, judging_by};
 ghost use Rattle.hist_model.specs.declared.report.Finding.TheVariants.{Open};
 ghost use Rattle.arg_capture.specs.Captures.{Follows};
-ghost use Rattle.session_facts.specs.Begun.{Begun, IsRead, spent, told, with_parts, with_step};
+ghost use Rattle.session_facts.specs.Begun.{Begun, IsRead, finding_in, spent, told, with_parts, with_step};
 
 use crate::facts::{Facts, back_after};
 use crate::judging::{hear, judged};
@@ -107,7 +107,7 @@ impl Session {
 
     /// What the session came to.
     pub fn finding(&self) -> Finding
-        ensures { (J : Judging) (s : Begun) → self.now ≡ told J s → result ≡ finding J s.notif s.steps }
+        ensures { result ≡ finding_in self.now }
     {
         if self.facts.gone {
             Finding::Gone

@@ -1,17 +1,17 @@
--- One more event is past: by `audits_more`.
-use Rattle.std.proofs.Common.{◌++◌, reverse, ap, sym, ◌∙◌, arith}
-use Rattle.audit_log.proofs.ReceivedCalls.{audits_more}
-use Rattle.audit_log.specs.Numbers.{number_in, numbered_audits}
+-- What is kept of the sessions tells what came of each: by `audits_told`.
+use Rattle.std.proofs.Common.{◌≡◌, map, reverse, ap, subst, ◌∙◌}
+use Rattle.std.specs.Prelude.{IfOk}
+use Rattle.hist_model.specs.ReportAudit.{judging_by}
+use Rattle.session_facts.specs.declared.session.Session.{Session}
+use Rattle.audit_log.specs.Audited.{audited}
+use Rattle.audit_log.specs.Numbers.{number_in}
+use Rattle.audit_log.proofs.Audited.{audits_told}
 use Rattle.audit_log.proofs.summary.audits.Goals as goal
 
-pub loop-place-preserved : goal.loop-place-preserved
-loop-place-preserved g c =
-    let J = g.J.Judge.judging c.args.judge.now in
-    let xs = c.args.events.now in
-    let i = c.loop-place.place in
-    let e = c.index-events-place.result in
+pub returns : goal.returns
+returns c =
     let n = c.in_ok-numbers.numbers in
-    c.in_ok-push_audit.ensures
-    ∙ ap (λ o. c.loop-place.found.items ++ numbered_audits J (reverse xs) o i e.who e.what) c.received_at.ensures
-    ∙ ap (λ a. a ++ numbered_audits J (reverse xs) (number_in n i) i e.who e.what) c.loop-place.invariant
-    ∙ sym (audits_more J n xs i e (omega arith) c.index-events-place.is c.in_ok-numbers.ensures)
+    subst (λ xs. IfOk c.audits_of.result (λ found. found.items ≡ xs))
+    (ap (map (λ (s : Session). audited (number_in n s.place) s)) c.as_slice.ensures.value
+    ∙ audits_told (judging_by c.args.policy.now.rules) n (reverse c.args.events.now) c.in_ok-sessions.sessions.items c.in_ok-numbers.ensures c.in_ok-sessions.ensures)
+    c.audits_of.ensures

@@ -1,9 +1,9 @@
-use Rattle.std.proofs.Common.{rules, ◌≡◌, ◌++◌, Err, ap}
-use Rattle.hist_model.specs.declared.policy.Policy.{Policy}
+use Rattle.std.proofs.Common.{rules, ◌≡◌, ◌++◌, Err}
 use Rattle.hist_model.specs.ReportJournal.{journal}
 use Rattle.hist_model.specs.ReportCalls.{calls}
 use Rattle.hist_model.specs.ReportAudit.{audit, judging_by}
-use Rattle.broker_app.proofs.Ends.{wrote_stopped, wrote_next}
+use Rattle.audit_log.proofs.Writing.{wrote_more}
+use Rattle.broker_app.proofs.Ends.{wrote_stopped}
 use Rattle.broker_app.proofs.printing.write_sessions.Goals as goal
 
 pub returns-in_err-write_events : goal.returns-in_err-write_events
@@ -15,4 +15,4 @@ returns-in_err-write_events g c =
 pub returns : goal.returns
 returns g c =
     let K = c.args.history.now.events in
-    wrote_next _ _ _ _ _ _ _ (ap (λ (p : Policy). audit (judging_by p.rules) K) c.new.ensures) c.in_ok-write_events.ensures c.write_audit.ensures
+    wrote_more _ _ _ (journal K ++ calls K) (audit (judging_by c.args.policy.now.rules) K) _ c.in_ok-write_events.ensures c.write_audit.ensures

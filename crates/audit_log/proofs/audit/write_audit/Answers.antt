@@ -1,0 +1,13 @@
+-- The title and the lines are the audit: by `audit_whole`.
+use Rattle.std.proofs.Common.{subst}
+use Rattle.hist_model.specs.ReportAudit.{judging_by}
+use Rattle.audit_log.specs.Written.{Wrote}
+use Rattle.audit_log.proofs.Audited.{audit_whole}
+use Rattle.audit_log.proofs.audit.write_audit.Goals as goal
+
+pub returns : goal.returns
+returns g c =
+    subst (λ text. Wrote (g.O.Sink.state c.args.out.now) text c.write_titled.result (g.O.Sink.state c.write_titled.new.out))
+    (audit_whole (judging_by c.args.policy.now.rules) c.in_ok-numbers.numbers c.args.history.now.events c.events-events.result.now c.begun.result c.as_slice.result.now c.in_ok-found.found.items
+    c.events-events.ensures c.begun.ensures c.as_slice.ensures.value c.in_ok-numbers.ensures c.in_ok-found.ensures)
+    c.write_titled.ensures

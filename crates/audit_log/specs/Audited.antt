@@ -1,0 +1,16 @@
+-- What is written of a session by what is kept of it.
+use Rattle.std.specs.Prelude.{ℕ, ◌||◌, List, Option, is_some}
+use Rattle.hist_model.specs.ReportAudit.{Judging, answer_of, arrival_of, audit_line_of}
+use Rattle.hist_model.specs.declared.report.Audit.{Audit}
+use Rattle.session_facts.specs.Begun.{finding_in}
+use Rattle.session_facts.specs.declared.session.Session.{Session}
+use Rattle.audit_log.specs.Numbers.{number_in}
+use Rattle.audit_log.specs.declared.numbers.Numbers.{Numbers}
+
+-- what came of a session for whose call this number was installed
+abbrev pub audited : Option ℕ → Session → Audit
+audited number x = record { finding = finding_in x; answer = answer_of x.back number; arrival = arrival_of (x.facts.sent || is_some number) x.facts.lost }
+
+-- its line
+abbrev pub session_line : Judging → Numbers → Session → List ℕ
+session_line J n x = audit_line_of J x.place x.worker x.notif (audited (number_in n x.place) x)
