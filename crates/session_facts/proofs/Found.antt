@@ -1,6 +1,6 @@
 -- What is kept of a session tells what it came to.
 -- By cases on what was judged, and on whether the session was gone, was judged, and had its effect refused.
-use Rattle.std.proofs.Common.{◌≡◌, Bool, true, false, List, refl}
+use Rattle.std.proofs.Common.{◌≡◌, Bool, true, false, refl}
 use Rattle.std.specs.Prelude.{if◌then◌else◌}
 use Rattle.std.specs.List.{list_any}
 use Rattle.hist_model.specs.Kinds.{is_gone, is_spent}

@@ -37,9 +37,11 @@ spent (Passed i) = Spent i
 spent (Injected i) = Spent i
 spent found = found
 
+-- what it came to, by what is kept of it
 abbrev pub finding_in : Session → Finding
 finding_in x = if x.facts.gone then Gone else (if x.facts.spent then spent x.found else x.found)
 
+-- what is kept of a session with these steps
 abbrev pub told : Judging → Begun → Session
 told J s = record { place = s.place; worker = s.worker; notif = s.notif; facts = facts_of s.steps; back = sent_back s.steps; found = found_so_far J s.notif s.steps }
 
