@@ -49,6 +49,10 @@ ref-cases u t = elim (same-or-other u.slot t.slot) [
   | inr n ↦ inr (λ q. n (ap (λ (r : TableRef). r.slot) q))
 ]
 
+-- the holders of each table stay where those of one do, and the others lead to what they led to
+pub holders-stay : (old new : Tables) (t : TableRef) → tables.holders_of new t ≡ tables.holders_of old t → tables.SameOthers old t new → (u : TableRef) → tables.holders_of new u ≡ tables.holders_of old u
+holders-stay old new t held others u = elim (ref-cases u t) [ inl q ↦ rw q held | inr n ↦ ap tables.holders_in (others u n) ]
+
 -- the room that a row's space has
 pub store-space : (G : Groups) (o : ℕ) (q r : Group) (len : ℕ) → slice_get G.rows.items o ≡ Some q → slice_get G.rows.items o ≡ Some r → spaces.HasRoom G.spaces q.space len → spaces.HasRoom G.spaces r.space len
 store-space G o q r len a b h = rw (← same-row G o q r a b) h
@@ -79,12 +83,9 @@ module _ (S : Script) (K : List Event) (living handles : ℕ → ℕ) (old : Gro
       → tables.holders_of new t ≡ tables.holders_of old.tables t → tables.SameOthers old.tables t new → OnErr answer (new ≡ old.tables)
       → StandsFor S (e ∷ K) living handles (record old { tables = new })
   installed t asked g answer new at i step held others refused =
-      kept S K living handles old T (e ∷ K) (record old { tables = new }) (record { rows = refl; spaces = λ s. refl; tables = holders })
+      kept S K living handles old T (e ∷ K) (record old { tables = new }) (record { rows = refl; spaces = λ s. refl; tables = holders-stay old.tables new t held others })
       (made-same makes_group e K (rw i.what refl)) (stands-other S K e old.spaces T.spaces (record { makes_none = rw i.what refl; stores_none = rw i.what refl })) (by answer i step refused)
     where
-      holders : (u : TableRef) → tables.holders_of new u ≡ tables.holders_of old.tables u
-      holders u = elim (ref-cases u t) [ inl q ↦ rw q held | inr n ↦ ap tables.holders_in (others u n) ]
-
       by : (a : Result ℕ ℕ) → IsInstall K e g asked a
           → IfOk a (λ n. (S : Script) (K : List Event) (e : Event) → descriptors.StandsFor S K old.tables → descriptors.SetsSlot S K e (descriptors.group_at K t) n (Some (Broker asked.srcfd)) → descriptors.StandsFor S (e ∷ K) new)
           → OnErr a (new ≡ old.tables) → descriptors.StandsFor S (e ∷ K) new
