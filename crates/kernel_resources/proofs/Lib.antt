@@ -1,3 +1,5 @@
 pub mod Effects
+pub mod Natives
 pub mod Opened
 pub mod Others
+pub mod Steps

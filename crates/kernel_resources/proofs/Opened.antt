@@ -1,7 +1,8 @@
 -- Resources after a worker opened or closed something.
 -- By the counts of what workers have open, of which one changed, and since the event is other for the rest.
-use Rattle.std.proofs.Common.{◌≡◌, inl, inr, ℕ, ◌<◌, ◌≤◌, List, ◌∷◌, length, Option, Some, None, refl, sym, ap, ◌∙◌, ℤ, arith}
+use Rattle.std.proofs.Common.{◌≡◌, inl, inr, ℕ, ◌^◌, ◌<◌, ◌≤◌, List, ◌∷◌, length, Option, Some, None, refl, sym, ap, ◌∙◌, ℤ, arith}
 use Rattle.std.specs.Prelude.{Ok, set, ◌==◌}
+use Rattle.std.proofs.lemmas.List.Sums.{count_by-le-length}
 use Rattle.std.proofs.lemmas.Bool.{cases_lt, eq-eqb, ne_eqb}
 use Rattle.std.proofs.lemmas.List.{get_or_past}
 use Rattle.hist_model.specs.Files.{files}
@@ -17,7 +18,7 @@ use Rattle.history_frames.specs.Ordinals.{groups_made}
 use Rattle.task_groups.specs.Groups as groups
 use Rattle.task_groups.specs.Groups.{HasRow, one_more, one_less}
 use Rattle.task_groups.specs.declared.groups.Groups.{Groups}
-use Rattle.task_groups.proofs.Held.{alike, has-row, same-or-other}
+use Rattle.task_groups.proofs.Held.{alike, has-row, living-live, living-made, same-or-other}
 use Rattle.listener.proofs.Steps as listening
 use Rattle.worker_rows.specs.Stands as workers
 use Rattle.worker_rows.specs.Rows.{row_of, idle}
@@ -134,3 +135,13 @@ let_go S K living e R w G new o T l q what f n ws =
     less : w < length R.workers → (o : Option ℕ) → (row_of R.workers w).memory ≡ o → (x : ℕ) → memories_in (set R.workers w idle) x ≡ without (memories_in R.workers) o x
     less few None q x = memories-same R.workers w idle few (sym q) x
     less few (Some g) q x = memories-less R.workers w g idle few q refl x
+
+-- ---- Living groups
+
+-- a group with a living task is live, since at most 17 workers have its memory open
+pub live : (S : Script) (K : List Event) (living : ℕ → ℕ) (R : Resources) (o : ℕ) → StandsFor S K living R → 0 < living o → living o < 2 ^ 62 → groups.IsLive R.groups o
+unfolding memories_in
+live S K living R o T some few =
+    let (row, at) = has-row S K living (memories_in R.workers) R.groups T.groups o (living-made S K living (memories_in R.workers) R.groups T.groups o some) in
+    let most = count_by-le-length (has_memory o) R.workers in
+    living-live S K living (memories_in R.workers) R.groups T.groups o row at some (omega (arith, most, T.workers.whole, few))

@@ -41,11 +41,11 @@ use Rattle.kernel_resources.specs.Kinds.{keeps_memory, keeps_tree}
 use Rattle.kernel_resources.specs.Stands.{StandsFor, IsListening, has_memory, memories_in}
 use Rattle.kernel_resources.specs.declared.resources.Resources.{Resources}
 
--- a worker's step that stores nothing makes no group and changes no slot
-record Keeps (S : Script) (K : List Event) (a : Actor) (w : What) : Type 0 where
-  makes_none : makes_group w ≡ false
-  stores_none : stored S K a w ≡ None
-  slots : descriptors.IsOther S K a w
+-- the step makes no group, stores nothing and changes no slot
+pub record Keeps (S : Script) (K : List Event) (a : Actor) (w : What) : Type 0 where
+  pub makes_none : makes_group w ≡ false
+  pub stores_none : stored S K a w ≡ None
+  pub slots : descriptors.IsOther S K a w
 
 keeps-memory : (S : Script) (K : List Event) (a : Actor) (w : What) → keeps_memory w ≡ true → Keeps S K a w
 keeps-memory S K a (Recv answer) h = record { makes_none = refl; stores_none = refl; slots = tt }
@@ -63,11 +63,14 @@ keeps-memory S K a LetGo h = record { makes_none = refl; stores_none = refl; slo
 keeps-memory S K a Skip h = record { makes_none = refl; stores_none = refl; slots = tt }
 keeps-memory S K a _ h = cc
 
-pub groups-kept : (S : Script) (K : List Event) (living handles : ℕ → ℕ) (e : Event) (G : Groups) → groups.StandsFor S K living handles G → keeps_memory e.what ≡ true → groups.StandsFor S (e ∷ K) living handles G
-groups-kept S K living handles e G T h =
-    let k = keeps-memory S K e.who e.what h in
+-- groups stay after such a step
+pub groups-stay : (S : Script) (K : List Event) (living handles : ℕ → ℕ) (e : Event) (G : Groups) → groups.StandsFor S K living handles G → Keeps S K e.who e.what → groups.StandsFor S (e ∷ K) living handles G
+groups-stay S K living handles e G T k =
     kept S K living handles G T (e ∷ K) G (record { rows = refl; spaces = λ s. refl; tables = λ t. refl }) (made-same makes_group e K k.makes_none)
     (stands-other S K e G.spaces T.spaces (record { makes_none = k.makes_none; stores_none = k.stores_none })) (stands-kept S K e G.tables T.tables (other-keeps S K e k.slots))
+
+pub groups-kept : (S : Script) (K : List Event) (living handles : ℕ → ℕ) (e : Event) (G : Groups) → groups.StandsFor S K living handles G → keeps_memory e.what ≡ true → groups.StandsFor S (e ∷ K) living handles G
+groups-kept S K living handles e G T h = groups-stay S K living handles e G T (keeps-memory S K e.who e.what h)
 
 -- the tree before the first event
 pub stated-tree : (S : Script) → tree S [] ≡ stated S.tree

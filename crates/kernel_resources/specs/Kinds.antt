@@ -1,7 +1,7 @@
 -- Which resources a step leaves as they are: each test looks at the step alone.
 use Rattle.std.specs.Prelude.{Bool, true, false, Ok, Err}
 use Rattle.hist_model.specs.declared.event.What.{What}
-use Rattle.hist_model.specs.declared.event.What.TheVariants.{Recv, OpenMem, OpenBase, Check, Read, Act, Plant, AddfdPut, AddfdTake, Send, LetGo, Skip}
+use Rattle.hist_model.specs.declared.event.What.TheVariants.{Spawn, Poke, Handler, Enter, Install, Resume, Signal, Deliver, Reap, Exit, Recv, OpenMem, OpenBase, Check, Read, Act, Plant, AddfdPut, AddfdTake, Send, LetGo, Skip, Close}
 
 -- the step is a worker's, and stores nothing
 abbrev pub keeps_memory : What → Bool
@@ -23,3 +23,23 @@ keeps_memory _ = false
 abbrev pub keeps_tree : What → Bool
 keeps_tree (Act request cap (Ok u)) = false
 keeps_tree what = true
+
+-- the step is a task's, a start's or a close, and makes no group, stores nothing and changes no slot
+abbrev pub keeps_groups : What → Bool
+keeps_groups (Spawn child (Err e)) = true
+keeps_groups (Handler sig mode) = true
+keeps_groups (Enter nr args verdict) = true
+keeps_groups (Resume back) = true
+keeps_groups (Signal pid sig answer) = true
+keeps_groups (Deliver sig effect) = true
+keeps_groups (Reap answer) = true
+keeps_groups Exit = true
+keeps_groups Close = true
+keeps_groups what = false
+
+-- the step is a task's, a start's or a close, and no native call: it leaves the tree, what workers have open, and the caps
+abbrev pub keeps_the_rest : What → Bool
+keeps_the_rest (Spawn child answer) = true
+keeps_the_rest (Poke addr bytes) = true
+keeps_the_rest (Install answer) = true
+keeps_the_rest what = keeps_groups what

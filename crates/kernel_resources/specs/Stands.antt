@@ -1,10 +1,11 @@
 -- Which histories the resources stand for.
-use Rattle.std.specs.Prelude.{◌≡◌, ℕ, ◌<◌, Bool, true, List, Option, Some, None, Result, Ok, Err}
+use Rattle.std.specs.Prelude.{◌≡◌, ℕ, ◌<◌, slice_get, Bool, true, List, Option, Some, None, Result, Ok, Err}
 use Rattle.std.specs.List.{count_by}
 use Rattle.hist_model.specs.Legal.{tree}
 use Rattle.hist_model.specs.Look.{is_place}
 use Rattle.hist_model.specs.declared.event.Actor.TheVariants.{Worker}
 use Rattle.hist_model.specs.declared.event.Event.{Event}
+use Rattle.hist_model.specs.declared.event.SpawnKind.TheVariants.{Shared}
 use Rattle.hist_model.specs.declared.policy.Cap.{Cap}
 use Rattle.hist_model.specs.declared.script.Script.{Script}
 use Rattle.sys_abi.specs.Errnos.{ebadf}
@@ -15,7 +16,9 @@ use Rattle.worker_rows.specs.Spent as times
 use Rattle.worker_rows.specs.Stands as workers
 use Rattle.worker_rows.specs.Stands.{StandsForTimes, cap_spent}
 use Rattle.worker_rows.specs.declared.workers.WorkerRow.{WorkerRow}
-use Rattle.native_calls.specs.Stands.{IsContainer}
+use Rattle.native_calls.specs.Stands.{IsContainer, IsReady}
+use Rattle.native_calls.specs.declared.call.NativeCall.{NativeCall}
+use Rattle.task_groups.specs.declared.groups.Group.{Group}
 use Rattle.kernel_resources.specs.Kinds.{keeps_memory, keeps_tree}
 use Rattle.kernel_resources.specs.declared.resources.Resources.{Resources}
 
@@ -69,3 +72,11 @@ without handles None = handles
 pub record HasPlantRoom (R : Resources) (w : ℕ) (cap : Option Cap) : Type 0 where
   pub memory : (g : ℕ) → (row_of R.workers w).memory ≡ Some g → groups.HasStoreRoom R.groups g 112
   pub spent : times.HasRoom R.spent cap
+
+-- a native call of a task of the group takes no memory
+pub record HasNativeRoom (R : Resources) (o : ℕ) (call : NativeCall) : Type 0 where
+  pub ready : (pid : ℕ) (row : Group) → slice_get R.groups.rows.items o ≡ Some row → IsReady call (record { space = row.space; table = row.table; pid = pid }) R.tree.spare R.groups.spaces R.groups.tables
+
+-- the event makes a task in the group of its parent
+abbrev pub IsThread : Event → Type 0
+IsThread e = groups.IsSpawn e Shared

@@ -11,6 +11,8 @@
 
 pub mod laws;
 mod resources;
+mod rooms;
+mod tasks;
 mod workers;
 
 pub use resources::Resources;

@@ -1,8 +1,9 @@
 //! What workers use.
 
-ghost use Rattle.std.specs.Prelude.{◌≡◌, ℕ, ◌<◌, ◌≤◌, List, [], ◌∷◌, Some, None, Ok, Err, IfOk, IsOk, OnOk, OnErr, true, false, if◌then◌else◌, vec_capacity};
+ghost use Rattle.std.specs.Prelude.{◌≡◌, ◌↔◌, is_some, ℕ, ◌<◌, ◌≤◌, List, [], ◌∷◌, Some, None, Ok, Err, IfOk, IsOk, OnOk, OnErr, true, false, if◌then◌else◌, vec_capacity};
 ghost use Rattle.hist_model.specs.Calls.{count, named};
 ghost use Rattle.hist_model.specs.Steps.{check_answer, install_at, is_spent, mem, oldest_unfetched, opened, put_answer, read_answer, request_listed, request_of, send_answer, take_step};
+ghost use Rattle.hist_model.specs.Sessions.{session};
 ghost use Rattle.hist_model.specs.Systems.{System};
 ghost use Rattle.hist_model.specs.declared.event.Actor.TheVariants.{Worker};
 ghost use Rattle.hist_model.specs.declared.event.Event.{Event};
@@ -15,7 +16,7 @@ ghost use Rattle.addfd.specs.Requests.{has_request};
 ghost use Rattle.addfd.specs.Stands.{take_of};
 ghost use Rattle.sys_abi.specs.Errnos.{enoent};
 ghost use Rattle.hist_model.specs.Files.{files};
-ghost use Rattle.hist_model.specs.Legal.{outcome, system_of};
+ghost use Rattle.hist_model.specs.Legal.{is_open_session, outcome, system_of};
 ghost use Rattle.hist_model.specs.Natives.{base_of};
 ghost use Rattle.hist_model.specs.Tasks.{holder};
 ghost use Rattle.hist_model.specs.Trees.{ordinal_of};
@@ -235,6 +236,28 @@ impl Resources {
             Err(OrNoMemory::Refused(errno)) => Err(errno),
             Err(OrNoMemory::NoMemory) => unreachable!(),
         }
+    }
+
+    /// Whether a worker has a group's memory open.
+    pub fn holds_memory(&self, worker: u8) -> bool
+        ensures found { result ≡ is_some (row_of self.now.workers worker).memory }
+        ensures stands { (S : Script) (K : List Event) (living : ℕ → ℕ) → StandsFor S K living self.now → result ≡ is_some (mem K worker) }
+    {
+        self.workers.holds_memory(worker)
+    }
+
+    /// Whether a worker is inside a notification: it has received one, and not let go since.
+    pub fn is_open(&self, worker: u8) -> bool
+        ensures { (S : Script) (K : List Event) (living : ℕ → ℕ) → StandsFor S K living self.now → result ≡ is_open_session (session K worker) }
+    {
+        self.workers.is_open(worker)
+    }
+
+    /// Whether no worker is inside a notification.
+    pub fn are_workers_idle(&self) -> bool
+        ensures { (S : Script) (K : List Event) (living : ℕ → ℕ) → StandsFor S K living self.now → (result ≡ true) ↔ ((w : ℕ) → is_open_session (session K w) ≡ false) }
+    {
+        self.workers.open_sessions() == 0
     }
 
     /// A worker closes what it has open.

@@ -1,0 +1,4 @@
+use Rattle.kernel_resources.proofs.resources.Resources.is_idle.Goals as goal
+
+pub returns-clause-some : goal.returns-clause-some
+returns-clause-some c busy S K living T = c.is_idle.ensures.some busy S.firstid K T.listener
