@@ -14,6 +14,7 @@ ghost use Rattle.notif_queue.specs.declared.queue.FetchError.TheVariants.{Empty,
 ghost use Rattle.addfd.specs.Puts.{is_known};
 ghost use Rattle.addfd.specs.Requests.{has_request};
 ghost use Rattle.addfd.specs.Stands.{take_of};
+ghost use Rattle.addfd.specs.declared.requests.TakeError.TheVariants.{Pending};
 ghost use Rattle.sys_abi.specs.Errnos.{enoent};
 ghost use Rattle.hist_model.specs.Files.{files};
 ghost use Rattle.hist_model.specs.Legal.{is_open_session, outcome, system_of};
@@ -112,6 +113,7 @@ impl Resources {
         requires { has_request self.old.listener.requests worker ≡ true }
         ensures answer { (S : Script) (K : List Event) (living : ℕ → ℕ) → StandsFor S K living self.old → take_of result ≡ take_step (install_at K (request_of K worker)) (request_listed K (request_of K worker)) }
         ensures step { (S : Script) (K : List Event) (living : ℕ → ℕ) (e : Event) → StandsFor S K living self.old → e.who ≡ Worker worker → e.what ≡ take_of result → StandsFor S (e ∷ K) living self.new }
+        ensures pending { result ≡ Err Pending → self.new ≡ self.old }
     {
         self.listener.take(worker)
     }

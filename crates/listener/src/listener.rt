@@ -194,6 +194,7 @@ impl Listener {
         ensures answer { (first : ℕ) (K : List Event) → StandsFor first K self.old → take_of result ≡ take_step (install_at K (request_of K worker)) (request_listed K (request_of K worker)) }
         ensures step { (first : ℕ) (K : List Event) (e : Event) → StandsFor first K self.old → e.who ≡ Worker worker → e.what ≡ take_of result → StandsFor first (e ∷ K) self.new }
         ensures queue { self.new.queue ≡ self.old.queue }
+        ensures pending { result ≡ Err Pending → self.new ≡ self.old }
     {
         let listed = self.is_asked_call_listed(worker);
         self.requests.take(worker, listed)
