@@ -1,0 +1,15 @@
+use Rattle.std.proofs.Common.{refl, ap, ◌∙◌}
+use Rattle.hist_model.specs.declared.event.What.TheVariants.{Check}
+use Rattle.model_kernel.specs.Kernels.{past}
+use Rattle.model_kernel.proofs.Workers.{idle, noted}
+use Rattle.model_kernel.proofs.kernel.Kernel.check.Goals as goal
+
+pub returns-clause-answer : goal.returns-clause-answer
+returns-clause-answer c = c.check-answer.ensures c.args.self.now.script (past c.args.self.now) _ c.requires.kernel.resources
+
+pub returns-clause-done : goal.returns-clause-done
+returns-clause-done c =
+    let old = c.args.self.now in
+    let k = c.requires.kernel in
+    noted old c.note.new.self c.args.worker _ _ old.resources k refl (ap (λ a. Check c.args.id a) (c.same-told.ensures ∙ c.check-answer.ensures old.script (past old) _ k.resources)) c.note.ensures.events c.note.ensures.same
+    (idle old c.args.worker _ k (record { who = refl; memory = refl; tree = refl; workers = tt; spent = refl }) (record { calls = tt; requests = tt }))

@@ -1,0 +1,43 @@
+-- What a kernel keeps of its history.
+use Rattle.std.specs.Prelude.{◌≡◌, ℕ, List, ◌∷◌, Option, Some, None, Result}
+use Rattle.hist_model.specs.Deeds.{Deed}
+use Rattle.hist_model.specs.Legal.{system_of}
+use Rattle.hist_model.specs.Look.{ev}
+use Rattle.hist_model.specs.Steps.{deed_step}
+use Rattle.hist_model.specs.Systems.{System}
+use Rattle.hist_model.specs.declared.event.Actor.TheVariants.{Worker}
+use Rattle.hist_model.specs.declared.event.Event.{Event}
+use Rattle.hist_model.specs.declared.event.What.{What}
+use Rattle.hist_model.specs.declared.event.What.TheVariants.{AddfdTake, Skip}
+use Rattle.kernel_resources.specs.Stands as resources
+use Rattle.kernel_tasks.specs.Stands as tasks
+use Rattle.task_progress.specs.Rows.{living_in}
+use Rattle.model_kernel.specs.declared.kernel.Kernel.{Kernel}
+
+-- what has happened so far
+abbrev pub past : Kernel → List Event
+past k = k.history.events
+
+-- what the steps of the kernel's script are taken by
+abbrev pub system : Kernel → System
+system k = system_of k.script
+
+-- the tasks and the resources stand for the kernel's own history
+pub record IsKernel (k : Kernel) : Type 0 where
+  pub tasks : tasks.StandsFor k.script (past k) k.tasks
+  pub resources : resources.StandsFor k.script (past k) (living_in k.tasks.progress) k.resources
+
+-- the kernel after one more event
+pub record IsAfter (old : Kernel) (e : Event) (new : Kernel) : Type 0 where
+  pub kernel : IsKernel new
+  pub script : new.script ≡ old.script
+  pub events : past new ≡ e ∷ past old
+
+-- the kernel after a worker's deed, with its answer
+abbrev pub DoesDeed : Kernel → ℕ → Deed → Kernel → Type 0
+DoesDeed old w d new = IsAfter old (ev (Worker w) (deed_step (system old) (past old) w d)) new
+
+-- the step that takes what came of a request, with this answer; without one it is no step
+abbrev pub taken_step : Option (Result ℕ ℕ) → What
+taken_step (Some answer) = AddfdTake answer
+taken_step None = Skip

@@ -1,0 +1,82 @@
+//! The kernel's state.
+
+ghost use Rattle.std.specs.Prelude.{◌≡◌, ℕ, ◌<◌, ◌∷◌, OnOk};
+ghost use Rattle.hist_model.specs.Look.{ev};
+ghost use Rattle.hist_model.specs.declared.event.Actor.TheVariants.{Listener, Worker};
+ghost use Rattle.hist_model.specs.declared.event.What.TheVariants.{Close, Skip};
+ghost use Rattle.model_kernel.specs.Kernels.{IsAfter, IsKernel, past};
+
+use hist_model::event::{Actor, Event, What};
+use hist_model::history::History;
+use hist_model::script::{Figures, Script};
+use kernel_resources::Resources;
+use kernel_tasks::Tasks;
+use sys_abi::memory::NoMemory;
+
+/// A container's kernel.
+#[derive(Drop)]
+pub struct Kernel {
+    pub(crate) script: Script,
+    pub(crate) history: History,
+    pub(crate) tasks: Tasks,
+    pub(crate) resources: Resources,
+}
+
+impl Kernel {
+    /// What has happened so far.
+    pub fn history(&self) -> &History
+        ensures { result.now ≡ self.now.history }
+    {
+        &self.history
+    }
+
+    /// The host's figures, which the script states.
+    pub fn figures(&self) -> Figures
+        ensures { result ≡ self.now.script.figures }
+    {
+        self.script.figures
+    }
+
+    /// Makes room for one more event.
+    pub fn ready_event(&mut self) -> Result<(), NoMemory>
+        ensures room { OnOk result (0 < self.new.history.spare) }
+        ensures past { past self.new ≡ past self.old }
+        ensures same { self.new ≡ record self.old { history = self.new.history } }
+    {
+        self.history.ready(1)
+    }
+
+    /// Notes that a scheduled worker couldn't step: no call was there to receive, or its request isn't installed yet.
+    pub fn skip_worker(&mut self, worker: u8)
+        requires kernel { IsKernel self.old }
+        requires room { 0 < self.old.history.spare }
+        ensures { IsAfter self.old (ev (Worker worker) Skip) self.new }
+    {
+        self.note(worker, What::Skip);
+    }
+
+    /// Closes the listener, which ends the history.
+    pub fn closed(self) -> History
+        requires { 0 < self.history.spare }
+        ensures { result.events ≡ ev Listener Close ∷ past self }
+    {
+        let Kernel { mut history, .. } = self;
+        history.push(Event {
+            who: Actor::Listener,
+            what: What::Close,
+        });
+        history
+    }
+
+    /// Appends a step of a worker, for which there is room.
+    pub(crate) fn note(&mut self, worker: u8, what: What)
+        requires { 0 < self.old.history.spare }
+        ensures events { past self.new ≡ ev (Worker worker) what ∷ past self.old }
+        ensures same { self.new ≡ record self.old { history = self.new.history } }
+    {
+        self.history.push(Event {
+            who: Actor::Worker(worker),
+            what,
+        });
+    }
+}

@@ -1,0 +1,13 @@
+//! A container's kernel: its tasks, what they and the workers of its broker use, and the history of what has happened.
+//!
+//! Its model is a history of a script: `IsKernel` says that the tasks and the resources stand for the kernel's own. Each act is
+//! one event, with the answer that the definitions of `hist_model` give after the history before it (`IsAfter`, `DoesDeed`); what
+//! appends none says so.
+//!
+//! Below stand `kernel_tasks` and `kernel_resources`, each with its own part of the state.
+#![tactic(auto)]
+
+mod kernel;
+mod listening;
+
+pub use kernel::Kernel;

@@ -1,0 +1,233 @@
+//! What workers ask of the listener (seccomp_unotify(2)).
+
+ghost use Rattle.std.specs.Prelude.{◌≡◌, ℕ, ◌<◌, ◌≤◌, List, ◌∷◌, Option, Some, None, Ok, Err, IfOk, false, true};
+ghost use Rattle.addfd.specs.Puts.{is_known};
+ghost use Rattle.addfd.specs.Requests.{has_request};
+ghost use Rattle.addfd.specs.Stands.{take_of};
+ghost use Rattle.addfd.specs.declared.requests.TakeError.TheVariants.{Pending};
+ghost use Rattle.hist_model.specs.Calls.{caller, named};
+ghost use Rattle.hist_model.specs.Deeds as deed;
+ghost use Rattle.hist_model.specs.Look.{ev, event_at};
+ghost use Rattle.hist_model.specs.Signals.{call_of};
+ghost use Rattle.hist_model.specs.Steps.{args_in, check_answer, deed_step, notif, nr_in, oldest_unfetched, recv_answer, send_answer};
+ghost use Rattle.hist_model.specs.declared.event.Actor.TheVariants.{Worker};
+ghost use Rattle.hist_model.specs.declared.event.Event.{Event};
+ghost use Rattle.hist_model.specs.declared.event.What.TheVariants.{AddfdPut, Skip};
+ghost use Rattle.hist_model.specs.declared.script.Script.{Script};
+ghost use Rattle.history_frames.specs.Ordinals.{task_name_of, tasks_made};
+ghost use Rattle.kernel_resources.specs.Stands.{StandsFor as ResourcesStandFor};
+ghost use Rattle.kernel_tasks.specs.Stands.{StandsFor as TasksStandFor};
+ghost use Rattle.notif_queue.specs.Stands.{IsNext};
+ghost use Rattle.notif_queue.specs.declared.queue.FetchError.TheVariants.{Empty, Gone};
+ghost use Rattle.task_progress.specs.Rows.{living_in};
+ghost use Rattle.model_kernel.specs.Kernels.{DoesDeed, IsKernel, past, system, taken_step};
+
+use crate::kernel::Kernel;
+use addfd::TakeError;
+use hist_model::event::{Back, What};
+use hist_model::notification::Fetched;
+use notif_queue::FetchError;
+use sys_abi::errno::Errno;
+use sys_abi::wire::{AUDIT_ARCH_X86_64, Addfd, Notif, SeccompData};
+
+impl Kernel {
+    /// The number and the arguments of the call in which a task waits.
+    fn entered_call(&self, task: u32) -> (i32, [u64; 6])
+        ensures { (S : Script) (K : List Event) (c : ℕ) → TasksStandFor S K self.now.tasks → task < tasks_made K → call_of K (task_name_of K task) ≡ Some c → (result.0 ≡ nr_in (event_at K c)) × (result.1 ≡ args_in (event_at K c)) }
+    {
+        match self.tasks.entered(task) {
+            Some(entered) => {
+                let args = entered.args;
+                (entered.nr, args)
+            }
+            None => (0, [0; 6]),
+        }
+    }
+
+    /// The notification of a call that is received next.
+    fn notification(&self, call: Fetched) -> Notif
+        ensures { (S : Script) (K : List Event) (next : IsNext K call) → TasksStandFor S K self.now.tasks → call_of K (caller K next.place) ≡ Some next.place → result ≡ notif K next.place }
+    {
+        let (nr, args) = self.entered_call(call.owner.ordinal);
+        Notif {
+            id: call.id,
+            pid: self.tasks.pid(call.owner.ordinal),
+            flags: 0,
+            call: SeccompData {
+                nr,
+                arch: AUDIT_ARCH_X86_64,
+                ip: 0,
+                args,
+            },
+        }
+    }
+
+    /// A worker receives the notification of the oldest call that wasn't received (SECCOMP_IOCTL_NOTIF_RECV). `Empty` comes
+    /// exactly where the count of requests is 0, which is no event; `Gone` (ENOENT) where it isn't and no such call is listed.
+    pub fn receive(&mut self, worker: u8) -> Result<Notif, FetchError>
+        requires kernel { IsKernel self.old }
+        requires worker { worker ≤ 16 }
+        requires room { 0 < self.old.history.spare }
+        ensures done { (result ≡ Err Empty → ⊥) → DoesDeed self.old worker deed.Recv self.new }
+        ensures next { IfOk result (λ n. recv_answer (past self.old) (oldest_unfetched (past self.old)) ≡ Ok n) }
+        ensures gone { result ≡ Err Gone → oldest_unfetched (past self.old) ≡ None }
+        ensures empty { result ≡ Err Empty → deed_step (system self.old) (past self.old) worker deed.Recv ≡ Skip }
+        ensures same { result ≡ Err Empty → self.new ≡ self.old }
+    {
+        match self.resources.receive(worker) {
+            Ok(call) => {
+                let notif = self.notification(call);
+                self.note(worker, What::Recv { answer: Ok(notif) });
+                Ok(notif)
+            }
+            Err(FetchError::Gone) => {
+                self.note(
+                    worker,
+                    What::Recv {
+                        answer: Err(Errno::ENOENT),
+                    },
+                );
+                Err(FetchError::Gone)
+            }
+            Err(FetchError::Empty) => Err(FetchError::Empty),
+        }
+    }
+
+    /// A worker asks whether an id is valid (SECCOMP_IOCTL_NOTIF_ID_VALID): ENOENT exactly where it names no call that was
+    /// received and waits for its answer.
+    pub fn check(&mut self, worker: u8, id: u64) -> Result<(), Errno>
+        requires kernel { IsKernel self.old }
+        requires room { 0 < self.old.history.spare }
+        ensures answer { result ≡ check_answer (past self.old) (named (past self.old) id) }
+        ensures done { DoesDeed self.old worker (deed.Check id) self.new }
+    {
+        let answer = self.resources.check(id);
+        let told = same(&answer);
+        self.note(worker, What::Check { id, answer: told });
+        answer
+    }
+
+    /// A worker answers the call with this id (SECCOMP_IOCTL_NOTIF_SEND): ENOENT exactly where no listed call has it,
+    /// EINPROGRESS where its notification wasn't received, or it was answered.
+    pub fn send(&mut self, worker: u8, id: u64, back: &Back) -> Result<(), Errno>
+        requires kernel { IsKernel self.old }
+        requires room { 0 < self.old.history.spare }
+        ensures answer { result ≡ send_answer (past self.old) (named (past self.old) id) }
+        ensures done { DoesDeed self.old worker (deed.Send id back.now) self.new }
+    {
+        let answer = self.resources.send(id, *back);
+        let told = same(&answer);
+        self.note(
+            worker,
+            What::Send {
+                id,
+                back: *back,
+                answer: told,
+            },
+        );
+        answer
+    }
+
+    /// Whether a number is open in the broker.
+    fn is_source(&self, number: u32) -> bool
+        ensures { result ≡ (system self.now).source number }
+    {
+        self.script
+            .broker
+            .items()
+            .iter()
+            .any(|open| *open == number)
+    }
+
+    /// What is answered to a worker that asks for a descriptor, before that is noted.
+    fn ask(&mut self, worker: u8, asked: Addfd) -> Result<(), Errno>
+        requires kernel { IsKernel self.old }
+        requires worker { worker ≤ 16 }
+        requires free { has_request self.old.resources.listener.requests worker ≡ false }
+        requires known { is_known asked ≡ true }
+        ensures answer { AddfdPut asked result ≡ deed_step (system self.old) (past self.old) worker (deed.AddfdPut asked) }
+        ensures step { ResourcesStandFor self.old.script (ev (Worker worker) (AddfdPut asked result) ∷ past self.old) (living_in self.old.tasks.progress) self.new.resources }
+        ensures same { self.new ≡ record self.old { resources = self.new.resources } }
+    {
+        if self.is_source(asked.srcfd) {
+            self.resources.put(worker, asked)
+        } else {
+            Err(Errno::EBADF)
+        }
+    }
+
+    /// A worker, which has no request, asks for a descriptor in the caller of a call (SECCOMP_IOCTL_NOTIF_ADDFD), with known
+    /// flags: EBADF exactly where its source isn't open in the broker, ENOENT where no listed call has the id, EINPROGRESS
+    /// where its notification wasn't received, or it was answered, and EBUSY for SECCOMP_ADDFD_FLAG_SEND where another request
+    /// of the call isn't installed yet.
+    pub fn put(&mut self, worker: u8, asked: Addfd) -> Result<(), Errno>
+        requires kernel { IsKernel self.old }
+        requires worker { worker ≤ 16 }
+        requires free { has_request self.old.resources.listener.requests worker ≡ false }
+        requires known { is_known asked ≡ true }
+        requires room { 0 < self.old.history.spare }
+        ensures answer { AddfdPut asked result ≡ deed_step (system self.old) (past self.old) worker (deed.AddfdPut asked) }
+        ensures done { DoesDeed self.old worker (deed.AddfdPut asked) self.new }
+    {
+        let answer = self.ask(worker, asked);
+        let told = same(&answer);
+        self.note(
+            worker,
+            What::AddfdPut {
+                asked,
+                answer: told,
+            },
+        );
+        answer
+    }
+
+    /// A worker takes what came of its request, which it has: the number that was installed, or `Fault` with the errno with
+    /// which the installation failed, or ENOENT where the call was left without one. `Pending` exactly where none was made and
+    /// the call is listed, which is no event.
+    pub fn take(&mut self, worker: u8) -> Result<u32, TakeError>
+        requires kernel { IsKernel self.old }
+        requires asked { has_request self.old.resources.listener.requests worker ≡ true }
+        requires room { 0 < self.old.history.spare }
+        ensures answer { take_of result ≡ deed_step (system self.old) (past self.old) worker deed.AddfdTake }
+        ensures done { (result ≡ Err Pending → ⊥) → DoesDeed self.old worker deed.AddfdTake self.new }
+        ensures same { result ≡ Err Pending → IsKernel self.new }
+    {
+        let taken = self.resources.take(worker);
+        if let Some(answer) = answer_of(&taken) {
+            self.note(worker, What::AddfdTake { answer });
+        }
+        taken
+    }
+
+    /// A worker closes what it opened for a notification.
+    pub fn let_go(&mut self, worker: u8)
+        requires kernel { IsKernel self.old }
+        requires worker { worker ≤ 16 }
+        requires room { 0 < self.old.history.spare }
+        ensures { DoesDeed self.old worker deed.LetGo self.new }
+    {
+        self.resources.let_go(worker);
+        self.note(worker, What::LetGo);
+    }
+}
+
+/// Another answer of the same.
+fn same(answer: &Result<(), Errno>) -> Result<(), Errno>
+    ensures { result ≡ answer.now }
+{
+    match answer {
+        Ok(()) => Ok(()),
+        Err(errno) => Err(*errno),
+    }
+}
+
+/// The answer of a take, where it is an event.
+fn answer_of(taken: &Result<u32, TakeError>) -> Option<Result<u32, Errno>>
+    ensures { taken_step result ≡ take_of taken.now }
+{
+    match taken {
+        Ok(number) => Some(Ok(*number)),
+        Err(TakeError::Fault(errno)) => Some(Err(*errno)),
+        Err(TakeError::Pending) => None,
+    }
+}
