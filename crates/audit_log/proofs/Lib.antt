@@ -1,7 +1,8 @@
+pub mod Answered
 pub mod Audited
 pub mod Counted
-pub mod Entered
 pub mod Named
+pub mod Newest
 pub mod Opened
 pub mod Past
 pub mod ReceivedCalls

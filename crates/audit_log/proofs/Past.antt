@@ -1,10 +1,9 @@
 -- The events of a history so far, kept the oldest first, and seen the newest first.
--- By the library's lengths of reversed and of taken lists, and by `past_more` and `event_at_past` of `Scans`.
-use Rattle.std.proofs.Common.{◌≡◌, ℕ, ◌+◌, ◌<◌, ◌≤◌, List, ◌∷◌, length, take, get_or, reverse, Some, arith}
+-- By the library's lengths of reversed and of taken lists, and by `past_more` of `Scans`.
+use Rattle.std.proofs.Common.{◌≡◌, ℕ, ◌+◌, ◌<◌, ◌≤◌, List, ◌∷◌, length, take, get_or, reverse, arith}
 use Rattle.std.proofs.lemmas.List.{length-reverse, length-take}
-use Rattle.hist_model.specs.Look.{event_at}
 use Rattle.hist_model.specs.declared.event.Event.{Event}
-use Rattle.hist_model.proofs.Scans.{past_more as one_more, event_at_past}
+use Rattle.hist_model.proofs.Scans.{past_more as one_more}
 
 pub length_past : (xs : List Event) → length (reverse xs) ≡ length xs
 length_past xs = length-reverse xs
@@ -16,7 +15,3 @@ past_more xs i d h = one_more xs i d h
 -- so many events are past
 pub length_taken : (xs : List Event) (i : ℕ) → i ≤ length xs → length (reverse (take i xs)) ≡ i
 length_taken xs i h = simp (length-reverse, length-take) (omega arith)
-
--- the event at a place is the one that the list has there
-pub event_past : (xs : List Event) (d : Event) (i : ℕ) → i < length xs → event_at (reverse xs) i ≡ Some (get_or xs i d)
-event_past xs d i l = event_at_past xs d i l

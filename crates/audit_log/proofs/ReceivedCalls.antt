@@ -1,6 +1,6 @@
 -- The calls of received notifications are kept, and so is the number that was installed for each.
 -- By cases on whether the event is the last one, and by the record of the call that an id names (`Tells`).
-use Rattle.std.proofs.Common.{◌≡◌, inl, inr, ℕ, ◌+◌, ◌<◌, Bool, true, false, List, [], ◌∷◌, ◌++◌, length, get_or, Option, Some, None, refl, sym, ap, ◌∙◌, subst, append_assoc, arith}
+use Rattle.std.proofs.Common.{◌≡◌, inl, inr, ℕ, ◌+◌, ◌<◌, List, [], ◌∷◌, ◌++◌, length, get_or, Option, Some, None, refl, sym, ap, ◌∙◌, subst, append_assoc, arith}
 use Rattle.std.specs.Prelude.{if◌then◌else◌}
 use Rattle.std.proofs.lemmas.Bool.{cases_order}
 use Rattle.std.proofs.lemmas.List.{length-append, get_or_at, get_or_append_left}
@@ -15,6 +15,7 @@ use Rattle.audit_log.specs.Received.{Names, TellsReceived, place_in, received_by
 use Rattle.audit_log.specs.Records.{Tells, no_record, number_at}
 use Rattle.audit_log.specs.declared.received.Ids.{Ids}
 use Rattle.audit_log.specs.declared.records.CallRecord.{CallRecord}
+use Rattle.audit_log.proofs.Newest.{FindsNewest, newest_below}
 
 -- of no event
 pub none_received : (calls : List (Option ℕ)) (H : List Event) → H ≡ [] → TellsReceived H calls
@@ -42,6 +43,12 @@ named-step : (x : ℕ) (e : Event) (K : List Event) → call_with_id x (e ∷ K)
 unfolding call_with_id
 named-step x e K = refl
 
+-- the ids with one more event, which has this place
+pub names_more : (K : List Event) (e : Event) (place : ℕ) (old new : Ids) → length K ≡ place → Names K old
+    → ((x : ℕ) → place_in new x ≡ (if is_notified e.what x then Some place else place_in old x)) → Names (e ∷ K) new
+names_more K e place old new l k h =
+    λ x. h x ∙ ap (λ o. if is_notified e.what x then Some place else o) (k x) ∙ ap (λ p. if is_notified e.what x then Some p else call_with_id x K) (sym l) ∙ sym (named-step x e K)
+
 -- with one more event, which has this place
 pub received_more : (K : List Event) (e : Event) (place : ℕ) (old new : Ids) (before after : List (Option ℕ)) → length K ≡ place → length before ≡ place
     → TellsReceived K before → Names K old → after ≡ before ++ received_by (place_in old) e.what ∷ []
@@ -54,25 +61,20 @@ received_more K e place old new before after l m t k q h =
     let a : length (before ++ received_by (λ x. call_with_id x K) e.what ∷ []) ≡ length before + 1 = length-append before (received_by (λ x. call_with_id x K) e.what ∷ []) in (
       omega arith,
       subst (TellsReceived (e ∷ K)) (sym r) (received-step K e before (m ∙ sym l) t),
-      λ x. h x ∙ ap (λ o. if is_notified e.what x then Some place else o) (k x) ∙ ap (λ p. if is_notified e.what x then Some p else call_with_id x K) (sym l) ∙ sym (named-step x e K),
+      names_more K e place old new l k h,
     )
 
-named-below : (x c : ℕ) (K : List Event) → call_with_id x K ≡ Some c → c < length K
-unfolding call_with_id
-named-below x c [] h = cc
-named-below x c (e ∷ K) h = by (is_notified e.what x) (named-below x c K) h
-  where
-    by : (b : Bool) → (call_with_id x K ≡ Some c → c < length K) → (if b then Some (length K) else call_with_id x K) ≡ Some c → c < length (e ∷ K)
-    by true below h = let q : length K ≡ c = cc in omega arith
-    by false below h = let q = below h in omega arith
+-- an id names the newest event that is listed with it
+pub newest_named : (x : ℕ) → FindsNewest (λ e. is_notified e.what x) (call_with_id x)
+newest_named x = (none_named x, named-step x)
 
 -- the events at a place below the last one
-at-place : (K : List Event) (c : ℕ) → c < length K → (l : List Event) × (f : Event) × (M : List Event) × (K ≡ l ++ f ∷ M) × (length M ≡ c) × (event_at K c ≡ Some f)
-at-place [] c l = absurd (omega arith)
-at-place (e ∷ K) c l = elim (cases_order c (length K)) [
+pub at_place : (K : List Event) (c : ℕ) → c < length K → (l : List Event) × (f : Event) × (M : List Event) × (K ≡ l ++ f ∷ M) × (length M ≡ c) × (event_at K c ≡ Some f)
+at_place [] c l = absurd (omega arith)
+at_place (e ∷ K) c l = elim (cases_order c (length K)) [
   | inl q ↦ ([], e, K, refl, sym q, ap (event_at (e ∷ K)) q ∙ event_at-here e K)
   | inr o ↦ elim o [
-    | inl m ↦ let (later, f, M, p, n, v) = at-place K c m in (e ∷ later, f, M, ap (λ x. e ∷ x) p, n, event_at-older e K c m ∙ v)
+    | inl m ↦ let (later, f, M, p, n, v) = at_place K c m in (e ∷ later, f, M, ap (λ x. e ∷ x) p, n, event_at-older e K c m ∙ v)
     | inr m ↦ absurd (omega arith)
   ]
 ]
@@ -85,7 +87,7 @@ number_told H records t later K x h = by (call_with_id x K) refl
     by : (o : Option ℕ) → call_with_id x K ≡ o → number_at records o ≡ installed_at H K o
     by None q = refl
     by (Some c) q =
-        let (l, f, M, p, n, v) = at-place K c (named-below x c K q) in
+        let (l, f, M, p, n, v) = at_place K c (newest_below (λ e. is_notified e.what x) (call_with_id x) (newest_named x) c K q) in
         let whole : H ≡ (later ++ l) ++ f ∷ M = h ∙ ap (λ y. later ++ y) p ∙ sym (append_assoc later l (f ∷ M)) in
         let told : (get_or records (length M) no_record).number ≡ installed (task_name f.who) (length M) H = ap (λ r. r.number) (t (later ++ l) M f whole) in
         let who : task_name f.who ≡ caller K c = sym (ap actor_in v) in

@@ -1,8 +1,8 @@
 -- The records of a history tell of its calls: one more event changes the record of its task's newest call alone, and adds its own.
 -- By cases on whether the event is the last one, and by `newest_own`: the newest call of a task is its own.
 use Rattle.std.proofs.Common.{◌≡◌, inl, inr, ℕ, ◌+◌, ◌<◌, ◌≤◌, Bool, true, false, ◌&&◌, List, [], ◌∷◌, ◌++◌, length, get_or, Option, Some, None, refl, sym, ap, ◌∙◌, subst, append_assoc, arith}
-use Rattle.std.specs.Prelude.{if◌then◌else◌, ◌==◌}
-use Rattle.std.proofs.lemmas.Bool.{cases_Bool, eqb-true, eq-eqb, ne_eqb}
+use Rattle.std.specs.Prelude.{◌==◌}
+use Rattle.std.proofs.lemmas.Bool.{and_parts, cases_Bool, eqb-true, eq-eqb, ne_eqb}
 use Rattle.std.proofs.lemmas.List.{length-append, get_or_at, get_or_append_left, get_or-set_other}
 use Rattle.std.proofs.Math.ListN.{length-set}
 use Rattle.std.proofs.lemmas.Grind.{get_or-set_at}
@@ -21,6 +21,7 @@ use Rattle.audit_log.specs.Tasks.{Knows, call_of, facts_in, task_facts, task_aft
 use Rattle.audit_log.specs.Records.{Tells, advanced, first_record, no_record, record_after, record_of, recorded, recorded_by, recorded_line}
 use Rattle.audit_log.specs.declared.records.CallRecord.{CallRecord}
 use Rattle.audit_log.specs.declared.tasks.Tasks.{Tasks}
+use Rattle.audit_log.proofs.Newest.{FindsNewest, elsewhere, newest_not_past, newest_passes}
 
 -- what is kept of a task, with one more event
 pub known_more : (n : Name) (e : Event) (K : List Event) → task_facts (e ∷ K) n ≡ task_after (length K) e n (task_facts K n)
@@ -31,61 +32,35 @@ pub known_none : (n : Name) → task_facts [] n ≡ record { pid = None; newest 
 unfolding first_pid newest_call
 known_none n = refl
 
--- a newest call is among the events
-newest_below : (n : Name) (c : ℕ) (K : List Event) → newest_call n K ≡ Some c → c < length K
+-- a newest call is the newest event with which its task enters a call
+pub newest_entered : (n : Name) → FindsNewest (λ e. is_task e.who n && enters e.what) (newest_call n)
 unfolding newest_call
-newest_below n c [] h = cc
-newest_below n c (e ∷ K) h = by (is_task e.who n && enters e.what) (newest_below n c K) h
-  where
-    by : (b : Bool) → (newest_call n K ≡ Some c → c < length K) → (if b then Some (length K) else newest_call n K) ≡ Some c → c < length (e ∷ K)
-    by true below h = let q : length K ≡ c = cc in omega arith
-    by false below h = let q = below h in omega arith
+newest_entered n = (refl, λ e K. refl)
 
 -- the event at the place of a task's newest call is its own
-newest_own : (n : Name) (later K : List Event) (f : Event) → newest_call n (later ++ f ∷ K) ≡ Some (length K) → is_task f.who n ≡ true
-unfolding newest_call
-newest_own n [] K f h = by (is_task f.who n) (enters f.what) refl h
-  where
-    by : (b t : Bool) → is_task f.who n ≡ b → (if b && t then Some (length K) else newest_call n K) ≡ Some (length K) → b ≡ true
-    by true t q h = refl
-    by false t q h = let l = newest_below n (length K) K h in absurd (omega arith)
-newest_own n (e ∷ later) K f h = by (is_task e.who n && enters e.what) (newest_own n later K f) h
-  where
-    by : (b : Bool) → (newest_call n (later ++ f ∷ K) ≡ Some (length K) → is_task f.who n ≡ true) → (if b then Some (length (later ++ f ∷ K)) else newest_call n (later ++ f ∷ K)) ≡ Some (length K) → is_task f.who n ≡ true
-    by true own h =
-        let q : length (later ++ f ∷ K) ≡ length K = cc in
-        let l : length (later ++ f ∷ K) ≡ length later + length (f ∷ K) = length-append later (f ∷ K) in
-        absurd (omega arith)
-    by false own h = own h
+pub newest_own : (n : Name) (later K : List Event) (f : Event) → newest_call n (later ++ f ∷ K) ≡ Some (length K) → is_task f.who n ≡ true
+newest_own n later K f h = (and_parts (is_task f.who n) (enters f.what) (newest_passes (λ e. is_task e.who n && enters e.what) (newest_call n) (newest_entered n) later K f h)).0
 
-task-of : (who : Actor) (n : Name) → is_task who n ≡ true → task_name who ≡ n
-task-of (Task m) n h = name_eq-true m n h
-task-of Start n h = cc
-task-of (Worker w) n h = cc
-task-of Listener n h = cc
+-- an actor that is the task of a name has this name
+pub task_of : (who : Actor) (n : Name) → is_task who n ≡ true → task_name who ≡ n
+task_of (Task m) n h = name_eq-true m n h
+task_of Start n h = cc
+task_of (Worker w) n h = cc
+task_of Listener n h = cc
 
 -- a step is in the call at a place where that is its actor's newest call
-in_call : (who : Actor) (n : Name) (c : ℕ) (K : List Event) → (newest_call (task_name who) K ≡ Some c → n ≡ task_name who)
+pub in_call : (who : Actor) (n : Name) (c : ℕ) (K : List Event) → (newest_call (task_name who) K ≡ Some c → n ≡ task_name who)
     → (is_task who n && is_place (newest_call n K) c) ≡ is_place (call_of who (task_facts K)) c
 in_call Start n c K own = refl
 in_call (Worker w) n c K own = refl
 in_call Listener n c K own = refl
 in_call (Task m) n c K own = elim (cases_Bool (name_eq m n)) [
   | inl h ↦ rw (h, name_eq-true m n h) refl
-  | inr h ↦ rw h (by (newest_call m K) refl h)
+  | inr h ↦ rw h (sym (elsewhere (newest_call m K) c (λ p. other (own p) h)))
 ]
   where
-    apart : (k : ℕ) (b : Bool) → (k == c) ≡ b → newest_call m K ≡ Some k → name_eq m n ≡ false → false ≡ b
-    apart k false q p h = refl
-    apart k true q p h =
-        let k-is : k ≡ c = eqb-true k c q in
-        let same : n ≡ m = own (p ∙ ap Some k-is) in
-        let y : name_eq m n ≡ true = rw same (name_eq-refl m) in
-        cc (h, y)
-
-    by : (o : Option ℕ) → newest_call m K ≡ o → name_eq m n ≡ false → false ≡ is_place o c
-    by None q h = refl
-    by (Some k) q h = apart k (k == c) refl q h
+    other : n ≡ m → name_eq m n ≡ false → ⊥
+    other same h = let y : name_eq m n ≡ true = rw same (name_eq-refl m) in cc (h, y)
 
 -- a record with one more step, which may be its task's
 abbrev with_step : Bool → What → CallRecord → CallRecord
@@ -104,20 +79,14 @@ length-advanced : (o : Option ℕ) (a : What) (records : List CallRecord) → le
 length-advanced None a records = refl
 length-advanced (Some c) a records = length-set records c (with_step true a (get_or records c no_record))
 
-and_false : (b : Bool) → (b && false) ≡ false
+-- a test that is joined to false is false
+pub and_false : (b : Bool) → (b && false) ≡ false
 and_false true = refl
 and_false false = refl
 
 -- no call is at a place past the events
-not_yet : (n : Name) (c : ℕ) (K : List Event) → length K ≤ c → is_place (newest_call n K) c ≡ false
-not_yet n c K l = by (newest_call n K) refl
-  where
-    by : (o : Option ℕ) → newest_call n K ≡ o → is_place o c ≡ false
-    by None q = refl
-    by (Some k) q =
-        let b = newest_below n k K q in
-        let m : (k ≡ c → ⊥) = omega arith in
-        ne_eqb k c m
+pub not_yet : (n : Name) (c : ℕ) (K : List Event) → length K ≤ c → is_place (newest_call n K) c ≡ false
+not_yet n c K l = newest_not_past (λ e. is_task e.who n && enters e.what) (newest_call n) (newest_entered n) c K l
 
 -- and nothing is installed for it
 no_number : (n : Name) (c : ℕ) (K : List Event) → length K ≤ c → installed n c K ≡ None
@@ -145,7 +114,7 @@ earlier later K f e =
     let H = later ++ f ∷ K in
     let l : length H ≡ length later + length (f ∷ K) = length-append later (f ∷ K) in
     let n : (length H ≡ length K → ⊥) = (λ q. omega arith) in
-    let own = in_call e.who (task_name f.who) (length K) H (λ q. task-of f.who (task_name e.who) (newest_own (task_name e.who) later K f q)) in
+    let own = in_call e.who (task_name f.who) (length K) H (λ q. task_of f.who (task_name e.who) (newest_own (task_name e.who) later K f q)) in
     rw (ne_eqb (length H) (length K) n, own) (stepped (is_place (call_of e.who (task_facts H)) (length K)) (record_of H K f) e.what)
 
 pub tells_more : (K : List Event) (e : Event) (records : List CallRecord) → length records ≡ length K → Tells K records → Tells (e ∷ K) (recorded e (task_facts K) records)

@@ -1,15 +1,14 @@
 //! The calls: a line for each call that a task entered.
 
-ghost use Rattle.std.specs.Prelude.{◌≡◌, ◌++◌, OnOk, get_or};
+ghost use Rattle.std.specs.Prelude.{◌≡◌, ◌++◌, OnOk};
 ghost use Rattle.hist_model.specs.ReportCalls.{call_line_of, calls, outcome_text};
-ghost use Rattle.audit_log.specs.Records.{no_record};
 ghost use Rattle.audit_log.specs.Written.{Wrote};
 
 use crate::count::entered;
 use crate::error::ReportError;
 use crate::line::Line;
 use crate::part::{Part, write_part};
-use crate::records::{CallRecord, records};
+use crate::records::{CallRecord, record_at, records};
 use crate::words::{push_actor, push_call, push_errno};
 use hist_model::event::{Actor, Event, What};
 use hist_model::history::History;
@@ -54,22 +53,10 @@ impl Part for Calls<'_> {
         let place = before.len();
         match &event.what {
             What::Enter { nr, .. } => {
-                let record = self.record(place);
+                let record = record_at(self.records, place);
                 push_call_line(line, place, &event.who, record.pid, *nr, record.outcome)
             }
             _ => Ok(()),
-        }
-    }
-}
-
-impl Calls<'_> {
-    /// Of the event at a place.
-    fn record(&self, place: usize) -> CallRecord
-        ensures { result ≡ get_or self.now.records.now place no_record }
-    {
-        match self.records.get(place) {
-            Some(record) => *record,
-            None => CallRecord::NONE,
         }
     }
 }

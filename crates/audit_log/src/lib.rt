@@ -22,6 +22,7 @@ mod part;
 mod received;
 mod records;
 mod request;
+mod requests;
 mod step;
 pub mod summary;
 mod tasks;

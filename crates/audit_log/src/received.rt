@@ -11,13 +11,13 @@ use sys_abi::memory::NoMemory;
 
 /// The newest call with each id.
 #[derive(Drop)]
-struct Ids {
+pub(crate) struct Ids {
     places: BTreeMap<u64, usize>,
 }
 
 impl Ids {
     /// Before all events.
-    fn new(alloc: Global) -> Ids
+    pub(crate) fn new(alloc: Global) -> Ids
         ensures { (x : ℕ) → place_in result x ≡ None }
     {
         Ids {
@@ -26,7 +26,7 @@ impl Ids {
     }
 
     /// With one more step, which has this place.
-    fn note(&mut self, place: usize, what: &What) -> Result<(), NoMemory>
+    pub(crate) fn note(&mut self, place: usize, what: &What) -> Result<(), NoMemory>
         ensures { OnOk result ((x : ℕ) → place_in self.new x ≡ (if is_notified what.now x then Some place else place_in self.old x)) }
     {
         if let What::Enter {
@@ -39,12 +39,19 @@ impl Ids {
         Ok(())
     }
 
+    /// The newest call with this id.
+    pub(crate) fn named(&self, id: u64) -> Option<usize>
+        ensures { result ≡ place_in self.now id }
+    {
+        self.places.get(&id).copied()
+    }
+
     /// The call of the notification that a step receives.
     fn received(&self, what: &What) -> Option<usize>
         ensures { result ≡ received_by (place_in self.now) what.now }
     {
         match what {
-            What::Recv { answer: Ok(notif) } => self.places.get(&notif.id).copied(),
+            What::Recv { answer: Ok(notif) } => self.named(notif.id),
             _ => None,
         }
     }

@@ -1,8 +1,8 @@
 //! What came of each call, in one pass over the events.
 
-ghost use Rattle.std.specs.Prelude.{◌≡◌, IfOk, OnOk, reverse};
+ghost use Rattle.std.specs.Prelude.{◌≡◌, IfOk, OnOk, get_or, reverse};
 ghost use Rattle.hist_model.specs.declared.report.Outcome.{Outcome};
-ghost use Rattle.audit_log.specs.Records.{Tells, advanced, record_after, recorded};
+ghost use Rattle.audit_log.specs.Records.{Tells, advanced, no_record, record_after, recorded};
 ghost use Rattle.audit_log.specs.Tasks.{facts_in};
 
 use crate::outcome::{is_pending, outcome_at_entry, outcome_next, task_numbers};
@@ -57,8 +57,22 @@ fn advance(records: &mut Vec<CallRecord>, call: Option<usize>, what: &What)
     }
 }
 
+/// Of the event at a place.
+pub(crate) fn record_at(records: &[CallRecord], place: usize) -> CallRecord
+    ensures { result ≡ get_or records.now place no_record }
+{
+    match records.get(place) {
+        Some(record) => *record,
+        None => CallRecord::NONE,
+    }
+}
+
 /// With one more event.
-fn record(records: &mut Vec<CallRecord>, tasks: &Tasks, event: &Event) -> Result<(), NoMemory>
+pub(crate) fn record(
+    records: &mut Vec<CallRecord>,
+    tasks: &Tasks,
+    event: &Event,
+) -> Result<(), NoMemory>
     ensures { OnOk result (records.new.items ≡ recorded event.now (facts_in tasks.now) records.old.items) }
 {
     let pid = tasks.get(task_numbers(&event.who)).pid.unwrap_or(0);

@@ -1,6 +1,0 @@
-use Rattle.std.proofs.Common.{◌≡◌, take, reverse}
-use Rattle.audit_log.specs.Calls.{call_facts}
-use Rattle.audit_log.proofs.outcome.CallFacts.of.Given as goal
-
-abbrev pub invariant-loop-place : goal.invariant-loop-place
-invariant-loop-place l = l.facts ≡ call_facts l.task l.call (reverse (take l.place l.events))

@@ -1,0 +1,51 @@
+-- What is kept of requests for descriptors while the events are gone through: those of each call that have no installation yet, the oldest
+-- first, each by whether it has SEND.
+use Rattle.std.specs.Prelude.{◌≡◌, ℕ, Bool, false, ◌&&◌, ◌||◌, if◌then◌else◌, List, [], ◌∷◌, ◌++◌, Option, Some, None, Ok, get_or}
+use Rattle.std.specs.BTreeMap.{get}
+use Rattle.std.specs.Global.{Global}
+use Rattle.std.specs.Ordering.{nat_cmp}
+use Rattle.std.specs.declared.collections.VecDeque.{VecDeque}
+use Rattle.hist_model.specs.Calls.{caller, id}
+use Rattle.hist_model.specs.Kinds.{gave, has_send_flag, is_sent}
+use Rattle.hist_model.specs.Look.{is_place}
+use Rattle.hist_model.specs.ReportCalls.{is_pending}
+use Rattle.hist_model.specs.ReportRequests.{first_has_send, requests, without_first}
+use Rattle.hist_model.specs.declared.event.Event.{Event}
+use Rattle.hist_model.specs.declared.event.What.{What}
+use Rattle.hist_model.specs.declared.event.What.TheVariants.{AddfdPut, Install}
+use Rattle.audit_log.specs.Records.{no_record}
+use Rattle.audit_log.specs.declared.records.CallRecord.{CallRecord}
+use Rattle.audit_log.specs.declared.requests.Requests.{Requests}
+
+-- the items of a queue that was found, or else none
+abbrev pub items_or_none : Option (VecDeque Bool Global) → List Bool
+items_or_none (Some q) = q.items
+items_or_none None = []
+
+-- the requests of the call at place c
+abbrev pub queue_in : Requests → ℕ → List Bool
+queue_in r c = items_or_none (get nat_cmp r.queues c)
+
+-- at each place of these events the requests are those of its event, as if it entered a call
+abbrev pub TellsRequests : List Event → (ℕ → List Bool) → Type 0
+TellsRequests K queue = (c : ℕ) → queue c ≡ requests (id K c) (caller K c) c K
+
+-- the call at a place, if there is one, while nothing came of it
+abbrev pub pending_call : Option ℕ → List CallRecord → Option ℕ
+pending_call None records = None
+pending_call (Some c) records = if is_pending (get_or records c no_record).outcome then Some c else None
+
+-- the first request of a call has SEND, if there is a call
+abbrev pub first_at : Option ℕ → (ℕ → List Bool) → Bool
+first_at None queue = false
+first_at (Some c) queue = first_has_send (queue c)
+
+-- the step answers a call, where an installation is one for this call
+abbrev pub answers_by : What → Option ℕ → (ℕ → List Bool) → Bool
+answers_by a call queue = is_sent a || (gave a && first_at call queue)
+
+-- the requests at place c with one more step, where an installation is one for this call, by the call that each id names
+abbrev pub queued : What → Option ℕ → (ℕ → Option ℕ) → ℕ → List Bool → List Bool
+queued (Install answer) call named c queue = if is_place call c then without_first queue else queue
+queued (AddfdPut asked (Ok u)) call named c queue = if is_place (named asked.id) c then queue ++ has_send_flag asked ∷ [] else queue
+queued _ call named c queue = queue
