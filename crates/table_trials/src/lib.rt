@@ -5,8 +5,8 @@
 //! there is memory, and that structures lie as in the kernel's header. There is no code but tests: each table's model, a
 //! history, is in its crate.
 //!
-//! Below stand the tables (`task_table`, `fd_table`, `task_memory`, `notif_queue`, `notif_ioctl`, `addfd`) and the
-//! definitions (`hist_model`); nothing stands above.
+//! Below stand the tables (`task_table`, `task_names`, `fd_table`, `task_memory`, `notif_queue`, `notif_ioctl`, `addfd`) and
+//! the definitions (`hist_model`); nothing stands above.
 #![tactic(auto)]
 
 #[cfg(test)]
@@ -15,6 +15,8 @@ mod descriptors;
 mod listed_calls;
 #[cfg(test)]
 mod memory;
+#[cfg(test)]
+mod names;
 #[cfg(test)]
 mod requests;
 #[cfg(test)]
