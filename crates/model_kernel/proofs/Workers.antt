@@ -55,3 +55,8 @@ noted old new w expected what R k is_step answer events same r =
       script = script;
       events = events ∙ ap (λ x. ev (Worker w) x ∷ past old) answer;
     }
+
+-- the kernel after a step that changes no resource
+pub idled : (old new : Kernel) (w : ℕ) (expected what : What) → IsKernel old → is_worker_step what ≡ true → what ≡ expected → past new ≡ ev (Worker w) what ∷ past old → new ≡ record old { history = new.history }
+    → resources.IsListening (ev (Worker w) what) w → listener.IsOther (past old) (ev (Worker w) what) → IsAfter old (ev (Worker w) expected) new
+idled old new w expected what k is_step answer events same i o = noted old new w expected what old.resources k is_step answer events same (idle old w what k i o)

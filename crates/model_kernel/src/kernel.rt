@@ -11,6 +11,7 @@ use hist_model::history::History;
 use hist_model::script::{Figures, Script};
 use kernel_resources::Resources;
 use kernel_tasks::Tasks;
+use sys_abi::errno::Errno;
 use sys_abi::memory::NoMemory;
 
 /// A container's kernel.
@@ -78,5 +79,15 @@ impl Kernel {
             who: Actor::Worker(worker),
             what,
         });
+    }
+}
+
+/// Another answer of the same.
+pub(crate) fn same(answer: &Result<(), Errno>) -> Result<(), Errno>
+    ensures { result ≡ answer.now }
+{
+    match answer {
+        Ok(()) => Ok(()),
+        Err(errno) => Err(*errno),
     }
 }

@@ -7,6 +7,7 @@
 //! Below stand `kernel_tasks` and `kernel_resources`, each with its own part of the state.
 #![tactic(auto)]
 
+mod deeds;
 mod kernel;
 mod listening;
 

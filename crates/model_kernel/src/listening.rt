@@ -22,7 +22,7 @@ ghost use Rattle.notif_queue.specs.declared.queue.FetchError.TheVariants.{Empty,
 ghost use Rattle.task_progress.specs.Rows.{living_in};
 ghost use Rattle.model_kernel.specs.Kernels.{DoesDeed, IsKernel, past, system, taken_step};
 
-use crate::kernel::Kernel;
+use crate::kernel::{Kernel, same};
 use addfd::TakeError;
 use hist_model::event::{Back, What};
 use hist_model::notification::Fetched;
@@ -208,16 +208,6 @@ impl Kernel {
     {
         self.resources.let_go(worker);
         self.note(worker, What::LetGo);
-    }
-}
-
-/// Another answer of the same.
-fn same(answer: &Result<(), Errno>) -> Result<(), Errno>
-    ensures { result ≡ answer.now }
-{
-    match answer {
-        Ok(()) => Ok(()),
-        Err(errno) => Err(*errno),
     }
 }
 

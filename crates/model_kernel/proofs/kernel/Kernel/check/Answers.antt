@@ -1,7 +1,7 @@
 use Rattle.std.proofs.Common.{refl, ap, ◌∙◌}
 use Rattle.hist_model.specs.declared.event.What.TheVariants.{Check}
 use Rattle.model_kernel.specs.Kernels.{past}
-use Rattle.model_kernel.proofs.Workers.{idle, noted}
+use Rattle.model_kernel.proofs.Workers.{idled}
 use Rattle.model_kernel.proofs.kernel.Kernel.check.Goals as goal
 
 pub returns-clause-answer : goal.returns-clause-answer
@@ -11,5 +11,5 @@ pub returns-clause-done : goal.returns-clause-done
 returns-clause-done c =
     let old = c.args.self.now in
     let k = c.requires.kernel in
-    noted old c.note.new.self c.args.worker _ _ old.resources k refl (ap (λ a. Check c.args.id a) (c.same-told.ensures ∙ c.check-answer.ensures old.script (past old) _ k.resources)) c.note.ensures.events c.note.ensures.same
-    (idle old c.args.worker _ k (record { who = refl; memory = refl; tree = refl; workers = tt; spent = refl }) (record { calls = tt; requests = tt }))
+    idled old c.note.new.self c.args.worker _ _ k refl (ap (λ a. Check c.args.id a) (c.same-told.ensures ∙ c.check-answer.ensures old.script (past old) _ k.resources)) c.note.ensures.events c.note.ensures.same
+    (record { who = refl; memory = refl; tree = refl; workers = tt; spent = refl }) (record { calls = tt; requests = tt })

@@ -1,8 +1,7 @@
 use Rattle.std.proofs.Common.{refl}
-use Rattle.model_kernel.proofs.Workers.{idle, noted}
+use Rattle.model_kernel.proofs.Workers.{idled}
 use Rattle.model_kernel.proofs.kernel.Kernel.skip_worker.Goals as goal
 
 pub returns : goal.returns
 returns c =
-    noted c.args.self.now c.note.new.self c.args.worker _ _ c.args.self.now.resources c.requires.kernel refl refl c.note.ensures.events c.note.ensures.same
-    (idle c.args.self.now c.args.worker _ c.requires.kernel (record { who = refl; memory = refl; tree = refl; workers = tt; spent = refl }) (record { calls = tt; requests = tt }))
+    idled c.args.self.now c.note.new.self c.args.worker _ _ c.requires.kernel refl refl c.note.ensures.events c.note.ensures.same (record { who = refl; memory = refl; tree = refl; workers = tt; spent = refl }) (record { calls = tt; requests = tt })

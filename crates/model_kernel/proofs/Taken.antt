@@ -1,0 +1,98 @@
+-- A kernel after a worker opened, read or did something.
+-- By the resources, which took the step with the same answer, and since the groups of living tasks are live.
+use Rattle.std.proofs.Common.{◌≡◌, ℕ, suc, ◌+◌, ◌<◌, ◌≤◌, ◌^◌, Bool, true, false, List, [], ◌∷◌, length, Option, Some, None, refl, sym, ap, ◌∙◌, arith, ℤ, if◌then◌else◌}
+use Rattle.std.specs.Prelude.{Ok, Err, not}
+use Rattle.hist_model.specs.Files.{files}
+use Rattle.hist_model.specs.Legal.{is_there, system_of}
+use Rattle.hist_model.specs.Look.{ev}
+use Rattle.hist_model.specs.Natives.{base_of}
+use Rattle.hist_model.specs.Steps.{base_answer, group, lives, opened}
+use Rattle.hist_model.specs.Tasks.{ended, holder, name_of}
+use Rattle.hist_model.specs.declared.event.Actor.TheVariants.{Worker}
+use Rattle.hist_model.specs.declared.event.Event.{Event}
+use Rattle.hist_model.specs.declared.event.What.{What}
+use Rattle.hist_model.specs.declared.script.Script.{Script}
+use Rattle.history_frames.specs.Ordinals.{count_of, group_of, place_of, task_name_of, tasks_made}
+use Rattle.kernel_resources.specs.Stands as resources
+use Rattle.kernel_resources.specs.Stands.{base_found}
+use Rattle.kernel_resources.specs.declared.resources.Resources.{Resources}
+use Rattle.kernel_resources.proofs.Opened.{live}
+use Rattle.kernel_tasks.specs.Stands as tasks
+use Rattle.kernel_tasks.specs.Stands.{IsHolder}
+use Rattle.kernel_tasks.specs.declared.tasks.Tasks.{Tasks}
+use Rattle.kernel_tasks.proofs.Steps.{place-is}
+use Rattle.sys_abi.specs.Errnos.{ebadf, esrch}
+use Rattle.task_groups.specs.Groups.{IsLive}
+use Rattle.task_progress.specs.Rows.{ended_at, group_at, living_in, made}
+use Rattle.task_progress.specs.Stands.{IsGroupOf}
+use Rattle.task_progress.proofs.Counted.{living_in-most, living_in-some}
+use Rattle.model_kernel.specs.Kernels.{IsAfter, IsKernel, past}
+use Rattle.model_kernel.specs.Kinds.{is_worker_step}
+use Rattle.model_kernel.specs.declared.kernel.Kernel.{Kernel}
+use Rattle.model_kernel.proofs.Workers.{noted}
+
+-- ---- After a step
+
+-- the kernel after a step that the resources took, which tells the answer that they gave
+pub taken : {A : Type 0} (old new : Kernel) (w : ℕ) (tells : A → What) (expected answer told : A) (R : Resources) → IsKernel old → is_worker_step (tells told) ≡ true → told ≡ answer → answer ≡ expected
+    → past new ≡ ev (Worker w) (tells told) ∷ past old → new ≡ record old { resources = R; history = new.history }
+    → ((e : Event) → e.who ≡ Worker w → e.what ≡ tells answer → resources.StandsFor old.script (e ∷ past old) (living_in old.tasks.progress) R)
+    → IsAfter old (ev (Worker w) (tells expected)) new
+taken old new w tells expected answer told R k is_step t a events same step =
+    noted old new w (tells expected) (tells told) R k is_step (ap tells (t ∙ a)) events same (step (ev (Worker w) (tells told)) refl (ap tells t))
+
+-- ---- The group of a living task
+
+-- of no kind are there more steps than events
+count-most : (kind : What → Bool) (K : List Event) → count_of kind K ≤ length K
+unfolding count_of
+count-most kind [] = omega arith
+count-most kind (e ∷ K) = one (kind e.what) (count-most kind K)
+  where
+    one : (b : Bool) → count_of kind K ≤ length K → count_of kind K + (if b then 1 else 0) ≤ suc (length K)
+    one true l = omega arith
+    one false l = omega arith
+
+-- the group of a task that hasn't ended is live
+pub group-live : (k : Kernel) (o : ℕ) → IsKernel k → ended_at k.tasks.progress o ≡ false → length (past k) < 2 ^ 62 → IsLive k.resources.groups (group_at k.tasks.progress o)
+group-live k o i lives few =
+    let some = living_in-some k.tasks.progress o lives in
+    let most = living_in-most k.tasks.progress (group_at k.tasks.progress o) in
+    let made : made k.tasks.progress ≡ tasks_made (past k) = i.tasks.progress.made_is in
+    let events : tasks_made (past k) ≤ length (past k) = count-most _ (past k) in
+    live k.script (past k) (living_in k.tasks.progress) k.resources (group_at k.tasks.progress o) i.resources some (omega (arith, most, made, events, few))
+
+-- it is the group that is opened by the number that the task holds
+pub group-opened : (S : Script) (K : List Event) (T : Tasks) (p o g : ℕ) → tasks.StandsFor S K T → IsHolder K p o → IsGroupOf K (task_name_of K o) g → (m : ℕ) × (opened K (holder K p) ≡ Some m) × (group_of K g ≡ Some m)
+group-opened S K T p o g s h i =
+    let same : opened K (place_of K o) ≡ group_of K g = ap (opened K) (sym (place-is K o s.progress.orderly h.0)) ∙ (i.2 ∙ sym i.1) in
+    let q : opened K (place_of K o) ≡ opened K (Some h.1) = ap (opened K) h.3 in
+    (_, ap (opened K) h.2, sym same ∙ q)
+
+-- ---- Answers
+
+-- what a test of a negation chooses
+if-not : {A : Type 0} (b : Bool) (x y : A) → not b ≡ true → y ≡ (if b then x else y)
+if-not true x y h = cc
+if-not false x y h = refl
+
+if-so : {A : Type 0} (b : Bool) (x y : A) → not b ≡ false → x ≡ (if b then x else y)
+if-so true x y h = refl
+if-so false x y h = cc
+
+-- the answer of the opening of a base, in either form
+base-found : (b : Option ℕ) → base_found b ≡ (if is_there b then Ok tt else Err ebadf)
+base-found (Some n) = refl
+base-found None = refl
+
+-- that for a task that lives
+pub base-answered : (S : Script) (K : List Event) (h : Option ℕ) (g : ℕ) (d : ℤ) → lives K h ≡ true → opened K h ≡ Some g → base_found (base_of S (files S K) g d) ≡ base_answer (system_of S) K h d
+base-answered S K None g d l o = cc
+base-answered S K (Some t) g d l o =
+    let same : g ≡ group K t = cc in
+    ap (λ m. base_found (base_of S (files S K) m d)) same ∙ (base-found (base_of S (files S K) (group K t) d) ∙ if-not (ended K (name_of K t)) (Err esrch) _ l)
+
+-- and where none lives
+pub base-refused : (S : Script) (K : List Event) (h : Option ℕ) (d : ℤ) → lives K h ≡ false → Err esrch ≡ base_answer (system_of S) K h d
+base-refused S K None d l = refl
+base-refused S K (Some t) d l = if-so (ended K (name_of K t)) (Err esrch) _ l

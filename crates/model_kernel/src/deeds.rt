@@ -1,0 +1,210 @@
+//! What workers open, read and do.
+
+ghost use Rattle.std.specs.Prelude.{◌≡◌, ℕ, ◌^◌, length, ◌<◌, ◌≤◌, true, false, List, Result, Ok, Err, Some, None, IfSome, IfNone, if◌then◌else◌, vec_capacity};
+ghost use Rattle.std.specs.Result.{result_and};
+ghost use Rattle.hist_model.specs.Deeds as deed;
+ghost use Rattle.hist_model.specs.Effects.{effect};
+ghost use Rattle.hist_model.specs.Steps.{base_answer, is_spent, lives, mem, opened, read_answer};
+ghost use Rattle.hist_model.specs.Tasks.{holder};
+ghost use Rattle.history_frames.specs.Ordinals.{group_of};
+ghost use Rattle.kernel_resources.specs.Stands.{HasPlantRoom};
+ghost use Rattle.path_walk.specs.Performed.{room_wanted};
+ghost use Rattle.sys_abi.specs.Errnos.{edquot, efault, esrch};
+ghost use Rattle.sys_abi.specs.Memory.{lacked_memory};
+ghost use Rattle.task_groups.specs.Groups.{IsLive};
+ghost use Rattle.task_memory.specs.Stands.{IsReadAnswer};
+ghost use Rattle.worker_rows.specs.Spent.{HasRoom as HasSpentRoom};
+ghost use Rattle.model_kernel.specs.Kernels.{DoesDeed, IsKernel, past, system};
+
+use crate::kernel::{Kernel, same};
+use hist_model::event::What;
+use hist_model::policy::Cap;
+use hist_model::request::{Fault, Request};
+use hist_model::text::Text;
+use sys_abi::errno::Errno;
+use sys_abi::memory::OrNoMemory;
+
+impl Kernel {
+    /// A worker does what a request asks for in the tree, as often as the cap of the granting rule allows: EDQUOT where its
+    /// rule has granted as often as it may, else as the tree answers. There is room.
+    pub fn act(&mut self, worker: u8, request: Request, cap: Option<Cap>) -> Result<(), Errno>
+        requires kernel { IsKernel self.old }
+        requires room { 0 < self.old.history.spare }
+        requires spent { HasSpentRoom self.old.resources.spent cap }
+        requires tree { room_wanted (effect request) ≤ self.old.resources.tree.spare }
+        ensures deed { DoesDeed self.old worker (deed.Act request cap) self.new }
+        ensures answer { result ≡ (if is_spent (past self.old) cap then Err edquot else (system self.old).outcome (past self.old) worker request) }
+    {
+        let answer = self.resources.act(worker, &request, cap);
+        let told = same(&answer);
+        self.note(
+            worker,
+            What::Act {
+                request,
+                cap,
+                answer: told,
+            },
+        );
+        answer
+    }
+
+    /// A worker stores the answer of sysinfo in the memory that it has open, as often as the cap of the granting rule allows:
+    /// EDQUOT where its rule has granted as often as it may, else EFAULT where one of the bytes isn't mapped. There is room.
+    pub fn plant(
+        &mut self,
+        worker: u8,
+        addr: u64,
+        bytes: &[u8; 112],
+        cap: Option<Cap>,
+    ) -> Result<(), Errno>
+        requires kernel { IsKernel self.old }
+        requires room { 0 < self.old.history.spare }
+        requires memory { mem (past self.old) worker ≡ None → ⊥ }
+        requires plant { HasPlantRoom self.old.resources worker cap }
+        ensures deed { DoesDeed self.old worker (deed.Plant addr bytes.now cap) self.new }
+        ensures answer { result ≡ (if is_spent (past self.old) cap then Err edquot else (if (system self.old).writable addr then Ok tt else Err efault)) }
+    {
+        let answer = self.resources.plant(worker, addr, bytes, cap);
+        let told = same(&answer);
+        self.note(
+            worker,
+            What::Plant {
+                addr,
+                bytes: *bytes,
+                cap,
+                answer: told,
+            },
+        );
+        answer
+    }
+
+    /// A worker, which has no memory open, opens that of the task that holds a process number: ESRCH exactly where no living
+    /// task holds it.
+    pub fn open_mem(&mut self, worker: u8, pid: u32) -> Result<(), Errno>
+        requires kernel { IsKernel self.old }
+        requires room { 0 < self.old.history.spare }
+        requires worker { worker ≤ 16 }
+        requires free { mem (past self.old) worker ≡ None }
+        ensures deed { DoesDeed self.old worker (deed.OpenMem pid) self.new }
+        ensures answer { result ≡ (if lives (past self.old) (holder (past self.old) pid) then Ok tt else Err esrch) }
+    {
+        let Some(group) = self.living_group(pid) else {
+            self.note(
+                worker,
+                What::OpenMem {
+                    pid,
+                    answer: Err(Errno::ESRCH),
+                },
+            );
+            return Err(Errno::ESRCH);
+        };
+        self.resources.open_memory(worker, group);
+        self.note(
+            worker,
+            What::OpenMem {
+                pid,
+                answer: Ok(()),
+            },
+        );
+        Ok(())
+    }
+
+    /// A worker opens the directory from which relative paths of the task that holds a process number go: ESRCH exactly where
+    /// no living task holds it, else EBADF exactly where the descriptor leads to no directory.
+    pub fn open_base(&mut self, worker: u8, pid: u32, dirfd: i32) -> Result<(), Errno>
+        requires kernel { IsKernel self.old }
+        requires room { 0 < self.old.history.spare }
+        requires worker { worker ≤ 16 }
+        ensures deed { DoesDeed self.old worker (deed.OpenBase pid dirfd) self.new }
+        ensures answer { result ≡ base_answer (system self.old) (past self.old) (holder (past self.old) pid) dirfd }
+    {
+        let Some(group) = self.living_group(pid) else {
+            self.note(
+                worker,
+                What::OpenBase {
+                    pid,
+                    dirfd,
+                    answer: Err(Errno::ESRCH),
+                },
+            );
+            return Err(Errno::ESRCH);
+        };
+        let answer = self.resources.open_base(worker, group, dirfd);
+        let told = same(&answer);
+        self.note(
+            worker,
+            What::OpenBase {
+                pid,
+                dirfd,
+                answer: told,
+            },
+        );
+        answer
+    }
+
+    /// A worker reads the memory that it has open from an address on, up to the first byte that isn't mapped, and at most
+    /// `len` bytes, which are written into `room`: EFAULT where the first isn't mapped, and where the worker has no memory
+    /// open.
+    pub fn read(&mut self, worker: u8, addr: u64, len: u16, room: Vec<u8>) -> Result<(), Errno>
+        requires kernel { IsKernel self.old }
+        requires room { 0 < self.old.history.spare }
+        requires bytes { len ≤ vec_capacity room }
+        ensures deed { DoesDeed self.old worker (deed.Read addr len) self.new }
+        ensures answer { result ≡ result_and (read_answer (system self.old) (past self.old) (mem (past self.old) worker) addr len) (Ok tt) }
+    {
+        let mut bytes = room;
+        let found = self.resources.read(worker, addr, len, &mut bytes);
+        let answer = text_read(found, bytes);
+        let outcome = without_bytes(&answer);
+        self.note(worker, What::Read { addr, len, answer });
+        outcome
+    }
+
+    /// How many events there are: fewer than 2^62, since each takes more bytes than one.
+    fn count(&self) -> usize
+        ensures count { result ≡ length (past self.now) }
+        ensures few { result < 2 ^ 62 }
+    {
+        let events = self.history.events();
+        events.len()
+    }
+
+    /// The group of the living task that holds a process number: none exactly where no living task holds it.
+    fn living_group(&self, pid: u32) -> Option<u32>
+        requires { IsKernel self.now }
+        ensures live { IfSome result (λ o. IsLive self.now.resources.groups o) }
+        ensures some { IfSome result (λ o. lives (past self.now) (holder (past self.now) pid) ≡ true) }
+        ensures group { IfSome result (λ o. (g : ℕ) × (opened (past self.now) (holder (past self.now) pid) ≡ Some g) × (group_of (past self.now) o ≡ Some g)) }
+        ensures none { IfNone result (lives (past self.now) (holder (past self.now) pid) ≡ false) }
+    {
+        // No more tasks live than there are events: so few that their groups are live.
+        let _events = self.count();
+        let task = self.tasks.holder(pid)?;
+        if self.tasks.has_ended(task) {
+            return None;
+        }
+        Some(self.tasks.group(task))
+    }
+}
+
+/// What a read tells that left these bytes. There was room for them.
+fn text_read(found: Result<(), OrNoMemory<Fault>>, bytes: Vec<u8>) -> Result<Text, Errno>
+    requires { lacked_memory found ≡ false }
+    ensures { (answer : Result (List ℕ) ℕ) → IsReadAnswer found bytes.items answer → result ≡ answer }
+{
+    match found {
+        Ok(()) => Ok(Text::new(bytes)),
+        Err(OrNoMemory::Refused(Fault)) => Err(Errno::EFAULT),
+        Err(OrNoMemory::NoMemory) => unreachable!(),
+    }
+}
+
+/// What a read answers beside the bytes.
+fn without_bytes(answer: &Result<Text, Errno>) -> Result<(), Errno>
+    ensures { result ≡ result_and answer.now (Ok tt) }
+{
+    match answer {
+        Ok(_) => Ok(()),
+        Err(errno) => Err(*errno),
+    }
+}
