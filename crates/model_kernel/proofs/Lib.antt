@@ -1,3 +1,4 @@
 pub mod Received
+pub mod Starts
 pub mod Taken
 pub mod Workers

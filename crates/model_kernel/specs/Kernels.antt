@@ -1,7 +1,7 @@
 -- What a kernel keeps of its history.
 use Rattle.std.specs.Prelude.{◌≡◌, ℕ, List, ◌∷◌, Option, Some, None, Result}
 use Rattle.hist_model.specs.Deeds.{Deed}
-use Rattle.hist_model.specs.Legal.{system_of}
+use Rattle.hist_model.specs.Legal.{started, system_of}
 use Rattle.hist_model.specs.Look.{ev}
 use Rattle.hist_model.specs.Steps.{deed_step}
 use Rattle.hist_model.specs.Systems.{System}
@@ -11,7 +11,9 @@ use Rattle.hist_model.specs.declared.event.What.{What}
 use Rattle.hist_model.specs.declared.event.What.TheVariants.{AddfdTake, Skip}
 use Rattle.kernel_resources.specs.Stands as resources
 use Rattle.kernel_tasks.specs.Stands as tasks
-use Rattle.task_progress.specs.Rows.{living_in}
+use Rattle.hist_model.specs.declared.script.Script.{Script}
+use Rattle.kernel_tasks.specs.declared.tasks.Tasks.{Tasks}
+use Rattle.task_progress.specs.Rows.{living_in, one_if}
 use Rattle.model_kernel.specs.declared.kernel.Kernel.{Kernel}
 
 -- what has happened so far
@@ -26,6 +28,17 @@ system k = system_of k.script
 pub record IsKernel (k : Kernel) : Type 0 where
   pub tasks : tasks.StandsFor k.script (past k) k.tasks
   pub resources : resources.StandsFor k.script (past k) (living_in k.tasks.progress) k.resources
+
+-- the tasks are those of a script's start: one, which is counted in the group that is the first
+pub record HasFirst (S : Script) (T : Tasks) : Type 0 where
+  pub stand : tasks.StandsFor S (started S) T
+  pub counts : (g : ℕ) → living_in T.progress g ≡ one_if 0 g
+
+-- the kernel is that of a script's start
+pub record IsBegun (S : Script) (k : Kernel) : Type 0 where
+  pub kernel : IsKernel k
+  pub script : k.script ≡ S
+  pub events : past k ≡ started S
 
 -- the kernel after one more event
 pub record IsAfter (old : Kernel) (e : Event) (new : Kernel) : Type 0 where

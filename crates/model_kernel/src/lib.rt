@@ -10,5 +10,6 @@
 mod deeds;
 mod kernel;
 mod listening;
+mod start;
 
 pub use kernel::Kernel;

@@ -1,0 +1,113 @@
+//! A kernel's start, and what it says of its tasks and workers.
+
+ghost use Rattle.std.specs.Prelude.{◌≡◌, ◌↔◌, ◌+◌, is_some, ℕ, ◌<◌, [], ◌∷◌, length, Ok, IfOk, IfSome, IfNone, true, false};
+ghost use Rattle.hist_model.specs.Legal.{started, Finished};
+ghost use Rattle.hist_model.specs.Steps.{mem};
+ghost use Rattle.hist_model.specs.Tasks.{is_made};
+ghost use Rattle.hist_model.specs.declared.event.What.TheVariants.{Spawn};
+ghost use Rattle.hist_model.specs.declared.event.SpawnKind.TheVariants.{New};
+ghost use Rattle.history_frames.specs.Ordinals.{tasks_made, task_name_of};
+ghost use Rattle.model_kernel.specs.Kernels.{HasFirst, IsBegun, IsKernel, past};
+
+use crate::kernel::Kernel;
+use hist_model::event::{Actor, Event, SpawnKind, What};
+use hist_model::history::History;
+use hist_model::script::Script;
+use hist_model::text::TaskName;
+use kernel_resources::Resources;
+use kernel_tasks::Tasks;
+use std::alloc::Global;
+use sys_abi::memory::{NoMemory, OrNoMemory};
+
+/// The script's start: the first task gets the first process number, and memory and descriptors of its own.
+fn first_step(alloc: Global, script: &Script) -> Result<What, NoMemory>
+    ensures { IfOk result (λ w. w ≡ Spawn (0 ∷ []) (Ok (script.now.pidbase + 1, New))) }
+{
+    let mut name = Vec::new(alloc);
+    name.push(0)?;
+    Ok(What::Spawn {
+        child: TaskName::new(name),
+        answer: Ok((script.pidbase + 1, SpawnKind::New)),
+    })
+}
+
+/// The history of a script's start alone.
+fn first_history(alloc: Global, script: &Script) -> Result<History, NoMemory>
+    ensures { IfOk result (λ h. h.events ≡ started script.now) }
+{
+    let what = first_step(alloc, script)?;
+    let mut history = History::new(alloc);
+    history.ready(1)?;
+    history.push(Event {
+        who: Actor::Start,
+        what,
+    });
+    Ok(history)
+}
+
+/// The tasks after a script's start: the first one, with the script's last program.
+fn first_tasks(alloc: Global, script: &Script) -> Result<Tasks, NoMemory>
+    ensures { IfOk result (λ tasks. HasFirst script.now tasks) }
+{
+    let program = script.programs.items().len() - 1;
+    let tasks = Tasks::new(alloc, script.pidbase, script.pidmax)?;
+    match tasks.first(program as u32) {
+        Ok(tasks) => Ok(tasks),
+        Err(OrNoMemory::NoMemory) => Err(NoMemory),
+        Err(OrNoMemory::Refused(_)) => unreachable!(),
+    }
+}
+
+impl Kernel {
+    /// The kernel of a script, after its start, which makes the first task.
+    pub fn new(alloc: Global, script: Script) -> Result<Kernel, NoMemory>
+        ensures { IfOk result (λ k. IsBegun script k) }
+    {
+        let history = first_history(alloc, &script)?;
+        let tasks = first_tasks(alloc, &script)?;
+        let resources = Resources::new(alloc, &script)?.first()?;
+        Ok(Kernel {
+            script,
+            history,
+            tasks,
+            resources,
+        })
+    }
+
+    /// How many tasks were made.
+    pub fn tasks(&self) -> usize
+        ensures { IsKernel self.now → result ≡ tasks_made (past self.now) }
+    {
+        self.tasks.made()
+    }
+
+    /// The ordinal of the task of a name, if one was made.
+    pub fn find(&self, name: &[u32]) -> Option<u32>
+        ensures some { IfSome result (λ o. IsKernel self.now → (o < tasks_made (past self.now)) × (task_name_of (past self.now) o ≡ name.now)) }
+        ensures none { IfNone result (IsKernel self.now → is_made (past self.now) name.now ≡ false) }
+    {
+        self.tasks.find(name)
+    }
+
+    /// The name of the task of an ordinal; empty where no task has it.
+    pub fn name_of(&self, task: u32) -> &[u32]
+        ensures { IsKernel self.now → result.now ≡ task_name_of (past self.now) task }
+    {
+        self.tasks.name(task)
+    }
+
+    /// Whether a worker has a group's memory open.
+    pub fn holds_mem(&self, worker: u8) -> bool
+        ensures { IsKernel self.now → result ≡ is_some (mem (past self.now) worker) }
+    {
+        self.resources.holds_memory(worker)
+    }
+
+    /// Whether nothing is left to do: every task has ended, no call is listed, and each worker has let go.
+    pub fn finished(&self) -> bool
+        requires { IsKernel self.now }
+        ensures { 0 < length (past self.now) → (result ≡ true) ↔ Finished (past self.now) }
+    {
+        self.tasks.living() == 0 && self.resources.is_idle() && self.resources.are_workers_idle()
+    }
+}
