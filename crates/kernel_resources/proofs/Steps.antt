@@ -11,7 +11,7 @@ use Rattle.hist_model.specs.declared.event.Actor.TheVariants.{Start, Task, Worke
 use Rattle.hist_model.specs.declared.event.Event.{Event}
 use Rattle.hist_model.specs.declared.event.SpawnKind.TheVariants.{New, Copied, Shared}
 use Rattle.hist_model.specs.declared.event.What.{What}
-use Rattle.hist_model.specs.declared.event.What.TheVariants.{Spawn, Poke, Handler, Enter, Install, Resume, Signal, Deliver, Reap, Exit, Close}
+use Rattle.hist_model.specs.declared.event.What.TheVariants.{Spawn, Poke, Handler, Enter, Install, Resume, Signal, Deliver, Reap, Exit, Close, Skip}
 use Rattle.hist_model.specs.declared.script.Script.{Script}
 use Rattle.task_groups.specs.Groups as groups
 use Rattle.task_groups.specs.declared.groups.Groups.{Groups}
@@ -39,6 +39,7 @@ keeps-groups S K a (Deliver sig effect) h = record { makes_none = refl; stores_n
 keeps-groups S K a (Reap answer) h = record { makes_none = refl; stores_none = refl; slots = tt }
 keeps-groups S K a Exit h = record { makes_none = refl; stores_none = refl; slots = tt }
 keeps-groups S K a Close h = record { makes_none = refl; stores_none = refl; slots = tt }
+keeps-groups S K a Skip h = record { makes_none = refl; stores_none = refl; slots = tt }
 keeps-groups S K a _ h = cc
 
 tree-kept : (S : Script) (K : List Event) (e : Event) → keeps_the_rest e.what ≡ true → tree S (e ∷ K) ≡ tree S K
@@ -61,6 +62,7 @@ tree-kept S K e h = by (files S K) e.who e.what h
     by F a (Reap answer) h = refl
     by F a Exit h = refl
     by F a Close h = refl
+    by F a Skip h = refl
     by F a _ h = cc
 
 workers-kept : (a : Actor) (w : What) → keeps_the_rest w ≡ true → workers.IsOther a w
@@ -78,6 +80,7 @@ workers-kept (Worker k) (Deliver sig effect) h = tt
 workers-kept (Worker k) (Reap answer) h = tt
 workers-kept (Worker k) Exit h = tt
 workers-kept (Worker k) Close h = tt
+workers-kept (Worker k) Skip h = tt
 workers-kept (Worker k) _ h = cc
 
 spends-nothing : (w : What) → keeps_the_rest w ≡ true → cap_spent w ≡ None
@@ -92,6 +95,7 @@ spends-nothing (Deliver sig effect) h = refl
 spends-nothing (Reap answer) h = refl
 spends-nothing Exit h = refl
 spends-nothing Close h = refl
+spends-nothing Skip h = refl
 spends-nothing _ h = cc
 
 groups-rest : (w : What) → keeps_groups w ≡ true → keeps_the_rest w ≡ true

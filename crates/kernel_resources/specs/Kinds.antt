@@ -24,7 +24,7 @@ abbrev pub keeps_tree : What → Bool
 keeps_tree (Act request cap (Ok u)) = false
 keeps_tree what = true
 
--- the step is a task's, a start's or a close, and makes no group, stores nothing and changes no slot
+-- the step is a task's, a start's, a close or a skip, and makes no group, stores nothing and changes no slot
 abbrev pub keeps_groups : What → Bool
 keeps_groups (Spawn child (Err e)) = true
 keeps_groups (Handler sig mode) = true
@@ -35,9 +35,10 @@ keeps_groups (Deliver sig effect) = true
 keeps_groups (Reap answer) = true
 keeps_groups Exit = true
 keeps_groups Close = true
+keeps_groups Skip = true
 keeps_groups what = false
 
--- the step is a task's, a start's or a close, and no native call: it leaves the tree, what workers have open, and the caps
+-- the step is a task's, a start's, a close or a skip, and no native call: it leaves the tree, what workers have open, and the caps
 abbrev pub keeps_the_rest : What → Bool
 keeps_the_rest (Spawn child answer) = true
 keeps_the_rest (Poke addr bytes) = true

@@ -90,6 +90,13 @@ impl Resources {
         self.groups.joined(group);
     }
 
+    /// How many groups were made: the ordinal of the next one.
+    pub fn groups_made(&self) -> usize
+        ensures { (S : Script) (K : List Event) (living : ℕ → ℕ) → StandsFor S K living self.now → result ≡ groups_made K }
+    {
+        self.groups.made()
+    }
+
     /// A task is made with a copy of a group (fork(2)), for which there is room. Gives the copy's ordinal.
     pub fn copied(&mut self, group: u32) -> u32
         requires live { IsLive self.old.groups group }

@@ -1,9 +1,9 @@
 -- The call in which a task waits is the one that it entered last, also after one more event.
 -- By whether the call is the event or was the task's before it, and since a task that waits in a call enters none.
-use Rattle.std.proofs.Common.{◌≡◌, ◌⊎◌, inl, inr, ℕ, zero, suc, ◌<◌, ◌≤◌, Bool, true, false, ◌&&◌, List, [], ◌∷◌, length, Option, Some, None, refl, sym, ap, ◌∙◌, arith}
+use Rattle.std.proofs.Common.{◌≡◌, ◌⊎◌, inl, inr, ℕ, zero, suc, ◌<◌, ◌≤◌, Bool, true, false, not, ◌&&◌, List, [], ◌∷◌, length, Option, Some, None, refl, sym, ap, ◌∙◌, arith}
 use Rattle.std.proofs.lemmas.Bool.{cases_Bool, both_ways, and_parts, and_from}
 use Rattle.hist_model.specs.Look.{Name, name_eq, is_task, task_name, event_at, newest}
-use Rattle.hist_model.specs.Kinds.{enters, notifies}
+use Rattle.hist_model.specs.Kinds.{enters, notifies, skips}
 use Rattle.hist_model.specs.Calls.{listed, caller, unlists}
 use Rattle.hist_model.specs.Legal.{system_of}
 use Rattle.hist_model.specs.Memory.{last_call}
@@ -115,8 +115,13 @@ entries-step S K e o p w = entries-more e K w
     ap (call_of K) (sym (name_eq-true (task_name_of K o) n q)) ∙ enters-free (system_of S) K (task_name_of K o) e.what (step-facts S K e o p) h)
     (λ h. (task_name_of K o, p.who))
 
+-- an entry is no skip
+entering-steps : (w : What) → enters w ≡ true → skips w ≡ false
+entering-steps (Enter nr args v) h = refl
+entering-steps w h = cc
+
 pub entries-other : (K : List Event) (e : Event) → IsOther e → WaitInLast K → WaitInLast (e ∷ K)
-entries-other K e h w = entries-more e K w (λ n t x. absurd (both_ways (is_task e.who n) (h.no_task n) t)) (λ x. absurd (both_ways (notifies e.what) h.no_call x))
+entries-other K e h w = entries-more e K w (λ n t x. absurd (both_ways (is_task e.who n && not (skips e.what)) (h.no_step n) (rw (t, entering-steps e.what x) refl))) (λ x. absurd (both_ways (notifies e.what) h.no_call x))
 
 pub entries-none : WaitInLast []
 unfolding call_of newest

@@ -44,7 +44,7 @@ stands-other S K e T s h =
       table = table_others.stands-other S.pidbase S.pidmax K e T.table s.table (keeps-table K e.what h.keeps);
       refs = refs-kept e K T.table T.table T.refs.items m s.refs (λ t r. r);
       names = names_entered.stands-other K e T.names s.names (spawn-names e n);
-      progress = progress_stepped.stands-other S K e T.progress s.progress (record { no_task = h.no_task; makes_none = m; no_call = h.no_call; no_close = h.no_close });
+      progress = progress_stepped.stands-other S K e T.progress s.progress (record { no_step = h.no_step; makes_none = m; no_call = h.no_call; no_close = h.no_close });
       entries = entries-other K e h s.entries;
     }
 

@@ -1,6 +1,6 @@
 -- Which histories the tasks of a kernel stand for.
-use Rattle.std.specs.Prelude.{◌≡◌, ℕ, ◌<◌, ◌≤◌, true, false, List, length, Option, Some, None, Result, Ok, Err, slice_get}
-use Rattle.hist_model.specs.Kinds.{closes, notifies}
+use Rattle.std.specs.Prelude.{◌≡◌, ℕ, ◌<◌, ◌≤◌, true, false, not, ◌&&◌, List, length, Option, Some, None, Result, Ok, Err, slice_get}
+use Rattle.hist_model.specs.Kinds.{closes, notifies, skips}
 use Rattle.hist_model.specs.Legal.{system_of}
 use Rattle.hist_model.specs.Look.{Name, event_at, is_task}
 use Rattle.hist_model.specs.Memory.{last_call}
@@ -59,9 +59,9 @@ pub record IsSpawn (S : Script) (K : List Event) (e : Event) (o : ℕ) (kind : S
   pub starts_is : started instr ≡ Some program
   pub group_is : IsNewGroup K (task_name_of K o) kind group
 
--- the event is no step of a task and does nothing to one, enters no call and doesn't close the listener
+-- the event is no step of a task but Skip, and does nothing to one, enters no call and doesn't close the listener
 pub record IsOther (e : Event) : Type 0 where
-  pub no_task : (n : Name) → is_task e.who n ≡ false
+  pub no_step : (n : Name) → (is_task e.who n && not (skips e.what)) ≡ false
   pub keeps : keeps_tasks e.what ≡ true
   pub no_call : notifies e.what ≡ false
   pub no_close : closes e.what ≡ false

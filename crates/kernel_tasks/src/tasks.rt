@@ -333,6 +333,7 @@ impl Tasks {
     pub fn reap(&mut self, o: u32, room: Vec<u32>) -> Option<What>
         requires { length (name_at self.old.names o) < vec_capacity room }
         ensures answer { (S : Script) (K : List Event) → StandsFor S K self.old → o < tasks_made K → ended K (task_name_of K o) ≡ false → step_of result ≡ wait_step K (oldest (is_child K (task_name_of K o)) (length K)) (oldest (is_ended_child K (task_name_of K o)) (length K)) }
+        ensures some { IfSome result IsReap }
         ensures stands { IfSome result (λ w. (S : Script) (K : List Event) (e : Event) → StandsFor S K self.old → IsStepOf S K e o → e.what ≡ w → StandsFor S (e ∷ K) self.new) }
         ensures count { (g : ℕ) → living_in self.new.progress g ≡ living_in self.old.progress g }
         ensures none { IfNone result (self.new ≡ self.old) }

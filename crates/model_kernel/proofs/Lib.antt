@@ -1,4 +1,11 @@
+pub mod MappedRanges
+pub mod NextSteps
+pub mod Numbers
+pub mod Outside
 pub mod Received
 pub mod Starts
+pub mod Stored
 pub mod Taken
+pub mod TaskSteps
+pub mod Waiting
 pub mod Workers

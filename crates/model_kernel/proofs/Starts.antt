@@ -14,6 +14,7 @@ use Rattle.kernel_tasks.specs.Stands as tasks
 use Rattle.kernel_tasks.specs.declared.tasks.Tasks.{Tasks}
 use Rattle.task_progress.proofs.Counted.{living_in-most}
 use Rattle.task_progress.specs.Rows.{living_in, made, one_if}
+use Rattle.model_kernel.proofs.Numbers.{start-number}
 use Rattle.model_kernel.specs.Kernels.{HasFirst, IsBegun, past}
 use Rattle.model_kernel.specs.declared.kernel.Kernel.{Kernel}
 
@@ -34,7 +35,7 @@ unfolding count_of
 begun S k script events first R =
     let r = counted-alike S (started S) (one_more (λ o. 0) 0) (living_in k.tasks.progress) k.resources (R (start (system_of S)) (record { name = 0 ∷ []; pid = S.pidbase + 1; is = refl })) (λ g. rw (first.counts g, one-first g) refl) in
     record {
-      kernel = record { tasks = rw (script, events) first.stand; resources = rw (script, events) r };
+      kernel = record { tasks = rw (script, events) first.stand; resources = rw (script, events) r; few = rw events (start-number S) };
       script = script;
       events = events;
     }

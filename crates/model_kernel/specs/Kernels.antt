@@ -1,5 +1,5 @@
 -- What a kernel keeps of its history.
-use Rattle.std.specs.Prelude.{◌≡◌, ℕ, List, ◌∷◌, Option, Some, None, Result}
+use Rattle.std.specs.Prelude.{◌≡◌, ℕ, ◌<◌, ◌^◌, List, ◌∷◌, Option, Some, None, Result}
 use Rattle.hist_model.specs.Deeds.{Deed}
 use Rattle.hist_model.specs.Legal.{started, system_of}
 use Rattle.hist_model.specs.Look.{ev}
@@ -9,6 +9,7 @@ use Rattle.hist_model.specs.declared.event.Actor.TheVariants.{Worker}
 use Rattle.hist_model.specs.declared.event.Event.{Event}
 use Rattle.hist_model.specs.declared.event.What.{What}
 use Rattle.hist_model.specs.declared.event.What.TheVariants.{AddfdTake, Skip}
+use Rattle.history_frames.specs.Ordinals.{tasks_made}
 use Rattle.kernel_resources.specs.Stands as resources
 use Rattle.kernel_tasks.specs.Stands as tasks
 use Rattle.hist_model.specs.declared.script.Script.{Script}
@@ -28,6 +29,8 @@ system k = system_of k.script
 pub record IsKernel (k : Kernel) : Type 0 where
   pub tasks : tasks.StandsFor k.script (past k) k.tasks
   pub resources : resources.StandsFor k.script (past k) (living_in k.tasks.progress) k.resources
+  -- there are fewer than 2 ^ 32 tasks
+  pub few : tasks_made (past k) < 2 ^ 32
 
 -- the tasks are those of a script's start: one, which is counted in the group that is the first
 pub record HasFirst (S : Script) (T : Tasks) : Type 0 where

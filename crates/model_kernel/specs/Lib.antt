@@ -1,2 +1,5 @@
 pub mod Kernels
 pub mod Kinds
+pub mod Mapped
+pub mod Ready
+pub mod Steps

@@ -161,7 +161,7 @@ impl Kernel {
     }
 
     /// How many events there are: fewer than 2^62, since each takes more bytes than one.
-    fn count(&self) -> usize
+    pub(crate) fn count(&self) -> usize
         ensures count { result ≡ length (past self.now) }
         ensures few { result < 2 ^ 62 }
     {

@@ -9,7 +9,12 @@
 
 mod deeds;
 mod kernel;
+pub mod laws;
 mod listening;
+mod ready;
 mod start;
+mod steps;
 
 pub use kernel::Kernel;
+pub use ready::ReadyTask;
+pub use steps::CannotStep;

@@ -11,5 +11,4 @@ pub mod KeptRules
 pub mod KeptLines
 pub mod SoundStatements
 pub mod Readings
-pub mod MappedRanges
 pub mod FirstRow

@@ -16,5 +16,4 @@ pub mod Lines
 pub mod Scripts
 pub mod Views
 pub mod Outcomes
-pub mod Laws
 pub mod Table

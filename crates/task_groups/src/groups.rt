@@ -56,6 +56,13 @@ impl Groups {
         })
     }
 
+    /// How many groups were made: the ordinal of the next one.
+    pub fn made(&self) -> usize
+        ensures { (S : ScriptData) (K : List Event) (living handles : ℕ → ℕ) → StandsFor S K living handles self.now → result ≡ groups_made K }
+    {
+        self.rows.len()
+    }
+
     /// The space and the table of a group.
     pub fn row(&self, o: u32) -> Group
         requires { HasRow self.now o }

@@ -128,11 +128,11 @@ stands-step S K e old new o r q s p m at a put count = record {
   orderly = orderly-same e K m (unmade-left S K e o p) s.orderly;
 }
 
--- an event of no task leaves every task
+-- an event that is no step of a task leaves every task
 pub stands-other : (S : Script) (K : List Event) (e : Event) (T : TaskProgress) → StandsFor S K T → IsOther e → StandsFor S (e ∷ K) T
 stands-other S K e T s h =
-    let left : (n : Name) → Leaves e n = λ n. let a = h.no_task n in let b = h.no_call in record {
-      no_step = rw a;
+    let left : (n : Name) → Leaves e n = λ n. let b = h.no_call in record {
+      no_step = h.no_step n;
       no_call = rw b;
       no_close = h.no_close;
     } in

@@ -1,6 +1,6 @@
 -- Which histories the progress of tasks stands for.
-use Rattle.std.specs.Prelude.{◌≡◌, ℕ, ◌+◌, ◌<◌, ◌^◌, Bool, true, false, not, List, [], length, take, Option, Some, None, Ok, slice_get, count_by}
-use Rattle.hist_model.specs.Kinds.{makes, closes, notifies}
+use Rattle.std.specs.Prelude.{◌≡◌, ℕ, ◌+◌, ◌<◌, ◌^◌, Bool, true, false, not, ◌&&◌, List, [], length, take, Option, Some, None, Ok, slice_get, count_by}
+use Rattle.hist_model.specs.Kinds.{makes, closes, notifies, skips}
 use Rattle.hist_model.specs.Look.{Name, event_at, is_task}
 use Rattle.hist_model.specs.Legal.{system_of}
 use Rattle.hist_model.specs.Memory.{group_named, last_call}
@@ -115,9 +115,9 @@ pub record IsSpawn (S : Script) (K : List Event) (e : Event) (o group program : 
   pub group_is : IsNewGroup K (task_name_of K o) kind group
   pub unmade : is_made K (next_child K (task_name_of K o)) ≡ false
 
--- the event is no step of a task, makes none, enters no call and doesn't close the listener
+-- the event is no step of a task but Skip, makes none, enters no call and doesn't close the listener
 pub record IsOther (e : Event) : Type 0 where
-  pub no_task : (n : Name) → is_task e.who n ≡ false
+  pub no_step : (n : Name) → (is_task e.who n && not (skips e.what)) ≡ false
   pub makes_none : makes e.what ≡ false
   pub no_call : notifies e.what ≡ false
   pub no_close : closes e.what ≡ false

@@ -2,8 +2,8 @@
 -- By induction on the number of bytes, of which the first is split off in each range; and on the ranges.
 use Rattle.std.proofs.Common.{◌≡◌, ℕ, zero, suc, ◌+◌, ◌-◌, ◌<◌, ◌≤◌, min, max, List, [], ◌∷◌, length, refl, ap, sym, ◌∙◌, inl, inr, arith, cond}
 use Rattle.std.specs.Prelude.{Bool, true, false, ◌&&◌, ◌==◌, nat_le, nat_lt}
-use Rattle.std.specs.List.{count_by}
-use Rattle.std.proofs.lemmas.Bool.{and_parts, cases_Bool, leb-true, ltb-true, ne_eqb, or_cases, or_from}
+use Rattle.std.specs.List.{count_by, list_all}
+use Rattle.std.proofs.lemmas.Bool.{and_from, and_parts, cases_Bool, false_from_ne_true, leb-true, ltb-true, ne_eqb, or_cases, or_from}
 use Rattle.std.proofs.lemmas.Bool.Decides.{nat_tests}
 use Rattle.std.proofs.lemmas.List.Sums.{sum_by-cons}
 use Rattle.hist_model.specs.Memory.{all_mapped, is_mapped}
@@ -13,8 +13,7 @@ use Rattle.hist_model.specs.ScriptRules.{IsScript, stores_mapped}
 use Rattle.hist_model.specs.declared.script.Instr.{Instr}
 use Rattle.hist_model.specs.declared.script.Instr.TheVariants.{Poke, Fill}
 use Rattle.hist_model.specs.declared.script.MapRange.{MapRange}
-use Rattle.script_reader.specs.Laws.{MapsByteByByte, StoresWhereMapped, stores_each_mapped}
-use Rattle.script_reader.proofs.Pushed.{all_weaker, refuted}
+use Rattle.model_kernel.specs.Mapped.{MapsByteByByte, StoresWhereMapped, stores_each_mapped}
 
 -- the address lies in the range
 covers : ℕ → MapRange → Bool
@@ -45,7 +44,7 @@ no-bytes (range ∷ map) a =
 
 elsewhere : (range other : MapRange) (a : ℕ) → are_apart range other ≡ true → covers a range ≡ true → covers a other ≡ false
 unfolding covers
-elsewhere range other a h c = refuted _ (λ d.
+elsewhere range other a h c = false_from_ne_true _ (λ d.
     let here = and_parts (nat_le range.start a) (nat_lt a (end_of range)) c in
     let there = and_parts (nat_le other.start a) (nat_lt a (end_of other)) d in
     let from : range.start ≤ a = leb-true range.start a here.0 in
@@ -101,5 +100,10 @@ each-mapped map apart (Poke addr bytes) h = sym (byte-by-byte map apart (length 
 each-mapped map apart (Fill addr len byte) h = sym (byte-by-byte map apart len addr).1 ∙ h
 each-mapped map apart i h = refl
 
+-- what each element of a list has, it has by a weaker test
+all-weaker : {X : Type 0} (p q : X → Bool) → ((x : X) → p x ≡ true → q x ≡ true) → (xs : List X) → list_all p xs ≡ true → list_all q xs ≡ true
+all-weaker p q w [] h = refl
+all-weaker p q w (x ∷ xs) h = let both = and_parts (p x) (list_all p xs) h in and_from (q x) (list_all q xs) (w x both.0) (all-weaker p q w xs both.1)
+
 pub stores_where_mapped : (S : ScriptRecord) → IsScript S → StoresWhereMapped S
-stores_where_mapped S s = all_weaker _ _ S.programs (λ body. all_weaker _ _ body (each-mapped S.map s.apart)) s.mapped
+stores_where_mapped S s = all-weaker (list_all (stores_mapped S.map)) (list_all (stores_each_mapped S.map)) (all-weaker (stores_mapped S.map) (stores_each_mapped S.map) (each-mapped S.map s.apart)) S.programs s.mapped

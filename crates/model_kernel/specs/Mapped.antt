@@ -1,4 +1,4 @@
--- What the laws of scripts say.
+-- Where a script's tasks store bytes of their own: at mapped addresses.
 use Rattle.std.specs.Prelude.{◌≡◌, ℕ, Bool, true, List, length}
 use Rattle.std.specs.List.{list_all}
 use Rattle.hist_model.specs.Memory.{all_mapped}

@@ -1,0 +1,29 @@
+-- What a task does that waits in no listed call.
+-- By the order of its steps: a native call that it owes, a signal that is due, and the step of its next instruction.
+use Rattle.std.proofs.Common.{◌≡◌, ℕ, true, false, None, refl, ap, ◌∙◌}
+use Rattle.hist_model.specs.Signals.{call_of}
+use Rattle.hist_model.specs.Steps.{deliver_or, living_step, owes_native}
+use Rattle.hist_model.specs.declared.event.What.TheVariants.{Native}
+use Rattle.kernel_tasks.proofs.Refs.{steps-living}
+use Rattle.task_names.proofs.Named.{name-made}
+use Rattle.model_kernel.specs.Kernels.{past, system}
+use Rattle.model_kernel.specs.Ready.{own_step}
+use Rattle.model_kernel.specs.Steps.{IsDeliveredFirst, MayStep, delivered, due_step, named, signal_due}
+use Rattle.model_kernel.specs.declared.kernel.Kernel.{Kernel}
+
+due-outside : (k : Kernel) (o : ℕ) → MayStep k o → call_of (past k) (named k o) ≡ None → due_step k o ≡ living_step (system k) (past k) (named k o) None
+due-outside k o m none = steps-living (system k) (past k) (named k o) (name-made (past k) o m.made) m.lives ∙ ap (living_step (system k) (past k) (named k o)) none
+
+-- the native call that it owes comes first
+pub due-native : (k : Kernel) (o : ℕ) → MayStep k o → call_of (past k) (named k o) ≡ None → owes_native (past k) (named k o) ≡ true → due_step k o ≡ Native ((system k).native (past k) (named k o))
+due-native k o m none owes = due-outside k o m none ∙ rw owes refl
+
+-- then a signal that is due, and then the step of the next instruction
+outside-order : (k : Kernel) (o : ℕ) → MayStep k o → call_of (past k) (named k o) ≡ None → owes_native (past k) (named k o) ≡ false → due_step k o ≡ deliver_or (signal_due k o) (delivered k o false) (own_step k o)
+outside-order k o m none owes = due-outside k o m none ∙ rw owes refl
+
+pub due-signal : (k : Kernel) (o : ℕ) → MayStep k o → call_of (past k) (named k o) ≡ None → owes_native (past k) (named k o) ≡ false → IsDeliveredFirst k o false
+due-signal k o m none owes = (own_step k o, outside-order k o m none owes)
+
+pub due-own : (k : Kernel) (o : ℕ) → MayStep k o → call_of (past k) (named k o) ≡ None → owes_native (past k) (named k o) ≡ false → signal_due k o ≡ None → due_step k o ≡ own_step k o
+due-own k o m none owes quiet = outside-order k o m none owes ∙ ap (λ d. deliver_or d (delivered k o false) (own_step k o)) quiet

@@ -1,0 +1,68 @@
+-- What a task does that waits in a listed call.
+-- By the order of its steps, and the oldest request of its call.
+use Rattle.std.proofs.Common.{◌≡◌, ℕ, true, false, Some, None, Result, refl, sym, ap, ◌∙◌}
+use Rattle.hist_model.specs.Calls.{queue, settled}
+use Rattle.hist_model.specs.Files.{asked_in, files, first_request, request_for, slot_in}
+use Rattle.hist_model.specs.Look.{event_at}
+use Rattle.hist_model.specs.Memory.{group_named}
+use Rattle.hist_model.specs.Steps.{deliver_or, install_step, living_step, place_or, slot_answer}
+use Rattle.hist_model.specs.declared.event.Back.{Back}
+use Rattle.hist_model.specs.declared.event.What.TheVariants.{Install, Resume, Skip}
+use Rattle.hist_model.proofs.Look.{name_eq-refl}
+use Rattle.addfd.proofs.Oldest.{oldest-first, oldest-none}
+use Rattle.addfd.specs.Stands.{IsOldest, oldest_in}
+use Rattle.kernel_tasks.proofs.Refs.{steps-living}
+use Rattle.listener.specs.Stands.{IsInstall, IsSettledBy}
+use Rattle.notif_queue.proofs.Waiting.{waits-in}
+use Rattle.sys_abi.specs.declared.wire.Addfd.{Addfd}
+use Rattle.task_groups.specs.Groups.{IsInstall as IsGroupInstall}
+use Rattle.task_names.proofs.Named.{name-made}
+use Rattle.model_kernel.specs.Kernels.{past, system}
+use Rattle.model_kernel.specs.Steps.{IsDeliveredFirst, IsInstallDue, MayStep, WaitsIn, delivered, due_step, named, signal_due, step_by}
+use Rattle.model_kernel.specs.declared.kernel.Kernel.{Kernel}
+
+-- the installation that is due, with its answer
+pub install-due : (k : Kernel) (o c x w g : ℕ) (asked : Addfd) → IsInstallDue k o c x w asked → group_named (past k) (named k o) ≡ Some g
+    → due_step k o ≡ Install (slot_answer (slot_in k.script.rlimit (files k.script (past k)) g asked))
+install-due k o c x w g asked i own =
+    let K = past k in
+    let S = k.script in
+    let there = waits-in K (named k o) c i.waits.call_is in
+    let f : IsOldest K c w asked = oldest-first K c w asked i.oldest in
+    let asked_is : asked_in (event_at K f.first) ≡ asked = sym (ap (first_request K) f.queue_is) ∙ f.asked_is in
+    let slot = ap (λ n. slot_in S.rlimit (files S K) (place_or (group_named K n)) (asked_in (event_at K f.first))) there.1
+    ∙ (ap (λ h. slot_in S.rlimit (files S K) (place_or h) (asked_in (event_at K f.first))) own ∙ ap (slot_in S.rlimit (files S K) g) asked_is) in
+    i.due ∙ (ap (install_step (system k) K c) f.queue_is ∙ ap (λ s. Install (slot_answer s)) slot)
+
+-- the event of that installation, for the listener and for the group
+pub installs : (k : Kernel) (o c x w : ℕ) (asked : Addfd) (answer : Result ℕ ℕ) → IsInstallDue k o c x w asked → IsInstall (past k) (step_by k o (Install answer)) c w asked answer
+installs k o c x w asked answer i =
+    let there = waits-in (past k) (named k o) c i.waits.call_is in
+    record { by_caller = rw there.1 (name_eq-refl (named k o)); what_is = refl; oldest_is = i.oldest }
+
+pub group-installs : (k : Kernel) (o c x w g : ℕ) (asked : Addfd) (answer : Result ℕ ℕ) → IsInstallDue k o c x w asked → group_named (past k) (named k o) ≡ Some g → IsGroupInstall (past k) (step_by k o (Install answer)) g asked answer
+group-installs k o c x w g asked answer i own =
+    let f : IsOldest (past k) c w asked = oldest-first (past k) c w asked i.oldest in
+    record { what = refl; own = ap place_or own; source = ap (λ (a : Addfd). a.srcfd) (ap (request_for (past k)) i.waits.call_is ∙ f.asked_is) }
+
+-- the step of a task that waits in a call
+pub due-waiting : (k : Kernel) (o c x : ℕ) → MayStep k o → WaitsIn k o c x → due_step k o ≡ living_step (system k) (past k) (named k o) (Some c)
+due-waiting k o c x m w = steps-living (system k) (past k) (named k o) (name-made (past k) o m.made) m.lives ∙ ap (living_step (system k) (past k) (named k o)) w.call_is
+
+-- a settled call returns
+pub due-resume : (k : Kernel) (o c x : ℕ) (back : Back) → MayStep k o → WaitsIn k o c x → IsSettledBy (past k) c (Some back) → due_step k o ≡ Resume back
+due-resume k o c x back m w (h, q) = due-waiting k o c x m w ∙ rw h (ap Resume q)
+
+-- in another one a due signal is delivered first, and then its oldest request is installed
+waiting-order : (k : Kernel) (o c x : ℕ) → MayStep k o → WaitsIn k o c x → settled (past k) c ≡ false → due_step k o ≡ deliver_or (signal_due k o) (delivered k o true) (install_step (system k) (past k) c (queue (past k) c))
+waiting-order k o c x m w h = due-waiting k o c x m w ∙ rw h refl
+
+pub due-later : (k : Kernel) (o c x : ℕ) → MayStep k o → WaitsIn k o c x → settled (past k) c ≡ false → IsDeliveredFirst k o true
+due-later k o c x m w h = (install_step (system k) (past k) c (queue (past k) c), waiting-order k o c x m w h)
+
+pub due-install : (k : Kernel) (o c x : ℕ) → MayStep k o → WaitsIn k o c x → settled (past k) c ≡ false → signal_due k o ≡ None → due_step k o ≡ install_step (system k) (past k) c (queue (past k) c)
+due-install k o c x m w h none = waiting-order k o c x m w h ∙ ap (λ d. deliver_or d (delivered k o true) (install_step (system k) (past k) c (queue (past k) c))) none
+
+-- without a request there is no step
+pub due-none : (k : Kernel) (o c x : ℕ) → MayStep k o → WaitsIn k o c x → settled (past k) c ≡ false → signal_due k o ≡ None → oldest_in (past k) (queue (past k) c) ≡ None → due_step k o ≡ Skip
+due-none k o c x m w h none q = due-install k o c x m w h none ∙ ap (install_step (system k) (past k) c) (oldest-none (past k) c q)

@@ -1,0 +1,50 @@
+use Rattle.std.proofs.Common.{sym, subst}
+use Rattle.kernel_resources.specs.Stands.{StandsFor}
+use Rattle.task_progress.specs.Rows.{living_in}
+use Rattle.model_kernel.specs.Kernels.{past}
+use Rattle.model_kernel.specs.Steps.{IsInstallDue}
+use Rattle.model_kernel.specs.declared.kernel.Kernel.{Kernel}
+use Rattle.model_kernel.proofs.TaskSteps.{listed-as}
+use Rattle.model_kernel.proofs.Waiting.{due-resume, due-later, due-install, due-none}
+use Rattle.model_kernel.proofs.kernel.Kernel.waiting_step.Goals as goal
+
+pub resume-requires-clause-due : goal.resume-requires-clause-due
+resume-requires-clause-due c =
+    let k = c.args.self.now in
+    let m = c.requires.ready in
+    let (place, waits) = c.requires.waits in
+    due-resume k c.args.task place c.args.id c.in-Some.back m waits (c.in-Some.ensures k.script (past k) (living_in k.tasks.progress) place m.kernel.resources (listed-as k c.args.task place c.args.id waits))
+
+pub deliver_inside-requires-clause-due : goal.deliver_inside-requires-clause-due
+deliver_inside-requires-clause-due c =
+    let k = c.args.self.now in
+    let m = c.requires.ready in
+    let (place, waits) = c.requires.waits in
+    due-later k c.args.task place c.args.id m waits (c.in_default.ensures k.script (past k) (living_in k.tasks.progress) place m.kernel.resources (listed-as k c.args.task place c.args.id waits))
+
+pub returns-in_err-worker-clause-none : goal.returns-in_err-worker-clause-none
+returns-in_err-worker-clause-none c =
+    let k = c.args.self.now in
+    let m = c.requires.ready in
+    let (place, waits) = c.requires.waits in
+    let listed = listed-as k c.args.task place c.args.id waits in
+    let unsettled = c.in_default.ensures k.script (past k) (living_in k.tasks.progress) place m.kernel.resources listed in
+    let none = c.in_default-deliver_inside.ensures.none in
+    let stand = subst (λ (x : Kernel). StandsFor k.script (past k) (living_in k.tasks.progress) x.resources) (sym none.0) m.kernel.resources in
+    rw c.from_residual.ensures (none.0, due-none k c.args.task place c.args.id m waits unsettled none.1 (sym (c.in_err-worker.ensures.stands k.script (past k) (living_in k.tasks.progress) place stand listed)))
+
+pub install-requires-clause-due : goal.install-requires-clause-due
+install-requires-clause-due c =
+    let k = c.args.self.now in
+    let m = c.requires.ready in
+    let (place, waits) = c.requires.waits in
+    let listed = listed-as k c.args.task place c.args.id waits in
+    let unsettled = c.in_default.ensures k.script (past k) (living_in k.tasks.progress) place m.kernel.resources listed in
+    let none = c.in_default-deliver_inside.ensures.none in
+    let stand = subst (λ (x : Kernel). StandsFor k.script (past k) (living_in k.tasks.progress) x.resources) (sym none.0) m.kernel.resources in
+    let here : IsInstallDue k c.args.task place c.args.id c.in_ok-worker.worker c.in_ok-worker.asked = record {
+      waits = waits;
+      oldest = sym (c.in_ok-worker.ensures.stands k.script (past k) (living_in k.tasks.progress) place stand listed);
+      due = due-install k c.args.task place c.args.id m waits unsettled none.1;
+    } in
+    (place, subst (λ (x : Kernel). IsInstallDue x c.args.task place c.args.id c.in_ok-worker.worker c.in_ok-worker.asked) (sym none.0) here)

@@ -1,0 +1,227 @@
+//! What a task's next step is, read out of the tables with all that it needs of memory before it is taken.
+
+ghost use Rattle.std.specs.Prelude.{◌≡◌, ◌<◌, ◌^◌, length, true, replicate, IfOk, OnOk};
+ghost use Rattle.std.specs.Option.{option_copied};
+ghost use Rattle.hist_model.specs.ScriptRules.{IsScript};
+ghost use Rattle.hist_model.specs.Signals.{call_of};
+ghost use Rattle.hist_model.specs.Steps.{next_instr, owes_native};
+ghost use Rattle.hist_model.specs.Tasks.{ended};
+ghost use Rattle.history_frames.specs.Ordinals.{tasks_made};
+ghost use Rattle.kernel_tasks.specs.Rows.{HasRoom as HasTaskRoom};
+ghost use Rattle.task_progress.specs.Rows.{ended_at};
+ghost use Rattle.model_kernel.specs.Kernels.{IsKernel, past, system};
+ghost use Rattle.model_kernel.specs.Ready.{HasNextRoom, IsInstruction, IsNext, IsOwed, IsReadyFor, IsSame, stored_bytes};
+ghost use Rattle.model_kernel.specs.Steps.{MayStep, named};
+ghost use Rattle.model_kernel.specs.declared.ready.Next.TheVariants.{Runs as RunsNext};
+
+use crate::kernel::Kernel;
+use arg_capture::Capture;
+use hist_model::event::Mode;
+use hist_model::script::{Instr, Script};
+use hist_model::text::{TaskName, Text};
+use native_calls::NativeCall;
+use std::alloc::Global;
+use sys_abi::memory::NoMemory;
+
+/// The next instruction of a task's program, with what it stores and whom it signals. Behind the last one stands an exit.
+#[derive(Drop)]
+pub(crate) enum Instruction {
+    Exit,
+    Store { addr: u64, bytes: Text },
+    Enter { nr: i32, args: [u64; 6] },
+    Fork { program: u32 },
+    Thread { program: u32 },
+    Signal { pid: u32, sig: u8 },
+    Handler { sig: u8, mode: Mode },
+    Wait,
+}
+
+/// What a task has next.
+#[derive(Drop)]
+pub(crate) enum Next {
+    /// Nothing: it has ended.
+    Ended,
+    /// It waits in the listed call with this id.
+    Waiting(u64),
+    /// It owes this native call, whose arguments were read out of its memory.
+    Owed(NativeCall),
+    /// Its program goes on.
+    Runs(Instruction),
+}
+
+/// The next step of a task, with all the memory that it takes. It is for the kernel that made it ready, until that has
+/// taken another step.
+#[derive(Drop)]
+pub struct ReadyTask {
+    pub(crate) name: TaskName,
+    /// Room for the name of a child.
+    pub(crate) room: Vec<u32>,
+    pub(crate) next: Next,
+}
+
+/// So many bytes that are all the same.
+fn filled(alloc: Global, len: u32, byte: u8) -> Result<Text, NoMemory>
+    ensures { IfOk result (λ text. text ≡ replicate len byte) }
+{
+    Ok(Text::new(vec![in alloc; byte; len as usize]?))
+}
+
+/// How many bytes an instruction stores. There is no memory for 2^32 of them.
+fn stored_bytes(instruction: &Instruction) -> Result<u32, NoMemory>
+    ensures { IfOk result (λ n. n ≡ stored_bytes (RunsNext instruction.now)) }
+{
+    let Instruction::Store { bytes, .. } = instruction else {
+        return Ok(0);
+    };
+    u32::try_from(bytes.items().len()).map_err(|_| NoMemory)
+}
+
+/// A script keeps its rules.
+fn keeps_rules(script: &Script)
+    ensures { IsScript script.now }
+{
+    let _base = script.pidbase;
+}
+
+impl Kernel {
+    /// The next instruction of a task that waits in no listed call and owes no native call.
+    fn next_instruction(&self, alloc: Global, task: u32) -> Result<Instruction, NoMemory>
+        requires kernel { IsKernel self.now }
+        requires made { task < tasks_made (past self.now) }
+        ensures { IfOk result (λ i. IsInstruction self.now task i) }
+    {
+        keeps_rules(&self.script);
+        match self.tasks.next_instr(&self.script, task) {
+            None | Some(Instr::Exit) => Ok(Instruction::Exit),
+            Some(Instr::Poke { addr, bytes }) => Ok(Instruction::Store {
+                addr: *addr,
+                bytes: bytes.copied(alloc)?,
+            }),
+            Some(Instr::Fill { addr, len, byte }) => Ok(Instruction::Store {
+                addr: *addr,
+                bytes: filled(alloc, *len, *byte)?,
+            }),
+            Some(Instr::Call { nr, args }) => Ok(Instruction::Enter {
+                nr: *nr,
+                args: *args,
+            }),
+            Some(Instr::Spawn { program }) => Ok(Instruction::Fork { program: *program }),
+            Some(Instr::Thread { program }) => Ok(Instruction::Thread { program: *program }),
+            Some(Instr::Kill { whom, sig }) => Ok(Instruction::Signal {
+                pid: self.tasks.signalled(task, *whom),
+                sig: *sig,
+            }),
+            Some(Instr::Handler { sig, mode }) => Ok(Instruction::Handler {
+                sig: *sig,
+                mode: *mode,
+            }),
+            Some(Instr::Wait) => Ok(Instruction::Wait),
+        }
+    }
+
+    /// The native call that a task owes, with its arguments.
+    fn owed_call(&self, alloc: Global, task: u32) -> Result<NativeCall, NoMemory>
+        requires may { MayStep self.now task }
+        requires owes { owes_native (past self.now) (named self.now task) ≡ true }
+        ensures { IfOk result (λ call. IsOwed self.now task call) }
+    {
+        let group = self.tasks.group(task);
+        let Some(entered) = self.tasks.entered(task) else {
+            unreachable!()
+        };
+        self.resources.prepare(
+            group,
+            entered.nr,
+            &entered.args,
+            &mut Capture::nothing(alloc),
+            &mut Vec::new(alloc),
+        )
+    }
+
+    /// What a task has next.
+    fn next(&self, alloc: Global, task: u32) -> Result<Next, NoMemory>
+        requires kernel { IsKernel self.now }
+        requires made { task < tasks_made (past self.now) }
+        requires few { length (past self.now) < 2 ^ 64 }
+        ensures { IfOk result (λ next. IsNext self.now task next) }
+    {
+        if self.tasks.has_ended(task) {
+            return Ok(Next::Ended);
+        }
+        if let Some(id) = self.tasks.call(task) {
+            return Ok(Next::Waiting(id));
+        }
+        if self.tasks.owes(task) {
+            return Ok(Next::Owed(self.owed_call(alloc, task)?));
+        }
+        Ok(Next::Runs(self.next_instruction(alloc, task)?))
+    }
+
+    /// Makes room for what a task has next.
+    fn ready_next(&mut self, task: u32, next: &Next) -> Result<(), NoMemory>
+        requires kernel { IsKernel self.old }
+        requires made { task < tasks_made (past self.old) }
+        requires few { length (past self.old) < 2 ^ 64 }
+        requires next { IsNext self.old task next.now }
+        ensures kernel { IsKernel self.new }
+        ensures same { self.new ≡ record self.old { resources = self.new.resources } }
+        ensures room { OnOk result (HasNextRoom self.new task next.now) }
+    {
+        let group = self.tasks.group(task);
+        match next {
+            Next::Ended => Ok(()),
+            Next::Waiting(_) => self.resources.ready(group, 0),
+            Next::Owed(call) => self.resources.ready_native(group, call),
+            Next::Runs(instruction) => self.resources.ready(group, stored_bytes(instruction)?),
+        }
+    }
+
+    /// Makes room in the history for one more event, and in the tables of the tasks for one more child of a task.
+    fn ready_rows(&mut self, task: u32) -> Result<(), NoMemory>
+        requires { IsKernel self.old }
+        ensures kernel { IsKernel self.new }
+        ensures past { past self.new ≡ past self.old }
+        ensures same { self.new ≡ record self.old { history = self.new.history; tasks = self.new.tasks } }
+        ensures event { OnOk result (0 < self.new.history.spare) }
+        ensures tasks { OnOk result (HasTaskRoom self.new.tasks task) }
+    {
+        self.history.ready(1)?;
+        self.tasks.ready(task)
+    }
+
+    /// Makes room for a task's next step, and tells what it is.
+    fn ready_tables(&mut self, alloc: Global, task: u32) -> Result<Next, NoMemory>
+        requires kernel { IsKernel self.old }
+        requires made { task < tasks_made (past self.old) }
+        ensures same { IsSame self.old self.new }
+        ensures few { length (past self.new) < 2 ^ 64 }
+        ensures event { IfOk result (λ next. 0 < self.new.history.spare) }
+        ensures tasks { IfOk result (λ next. HasTaskRoom self.new.tasks task) }
+        ensures next { IfOk result (λ next. IsNext self.new task next) }
+        ensures resources { IfOk result (λ next. HasNextRoom self.new task next) }
+    {
+        let _events = self.count();
+        self.ready_rows(task)?;
+        let next = self.next(alloc, task)?;
+        self.ready_next(task, &next)?;
+        Ok(next)
+    }
+
+    /// Makes a task's next step ready, which then takes no memory. After want of memory the kernel has perhaps more room, and
+    /// is otherwise as it was.
+    pub fn ready_task(&mut self, alloc: Global, task: u32) -> Result<ReadyTask, NoMemory>
+        requires kernel { IsKernel self.old }
+        requires made { task < tasks_made (past self.old) }
+        ensures same { IsSame self.old self.new }
+        ensures ready { IfOk result (λ r. IsReadyFor self.new task r) }
+    {
+        let next = self.ready_tables(alloc, task)?;
+        let name = Vec::from_slice(alloc, self.tasks.name(task))?;
+        let room = Vec::with_capacity(alloc, name.len() + 1)?;
+        Ok(ReadyTask {
+            name: TaskName::new(name),
+            room,
+            next,
+        })
+    }
+}

@@ -1,0 +1,473 @@
+//! What tasks do next (seccomp(2), clone(2), wait(2), kill(2), sigaction(2), signal(7)).
+
+ghost use Rattle.std.specs.Prelude.{◌≡◌, ℕ, ◌<◌, ◌+◌, ◌%◌, ◌^◌, ◌∷◌, List, length, Some, vec_capacity, None, true, false, ◌&&◌, IfSome, IfNone};
+ghost use Rattle.hist_model.specs.Look.{ev, oldest};
+ghost use Rattle.hist_model.specs.Signals.{call_of};
+ghost use Rattle.hist_model.specs.Steps.{found, is_child, is_ended_child, next_child, next_instr, owes_native, spawn_answer, wait_step, with_id};
+ghost use Rattle.hist_model.specs.Tasks.{holder, next_pid};
+ghost use Rattle.hist_model.specs.declared.event.Actor.TheVariants.{Task};
+ghost use Rattle.hist_model.specs.declared.event.What.TheVariants.{Enter, Handler, Native, Poke, Resume, Signal, Skip, Spawn};
+ghost use Rattle.model_kernel.specs.Kernels.{IsAfter, IsKernel, past, system};
+ghost use Rattle.model_kernel.specs.Ready.{HasNextRoom, IsInstruction, IsNext, IsReadyFor, own_step};
+ghost use Rattle.model_kernel.specs.declared.ready.Next.TheVariants.{Runs};
+ghost use Rattle.model_kernel.specs.Steps.{Acts, IsStepped, IsDeliveredFirst, IsInstallDue, MayStep, WaitsIn, due_step, is_unlisted, left_by, named, signal_due};
+ghost use Rattle.hist_model.specs.Kinds.{ends, exits, makes};
+ghost use Rattle.hist_model.specs.declared.event.Event.{Event};
+ghost use Rattle.hist_model.specs.declared.script.Script.{Script};
+ghost use Rattle.history_frames.specs.Ordinals.{groups_made, tasks_made};
+ghost use Rattle.task_groups.specs.Groups.{HasRoomFor, IsCopyOf, IsLive, one_more};
+ghost use Rattle.listener.specs.Stands.{IsListedAs};
+ghost use Rattle.hist_model.specs.Calls.{calls, fetched};
+ghost use Rattle.hist_model.specs.declared.event.Entered.TheVariants.{Notify};
+ghost use Rattle.notif_queue.specs.Table.{HasRoom as HasCallRoom};
+ghost use Rattle.hist_model.specs.Memory.{all_mapped, group_named};
+ghost use Rattle.native_calls.specs.Stands.{IsEntered};
+ghost use Rattle.hist_model.specs.declared.event.SpawnKind.TheVariants.{Copied, Shared};
+ghost use Rattle.hist_model.specs.declared.script.Instr.TheVariants.{Spawn as InstrSpawn, Thread};
+ghost use Rattle.kernel_tasks.specs.Rows.{HasRoom as HasTaskRoom};
+ghost use Rattle.task_names.specs.Rows.{name_at};
+ghost use Rattle.addfd.specs.Requests.{has_request};
+ghost use Rattle.task_progress.specs.Rows.{group_at};
+ghost use Rattle.kernel_resources.specs.Stands.{HasNativeRoom, IsThread};
+ghost use Rattle.kernel_resources.specs.Stands as resources_stand;
+
+use crate::kernel::Kernel;
+use crate::ready::{Instruction, Next, ReadyTask};
+use bpf_filter::verdict;
+use hist_model::event::{Actor, Back, Delivered, Entered, Event, Mode, SpawnKind, What};
+use hist_model::request::TaskRef;
+use hist_model::text::{TaskName, Text};
+use kernel_resources::Resources;
+use native_calls::NativeCall;
+use sys_abi::wire::Addfd;
+use thiserror::Error;
+
+/// The task can't step: it has ended, or waits.
+#[derive(Clone, Copy, PartialEq, Eq, Debug, Error)]
+#[error("the task can't step")]
+pub struct CannotStep;
+
+impl Kernel {
+    /// Appends a step of a task, for which there is room.
+    fn note_step(&mut self, name: TaskName, what: What)
+        requires { 0 < self.old.history.spare }
+        ensures events { past self.new ≡ ev (Task name) what ∷ past self.old }
+        ensures same { self.new ≡ record self.old { history = self.new.history } }
+    {
+        self.history.push(Event {
+            who: Actor::Task(name),
+            what,
+        });
+    }
+
+    /// The listed call with this id, in which a task waits, returns.
+    fn resume(&mut self, task: u32, id: u64, back: Back) -> What
+        requires ready { MayStep self.old task }
+        requires waits { (c : ℕ) × WaitsIn self.old task c id }
+        requires due { due_step self.old task ≡ Resume back }
+        ensures { Acts self.old task result self.new }
+    {
+        let what = What::Resume { back };
+        self.tasks.stepped(task, &what);
+        self.resources.leave(id);
+        what
+    }
+
+    /// A task sets what it does at a signal.
+    fn handle(&mut self, task: u32, sig: u8, mode: Mode) -> What
+        requires ready { MayStep self.old task }
+        requires due { due_step self.old task ≡ Handler sig mode }
+        ensures { Acts self.old task result self.new }
+    {
+        self.tasks.handler(task, sig, mode);
+        What::Handler { sig, mode }
+    }
+
+    /// A task sends a signal to the task that holds a process number.
+    fn send_signal(&mut self, task: u32, pid: u32, sig: u8) -> What
+        requires ready { MayStep self.old task }
+        requires due { due_step self.old task ≡ Signal pid sig (found (holder (past self.old) pid)) }
+        ensures { Acts self.old task result self.new }
+    {
+        self.tasks.signal(task, pid, sig)
+    }
+
+    /// A task ends by its own step, which is this: it exits, or a filter kills it.
+    fn exit(&mut self, task: u32, what: What) -> What
+        requires ready { MayStep self.old task }
+        requires due { due_step self.old task ≡ what }
+        requires exits { exits what ≡ true }
+        ensures { Acts self.old task result self.new }
+    {
+        let group = self.tasks.group(task);
+        self.tasks.exit(task, &what);
+        leave_group(&mut self.resources, group, &what);
+        what
+    }
+
+    /// A task enters a call, of which the filters say this: it isn't listed, and the task isn't killed.
+    fn enter_unlisted(&mut self, task: u32, nr: i32, args: &[u64; 6], verdict: Entered) -> What
+        requires ready { MayStep self.old task }
+        requires due { due_step self.old task ≡ Enter nr args.now verdict }
+        requires unlisted { is_unlisted verdict ≡ true }
+        ensures { Acts self.old task result self.new }
+    {
+        let what = What::Enter {
+            nr,
+            args: *args,
+            verdict,
+        };
+        self.tasks.stepped(task, &what);
+        what
+    }
+
+    /// A task, which waits in no listed call, enters one, for whose entry there is room.
+    fn enter_listed(&mut self, task: u32, nr: i32, args: &[u64; 6]) -> What
+        requires ready { MayStep self.old task }
+        requires outside { call_of (past self.old) (named self.old task) ≡ None }
+        requires room { HasCallRoom self.old.resources.listener.queue }
+        requires due { due_step self.old task ≡ Enter nr args.now (Notify ((self.old.script.firstid + calls (past self.old)) % 2 ^ 64)) }
+        ensures { Acts self.old task result self.new }
+    {
+        let id = self.resources.enter(TaskRef {
+            slot: 0,
+            ordinal: task,
+        });
+        let what = What::Enter {
+            nr,
+            args: *args,
+            verdict: Entered::Notify { id },
+        };
+        self.tasks.stepped(task, &what);
+        what
+    }
+
+    /// A task, which waits in the listed call with this id, installs the call's oldest request, for which there is room in its
+    /// group. The errors are those of `Resources::install`.
+    fn install(&mut self, task: u32, id: u64, worker: u8, asked: &Addfd) -> What
+        requires ready { MayStep self.old task }
+        requires room { HasRoomFor self.old.resources.groups (group_at self.old.tasks.progress task) 0 }
+        requires asked { has_request self.old.resources.listener.requests worker ≡ true }
+        requires due { (c : ℕ) × IsInstallDue self.old task c id worker asked.now }
+        ensures { Acts self.old task result self.new }
+    {
+        let group = self.tasks.group(task);
+        let answer = self.resources.install(group, id, worker, asked);
+        let what = What::Install { answer };
+        self.tasks.stepped(task, &what);
+        what
+    }
+
+    /// The step of a task that waits in the listed call with this id: the call returns where it was settled, else a due
+    /// signal is delivered, else the oldest request of the call is installed, for which there is room. None exactly where
+    /// there is nothing of these, which leaves all as it was.
+    fn waiting_step(&mut self, task: u32, id: u64) -> Option<What>
+        requires ready { MayStep self.old task }
+        requires waits { (c : ℕ) × WaitsIn self.old task c id }
+        requires room { HasRoomFor self.old.resources.groups (group_at self.old.tasks.progress task) 0 }
+        ensures step { IfSome result (λ w. Acts self.old task w self.new) }
+        ensures none { IfNone result ((self.new ≡ self.old) × (due_step self.old task ≡ Skip)) }
+    {
+        if let Some(back) = self.resources.settled_back(id) {
+            return Some(self.resume(task, id, back));
+        }
+        if let Some(what) = self.deliver_inside(task, id) {
+            return Some(what);
+        }
+        let (worker, asked) = self.resources.next_request(id)?;
+        Some(self.install(task, id, worker, &asked))
+    }
+
+    /// A task runs the native call that it owes, for which there is room. The answers are those of `Resources::run`.
+    fn run_native(&mut self, task: u32, call: NativeCall) -> What
+        requires ready { MayStep self.old task }
+        requires room { HasNativeRoom self.old.resources (group_at self.old.tasks.progress task) call }
+        requires entered { (g : ℕ) → group_named (past self.old) (named self.old task) ≡ Some g → IsEntered self.old.script (past self.old) (named self.old task) g call }
+        requires due { due_step self.old task ≡ Native ((system self.old).native (past self.old) (named self.old task)) }
+        ensures { Acts self.old task result self.new }
+    {
+        let group = self.tasks.group(task);
+        let pid = self.tasks.pid(task);
+        let answer = self.resources.run(group, pid, call);
+        let what = What::Native { answer };
+        self.tasks.stepped(task, &what);
+        what
+    }
+
+    /// A task, which waits in no listed call, enters a call, through the filters. For a listed one there is room.
+    fn enter(&mut self, task: u32, nr: i32, args: &[u64; 6]) -> What
+        requires ready { MayStep self.old task }
+        requires outside { call_of (past self.old) (named self.old task) ≡ None }
+        requires room { HasCallRoom self.old.resources.listener.queue }
+        requires due { due_step self.old task ≡ Enter nr args.now (with_id ((system self.old).verdict nr args.now) ((self.old.script.firstid + calls (past self.old)) % 2 ^ 64)) }
+        ensures { Acts self.old task result self.new }
+    {
+        match verdict(self.script.filters.items(), nr, args) {
+            Entered::Notify { .. } => self.enter_listed(task, nr, args),
+            Entered::Kill => self.exit(
+                task,
+                What::Enter {
+                    nr,
+                    args: *args,
+                    verdict: Entered::Kill,
+                },
+            ),
+            verdict => self.enter_unlisted(task, nr, args, verdict),
+        }
+    }
+
+    /// A task waits for a child, whose name is written into `room`. None exactly where it has one and none has ended, which
+    /// leaves all as it was.
+    fn wait(&mut self, task: u32, room: Vec<u32>) -> Option<What>
+        requires ready { MayStep self.old task }
+        requires room { length (name_at self.old.tasks.names task) < vec_capacity room }
+        requires due { due_step self.old task ≡ wait_step (past self.old) (oldest (is_child (past self.old) (named self.old task)) (length (past self.old))) (oldest (is_ended_child (past self.old) (named self.old task)) (length (past self.old))) }
+        ensures step { IfSome result (λ w. Acts self.old task w self.new) }
+        ensures none { IfNone result ((self.new ≡ self.old) × (due_step self.old task ≡ Skip)) }
+    {
+        let what = self.tasks.reap(task, room)?;
+        Some(what)
+    }
+
+    /// A task stores bytes, which are all mapped, in the memory of its group, for which there is room.
+    fn store(&mut self, task: u32, addr: u64, bytes: Text) -> What
+        requires ready { MayStep self.old task }
+        requires room { HasRoomFor self.old.resources.groups (group_at self.old.tasks.progress task) (length bytes) }
+        requires mapped { all_mapped self.old.script.map addr (length bytes) ≡ true }
+        requires due { due_step self.old task ≡ Poke addr bytes }
+        ensures { Acts self.old task result self.new }
+    {
+        let group = self.tasks.group(task);
+        let Ok(()) = self.resources.poke(group, addr, bytes.items()) else {
+            unreachable!()
+        };
+        let what = What::Poke { addr, bytes };
+        self.tasks.stepped(task, &what);
+        what
+    }
+
+    /// A task makes a thread, for which there is room, as its next child. EAGAIN where every process number is held.
+    fn make_thread(&mut self, task: u32, program: u32, room: Vec<u32>) -> What
+        requires ready { MayStep self.old task }
+        requires tasks { HasTaskRoom self.old.tasks task }
+        requires room { length (name_at self.old.tasks.names task) < vec_capacity room }
+        requires next { next_instr (system self.old) (past self.old) (named self.old task) ≡ Some (Thread program) }
+        requires due { due_step self.old task ≡ Spawn (next_child (past self.old) (named self.old task)) (spawn_answer (next_pid self.old.script.pidbase self.old.script.pidmax (past self.old)) Shared) }
+        ensures { Acts self.old task result self.new }
+    {
+        let group = self.tasks.group(task);
+        let what = self
+            .tasks
+            .spawn(task, SpawnKind::Shared, group, program, room);
+        join_group(&mut self.resources, group, &what);
+        what
+    }
+
+    /// A task makes a task with a copy of its group, for which there is room, as its next child (fork(2)). EAGAIN where every
+    /// process number is held.
+    fn make_process(&mut self, task: u32, program: u32, room: Vec<u32>) -> What
+        requires ready { MayStep self.old task }
+        requires tasks { HasTaskRoom self.old.tasks task }
+        requires groups { HasRoomFor self.old.resources.groups (group_at self.old.tasks.progress task) 0 }
+        requires room { length (name_at self.old.tasks.names task) < vec_capacity room }
+        requires next { next_instr (system self.old) (past self.old) (named self.old task) ≡ Some (InstrSpawn program) }
+        requires due { due_step self.old task ≡ Spawn (next_child (past self.old) (named self.old task)) (spawn_answer (next_pid self.old.script.pidbase self.old.script.pidmax (past self.old)) Copied) }
+        ensures { Acts self.old task result self.new }
+    {
+        let group = self.tasks.group(task);
+        let copy = self.resources.groups_made() as u32;
+        let what = self
+            .tasks
+            .spawn(task, SpawnKind::Copied, copy, program, room);
+        copy_group(&mut self.resources, group, &what);
+        what
+    }
+
+    /// Delivers the signal that is due next to a task, which waits in no listed call. None exactly where none is due, which
+    /// leaves all as it was.
+    fn deliver_outside(&mut self, task: u32) -> Option<What>
+        requires ready { MayStep self.old task }
+        requires outside { call_of (past self.old) (named self.old task) ≡ None }
+        requires due { IsDeliveredFirst self.old task false }
+        ensures step { IfSome result (λ w. Acts self.old task w self.new) }
+        ensures none { IfNone result ((self.new ≡ self.old) × (signal_due self.old task ≡ None)) }
+    {
+        let group = self.tasks.group(task);
+        let what = self.tasks.deliver(task, false, false)?;
+        leave_group(&mut self.resources, group, &what);
+        Some(what)
+    }
+
+    /// Whether only fatal signals end the wait in the listed call with this id.
+    fn holds_back(&self, id: u64) -> bool
+        requires { IsKernel self.now }
+        ensures { (c : ℕ) → IsListedAs (past self.now) c id → result ≡ (self.now.script.killable && fetched (past self.now) c) }
+    {
+        self.script.killable && self.resources.was_received(id)
+    }
+
+    /// Delivers the signal that is due next to a task, which waits in the listed call with this id, and ends its wait. None
+    /// exactly where none is due, which leaves all as it was.
+    fn deliver_inside(&mut self, task: u32, id: u64) -> Option<What>
+        requires ready { MayStep self.old task }
+        requires waits { (c : ℕ) × WaitsIn self.old task c id }
+        requires due { IsDeliveredFirst self.old task true }
+        ensures step { IfSome result (λ w. Acts self.old task w self.new) }
+        ensures none { IfNone result ((self.new ≡ self.old) × (signal_due self.old task ≡ None)) }
+    {
+        let group = self.tasks.group(task);
+        let held = self.holds_back(id);
+        let what = self.tasks.deliver(task, held, true)?;
+        leave_group(&mut self.resources, group, &what);
+        self.resources.leave(id);
+        Some(what)
+    }
+
+    /// Takes the step of a task's next instruction, for which there is room. None exactly where that is a wait for children
+    /// of which none has ended, which leaves all as it was.
+    fn run(&mut self, task: u32, instruction: Instruction, room: Vec<u32>) -> Option<What>
+        requires ready { MayStep self.old task }
+        requires outside { call_of (past self.old) (named self.old task) ≡ None }
+        requires instruction { IsInstruction self.old task instruction }
+        requires due { due_step self.old task ≡ own_step self.old task }
+        requires room { length (name_at self.old.tasks.names task) < vec_capacity room }
+        requires tasks { HasTaskRoom self.old.tasks task }
+        requires resources { HasNextRoom self.old task (Runs instruction) }
+        ensures step { IfSome result (λ w. Acts self.old task w self.new) }
+        ensures none { IfNone result ((self.new ≡ self.old) × (due_step self.old task ≡ Skip)) }
+    {
+        match instruction {
+            Instruction::Exit => Some(self.exit(task, What::Exit)),
+            Instruction::Store { addr, bytes } => Some(self.store(task, addr, bytes)),
+            Instruction::Enter { nr, args } => Some(self.enter(task, nr, &args)),
+            Instruction::Fork { program } => Some(self.make_process(task, program, room)),
+            Instruction::Thread { program } => Some(self.make_thread(task, program, room)),
+            Instruction::Signal { pid, sig } => Some(self.send_signal(task, pid, sig)),
+            Instruction::Handler { sig, mode } => Some(self.handle(task, sig, mode)),
+            Instruction::Wait => self.wait(task, room),
+        }
+    }
+
+    /// The step of a task that waits in no listed call and owes no native call, for which there is room: a due signal is
+    /// delivered, else its program goes on. None exactly where it waits for children, which leaves all as it was.
+    fn go_on(&mut self, task: u32, instruction: Instruction, room: Vec<u32>) -> Option<What>
+        requires ready { MayStep self.old task }
+        requires outside { call_of (past self.old) (named self.old task) ≡ None }
+        requires owes { owes_native (past self.old) (named self.old task) ≡ false }
+        requires instruction { IsInstruction self.old task instruction }
+        requires room { length (name_at self.old.tasks.names task) < vec_capacity room }
+        requires tasks { HasTaskRoom self.old.tasks task }
+        requires resources { HasNextRoom self.old task (Runs instruction) }
+        ensures step { IfSome result (λ w. Acts self.old task w self.new) }
+        ensures none { IfNone result ((self.new ≡ self.old) × (due_step self.old task ≡ Skip)) }
+    {
+        if let Some(what) = self.deliver_outside(task) {
+            return Some(what);
+        }
+        self.run(task, instruction, room)
+    }
+
+    /// The step that a task has next. None exactly where it can't step, which leaves all as it was.
+    fn next_step(&mut self, task: u32, next: Next, room: Vec<u32>) -> Option<What>
+        requires kernel { IsKernel self.old }
+        requires made { task < tasks_made (past self.old) }
+        requires few { length (past self.old) < 2 ^ 64 }
+        requires next { IsNext self.old task next }
+        requires room { length (name_at self.old.tasks.names task) < vec_capacity room }
+        requires tasks { HasTaskRoom self.old.tasks task }
+        requires resources { HasNextRoom self.old task next }
+        ensures step { IfSome result (λ w. Acts self.old task w self.new) }
+        ensures none { IfNone result ((self.new ≡ self.old) × (due_step self.old task ≡ Skip)) }
+    {
+        match next {
+            Next::Ended => None,
+            Next::Waiting(id) => self.waiting_step(task, id),
+            Next::Owed(call) => Some(self.run_native(task, call)),
+            Next::Runs(instruction) => self.go_on(task, instruction, room),
+        }
+    }
+
+    /// A task takes its next step, which was made ready: its listed call returns, a native call is made, a signal that is due
+    /// is delivered, a descriptor is installed, or its program goes on. `CannotStep` exactly where it has ended, or waits;
+    /// this is no event.
+    pub fn task_step(&mut self, task: u32, ready: ReadyTask) -> Result<(), CannotStep>
+        requires kernel { IsKernel self.old }
+        requires made { task < tasks_made (past self.old) }
+        requires ready { IsReadyFor self.old task ready }
+        ensures { IsStepped self.old task result self.new }
+    {
+        let ReadyTask { name, room, next } = ready;
+        let Some(what) = self.next_step(task, next, room) else {
+            return Err(CannotStep);
+        };
+        self.note_step(name, what);
+        Ok(())
+    }
+
+    /// Notes that a scheduled task couldn't step, or that there is none of this name.
+    pub fn skip_task(&mut self, name: TaskName)
+        requires kernel { IsKernel self.old }
+        requires room { 0 < self.old.history.spare }
+        ensures { IsAfter self.old (ev (Task name) Skip) self.new }
+    {
+        self.note_step(name, What::Skip);
+    }
+}
+
+/// Whether a step ends the task that takes it.
+fn is_end(what: &What) -> bool
+    ensures { result ≡ ends what.now }
+{
+    match what {
+        What::Exit
+        | What::Deliver {
+            effect: Delivered::End,
+            ..
+        }
+        | What::Enter {
+            verdict: Entered::Kill,
+            ..
+        } => true,
+        _ => false,
+    }
+}
+
+/// A task of a group takes this step, and leaves the group where the step ends it.
+fn leave_group(resources: &mut Resources, group: u32, what: &What)
+    requires { IsLive resources.old.groups group }
+    ensures { (S : Script) (K : List Event) (living : ℕ → ℕ) → resources_stand.StandsFor S K living resources.old → resources_stand.StandsFor S K (left_by what.now living group) resources.new }
+{
+    if is_end(what) {
+        resources.left(group);
+    }
+}
+
+/// Whether a step makes a task.
+fn is_made(what: &What) -> bool
+    ensures { result ≡ makes what.now }
+{
+    matches!(what, What::Spawn { answer: Ok(_), .. })
+}
+
+/// A task of a group takes this step, which is to make a thread, and which the group joins where it was made.
+fn join_group(resources: &mut Resources, group: u32, what: &What)
+    requires { IsLive resources.old.groups group }
+    ensures made { makes what.now ≡ true → (S : Script) (K : List Event) (living : ℕ → ℕ) (e : Event) → resources_stand.StandsFor S K living resources.old → IsThread e → resources_stand.StandsFor S (e ∷ K) (one_more living group) resources.new }
+    ensures refused { makes what.now ≡ false → resources.new ≡ resources.old }
+{
+    if is_made(what) {
+        resources.joined(group);
+    }
+}
+
+/// A task of a group takes this step, which is to make a task with a copy of the group, and which copies it where it was made.
+fn copy_group(resources: &mut Resources, group: u32, what: &What)
+    requires live { IsLive resources.old.groups group }
+    requires room { HasRoomFor resources.old.groups group 0 }
+    ensures made { makes what.now ≡ true → (S : Script) (K : List Event) (living : ℕ → ℕ) (e : Event) → resources_stand.StandsFor S K living resources.old → IsCopyOf K e group → resources_stand.StandsFor S (e ∷ K) (one_more living (groups_made K)) resources.new }
+    ensures refused { makes what.now ≡ false → resources.new ≡ resources.old }
+{
+    if is_made(what) {
+        resources.copied(group);
+    }
+}
