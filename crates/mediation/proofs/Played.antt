@@ -8,7 +8,7 @@ use Rattle.mediation.proofs.Common.{was_waited_for, What, with_step, Worker, wor
 use Rattle.hist_model.specs.Legal.{with_schedule, with_steps}
 use Rattle.hist_model.specs.declared.script.Step.{Step}
 use Rattle.mediation.specs.Refused.{EarlyEffect, EffectAfterEnd, LateInstallation, LateOpening, NewestFirst, SecondAnswer, SecondReading, ValidByNumber, WithoutSend}
-use Rattle.mediation.specs.Scheduled.{AllScheduled, IsScheduled}
+use Rattle.mediation.specs.Scheduled.{AllScheduled, GoesOn, IsScheduled}
 use Rattle.mediation.proofs.Rows.{Row, step-row, row-of}
 use Rattle.mediation.proofs.Calls.{fetching}
 use Rattle.mediation.proofs.Replies.{takes-own}
@@ -21,44 +21,36 @@ may-step a s = grind arith
 never-closes : (a : Actor) (what : What) → IsScheduled a → takes a what ≡ true → closes what ≡ false
 never-closes a what s t = grind arith
 
--- a history that goes on: its newest event isn't the close of the listener
-abbrev IsOpen : List Event → Type 0
-IsOpen [] = ⊥
-IsOpen (f ∷ K) = closes f.what ≡ false
-
 module _ (P : Policy) (S : Script) where
-  -- the history is legal, and goes on
-  record Goes (K : List Event) : Type 0 where
-    legal : IsLegal (system_of S) (rules_of P S.figures) K
-    unclosed : IsOpen K
-
-  one : (a : Actor) (K : List Event) → IsScheduled a → Goes K → Goes (with_step P S a K)
-  one a [] s g = absurd g.unclosed
-  one a (f ∷ K) s g =
+  -- a history that goes on does so after a step
+  pub goes_on-step : (a : Actor) (K : List Event) → IsScheduled a → GoesOn P S K → GoesOn P S (with_step P S a K)
+  goes_on-step a [] s g = absurd g.unclosed
+  goes_on-step a (f ∷ K) s g =
       let T = system_of S in
       let R = rules_of P S.figures in
       let what = step T R (f ∷ K) a in
       let m = may-step a s in
       record { legal = ((g.unclosed, m.0, refl, m.1), g.legal); unclosed = never-closes a what s (takes-own T R (f ∷ K) a what (step-row T R (f ∷ K) a m.0)) }
 
-  steps : (a : Actor) (n : ℕ) (K : List Event) → IsScheduled a → Goes K → Goes (with_steps P S a n K)
+  steps : (a : Actor) (n : ℕ) (K : List Event) → IsScheduled a → GoesOn P S K → GoesOn P S (with_steps P S a n K)
   unfolding with_steps
   steps a zero K s g = g
-  steps a (suc n) K s g = steps a n (with_step P S a K) s (one a K s g)
+  steps a (suc n) K s g = steps a n (with_step P S a K) s (goes_on-step a K s g)
 
-  schedule : (lines : List Step) (K : List Event) → AllScheduled lines → Goes K → Goes (with_schedule P S lines K)
+  schedule : (lines : List Step) (K : List Event) → AllScheduled lines → GoesOn P S K → GoesOn P S (with_schedule P S lines K)
   unfolding with_schedule
   schedule [] K s g = g
   schedule (l ∷ more) K s g = schedule more (with_steps P S l.who l.count K) s.1 (steps l.who l.count K s.0 g)
 
-  begins : Goes (started S)
-  begins = record { legal = (refl, tt); unclosed = refl }
+  -- so does the start
+  pub goes_on-start : GoesOn P S (started S)
+  goes_on-start = record { legal = (refl, tt); unclosed = refl }
 
-  ends : (K : List Event) → Goes K → IsLegal (system_of S) (rules_of P S.figures) (with_step P S Listener K)
+  ends : (K : List Event) → GoesOn P S K → IsLegal (system_of S) (rules_of P S.figures) (with_step P S Listener K)
   ends K g = grind arith
 
   pub played_is_legal : AllScheduled S.schedule → IsLegal (system_of S) (rules_of P S.figures) (played P S)
-  played_is_legal s = ends (with_schedule P S S.schedule (started S)) (schedule S.schedule (started S) s begins)
+  played_is_legal s = ends (with_schedule P S S.schedule (started S)) (schedule S.schedule (started S) s goes_on-start)
 
 -- ---- finished stays finished
 

@@ -38,7 +38,8 @@ module _ (P : Policy) (S : Script) where
   played_length : length (played P S) ≡ suc (steps_of S.schedule + 1)
   played_length = let n = schedule_adds S.schedule (started S) in omega (arith, n)
 
-can_take_steps : (a : Actor) → can_be_scheduled a ≡ true → IsScheduled a
+-- what a script schedules may take steps
+pub can_take_steps : (a : Actor) → can_be_scheduled a ≡ true → IsScheduled a
 can_take_steps (Task n) h = h
 can_take_steps (Worker w) h = let l = ltb-true w 16 h in omega arith
 can_take_steps Start h = cc

@@ -1,11 +1,13 @@
 -- A kernel after a step of a worker, and after a skip of a task.
 -- By the resources, which took the step, and since the step is other for the tasks.
-use Rattle.std.proofs.Common.{◌≡◌, ℕ, true, false, ◌∷◌, refl, ap, ◌∙◌}
+use Rattle.std.proofs.Common.{◌≡◌, ℕ, List, true, false, ◌∷◌, refl, ap, ◌∙◌}
 use Rattle.hist_model.specs.Kinds.{makes}
 use Rattle.hist_model.specs.Look.{Name, ev, is_task}
 use Rattle.hist_model.specs.declared.event.Actor.TheVariants.{Task, Worker}
+use Rattle.hist_model.specs.declared.event.Event.{Event}
 use Rattle.hist_model.specs.declared.event.What.{What}
 use Rattle.hist_model.specs.declared.event.What.TheVariants.{Recv, OpenMem, OpenBase, Check, Read, Act, Plant, AddfdPut, AddfdTake, Send, LetGo, Skip}
+use Rattle.hist_model.specs.declared.script.Script.{Script}
 use Rattle.kernel_resources.specs.Stands as resources
 use Rattle.kernel_resources.specs.declared.resources.Resources.{Resources}
 use Rattle.kernel_resources.proofs.Others.{after-listening}
@@ -98,3 +100,7 @@ skipped old new n k events same =
 pub idled : (old new : Kernel) (w : ℕ) (expected what : What) → IsKernel old → is_worker_step what ≡ true → what ≡ expected → past new ≡ ev (Worker w) what ∷ past old → new ≡ record old { history = new.history }
     → resources.IsListening (ev (Worker w) what) w → listener.IsOther (past old) (ev (Worker w) what) → IsAfter old (ev (Worker w) expected) new
 idled old new w expected what k is_step answer events same i o = noted old new w expected what old.resources k is_step answer events same (idle old w what k i o)
+
+-- the kernel with resources that have more room
+pub roomier : (k : Kernel) (R : Resources) → IsKernel k → ((S : Script) (K : List Event) (living : ℕ → ℕ) → resources.StandsFor S K living k.resources → resources.StandsFor S K living R) → IsKernel (record k { resources = R })
+roomier k R i stands = record { tasks = i.tasks; resources = stands k.script (past k) (living_in k.tasks.progress) i.resources; few = i.few }

@@ -1,6 +1,6 @@
 //! What workers open, read and do.
 
-ghost use Rattle.std.specs.Prelude.{◌≡◌, ℕ, ◌^◌, length, ◌<◌, ◌≤◌, true, false, List, Result, Ok, Err, Some, None, IfSome, IfNone, if◌then◌else◌, vec_capacity};
+ghost use Rattle.std.specs.Prelude.{◌≡◌, ℕ, ◌^◌, length, ◌<◌, ◌≤◌, true, false, List, Result, Ok, Err, Some, None, IfSome, IfNone, OnOk, if◌then◌else◌, vec_capacity};
 ghost use Rattle.std.specs.Result.{result_and};
 ghost use Rattle.hist_model.specs.Deeds as deed;
 ghost use Rattle.hist_model.specs.Effects.{effect};
@@ -22,9 +22,30 @@ use hist_model::policy::Cap;
 use hist_model::request::{Fault, Request};
 use hist_model::text::Text;
 use sys_abi::errno::Errno;
-use sys_abi::memory::OrNoMemory;
+use sys_abi::memory::{NoMemory, OrNoMemory};
 
 impl Kernel {
+    /// Makes room for one `act` with a request under a cap, but for its event.
+    pub fn ready_act(&mut self, request: &Request, cap: Option<Cap>) -> Result<(), NoMemory>
+        requires { IsKernel self.old }
+        ensures spent { OnOk result (HasSpentRoom self.new.resources.spent cap) }
+        ensures tree { OnOk result (room_wanted (effect request.now) ≤ self.new.resources.tree.spare) }
+        ensures kernel { IsKernel self.new }
+        ensures same { self.new ≡ record self.old { resources = self.new.resources } }
+    {
+        self.resources.ready_act(request, cap)
+    }
+
+    /// Makes room for one `plant` of a worker under a cap, but for its event.
+    pub fn ready_plant(&mut self, worker: u8, cap: Option<Cap>) -> Result<(), NoMemory>
+        requires { IsKernel self.old }
+        ensures room { OnOk result (HasPlantRoom self.new.resources worker cap) }
+        ensures kernel { IsKernel self.new }
+        ensures same { self.new ≡ record self.old { resources = self.new.resources } }
+    {
+        self.resources.ready_plant(worker, cap)
+    }
+
     /// A worker does what a request asks for in the tree, as often as the cap of the granting rule allows: EDQUOT where its
     /// rule has granted as often as it may, else as the tree answers. There is room.
     pub fn act(&mut self, worker: u8, request: Request, cap: Option<Cap>) -> Result<(), Errno>
@@ -161,7 +182,7 @@ impl Kernel {
     }
 
     /// How many events there are: fewer than 2^62, since each takes more bytes than one.
-    pub(crate) fn count(&self) -> usize
+    pub fn count(&self) -> usize
         ensures count { result ≡ length (past self.now) }
         ensures few { result < 2 ^ 62 }
     {

@@ -31,6 +31,13 @@ impl Kernel {
         &self.history
     }
 
+    /// The script, which states the container.
+    pub fn script(&self) -> &Script
+        ensures { result.now ≡ self.now.script }
+    {
+        &self.script
+    }
+
     /// The host's figures, which the script states.
     pub fn figures(&self) -> Figures
         ensures { result ≡ self.now.script.figures }
@@ -56,17 +63,22 @@ impl Kernel {
         self.note(worker, What::Skip);
     }
 
-    /// Closes the listener, which ends the history.
-    pub fn closed(self) -> History
+    /// Closes the listener, which ends the history, and gives the script back with it.
+    pub fn closed(self) -> (Script, History)
         requires { 0 < self.history.spare }
-        ensures { result.events ≡ ev Listener Close ∷ past self }
+        ensures script { result.0 ≡ self.script }
+        ensures events { result.1.events ≡ ev Listener Close ∷ past self }
     {
-        let Kernel { mut history, .. } = self;
+        let Kernel {
+            script,
+            mut history,
+            ..
+        } = self;
         history.push(Event {
             who: Actor::Listener,
             what: What::Close,
         });
-        history
+        (script, history)
     }
 
     /// Appends a step of a worker, for which there is room.

@@ -190,7 +190,7 @@ impl Kernel {
         requires room { 0 < self.old.history.spare }
         ensures answer { take_of result ≡ deed_step (system self.old) (past self.old) worker deed.AddfdTake }
         ensures done { (result ≡ Err Pending → ⊥) → DoesDeed self.old worker deed.AddfdTake self.new }
-        ensures same { result ≡ Err Pending → IsKernel self.new }
+        ensures same { result ≡ Err Pending → self.new ≡ self.old }
     {
         let taken = self.resources.take(worker);
         if let Some(answer) = answer_of(&taken) {

@@ -1,8 +1,8 @@
-use Rattle.std.proofs.Common.{◌≡◌, refl, sym, ap, subst, ◌∙◌}
+use Rattle.std.proofs.Common.{◌≡◌, refl, sym, ap, ◌∙◌}
 use Rattle.addfd.specs.Stands.{take_of}
 use Rattle.hist_model.specs.declared.event.What.TheVariants.{AddfdTake}
 use Rattle.kernel_resources.specs.declared.resources.Resources.{Resources}
-use Rattle.model_kernel.specs.Kernels.{IsKernel, past, taken_step}
+use Rattle.model_kernel.specs.Kernels.{past, taken_step}
 use Rattle.model_kernel.proofs.Workers.{noted}
 use Rattle.model_kernel.proofs.kernel.Kernel.take.Goals as goal
 
@@ -21,4 +21,4 @@ pub returns-in_default-clause-answer : goal.returns-in_default-clause-answer
 returns-in_default-clause-answer c = c.take-taken.ensures.answer c.args.self.now.script (past c.args.self.now) _ c.requires.kernel.resources
 
 pub returns-in_default-clause-same : goal.returns-in_default-clause-same
-returns-in_default-clause-same c is = subst (λ (r : Resources). IsKernel (record c.args.self.now { resources = r })) (sym (c.take-taken.ensures.pending is)) c.requires.kernel
+returns-in_default-clause-same c is = ap (λ (r : Resources). record c.args.self.now { resources = r }) (c.take-taken.ensures.pending is)

@@ -1,0 +1,50 @@
+use Rattle.std.proofs.Common.{◌<◌, ◌^◌, length, ap, ◌∙◌, arith}
+use Rattle.hist_model.specs.Legal.{rules_of}
+use Rattle.hist_model.specs.declared.history.History.{History}
+use Rattle.broker_core.specs.Answers.{told}
+use Rattle.model_kernel.specs.Kernels.{past, system}
+use Rattle.worker_gate.proofs.Allowed.{allows}
+use Rattle.worker_gate.proofs.Done.{due-next, fits-done, remembers-done, took-step}
+use Rattle.worker_gate.specs.Workers.{HasDone}
+use Rattle.worker_gate.proofs.deeds.worker_turn.Goals as goal
+use Rattle.worker_gate.proofs.deeds.worker_turn.Goals.{After-history}
+
+pub returns-in_err-ready-clause-remembers : goal.returns-in_err-ready-clause-remembers
+returns-in_err-ready-clause-remembers c = c.in_err-ready.ensures.known _ c.requires.remembers
+
+pub do_next-requires-clause-allows : goal.do_next-requires-clause-allows
+do_next-requires-clause-allows c =
+    let old = c.args.kernel.now in
+    let P = c.args.policy.now in
+    let n = c.args.number in
+    let r = c.in_ok-ready.ensures.known _ c.requires.remembers in
+    let next = due-next P old n c.ready.new.self c.next-next.result (c.in_ok-ready.ensures.figures ∙ c.requires.figures) (c.next-next.ensures.deed P _ r) in
+    let few : length (past old) < 2 ^ 64 = omega (arith, c.count-events.ensures.count, c.count-events.ensures.few) in
+    rw next (allows (system old) (rules_of P old.script.figures) (past old) n c.requires.legal few)
+
+pub returns-in_err-do_next-clause-remembers : goal.returns-in_err-do_next-clause-remembers
+returns-in_err-do_next-clause-remembers c =
+    rw c.in_err-do_next.ensures.same.past_is (c.in_err-do_next.ensures.keeps.known c.args.policy.now _ (c.in_ok-ready.ensures.known _ c.requires.remembers))
+
+-- the deed was done
+done : (c : After-history) → HasDone c.args.policy.now c.args.kernel.now c.args.number c.do_next.new.kernel c.do_next.new.worker
+done c =
+    let P = c.args.policy.now in
+    let r = c.in_ok-ready.ensures.known _ c.requires.remembers in
+    c.in_ok-do_next.ensures.done P r (c.in_ok-ready.ensures.figures ∙ c.requires.figures) (c.next-next.ensures.deed P _ r)
+
+pub newest_answer-requires : goal.newest_answer-requires
+newest_answer-requires c = rw (c.history.ensures, (done c).does.events) (omega arith)
+
+pub took-requires-clause-fits : goal.took-requires-clause-fits
+took-requires-clause-fits c =
+    fits-done c.args.policy.now c.args.kernel.now c.args.number c.do_next.new.kernel c.do_next.new.worker (done (goal.at.took-requires-clause-fits c).After-history) (told c.newest_answer.result)
+    (λ e K is. c.newest_answer.ensures e K (ap (λ (x : History). x.events) c.history.ensures ∙ is))
+
+pub returns-clause-step : goal.returns-clause-step
+returns-clause-step c = took-step c.args.policy.now c.args.kernel.now c.args.number c.do_next.new.kernel c.do_next.new.worker (done (goal.at.returns-clause-step c).After-history)
+
+pub returns-clause-remembers : goal.returns-clause-remembers
+returns-clause-remembers c =
+    remembers-done c.args.policy.now c.args.kernel.now c.args.number c.do_next.new.kernel c.do_next.new.worker (done (goal.at.returns-clause-remembers c).After-history) (told c.newest_answer.result)
+    (λ e K is. c.newest_answer.ensures e K (ap (λ (x : History). x.events) c.history.ensures ∙ is)) c.took.new.self c.took.ensures.known

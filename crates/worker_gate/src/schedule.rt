@@ -1,0 +1,104 @@
+//! The play of a script's schedule.
+
+ghost use Rattle.std.specs.Prelude.{◌≡◌, ◌<◌, ◌∷◌, length, true, OnOk, IfOk, Some, slice_get};
+ghost use Rattle.hist_model.specs.Legal.{played};
+ghost use Rattle.hist_model.specs.Look.{ev};
+ghost use Rattle.hist_model.specs.ScriptRules.{can_be_scheduled};
+ghost use Rattle.hist_model.specs.declared.event.Actor.TheVariants.{Listener};
+ghost use Rattle.hist_model.specs.declared.event.What.TheVariants.{Close};
+ghost use Rattle.model_kernel.specs.Kernels.{past};
+
+use crate::served::Served;
+use hist_model::event::Actor;
+use hist_model::history::History;
+use hist_model::policy::Policy;
+use hist_model::script::{Script, Step};
+use std::alloc::Global;
+use sys_abi::memory::NoMemory;
+
+/// What was played: the history, with the policy and the script of which it is one.
+#[derive(Drop)]
+pub struct Played {
+    pub policy: Policy,
+    pub script: Script,
+    pub history: History,
+}
+
+/// Another actor of the same.
+fn copied(alloc: Global, who: &Actor) -> Result<Actor, NoMemory>
+    ensures { IfOk result (λ a. a ≡ who.now) }
+{
+    match who {
+        Actor::Start => Ok(Actor::Start),
+        Actor::Task(name) => Ok(Actor::Task(name.copied(alloc)?)),
+        Actor::Worker(number) => Ok(Actor::Worker(*number)),
+        Actor::Listener => Ok(Actor::Listener),
+    }
+}
+
+/// The number of lines of a script's schedule.
+fn lines(script: &Script) -> usize
+    ensures { result ≡ length script.now.schedule }
+{
+    script.schedule.items().len()
+}
+
+/// A line of a script's schedule, copied.
+fn line(alloc: Global, script: &Script, index: usize) -> Result<Step, NoMemory>
+    requires { index < length script.now.schedule }
+    ensures line { IfOk result (λ step. slice_get script.now.schedule index ≡ Some step) }
+    ensures scheduled { IfOk result (λ step. can_be_scheduled step.who ≡ true) }
+{
+    let step = &script.schedule.items()[index];
+    Ok(Step {
+        who: copied(alloc, &step.who)?,
+        count: step.count,
+    })
+}
+
+impl Served {
+    ghost use Rattle.worker_gate.specs.Serving.{IsServed, Reaches, after_schedule};
+
+    /// The turns of the script's schedule, in order.
+    pub fn schedule(&mut self, alloc: Global) -> Result<(), NoMemory>
+        requires { IsServed self.old }
+        ensures { OnOk result (Reaches self.old (after_schedule self.old) self.new) }
+    {
+        for index in 0..lines(self.kernel.script()) {
+            let step = line(alloc, self.kernel.script(), index)?;
+            self.turns(alloc, &step.who, step.count)?;
+        }
+        Ok(())
+    }
+
+    /// Closes the listener, which ends the history.
+    pub fn closed(self) -> Result<Played, NoMemory>
+        ensures events { IfOk result (λ p. p.history.events ≡ ev Listener Close ∷ past self.kernel) }
+        ensures policy { IfOk result (λ p. p.policy ≡ self.policy) }
+        ensures script { IfOk result (λ p. p.script ≡ self.kernel.script) }
+    {
+        let Served {
+            mut kernel,
+            policy,
+            ..
+        } = self;
+        kernel.ready_event()?;
+        let (script, history) = kernel.closed();
+        Ok(Played {
+            policy,
+            script,
+            history,
+        })
+    }
+}
+
+/// Plays the schedule of a script on a kernel and its workers, and closes the listener.
+pub fn play(alloc: Global, policy: Policy, script: Script) -> Result<Played, NoMemory>
+    ensures events { IfOk result (λ p. p.history.events ≡ played policy script) }
+    ensures policy { IfOk result (λ p. p.policy ≡ policy) }
+    ensures script { IfOk result (λ p. p.script ≡ script) }
+{
+    let mut served = Served::new(alloc, policy, script)?;
+    served.schedule(alloc)?;
+    served.closed()
+}
