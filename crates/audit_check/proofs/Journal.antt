@@ -1,0 +1,147 @@
+-- Each line of a legal history's journal is a line: its last byte alone is a 10.
+-- By cases on what happened; the one text that stands in a line as it is names the program of a granted mount, and the policy keeps its name free of that byte.
+use Rattle.std.proofs.Common.{◌≡◌, ℕ, zero, suc, ◌+◌, ◌<◌, ◌≤◌, Bool, true, false, ◌||◌, ◌&&◌, List, [], ◌∷◌, ◌++◌, length, Option, Some, None, refl, sym, ap, ◌∙◌, subst, append_assoc, arith}
+use Rattle.std.specs.Prelude.{if◌then◌else◌, ◌==◌, ◌%◌, Result, Ok, Err, ℤ, decimal, codes}
+use Rattle.sys_abi.specs.declared.wire.Addfd.{Addfd}
+use Rattle.sys_abi.specs.declared.wire.Notif.{Notif}
+use Rattle.hist_model.specs.Look.{Name}
+use Rattle.hist_model.specs.Requests.{kind_of}
+use Rattle.hist_model.specs.ReportWords.{hex, or_dash, trimmed}
+use Rattle.hist_model.specs.ReportJournal.{args_text, asked_text, delivered_text, entered_text, event_line, journal_line, lines_of, maker_text, mode_text, node_text, read_text, reaped_text, received_text, request_text, shift_text, spawn_kind_text, spawned_text, target_text, what_text}
+use Rattle.hist_model.specs.declared.event.Event.{Event}
+use Rattle.hist_model.specs.declared.event.What.{What}
+use Rattle.hist_model.specs.declared.event.What.TheVariants.{Spawn, Poke, Handler, Enter, Native, Install, Resume, Signal, Deliver, Reap, Exit, Recv, OpenMem, OpenBase, Check, Read, Act, Plant, AddfdPut, AddfdTake, Send, LetGo, Skip, Close}
+use Rattle.hist_model.specs.declared.event.SpawnKind.{SpawnKind}
+use Rattle.hist_model.specs.declared.event.SpawnKind.TheVariants.{New, Copied, Shared}
+use Rattle.hist_model.specs.declared.event.Mode.{Mode}
+use Rattle.hist_model.specs.declared.event.Mode.TheVariants.{Default, Restart as RestartMode, Plain}
+use Rattle.hist_model.specs.declared.event.Entered.{Entered}
+use Rattle.hist_model.specs.declared.event.Entered.TheVariants.{Notify, Allow, Log, Fails, NoSys, Kill}
+use Rattle.hist_model.specs.declared.event.Delivered.{Delivered}
+use Rattle.hist_model.specs.declared.event.Delivered.TheVariants.{End, Run, Restart, Eintr}
+use Rattle.hist_model.specs.declared.request.Request.{Request}
+use Rattle.hist_model.specs.declared.request.Request.TheVariants.{Mknod, Mount, SetXattr, OpenAt, Sysinfo, Other}
+use Rattle.hist_model.specs.declared.request.Kind.{Kind}
+use Rattle.hist_model.specs.declared.request.Kind.TheVariants.{Reg, Chr, Blk, Fifo, Sock, Dir, Bad}
+use Rattle.audit_check.proofs.Lines.{is_plain, lacks_append}
+use Rattle.audit_check.proofs.Plain.{lacks_flat, plain_actor, plain_back, plain_call, plain_decimal, plain_errno, plain_hex, plain_hex_or_dash, plain_name, plain_number, plain_quoted, plain_result, plain_signed}
+
+ruleset texts = (lacks_append, plain_back, plain_call, plain_decimal, plain_errno, plain_hex, plain_hex_or_dash, plain_name, plain_number, plain_quoted, plain_result, plain_signed)
+
+-- the program of the mount that a step does, if it does one
+abbrev pub via_of : Request → List ℕ
+via_of (Mount source target fstype options via flags shift) = via
+via_of q = []
+
+abbrev pub via_in : What → List ℕ
+via_in (Act q cap answer) = via_of q
+via_in a = []
+
+-- ---- The parts of a line
+
+spawn_kind-plain : (k : SpawnKind) → is_plain (spawn_kind_text k) ≡ true
+spawn_kind-plain New = refl
+spawn_kind-plain Copied = refl
+spawn_kind-plain Shared = refl
+
+spawned-plain : (a : Result (ℕ × SpawnKind) ℕ) → is_plain (spawned_text a) ≡ true
+spawned-plain (Ok a) = lacks_append 10 (decimal a.0 ++ 32 ∷ []) (spawn_kind_text a.1) (search texts) (spawn_kind-plain a.1)
+spawned-plain (Err e) = plain_errno e
+
+mode-plain : (m : Mode) → is_plain (mode_text m) ≡ true
+mode-plain Default = refl
+mode-plain RestartMode = refl
+mode-plain Plain = refl
+
+entered-plain : (v : Entered) → is_plain (entered_text v) ≡ true
+entered-plain (Notify id) = plain_decimal id
+entered-plain Allow = refl
+entered-plain Log = refl
+entered-plain (Fails n) = plain_decimal n
+entered-plain NoSys = refl
+entered-plain Kill = refl
+
+args-plain : (args : List ℕ) → is_plain (args_text args) ≡ true
+args-plain args = lacks_flat 10 (λ a. 32 ∷ decimal a) plain_decimal args
+
+delivered-plain : (d : Delivered) → is_plain (delivered_text d) ≡ true
+delivered-plain End = refl
+delivered-plain Run = refl
+delivered-plain Restart = refl
+delivered-plain Eintr = refl
+
+reaped-plain : (a : Result Name ℕ) → is_plain (reaped_text a) ≡ true
+reaped-plain (Ok n) = plain_name n
+reaped-plain (Err e) = plain_errno e
+
+received-plain : (a : Result Notif ℕ) → is_plain (received_text a) ≡ true
+received-plain (Ok n) = search texts
+received-plain (Err e) = plain_errno e
+
+read-plain : (a : Result (List ℕ) ℕ) → is_plain (read_text a) ≡ true
+read-plain (Ok bytes) = plain_hex_or_dash (trimmed bytes)
+read-plain (Err e) = plain_errno e
+
+node-plain : (k : Kind) (dev : ℕ) → is_plain (node_text k dev) ≡ true
+node-plain Reg dev = refl
+node-plain Chr dev = search texts
+node-plain Blk dev = search texts
+node-plain Fifo dev = refl
+node-plain Sock dev = refl
+node-plain Dir dev = refl
+node-plain Bad dev = refl
+
+maker-plain : (d : Option ℤ) → is_plain (maker_text d) ≡ true
+maker-plain None = refl
+maker-plain (Some d) = search texts
+
+shift-plain : (s : Bool) → is_plain (shift_text s) ≡ true
+shift-plain true = refl
+shift-plain false = refl
+
+or_dash-plain : (text : List ℕ) → is_plain text ≡ true → is_plain (or_dash text) ≡ true
+or_dash-plain [] h = refl
+or_dash-plain (b ∷ text) h = h
+
+request-plain : (q : Request) → is_plain (via_of q) ≡ true → is_plain (request_text q) ≡ true
+request-plain (Mknod dirfd path mode dev) h = search (texts, maker-plain dirfd, node-plain (kind_of mode) dev)
+request-plain (Mount source target fstype options via flags shift) h = let v = or_dash-plain via h in search (texts, v, shift-plain shift) depth 20
+request-plain (SetXattr path name value flags) h = search texts depth 12
+request-plain (OpenAt dirfd path flags) h = refl
+request-plain (Sysinfo addr) h = refl
+request-plain (Other nr) h = plain_call nr
+
+target-plain : (b : Bool) (n : ℕ) → is_plain (target_text b n) ≡ true
+target-plain true n = plain_decimal n
+target-plain false n = refl
+
+asked-plain : (a : Addfd) → is_plain (asked_text a) ≡ true
+asked-plain a = search (texts, target-plain (a.flags % 2 == 1) a.newfd)
+
+-- ---- What happened
+
+pub plain_what : (a : What) → is_plain (via_in a) ≡ true → is_plain (what_text a) ≡ true
+plain_what (Spawn child answer) h = search (texts, spawned-plain answer)
+plain_what (Poke addr bytes) h = search texts
+plain_what (Handler sig mode) h = search (texts, mode-plain mode)
+plain_what (Enter nr args verdict) h = search (texts, args-plain args, entered-plain verdict)
+plain_what (Native answer) h = plain_number answer
+plain_what (Install answer) h = plain_number answer
+plain_what (Resume back) h = plain_back back
+plain_what (Signal pid sig answer) h = search texts
+plain_what (Deliver sig effect) h = search (texts, delivered-plain effect)
+plain_what (Reap answer) h = reaped-plain answer
+plain_what Exit h = refl
+plain_what (Recv answer) h = received-plain answer
+plain_what (OpenMem pid answer) h = search texts
+plain_what (OpenBase pid dirfd answer) h = search texts
+plain_what (Check id answer) h = search texts
+plain_what (Read addr len answer) h = search (texts, read-plain answer)
+plain_what (Act request cap answer) h = search (texts, request-plain request h)
+plain_what (Plant addr bytes cap answer) h = search texts
+plain_what (AddfdPut asked answer) h = search (texts, asked-plain asked)
+plain_what (AddfdTake answer) h = plain_number answer
+plain_what (Send id back answer) h = search texts
+plain_what LetGo h = refl
+plain_what Skip h = refl
+plain_what Close h = refl

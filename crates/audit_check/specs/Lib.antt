@@ -1,0 +1,4 @@
+pub mod Lines
+pub mod Reported
+pub mod Actors
+pub mod Reading

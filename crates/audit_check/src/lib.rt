@@ -1,0 +1,13 @@
+//! Checks a report, and traces its calls.
+//!
+//! A report fixes the history that it tells of, so whoever has the policy and the script can check it: the actor that a line of
+//! the journal names takes its step on the kernel, and the line that the step gives is compared. Nothing is read from a line
+//! but its actor; all else is computed.
+//!
+//! The model is one pass over the lines (`specs/Reading.antt`), which finds a fault exactly at the first line that no legal
+//! history's report has there (`specs/Reported.antt`), and the trail of a history (`specs/Trail.antt`).
+//!
+//! Below stand the report's writers (`audit_log`) and the facts of legal histories (`mediation`). Above stands the program.
+#![tactic(auto)]
+
+pub mod laws;
