@@ -1,7 +1,7 @@
 -- What is kept of the requests of each call tells of them, event by event, and so of which events are answers.
 -- By cases on whether the place is one of the events so far, by `newest_own` and by `named_own`: an id's newest call has this id.
 use Rattle.std.proofs.Common.{◌≡◌, inl, inr, ℕ, ◌+◌, ◌<◌, ◌≤◌, Bool, true, false, ◌&&◌, ◌||◌, List, [], ◌∷◌, ◌++◌, length, get_or, Option, Some, None, refl, sym, ap, ◌∙◌, subst, arith}
-use Rattle.std.specs.Prelude.{if◌then◌else◌, ◌==◌, Ok}
+use Rattle.std.specs.Prelude.{if◌then◌else◌, ◌==◌, Ok, is_some}
 use Rattle.std.proofs.lemmas.Bool.{cases_Bool, cases_order, eqb-true, eq-eqb}
 use Rattle.hist_model.specs.Calls.{actor_in, caller, id, id_in, notify_id}
 use Rattle.hist_model.specs.Kinds.{enters, gave, is_sent}
@@ -18,11 +18,12 @@ use Rattle.hist_model.specs.declared.event.What.TheVariants.{AddfdPut, Enter, In
 use Rattle.hist_model.proofs.Look.{event_at-older, name_eq-refl}
 use Rattle.audit_log.specs.Received.{Names, place_in}
 use Rattle.audit_log.specs.Records.{Tells, no_record}
-use Rattle.audit_log.specs.Requests.{TellsRequests, answers_by, first_at, pending_call, queued}
+use Rattle.audit_log.specs.Requests.{TellsInstalled, TellsRequests, answered_call, first_at, installed_for, pending_call, queued}
 use Rattle.audit_log.specs.Tasks.{Knows, call_of, facts_in, task_facts}
 use Rattle.audit_log.specs.declared.received.Ids.{Ids}
 use Rattle.audit_log.specs.declared.records.CallRecord.{CallRecord}
 use Rattle.audit_log.specs.declared.tasks.Tasks.{Tasks}
+use Rattle.audit_log.proofs.ByPlace.{by_place_more, none_by_place}
 use Rattle.audit_log.proofs.Newest.{elsewhere, newest_below, newest_not_past, newest_passes}
 use Rattle.audit_log.proofs.ReceivedCalls.{at_place, newest_named}
 use Rattle.audit_log.proofs.Recorded.{and_false, in_call, newest_entered, newest_own, not_yet, task_of}
@@ -205,10 +206,31 @@ send_told Start a K records queue t r = no_task_installs Start a K (newest_call 
 send_told (Worker w) a K records queue t r = no_task_installs (Worker w) a K (newest_call [] K) refl
 send_told Listener a K records queue t r = no_task_installs Listener a K (newest_call [] K) refl
 
--- the event is an answer
-pub answer_told : (K : List Event) (e : Event) (records : List CallRecord) (queue : ℕ → List Bool) → Tells K records → TellsRequests K queue
-    → answers_by e.what (pending_call (call_of e.who (task_facts K)) records) queue ≡ is_answer K e
-answer_told K e records queue t r = ap (λ b. is_sent e.what || (gave e.what && b)) (send_told e.who e.what K records queue t r)
+-- the call that an installation answers is its task's newest one
+answered_told : (K : List Event) (e : Event) (records : List CallRecord) (queue : ℕ → List Bool) → Tells K records → TellsRequests K queue
+    → answered_call e.what (pending_call (call_of e.who (task_facts K)) records) queue ≡ installed_for K e
+answered_told K e records queue t r = by (gave e.what) (call_of e.who (task_facts K)) (newest_call (task_name e.who) K) refl (send_told e.who e.what K records queue t r) (own e.who)
+  where
+    own : (who : Actor) → first_at (pending_call (call_of who (task_facts K)) records) queue ≡ true → call_of who (task_facts K) ≡ newest_call (task_name who) K
+    own (Task m) h = refl
+    own Start h = cc
+    own (Worker w) h = cc
+    own Listener h = cc
+    pending : (o : Option ℕ) → first_at (pending_call o records) queue ≡ true → pending_call o records ≡ o
+    pending None h = cc
+    pending (Some c) h = chosen (is_pending (get_or records c no_record).outcome) h
+      where
+        chosen : (b : Bool) → first_at (if b then Some c else None) queue ≡ true → (if b then Some c else None) ≡ Some c
+        chosen true h = refl
+        chosen false h = cc
+    by : (g : Bool) (o n : Option ℕ) → newest_call (task_name e.who) K ≡ n → first_at (pending_call o records) queue ≡ installs_for_send K e n
+        → (first_at (pending_call o records) queue ≡ true → o ≡ n)
+        → (if g && first_at (pending_call o records) queue then pending_call o records else None) ≡ (if g && installs_for_send K e n then n else None)
+    by false o n q h same = refl
+    by true o n q h same = elim (cases_Bool (first_at (pending_call o records) queue)) [
+      | inl y ↦ let s : installs_for_send K e n ≡ true = sym h ∙ y in rw (y, s) (pending o y ∙ same y)
+      | inr f ↦ let s : installs_for_send K e n ≡ false = sym h ∙ f in rw (f, s) refl
+    ]
 
 -- the call that an installation is for, by what is kept of the tasks
 call-is : (K : List Event) (e : Event) (tasks : Tasks) (records : List CallRecord) (call : Option ℕ) → Knows K tasks
@@ -242,11 +264,36 @@ asked_more K e tasks ids records call before new t k n r q h =
     ∙ ap (λ named. queued e.what (pending_call (call_of e.who (task_facts K)) records) named c (requests (id K c) (caller K c) c K)) g
     ∙ requests_more K e records t c
 
+-- the calls that are answered by installations, with one more event
+pub installed_more : (K : List Event) (e : Event) (place : ℕ) (tasks : Tasks) (records : List CallRecord) (call o : Option ℕ) (queue : ℕ → List Bool) (before after : List (Option ℕ))
+    → length K ≡ place → length before ≡ place → TellsInstalled K before → Tells K records → Knows K tasks → TellsRequests K queue
+    → call ≡ pending_call (call_of e.who (facts_in tasks)) records → o ≡ answered_call e.what call queue → after ≡ before ++ o ∷ []
+    → (length after ≡ place + 1) × TellsInstalled (e ∷ K) after
+installed_more K e place tasks records call o queue before after l m i t k r q h a =
+    by_place_more installed_for K e place o before after l m i
+    (h ∙ ap (λ c. answered_call e.what c queue) (call-is K e tasks records call k q) ∙ answered_told K e records queue t r) a
+
+-- before all events none is
+pub none_installed : (calls : List (Option ℕ)) (H : List Event) → H ≡ [] → TellsInstalled H calls
+none_installed = none_by_place installed_for
+
+-- an answer is a send that was taken, or an installation that answers a call
+answer_is : (K : List Event) (e : Event) → (is_sent e.what || is_some (installed_for K e)) ≡ is_answer K e
+answer_is K e = by (gave e.what) (newest_call (task_name e.who) K)
+  where
+    same : (b : Bool) (c : ℕ) → is_some (if b then Some c else None) ≡ b
+    same true c = refl
+    same false c = refl
+    by : (g : Bool) (n : Option ℕ) → (is_sent e.what || is_some (if g && installs_for_send K e n then n else None)) ≡ (is_sent e.what || (g && installs_for_send K e n))
+    by false n = refl
+    by true None = refl
+    by true (Some c) = ap (λ b. is_sent e.what || b) (same (installs_for_send K e (Some c)) c)
+
 -- the count with one more event
-pub counted_more : (K : List Event) (e : Event) (tasks : Tasks) (records : List CallRecord) (call : Option ℕ) (queue : ℕ → List Bool) (b : Bool) (count : ℕ)
-    → Tells K records → Knows K tasks → TellsRequests K queue → call ≡ pending_call (call_of e.who (facts_in tasks)) records → b ≡ answers_by e.what call queue
-    → count ≡ answer_count K → count + (if b then 1 else 0) ≡ answer_count (e ∷ K)
+pub counted_more : (H later K : List Event) (e : Event) (calls : List (Option ℕ)) (place : ℕ) (b : Bool) (count : ℕ) → H ≡ later ++ e ∷ K → length K ≡ place → TellsInstalled H calls
+    → b ≡ (is_sent e.what || is_some (get_or calls place None)) → count ≡ answer_count K → count + (if b then 1 else 0) ≡ answer_count (e ∷ K)
 unfolding answer_count
-counted_more K e tasks records call queue b count t k r q h n =
-    let a : b ≡ is_answer K e = h ∙ ap (λ o. answers_by e.what o queue) (call-is K e tasks records call k q) ∙ answer_told K e records queue t r in
+counted_more H later K e calls place b count h l t q n =
+    let told : get_or calls place None ≡ installed_for K e = ap (λ p. get_or calls p None) (sym l) ∙ t later K e h in
+    let a : b ≡ is_answer K e = q ∙ (ap (λ o. is_sent e.what || is_some o) told ∙ answer_is K e) in
     ap (λ m. m + (if b then 1 else 0)) n ∙ ap (λ y. answer_count K + (if y then 1 else 0)) a

@@ -17,6 +17,7 @@ use Rattle.hist_model.specs.declared.event.What.TheVariants.{Recv}
 use Rattle.hist_model.specs.declared.report.Audit.{Audit}
 use Rattle.sys_abi.specs.declared.wire.Notif.{Notif}
 use Rattle.session_facts.specs.Begun.{Begun, told}
+use Rattle.session_facts.specs.Stages.{stages_at}
 use Rattle.session_facts.specs.declared.session.Session.{Session}
 use Rattle.session_facts.proofs.Found.{finding_told}
 use Rattle.session_table.specs.Sessions.{begun, begun_by}
@@ -34,14 +35,14 @@ audited-told J s number = rw (finding_told J s) refl
 audits-by : (J : Judging) (n : Numbers) (H K : List Event) (who : Actor) (a : What) → ((notif : Notif) → a ≡ Recv (Ok notif) → number_in n (length K) ≡ installed_at H K (call_with_id notif.id K))
     → map (λ (x : Session). audited (number_in n x.place) x) (map (told J) (begun_by H K who a)) ≡ audits_by J H K who a
 audits-by J n H K (Worker w) (Recv (Ok notif)) q =
-    let s : Begun = record { place = length K; worker = w; notif = notif; steps = session_at w (length K) H } in
+    let s : Begun = record { place = length K; worker = w; notif = notif; steps = session_at w (length K) H; stages = stages_at w (length K) H } in
     ap (λ (x : Audit). x ∷ []) (audited-told J s (number_in n (length K)) ∙ ap (audit_by J notif (session_at w (length K) H)) (q notif refl))
 audits-by J n H K _ _ q = refl
 
 lines-by : (J : Judging) (n : Numbers) (H K : List Event) (who : Actor) (a : What) → ((notif : Notif) → a ≡ Recv (Ok notif) → number_in n (length K) ≡ installed_at H K (call_with_id notif.id K))
     → flat_map (session_line J n) (map (told J) (begun_by H K who a)) ≡ audit_line_by J H K who a
 lines-by J n H K (Worker w) (Recv (Ok notif)) q =
-    let s : Begun = record { place = length K; worker = w; notif = notif; steps = session_at w (length K) H } in
+    let s : Begun = record { place = length K; worker = w; notif = notif; steps = session_at w (length K) H; stages = stages_at w (length K) H } in
     append-nil (session_line J n (told J s))
     ∙ ap (audit_line_of J (length K) w notif) (audited-told J s (number_in n (length K)) ∙ ap (audit_by J notif (session_at w (length K) H)) (q notif refl))
 lines-by J n H K _ _ q = refl

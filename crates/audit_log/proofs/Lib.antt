@@ -1,5 +1,6 @@
 pub mod Answered
 pub mod Audited
+pub mod ByPlace
 pub mod Counted
 pub mod Named
 pub mod Newest

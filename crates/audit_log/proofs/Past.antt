@@ -1,7 +1,7 @@
 -- The events of a history so far, kept the oldest first, and seen the newest first.
 -- By the library's lengths of reversed and of taken lists, and by `past_more` of `Scans`.
-use Rattle.std.proofs.Common.{◌≡◌, ℕ, ◌+◌, ◌<◌, ◌≤◌, List, ◌∷◌, length, take, get_or, reverse, arith}
-use Rattle.std.proofs.lemmas.List.{length-reverse, length-take}
+use Rattle.std.proofs.Common.{◌≡◌, ℕ, ◌+◌, ◌<◌, ◌≤◌, List, ◌∷◌, ◌++◌, length, take, drop, get_or, reverse, sym, ap, ◌∙◌, arith}
+use Rattle.std.proofs.lemmas.List.{length-reverse, length-take, reverse-append, take-append-drop}
 use Rattle.hist_model.specs.declared.event.Event.{Event}
 use Rattle.hist_model.proofs.Scans.{past_more as one_more}
 
@@ -15,3 +15,8 @@ past_more xs i d h = one_more xs i d h
 -- so many events are past
 pub length_taken : (xs : List Event) (i : ℕ) → i ≤ length xs → length (reverse (take i xs)) ≡ i
 length_taken xs i h = simp (length-reverse, length-take) (omega arith)
+
+-- the events behind this place, this one, and those that are past
+pub past_whole : (xs : List Event) (i : ℕ) (d : Event) → i < length xs → reverse xs ≡ reverse (drop (i + 1) xs) ++ get_or xs i d ∷ reverse (take i xs)
+past_whole xs i d h =
+    ap reverse (sym (take-append-drop (i + 1) xs)) ∙ (reverse-append (take (i + 1) xs) (drop (i + 1) xs) ∙ ap (λ K. reverse (drop (i + 1) xs) ++ K) (past_more xs i d h))

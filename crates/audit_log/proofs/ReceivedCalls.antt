@@ -15,29 +15,16 @@ use Rattle.audit_log.specs.Received.{Names, TellsReceived, place_in, received_by
 use Rattle.audit_log.specs.Records.{Tells, no_record, number_at}
 use Rattle.audit_log.specs.declared.received.Ids.{Ids}
 use Rattle.audit_log.specs.declared.records.CallRecord.{CallRecord}
+use Rattle.audit_log.proofs.ByPlace.{by_place_more, none_by_place}
 use Rattle.audit_log.proofs.Newest.{FindsNewest, newest_below}
 
 -- of no event
 pub none_received : (calls : List (Option ℕ)) (H : List Event) → H ≡ [] → TellsReceived H calls
-none_received calls H q [] K e h = let n : [] ≡ e ∷ K = sym q ∙ h in cc
-none_received calls H q (x ∷ later) K e h = let n : [] ≡ x ∷ (later ++ e ∷ K) = sym q ∙ h in cc
+none_received = none_by_place (λ K e. received_by (λ x. call_with_id x K) e.what)
 
 pub none_named : (x : ℕ) → call_with_id x [] ≡ None
 unfolding call_with_id
 none_named x = refl
-
-received-step : (K : List Event) (e : Event) (calls : List (Option ℕ)) → length calls ≡ length K → TellsReceived K calls
-    → TellsReceived (e ∷ K) (calls ++ received_by (λ x. call_with_id x K) e.what ∷ [])
-received-step K e calls l t [] M f h =
-    let p : f ≡ e = cc in
-    let q : M ≡ K = cc in
-    rw (p, q) (get_or_at calls (received_by (λ x. call_with_id x K) e.what) [] None (length K) l)
-received-step K e calls l t (x ∷ later) M f h =
-    let q : K ≡ later ++ f ∷ M = cc in
-    let m : length (later ++ f ∷ M) ≡ length later + length (f ∷ M) = length-append later (f ∷ M) in
-    let n : length K ≡ length (later ++ f ∷ M) = ap length q in
-    let a : length M < length calls = omega arith in
-    get_or_append_left calls (received_by (λ x. call_with_id x K) e.what ∷ []) None (length M) a ∙ t later M f q
 
 named-step : (x : ℕ) (e : Event) (K : List Event) → call_with_id x (e ∷ K) ≡ (if is_notified e.what x then Some (length K) else call_with_id x K)
 unfolding call_with_id
@@ -56,13 +43,8 @@ pub received_more : (K : List Event) (e : Event) (place : ℕ) (old new : Ids) (
     → (length after ≡ place + 1) × TellsReceived (e ∷ K) after × Names (e ∷ K) new
 received_more K e place old new before after l m t k q h =
     let f : place_in old ≡ (λ x. call_with_id x K) = λ i. λ x. k x i in
-    let r : after ≡ before ++ received_by (λ x. call_with_id x K) e.what ∷ [] = q ∙ ap (λ call. before ++ received_by call e.what ∷ []) f in
-    let c : length after ≡ length (before ++ received_by (λ x. call_with_id x K) e.what ∷ []) = ap length r in
-    let a : length (before ++ received_by (λ x. call_with_id x K) e.what ∷ []) ≡ length before + 1 = length-append before (received_by (λ x. call_with_id x K) e.what ∷ []) in (
-      omega arith,
-      subst (TellsReceived (e ∷ K)) (sym r) (received-step K e before (m ∙ sym l) t),
-      names_more K e place old new l k h,
-    )
+    let told = by_place_more (λ K e. received_by (λ x. call_with_id x K) e.what) K e place (received_by (place_in old) e.what) before after l m t (ap (λ call. received_by call e.what) f) q in
+    (told.0, told.1, names_more K e place old new l k h)
 
 -- an id names the newest event that is listed with it
 pub newest_named : (x : ℕ) → FindsNewest (λ e. is_notified e.what x) (call_with_id x)

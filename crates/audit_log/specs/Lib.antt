@@ -1,4 +1,5 @@
 pub mod Audited
+pub mod ByPlace
 pub mod Laws
 pub mod Numbers
 pub mod Received

@@ -6,6 +6,7 @@ use Rattle.hist_model.specs.ReportAudit.{call_with_id}
 use Rattle.hist_model.specs.declared.event.Event.{Event}
 use Rattle.hist_model.specs.declared.event.What.{What}
 use Rattle.hist_model.specs.declared.event.What.TheVariants.{Recv}
+use Rattle.audit_log.specs.ByPlace.{ByPlace}
 use Rattle.audit_log.specs.declared.received.Ids.{Ids}
 
 -- the place of the newest call with this id, by the table
@@ -23,4 +24,4 @@ received_by call _ = None
 
 -- the calls of what was received, by the place of the event that received it
 abbrev pub TellsReceived : List Event → List (Option ℕ) → Type 0
-TellsReceived H calls = (later K : List Event) (e : Event) → H ≡ later ++ e ∷ K → get_or calls (length K) None ≡ received_by (λ x. call_with_id x K) e.what
+TellsReceived H calls = ByPlace (λ K e. received_by (λ x. call_with_id x K) e.what) H calls

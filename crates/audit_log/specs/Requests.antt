@@ -1,18 +1,19 @@
 -- What is kept of requests for descriptors while the events are gone through: those of each call that have no installation yet, the oldest
 -- first, each by whether it has SEND.
-use Rattle.std.specs.Prelude.{◌≡◌, ℕ, Bool, false, ◌&&◌, ◌||◌, if◌then◌else◌, List, [], ◌∷◌, ◌++◌, Option, Some, None, Ok, get_or}
+use Rattle.std.specs.Prelude.{◌≡◌, ℕ, Bool, false, ◌&&◌, if◌then◌else◌, List, [], ◌∷◌, ◌++◌, Option, Some, None, Ok, get_or}
 use Rattle.std.specs.BTreeMap.{get}
 use Rattle.std.specs.Global.{Global}
 use Rattle.std.specs.Ordering.{nat_cmp}
 use Rattle.std.specs.declared.collections.VecDeque.{VecDeque}
 use Rattle.hist_model.specs.Calls.{caller, id}
-use Rattle.hist_model.specs.Kinds.{gave, has_send_flag, is_sent}
-use Rattle.hist_model.specs.Look.{is_place}
-use Rattle.hist_model.specs.ReportCalls.{is_pending}
-use Rattle.hist_model.specs.ReportRequests.{first_has_send, requests, without_first}
+use Rattle.hist_model.specs.Kinds.{gave, has_send_flag}
+use Rattle.hist_model.specs.Look.{is_place, task_name}
+use Rattle.hist_model.specs.ReportCalls.{is_pending, newest_call}
+use Rattle.hist_model.specs.ReportRequests.{first_has_send, installs_for_send, requests, without_first}
 use Rattle.hist_model.specs.declared.event.Event.{Event}
 use Rattle.hist_model.specs.declared.event.What.{What}
 use Rattle.hist_model.specs.declared.event.What.TheVariants.{AddfdPut, Install}
+use Rattle.audit_log.specs.ByPlace.{ByPlace}
 use Rattle.audit_log.specs.Records.{no_record}
 use Rattle.audit_log.specs.declared.records.CallRecord.{CallRecord}
 use Rattle.audit_log.specs.declared.requests.Requests.{Requests}
@@ -40,9 +41,17 @@ abbrev pub first_at : Option ℕ → (ℕ → List Bool) → Bool
 first_at None queue = false
 first_at (Some c) queue = first_has_send (queue c)
 
--- the step answers a call, where an installation is one for this call
-abbrev pub answers_by : What → Option ℕ → (ℕ → List Bool) → Bool
-answers_by a call queue = is_sent a || (gave a && first_at call queue)
+-- the call that the step answers by an installation, where an installation is one for this call
+abbrev pub answered_call : What → Option ℕ → (ℕ → List Bool) → Option ℕ
+answered_call a call queue = if gave a && first_at call queue then call else None
+
+-- after K, the call that the event answers by an installation
+abbrev pub installed_for : List Event → Event → Option ℕ
+installed_for K e = if gave e.what && installs_for_send K e (newest_call (task_name e.who) K) then newest_call (task_name e.who) K else None
+
+-- the calls that are answered so, by the place of the event that answers them
+abbrev pub TellsInstalled : List Event → List (Option ℕ) → Type 0
+TellsInstalled H calls = ByPlace installed_for H calls
 
 -- the requests at place c with one more step, where an installation is one for this call, by the call that each id names
 abbrev pub queued : What → Option ℕ → (ℕ → Option ℕ) → ℕ → List Bool → List Bool

@@ -176,7 +176,7 @@ fn push_notified(line: &mut Line, place: usize, worker: u8, notif: &Notif) -> Re
 }
 
 /// The place of the rule that decided.
-fn rule_of(finding: Finding) -> Option<usize>
+pub fn rule_of(finding: Finding) -> Option<usize>
     ensures { result ≡ rule_of finding }
 {
     match finding {
@@ -201,7 +201,7 @@ fn name_of(policy: &Policy, place: usize) -> &[u8]
 }
 
 /// Adds a rule's name, or `-` where there is none.
-fn push_rule(line: &mut Line, policy: &Policy, rule: Option<usize>) -> Result<(), NoMemory>
+pub fn push_rule(line: &mut Line, policy: &Policy, rule: Option<usize>) -> Result<(), NoMemory>
     ensures { OnOk result (line.new ≡ line.old ++ rule_text (judging_by policy.now.rules) rule) }
 {
     match rule {

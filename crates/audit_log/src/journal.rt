@@ -50,7 +50,7 @@ impl Part for Journal {
 }
 
 /// Adds the line of the event at a place.
-fn push_event(line: &mut Line, place: usize, event: &Event) -> Result<(), NoMemory>
+pub fn push_event(line: &mut Line, place: usize, event: &Event) -> Result<(), NoMemory>
     ensures { OnOk result (line.new ≡ line.old ++ event_line place event.now) }
 {
     line.push_number(place as u64)?;

@@ -4,10 +4,11 @@
 //! line, one write for each; after any error the sink took a prefix of that part.
 //!
 //! Below stand what came of the sessions (`session_table`), the rules' names (`policy_eval`), the plain types and the
-//! definitions (`hist_model`) and the sinks (`io_edge`). Above stands the program, which writes the report of what it played.
+//! definitions (`hist_model`) and the sinks (`io_edge`). Above stands the program, which writes the report of what it played, and
+//! the checker of reports (`audit_check`), which writes and traces by the same lines and passes.
 #![tactic(auto)]
 
-mod answer;
+pub mod answer;
 pub mod audit;
 pub mod calls;
 mod count;
@@ -15,11 +16,11 @@ pub mod error;
 mod event;
 pub mod journal;
 pub mod laws;
-mod line;
+pub mod line;
 mod numbers;
 mod outcome;
-mod part;
-mod received;
+pub mod part;
+pub mod received;
 mod records;
 mod request;
 mod requests;

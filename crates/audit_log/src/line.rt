@@ -12,7 +12,7 @@ use sys_abi::memory::NoMemory;
 
 /// The bytes of a line so far. After want of memory they say nothing.
 #[derive(Drop)]
-pub(crate) struct Line {
+pub struct Line {
     bytes: Vec<u8>,
 }
 
@@ -26,7 +26,7 @@ impl Model for Line {
 
 impl Line {
     /// An empty line.
-    pub(crate) fn new(alloc: Global) -> Line
+    pub fn new(alloc: Global) -> Line
         ensures { result ≡ [] }
     {
         Line {
@@ -35,21 +35,21 @@ impl Line {
     }
 
     /// Its bytes.
-    pub(crate) fn bytes(&self) -> &[u8]
+    pub fn bytes(&self) -> &[u8]
         ensures { result.now ≡ self.now }
     {
         self.bytes.as_slice()
     }
 
     /// Makes it empty, and keeps its room.
-    pub(crate) fn clear(&mut self)
+    pub fn clear(&mut self)
         ensures { self.new ≡ [] }
     {
         self.bytes.clear();
     }
 
     /// Adds bytes as they are.
-    pub(crate) fn push_bytes(&mut self, bytes: &[u8]) -> Result<(), NoMemory>
+    pub fn push_bytes(&mut self, bytes: &[u8]) -> Result<(), NoMemory>
         ensures { OnOk result (self.new ≡ self.old ++ bytes.now) }
     {
         self.bytes.extend_from_slice(bytes)?;
@@ -57,7 +57,7 @@ impl Line {
     }
 
     /// Adds a text.
-    pub(crate) fn push(&mut self, text: &str) -> Result<(), NoMemory>
+    pub fn push(&mut self, text: &str) -> Result<(), NoMemory>
         ensures { OnOk result (self.new ≡ self.old ++ text.now) }
     {
         self.push_bytes(text.as_bytes())
@@ -78,7 +78,7 @@ impl Line {
     }
 
     /// Adds a number.
-    pub(crate) fn push_number(&mut self, n: u64) -> Result<(), NoMemory>
+    pub fn push_number(&mut self, n: u64) -> Result<(), NoMemory>
         ensures { OnOk result (self.new ≡ self.old ++ decimal n) }
     {
         let mut buffer = Buffer::new();

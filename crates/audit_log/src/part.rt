@@ -11,8 +11,8 @@ use io_edge::sink::Sink;
 use std::alloc::Global;
 use sys_abi::memory::NoMemory;
 
-/// A part of a report.
-pub(crate) trait Part {
+/// A part of a report: it has a line for some of the events.
+pub trait Part {
     ghost use Rattle.std.specs.Prelude.{List, ℕ};
     ghost use Rattle.hist_model.specs.declared.event.Event.{Event};
 
@@ -25,7 +25,7 @@ pub(crate) trait Part {
 }
 
 /// Writes a line, in one write; nothing where it is empty.
-pub(crate) fn write_line<O: Sink>(line: &Line, out: &mut O) -> Result<(), ReportError>
+pub fn write_line<O: Sink>(line: &Line, out: &mut O) -> Result<(), ReportError>
     ensures { Wrote (O.state out.old) line.now result (O.state out.new) }
 {
     if line.bytes().is_empty() {
@@ -75,7 +75,7 @@ fn write_event<P: Part, O: Sink>(
 }
 
 /// Writes the lines of the events, from the oldest on.
-fn write_lines<P: Part, O: Sink>(
+pub fn write_lines<P: Part, O: Sink>(
     part: &P,
     line: &mut Line,
     events: &[Event],

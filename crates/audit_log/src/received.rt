@@ -59,7 +59,7 @@ impl Ids {
 
 /// Of each event, by its place, the call of the notification that it receives: the newest with its id.
 #[tactic(auto, using(crate::proofs::ReceivedCalls::none_received, crate::proofs::ReceivedCalls::none_named))]
-pub(crate) fn received_calls(
+pub fn received_calls(
     alloc: Global,
     events: &[Event],
 ) -> Result<Vec<Option<usize>>, NoMemory>

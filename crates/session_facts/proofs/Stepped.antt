@@ -3,7 +3,8 @@
 use Rattle.std.proofs.Common.{◌≡◌, ℕ, Bool, true, false, ◌&&◌, List, [], ◌∷◌, ◌++◌, refl, sym, ap, subst, ◌∙◌}
 use Rattle.std.specs.Prelude.{◌||◌, if◌then◌else◌, Option, Result}
 use Rattle.std.specs.List.{list_any}
-use Rattle.hist_model.specs.Kinds.{is_good_check, starts}
+use Rattle.hist_model.specs.Kinds.{is_good_check, is_sent, starts}
+use Rattle.hist_model.specs.Look.{or_else}
 use Rattle.hist_model.specs.Copies.{heard, plan, progress}
 use Rattle.hist_model.specs.ReportAudit.{Judging, back_in, checked_twice, finding_of, is_shut, joined, judged_by, judging_by, or_back, read_in, reads, sent_back}
 use Rattle.hist_model.specs.declared.event.What.{What}
@@ -15,8 +16,10 @@ use Rattle.sys_abi.specs.declared.wire.Notif.{Notif}
 use Rattle.arg_capture.specs.Captures.{Captured, Follows}
 use Rattle.session_facts.specs.Begun.{Begun, IsRead, found_so_far, told, with_parts, with_step}
 use Rattle.session_facts.specs.Facts.{facts_of, facts_with}
+use Rattle.session_facts.specs.Stages.{is_done, place_if, stages_joined, with_stage}
 use Rattle.session_facts.specs.declared.facts.Facts.{Facts}
 use Rattle.session_facts.specs.declared.session.Session.{Session}
+use Rattle.session_facts.specs.declared.stages.Stages.{Stages}
 
 and_true : (b : Bool) → (b && true) ≡ b
 and_true true = refl
@@ -54,22 +57,35 @@ found-later J n own a h = rw (h, or_true (is_good_check a && list_any is_good_ch
 reads-more : (own : List What) (a : What) → checked_twice own ≡ false → reads (a ∷ own) ≡ reads own ++ read_in a
 reads-more own a h = rw h refl
 
-same-session : (p q : ℕ) (w v : ℕ) (n m : Notif) (f g : Facts) (x y : Option Back) (j k : Finding) → p ≡ q → w ≡ v → n ≡ m → f ≡ g → x ≡ y → j ≡ k
-    → ◌≡◌ {A = Session} (record { place = p; worker = w; notif = n; facts = f; back = x; found = j }) (record { place = q; worker = v; notif = m; facts = g; back = y; found = k })
-same-session p q w v n m f g x y j k a b c d e h = rw (a, b, c, d, e, h) refl
+same-session : (p q : ℕ) (w v : ℕ) (n m : Notif) (f g : Facts) (x y : Option Back) (j k : Finding) (t u : Stages) → p ≡ q → w ≡ v → n ≡ m → f ≡ g → x ≡ y → j ≡ k → t ≡ u
+    → ◌≡◌ {A = Session} (record { place = p; worker = w; notif = n; facts = f; back = x; found = j; stages = t }) (record { place = q; worker = v; notif = m; facts = g; back = y; found = k; stages = u })
+same-session p q w v n m f g x y j k t u a b c d e h i = rw (a, b, c, d, e, h, i) refl
+
+-- ---- Where the steps stand
+
+stages-shut : (place : ℕ) (own : List What) (a : What) (t : Stages) → is_shut own ≡ true → stages_joined place own a t ≡ t
+stages-shut place own a t h = rw h refl
+
+same-stages : (v w e f s t : Option ℕ) → v ≡ w → e ≡ f → s ≡ t → ◌≡◌ {A = Stages} (record { valid = v; effect = e; sent = s }) (record { valid = w; effect = f; sent = t })
+same-stages v w e f s t a b c = rw (a, b, c) refl
+
+stages-open : (place : ℕ) (own : List What) (a : What) (t u : Stages) → is_shut own ≡ false → u.valid ≡ or_else t.valid (place_if (checked_twice (a ∷ own)) place)
+    → u.effect ≡ or_else t.effect (place_if (is_done a) place) → u.sent ≡ or_else t.sent (place_if (is_sent a) place) → u ≡ stages_joined place own a t
+stages-open place own a t u h v e s = rw h (same-stages u.valid (with_stage place own a t).valid u.effect (with_stage place own a t).effect u.sent (with_stage place own a t).sent v e s)
 
 back-cons : (own : List What) (a : What) → is_shut own ≡ false → or_back (back_in a) (sent_back own) ≡ sent_back (joined own a)
 back-cons own a h = ap sent_back (sym (open_joined own a h))
 
 -- of a session that is over
-pub after_shut : (rules : List Rule) (s : Begun) (x : Session) (a : What) (c : Captured) → x ≡ told (judging_by rules) s → x.facts.shut ≡ true → IsRead s c
-    → (with_parts x x.facts x.back x.found ≡ told (judging_by rules) (with_step a s)) × IsRead (with_step a s) c
-after_shut rules s x a c p over r =
-    let q : joined s.steps a ≡ s.steps = shut_joined s.steps a (sym (ap (λ (r : Session). r.facts.shut) p) ∙ over) in
-    rw q (ap (λ (r : Session). with_parts r r.facts r.back r.found) p, r)
+pub after_shut : (rules : List Rule) (s : Begun) (x : Session) (place : ℕ) (a : What) (c : Captured) → x ≡ told (judging_by rules) s → x.facts.shut ≡ true → IsRead s c
+    → (with_parts x x.facts x.back x.found x.stages ≡ told (judging_by rules) (with_step place a s)) × IsRead (with_step place a s) c
+after_shut rules s x place a c p over r =
+    let shut : is_shut s.steps ≡ true = sym (ap (λ (r : Session). r.facts.shut) p) ∙ over in
+    rw (shut_joined s.steps a shut, stages-shut place s.steps a s.stages shut) (ap (λ (r : Session). with_parts r r.facts r.back r.found r.stages) p, r)
 
-module _ (rules : List Rule) (s : Begun) (x : Session) (a : What) (f : Facts) (back : Option Back) (p : x ≡ told (judging_by rules) s) (stays : x.facts.shut ≡ false)
-    (fe : f ≡ facts_with x.facts a) (be : back ≡ or_back (back_in a) x.back) where
+module _ (rules : List Rule) (s : Begun) (x : Session) (place : ℕ) (a : What) (f : Facts) (back : Option Back) (t : Stages) (p : x ≡ told (judging_by rules) s) (stays : x.facts.shut ≡ false)
+    (fe : f ≡ facts_with x.facts a) (be : back ≡ or_back (back_in a) x.back) (ve : t.valid ≡ or_else x.stages.valid (place_if f.checked_twice place))
+    (ee : t.effect ≡ or_else x.stages.effect (place_if (is_done a) place)) (se : t.sent ≡ or_else x.stages.sent (place_if (is_sent a) place)) where
   is-open : is_shut s.steps ≡ false
   is-open = sym (ap (λ (r : Session). r.facts.shut) p) ∙ stays
 
@@ -79,20 +95,26 @@ module _ (rules : List Rule) (s : Begun) (x : Session) (a : What) (f : Facts) (b
   back-is : back ≡ sent_back (joined s.steps a)
   back-is = be ∙ ap (λ (r : Session). or_back (back_in a) r.back) p ∙ back-cons s.steps a is-open
 
+  stages-are : t ≡ stages_joined place s.steps a s.stages
+  stages-are =
+      let st : x.stages ≡ s.stages = ap (λ (r : Session). r.stages) p in
+      let twice : f.checked_twice ≡ checked_twice (a ∷ s.steps) = ap (λ (g : Facts). g.checked_twice) facts-are ∙ ap checked_twice (open_joined s.steps a is-open) in
+      stages-open place s.steps a s.stages t is-open (rw (← st, ← twice) ve) (rw (← st) ee) (rw (← st) se)
+
   with-found : (j : Finding) → j ≡ found_so_far (judging_by rules) s.notif (joined s.steps a)
-      → ◌≡◌ {A = Session} (record { place = x.place; worker = x.worker; notif = x.notif; facts = f; back = back; found = j }) (told (judging_by rules) (with_step a s))
+      → ◌≡◌ {A = Session} (record { place = x.place; worker = x.worker; notif = x.notif; facts = f; back = back; found = j; stages = t }) (told (judging_by rules) (with_step place a s))
   with-found j e = same-session x.place s.place x.worker s.worker x.notif s.notif f (facts_of (joined s.steps a)) back (sent_back (joined s.steps a)) j (found_so_far (judging_by rules) s.notif (joined s.steps a))
-      (ap (λ (r : Session). r.place) p) (ap (λ (r : Session). r.worker) p) (ap (λ (r : Session). r.notif) p) facts-are back-is e
+      t (stages_joined place s.steps a s.stages) (ap (λ (r : Session). r.place) p) (ap (λ (r : Session). r.worker) p) (ap (λ (r : Session). r.notif) p) facts-are back-is e stages-are
 
   -- of a session that was judged
   pub after_judged : (c : Captured) → x.facts.checked_twice ≡ true
-      → ◌≡◌ {A = Session} (record { place = x.place; worker = x.worker; notif = x.notif; facts = f; back = back; found = x.found }) (told (judging_by rules) (with_step a s)) × IsRead (with_step a s) c
+      → ◌≡◌ {A = Session} (record { place = x.place; worker = x.worker; notif = x.notif; facts = f; back = back; found = x.found; stages = t }) (told (judging_by rules) (with_step place a s)) × IsRead (with_step place a s) c
   after_judged c twice =
-      let t : checked_twice s.steps ≡ true = sym (ap (λ (r : Session). r.facts.checked_twice) p) ∙ twice in
+      let before : checked_twice s.steps ≡ true = sym (ap (λ (r : Session). r.facts.checked_twice) p) ∙ twice in
       let q : joined s.steps a ≡ a ∷ s.steps = open_joined s.steps a is-open in
-      let m : checked_twice (joined s.steps a) ≡ true = ap checked_twice q ∙ twice-later s.steps a t in
+      let m : checked_twice (joined s.steps a) ≡ true = ap checked_twice q ∙ twice-later s.steps a before in
       let j : x.found ≡ found_so_far (judging_by rules) s.notif (joined s.steps a) =
-      ap (λ (r : Session). r.found) p ∙ found-later (judging_by rules) s.notif s.steps a t ∙ ap (found_so_far (judging_by rules) s.notif) (sym q) in
+      ap (λ (r : Session). r.found) p ∙ found-later (judging_by rules) s.notif s.steps a before ∙ ap (found_so_far (judging_by rules) s.notif) (sym q) in
       (with-found x.found j, λ h. absurd (cc (m, h)))
 
   -- of one that wasn't, whose capture takes the step, and which is judged where this was its second good check
@@ -101,13 +123,13 @@ module _ (rules : List Rule) (s : Begun) (x : Session) (a : What) (f : Facts) (b
       → ((answers : List (Result (List ℕ) ℕ)) → Follows (plan x.notif.call.nr x.notif.call.args) answers mid
       → j ≡ (if f.checked_twice then finding_of (judged_by rules x.notif (progress (plan x.notif.call.nr x.notif.call.args) answers)) false else Open))
       → (f.checked_twice ≡ false → new ≡ mid)
-      → ◌≡◌ {A = Session} (record { place = x.place; worker = x.worker; notif = x.notif; facts = f; back = back; found = j }) (told (judging_by rules) (with_step a s)) × IsRead (with_step a s) new
+      → ◌≡◌ {A = Session} (record { place = x.place; worker = x.worker; notif = x.notif; facts = f; back = back; found = j; stages = t }) (told (judging_by rules) (with_step place a s)) × IsRead (with_step place a s) new
   after_heard old mid new j twice read hears judges kept =
-      let t : checked_twice s.steps ≡ false = sym (ap (λ (r : Session). r.facts.checked_twice) p) ∙ twice in
+      let before : checked_twice s.steps ≡ false = sym (ap (λ (r : Session). r.facts.checked_twice) p) ∙ twice in
       let q : joined s.steps a ≡ a ∷ s.steps = open_joined s.steps a is-open in
       let parts = plan s.notif.call.nr s.notif.call.args in
-      let more : reads (joined s.steps a) ≡ reads s.steps ++ read_in a = ap reads q ∙ reads-more s.steps a t in
-      let told-mid : Follows parts (heard parts [] (reads s.steps ++ read_in a)) mid = hears parts (reads s.steps) (read t) in
+      let more : reads (joined s.steps a) ≡ reads s.steps ++ read_in a = ap reads q ∙ reads-more s.steps a before in
+      let told-mid : Follows parts (heard parts [] (reads s.steps ++ read_in a)) mid = hears parts (reads s.steps) (read before) in
       let follows : Follows parts (heard parts [] (reads (joined s.steps a))) mid = subst (λ xs. Follows parts (heard parts [] xs) mid) (sym more) told-mid in
       let n-is : x.notif ≡ s.notif = ap (λ (r : Session). r.notif) p in
       let judges-s : (answers : List (Result (List ℕ) ℕ)) → Follows parts answers mid → j ≡ (if f.checked_twice then finding_of (judged_by rules s.notif (progress parts answers)) false else Open) =

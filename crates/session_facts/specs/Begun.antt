@@ -10,18 +10,21 @@ use Rattle.arg_capture.specs.Captures.{Captured, Follows}
 use Rattle.sys_abi.specs.declared.wire.Notif.{Notif}
 use Rattle.session_facts.specs.Facts.{facts_of}
 use Rattle.session_facts.specs.declared.facts.Facts.{Facts}
+use Rattle.session_facts.specs.Stages.{stages_joined}
 use Rattle.session_facts.specs.declared.session.Session.{Session}
+use Rattle.session_facts.specs.declared.stages.Stages.{Stages}
 
--- a session: the place of the event that begins it, its worker, the notification, and its own steps, the newest first
+-- a session: the place of the event that begins it, its worker, the notification, its own steps, the newest first, and where they stand
 pub record Begun : Type 0 where
   pub place : ℕ
   pub worker : ℕ
   pub notif : Notif
   pub steps : List What
+  pub stages : Stages
 
--- a session with one more step of its worker
-abbrev pub with_step : What → Begun → Begun
-with_step a s = record { place = s.place; worker = s.worker; notif = s.notif; steps = joined s.steps a }
+-- a session with one more step of its worker, which has this place
+abbrev pub with_step : ℕ → What → Begun → Begun
+with_step place a s = record { place = s.place; worker = s.worker; notif = s.notif; steps = joined s.steps a; stages = stages_joined place s.steps a s.stages }
 
 -- ---- What is kept of a session
 
@@ -43,11 +46,11 @@ finding_in x = if x.facts.gone then Gone else (if x.facts.spent then spent x.fou
 
 -- what is kept of a session with these steps
 abbrev pub told : Judging → Begun → Session
-told J s = record { place = s.place; worker = s.worker; notif = s.notif; facts = facts_of s.steps; back = sent_back s.steps; found = found_so_far J s.notif s.steps }
+told J s = record { place = s.place; worker = s.worker; notif = s.notif; facts = facts_of s.steps; back = sent_back s.steps; found = found_so_far J s.notif s.steps; stages = s.stages }
 
 -- with these in the place of what its steps tell
-abbrev pub with_parts : Session → Facts → Option Back → Finding → Session
-with_parts x f back found = record { place = x.place; worker = x.worker; notif = x.notif; facts = f; back = back; found = found }
+abbrev pub with_parts : Session → Facts → Option Back → Finding → Stages → Session
+with_parts x f back found stages = record { place = x.place; worker = x.worker; notif = x.notif; facts = f; back = back; found = found; stages = stages }
 
 -- up to its second good check, a capture follows what it reads
 abbrev pub IsRead : Begun → Captured → Type 0

@@ -105,7 +105,7 @@ fn misses_call(what: &What) -> bool
 }
 
 /// Whether the step sent an answer that was taken.
-fn is_sent(what: &What) -> bool
+pub fn is_sent(what: &What) -> bool
     ensures { result ≡ is_sent what.now }
 {
     matches!(what, What::Send { answer: Ok(()), .. })

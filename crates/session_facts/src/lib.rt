@@ -1,7 +1,7 @@
 //! What is kept of one session of a history while its worker's steps are gone through.
 //!
 //! What a report tells of a session follows from its own steps: whether its caller was gone, what was sent and whether it
-//! reached the call, and what the policy makes of what was read. The answers of its reads go through the capture of its call's
+//! reached the call, where its steps stand, and what the policy makes of what was read. The answers of its reads go through the capture of its call's
 //! texts until its second good check, at which the policy judges the request, by the broker's own code.
 //!
 //! The model is the session with its own steps, the newest first (`specs/Begun.antt`): what is kept of it is a function of
@@ -14,3 +14,4 @@
 pub mod facts;
 mod judging;
 pub mod session;
+pub mod stages;

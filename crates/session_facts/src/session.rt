@@ -9,6 +9,7 @@ ghost use Rattle.session_facts.specs.Begun.{Begun, IsRead, finding_in, spent, to
 
 use crate::facts::{Facts, back_after};
 use crate::judging::{hear, judged};
+use crate::stages::Stages;
 use arg_capture::Capture;
 use hist_model::event::{Back, What};
 use hist_model::policy::{Policy, Verdict};
@@ -31,6 +32,8 @@ pub struct Session {
     pub back: Option<Back>,
     /// What the policy makes of it once its second check was good; open before.
     pub found: Finding,
+    /// Where its steps stand.
+    pub stages: Stages,
 }
 
 /// What a session came to, by the rule at a place and its verdict.
@@ -82,27 +85,29 @@ fn found_where(due: bool, policy: &Policy, notif: &Notif, capture: &mut Capture)
 }
 
 impl Session {
-    /// What its steps tell, what was sent last, and what the policy makes of it, with one more step of its worker, which the
-    /// capture of its reads takes too.
+    /// What its steps tell, what was sent last, what the policy makes of it, and where its steps stand, with one more step of
+    /// its worker, which has this place, and which the capture of its reads takes too.
     pub fn after(
         &self,
         policy: &Policy,
+        place: usize,
         capture: &mut Capture,
         what: &What,
-    ) -> Result<(Facts, Option<Back>, Finding), NoMemory>
-        ensures { IfOk result (λ after. (s : Begun) → self.now ≡ told (judging_by policy.now.rules) s → IsRead s capture.old → (with_parts self.now after.0 after.1 after.2 ≡ told (judging_by policy.now.rules) (with_step what.now s)) × IsRead (with_step what.now s) capture.new) }
+    ) -> Result<(Facts, Option<Back>, Finding, Stages), NoMemory>
+        ensures { IfOk result (λ after. (s : Begun) → self.now ≡ told (judging_by policy.now.rules) s → IsRead s capture.old → (with_parts self.now after.0 after.1 after.2 after.3 ≡ told (judging_by policy.now.rules) (with_step place what.now s)) × IsRead (with_step place what.now s) capture.new) }
     {
         if self.facts.shut {
-            return Ok((self.facts, self.back, self.found));
+            return Ok((self.facts, self.back, self.found, self.stages));
         }
         let facts = self.facts.with(what);
         let back = back_after(self.back, what);
+        let stages = self.stages.with(place, &facts, what);
         if self.facts.checked_twice {
-            return Ok((facts, back, self.found));
+            return Ok((facts, back, self.found, stages));
         }
         hear(capture, what)?;
         let found = found_where(facts.checked_twice, policy, &self.notif, capture);
-        Ok((facts, back, found))
+        Ok((facts, back, found, stages))
     }
 
     /// What the session came to.

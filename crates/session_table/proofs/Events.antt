@@ -15,24 +15,40 @@ use Rattle.hist_model.specs.declared.event.What.{What}
 use Rattle.hist_model.specs.declared.event.What.TheVariants.{Recv}
 use Rattle.sys_abi.specs.declared.wire.Notif.{Notif}
 use Rattle.session_facts.specs.Begun.{Begun, with_step}
+use Rattle.session_facts.specs.Stages.{stages_at, stages_step}
+use Rattle.session_facts.specs.declared.stages.Stages.{Stages}
 use Rattle.session_facts.proofs.Stepped.{shut_joined}
 use Rattle.session_table.specs.Sessions.{after_event, begun, begun_by, started, with_event}
 
 -- ---- One session
 
 -- its steps are as before
-same_steps : (s : Begun) (own : List What) → own ≡ s.steps → ◌≡◌ {A = Begun} (record { place = s.place; worker = s.worker; notif = s.notif; steps = own }) s
-same_steps s own e = rw e refl
+same_steps : (s : Begun) (own : List What) (t : Stages) → own ≡ s.steps → t ≡ s.stages → ◌≡◌ {A = Begun} (record { place = s.place; worker = s.worker; notif = s.notif; steps = own; stages = t }) s
+same_steps s own t e f = rw (e, f) refl
 
 not-joined : (b : Bool) (own : List What) (a : What) → is_shut own ≡ true → session_step false b own a ≡ own
 not-joined true own a h = shut_joined own a h
 not-joined false own a h = refl
 
-pub over_stays : (e : Event) (s : Begun) → is_shut s.steps ≡ true → with_event e s ≡ s
-over_stays e s h = same_steps s (with_event e s).steps (not-joined (is_worker e.who s.worker && not (skips e.what)) s.steps e.what h)
+not-staged : (b : Bool) (place : ℕ) (own : List What) (a : What) (t : Stages) → is_shut own ≡ true → stages_step false b place own a t ≡ t
+not-staged true place own a t h = rw h refl
+not-staged false place own a t h = refl
 
-not-own : (b t : Bool) (own : List What) (a : What) → (b && t) ≡ false → session_step false (b && t) own a ≡ own
-not-own b t own a h = rw h refl
+pub over_stays : (place : ℕ) (e : Event) (s : Begun) → is_shut s.steps ≡ true → with_event place e s ≡ s
+over_stays place e s h =
+    let b = is_worker e.who s.worker && not (skips e.what) in
+    same_steps s (with_event place e s).steps (with_event place e s).stages (not-joined b s.steps e.what h) (not-staged b place s.steps e.what s.stages h)
+
+not-own : (b : Bool) (own : List What) (a : What) → b ≡ false → session_step false b own a ≡ own
+not-own b own a h = rw h refl
+
+none-staged : (b : Bool) (place : ℕ) (own : List What) (a : What) (t : Stages) → b ≡ false → stages_step false b place own a t ≡ t
+none-staged b place own a t h = rw h refl
+
+idle-stays : (place : ℕ) (e : Event) (s : Begun) → (is_worker e.who s.worker && not (skips e.what)) ≡ false → with_event place e s ≡ s
+idle-stays place e s h =
+    let b = is_worker e.who s.worker && not (skips e.what) in
+    same_steps s (with_event place e s).steps (with_event place e s).stages (not-own b s.steps e.what h) (none-staged b place s.steps e.what s.stages h)
 
 left_false : (b t : Bool) → b ≡ false → (b && t) ≡ false
 left_false b t h = rw h refl
@@ -41,25 +57,25 @@ right_false : (b t : Bool) → t ≡ false → (b && t) ≡ false
 right_false true t h = h
 right_false false t h = refl
 
-pub other_stays : (e : Event) (s : Begun) → is_worker e.who s.worker ≡ false → with_event e s ≡ s
-other_stays e s h = same_steps s (with_event e s).steps (not-own (is_worker e.who s.worker) (not (skips e.what)) s.steps e.what (left_false (is_worker e.who s.worker) (not (skips e.what)) h))
+pub other_stays : (place : ℕ) (e : Event) (s : Begun) → is_worker e.who s.worker ≡ false → with_event place e s ≡ s
+other_stays place e s h = idle-stays place e s (left_false (is_worker e.who s.worker) (not (skips e.what)) h)
 
-pub skip_stays : (e : Event) (s : Begun) → skips e.what ≡ true → with_event e s ≡ s
-skip_stays e s h = same_steps s (with_event e s).steps (not-own (is_worker e.who s.worker) (not (skips e.what)) s.steps e.what (right_false (is_worker e.who s.worker) (not (skips e.what)) (ap not h)))
+pub skip_stays : (place : ℕ) (e : Event) (s : Begun) → skips e.what ≡ true → with_event place e s ≡ s
+skip_stays place e s h = idle-stays place e s (right_false (is_worker e.who s.worker) (not (skips e.what)) (ap not h))
 
-pub own_step : (w : ℕ) (a : What) (s : Begun) → s.worker ≡ w → skips a ≡ false → with_event (ev (Worker w) a) s ≡ with_step a s
-own_step w a s e h = rw (e, eq-eqb w w refl, h) refl
+pub own_step : (place w : ℕ) (a : What) (s : Begun) → s.worker ≡ w → skips a ≡ false → with_event place (ev (Worker w) a) s ≡ with_step place a s
+own_step place w a s e h = rw (e, eq-eqb w w refl, h) refl
 
 -- a session that isn't over wasn't
-pub stays_open : (e : Event) (s : Begun) → is_shut (with_event e s).steps ≡ false → is_shut s.steps ≡ false
-stays_open e s h = elim (cases_Bool (is_shut s.steps)) [
-  | inl y ↦ let q : is_shut (with_event e s).steps ≡ is_shut s.steps = ap (λ (t : Begun). is_shut t.steps) (over_stays e s y) in cc (h, q, y)
+pub stays_open : (place : ℕ) (e : Event) (s : Begun) → is_shut (with_event place e s).steps ≡ false → is_shut s.steps ≡ false
+stays_open place e s h = elim (cases_Bool (is_shut s.steps)) [
+  | inl y ↦ let q : is_shut (with_event place e s).steps ≡ is_shut s.steps = ap (λ (t : Begun). is_shut t.steps) (over_stays place e s y) in cc (h, q, y)
   | inr n ↦ n
 ]
 
 -- a received notification ends the worker's session before
-pub receive_ends : (w : ℕ) (n : Notif) (s : Begun) → s.worker ≡ w → is_shut (with_event (ev (Worker w) (Recv (Ok n))) s).steps ≡ true
-receive_ends w n s e = ap (λ (t : Begun). is_shut t.steps) (own_step w (Recv (Ok n)) s e refl) ∙ ends s.steps
+pub receive_ends : (place w : ℕ) (n : Notif) (s : Begun) → s.worker ≡ w → is_shut (with_event place (ev (Worker w) (Recv (Ok n))) s).steps ≡ true
+receive_ends place w n s e = ap (λ (t : Begun). is_shut t.steps) (own_step place w (Recv (Ok n)) s e refl) ∙ ends s.steps
   where
     ends : (own : List What) → is_shut (joined own (Recv (Ok n))) ≡ true
     ends [] = refl
@@ -89,7 +105,7 @@ skip-begins-none place w _ h = refl
 
 -- a skip changes nothing
 pub after_skip : (place w : ℕ) (a : What) (S : List Begun) → skips a ≡ true → after_event place (ev (Worker w) a) S ≡ S
-after_skip place w a S h = rw (skip-begins-none place w a h, append-nil (map (with_event (ev (Worker w) a)) S)) (all_stay (with_event (ev (Worker w) a)) S (λ s. skip_stays (ev (Worker w) a) s h))
+after_skip place w a S h = rw (skip-begins-none place w a h, append-nil (map (with_event place (ev (Worker w) a)) S)) (all_stay (with_event place (ev (Worker w) a)) S (λ s. skip_stays place (ev (Worker w) a) s h))
 
 no-worker : (who : Actor) (v : ℕ) → ((w : ℕ) → who ≡ Worker w → ⊥) → is_worker who v ≡ false
 no-worker (Worker w) v h = absurd (h w refl)
@@ -101,24 +117,24 @@ begins-none place _ a h = refl
 
 -- neither does an event of no worker
 pub after_other : (place : ℕ) (e : Event) (S : List Begun) → ((w : ℕ) → e.who ≡ Worker w → ⊥) → after_event place e S ≡ S
-after_other place e S h = rw (begins-none place e.who e.what h, append-nil (map (with_event e) S)) (all_stay (with_event e) S (λ s. other_stays e s (no-worker e.who s.worker h)))
+after_other place e S h = rw (begins-none place e.who e.what h, append-nil (map (with_event place e) S)) (all_stay (with_event place e) S (λ s. other_stays place e s (no-worker e.who s.worker h)))
 
 -- ---- The history
 
-older-by : (e : Event) (H K : List Event) (who : Actor) (a : What) → length K < length H → begun_by (e ∷ H) K who a ≡ map (with_event e) (begun_by H K who a)
-unfolding session_at
+older-by : (e : Event) (H K : List Event) (who : Actor) (a : What) → length K < length H → begun_by (e ∷ H) K who a ≡ map (with_event (length H) e) (begun_by H K who a)
+unfolding session_at stages_at
 older-by e H K (Worker w) (Recv (Ok n)) l =
     let m : (length H ≡ length K → ⊥) = omega arith in
     rw (ne_eqb (length H) (length K) m) refl
 older-by e H K _ _ l = refl
 
-older : (e : Event) (H K : List Event) → length K ≤ length H → begun (e ∷ H) K ≡ map (with_event e) (begun H K)
+older : (e : Event) (H K : List Event) → length K ≤ length H → begun (e ∷ H) K ≡ map (with_event (length H) e) (begun H K)
 unfolding begun
 older e H [] l = refl
-older e H (f ∷ K) l = rw (older e H K (omega arith), older-by e H K f.who f.what (omega arith)) (sym (map-append (with_event e) (begun H K) (begun_by H K f.who f.what)))
+older e H (f ∷ K) l = rw (older e H K (omega arith), older-by e H K f.who f.what (omega arith)) (sym (map-append (with_event (length H) e) (begun H K) (begun_by H K f.who f.what)))
 
 newest-by : (H : List Event) (who : Actor) (a : What) → begun_by (ev who a ∷ H) H who a ≡ started (length H) who a
-unfolding session_at
+unfolding session_at stages_at
 newest-by H (Worker w) (Recv (Ok n)) = rw (eq-eqb (length H) (length H) refl) refl
 newest-by H _ _ = refl
 

@@ -20,6 +20,7 @@ use Rattle.sys_abi.specs.declared.memory.NoMemory.{NoMemory}
 use Rattle.sys_abi.specs.declared.wire.Notif.{Notif}
 use Rattle.arg_capture.specs.Captures.{Follows}
 use Rattle.session_facts.specs.Begun.{Begun, IsRead, told, with_step}
+use Rattle.session_facts.specs.Stages.{no_stages}
 use Rattle.session_table.specs.Sessions.{after_event, begun, started, with_event}
 use Rattle.session_table.specs.Table.{AllShut, IsRowStepped, IsStepped, StandsFor, current, no_row, no_session, nobody, session_in}
 use Rattle.session_table.specs.declared.table.Current.{Current}
@@ -44,11 +45,11 @@ map_set f (s ∷ S) (suc i) l h =
 
 -- ---- One more step of a worker
 
-module _ (rules : List Rule) (S : List Begun) (t u : Table) (w : ℕ) (a : What) (x : Current)
+module _ (rules : List Rule) (S : List Begun) (t u : Table) (place w : ℕ) (a : What) (x : Current)
     (k : StandsFor rules S t) (small : w < 256) (runs : skips a ≡ false)
-    (g : IsStepped rules a (current t w) x t.rows.items u.rows.items) (ws : u.workers.items ≡ set t.workers.items w x) where
+    (g : IsStepped rules place a (current t w) x t.rows.items u.rows.items) (ws : u.workers.items ≡ set t.workers.items w x) where
   abbrev pub f : Begun → Begun
-  f = with_event (ev (Worker w) a)
+  f = with_event place (ev (Worker w) a)
 
   at-own : current u w ≡ x
   at-own = let l : w < length t.workers.items = omega (arith, k.workers) in ap (λ xs. get_or xs w nobody) ws ∙ get_or-set_at t.workers.items w w x nobody refl l
@@ -65,12 +66,12 @@ module _ (rules : List Rule) (S : List Begun) (t u : Table) (w : ℕ) (a : What)
   -- a session that isn't the worker's current one stays
   stays : (j : ℕ) → j < length S → ((current t w).row ≡ Some j → ⊥) → f (session_in S j) ≡ session_in S j
   stays j l n = elim (cases_Bool (is_shut (session_in S j).steps)) [
-    | inl y ↦ over_stays (ev (Worker w) a) (session_in S j) y
+    | inl y ↦ over_stays place (ev (Worker w) a) (session_in S j) y
     | inr o ↦ elim (cases_Bool (w == (session_in S j).worker)) [
       | inl y ↦
           let e : w ≡ (session_in S j).worker = eqb-true w (session_in S j).worker y in
           absurd (n (ap (λ v. (current t v).row) e ∙ k.newest j l o))
-      | inr m ↦ other_stays (ev (Worker w) a) (session_in S j) m
+      | inr m ↦ other_stays place (ev (Worker w) a) (session_in S j) m
     ]
   ]
 
@@ -79,27 +80,27 @@ module _ (rules : List Rule) (S : List Begun) (t u : Table) (w : ℕ) (a : What)
 
   rows-none : (current t w).row ≡ None → u.rows.items ≡ map (told (judging_by rules)) (map f S)
   rows-none o =
-      let h : u.rows.items ≡ t.rows.items = subst (λ z. IsRowStepped rules a (current t w).capture x.capture t.rows.items u.rows.items z) o g.1 in
+      let h : u.rows.items ≡ t.rows.items = subst (λ z. IsRowStepped rules place a (current t w).capture x.capture t.rows.items u.rows.items z) o g.1 in
       h ∙ k.rows ∙ ap (map (told (judging_by rules))) (sym (map_fixed f S (λ j l. stays j l (λ q. cc (q, o)))))
 
-  stepped : (i : ℕ) → (current t w).row ≡ Some i → (u.rows.items ≡ set t.rows.items i (told (judging_by rules) (with_step a (session_in S i)))) × IsRead (with_step a (session_in S i)) x.capture
+  stepped : (i : ℕ) → (current t w).row ≡ Some i → (u.rows.items ≡ set t.rows.items i (told (judging_by rules) (with_step place a (session_in S i)))) × IsRead (with_step place a (session_in S i)) x.capture
   stepped i o =
       let own = k.own w i o in
       let long : length t.rows.items ≡ length S = ap length k.rows ∙ length-map S (told (judging_by rules)) in
       let l : i < length t.rows.items = omega (arith, own.0) in
       let is : get_or t.rows.items i no_row ≡ told (judging_by rules) (session_in S i) = ap (λ xs. get_or xs i no_row) k.rows ∙ get_or-map (told (judging_by rules)) S i no_session no_row own.0 in
-      subst (λ z. IsRowStepped rules a (current t w).capture x.capture t.rows.items u.rows.items z) o g.1 l (session_in S i) is (k.read w i o)
+      subst (λ z. IsRowStepped rules place a (current t w).capture x.capture t.rows.items u.rows.items z) o g.1 l (session_in S i) is (k.read w i o)
 
-  own-is : (i : ℕ) → (current t w).row ≡ Some i → f (session_in S i) ≡ with_step a (session_in S i)
-  own-is i o = let own = k.own w i o in own_step w a (session_in S i) own.1 runs
+  own-is : (i : ℕ) → (current t w).row ≡ Some i → f (session_in S i) ≡ with_step place a (session_in S i)
+  own-is i o = let own = k.own w i o in own_step place w a (session_in S i) own.1 runs
 
   rows-some : (i : ℕ) → (current t w).row ≡ Some i → u.rows.items ≡ map (told (judging_by rules)) (map f S)
   rows-some i o =
       let own = k.own w i o in
       let q : map f S ≡ set S i (f (session_in S i)) = map_set f S i own.0 (λ j l n. stays j l (λ p. n (let z : Some i ≡ Some j = sym o ∙ p in cc z))) in
       let st = stepped i o in
-      st.0 ∙ ap (λ xs. set xs i (told (judging_by rules) (with_step a (session_in S i)))) k.rows
-      ∙ sym (map-set (told (judging_by rules)) S i (with_step a (session_in S i)))
+      st.0 ∙ ap (λ xs. set xs i (told (judging_by rules) (with_step place a (session_in S i)))) k.rows
+      ∙ sym (map-set (told (judging_by rules)) S i (with_step place a (session_in S i)))
       ∙ ap (λ s. map (told (judging_by rules)) (set S i s)) (sym (own-is i o))
       ∙ ap (map (told (judging_by rules))) (sym q)
 
@@ -116,13 +117,13 @@ module _ (rules : List Rule) (S : List Begun) (t u : Table) (w : ℕ) (a : What)
             let e : v ≡ w = eqb-true v w y in
             let mine : (current t w).row ≡ Some j = ap (λ z. (current t z).row) (sym e) ∙ old in
             let st = stepped j mine in
-            let is : session_in (map f S) j ≡ with_step a (session_in S j) = after-at j own.0 ∙ own-is j mine in
+            let is : session_in (map f S) j ≡ with_step place a (session_in S j) = after-at j own.0 ∙ own-is j mine in
             let c : (current u v).capture ≡ x.capture = ap (λ z. (current u z).capture) e ∙ ap (λ (z : Current). z.capture) at-own in
-            subst (λ s. IsRead s (current u v).capture) (sym is) (subst (λ z. IsRead (with_step a (session_in S j)) z) (sym c) st.1)
+            subst (λ s. IsRead s (current u v).capture) (sym is) (subst (λ z. IsRead (with_step place a (session_in S j)) z) (sym c) st.1)
         | inr n ↦
             let d : (v ≡ w → ⊥) = (λ e. cc (n, eq-eqb v w e)) in
             let m : (w ≡ (session_in S j).worker → ⊥) = (λ e. d (sym own.1 ∙ sym e)) in
-            let is : session_in (map f S) j ≡ session_in S j = after-at j own.0 ∙ other_stays (ev (Worker w) a) (session_in S j) (ne_eqb w (session_in S j).worker m) in
+            let is : session_in (map f S) j ≡ session_in S j = after-at j own.0 ∙ other_stays place (ev (Worker w) a) (session_in S j) (ne_eqb w (session_in S j).worker m) in
             let c : (current u v).capture ≡ (current t v).capture = ap (λ (z : Current). z.capture) (at-other v d) in
             subst (λ s. IsRead s (current u v).capture) (sym is) (subst (λ z. IsRead (session_in S j) z) (sym c) (k.read v j old))
       ]
@@ -135,7 +136,7 @@ module _ (rules : List Rule) (S : List Begun) (t u : Table) (w : ℕ) (a : What)
         let m : j < length S = omega (arith, length-map S f) in
         let is = after-at j m in
         let stay : is_shut (f (session_in S j)).steps ≡ false = subst (λ (s : Begun). is_shut s.steps ≡ false) is o in
-        let old = k.newest j m (stays_open (ev (Worker w) a) (session_in S j) stay) in
+        let old = k.newest j m (stays_open place (ev (Worker w) a) (session_in S j) stay) in
         subst (λ (s : Begun). (current u s.worker).row ≡ Some j) (sym is) (same-row (session_in S j).worker ∙ old);
     own = λ v j o.
         let own = k.own v j (sym (same-row v) ∙ o) in
@@ -148,7 +149,7 @@ module _ (rules : List Rule) (S : List Begun) (t u : Table) (w : ℕ) (a : What)
 module _ (rules : List Rule) (S : List Begun) (t u : Table) (place w : ℕ) (n : Notif) (x : Current)
     (k : StandsFor rules S t) (over : AllShut w S) (small : w < 256) where
   abbrev pub started-one : Begun
-  started-one = record { place = place; worker = w; notif = n; steps = Recv (Ok n) ∷ [] }
+  started-one = record { place = place; worker = w; notif = n; steps = Recv (Ok n) ∷ []; stages = no_stages }
 
   pub joined_by : u.rows.items ≡ t.rows.items ++ told (judging_by rules) started-one ∷ [] → u.workers.items ≡ set t.workers.items w x
       → x.row ≡ Some (length t.rows.items) → Follows (plan n.call.nr n.call.args) [] x.capture → StandsFor rules (S ++ started-one ∷ []) u
@@ -210,13 +211,13 @@ module _ (rules : List Rule) (S : List Begun) (t u : Table) (place w : ℕ) (n :
 -- ---- One more event of a worker
 
 -- a worker that receives has no open session
-pub all_over : (w : ℕ) (n : Notif) (S : List Begun) → AllShut w (map (with_event (ev (Worker w) (Recv (Ok n)))) S)
-all_over w n S j l e =
-    let f : Begun → Begun = with_event (ev (Worker w) (Recv (Ok n))) in
+pub all_over : (place w : ℕ) (n : Notif) (S : List Begun) → AllShut w (map (with_event place (ev (Worker w) (Recv (Ok n)))) S)
+all_over place w n S j l e =
+    let f : Begun → Begun = with_event place (ev (Worker w) (Recv (Ok n))) in
     let m : j < length S = omega (arith, length-map S f) in
     let is : session_in (map f S) j ≡ f (session_in S j) = get_or-map f S j no_session no_session m in
     let mine : (session_in S j).worker ≡ w = subst (λ (s : Begun). s.worker ≡ w) is e in
-    subst (λ (s : Begun). is_shut s.steps ≡ true) (sym is) (receive_ends w n (session_in S j) mine)
+    subst (λ (s : Begun). is_shut s.steps ≡ true) (sym is) (receive_ends place w n (session_in S j) mine)
 
 any_default : {A : Type 0} (xs : List A) (i : ℕ) (d e : A) → i < length xs → get_or xs i d ≡ get_or xs i e
 any_default [] i d e l = absurd (omega arith)
@@ -224,39 +225,39 @@ any_default (x ∷ xs) zero d e l = refl
 any_default (x ∷ xs) (suc i) d e l = any_default xs i d e (omega arith)
 
 -- the table with one more step of a worker, where there was memory for it
-pub advanced_ok : (r : Result (Unit {0}) NoMemory) (rules : List Rule) (S : List Begun) (t u : Table) (w number : ℕ) (a : What) (old x d : Current)
+pub advanced_ok : (r : Result (Unit {0}) NoMemory) (rules : List Rule) (S : List Begun) (t u : Table) (place w number : ℕ) (a : What) (old x d : Current)
     → StandsFor rules S t → w < 256 → number ≡ w → skips a ≡ false → old ≡ get_or t.workers.items number d
-    → OnOk r (IsStepped rules a old x t.rows.items u.rows.items) → u.workers.items ≡ set t.workers.items number x → OnOk r (StandsFor rules (map (with_event (ev (Worker w) a)) S) u)
-advanced_ok (Err e) rules S t u w number a old x d k small e1 runs is g ws = tt
-advanced_ok (Ok v) rules S t u w number a old x d k small e1 runs is g ws =
+    → OnOk r (IsStepped rules place a old x t.rows.items u.rows.items) → u.workers.items ≡ set t.workers.items number x → OnOk r (StandsFor rules (map (with_event place (ev (Worker w) a)) S) u)
+advanced_ok (Err e) rules S t u place w number a old x d k small e1 runs is g ws = tt
+advanced_ok (Ok v) rules S t u place w number a old x d k small e1 runs is g ws =
     let l : w < length t.workers.items = omega (arith, k.workers) in
     let q : old ≡ current t w = is ∙ ap (λ i. get_or t.workers.items i d) e1 ∙ any_default t.workers.items w d nobody l in
-    advanced rules S t u w a x k small runs (subst (λ o. IsStepped rules a o x t.rows.items u.rows.items) q g) (ws ∙ ap (λ i. set t.workers.items i x) e1)
+    advanced rules S t u place w a x k small runs (subst (λ o. IsStepped rules place a o x t.rows.items u.rows.items) q g) (ws ∙ ap (λ i. set t.workers.items i x) e1)
 
 -- and with one more session
 pub begun_ok : (r : Result (Unit {0}) NoMemory) (rules : List Rule) (S : List Begun) (t u : Table) (place w number row : ℕ) (n : Notif) (x : Current)
     → StandsFor rules S t → AllShut w S → w < 256 → number ≡ w → row ≡ length t.rows.items
-    → u.rows.items ≡ t.rows.items ++ told (judging_by rules) (record { place = place; worker = w; notif = n; steps = Recv (Ok n) ∷ [] }) ∷ [] → u.workers.items ≡ set t.workers.items number x
+    → u.rows.items ≡ t.rows.items ++ told (judging_by rules) (record { place = place; worker = w; notif = n; steps = Recv (Ok n) ∷ []; stages = no_stages }) ∷ [] → u.workers.items ≡ set t.workers.items number x
     → OnOk r (x.row ≡ Some row) → OnOk r (Follows (plan n.call.nr n.call.args) [] x.capture)
-    → OnOk r (StandsFor rules (S ++ (record { place = place; worker = w; notif = n; steps = Recv (Ok n) ∷ [] }) ∷ []) u)
+    → OnOk r (StandsFor rules (S ++ (record { place = place; worker = w; notif = n; steps = Recv (Ok n) ∷ []; stages = no_stages }) ∷ []) u)
 begun_ok (Err e) rules S t u place w number row n x k over small e1 e2 rs ws o f = tt
 begun_ok (Ok v) rules S t u place w number row n x k over small e1 e2 rs ws o f =
     joined_by rules S t u place w n x k over small rs (ws ∙ ap (λ i. set t.workers.items i x) e1) (o ∙ ap Some e2) f
 
 -- a worker that received, and begins a session
 pub received_ok : (r : Result (Unit {0}) NoMemory) (rules : List Rule) (S : List Begun) (mid new : Table) (place w : ℕ) (a : What) (n : Notif) → fetched_by a ≡ Some n
-    → StandsFor rules (map (with_event (ev (Worker w) a)) S) mid
+    → StandsFor rules (map (with_event place (ev (Worker w) a)) S) mid
     → ((T : List Begun) → StandsFor rules T mid → AllShut w T → OnOk r (StandsFor rules (T ++ started place (Worker w) (Recv (Ok n))) new))
     → OnOk r (StandsFor rules (after_event place (ev (Worker w) a) S) new)
 received_ok r rules S mid new place w a n h k begins =
     let q : a ≡ Recv (Ok n) = was_received a n h in
-    let T = map (with_event (ev (Worker w) (Recv (Ok n)))) S in
-    let at : StandsFor rules T mid = subst (λ b. StandsFor rules (map (with_event (ev (Worker w) b)) S) mid) q k in
-    subst (λ b. OnOk r (StandsFor rules (after_event place (ev (Worker w) b) S) new)) (sym q) (begins T at (all_over w n S))
+    let T = map (with_event place (ev (Worker w) (Recv (Ok n)))) S in
+    let at : StandsFor rules T mid = subst (λ b. StandsFor rules (map (with_event place (ev (Worker w) b)) S) mid) q k in
+    subst (λ b. OnOk r (StandsFor rules (after_event place (ev (Worker w) b) S) new)) (sym q) (begins T at (all_over place w n S))
 
 pub nothing_ok : (rules : List Rule) (S : List Begun) (new : Table) (place w : ℕ) (a : What) → fetched_by a ≡ None
-    → StandsFor rules (map (with_event (ev (Worker w) a)) S) new → StandsFor rules (after_event place (ev (Worker w) a) S) new
-nothing_ok rules S new place w a h k = rw (nothing_received place w a h, append-nil (map (with_event (ev (Worker w) a)) S)) k
+    → StandsFor rules (map (with_event place (ev (Worker w) a)) S) new → StandsFor rules (after_event place (ev (Worker w) a) S) new
+nothing_ok rules S new place w a h k = rw (nothing_received place w a h, append-nil (map (with_event place (ev (Worker w) a)) S)) k
 
 -- before all events
 pub none_stand : (rules : List Rule) (H : List Event) (t : Table) → H ≡ [] → StandsFor rules [] t → StandsFor rules (begun H H) t

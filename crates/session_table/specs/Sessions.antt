@@ -9,10 +9,11 @@ use Rattle.hist_model.specs.declared.event.Event.{Event}
 use Rattle.hist_model.specs.declared.event.What.{What}
 use Rattle.hist_model.specs.declared.event.What.TheVariants.{Recv}
 use Rattle.session_facts.specs.Begun.{Begun}
+use Rattle.session_facts.specs.Stages.{no_stages, stages_at, stages_step}
 
 -- in the history H, the session that the step after K begins, if it begins one
 abbrev pub begun_by : List Event → List Event → Actor → What → List Begun
-begun_by H K (Worker w) (Recv (Ok notif)) = record { place = length K; worker = w; notif = notif; steps = session_at w (length K) H } ∷ []
+begun_by H K (Worker w) (Recv (Ok notif)) = record { place = length K; worker = w; notif = notif; steps = session_at w (length K) H; stages = stages_at w (length K) H } ∷ []
 begun_by H K _ _ = []
 
 -- in the history H, the sessions that were begun in K, the oldest first
@@ -22,15 +23,21 @@ begun H (e ∷ K) = begun H K ++ begun_by H K e.who e.what
 
 -- ---- One more event
 
--- a session with one more event, which doesn't begin it
-abbrev pub with_event : Event → Begun → Begun
-with_event e s = record { place = s.place; worker = s.worker; notif = s.notif; steps = session_step false (is_worker e.who s.worker && not (skips e.what)) s.steps e.what }
+-- a session with one more event, which has this place and doesn't begin it
+abbrev pub with_event : ℕ → Event → Begun → Begun
+with_event place e s = record {
+  place = s.place;
+  worker = s.worker;
+  notif = s.notif;
+  steps = session_step false (is_worker e.who s.worker && not (skips e.what)) s.steps e.what;
+  stages = stages_step false (is_worker e.who s.worker && not (skips e.what)) place s.steps e.what s.stages;
+}
 
 -- the session that a step at this place begins, if it begins one
 abbrev pub started : ℕ → Actor → What → List Begun
-started place (Worker w) (Recv (Ok notif)) = record { place = place; worker = w; notif = notif; steps = Recv (Ok notif) ∷ [] } ∷ []
+started place (Worker w) (Recv (Ok notif)) = record { place = place; worker = w; notif = notif; steps = Recv (Ok notif) ∷ []; stages = no_stages } ∷ []
 started place _ _ = []
 
 -- all sessions with one more event, which has this place
 abbrev pub after_event : ℕ → Event → List Begun → List Begun
-after_event place e sessions = map (with_event e) sessions ++ started place e.who e.what
+after_event place e sessions = map (with_event place e) sessions ++ started place e.who e.what

@@ -5,13 +5,14 @@ use Rattle.hist_model.specs.declared.policy.Rule.{Rule}
 use Rattle.session_facts.specs.Begun.{Begun, IsRead, told, with_step}
 use Rattle.hist_model.specs.declared.event.What.{What}
 use Rattle.arg_capture.specs.Captures.{Captured}
+use Rattle.session_facts.specs.Stages.{no_stages}
 use Rattle.session_facts.specs.declared.session.Session.{Session}
 use Rattle.session_table.specs.declared.table.Current.{Current}
 use Rattle.session_table.specs.declared.table.Table.{Table}
 
 -- what is found past the end of a list
 abbrev pub no_session : Begun
-no_session = record { place = 0; worker = 0; notif = record { id = 0; pid = 0; flags = 0; call = record { nr = pos 0; arch = 0; ip = 0; args = [] } }; steps = [] }
+no_session = record { place = 0; worker = 0; notif = record { id = 0; pid = 0; flags = 0; call = record { nr = pos 0; arch = 0; ip = 0; args = [] } }; steps = []; stages = no_stages }
 
 abbrev pub nobody : Current
 nobody = record { row = None; capture = record { reached = record { texts = []; taken = []; parts = []; rooms = 0; places = 0 }; fault = None } }
@@ -26,16 +27,16 @@ current t w = get_or t.workers.items w nobody
 abbrev pub no_row : Session
 no_row = told (judging_by []) no_session
 
--- one more step in the session of this row, if there is one
-abbrev pub IsRowStepped : List Rule → What → Captured → Captured → List Session → List Session → Option ℕ → Type 0
-IsRowStepped rules a c d before after None = after ≡ before
-IsRowStepped rules a c d before after (Some i) =
+-- one more step, which has this place, in the session of this row, if there is one
+abbrev pub IsRowStepped : List Rule → ℕ → What → Captured → Captured → List Session → List Session → Option ℕ → Type 0
+IsRowStepped rules place a c d before after None = after ≡ before
+IsRowStepped rules place a c d before after (Some i) =
     i < length before → (s : Begun) → get_or before i no_row ≡ told (judging_by rules) s → IsRead s c
-    → (after ≡ set before i (told (judging_by rules) (with_step a s))) × IsRead (with_step a s) d
+    → (after ≡ set before i (told (judging_by rules) (with_step place a s))) × IsRead (with_step place a s) d
 
 -- one more step of a worker in the session that it is in
-abbrev pub IsStepped : List Rule → What → Current → Current → List Session → List Session → Type 0
-IsStepped rules a old new before after = (new.row ≡ old.row) × IsRowStepped rules a old.capture new.capture before after old.row
+abbrev pub IsStepped : List Rule → ℕ → What → Current → Current → List Session → List Session → Type 0
+IsStepped rules place a old new before after = (new.row ≡ old.row) × IsRowStepped rules place a old.capture new.capture before after old.row
 
 -- an open session is its worker's current one, and what is read in it goes through that worker's capture
 pub record StandsFor (rules : List Rule) (S : List Begun) (t : Table) : Type 0 where

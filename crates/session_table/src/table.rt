@@ -20,6 +20,7 @@ use hist_model::policy::Policy;
 use hist_model::report::Finding;
 use session_facts::facts::Facts;
 use session_facts::session::Session;
+use session_facts::stages::Stages;
 use std::alloc::Global;
 use sys_abi::memory::NoMemory;
 use sys_abi::wire::Notif;
@@ -62,25 +63,27 @@ fn received(what: &What) -> Option<Notif>
     }
 }
 
-/// One more step in the session of a row, whose reads the capture takes.
+/// One more step, which has this place, in the session of a row, whose reads the capture takes.
 fn advance_row(
     policy: &Policy,
+    place: usize,
     rows: &mut Vec<Session>,
     row: usize,
     capture: &mut Capture,
     what: &What,
 ) -> Result<(), NoMemory>
-    ensures { OnOk result (IsRowStepped policy.now.rules what.now capture.old capture.new rows.old.items rows.new.items (Some row)) }
+    ensures { OnOk result (IsRowStepped policy.now.rules place what.now capture.old capture.new rows.old.items rows.new.items (Some row)) }
 {
     if row < rows.len() {
         let before = rows[row];
-        let (facts, back, found): (Facts, Option<Back>, Finding) = before.after(
-            policy, capture, what,
+        let (facts, back, found, stages): (Facts, Option<Back>, Finding, Stages) = before.after(
+            policy, place, capture, what,
         )?;
         rows[row] = Session {
             facts,
             back,
             found,
+            stages,
             ..before
         };
     }
@@ -88,17 +91,18 @@ fn advance_row(
 }
 
 impl Current {
-    /// One more step of the worker, in the session that it is in.
+    /// One more step of the worker, which has this place, in the session that it is in.
     fn step(
         &mut self,
         policy: &Policy,
+        place: usize,
         rows: &mut Vec<Session>,
         what: &What,
     ) -> Result<(), NoMemory>
-        ensures { OnOk result (IsStepped policy.now.rules what.now self.old self.new rows.old.items rows.new.items) }
+        ensures { OnOk result (IsStepped policy.now.rules place what.now self.old self.new rows.old.items rows.new.items) }
     {
         match self.row {
-            Some(row) => advance_row(policy, rows, row, &mut self.capture, what),
+            Some(row) => advance_row(policy, place, rows, row, &mut self.capture, what),
             None => Ok(()),
         }
     }
@@ -140,17 +144,23 @@ impl Table {
         })
     }
 
-    /// One more step of a worker, which is no skip, in the session that it is in.
-    fn advance(&mut self, policy: &Policy, worker: u8, what: &What) -> Result<(), NoMemory>
+    /// One more step of a worker, which has this place and is no skip, in the session that it is in.
+    fn advance(
+        &mut self,
+        policy: &Policy,
+        place: usize,
+        worker: u8,
+        what: &What,
+    ) -> Result<(), NoMemory>
         requires { skips what.now ≡ false }
-        ensures { (S : List Begun) → StandsFor policy.now.rules S self.old → OnOk result (StandsFor policy.now.rules (map (with_event (ev (Worker worker) what.now)) S) self.new) }
+        ensures { (S : List Begun) → StandsFor policy.now.rules S self.old → OnOk result (StandsFor policy.now.rules (map (with_event place (ev (Worker worker) what.now)) S) self.new) }
     {
         let number = usize::from(worker);
         if number >= self.workers.len() {
             return Ok(());
         }
         let current = &mut self.workers[number];
-        current.step(policy, &mut self.rows, what)
+        current.step(policy, place, &mut self.rows, what)
     }
 
     /// A worker, all of whose sessions are over, begins one with the notification at a place.
@@ -171,6 +181,7 @@ impl Table {
             facts,
             back,
             found: Finding::Open,
+            stages: Stages::NONE,
         })?;
         let current = &mut self.workers[number];
         current.begin(self.alloc, row, notif)
@@ -189,7 +200,7 @@ impl Table {
         if is_skip(what) {
             return Ok(());
         }
-        self.advance(policy, worker, what)?;
+        self.advance(policy, place, worker, what)?;
         match received(what) {
             Some(notif) => self.begin(place, worker, &notif),
             None => Ok(()),
