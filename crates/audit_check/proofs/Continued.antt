@@ -1,8 +1,7 @@
 -- A legal history that isn't closed goes on, by as many events as are wanted: worker 0 can always step, and its step is no close.
 -- By induction on their number, and by what a worker's step can be.
-use Rattle.std.proofs.Common.{◌≡◌, ℕ, zero, suc, ◌+◌, ◌<◌, Bool, true, false, List, [], ◌∷◌, ◌++◌, length, refl, ap, sym, ◌∙◌, arith}
+use Rattle.std.proofs.Common.{◌≡◌, ℕ, zero, suc, false, List, [], ◌∷◌, ◌++◌, length, refl, ap}
 use Rattle.hist_model.specs.Kinds.{closes}
-use Rattle.hist_model.specs.Legal.{rules_of, system_of}
 use Rattle.hist_model.specs.Look.{ev}
 use Rattle.hist_model.specs.Sessions.{Rules}
 use Rattle.hist_model.specs.Steps.{IsLegal, start, step}

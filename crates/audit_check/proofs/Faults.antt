@@ -1,13 +1,13 @@
 -- Bytes are the report of one legal history at most, and have one fault line at most, exactly where they are no report.
 -- By the pass over their lines, which finds a fault where they begin no report, and comes to a report's end where they are one.
-use Rattle.std.proofs.Common.{inl, inr, ◌≡◌, ℕ, zero, suc, ◌+◌, ◌<◌, ◌≤◌, true, false, List, [], length, take, add-one, refl, sym, ap, ◌∙◌, arith}
+use Rattle.std.proofs.Common.{inl, inr, ◌≡◌, ℕ, ◌+◌, ◌<◌, ◌≤◌, false, List, [], length, take, sym, ap, ◌∙◌, arith}
 use Rattle.std.proofs.lemmas.Bool.{both_ways, cases_order}
-use Rattle.std.proofs.lemmas.List.{take-append-drop, take-take, take_all}
+use Rattle.std.proofs.lemmas.List.{take-take, take_all}
 use Rattle.hist_model.specs.PolicyRules.{IsPolicy}
 use Rattle.hist_model.specs.declared.event.Event.{Event}
 use Rattle.hist_model.specs.declared.policy.Policy.{Policy}
 use Rattle.hist_model.specs.declared.script.Script.{Script}
-use Rattle.audit_check.specs.Lines.{AgreeOn, lines}
+use Rattle.audit_check.specs.Lines.{lines}
 use Rattle.audit_check.specs.Reading.{EndsAtFault, EndsBehind, Rest, is_fault, reached}
 use Rattle.audit_check.specs.Reported.{BeginsReport, IsFaultLine, IsReported, IsUnique, report_by}
 use Rattle.audit_check.proofs.Lines.{agree_past}

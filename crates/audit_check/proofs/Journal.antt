@@ -1,14 +1,13 @@
 -- Each line of a legal history's journal is a line: its last byte alone is a 10.
 -- By cases on what happened; the one text that stands in a line as it is names the program of a granted mount, and the policy keeps its name free of that byte.
-use Rattle.std.proofs.Common.{◌≡◌, ℕ, zero, suc, ◌+◌, ◌<◌, ◌≤◌, Bool, true, false, ◌||◌, ◌&&◌, List, [], ◌∷◌, ◌++◌, length, Option, Some, None, refl, sym, ap, ◌∙◌, subst, append_assoc, arith}
-use Rattle.std.specs.Prelude.{if◌then◌else◌, ◌==◌, ◌%◌, Result, Ok, Err, ℤ, decimal, codes}
+use Rattle.std.proofs.Common.{◌≡◌, ℕ, Bool, true, false, List, [], ◌∷◌, ◌++◌, Option, Some, None, refl}
+use Rattle.std.specs.Prelude.{◌==◌, ◌%◌, Result, Ok, Err, ℤ, decimal}
 use Rattle.sys_abi.specs.declared.wire.Addfd.{Addfd}
 use Rattle.sys_abi.specs.declared.wire.Notif.{Notif}
 use Rattle.hist_model.specs.Look.{Name}
 use Rattle.hist_model.specs.Requests.{kind_of}
-use Rattle.hist_model.specs.ReportWords.{hex, or_dash, trimmed}
-use Rattle.hist_model.specs.ReportJournal.{args_text, asked_text, delivered_text, entered_text, event_line, journal_line, lines_of, maker_text, mode_text, node_text, read_text, reaped_text, received_text, request_text, shift_text, spawn_kind_text, spawned_text, target_text, what_text}
-use Rattle.hist_model.specs.declared.event.Event.{Event}
+use Rattle.hist_model.specs.ReportWords.{or_dash, trimmed}
+use Rattle.hist_model.specs.ReportJournal.{args_text, asked_text, delivered_text, entered_text, maker_text, mode_text, node_text, read_text, reaped_text, received_text, request_text, shift_text, spawn_kind_text, spawned_text, target_text, what_text}
 use Rattle.hist_model.specs.declared.event.What.{What}
 use Rattle.hist_model.specs.declared.event.What.TheVariants.{Spawn, Poke, Handler, Enter, Native, Install, Resume, Signal, Deliver, Reap, Exit, Recv, OpenMem, OpenBase, Check, Read, Act, Plant, AddfdPut, AddfdTake, Send, LetGo, Skip, Close}
 use Rattle.hist_model.specs.declared.event.SpawnKind.{SpawnKind}
@@ -24,7 +23,7 @@ use Rattle.hist_model.specs.declared.request.Request.TheVariants.{Mknod, Mount, 
 use Rattle.hist_model.specs.declared.request.Kind.{Kind}
 use Rattle.hist_model.specs.declared.request.Kind.TheVariants.{Reg, Chr, Blk, Fifo, Sock, Dir, Bad}
 use Rattle.audit_check.proofs.Lines.{is_plain, lacks_append}
-use Rattle.audit_check.proofs.Plain.{lacks_flat, plain_actor, plain_back, plain_call, plain_decimal, plain_errno, plain_hex, plain_hex_or_dash, plain_name, plain_number, plain_quoted, plain_result, plain_signed}
+use Rattle.audit_check.proofs.Plain.{lacks_flat, plain_back, plain_call, plain_decimal, plain_errno, plain_hex, plain_hex_or_dash, plain_name, plain_number, plain_quoted, plain_result, plain_signed}
 
 ruleset texts = (lacks_append, plain_back, plain_call, plain_decimal, plain_errno, plain_hex, plain_hex_or_dash, plain_name, plain_number, plain_quoted, plain_result, plain_signed)
 

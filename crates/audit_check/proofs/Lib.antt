@@ -6,3 +6,4 @@ pub mod Programs
 pub mod Continued
 pub mod Reading
 pub mod Faults
+pub mod Traced

@@ -1,9 +1,9 @@
 -- The line of an event tells its actor, and a title its number: what is read of each is what was written.
 -- By splitting a line at its spaces and a name at its points, which numbers lack, and by the digits of a number.
-use Rattle.std.proofs.Common.{◌≡◌, ℕ, zero, suc, ◌+◌, ◌-◌, ◌<◌, ◌≤◌, ◌^◌, Bool, true, false, ◌&&◌, List, [], ◌∷◌, ◌++◌, length, get_or, take, drop, Option, Some, None, refl, sym, ap, ap₂, ◌∙◌, append_assoc, append-nil, rules, arith}
-use Rattle.std.specs.Prelude.{if◌then◌else◌, ◌==◌, nat_le, All, map, decimal, codes, bytes_eq}
+use Rattle.std.proofs.Common.{◌≡◌, ℕ, ◌-◌, ◌<◌, ◌≤◌, ◌^◌, Bool, true, false, ◌&&◌, List, [], ◌∷◌, ◌++◌, length, get_or, take, drop, Some, refl, ap, ap₂, ◌∙◌, append_assoc, append-nil, rules, arith}
+use Rattle.std.specs.Prelude.{◌==◌, nat_le, All, map, decimal, codes}
 use Rattle.std.specs.List.{flat_map, list_all, slice_split}
-use Rattle.std.proofs.lemmas.Bool.{and_from, and_parts, eqb-true, leb-true, le-leb}
+use Rattle.std.proofs.lemmas.Bool.{and_parts, eqb-true, leb-true, le-leb}
 use Rattle.std.proofs.lemmas.Fmt.{decimal_nonempty, digits_decimal, digits_value-decimal, length-decimal-le}
 use Rattle.std.proofs.lemmas.List.{length-append, take_at}
 use Rattle.std.proofs.lemmas.List.Elements.{All-cons, All-nil}
@@ -14,7 +14,7 @@ use Rattle.hist_model.specs.Names.{is_child_number, is_task_name}
 use Rattle.hist_model.specs.ReportJournal.{event_line, title, what_text}
 use Rattle.hist_model.specs.ReportWords.{actor_text, name_text}
 use Rattle.hist_model.specs.Steps.{is_actor}
-use Rattle.hist_model.specs.Words.{is_digit, is_number, number_after, number_between}
+use Rattle.hist_model.specs.Words.{is_digit, number_after, number_between}
 use Rattle.hist_model.specs.declared.event.Actor.{Actor}
 use Rattle.hist_model.specs.declared.event.Actor.TheVariants.{Start, Task, Worker, Listener}
 use Rattle.hist_model.specs.declared.event.Event.{Event}
@@ -105,8 +105,10 @@ told_is_actor line a q = by (get_or (slice_split (λ b. b == 32) line) 1 []) q
   where
     task : (n : Name) → task_of n ≡ Some a → is_actor a ≡ true
     task n q = grind arith
+
     worker : (word : List ℕ) → worker_of (number_between 0 16 word) ≡ Some a → is_actor a ≡ true
     worker word q = grind arith
+
     by : (word : List ℕ) → actor_of word ≡ Some a → is_actor a ≡ true
     by [] q = cc
     by (b ∷ word) q = grind (arith, task, worker)

@@ -1,15 +1,15 @@
 -- Which bytes the words of a report lack: decimal numbers, the small ones; names, errors and quoted bytes, the byte 10.
 -- By induction on the digits, the bytes and the tables of names.
-use Rattle.std.proofs.Common.{inl, inr, ◌≡◌, ℕ, zero, suc, ◌+◌, ◌<◌, ◌≤◌, Bool, true, false, ◌||◌, ◌&&◌, List, [], ◌∷◌, ◌++◌, Option, Some, None, refl, sym, ap, ◌∙◌, subst, arith}
-use Rattle.std.specs.Prelude.{if◌then◌else◌, ◌==◌, ◌/◌, ◌%◌, nat_lt, nat_le, Result, Ok, Err, ℤ, pos, negsuc, decimal, codes, find}
+use Rattle.std.proofs.Common.{inl, inr, ◌≡◌, ℕ, zero, suc, ◌+◌, ◌<◌, ◌≤◌, Bool, true, false, ◌||◌, ◌&&◌, List, [], ◌∷◌, Option, Some, None, refl, sym, subst, arith}
+use Rattle.std.specs.Prelude.{if◌then◌else◌, ◌==◌, ◌/◌, ◌%◌, nat_lt, nat_le, Result, Ok, Err, ℤ, pos, negsuc, decimal, codes}
 use Rattle.std.specs.Fmt.{digit_glyph, digits, digits_onto, signed_decimal}
 use Rattle.std.specs.List.{flat_map, list_all}
-use Rattle.std.proofs.lemmas.Bool.{and_parts, cases_Bool, eqb-true, ltb-true, ltb-false, ne_eqb}
+use Rattle.std.proofs.lemmas.Bool.{and_parts, cases_Bool, eqb-true, ne_eqb}
 use Rattle.sys_abi.specs.Calls.{call_name_of, calls}
 use Rattle.sys_abi.specs.Errnos.{errno_name, errnos}
 use Rattle.sys_abi.specs.Names.{name_in}
 use Rattle.hist_model.specs.Look.{Name}
-use Rattle.hist_model.specs.ReportWords.{actor_text, back_text, call_text, errno_text, hex, hex_byte, hex_digit, hex_or_dash, name_text, number_text, quoted, quoted_byte, result_text, trimmed}
+use Rattle.hist_model.specs.ReportWords.{actor_text, back_text, call_text, errno_text, hex, hex_byte, hex_digit, hex_or_dash, name_text, number_text, quoted, quoted_byte, result_text}
 use Rattle.hist_model.specs.declared.event.Actor.{Actor}
 use Rattle.hist_model.specs.declared.event.Actor.TheVariants.{Start, Task, Worker, Listener}
 use Rattle.hist_model.specs.declared.event.Back.{Back}
@@ -109,6 +109,7 @@ plain_call nr = by (call_name_of nr) refl
     named : (z : ℤ) (name : List ℕ) → call_name_of z ≡ Some name → is_plain name ≡ true
     named (pos n) name q = named-plain calls refl n name q
     named (negsuc n) name q = cc
+
     by : (o : Option (List ℕ)) → call_name_of nr ≡ o → is_plain (call_text nr) ≡ true
     by (Some name) q = rw q (named nr name q)
     by None q = rw q (plain_signed nr)

@@ -1,16 +1,16 @@
 -- No step of a legal history makes a mount whose program's name has a byte 10.
 -- By what a policy keeps: a program has one of the short names of its switches, and a granted request has the rule's program.
-use Rattle.std.proofs.Common.{inl, inr, ◌≡◌, ℕ, zero, suc, ◌+◌, ◌<◌, ◌≤◌, Bool, true, false, ◌&&◌, List, [], ◌∷◌, ◌++◌, length, Option, Some, None, refl, sym, ap, ◌∙◌, subst, arith}
-use Rattle.std.specs.Prelude.{if◌then◌else◌, ◌==◌, All, map, slice_get, Result, ℤ, pos, negsuc}
+use Rattle.std.proofs.Common.{inl, inr, ◌≡◌, ℕ, zero, suc, Bool, true, false, ◌&&◌, List, [], ◌∷◌, ◌++◌, Option, Some, None, refl, sym, ap, subst, arith}
+use Rattle.std.specs.Prelude.{◌==◌, All, map, slice_get, Result, ℤ, pos, negsuc}
 use Rattle.std.specs.List.{list_all}
 use Rattle.std.proofs.lemmas.Bool.{and_from, and_parts, cases_Bool, eqb-true}
 use Rattle.std.proofs.lemmas.List.Elements.{All-head, All-tail}
 use Rattle.sys_abi.specs.declared.wire.Notif.{Notif}
 use Rattle.hist_model.specs.Copies.{Progress, Wants, Complete, Faulty}
-use Rattle.hist_model.specs.Decisions.{Switches, all_rules, cap_of, decide, default_rules, granted_by, granted_where, lxd_fuse_rule, lxd_mknod_rules, lxd_mount_rule, lxd_mount_rules, lxd_rules, lxd_setxattr_rule, lxd_sysinfo_rule, where_on}
+use Rattle.hist_model.specs.Decisions.{Switches, decide, default_rules, granted_by, granted_where, lxd_fuse_rule, lxd_mknod_rules, lxd_mount_rule, lxd_mount_rules, lxd_rules, lxd_setxattr_rule, lxd_sysinfo_rule, where_on}
 use Rattle.hist_model.specs.Legal.{decision, judged, rules_of, system_of}
-use Rattle.hist_model.specs.PolicyRules.{AreOwnRules, AreSwitches, IsOwnRule, IsPolicy}
-use Rattle.hist_model.specs.Requests.{request, request_numbered}
+use Rattle.hist_model.specs.PolicyRules.{AreSwitches, IsOwnRule, IsPolicy}
+use Rattle.hist_model.specs.Requests.{request}
 use Rattle.hist_model.specs.RuleParts.{is_filled, is_short_name, is_short_name_byte}
 use Rattle.hist_model.specs.Sessions.{Acts}
 use Rattle.hist_model.specs.Steps.{IsStep}
@@ -25,7 +25,6 @@ use Rattle.hist_model.specs.declared.policy.Rule.{Rule}
 use Rattle.hist_model.specs.declared.policy.Verdict.{Verdict}
 use Rattle.hist_model.specs.declared.policy.Verdict.TheVariants.{Grant, Deny, Pass, Inject}
 use Rattle.hist_model.specs.declared.request.Request.{Request}
-use Rattle.hist_model.specs.declared.request.Request.TheVariants.{Mknod, Mount, SetXattr, OpenAt, Sysinfo, Other}
 use Rattle.hist_model.specs.declared.script.Figures.{Figures}
 use Rattle.hist_model.specs.declared.script.Script.{Script}
 use Rattle.mediation.proofs.Rows.{Row, row-of}
@@ -117,6 +116,7 @@ granted-plain rules h i q none = by (slice_get rules i) refl
   where
     one : (rule : Rule) → is_plain rule.via ≡ true → is_plain (via_of (granted_where (Some rule) q)) ≡ true
     one rule g = grind arith
+
     by : (o : Option Rule) → slice_get rules i ≡ o → is_plain (via_of (granted_where o q)) ≡ true
     by None e = ap is_plain none
     by (Some rule) e = one rule (at-place rules h i rule e)
@@ -131,6 +131,7 @@ decided-plain P F h n (Complete texts) q limit e =
   where
     granted : (asked : Request) (i : ℕ) → is_plain (via_of (granted_by P.rules i asked)) ≡ true → decision P F asked i Grant ≡ Acts q limit → is_plain (via_of q) ≡ true
     granted asked i g e = grind arith
+
     by : (asked : Request) (i : ℕ) → is_plain (via_of (granted_by P.rules i asked)) ≡ true → (v : Verdict) → decision P F asked i v ≡ Acts q limit → is_plain (via_of q) ≡ true
     by asked i g Grant e = granted asked i g e
     by asked i g (Deny x) e = cc

@@ -3,10 +3,10 @@
 -- closed goes on (`goes_on`).
 use Rattle.std.proofs.Common.{inl, inr, ◌⊎◌, ◌≡◌, ℕ, zero, suc, ◌+◌, ◌-◌, ◌<◌, ◌≤◌, ◌^◌, Bool, true, false, ◌&&◌, ◌||◌, not, List, [], ◌∷◌, ◌++◌, length, take, drop, Option, Some, None, refl, sym, ap, ap₂, ◌∙◌, subst, append_assoc, append-nil, arith}
 use Rattle.std.specs.Prelude.{if◌then◌else◌, ◌==◌, nat_le, bytes_eq, codes, decimal}
-use Rattle.std.proofs.lemmas.Bool.{and_parts, cases_Bool, eqb-true, eq-eqb, leb-true, ne_eqb, or_parts, both_ways}
-use Rattle.std.proofs.lemmas.List.{length-append, length-take-le, take-append-drop, take_all, take_at}
+use Rattle.std.proofs.lemmas.Bool.{and_parts, cases_Bool, leb-true, ne_eqb, or_parts, both_ways}
+use Rattle.std.proofs.lemmas.List.{length-append, length-take-le, take-append-drop, take_at}
 use Rattle.hist_model.specs.Kinds.{closes}
-use Rattle.hist_model.specs.Legal.{Legal, rules_of, started, system_of, with_step}
+use Rattle.hist_model.specs.Legal.{Legal, rules_of, started, system_of}
 use Rattle.hist_model.specs.Look.{ev}
 use Rattle.hist_model.specs.PolicyRules.{IsPolicy}
 use Rattle.hist_model.specs.Report.{summary}
@@ -21,14 +21,13 @@ use Rattle.hist_model.specs.declared.event.Event.{Event}
 use Rattle.hist_model.specs.declared.policy.Policy.{Policy}
 use Rattle.hist_model.specs.declared.script.Script.{Script}
 use Rattle.hist_model.proofs.Look.{name_eq-refl, name_eq-true}
-use Rattle.mediation.proofs.Journals.{same-step}
 use Rattle.audit_check.specs.Actors.{actor_in}
-use Rattle.audit_check.specs.Lines.{AgreeOn, lines}
+use Rattle.audit_check.specs.Lines.{lines}
 use Rattle.audit_check.specs.Reading.{Reached, Title, Journal, Rest, Fault, FindsFaults, FindsReports, behind, behind_event, behind_title, is_closed, is_fault, reached, rest_of, stepped, title_word, with_line, with_lines}
-use Rattle.audit_check.specs.Reported.{BeginsReport, IsFaultLine, IsReported, report_by}
-use Rattle.audit_check.proofs.Continued.{More, goes_on}
+use Rattle.audit_check.specs.Reported.{BeginsReport, IsReported, report_by}
+use Rattle.audit_check.proofs.Continued.{goes_on}
 use Rattle.audit_check.proofs.Journal.{plain_what}
-use Rattle.audit_check.proofs.Lines.{agree_past, is_plain, lacks_append, line_first, same_lines}
+use Rattle.audit_check.proofs.Lines.{is_plain, lacks_append, line_first, same_lines}
 use Rattle.audit_check.proofs.Named.{actor_told, title_told, told_is_actor}
 use Rattle.audit_check.proofs.Plain.{plain_actor, plain_decimal}
 use Rattle.audit_check.proofs.Programs.{plain_via}
@@ -205,6 +204,7 @@ module _ (P : Policy) (S : Script) where
     where
       v : ℕ
       v = number_after 0 word
+
       by : (b : Bool) → (is_number word && (nat_le 1 v && nat_le v (2 ^ 64 - 1))) ≡ b → (if b then Some v else None) ≡ Some n → (1 ≤ n) × (n < 2 ^ 64)
       by false h q = cc
       by true h q =
@@ -225,6 +225,7 @@ module _ (P : Policy) (S : Script) where
       tested : (n : ℕ) → (1 ≤ n) × (n < 2 ^ 64) → (b : Bool) → bytes_eq (titled n) line ≡ b → Sound (line ∷ []) (if b then behind P [] n else Fault)
       tested n l false h = tt
       tested n l true h = title-heard line n l.0 l.1 (name_eq-true (titled n) line h)
+
       by : (o : Option ℕ) → number_between 1 (2 ^ 64 - 1) (title_word line) ≡ o → Sound (line ∷ []) (behind_title P line o)
       by None q = tt
       by (Some n) q = tested n (counted (title_word line) n q) (bytes_eq (titled n) line) refl
@@ -267,6 +268,7 @@ module _ (P : Policy) (S : Script) where
             let p = and_parts (bytes_eq (event_line (length K) e) line) (not (closes e.what) || (more == 0)) q in
             let same = name_eq-true (event_line (length K) e) line p.0 in
             subst (λ text. Sound (front ++ text ∷ []) (behind P (e ∷ K) more)) same (event-heard front K e more h step p.1)
+
         by : (o : Option Actor) → actor_in line ≡ o → Sound (front ++ line ∷ []) (behind_event P line more (stepped P S K o))
         by None q = tt
         by (Some a) q = elim (taken K a (told_is_actor line a q)) [
@@ -315,6 +317,7 @@ module _ (P : Policy) (S : Script) where
         there h = let size : length (take n (lines bytes)) ≡ n = length-take-le n (lines bytes) l in
             let b = begins (take n (lines bytes)) (reached P S (take n (lines bytes))) (sound [] (take n (lines bytes)) Title refl) h in
             (b.0, b.1, sym (subst (λ k. take k (lines (report_by P b.0)) ≡ take n (lines bytes)) size b.2))
+
         back : BeginsReport P S bytes n → is_fault (reached P S (take n (lines bytes))) ≡ false
         back b =
             let text = lines (report_by P b.0) in

@@ -2,3 +2,5 @@ pub mod Lines
 pub mod Reported
 pub mod Actors
 pub mod Reading
+pub mod Trail
+pub mod Traced

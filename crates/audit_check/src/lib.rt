@@ -11,3 +11,5 @@
 #![tactic(auto)]
 
 pub mod laws;
+pub mod trace;
+pub mod trail;

@@ -216,6 +216,7 @@ answered_told K e records queue t r = by (gave e.what) (call_of e.who (task_fact
     own Start h = cc
     own (Worker w) h = cc
     own Listener h = cc
+
     pending : (o : Option ℕ) → first_at (pending_call o records) queue ≡ true → pending_call o records ≡ o
     pending None h = cc
     pending (Some c) h = chosen (is_pending (get_or records c no_record).outcome) h
@@ -223,6 +224,7 @@ answered_told K e records queue t r = by (gave e.what) (call_of e.who (task_fact
         chosen : (b : Bool) → first_at (if b then Some c else None) queue ≡ true → (if b then Some c else None) ≡ Some c
         chosen true h = refl
         chosen false h = cc
+
     by : (g : Bool) (o n : Option ℕ) → newest_call (task_name e.who) K ≡ n → first_at (pending_call o records) queue ≡ installs_for_send K e n
         → (first_at (pending_call o records) queue ≡ true → o ≡ n)
         → (if g && first_at (pending_call o records) queue then pending_call o records else None) ≡ (if g && installs_for_send K e n then n else None)
@@ -284,6 +286,7 @@ answer_is K e = by (gave e.what) (newest_call (task_name e.who) K)
     same : (b : Bool) (c : ℕ) → is_some (if b then Some c else None) ≡ b
     same true c = refl
     same false c = refl
+
     by : (g : Bool) (n : Option ℕ) → (is_sent e.what || is_some (if g && installs_for_send K e n then n else None)) ≡ (is_sent e.what || (g && installs_for_send K e n))
     by false n = refl
     by true None = refl

@@ -1,6 +1,6 @@
 -- What is kept of each event by its place, with one more event.
 -- By cases on whether the event is the last one.
-use Rattle.std.proofs.Common.{◌≡◌, ℕ, ◌+◌, ◌<◌, List, [], ◌∷◌, ◌++◌, length, get_or, Option, None, sym, ap, subst, ◌∙◌, arith}
+use Rattle.std.proofs.Common.{◌≡◌, ℕ, ◌+◌, ◌<◌, List, [], ◌∷◌, ◌++◌, length, Option, None, sym, ap, subst, ◌∙◌, arith}
 use Rattle.std.proofs.lemmas.List.{length-append, get_or_at, get_or_append_left}
 use Rattle.hist_model.specs.declared.event.Event.{Event}
 use Rattle.audit_log.specs.ByPlace.{ByPlace}

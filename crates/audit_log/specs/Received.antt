@@ -1,5 +1,5 @@
 -- What is kept of ids while the events are gone through: the newest call with each, and of each notification the call that it names.
-use Rattle.std.specs.Prelude.{◌≡◌, ℕ, List, ◌∷◌, ◌++◌, length, get_or, Option, None, Ok}
+use Rattle.std.specs.Prelude.{◌≡◌, ℕ, List, Option, None, Ok}
 use Rattle.std.specs.BTreeMap.{get}
 use Rattle.std.specs.Ordering.{nat_cmp}
 use Rattle.hist_model.specs.ReportAudit.{call_with_id}

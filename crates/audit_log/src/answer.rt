@@ -41,10 +41,7 @@ fn answered_call(requests: &Requests, call: Option<usize>, what: &What) -> Optio
 
 /// Of each event, by its place, the call that it answers by an installation: one that gave the number of a request with SEND.
 #[tactic(auto, using(crate::proofs::Recorded::none_told, crate::proofs::Recorded::known_none, crate::proofs::ReceivedCalls::none_named, crate::proofs::Answered::none_asked, crate::proofs::Answered::none_installed))]
-pub fn installed_answers(
-    alloc: Global,
-    events: &[Event],
-) -> Result<Vec<Option<usize>>, NoMemory>
+pub fn installed_answers(alloc: Global, events: &[Event]) -> Result<Vec<Option<usize>>, NoMemory>
     ensures { IfOk result (λ found. TellsInstalled (reverse events.now) found.items) }
 {
     let mut tasks = Tasks::new(alloc);

@@ -59,10 +59,7 @@ impl Ids {
 
 /// Of each event, by its place, the call of the notification that it receives: the newest with its id.
 #[tactic(auto, using(crate::proofs::ReceivedCalls::none_received, crate::proofs::ReceivedCalls::none_named))]
-pub fn received_calls(
-    alloc: Global,
-    events: &[Event],
-) -> Result<Vec<Option<usize>>, NoMemory>
+pub fn received_calls(alloc: Global, events: &[Event]) -> Result<Vec<Option<usize>>, NoMemory>
     ensures { IfOk result (λ found. TellsReceived (reverse events.now) found.items) }
 {
     let mut ids = Ids::new(alloc);

@@ -1,5 +1,5 @@
 -- One more event is past: by `pass_more` and `names_more`, by `asked_more` of the requests, and by `installed_more` of what is found.
-use Rattle.std.proofs.Common.{◌≡◌, ℕ, ◌+◌, ◌∷◌, reverse, take, sym, ap, subst, ◌∙◌, arith}
+use Rattle.std.proofs.Common.{◌≡◌, ◌+◌, ◌∷◌, reverse, take, sym, ap, subst, ◌∙◌, arith}
 use Rattle.audit_log.specs.Received.{Names}
 use Rattle.audit_log.specs.Records.{Tells}
 use Rattle.audit_log.specs.Requests.{TellsInstalled, TellsRequests, pending_call, queue_in}

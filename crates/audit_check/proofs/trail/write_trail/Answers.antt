@@ -1,0 +1,31 @@
+-- The lines are those of the trail: by `trail_same`.
+use Rattle.std.proofs.Common.{◌≡◌, length, reverse, sym, ap, subst, ◌∙◌}
+use Rattle.std.proofs.lemmas.List.{length-reverse}
+use Rattle.hist_model.specs.ReportAudit.{judging_by}
+use Rattle.audit_log.specs.Received.{TellsReceived}
+use Rattle.audit_log.specs.Requests.{TellsInstalled}
+use Rattle.audit_log.specs.Written.{Wrote}
+use Rattle.audit_check.specs.Traced.{TellsAnswers, TellsSessions}
+use Rattle.audit_check.specs.Trail.{trail}
+use Rattle.audit_check.proofs.Traced.{same_answers, same_sessions, trail_same}
+use Rattle.audit_check.proofs.trail.write_trail.Goals as goal
+
+pub returns : goal.returns
+returns g c =
+    let J = judging_by c.args.policy.now.rules in
+    let xs = c.events-events.result.now in
+    let H = reverse xs in
+    let calls = c.as_slice.result.now in
+    let rows = c.as_slice-4.result.now in
+    let served = c.as_slice-5.result.now in
+    let installed = c.as_slice-6.result.now in
+    let size : length xs ≡ length H = sym (length-reverse xs) in
+    let received : TellsReceived H calls = subst (TellsReceived H) (sym c.as_slice.ensures.value) c.in_ok-received.ensures in
+    let asked : TellsInstalled H c.as_slice-3.result.now = subst (TellsInstalled H) (sym c.as_slice-3.ensures.value) c.in_ok-answered.ensures in
+    let sessions : TellsSessions calls rows (length H) served =
+    same_sessions calls c.as_slice-2.result.now rows (length xs) (length H) c.in_ok-served.served.items served (c.as_slice-2.ensures.value ∙ sym c.as_slice-4.ensures.value) size
+    (sym c.as_slice-5.ensures.value) c.in_ok-served.ensures in
+    let answers : TellsAnswers H (length H) installed =
+    same_answers H (length xs) (length H) c.in_ok-installed.installed.items installed size (sym c.as_slice-6.ensures.value) (c.in_ok-installed.ensures H (sym size) asked) in
+    let lines = trail_same J H rows calls served installed (c.as_slice-4.ensures.value ∙ c.in_ok-sessions.ensures) received sessions answers in
+    subst (λ text. Wrote (g.O.Sink.state c.args.out.now) text c.write_lines.result (g.O.Sink.state c.write_lines.new.out)) (lines ∙ ap (trail J) (sym c.events-events.ensures)) c.write_lines.ensures

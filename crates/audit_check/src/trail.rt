@@ -1,0 +1,163 @@
+//! The trail: a line for each call of a history.
+
+ghost use Rattle.std.specs.Prelude.{◌≡◌, ◌<◌, ℕ, List, IfOk, None, OnOk, get_or, length, option_copied, replicate, reverse};
+ghost use Rattle.hist_model.specs.ReportAudit.{judging_by};
+ghost use Rattle.hist_model.specs.declared.event.Event.{Event};
+ghost use Rattle.audit_log.specs.Requests.{TellsInstalled};
+ghost use Rattle.audit_log.specs.Written.{Wrote};
+ghost use Rattle.audit_check.specs.Trail.{trail};
+ghost use Rattle.audit_check.specs.Traced.{TellsAnswers, TellsSessions, noted, row_at};
+
+use crate::trace::{push_trace, trace_of};
+use audit_log::answer::installed_answers;
+use audit_log::error::ReportError;
+use audit_log::line::Line;
+use audit_log::part::{Part, write_lines};
+use audit_log::received::received_calls;
+use hist_model::event::{Entered, Event, What};
+use hist_model::history::History;
+use hist_model::policy::Policy;
+use io_edge::sink::Sink;
+use session_facts::session::Session;
+use session_table::sessions;
+use std::alloc::Global;
+use sys_abi::memory::NoMemory;
+
+/// Writes the trail of a history: for each call, from the oldest on, the places of its entry, of its session's receive, second
+/// good check and effect that was done, and of the answer, and the rule that decided; `-` for what isn't there.
+///
+/// `WriteFault` comes only where the sink's count of faults rose. After an error the sink took a prefix of the trail.
+pub fn write_trail<O: Sink>(
+    alloc: Global,
+    policy: &Policy,
+    history: &History,
+    out: &mut O,
+) -> Result<(), ReportError>
+    ensures { Wrote (O.state out.old) (trail (judging_by policy.now.rules) history.now.events) result (O.state out.new) }
+{
+    let events = history.events();
+    let sessions = sessions(alloc, policy, events)?;
+    let received = received_calls(alloc, events)?;
+    let served = served_calls(
+        alloc,
+        events.len(),
+        received.as_slice(),
+        sessions.as_slice(),
+    )?;
+    let answered = installed_answers(alloc, events)?;
+    let installed = answered_calls(alloc, events.len(), answered.as_slice())?;
+    let part = Trail {
+        policy,
+        sessions: sessions.as_slice(),
+        served: served.as_slice(),
+        installed: installed.as_slice(),
+    };
+    let mut line = Line::new(alloc);
+    write_lines(&part, &mut line, events, out)
+}
+
+/// Notes a number for a call, if it is for one.
+fn note(found: &mut Vec<Option<usize>>, call: Option<usize>, number: usize)
+    ensures { found.new.items ≡ noted call number found.old.items }
+{
+    let Some(place) = call else {
+        return;
+    };
+    if place < found.len() {
+        found[place] = Some(number);
+    }
+}
+
+/// Nothing for so many calls.
+fn none_found(alloc: Global, room: usize) -> Result<Vec<Option<usize>>, NoMemory>
+    ensures { IfOk result (λ found. found.items ≡ replicate room None) }
+{
+    let mut found = Vec::new(alloc);
+    for _ in 0..room {
+        found.push(None)?;
+    }
+    Ok(found)
+}
+
+/// Of each place below `room`, the row of the last session for the call there, by the calls of what was received.
+fn served_calls(
+    alloc: Global,
+    room: usize,
+    received: &[Option<usize>],
+    sessions: &[Session],
+) -> Result<Vec<Option<usize>>, NoMemory>
+    ensures { IfOk result (λ found. TellsSessions received.now sessions.now room found.items) }
+{
+    let mut found = none_found(alloc, room)?;
+    for row in 0..sessions.len() {
+        note(&mut found, place_at(received, sessions[row].place), row);
+    }
+    Ok(found)
+}
+
+/// Of each place below `room`, the newest event that answered the call there by an installation, by the calls that events
+/// answer so.
+fn answered_calls(
+    alloc: Global,
+    room: usize,
+    answered: &[Option<usize>],
+) -> Result<Vec<Option<usize>>, NoMemory>
+    ensures { IfOk result (λ found. (H : List Event) → length H ≡ room → TellsInstalled H answered.now → TellsAnswers H room found.items) }
+{
+    let mut found = none_found(alloc, room)?;
+    for place in 0..room {
+        note(&mut found, place_at(answered, place), place);
+    }
+    Ok(found)
+}
+
+/// What is kept for a place; none past the end.
+fn place_at(places: &[Option<usize>], place: usize) -> Option<usize>
+    ensures { result ≡ get_or places.now place None }
+{
+    match places.get(place) {
+        Some(found) => *found,
+        None => None,
+    }
+}
+
+/// The trail as a part that has a line for each call.
+#[derive(Drop)]
+struct Trail<'a> {
+    policy: &'a Policy,
+    /// What is kept of each session, from the oldest on.
+    sessions: &'a [Session],
+    /// Of each call, by its place, the row of its session.
+    served: &'a [Option<usize>],
+    /// Of each call, by its place, the event that answered it by an installation.
+    installed: &'a [Option<usize>],
+}
+
+impl Trail<'_> {
+    /// What is kept of the session of the call at a place.
+    fn session_of(&self, place: usize) -> Option<&Session>
+        ensures { option_copied result ≡ row_at self.now.sessions.now (get_or self.now.served.now place None) }
+    {
+        self.sessions.get(place_at(self.served, place)?)
+    }
+}
+
+impl Part for Trail<'_> {
+    ghost use Rattle.audit_check.specs.Traced.{traced_line};
+
+    ghost text = { λ t. traced_line (judging_by t.policy.now.rules) t.sessions.now t.served.now t.installed.now };
+
+    fn push_line(&self, line: &mut Line, before: &[Event], event: &Event) -> Result<(), NoMemory> {
+        match &event.what {
+            What::Enter {
+                verdict: Entered::Notify { .. },
+                ..
+            } => {
+                let place = before.len();
+                let trace = trace_of(self.session_of(place), place_at(self.installed, place));
+                push_trace(line, self.policy, place, &trace)
+            }
+            _ => Ok(()),
+        }
+    }
+}
