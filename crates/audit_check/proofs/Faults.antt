@@ -25,7 +25,7 @@ module _ (P : Policy) (S : Script) (policy : IsPolicy P) (bytes : List ℕ) wher
 
   -- the whole of it, with a line more, is a report
   past : (n : ℕ) → length (lines bytes) < n → BeginsReport P S bytes n → (H : List Event) × IsReported P S bytes H
-  past n l b = (b.0, record { legal = b.1; whole = sym (agree_past bytes (report_by P b.0) n l b.2) })
+  past n l b = (b.0, record { legal = b.1; whole = sym (agree_past n bytes (report_by P b.0) l b.2) })
 
   no-fault : (H : List Event) (n : ℕ) → IsReported P S bytes H → IsFaultLine P S bytes n → ⊥
   no-fault H n h f = f.faulty (H, h.legal, ap (λ text. take n (lines text)) (sym h.whole))

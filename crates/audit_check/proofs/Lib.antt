@@ -7,3 +7,4 @@ pub mod Continued
 pub mod Reading
 pub mod Faults
 pub mod Traced
+pub mod WorkedChecks

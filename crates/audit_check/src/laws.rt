@@ -4,8 +4,18 @@ ghost use Rattle.std.specs.Prelude.{ℕ, List};
 ghost use Rattle.hist_model.specs.PolicyRules.{IsPolicy};
 ghost use Rattle.hist_model.specs.declared.policy.Policy.{Policy};
 ghost use Rattle.hist_model.specs.declared.script.Script.{Script};
+ghost use Rattle.audit_check.specs.Lines.{AgreeingBegins, AgreeingPastIsSame, BeginningAgrees};
 ghost use Rattle.audit_check.specs.Reading.{EndsAtFault, EndsBehind, FindsFaults, FindsReports};
 ghost use Rattle.audit_check.specs.Reported.{IsUnique};
+
+/// A text that agrees with another on its first lines begins with them; one that begins with them, where each is ended, agrees
+/// on them; and one that agrees on more lines than the other has is the other.
+#[tactic(auto, using(crate::proofs::Lines::agree_begins, crate::proofs::Lines::begins_agree, crate::proofs::Lines::agree_past))]
+pub fn agreeing_is_beginning()
+    ensures begins { AgreeingBegins }
+    ensures agrees { BeginningAgrees }
+    ensures past { AgreeingPastIsSame }
+{}
 
 /// A legal history whose report begins with some lines exists exactly where the pass that lets the actor of each line step
 /// agrees with all of them; and the bytes are a report exactly where the pass comes to that report's end.
