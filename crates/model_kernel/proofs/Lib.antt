@@ -1,3 +1,4 @@
+pub mod Buffers
 pub mod MappedRanges
 pub mod NextSteps
 pub mod Numbers

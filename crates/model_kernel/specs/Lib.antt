@@ -3,3 +3,4 @@ pub mod Kinds
 pub mod Mapped
 pub mod Ready
 pub mod Steps
+pub mod Wire

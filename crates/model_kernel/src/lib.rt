@@ -2,7 +2,8 @@
 //!
 //! Its model is a history of a script: `IsKernel` says that the tasks and the resources stand for the kernel's own. Each act is
 //! one event, with the answer that the definitions of `hist_model` give after the history before it (`IsAfter`, `DoesDeed`); what
-//! appends none says so.
+//! appends none says so. What workers ask of the listener is asked by values (`receive`, `send`, `put`), and by the structures
+//! of seccomp_unotify(2) as they lie in memory (`recv`, `notif_send`, `addfd_put`).
 //!
 //! Below stand `kernel_tasks` and `kernel_resources`, each with its own part of the state.
 #![tactic(auto)]
@@ -14,7 +15,9 @@ mod listening;
 mod ready;
 mod start;
 mod steps;
+mod wire;
 
 pub use kernel::Kernel;
 pub use ready::ReadyTask;
 pub use steps::CannotStep;
+pub use wire::RecvError;

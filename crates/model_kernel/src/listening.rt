@@ -5,7 +5,7 @@ ghost use Rattle.addfd.specs.Puts.{is_known};
 ghost use Rattle.addfd.specs.Requests.{has_request};
 ghost use Rattle.addfd.specs.Stands.{take_of};
 ghost use Rattle.addfd.specs.declared.requests.TakeError.TheVariants.{Pending};
-ghost use Rattle.hist_model.specs.Calls.{caller, named};
+ghost use Rattle.hist_model.specs.Calls.{caller, count, named};
 ghost use Rattle.hist_model.specs.Deeds as deed;
 ghost use Rattle.hist_model.specs.Look.{ev, event_at};
 ghost use Rattle.hist_model.specs.Signals.{call_of};
@@ -70,8 +70,10 @@ impl Kernel {
         requires room { 0 < self.old.history.spare }
         ensures done { (result ≡ Err Empty → ⊥) → DoesDeed self.old worker deed.Recv self.new }
         ensures next { IfOk result (λ n. recv_answer (past self.old) (oldest_unfetched (past self.old)) ≡ Ok n) }
+        ensures counted { (result ≡ Err Empty → ⊥) → 0 < count (past self.old) }
         ensures gone { result ≡ Err Gone → oldest_unfetched (past self.old) ≡ None }
         ensures empty { result ≡ Err Empty → deed_step (system self.old) (past self.old) worker deed.Recv ≡ Skip }
+        ensures none { result ≡ Err Empty → count (past self.old) ≡ 0 }
         ensures same { result ≡ Err Empty → self.new ≡ self.old }
     {
         match self.resources.receive(worker) {

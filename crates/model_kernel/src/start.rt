@@ -1,8 +1,10 @@
 //! A kernel's start, and what it says of its tasks and workers.
 
 ghost use Rattle.std.specs.Prelude.{◌≡◌, ◌↔◌, ◌+◌, is_some, ℕ, ◌<◌, [], ◌∷◌, length, Ok, IfOk, IfSome, IfNone, true, false};
+ghost use Rattle.addfd.specs.Requests.{has_request};
+ghost use Rattle.addfd.specs.Stands.{is_asking};
 ghost use Rattle.hist_model.specs.Legal.{started, Finished};
-ghost use Rattle.hist_model.specs.Steps.{mem};
+ghost use Rattle.hist_model.specs.Steps.{mem, request_of};
 ghost use Rattle.hist_model.specs.Tasks.{is_made};
 ghost use Rattle.hist_model.specs.declared.event.What.TheVariants.{Spawn};
 ghost use Rattle.hist_model.specs.declared.event.SpawnKind.TheVariants.{New};
@@ -101,6 +103,14 @@ impl Kernel {
         ensures { IsKernel self.now → result ≡ is_some (mem (past self.now) worker) }
     {
         self.resources.holds_memory(worker)
+    }
+
+    /// Whether a worker has a request for a descriptor: one that was put and not taken.
+    pub fn has_request(&self, worker: u8) -> bool
+        ensures has { result ≡ has_request self.now.resources.listener.requests worker }
+        ensures stands { IsKernel self.now → result ≡ is_asking (request_of (past self.now) worker) }
+    {
+        self.resources.has_request(worker)
     }
 
     /// Whether nothing is left to do: every task has ended, no call is listed, and each worker has let go.

@@ -40,3 +40,16 @@ pub returns-in-Err-Empty-clause-empty : goal.returns-in-Err-Empty-clause-empty
 returns-in-Err-Empty-clause-empty c is =
     let empty = rw c.in-Err-Empty.field-0-is at c.in-Err-Empty.ensures in
     no-receive (system c.args.self.now) (past c.args.self.now) c.args.worker (empty.empty refl c.args.self.now.script (past c.args.self.now) _ c.requires.kernel.resources)
+
+pub returns-in-Ok-clause-counted : goal.returns-in-Ok-clause-counted
+returns-in-Ok-clause-counted c other = (c.in-Ok.ensures.next c.args.self.now.script (past c.args.self.now) _ c.requires.kernel.resources).0
+
+pub returns-in-Err-Gone-clause-counted : goal.returns-in-Err-Gone-clause-counted
+returns-in-Err-Gone-clause-counted c other =
+    let gone = rw c.in-Err-Gone.field-0-is at c.in-Err-Gone.ensures in
+    (gone.gone refl c.args.self.now.script (past c.args.self.now) _ c.requires.kernel.resources).0
+
+pub returns-in-Err-Empty-clause-none : goal.returns-in-Err-Empty-clause-none
+returns-in-Err-Empty-clause-none c is =
+    let empty = rw c.in-Err-Empty.field-0-is at c.in-Err-Empty.ensures in
+    empty.empty refl c.args.self.now.script (past c.args.self.now) _ c.requires.kernel.resources
