@@ -20,22 +20,22 @@ use hist_model::policy::Policy;
 use hist_model::script::Script;
 use io_edge::files::Files;
 use io_edge::sink::Sink;
-use plain_play::machine::play;
 use std::alloc::Global;
+use worker_gate::play;
 
 /// Plays a script under a policy and prints what is asked of it.
 #[tactic(auto, using(crate::proofs::Ends::ends_written, crate::proofs::Ends::ends_cut, crate::proofs::Ends::ends_unplayed))]
 fn print_played<O: Sink>(
     alloc: Global,
     printout: Printout,
-    policy: &Policy,
-    script: &Script,
+    policy: Policy,
+    script: Script,
     out: &mut O,
 ) -> Result<(), Status>
-    ensures { Printed (printout_of printout policy.now script.now) (O.state out.old) (O.state out.new) result }
+    ensures { Printed (printout_of printout policy script) (O.state out.old) (O.state out.new) result }
 {
-    let history = play(alloc, policy, script)?;
-    print_history(alloc, printout, policy, &history, out)?;
+    let played = play(alloc, policy, script)?;
+    print_history(alloc, printout, &played.policy, &played.history, out)?;
     Ok(())
 }
 
@@ -61,7 +61,7 @@ fn print_generated<O: Sink>(alloc: Global, from: u64, count: u32, out: &mut O) -
 {
     let policy = generated_policy(alloc)?;
     let script = generated_script(alloc, from, count)?;
-    print_played(alloc, Printout::Summary, &policy, &script, out)
+    print_played(alloc, Printout::Summary, policy, script, out)
 }
 
 /// Plays generated input, whose history is mediated, and prints the summary.
@@ -87,7 +87,7 @@ fn play_files<F: Files, O: Sink>(
     let policy = read_policy(alloc, files, policy)?;
     let script = read_script(alloc, files, script)?;
     is_mediated(&policy, &script);
-    print_played(alloc, Printout::Report, &policy, &script, out)
+    print_played(alloc, Printout::Report, policy, script, out)
 }
 
 /// Does what the words ask for.

@@ -9,7 +9,7 @@
 //! generated, and that history is mediated; each other status has its cause. `specs/Answers.antt` states it.
 //!
 //! Below stand the readers (`policy_reader`, `script_reader`), the generator of input (`generated_input`), the play
-//! (`plain_play`), the report (`audit_log`) and the law (`mediation`). Above stands `main`, which hands the
+//! (`worker_gate`), the report (`audit_log`) and the law (`mediation`). Above stands `main`, which hands the
 //! machine's files and outputs over.
 #![tactic(auto)]
 

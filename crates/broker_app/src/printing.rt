@@ -48,18 +48,6 @@ fn write_sessions<O: Sink>(
     write_audit(alloc, policy, history, out)
 }
 
-/// Writes the summary.
-fn write_last_line<O: Sink>(
-    alloc: Global,
-    policy: &Policy,
-    history: &History,
-    out: &mut O,
-) -> Result<(), ReportError>
-    ensures { Wrote (O.state out.old) (summary (judging_by policy.now.rules) history.now.events) result (O.state out.new) }
-{
-    write_summary(alloc, policy, history, out)
-}
-
 /// Writes the report.
 fn write_report<O: Sink>(
     alloc: Global,
@@ -70,7 +58,7 @@ fn write_report<O: Sink>(
     ensures { Wrote (O.state out.old) (report (judging_by policy.now.rules) history.now.events) result (O.state out.new) }
 {
     write_sessions(alloc, policy, history, out)?;
-    write_last_line(alloc, policy, history, out)
+    write_summary(alloc, policy, history, out)
 }
 
 /// Writes what is printed.
@@ -85,7 +73,7 @@ fn write_printout<O: Sink>(
 {
     match printout {
         Printout::Report => write_report(alloc, policy, history, out),
-        Printout::Summary => write_last_line(alloc, policy, history, out),
+        Printout::Summary => write_summary(alloc, policy, history, out),
     }
 }
 

@@ -6,7 +6,7 @@
 //! one, and each answer is what the definitions of `hist_model` answer by looking back over that history.
 //!
 //! Below stand the definitions (`hist_model`), what one more event changes of them (`history_frames`), and the kit's
-//! `slab`; the kernel stands above, and the slow programs of `look_back`, with which this table is compared, beside it.
+//! `slab`; `kernel_tasks`, which has a kernel's tasks in all their tables, stands above.
 #![tactic(auto)]
 
 mod index;

@@ -16,4 +16,4 @@ returns-in_err-write_sessions g c =
 pub returns : goal.returns
 returns g c =
     let K = c.args.history.now.events in
-    wrote_more _ _ _ _ (summary (judging_by c.args.policy.now.rules) K) _ c.in_ok-write_sessions.ensures c.write_last_line.ensures
+    wrote_more _ _ _ _ (summary (judging_by c.args.policy.now.rules) K) _ c.in_ok-write_sessions.ensures c.write_summary.ensures

@@ -1,7 +1,0 @@
-use Rattle.std.proofs.Common.{◌∙◌, sym}
-use Rattle.look_back.proofs.Past.{oldest_of_all}
-use Rattle.look_back.proofs.tasks.first_ended_child.Goals as goal
-
-pub returns-then-is_ended_child : goal.returns-then-is_ended_child
-returns-then-is_ended_child c =
-    sym (oldest_of_all c.args.events.now _ c.loop-place.place c.loop-place.invariant (sym c.is_ended_child.ensures ∙ c.if-is_ended_child.true) c.loop-place-test.true)

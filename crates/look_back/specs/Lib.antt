@@ -1,3 +1,0 @@
-pub mod Queues
-pub mod Outcomes
-pub mod Tallies

@@ -1,5 +1,0 @@
-pub mod Sources
-pub mod Logs
-pub mod Kept
-pub mod Copied
-pub mod NativeSteps

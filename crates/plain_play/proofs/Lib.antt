@@ -1,4 +1,0 @@
-pub mod Sessions
-pub mod Fitting
-pub mod Turns
-pub mod Plays

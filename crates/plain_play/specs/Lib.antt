@@ -1,3 +1,0 @@
-pub mod Actors
-pub mod Workers
-pub mod Running
