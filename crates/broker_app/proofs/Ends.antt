@@ -35,8 +35,8 @@ told_whole text same old new e w t = w.whole t ∙ ap (λ xs. old.taken ++ xs) e
 told_part : (text same : List ℕ) (x : ReportError) (old new : SinkState) → text ≡ same → Wrote old text (Err x) new → old.tells ≡ true → AddsPrefix old.taken same new.taken
 told_part text same x old new e w t = rw (sym e) (w.part t)
 
-same_printout : (printout : Printout) (P : Policy) (K L : List Event) → K ≡ L → text_of printout (judging_by P.rules) K ≡ text_of printout (judging_by P.rules) L
-same_printout printout P K L e = ap (λ xs. text_of printout (judging_by P.rules) xs) e
+same_printout : (printout : Printout) (Q P : Policy) (K L : List Event) → Q ≡ P → K ≡ L → text_of printout (judging_by Q.rules) K ≡ text_of printout (judging_by P.rules) L
+same_printout printout Q P K L q e = rw (q, e) refl
 
 -- a text that was written whole, and then flushed
 pub flushed : {E : Type 0} (old mid new : SinkState) (text : List ℕ) (u v : Unit {0}) → Wrote old text (Ok u) mid → Flushes {T = Unit {0}} {E = E} mid (Ok v) new → Wrote old text (Ok tt) new
@@ -63,15 +63,15 @@ unflushed old mid new text u x e r is w f = rw is failed
     }
 
 -- the whole text was written, and stands
-pub ends_written : (printout : Printout) (P : Policy) (S : Script) (K : List Event) (old new : SinkState) → K ≡ played P S → Wrote old (text_of printout (judging_by P.rules) K) (Ok tt) new → Stands new
+pub ends_written : (printout : Printout) (Q P : Policy) (S : Script) (K : List Event) (old new : SinkState) → Q ≡ P → K ≡ played P S → Wrote old (text_of printout (judging_by Q.rules) K) (Ok tt) new → Stands new
     → Printed (printout_of printout P S) old new (Ok tt)
-ends_written printout P S K old new e w stands = (told_whole _ _ old new (same_printout printout P K (played P S) e) w, stands)
+ends_written printout Q P S K old new q e w stands = (told_whole _ _ old new (same_printout printout Q P K (played P S) q e) w, stands)
 
 -- a part of it was
-pub ends_cut : (printout : Printout) (P : Policy) (S : Script) (K : List Event) (old new : SinkState) (x : ReportError) → K ≡ played P S → Wrote old (text_of printout (judging_by P.rules) K) (Err x) new
+pub ends_cut : (printout : Printout) (Q P : Policy) (S : Script) (K : List Event) (old new : SinkState) (x : ReportError) → Q ≡ P → K ≡ played P S → Wrote old (text_of printout (judging_by Q.rules) K) (Err x) new
     → Printed (printout_of printout P S) old new (Err (status_of_report x))
-ends_cut printout P S K old new WriteFault e w = (w.cause refl, told_part _ _ WriteFault old new (same_printout printout P K (played P S) e) w)
-ends_cut printout P S K old new NoMemory e w = told_part _ _ NoMemory old new (same_printout printout P K (played P S) e) w
+ends_cut printout Q P S K old new WriteFault q e w = (w.cause refl, told_part _ _ WriteFault old new (same_printout printout Q P K (played P S) q e) w)
+ends_cut printout Q P S K old new NoMemory q e w = told_part _ _ NoMemory old new (same_printout printout Q P K (played P S) q e) w
 
 -- nothing was, for want of memory
 pub ends_unplayed : (text : List ℕ) (old : SinkState) → Printed text old old (Err OutOfMemory)
