@@ -23,10 +23,6 @@ readied old new k events same =
 pub supplied : (old new : Kernel) → IsKernel new → new ≡ record old { resources = new.resources } → IsSame old new
 supplied old new k same = record { kernel = k; script = ap (λ (x : Kernel). x.script) same; past_is = ap (λ (x : Kernel). past x) same }
 
--- one after another
-pub same-again : (old mid new : Kernel) → IsSame old mid → IsSame mid new → IsSame old new
-same-again old mid new s t = record { kernel = t.kernel; script = t.script ∙ s.script; past_is = t.past_is ∙ s.past_is }
-
 -- an event that follows on room follows on what was before
 pub after-same : (old mid new : Kernel) (e : Event) → IsSame old mid → IsAfter mid e new → IsAfter old e new
 after-same old mid new e s after = record { kernel = after.kernel; script = after.script ∙ s.script; events = after.events ∙ ap (λ K. e ∷ K) s.past_is }

@@ -68,10 +68,6 @@ module _ (old new : Served) (policy : new.policy ≡ old.policy) (served : IsSer
       stepped (Task n) named after (rw workers served.number)
       (rw workers (all_other old.policy old.kernel.script.figures (past old.kernel) (ev (Task n) (task_step (system_of old.kernel.script) (past old.kernel) n)) old.workers.items (λ w. refl) served.workers))
 
-  -- and where it took none
-  pub task_stayed : new.workers ≡ old.workers → IsSame old.kernel new.kernel → Reaches old (past old.kernel) new
-  task_stayed workers same = stayed same (rw workers served.number) (rw workers served.workers)
-
 -- the start
 pub at_start : (P : Policy) (S : Script) (s : Served) → s.policy ≡ P → IsBegun S s.kernel → length s.workers.items ≡ 16 → AllRemember P S.figures [] s.workers.items → IsAt P S (started S) s
 at_start P S s policy k number workers = record {
