@@ -1,10 +1,11 @@
 //! The top call.
 
-ghost use Rattle.std.specs.Prelude.{◌≡◌, ◌≤◌, true, None, Err};
+ghost use Rattle.std.specs.Prelude.{◌≡◌, ◌≤◌, true, None, Err, IfSome};
 ghost use Rattle.hist_model.specs.Legal.{played};
 ghost use Rattle.hist_model.specs.Mediated.{Mediated};
 ghost use Rattle.hist_model.specs.Words.{form};
-ghost use Rattle.broker_app.specs.Forms.{texts};
+ghost use Rattle.std.specs.Option.{option_map};
+ghost use Rattle.broker_app.specs.Forms.{HasFewCalls, form_of, texts};
 ghost use Rattle.broker_app.specs.Answers.{Answers, GeneratedIsMediated, PlayEnds, Printed, Said, StressEnds, generated_summary, printout_of, status_of};
 ghost use Rattle.broker_app.specs.Lines.{line_of};
 ghost use Rattle.broker_app.specs.declared.status.InputFile.TheVariants.{Policy as PolicyFile};
@@ -90,21 +91,43 @@ fn play_files<F: Files, O: Sink>(
     print_played(alloc, Printout::Report, policy, script, out)
 }
 
-/// Does what the words ask for.
+/// Does what a form of the words asks for; none is a usage error.
 fn answer<F: Files, O: Sink>(
     alloc: Global,
-    words: &[String],
+    form: Option<Form<'_>>,
     files: &mut F,
     out: &mut O,
 ) -> Result<(), Status>
-    ensures { Answers (form (texts words.now)) (F.state files.old) (F.state files.new) (O.state out.old) (O.state out.new) (status_of result) }
+    requires { IfSome form (λ f. HasFewCalls f) }
+    ensures { Answers (option_map form_of form.entry) (F.state files.old) (F.state files.new) (O.state out.old) (O.state out.new) (status_of result) }
 {
-    match read_form(words) {
+    match form {
         None => Err(Status::Usage),
         Some(Form::Play { policy, script }) => play_files(alloc, files, policy, script, out),
         Some(Form::Stress { from, count }) => stress(alloc, from, count, out),
         Some(Form::Run { .. }) => Err(Status::NotBuilt),
     }
+}
+
+/// Does what a form of the words asks for, and says on `err` why it didn't, in one line. Where there is no form, that is the
+/// usage line.
+pub fn carry_out<F: Files, O: Sink, E: Sink>(
+    alloc: Global,
+    form: Option<Form<'_>>,
+    files: &mut F,
+    out: &mut O,
+    err: &mut E,
+) -> Status
+    requires { IfSome form (λ f. HasFewCalls f) }
+    ensures answers { Answers (option_map form_of form.entry) (F.state files.old) (F.state files.new) (O.state out.old) (O.state out.new) result }
+    ensures said { Said (E.state err.old) (line_of result) (E.state err.new) }
+{
+    let status = match answer(alloc, form, files, out) {
+        Ok(()) => Status::Done,
+        Err(status) => status,
+    };
+    say(&status, err);
+    status
 }
 
 /// Does what the words ask for, and says on `err` why it didn't, in one line.
@@ -118,10 +141,5 @@ pub fn broker<F: Files, O: Sink, E: Sink>(
     ensures answers { Answers (form (texts words.now)) (F.state files.old) (F.state files.new) (O.state out.old) (O.state out.new) result }
     ensures said { Said (E.state err.old) (line_of result) (E.state err.new) }
 {
-    let status = match answer(alloc, words, files, out) {
-        Ok(()) => Status::Done,
-        Err(status) => status,
-    };
-    say(&status, err);
-    status
+    carry_out(alloc, read_form(words), files, out, err)
 }

@@ -1,0 +1,44 @@
+-- What a caller reads of a buffer where the status is 0.
+-- By the lengths of lists, since the text fits.
+use Rattle.std.proofs.Common.{◌≡◌, ℕ, ◌≤◌, Bool, true, false, List, ◌++◌, length, take, drop, ◌∙◌, refl, sym, subst, arith}
+use Rattle.std.specs.Prelude.{nat_lt}
+use Rattle.std.proofs.lemmas.Bool.{ltb-false}
+use Rattle.std.proofs.lemmas.List.{take_all}
+use Rattle.std.proofs.lemmas.Grind.{common_steps}
+use Rattle.broker_app.specs.declared.status.Status.{Status}
+use Rattle.broker_app.specs.declared.status.Status.TheVariants.{Done, ReadFault}
+use Rattle.broker_c.specs.Buffers.{Holds, number_of}
+use Rattle.broker_c.specs.Outcomes.{IsReport, IsSummary, PlayGives, StressGives}
+
+-- a text that fits is read back
+read_back : (text old new : List ℕ) (told : ℕ) → length text ≤ length old → Holds text old new told → take told new ≡ text
+read_back text old new told fits held =
+    let whole : take (length old) text ≡ text = take_all (length old) text fits in
+    let front : take (length text) (text ++ drop (length text) old) ≡ text = grind (arith, common_steps) in
+    rw (held.whole, held.bytes, whole) front
+
+-- number 0 is status 0, with a text that fits
+number-0 : (status : Status) (text size : ℕ) → number_of status text size ≡ 0 → (status ≡ Done) × (text ≤ size)
+number-0 Done text size is = by (nat_lt size text) refl
+  where
+    by : (short : Bool) → nat_lt size text ≡ short → (Done ≡ Done) × (text ≤ size)
+    by true s = let e = rw s at is in cc
+    by false s = (refl, ltb-false size text s)
+number-0 (ReadFault file) text size is = cc
+number-0 status text size is = cc
+
+-- a report is read where the number is 0
+pub report_told : (policy script : List ℕ) (room : ℕ) (status : Status) (printed old new : List ℕ) (told number : ℕ) → PlayGives policy script room printed status
+    → number ≡ number_of status (length printed) (length old) → Holds printed old new told → number ≡ 0 → IsReport policy script (take told new)
+report_told policy script room status printed old new told number gives is held zero =
+    let fits = number-0 status (length printed) (length old) (sym is ∙ zero) in
+    let whole : PlayGives policy script room printed Done = subst (λ s. PlayGives policy script room printed s) fits.0 gives in
+    subst (λ text. IsReport policy script text) (sym (read_back printed old new told fits.1 held)) whole.0
+
+-- and a summary
+pub summary_told : (from count room : ℕ) (status : Status) (printed old new : List ℕ) (told number : ℕ) → StressGives from count room printed status
+    → number ≡ number_of status (length printed) (length old) → Holds printed old new told → number ≡ 0 → IsSummary from count (take told new)
+summary_told from count room status printed old new told number gives is held zero =
+    let fits = number-0 status (length printed) (length old) (sym is ∙ zero) in
+    let whole : StressGives from count room printed Done = subst (λ s. StressGives from count room printed s) fits.0 gives in
+    subst (λ text. IsSummary from count text) (sym (read_back printed old new told fits.1 held)) whole.1

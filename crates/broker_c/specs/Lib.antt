@@ -1,0 +1,4 @@
+pub mod Given
+pub mod Held
+pub mod Outcomes
+pub mod Buffers

@@ -1,0 +1,95 @@
+-- What a call came to: what was printed, and why it stopped.
+use Rattle.std.specs.Prelude.{◌≡◌, ℕ, ◌<◌, ◌≤◌, ◌⊎◌, Bool, true, false, List, [], length, Some, Result, Ok, Err}
+use Rattle.hist_model.specs.Legal.{played}
+use Rattle.hist_model.specs.Mediated.{Mediated}
+use Rattle.hist_model.specs.declared.policy.Policy.{Policy}
+use Rattle.hist_model.specs.declared.script.Script.{Script}
+use Rattle.io_edge.specs.SinkState.{AddsPrefix}
+use Rattle.policy_reader.specs.Policies.{policy as policy_of}
+use Rattle.policy_reader.specs.declared.error.PolicyError.{PolicyError}
+use Rattle.script_reader.specs.Scripts.{script as script_of}
+use Rattle.script_reader.specs.declared.error.ScriptError.{ScriptError}
+use Rattle.broker_app.specs.Answers.{GeneratedIsMediated, generated_summary, report_of}
+use Rattle.broker_app.specs.Inputs.{ReadsAs, policy_limit, script_limit}
+use Rattle.broker_app.specs.Lines.{line_of}
+use Rattle.broker_app.specs.declared.status.InputFile.TheVariants.{Policy as PolicyFile, Script as ScriptFile}
+use Rattle.broker_app.specs.declared.status.Status.{Status}
+use Rattle.broker_app.specs.declared.status.Status.TheVariants.{Done, Usage, TooLong, BadPolicy, BadScript, WriteFault, NoMemory}
+
+-- ---- What was read
+
+-- the bytes are within the limit, and are read as this policy, or have this refusal
+abbrev pub PolicyReads : List ℕ → Result Policy PolicyError → Type 0
+PolicyReads policy reading = ReadsAs policy_of policy_limit (Some policy) reading
+
+-- and as this script
+abbrev pub ScriptReads : List ℕ → Result Script ScriptError → Type 0
+ScriptReads script reading = ReadsAs script_of script_limit (Some script) reading
+
+-- the bytes are a policy
+abbrev pub IsPolicy : List ℕ → Type 0
+IsPolicy policy = (P : Policy) × PolicyReads policy (Ok P)
+
+-- these are the policy and the script of the bytes, and what they play is mediated
+pub record AreGiven (policy script : List ℕ) (P : Policy) (S : Script) : Type 0 where
+  pub policy_is : PolicyReads policy (Ok P)
+  pub script_is : ScriptReads script (Ok S)
+  pub mediated : Mediated P S (played P S)
+
+-- ---- What was printed
+
+-- the report of the history that the policy and the script of the bytes play
+abbrev pub IsReport : List ℕ → List ℕ → List ℕ → Type 0
+IsReport policy script printed = (P : Policy) × (S : Script) × AreGiven policy script P S × (printed ≡ report_of P S)
+
+-- a prefix of it
+abbrev pub BeginsReport : List ℕ → List ℕ → List ℕ → Type 0
+BeginsReport policy script printed = (P : Policy) × (S : Script) × AreGiven policy script P S × AddsPrefix [] (report_of P S) printed
+
+-- the summary of the history that generated input plays
+abbrev pub IsSummary : ℕ → ℕ → List ℕ → Type 0
+IsSummary from count printed = GeneratedIsMediated from count × (printed ≡ generated_summary from count)
+
+-- a prefix of it
+abbrev pub BeginsSummary : ℕ → ℕ → List ℕ → Type 0
+BeginsSummary from count printed = GeneratedIsMediated from count × AddsPrefix [] (generated_summary from count) printed
+
+-- ---- How it ended
+
+-- how the play of a policy's and a script's bytes ended, with room for so many bytes of a report
+abbrev pub PlayGives : List ℕ → List ℕ → ℕ → List ℕ → Status → Type 0
+PlayGives policy script room printed Done = IsReport policy script printed × (length printed ≤ room)
+PlayGives policy script room printed WriteFault = BeginsReport policy script printed × (room < length printed)
+PlayGives policy script room printed NoMemory = (printed ≡ []) ⊎ BeginsReport policy script printed
+PlayGives policy script room printed (TooLong PolicyFile) = (policy_limit < length policy) × (printed ≡ [])
+PlayGives policy script room printed (BadPolicy error) = PolicyReads policy (Err error) × (printed ≡ [])
+PlayGives policy script room printed (TooLong ScriptFile) = IsPolicy policy × (script_limit < length script) × (printed ≡ [])
+PlayGives policy script room printed (BadScript error) = IsPolicy policy × ScriptReads script (Err error) × (printed ≡ [])
+PlayGives policy script room printed _ = ⊥
+
+-- generated input has 1 to 4000 calls
+abbrev pub IsCount : ℕ → Type 0
+IsCount count = (1 ≤ count) × (count ≤ 4000)
+
+-- how the play of generated input ended: usage where it can't have so many calls
+abbrev pub StressGives : ℕ → ℕ → ℕ → List ℕ → Status → Type 0
+StressGives from count room printed Usage = ¬ (IsCount count) × (printed ≡ [])
+StressGives from count room printed Done = IsCount count × IsSummary from count printed × (length printed ≤ room)
+StressGives from count room printed WriteFault = IsCount count × BeginsSummary from count printed × (room < length printed)
+StressGives from count room printed NoMemory = (printed ≡ []) ⊎ BeginsSummary from count printed
+StressGives from count room printed _ = ⊥
+
+-- ---- How the end is told
+
+-- the status that is told: a write fault where more was printed than there is room for, and no memory where else a write failed
+abbrev pub settled : Bool → Bool → Status → Status
+settled true failed status = WriteFault
+settled false failed WriteFault = NoMemory
+settled false true status = NoMemory
+settled false false status = status
+
+-- what was said is the status's line, but where the status was settled, and its line is fixed
+abbrev pub Says : Status → List ℕ → Type 0
+Says WriteFault said = Unit {0}
+Says NoMemory said = Unit {0}
+Says status said = said ≡ line_of status

@@ -1,0 +1,107 @@
+//! What a call of the library comes to.
+
+ghost use Rattle.std.specs.Prelude.{◌≡◌, ◌^◌, ◌<◌, ◌&&◌, length, nat_le, nat_lt, Some, None, if◌then◌else◌};
+ghost use Rattle.std.specs.Option.{ForSome, option_map};
+ghost use Rattle.hist_model.specs.Words.{Stress};
+ghost use Rattle.broker_app.specs.Answers.{Said};
+ghost use Rattle.broker_app.specs.Forms.{HasFewCalls, form_of};
+ghost use Rattle.broker_app.specs.Lines.{line_of};
+ghost use Rattle.broker_c.specs.Held.{empty_sink};
+ghost use Rattle.broker_c.specs.Outcomes.{PlayGives, Says, StressGives, settled};
+
+use crate::given::{GivenFiles, POLICY, SCRIPT};
+use crate::held::HeldBytes;
+use broker_app::broker::carry_out;
+use broker_app::status::Status;
+use broker_app::words::Form;
+use io_edge::sink::Sink;
+use std::alloc::Global;
+
+/// How many bytes of a line are held at most.
+const LINE_ROOM: usize = 1 << 30;
+
+/// What a call comes to: its status, what it printed, and the line that it said.
+#[derive(Drop)]
+pub(crate) struct Outcome {
+    pub(crate) status: Status,
+    pub(crate) printed: Vec<u8>,
+    pub(crate) said: Vec<u8>,
+}
+
+/// The status that is told of one that the top call answered, where more was printed than there is room for (`over`), or the
+/// line couldn't be held (`failed`). A sink in memory that isn't full fails only for want of memory.
+fn settled(status: Status, over: bool, failed: bool) -> Status
+    ensures { result ≡ settled over failed status }
+{
+    match status {
+        _ if over => Status::WriteFault,
+        Status::WriteFault => Status::NoMemory,
+        _ if failed => Status::NoMemory,
+        status => status,
+    }
+}
+
+/// What the top call's status and its sinks come to, with room for so many bytes of a report.
+fn outcome_of(status: Status, room: usize, out: HeldBytes, err: HeldBytes) -> Outcome
+    requires { Said empty_sink (line_of status) (⟦<HeldBytes as Sink>⟧.state err) }
+    ensures printed { result.printed.items ≡ (⟦<HeldBytes as Sink>⟧.state out).taken }
+    ensures status { result.status ≡ settled (nat_lt room (length (⟦<HeldBytes as Sink>⟧.state out).taken)) (nat_lt 0 (⟦<HeldBytes as Sink>⟧.state err).faults) status }
+    ensures says { Says result.status result.said.items }
+{
+    let failed = err.has_failed();
+    let printed = out.into_taken();
+    let over = printed.len() > room;
+    Outcome {
+        status: settled(status, over, failed),
+        printed,
+        said: err.into_taken(),
+    }
+}
+
+/// Plays a script under a policy, with room for so many bytes of a report.
+pub(crate) fn play(alloc: Global, policy: &[u8], script: &[u8], room: usize) -> Outcome
+    requires { room < 2 ^ 63 }
+    ensures gives { PlayGives policy.now script.now room result.printed.items result.status }
+    ensures says { Says result.status result.said.items }
+{
+    let mut files = GivenFiles::new(policy, script);
+    let mut out = HeldBytes::new(alloc, room + 1);
+    let mut err = HeldBytes::new(alloc, LINE_ROOM);
+    let form = Form::Play {
+        policy: POLICY,
+        script: SCRIPT,
+    };
+    let status = carry_out(alloc, Some(form), &mut files, &mut out, &mut err);
+    outcome_of(status, room, out, err)
+}
+
+/// Plays generated input of so many calls, with room for so many bytes of a summary.
+pub(crate) fn stress(alloc: Global, from: u64, count: u32, room: usize) -> Outcome
+    requires { room < 2 ^ 63 }
+    ensures gives { StressGives from count room result.printed.items result.status }
+    ensures says { Says result.status result.said.items }
+{
+    let mut files = GivenFiles::new(&[], &[]);
+    let mut out = HeldBytes::new(alloc, room + 1);
+    let mut err = HeldBytes::new(alloc, LINE_ROOM);
+    let status = carry_out(
+        alloc,
+        stress_form(from, count),
+        &mut files,
+        &mut out,
+        &mut err,
+    );
+    outcome_of(status, room, out, err)
+}
+
+/// The form that asks for generated input of so many calls, if it can have so many.
+fn stress_form<'a>(from: u64, count: u32) -> Option<Form<'a>>
+    ensures meant { option_map form_of result ≡ (if nat_le 1 count && nat_le count 4000 then Some (Stress from count) else None) }
+    ensures few { ForSome result HasFewCalls }
+{
+    if (1..=4000).contains(&count) {
+        Some(Form::Stress { from, count })
+    } else {
+        None
+    }
+}

@@ -1,0 +1,115 @@
+/* Tests of a container's policy, over the broker as a library: what is granted, what is left to the kernel, what a race comes to, and
+ * what is said of a policy with a fault. */
+#include <seccomp_broker.h>
+
+#include <stdbool.h>
+#include <stdio.h>
+#include <stdlib.h>
+#include <string.h>
+
+/* A container's part of `lxc config show`: devices and ext4 are intercepted. */
+static const char policy[] =
+    "{\"config\": {\"security.syscalls.intercept.mknod\": \"true\","
+    " \"security.syscalls.intercept.mount\": \"true\","
+    " \"security.syscalls.intercept.mount.allowed\": \"ext4\"}}";
+
+/* A container that makes /dev/null, and mounts an ext4 and an xfs. */
+static const char script[] =
+    "dir \"/dev\"\n"
+    "dir \"/mnt\"\n"
+    "notify mknod mount\n"
+    "prog init\n"
+    "poke 0x10000 \"/dev/null\\0\"\n"
+    "poke 0x10100 \"/dev/sda1\\0\"\n"
+    "poke 0x10200 \"/mnt\\0\"\n"
+    "poke 0x10300 \"ext4\\0\"\n"
+    "poke 0x10400 \"xfs\\0\"\n"
+    "call mknod 0x10000 0o020666 259\n"
+    "call mount 0x10100 0x10200 0x10300 0 0\n"
+    "call mount 0x10100 0x10200 0x10400 0 0\n"
+    "end\n"
+    "schedule\n"
+    "t 0 6\nw 0 9\nt 0 2\nw 0 11\nt 0 2\nw 0 10\nt 0 3\n"
+    "end\n";
+
+/* A container that writes "/zero" over "/null" while a worker has the call in hand. */
+static const char race[] =
+    "notify mknod\n"
+    "prog rewriter\n"
+    "poke 0x10000 \"/zero\\0\"\n"
+    "end\n"
+    "prog main\n"
+    "poke 0x10000 \"/null\\0\"\n"
+    "thread rewriter\n"
+    "call mknod 0x10000 0o020666 259\n"
+    "end\n"
+    "schedule\n"
+    "t 0 3\nw 0 5\nt 0.1\nw 0 4\nt 0 2\n"
+    "end\n";
+
+/* What a play came to. The report is a text with a zero byte behind it, and belongs to the caller. */
+struct play {
+  enum broker_status status;
+  char *report;
+  char line[256];
+};
+
+/* Plays a script under a policy: first into a small buffer, and again where the report is longer. */
+static struct play play(const char *policy_text, const char *script_text) {
+  struct play played = {BROKER_NO_MEMORY, NULL, ""};
+  size_t size = 1024, length, line_length;
+  do {
+    free(played.report);
+    played.report = malloc(size + 1);
+    if (played.report == NULL)
+      return played;
+    played.status = broker_play(policy_text, strlen(policy_text), script_text, strlen(script_text), BROKER_ROOM_LIMIT,
+                                played.report, size, &length, played.line, sizeof played.line - 1, &line_length);
+    if (played.status == BROKER_SHORT_BUFFER)
+      size = length;
+  } while (played.status == BROKER_SHORT_BUFFER);
+  played.report[length < size ? length : size] = '\0';
+  played.line[line_length < sizeof played.line ? line_length : sizeof played.line - 1] = '\0';
+  return played;
+}
+
+static int failures;
+
+/* Counts a failure where the text doesn't contain what is wanted. */
+static void wants(const char *what, const char *text, const char *wanted) {
+  bool found = text != NULL && strstr(text, wanted) != NULL;
+  printf("%s %s\n", found ? "ok  " : "FAIL", what);
+  if (!found) {
+    printf("     wanted: %s\n     got:\n%s", wanted, text ? text : "(nothing)\n");
+    failures++;
+  }
+}
+
+static void wants_status(const char *what, const struct play *played, enum broker_status wanted) {
+  printf("%s %s\n", played->status == wanted ? "ok  " : "FAIL", what);
+  if (played->status != wanted) {
+    printf("     wanted status %d, got %d: %s", wanted, played->status, played->line);
+    failures++;
+  }
+}
+
+int main(void) {
+  struct play boot = play(policy, script);
+  wants_status("the boot is played", &boot, BROKER_DONE);
+  wants("/dev/null is made", boot.report, "mknod rule=lxd.mknod.1:3 verdict=grant answer=0 reply=sent\n");
+  wants("ext4 is mounted", boot.report, "mount rule=lxd.mount.ext4 verdict=grant answer=0 reply=sent\n");
+  wants("xfs is left to the kernel", boot.report, "mount rule=default.mount verdict=pass answer=continue reply=sent\n");
+  wants("which refuses it", boot.report, "pid=1 mount EPERM\n");
+  free(boot.report);
+
+  struct play raced = play(policy, race);
+  wants_status("the race is played", &raced, BROKER_DONE);
+  wants("what was judged is made, and not what stands there later", raced.report, "act mknod \"/null\" chr 1:3 ok\n");
+  free(raced.report);
+
+  struct play typo = play("{\"config\": {\"security.syscalls.intercept.mknodd\": \"true\"}}", script);
+  wants_status("a key with a typing error is refused", &typo, BROKER_BAD_POLICY);
+  wants("and named", typo.line, "policy: unknown key at config.\"security.syscalls.intercept.mknodd\"\n");
+  free(typo.report);
+  return failures > 0;
+}

@@ -1,0 +1,3 @@
+module seccompbroker
+
+go 1.19

@@ -1,0 +1,63 @@
+"""Tests of a container's policy: python3 -m unittest, in this folder."""
+import json
+import unittest
+
+from seccomp_broker import Refused, play
+
+KEYS = "security.syscalls.intercept."
+SCRIPT = r"""
+dir "/dev"
+dir "/mnt"
+notify mknod mount
+
+prog init
+poke 0x10000 "/dev/null\0"
+poke 0x10100 "/dev/sda1\0"
+poke 0x10200 "/mnt\0"
+poke 0x10300 "xfs\0"
+call mknod 0x10000 0o020666 259
+call mount 0x10100 0x10200 0x10300 0 0
+end
+
+schedule
+t 0 5
+w 0 9
+t 0 3
+w 0 11
+t 0 3
+end
+"""
+
+
+def policy(*rules, **keys):
+    return json.dumps({"config": {KEYS + key: value for key, value in keys.items()}, "rules": list(rules)})
+
+
+class Boot(unittest.TestCase):
+    def test_a_device_that_lxd_allows_is_made(self):
+        report = play(policy(mknod="true"), SCRIPT)
+        self.assertIn("rule=lxd.mknod.1:3 verdict=grant answer=0 reply=sent", report.audits[0])
+        self.assertIn('act mknod "/dev/null" chr 1:3 ok', " / ".join(report.journal))
+
+    def test_a_mount_that_no_rule_fits_is_left_to_the_kernel(self):
+        report = play(policy(mount="true"), SCRIPT)
+        self.assertTrue(report.calls[1].endswith("mount EPERM"))
+        self.assertEqual(report.summary["passed"], 2)
+
+    def test_a_rule_of_ones_own_denies_it(self):
+        rule = {"name": "no-xfs", "call": "mount", "when": {"fstype": "xfs"}, "then": {"deny": "ENODEV"}}
+        report = play(policy(rule, mount="true"), SCRIPT)
+        self.assertIn("rule=no-xfs verdict=deny answer=ENODEV", report.audits[1])
+
+    def test_a_key_with_a_typing_error_is_named(self):
+        with self.assertRaises(Refused) as refused:
+            play(policy(mknodd="true"), SCRIPT)
+        self.assertEqual(refused.exception.status, 4)
+        self.assertEqual(refused.exception.line, f'policy: unknown key at config."{KEYS}mknodd"\n')
+
+    def test_a_report_that_is_longer_than_the_buffer_is_whole(self):
+        self.assertEqual(play(policy(), SCRIPT, size=1), play(policy(), SCRIPT))
+
+
+if __name__ == "__main__":
+    unittest.main()

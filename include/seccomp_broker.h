@@ -1,0 +1,99 @@
+/*
+ * seccomp_broker.h - the simulator of a broker for seccomp user notifications, as a library
+ *
+ * Each call takes bytes and gives a report and a status, as the program of the same name does of files. A policy, a script and
+ * a report are those of docs/FORMATS.md. docs/C_LIBRARY.md is the guide to this library, and says what is proved of it.
+ *
+ * Buffers. The caller owns every buffer, before the call and after it; the library keeps no pointer. A buffer is given by
+ * where it begins and how many bytes it has. One of 0 bytes may be NULL. Nothing is written past a buffer, and no zero byte
+ * is added behind a text. The buffers and lengths of one call lie apart from each other.
+ *
+ * Lengths. *out_length and *line_length are set by every call, whatever its status, to the length of the whole text. So a text
+ * that is longer than its buffer is known by its length; the buffer then has the bytes of its beginning that fit. A whole
+ * report that doesn't fit is BROKER_SHORT_BUFFER and never BROKER_DONE: call again with a buffer of *out_length bytes.
+ *
+ * Room. A call holds its report in memory before it copies it to `out`: at most `room` bytes, taken as they are needed. A room
+ * above BROKER_ROOM_LIMIT counts as BROKER_ROOM_LIMIT.
+ *
+ * Memory comes from the program's malloc and realloc, and is given back by free before the call returns.
+ *
+ * Threads. There is no state between calls: any number of threads may call at once, with buffers of their own. A call starts
+ * no thread, takes no lock but those of malloc, and reads and writes no file. It may not be made from a signal handler, nor
+ * after fork(2) in the child of a process with several threads.
+ */
+#ifndef SECCOMP_BROKER_H
+#define SECCOMP_BROKER_H
+
+#include <stddef.h>
+#include <stdint.h>
+
+#ifdef __cplusplus
+extern "C" {
+#endif
+
+/* How a call ended. 0 to 8 are the program's exit statuses. With each but BROKER_DONE and BROKER_SHORT_BUFFER, `line` has the one
+ * line that the program would print on standard error; with these two it is empty. */
+enum broker_status {
+  /* `out` has the whole report. */
+  BROKER_DONE = 0,
+  /* The numbers of generated input are out of range. */
+  BROKER_USAGE = 1,
+  /* A file couldn't be read. No call of this library answers it. */
+  BROKER_READ_FAULT = 2,
+  /* The policy has more than 1,048,576 bytes, or the script more than 8,388,608. */
+  BROKER_TOO_LONG = 3,
+  /* The policy is refused. */
+  BROKER_BAD_POLICY = 4,
+  /* The script is refused. */
+  BROKER_BAD_SCRIPT = 5,
+  /* The report has more bytes than `room`. `out` has a beginning of it, and *out_length is greater than `room`. */
+  BROKER_WRITE_FAULT = 6,
+  /* There was no memory. `out` has nothing, or a beginning of the report. */
+  BROKER_NO_MEMORY = 7,
+  /* The words of the program aren't built. No call of this library answers it. */
+  BROKER_NOT_BUILT = 8,
+  /* The report is whole, and has more bytes than `out`, which has the beginning of it. */
+  BROKER_SHORT_BUFFER = 100
+};
+
+/* The greatest room: 1 GiB. */
+#define BROKER_ROOM_LIMIT ((size_t)1 << 30)
+
+#if defined(__GNUC__)
+#define BROKER_NOT_NULL(...) __attribute__((nonnull(__VA_ARGS__)))
+#else
+#define BROKER_NOT_NULL(...)
+#endif
+
+/*
+ * Plays the schedule of a script under a policy, and writes the whole report to `out`, as `play POLICY SCRIPT` prints it.
+ *
+ * Answers BROKER_DONE, BROKER_TOO_LONG, BROKER_BAD_POLICY, BROKER_BAD_SCRIPT, BROKER_WRITE_FAULT, BROKER_NO_MEMORY or
+ * BROKER_SHORT_BUFFER. The policy is looked at first, and a script only where the policy is taken.
+ */
+BROKER_NOT_NULL(8, 11)
+enum broker_status broker_play(const void *policy, size_t policy_length,
+                               const void *script, size_t script_length,
+                               size_t room,
+                               void *out, size_t out_size, size_t *out_length,
+                               void *line, size_t line_size, size_t *line_length);
+
+/*
+ * Plays generated input of `count` calls, 1 to 4000, and writes the line of its summary to `out`, as `stress FROM COUNT` prints
+ * it. The same `from` makes the same input.
+ *
+ * Answers BROKER_DONE, BROKER_USAGE, BROKER_WRITE_FAULT, BROKER_NO_MEMORY or BROKER_SHORT_BUFFER.
+ */
+BROKER_NOT_NULL(6, 9)
+enum broker_status broker_stress(uint64_t from, uint32_t count,
+                                 size_t room,
+                                 void *out, size_t out_size, size_t *out_length,
+                                 void *line, size_t line_size, size_t *line_length);
+
+#undef BROKER_NOT_NULL
+
+#ifdef __cplusplus
+}
+#endif
+
+#endif
