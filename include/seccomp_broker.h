@@ -36,7 +36,7 @@ extern "C" {
 enum broker_status {
   /* `out` has the whole report. */
   BROKER_DONE = 0,
-  /* The numbers of generated input are out of range. */
+  /* `count` isn't 1 to 4000. */
   BROKER_USAGE = 1,
   /* A file couldn't be read. No call of this library answers it. */
   BROKER_READ_FAULT = 2,

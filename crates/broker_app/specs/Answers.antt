@@ -4,7 +4,7 @@ use Rattle.hist_model.specs.Legal.{played}
 use Rattle.hist_model.specs.Mediated.{Mediated}
 use Rattle.hist_model.specs.Report.{report, summary}
 use Rattle.hist_model.specs.ReportAudit.{Judging, judging_by}
-use Rattle.hist_model.specs.Words.{Form, Play, Run, Stress}
+use Rattle.hist_model.specs.Words.{Form, AuditCheck, Play, Run, Stress}
 use Rattle.hist_model.specs.declared.event.Event.{Event}
 use Rattle.hist_model.specs.declared.policy.Policy.{Policy}
 use Rattle.hist_model.specs.declared.script.Script.{Script}
@@ -157,6 +157,7 @@ Answers None files after old new status = IsUsage status × TookNothing old new
 Answers (Some (Play policy script)) files after old new status = PlayEnds files after old new policy script status
 Answers (Some (Stress from count)) files after old new status = StressEnds from count old new status
 Answers (Some (Run policy script workers cpus)) files after old new status = IsUnbuilt status × TookNothing old new
+Answers (Some (AuditCheck policy script report)) files after old new status = IsUnbuilt status × TookNothing old new
 
 -- the status that an outcome is
 abbrev pub status_of : Result (Unit {0}) Status → Status

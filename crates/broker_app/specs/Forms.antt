@@ -2,9 +2,9 @@
 use Rattle.std.specs.Prelude.{ℕ, ◌≤◌, List, map, String}
 use Rattle.std.specs.String.{string_bytes}
 use Rattle.std.specs.declared.alloc.Global.{Global}
-use Rattle.hist_model.specs.Words.{Form as Meaning, Play as Plays, Run as Runs, Stress as Stresses}
+use Rattle.hist_model.specs.Words.{Form as Meaning, AuditCheck as Checks, Play as Plays, Run as Runs, Stress as Stresses}
 use Rattle.broker_app.specs.declared.words.Form.{Form}
-use Rattle.broker_app.specs.declared.words.Form.TheVariants.{Play, Run, Stress}
+use Rattle.broker_app.specs.declared.words.Form.TheVariants.{AuditCheck, Play, Run, Stress}
 
 -- the bytes of the words
 abbrev pub texts : List (String Global) → List (List ℕ)
@@ -15,6 +15,7 @@ abbrev pub form_of : Form → Meaning
 form_of (Play policy script) = Plays policy.now script.now
 form_of (Run policy script workers cpus) = Runs policy.now script.now workers cpus
 form_of (Stress from count) = Stresses from count
+form_of (AuditCheck policy script report) = Checks policy.now script.now report.now
 
 -- generated input has at most 4000 calls
 abbrev pub HasFewCalls : Form → Type 0

@@ -105,7 +105,7 @@ fn answer<F: Files, O: Sink>(
         None => Err(Status::Usage),
         Some(Form::Play { policy, script }) => play_files(alloc, files, policy, script, out),
         Some(Form::Stress { from, count }) => stress(alloc, from, count, out),
-        Some(Form::Run { .. }) => Err(Status::NotBuilt),
+        Some(Form::Run { .. } | Form::AuditCheck { .. }) => Err(Status::NotBuilt),
     }
 }
 

@@ -2,7 +2,7 @@
 
 ghost use Rattle.std.specs.Prelude.{◌≡◌, ◌^◌, ◌-◌, map, IfSome};
 ghost use Rattle.std.specs.Option.{option_map};
-ghost use Rattle.hist_model.specs.Words.{number_between, run_form, stress_form, three_words, five_words, form};
+ghost use Rattle.hist_model.specs.Words.{number_between, run_form, stress_form, three_words, four_words, five_words, form};
 ghost use Rattle.broker_app.specs.Forms.{HasFewCalls, form_of, texts};
 
 use plain_words::number_between;
@@ -26,6 +26,12 @@ pub enum Form<'a> {
     Stress {
         from: u64,
         count: u32,
+    },
+    /// Check a report: the names of the files of the policy, the script and the report.
+    AuditCheck {
+        policy: &'a str,
+        script: &'a str,
+        report: &'a str,
     },
 }
 
@@ -71,6 +77,21 @@ fn three_words<'a>(command: &str, a: &'a str, b: &'a str) -> Option<Form<'a>>
     }
 }
 
+fn four_words<'a>(command: &str, a: &'a str, b: &'a str, c: &'a str) -> Option<Form<'a>>
+    ensures meant { option_map form_of result ≡ four_words command.now a.now b.now c.now }
+    ensures few { IfSome result (λ f. HasFewCalls f) }
+{
+    if command.as_bytes() == b"audit-check".as_slice() {
+        Some(Form::AuditCheck {
+            policy: a,
+            script: b,
+            report: c,
+        })
+    } else {
+        None
+    }
+}
+
 fn five_words<'a>(command: &str, a: &'a str, b: &'a str, c: &str, d: &str) -> Option<Form<'a>>
     ensures meant { option_map form_of result ≡ five_words command.now a.now b.now c.now d.now }
     ensures few { IfSome result (λ f. HasFewCalls f) }
@@ -89,6 +110,9 @@ pub fn read_form(words: &[String]) -> Option<Form<'_>>
 {
     if let [command, a, b] = words {
         return three_words(command.as_str(), a.as_str(), b.as_str());
+    }
+    if let [command, a, b, c] = words {
+        return four_words(command.as_str(), a.as_str(), b.as_str(), c.as_str());
     }
     if let [command, a, b, c, d] = words {
         return five_words(

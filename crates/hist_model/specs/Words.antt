@@ -2,11 +2,12 @@
 use Rattle.std.specs.Prelude.{ℕ, ◌+◌, ◌-◌, ◌*◌, ◌^◌, Bool, true, false, ◌&&◌, not, if◌then◌else◌, ◌==◌, nat_le, List, [], ◌∷◌, length, Option, Some, None, bytes_eq, codes}
 use Rattle.std.specs.List.{list_all}
 
--- play a script, run it with threads, or play generated input
+-- play a script, run it with threads, play generated input, or check a report
 pub data Form : Type 0 where
   Play : List ℕ → List ℕ → Form
   Run : List ℕ → List ℕ → ℕ → ℕ → Form
   Stress : ℕ → ℕ → Form
+  AuditCheck : List ℕ → List ℕ → List ℕ → Form
 
 abbrev pub is_digit : ℕ → Bool
 is_digit b = nat_le 48 b && nat_le b 57
@@ -37,11 +38,15 @@ three_words command a b =
     if bytes_eq command (codes "play") then Some (Play a b)
     else (if bytes_eq command (codes "stress") then stress_form (number_between 0 (2 ^ 64 - 1) a) (number_between 1 4000 b) else None)
 
+abbrev pub four_words : List ℕ → List ℕ → List ℕ → List ℕ → Option Form
+four_words command a b c = if bytes_eq command (codes "audit-check") then Some (AuditCheck a b c) else None
+
 abbrev pub five_words : List ℕ → List ℕ → List ℕ → List ℕ → List ℕ → Option Form
 five_words command a b c d = if bytes_eq command (codes "run") then run_form a b (number_between 0 16 c) (number_between 0 16 d) else None
 
--- the form of the words: play POLICY SCRIPT, run POLICY SCRIPT WORKERS CPUS, or stress FROM COUNT
+-- the form of the words: play POLICY SCRIPT, stress FROM COUNT, audit-check POLICY SCRIPT REPORT, or run POLICY SCRIPT WORKERS CPUS
 abbrev pub form : List (List ℕ) → Option Form
 form (command ∷ a ∷ b ∷ []) = three_words command a b
+form (command ∷ a ∷ b ∷ c ∷ []) = four_words command a b c
 form (command ∷ a ∷ b ∷ c ∷ d ∷ []) = five_words command a b c d
 form _ = None

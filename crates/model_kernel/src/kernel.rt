@@ -81,6 +81,13 @@ impl Kernel {
         (script, history)
     }
 
+    /// What has happened, where the listener stays open.
+    pub fn into_history(self) -> History
+        ensures { result ≡ self.history }
+    {
+        self.history
+    }
+
     /// Appends a step of a worker, for which there is room.
     pub(crate) fn note(&mut self, worker: u8, what: What)
         requires { 0 < self.old.history.spare }

@@ -23,82 +23,84 @@ use Rattle.model_kernel.specs.Ready.{IsSame}
 use Rattle.worker_gate.proofs.Remembering.{all_after, all_other, all_still}
 use Rattle.worker_gate.specs.Serving.{IsAt, IsServed, Reaches, after_schedule, after_step, after_steps}
 use Rattle.worker_gate.specs.Workers.{AllRemember}
-use Rattle.worker_gate.specs.declared.served.Served.{Served}
+use Rattle.worker_gate.specs.declared.machine.Machine.{Machine}
 
-module _ (old new : Served) (policy : new.policy ≡ old.policy) (served : IsServed old) where
-  reached : (K : List Event) → IsKernel new.kernel → new.kernel.script ≡ old.kernel.script → past new.kernel ≡ K → GoesOn old.policy old.kernel.script K → length new.workers.items ≡ 16
-      → AllRemember old.policy old.kernel.script.figures K new.workers.items → Reaches old K new
+module _ (P : Policy) (old new : Machine) (served : IsServed P old) where
+  reached : (K : List Event) → IsKernel new.kernel → new.kernel.script ≡ old.kernel.script → past new.kernel ≡ K → GoesOn P old.kernel.script K → length new.workers.items ≡ 17
+      → AllRemember P old.kernel.script.figures K new.workers.items → Reaches P old K new
   reached K k script events goes number workers = record {
-    served = record { kernel = k; goes_on = rw (policy, script, events) goes; number = number; workers = rw (policy, script, events) workers };
-    policy = policy;
+    served = record { kernel = k; goes_on = rw (script, events) goes; number = number; workers = rw (script, events) workers };
     script = script;
     events = events;
   }
 
   -- an actor's step, which each worker remembers
-  stepped : (a : Actor) → IsScheduled a → IsAfter old.kernel (ev a (step (system_of old.kernel.script) (rules_of old.policy old.kernel.script.figures) (past old.kernel) a)) new.kernel
-      → length new.workers.items ≡ 16 → AllRemember old.policy old.kernel.script.figures (after_step old a) new.workers.items → Reaches old (after_step old a) new
-  stepped a can after = reached (after_step old a) after.kernel after.script after.events (goes_on-step old.policy old.kernel.script a (past old.kernel) can served.goes_on)
+  stepped : (a : Actor) → IsScheduled a → IsAfter old.kernel (ev a (step (system_of old.kernel.script) (rules_of P old.kernel.script.figures) (past old.kernel) a)) new.kernel
+      → length new.workers.items ≡ 17 → AllRemember P old.kernel.script.figures (after_step P old a) new.workers.items → Reaches P old (after_step P old a) new
+  stepped a can after = reached (after_step P old a) after.kernel after.script after.events (goes_on-step P old.kernel.script a (past old.kernel) can served.goes_on)
 
   -- no step
-  stayed : IsSame old.kernel new.kernel → length new.workers.items ≡ 16 → AllRemember old.policy old.kernel.script.figures (past old.kernel) new.workers.items → Reaches old (past old.kernel) new
+  stayed : IsSame old.kernel new.kernel → length new.workers.items ≡ 17 → AllRemember P old.kernel.script.figures (past old.kernel) new.workers.items → Reaches P old (past old.kernel) new
   stayed same = reached (past old.kernel) same.kernel same.script same.past_is served.goes_on
 
-  module _ (v : ℕ) (x : Worker) (items : new.workers.items ≡ slice_set old.workers.items v x) (remembers : Remembers old.policy (session (past new.kernel) v) x) (figures : x.figures ≡ old.kernel.script.figures) where
-    number : length new.workers.items ≡ 16
+  module _ (v : ℕ) (x : Worker) (items : new.workers.items ≡ slice_set old.workers.items v x) (remembers : Remembers P (session (past new.kernel) v) x) (figures : x.figures ≡ old.kernel.script.figures) where
+    number : length new.workers.items ≡ 17
     number = rw (items, length-set) served.number
 
     -- a worker's step
-    pub worker_stepped : v ≤ 16 → IsAfter old.kernel (ev (WorkerActor v) (worker_step (system_of old.kernel.script) (rules_of old.policy old.kernel.script.figures) (past old.kernel) v)) new.kernel
-        → Reaches old (after_step old (WorkerActor v)) new
+    pub worker_stepped : v ≤ 16 → IsAfter old.kernel (ev (WorkerActor v) (worker_step (system_of old.kernel.script) (rules_of P old.kernel.script.figures) (past old.kernel) v)) new.kernel
+        → Reaches P old (after_step P old (WorkerActor v)) new
     unfolding step
     worker_stepped l after =
         stepped (WorkerActor v) l after number
-        (rw items (all_after old.policy old.kernel.script.figures (past old.kernel) v _ old.workers.items x served.workers (rw after.events at remembers) figures))
+        (rw items (all_after P old.kernel.script.figures (past old.kernel) v _ old.workers.items x served.workers (rw after.events at remembers) figures))
 
     -- and where it took none
-    pub worker_stayed : IsSame old.kernel new.kernel → Reaches old (past old.kernel) new
+    pub worker_stayed : IsSame old.kernel new.kernel → Reaches P old (past old.kernel) new
     worker_stayed same =
-        stayed same number (rw items (all_still old.policy old.kernel.script.figures (past old.kernel) v old.workers.items x served.workers (rw same.past_is at remembers) figures))
+        stayed same number (rw items (all_still P old.kernel.script.figures (past old.kernel) v old.workers.items x served.workers (rw same.past_is at remembers) figures))
 
   -- a task's step
-  pub task_stepped : (n : Name) → is_task_name n ≡ true → new.workers ≡ old.workers → IsAfter old.kernel (ev (Task n) (task_step (system_of old.kernel.script) (past old.kernel) n)) new.kernel → Reaches old (after_step old (Task n)) new
+  pub task_stepped : (n : Name) → is_task_name n ≡ true → new.workers ≡ old.workers → IsAfter old.kernel (ev (Task n) (task_step (system_of old.kernel.script) (past old.kernel) n)) new.kernel → Reaches P old (after_step P old (Task n)) new
   unfolding step
   task_stepped n named workers after =
       stepped (Task n) named after (rw workers served.number)
-      (rw workers (all_other old.policy old.kernel.script.figures (past old.kernel) (ev (Task n) (task_step (system_of old.kernel.script) (past old.kernel) n)) old.workers.items (λ w. refl) served.workers))
+      (rw workers (all_other P old.kernel.script.figures (past old.kernel) (ev (Task n) (task_step (system_of old.kernel.script) (past old.kernel) n)) old.workers.items (λ w. refl) served.workers))
+
+  -- and where it took none
+  pub task_stayed : new.workers ≡ old.workers → IsSame old.kernel new.kernel → Reaches P old (past old.kernel) new
+  task_stayed workers same = stayed same (rw workers served.number) (rw workers served.workers)
 
 -- the start
-pub at_start : (P : Policy) (S : Script) (s : Served) → s.policy ≡ P → IsBegun S s.kernel → length s.workers.items ≡ 16 → AllRemember P S.figures [] s.workers.items → IsAt P S (started S) s
-at_start P S s policy k number workers = record {
+pub at_start : (P : Policy) (S : Script) (m : Machine) → IsBegun S m.kernel → length m.workers.items ≡ 17 → AllRemember P S.figures [] m.workers.items → IsAt P S (started S) m
+at_start P S m k number workers = record {
   served = record {
     kernel = k.kernel;
-    goes_on = rw (policy, k.script, k.events) (goes_on-start P S);
+    goes_on = rw (k.script, k.events) (goes_on-start P S);
     number = number;
-    workers = rw (policy, k.script, k.events) (all_other P S.figures [] (start (system_of S)) s.workers.items (λ w. refl) workers);
+    workers = rw (k.script, k.events) (all_other P S.figures [] (start (system_of S)) m.workers.items (λ w. refl) workers);
   };
-  policy = policy;
   script = k.script;
   events = k.events;
 }
 
 -- ---- one turn after another
 
-module _ (old mid new : Served) (r : Reaches old (past mid.kernel) mid) where
-  pub reached_more : (K : List Event) → Reaches mid K new → Reaches old (past new.kernel) new
-  reached_more K s = record { served = s.served; policy = s.policy ∙ r.policy; script = s.script ∙ r.script; events = refl }
+module _ (P : Policy) (old mid new : Machine) (r : Reaches P old (past mid.kernel) mid) where
+  pub reached_more : (K : List Event) → Reaches P mid K new → Reaches P old (past new.kernel) new
+  reached_more K s = record { served = s.served; script = s.script ∙ r.script; events = refl }
 
-  -- the turns are those of the policy and the script of the first
-  pub steps_more : (a : Actor) (n : ℕ) → Reaches mid (after_steps mid a n) new → past new.kernel ≡ with_steps old.policy old.kernel.script a n (past mid.kernel)
-  steps_more a n s = rw (r.policy, r.script) at s.events
+  -- the turns are those of the script of the first
+  pub steps_more : (a : Actor) (n : ℕ) → Reaches P mid (after_steps P mid a n) new → past new.kernel ≡ with_steps P old.kernel.script a n (past mid.kernel)
+  steps_more a n s = rw r.script at s.events
 
-  pub step_more : (a : Actor) → Reaches mid (after_step mid a) new → past new.kernel ≡ with_step old.policy old.kernel.script a (past mid.kernel)
-  step_more a s = rw (r.policy, r.script) at s.events
+  pub step_more : (a : Actor) → Reaches P mid (after_step P mid a) new → past new.kernel ≡ with_step P old.kernel.script a (past mid.kernel)
+  step_more a s = rw r.script at s.events
 
-pub reached_last : (old new : Served) (K : List Event) → Reaches old (past new.kernel) new → past new.kernel ≡ K → Reaches old K new
-reached_last old new K r is = record { served = r.served; policy = r.policy; script = r.script; events = is }
+pub reached_last : (P : Policy) (old new : Machine) (K : List Event) → Reaches P old (past new.kernel) new → past new.kernel ≡ K → Reaches P old K new
+reached_last P old new K r is = record { served = r.served; script = r.script; events = is }
 
 -- the turns of the schedule after the start, and the close, are what is played
-pub played_to_end : (P : Policy) (S : Script) (s t : Served) → IsAt P S (started S) s → Reaches s (after_schedule s) t → ev Listener Close ∷ past t.kernel ≡ played P S
+pub played_to_end : (P : Policy) (S : Script) (s t : Machine) → IsAt P S (started S) s → Reaches P s (after_schedule P s) t → ev Listener Close ∷ past t.kernel ≡ played P S
 unfolding step
-played_to_end P S s t a r = ap (λ K. ev Listener Close ∷ K) (rw (a.policy, a.script, a.events) at r.events)
+played_to_end P S s t a r = ap (λ K. ev Listener Close ∷ K) (rw (a.script, a.events) at r.events)

@@ -11,36 +11,35 @@ use Rattle.history_frames.specs.Ordinals.{task_name_of, tasks_made}
 use Rattle.mediation.specs.Scheduled.{GoesOn}
 use Rattle.model_kernel.specs.Kernels.{IsKernel, past}
 use Rattle.worker_gate.specs.Workers.{AllRemember}
-use Rattle.worker_gate.specs.declared.served.Served.{Served}
+use Rattle.worker_gate.specs.declared.machine.Machine.{Machine}
 
--- the history is legal and goes on, and each of the workers 0 to 15 remembers its session of it
-pub record IsServed (s : Served) : Type 0 where
-  pub kernel : IsKernel s.kernel
-  pub goes_on : GoesOn s.policy s.kernel.script (past s.kernel)
-  pub number : length s.workers.items ≡ 16
-  pub workers : AllRemember s.policy s.kernel.script.figures (past s.kernel) s.workers.items
+-- under the policy the history is legal and goes on, and each of the workers 0 to 16 remembers its session of it
+pub record IsServed (P : Policy) (m : Machine) : Type 0 where
+  pub kernel : IsKernel m.kernel
+  pub goes_on : GoesOn P m.kernel.script (past m.kernel)
+  pub number : length m.workers.items ≡ 17
+  pub workers : AllRemember P m.kernel.script.figures (past m.kernel) m.workers.items
 
--- the kernel and its workers have come to this history of a policy and a script
-pub record IsAt (P : Policy) (S : Script) (K : List Event) (s : Served) : Type 0 where
-  pub served : IsServed s
-  pub policy : s.policy ≡ P
-  pub script : s.kernel.script ≡ S
-  pub events : past s.kernel ≡ K
+-- the machine has come to this history of a policy and a script
+pub record IsAt (P : Policy) (S : Script) (K : List Event) (m : Machine) : Type 0 where
+  pub served : IsServed P m
+  pub script : m.kernel.script ≡ S
+  pub events : past m.kernel ≡ K
 
--- they have come to another history of their policy and their script
-abbrev pub Reaches : Served → List Event → Served → Type 0
-Reaches old K new = IsAt old.policy old.kernel.script K new
+-- it has come to another history of the policy and its script
+abbrev pub Reaches : Policy → Machine → List Event → Machine → Type 0
+Reaches P old K new = IsAt P old.kernel.script K new
 
--- their history with one more step of an actor, and with as many
-abbrev pub after_step : Served → Actor → List Event
-after_step s a = with_step s.policy s.kernel.script a (past s.kernel)
+-- its history with one more step of an actor, and with as many
+abbrev pub after_step : Policy → Machine → Actor → List Event
+after_step P m a = with_step P m.kernel.script a (past m.kernel)
 
-abbrev pub after_steps : Served → Actor → ℕ → List Event
-after_steps s a n = with_steps s.policy s.kernel.script a n (past s.kernel)
+abbrev pub after_steps : Policy → Machine → Actor → ℕ → List Event
+after_steps P m a n = with_steps P m.kernel.script a n (past m.kernel)
 
 -- with the steps of the script's schedule
-abbrev pub after_schedule : Served → List Event
-after_schedule s = with_schedule s.policy s.kernel.script s.kernel.script.schedule (past s.kernel)
+abbrev pub after_schedule : Policy → Machine → List Event
+after_schedule P m = with_schedule P m.kernel.script m.kernel.script.schedule (past m.kernel)
 
 -- the ordinal is that of the task of this name, if one was made; an actor that is no task needs none
 abbrev pub IsFound : List Event → Actor → Option ℕ → Type 0

@@ -1,14 +1,10 @@
 //! The play of a script's schedule.
 
-ghost use Rattle.std.specs.Prelude.{◌≡◌, ◌<◌, ◌∷◌, length, true, OnOk, IfOk, Some, slice_get};
+ghost use Rattle.std.specs.Prelude.{◌≡◌, ◌<◌, length, true, OnOk, IfOk, Some, slice_get};
 ghost use Rattle.hist_model.specs.Legal.{played};
-ghost use Rattle.hist_model.specs.Look.{ev};
 ghost use Rattle.hist_model.specs.ScriptRules.{can_be_scheduled};
-ghost use Rattle.hist_model.specs.declared.event.Actor.TheVariants.{Listener};
-ghost use Rattle.hist_model.specs.declared.event.What.TheVariants.{Close};
-ghost use Rattle.model_kernel.specs.Kernels.{past};
 
-use crate::served::Served;
+use crate::machine::Machine;
 use hist_model::event::Actor;
 use hist_model::history::History;
 use hist_model::policy::Policy;
@@ -56,39 +52,19 @@ fn line(alloc: Global, script: &Script, index: usize) -> Result<Step, NoMemory>
     })
 }
 
-impl Served {
+impl Machine {
     ghost use Rattle.worker_gate.specs.Serving.{IsServed, Reaches, after_schedule};
 
     /// The turns of the script's schedule, in order.
-    pub fn schedule(&mut self, alloc: Global) -> Result<(), NoMemory>
-        requires { IsServed self.old }
-        ensures { OnOk result (Reaches self.old (after_schedule self.old) self.new) }
+    pub fn schedule(&mut self, alloc: Global, policy: &Policy) -> Result<(), NoMemory>
+        requires { IsServed policy.now self.old }
+        ensures { OnOk result (Reaches policy.now self.old (after_schedule policy.now self.old) self.new) }
     {
         for index in 0..lines(self.kernel.script()) {
             let step = line(alloc, self.kernel.script(), index)?;
-            self.turns(alloc, &step.who, step.count)?;
+            self.turns(alloc, policy, &step.who, step.count)?;
         }
         Ok(())
-    }
-
-    /// Closes the listener, which ends the history.
-    pub fn closed(self) -> Result<Played, NoMemory>
-        ensures events { IfOk result (λ p. p.history.events ≡ ev Listener Close ∷ past self.kernel) }
-        ensures policy { IfOk result (λ p. p.policy ≡ self.policy) }
-        ensures script { IfOk result (λ p. p.script ≡ self.kernel.script) }
-    {
-        let Served {
-            mut kernel,
-            policy,
-            ..
-        } = self;
-        kernel.ready_event()?;
-        let (script, history) = kernel.closed();
-        Ok(Played {
-            policy,
-            script,
-            history,
-        })
     }
 }
 
@@ -98,7 +74,12 @@ pub fn play(alloc: Global, policy: Policy, script: Script) -> Result<Played, NoM
     ensures policy { IfOk result (λ p. p.policy ≡ policy) }
     ensures script { IfOk result (λ p. p.script ≡ script) }
 {
-    let mut served = Served::new(alloc, policy, script)?;
-    served.schedule(alloc)?;
-    served.closed()
+    let mut machine = Machine::new(alloc, script)?;
+    machine.schedule(alloc, &policy)?;
+    let (script, history) = machine.closed()?;
+    Ok(Played {
+        policy,
+        script,
+        history,
+    })
 }

@@ -2,10 +2,11 @@ use Rattle.model_kernel.specs.Kernels.{past}
 use Rattle.worker_gate.proofs.Schedules.{steps_done, steps_left}
 use Rattle.worker_gate.proofs.Tasks.{found_still}
 use Rattle.worker_gate.proofs.Turns.{reached_last, reached_more, step_more}
-use Rattle.worker_gate.proofs.served.Served.turns.Goals as goal
+use Rattle.worker_gate.proofs.machine.Machine.turns.Goals as goal
 
 pub loop-preserved : goal.loop-preserved
 loop-preserved c =
+    let P = c.args.policy.now in
     let old = c.args.self.now in
     let mid = c.loop.self in
     let new = c.found_turn.new.self in
@@ -13,13 +14,14 @@ loop-preserved c =
     let i = c.loop.invariant in
     let done = c.in_ok-found_turn.ensures.done in
     record {
-      at = reached_more old mid new i.at _ done;
+      at = reached_more P old mid new i.at _ done;
       found = rw done.events (found_still _ _ (past mid.kernel) who c.task_of-task.result i.found);
-      rest = rw (step_more old mid new i.at who done) (steps_left old.policy old.kernel.script who c.loop.counter c.args.count (past mid.kernel) _ c.loop-test.true i.rest);
+      rest = rw (step_more P old mid new i.at who done) (steps_left P old.kernel.script who c.loop.counter c.args.count (past mid.kernel) _ c.loop-test.true i.rest);
     }
 
 pub returns : goal.returns
 returns c =
+    let P = c.args.policy.now in
     let old = c.args.self.now in
     let i = c.loop.invariant in
-    reached_last old c.loop.self _ i.at (steps_done old.policy old.kernel.script c.args.who.now c.loop.counter c.args.count (past c.loop.self.kernel) _ c.loop-test.false i.rest)
+    reached_last P old c.loop.self _ i.at (steps_done P old.kernel.script c.args.who.now c.loop.counter c.args.count (past c.loop.self.kernel) _ c.loop-test.false i.rest)

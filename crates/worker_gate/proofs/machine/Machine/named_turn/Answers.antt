@@ -1,6 +1,6 @@
 use Rattle.model_kernel.specs.Kernels.{past, system}
 use Rattle.worker_gate.proofs.Tasks.{unmade_skips}
-use Rattle.worker_gate.proofs.served.Served.named_turn.Goals as goal
+use Rattle.worker_gate.proofs.machine.Machine.named_turn.Goals as goal
 
 pub skip_turn-requires-clause-due : goal.skip_turn-requires-clause-due
 skip_turn-requires-clause-due c =

@@ -1,7 +1,7 @@
 use Rattle.std.proofs.Common.{◌≡◌, length, []}
 use Rattle.hist_model.specs.declared.policy.Policy.{Policy}
 use Rattle.worker_gate.specs.Workers.{AllRemember}
-use Rattle.worker_gate.proofs.served.idle_workers.Given as goal
+use Rattle.worker_gate.proofs.machine.idle_workers.Given as goal
 
 abbrev pub invariant-loop-number : goal.invariant-loop-number
 invariant-loop-number l = record {

@@ -1,12 +1,17 @@
 use Rattle.std.proofs.Common.{◌≡◌, ◌∙◌, ap, arith, length}
 use Rattle.hist_model.specs.declared.script.Script.{Script}
 use Rattle.model_kernel.specs.Kernels.{past}
+use Rattle.mediation.proofs.PlayedScripts.{can_take_steps}
 use Rattle.worker_gate.proofs.Schedules.{lines_done, lines_left}
 use Rattle.worker_gate.proofs.Turns.{reached_last, reached_more, steps_more}
-use Rattle.worker_gate.proofs.served.Served.schedule.Goals as goal
+use Rattle.worker_gate.proofs.machine.Machine.schedule.Goals as goal
+
+pub turns-requires-clause-scheduled : goal.turns-requires-clause-scheduled
+turns-requires-clause-scheduled c = can_take_steps c.in_ok-step.step.who c.in_ok-step.ensures.scheduled
 
 pub loop-index-preserved : goal.loop-index-preserved
 loop-index-preserved c =
+    let P = c.args.policy.now in
     let old = c.args.self.now in
     let mid = c.loop-index.self in
     let new = c.turns.new.self in
@@ -14,13 +19,14 @@ loop-index-preserved c =
     let i = c.loop-index.invariant in
     let is = rw (c.script-in-loop-index.ensures, i.at.script) at c.in_ok-step.ensures.line in
     record {
-      at = reached_more old mid new i.at _ c.in_ok-turns.ensures;
-      rest = rw (steps_more old mid new i.at step.who step.count c.in_ok-turns.ensures) (lines_left old.policy old.kernel.script old.kernel.script.schedule c.loop-index.index step (past mid.kernel) _ is i.rest);
+      at = reached_more P old mid new i.at _ c.in_ok-turns.ensures;
+      rest = rw (steps_more P old mid new i.at step.who step.count c.in_ok-turns.ensures) (lines_left P old.kernel.script old.kernel.script.schedule c.loop-index.index step (past mid.kernel) _ is i.rest);
     }
 
 pub returns : goal.returns
 returns c =
+    let P = c.args.policy.now in
     let old = c.args.self.now in
     let i = c.loop-index.invariant in
     let lines : c.lines-index-end.result ≡ length old.kernel.script.schedule = c.lines-index-end.ensures ∙ ap (λ (s : Script). length s.schedule) c.script.ensures in
-    reached_last old c.loop-index.self _ i.at (lines_done old.policy old.kernel.script old.kernel.script.schedule c.loop-index.index (past c.loop-index.self.kernel) _ (omega arith) i.rest)
+    reached_last P old c.loop-index.self _ i.at (lines_done P old.kernel.script old.kernel.script.schedule c.loop-index.index (past c.loop-index.self.kernel) _ (omega arith) i.rest)

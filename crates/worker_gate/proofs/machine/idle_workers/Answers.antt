@@ -1,7 +1,7 @@
 use Rattle.std.proofs.Common.{◌≡◌, ◌+◌, ◌++◌, ◌∷◌, [], ◌∙◌, ap, ℕ}
 use Rattle.std.proofs.lemmas.List.{length-append}
 use Rattle.worker_gate.proofs.Remembering.{all_push}
-use Rattle.worker_gate.proofs.served.idle_workers.Goals as goal
+use Rattle.worker_gate.proofs.machine.idle_workers.Goals as goal
 
 pub loop-number-preserved : goal.loop-number-preserved
 loop-number-preserved c =
