@@ -13,6 +13,7 @@ mod kernel;
 pub mod laws;
 mod listening;
 mod ready;
+mod reads;
 mod start;
 mod steps;
 mod wire;
