@@ -8,3 +8,7 @@ pub mod Reading
 pub mod Faults
 pub mod Traced
 pub mod WorkedChecks
+pub mod Cut
+pub mod Parting
+pub mod Found
+pub mod Compared

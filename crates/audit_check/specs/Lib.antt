@@ -4,3 +4,4 @@ pub mod Actors
 pub mod Reading
 pub mod Trail
 pub mod Traced
+pub mod Pass

@@ -10,6 +10,9 @@
 //! Below stand the report's writers (`audit_log`) and the facts of legal histories (`mediation`). Above stands the program.
 #![tactic(auto)]
 
+mod actor;
+mod compare;
 pub mod laws;
+mod line_ends;
 pub mod trace;
 pub mod trail;
