@@ -3,7 +3,7 @@
 use Rattle.std.proofs.Common.{◌≡◌, ℕ, zero, suc, ◌+◌, ◌-◌, ◌<◌, ◌≤◌, true, false, List, [], ◌∷◌, length, take, drop, get_or, Some, None, refl, sym, ap, ◌∙◌, inl, inr, arith, add-one, take_all, length-drop}
 use Rattle.std.specs.Prelude.{not, nat_lt, position, ◌==◌}
 use Rattle.std.specs.List.{onto_first, prefix_len, slice_split}
-use Rattle.std.proofs.lemmas.Bool.{cases_Bool}
+use Rattle.std.proofs.lemmas.Bool.{cases_Bool, eqb-true}
 use Rattle.std.proofs.lemmas.Bool.Decides.{nat_tests}
 use Rattle.std.proofs.lemmas.List.Quantifiers.{position-Some}
 use Rattle.std.proofs.lemmas.List.Splits.{slice_split-cons_no, slice_split-cons_yes}
@@ -42,6 +42,10 @@ none-at mark text e = elim (cases_Bool (nat_lt (mark-len mark text) (length text
 -- what stands behind a front, up to the text's end
 pub rest_whole : (n : ℕ) (text : List ℕ) → take (length text - n) (drop n text) ≡ drop n text
 rest_whole n text = take_all (length text - n) (drop n text) (omega (arith, length-drop n text))
+
+pub empty_text : (text : List ℕ) → (length text == 0) ≡ true → text ≡ []
+empty_text [] h = refl
+empty_text (b ∷ text) h = let e = eqb-true (length (b ∷ text)) 0 h in absurd (omega arith)
 
 -- ---- Lines
 

@@ -10,5 +10,8 @@ pub mod Traced
 pub mod WorkedChecks
 pub mod Cut
 pub mod Parting
-pub mod Found
+pub mod Passing
 pub mod Compared
+pub mod Steps
+pub mod Machines
+pub mod Openings

@@ -5,3 +5,4 @@ pub mod Reading
 pub mod Trail
 pub mod Traced
 pub mod Pass
+pub mod Checked
