@@ -6,12 +6,11 @@ use Rattle.std.specs.Option.{ForSome}
 use Rattle.std.proofs.lemmas.Bool.{eqb-true}
 use Rattle.std.proofs.lemmas.Bool.Decides.{nat_tests}
 use Rattle.std.proofs.lemmas.Option.{slice_get-get_or}
-use Rattle.std.proofs.lemmas.List.Sums.{count_by-le-length}
 use Rattle.std.proofs.lemmas.List.{length-take, length-take-le, take-append-drop}
 use Rattle.std.proofs.Math.Seq.{take-add}
 use Rattle.io_edge.specs.SinkState.{AddsPrefix, SinkState, Writes}
 use Rattle.audit_log.specs.Written.{Wrote}
-use Rattle.audit_log.proofs.Writing.{adds_nothing, wrote_front}
+use Rattle.audit_log.proofs.Writing.{wrote_front}
 use Rattle.audit_log.specs.declared.error.ReportError.{ReportError}
 use Rattle.audit_log.specs.declared.error.ReportError.TheVariants.{WriteFault}
 use Rattle.audit_check.specs.Pass.{Compares, ends, faults_of, parted, told, written}
@@ -118,10 +117,6 @@ module _ (text : List ℕ) (same : ℕ) (within : same ≤ length text) where
   compares_part None T n d f q = absurd (omega arith)
   compares_part (Some b) T n d f q = compares-other b T (drop n T) (d b refl) (sym (take-append-drop n T) ∙ ap (λ front. front ++ drop n T) (sym q))
 
--- lines that end in a text are no more than its bytes
-pub few_ends : (text : List ℕ) (n : ℕ) → ends (take n text) ≤ length text
-few_ends text n = omega (arith, count_by-le-length (λ b. b == 10) (take n text), length-take n text)
-
 -- ---- Writers that stopped, or went on
 
 pub stopped : (old new : SinkState) (a b : List ℕ) (e : ReportError) (r : Result (Unit {0}) ReportError) → r ≡ Err e → Wrote old a (Err e) new → Wrote old (a ++ b) r new
@@ -138,11 +133,6 @@ adds-behind : (front old piece new : List ℕ) → AddsPrefix old piece new → 
 adds-behind front old piece new p = (p.0, p.1, ap (λ more. front ++ more) p.2 ∙ sym (append_assoc front old (take p.0 piece)))
 
 module _ (text piece : List ℕ) (same : ℕ) where
-  -- it fails again
-  pub fails_again : {E : Type 0} (e : E) (other : Option ℕ) → is_some other ≡ true → Writes {T = Unit {0}} (known text same other) piece (Err e) (known text same other)
-  fails_again e None h = cc
-  fails_again e (Some b) h = record { tells = refl; faults = omega arith; cause = λ l. absurd (omega arith); whole = tt; part = λ t. adds_nothing (told text same (Some b)) piece }
-
   module _ (k : ℕ) (q : take k (drop same text) ≡ take k piece) where
     -- it takes the whole piece
     pub takes_whole : {E : Type 0} (other : Option ℕ) → is_some other ≡ false → k ≡ length piece → Writes {T = Unit {0}} {E = E} (known text same other) piece (Ok tt) (known text (same + k) other)

@@ -1,6 +1,6 @@
 -- What the machine's step, the close or a missing line makes of the pass over the journal.
 -- By the lemmas on a line's step (`Steps`) and on what was read (`Passing`).
-use Rattle.std.proofs.Common.{◌≡◌, ℕ, ◌+◌, ◌-◌, ◌<◌, Bool, true, false, List, [], ◌∷◌, length, Some, None, refl, sym, ap, subst, ◌∙◌}
+use Rattle.std.proofs.Common.{◌≡◌, ℕ, ◌+◌, ◌-◌, ◌<◌, Bool, true, false, List, [], ◌∷◌, length, Some, refl, sym, ap, subst, ◌∙◌}
 use Rattle.std.specs.Prelude.{bytes_eq}
 use Rattle.hist_model.specs.Legal.{rules_of, system_of}
 use Rattle.hist_model.specs.Look.{ev}
@@ -8,7 +8,7 @@ use Rattle.hist_model.specs.PolicyRules.{IsPolicy}
 use Rattle.hist_model.specs.ReportJournal.{event_line}
 use Rattle.hist_model.specs.Steps.{step}
 use Rattle.hist_model.specs.declared.event.Actor.{Actor}
-use Rattle.hist_model.specs.declared.event.Actor.TheVariants.{Listener, Start}
+use Rattle.hist_model.specs.declared.event.Actor.TheVariants.{Listener}
 use Rattle.hist_model.specs.declared.event.Event.{Event}
 use Rattle.hist_model.specs.declared.event.What.TheVariants.{Close}
 use Rattle.hist_model.specs.declared.policy.Policy.{Policy}
@@ -27,7 +27,7 @@ use Rattle.audit_check.specs.declared.stages.Stepped.{Stepped}
 use Rattle.audit_check.specs.declared.stages.Stepped.TheVariants.{Closed, Faulty, Went}
 use Rattle.audit_check.proofs.Cut.{no_lines}
 use Rattle.audit_check.proofs.Passing.{fault_next, line_missing, line_read}
-use Rattle.audit_check.proofs.Steps.{closes_early, closes_line, closes_other, more_behind, no_actor, start_again, turn_line, turn_other}
+use Rattle.audit_check.proofs.Steps.{closes_early, closes_line, closes_other, more_behind, turn_line, turn_other}
 
 module _ (P : Policy) (old : Machine) (line : List ℕ) (more : ℕ) (served : IsServed P old) where
   -- a turn, and the line of the event that it gave
@@ -58,13 +58,6 @@ module _ (P : Policy) (old : Machine) (line : List ℕ) (more : ℕ) (served : I
 
   pub closed_early : actor_in line ≡ Some Listener → 0 < more → HasStepped P old line more Faulty old
   closed_early named l = closes_early P old.kernel.script (past old.kernel) line more named served.goes_on.unclosed l
-
-  -- another start, and no actor
-  pub started_again : actor_in line ≡ Some Start → HasStepped P old line more Faulty old
-  started_again named = start_again P old.kernel.script (past old.kernel) line more named served.goes_on.unclosed
-
-  pub no_actor_named : actor_in line ≡ None → HasStepped P old line more Faulty old
-  no_actor_named none = no_actor P old.kernel.script (past old.kernel) line more none
 
 -- a machine that has come from another to a history, and goes on
 pub goes_to : (P : Policy) (first mid new : Machine) (K : List Event) → Reaches P first (past mid.kernel) mid → Reaches P mid K new → Reaches P first K new

@@ -1,6 +1,6 @@
 -- What a line of the journal does to the pass, where its actor took its step on the machine.
 -- By the definitions of the pass, and since the history goes on before the step and after it.
-use Rattle.std.proofs.Common.{inl, inr, ◌⊎◌, ◌≡◌, ℕ, zero, suc, ◌-◌, ◌<◌, ◌≤◌, ◌^◌, Bool, true, false, ◌&&◌, List, [], ◌∷◌, length, Option, Some, None, refl, sym, ap, subst, ◌∙◌, arith}
+use Rattle.std.proofs.Common.{inl, inr, ◌⊎◌, ◌≡◌, ℕ, zero, suc, ◌-◌, ◌<◌, ◌^◌, Bool, true, false, ◌&&◌, List, [], ◌∷◌, length, Option, Some, None, refl, sym, ap, subst, ◌∙◌, arith}
 use Rattle.std.specs.Prelude.{if◌then◌else◌, ◌==◌, bytes_eq, codes}
 use Rattle.std.proofs.lemmas.Bool.{cases_Bool, leb-true}
 use Rattle.std.proofs.lemmas.Bool.Decides.{nat_tests}
@@ -18,11 +18,10 @@ use Rattle.hist_model.specs.declared.script.Script.{Script}
 use Rattle.hist_model.proofs.Look.{name_eq-true}
 use Rattle.mediation.specs.Scheduled.{IsScheduled, IsUnclosed}
 use Rattle.audit_check.specs.Actors.{actor_in}
-use Rattle.audit_check.specs.Checked.{with_close, without_close}
+use Rattle.audit_check.specs.Checked.{with_close}
 use Rattle.audit_check.specs.Pass.{count_in, titled_count}
-use Rattle.audit_check.specs.Reading.{Fault, Journal, Title, behind, behind_event, behind_title, is_fault, stepped, title_word, with_line}
+use Rattle.audit_check.specs.Reading.{Fault, Journal, Title, behind, behind_event, behind_title, stepped, title_word, with_line}
 use Rattle.audit_check.proofs.Named.{actor_told, told_is_actor}
-use Rattle.audit_check.proofs.Reading.{counted}
 
 -- a task or a worker that a line names may take steps
 pub may_step : (line : List ℕ) (a : Actor) → actor_in line ≡ Some a → ((n : List ℕ) × (a ≡ Task n)) ⊎ ((w : ℕ) × (a ≡ Worker w)) → IsScheduled a
@@ -43,15 +42,6 @@ module _ (P : Policy) (S : Script) where
 
   line-on : (K : List Event) (a : Actor) (line : List ℕ) (more : ℕ) → actor_in line ≡ Some a → is_start a ≡ false → IsUnclosed K → with_line P S (Journal K more) line ≡ behind_event P line more (Some (with_step P S a K))
   line-on K a line more q s u = rw (q, steps-on K a s u) refl
-
-  -- the start comes first alone
-  pub start_again : (K : List Event) (line : List ℕ) (more : ℕ) → actor_in line ≡ Some Start → IsUnclosed K → with_line P S (Journal K more) line ≡ Fault
-  start_again [] line more q u = absurd u
-  start_again (f ∷ K) line more q u = rw q refl
-
-  pub no_actor : (K : List Event) (line : List ℕ) (more : ℕ) → actor_in line ≡ None → with_line P S (Journal K more) line ≡ Fault
-  no_actor [] line more q = rw q refl
-  no_actor (f ∷ K) line more q = rw q refl
 
   -- the close
   pub closes_line : (K : List Event) (line : List ℕ) → actor_in line ≡ Some Listener → IsUnclosed K → bytes_eq (event_line (length K) (ev Listener Close)) line ≡ true → with_line P S (Journal K 0) line ≡ behind P (with_close K) 0
@@ -116,31 +106,10 @@ module _ (P : Policy) (S : Script) where
       by None q = refl
       by (Some m) q = tested m (bytes_eq (title (codes "journal") m) line) q
 
-  -- a title tells some events
-  pub counts_some : (line : List ℕ) (n : ℕ) → count_in line ≡ Some n → 0 < n
-  counts_some line n q = by (number_between 1 (2 ^ 64 - 1) (title_word line)) refl q
-    where
-      tested : (m : ℕ) (b : Bool) → (1 ≤ m) × (m < 2 ^ 64) → (if b then Some m else None) ≡ Some n → 0 < n
-      tested m true l q = let e : m ≡ n = cc in let k = l.0 in omega arith
-      tested m false l q = cc
-
-      by : (o : Option ℕ) → number_between 1 (2 ^ 64 - 1) (title_word line) ≡ o → titled_count line o ≡ Some n → 0 < n
-      by None h q = cc
-      by (Some m) h q = tested m (bytes_eq (title (codes "journal") m) line) (counted P S (title_word line) m h) q
-
 -- where more events are to come the pass is in the journal
 pub more_behind : (P : Policy) (K : List Event) (n : ℕ) → 0 < n → behind P K n ≡ Journal K (n - 1)
 more_behind P K zero l = absurd (omega arith)
 more_behind P K (suc n) l = let e : suc n - 1 ≡ n = omega arith in ap (Journal K) (sym e)
-
-pub never_fault : (P : Policy) (K : List Event) (n : ℕ) → is_fault (behind P K n) ≡ false
-never_fault P K zero = refl
-never_fault P K (suc n) = refl
-
--- a history that isn't closed is whole without its close
-pub still_open : (K : List Event) → IsUnclosed K → without_close K ≡ K
-still_open [] u = absurd u
-still_open (e ∷ K) u = rw u refl
 
 pub filled : (K : List Event) → IsUnclosed K → 0 < length K
 filled [] u = absurd u

@@ -18,7 +18,7 @@ ghost use Rattle.audit_check.specs.Actors.{actor_in};
 ghost use Rattle.audit_check.specs.Checked.{HasEnded, HasStepped, Serves, Tells, without_close};
 ghost use Rattle.audit_check.specs.Lines.{lines};
 ghost use Rattle.audit_check.specs.Pass.{HasRead};
-ghost use Rattle.audit_check.specs.Reading.{Journal, Rest, behind, rest_of};
+ghost use Rattle.audit_check.specs.Reading.{Rest, behind, rest_of};
 
 use crate::actor::actor_in;
 use crate::compare::compared;

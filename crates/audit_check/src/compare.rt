@@ -1,7 +1,6 @@
 //! What a report has behind its journal, compared with a text as it is written.
 
-ghost use Rattle.std.specs.Prelude.{◌≡◌, ◌≢◌, ◌+◌, ◌<◌, ◌≤◌, ◌++◌, ◌==◌, ◌↔◌, true, false, [], IfOk, IfSome, IsTrue, None, Some, length, slice_get, take};
-ghost use Rattle.std.specs.List.{count_by};
+ghost use Rattle.std.specs.Prelude.{◌≡◌, ◌≢◌, ◌<◌, ◌≤◌, ◌++◌, ◌↔◌, true, false, IfOk, IfSome, IsTrue, None, Some, length, slice_get, take};
 ghost use Rattle.std.specs.Option.{ForSome};
 ghost use Rattle.hist_model.specs.ReportAudit.{audit, judging_by};
 ghost use Rattle.hist_model.specs.ReportCalls.{calls};
