@@ -8,3 +8,10 @@ pub mod Reading
 pub mod Faults
 pub mod Traced
 pub mod WorkedChecks
+pub mod Cut
+pub mod Parting
+pub mod Passing
+pub mod Compared
+pub mod Steps
+pub mod Machines
+pub mod Openings

@@ -76,14 +76,14 @@ module _ (P : Policy) (S : Script) where
   abbrev titled : ℕ → List ℕ
   titled n = title (codes "journal") n
 
-  with-more : (at : Reached) (front more : List (List ℕ)) → with_lines P S at (front ++ more) ≡ with_lines P S (with_lines P S at front) more
+  pub with_more : (at : Reached) (front more : List (List ℕ)) → with_lines P S at (front ++ more) ≡ with_lines P S (with_lines P S at front) more
   unfolding with_lines
-  with-more at [] more = refl
-  with-more at (line ∷ front) more = with-more (with_line P S at line) front more
+  with_more at [] more = refl
+  with_more at (line ∷ front) more = with_more (with_line P S at line) front more
 
-  one-line : (at : Reached) (line : List ℕ) → with_lines P S at (line ∷ []) ≡ with_line P S at line
+  pub one_line : (at : Reached) (line : List ℕ) → with_lines P S at (line ∷ []) ≡ with_line P S at line
   unfolding with_lines
-  one-line at line = refl
+  one_line at line = refl
 
   -- a fault stays one
   faulty : (more : List (List ℕ)) → with_lines P S Fault more ≡ Fault
@@ -99,7 +99,7 @@ module _ (P : Policy) (S : Script) where
   sound-front : (front more : List (List ℕ)) → is_fault (reached P S (front ++ more)) ≡ false → is_fault (reached P S front) ≡ false
   sound-front front more h = elim (cases_Bool (is_fault (reached P S front))) [
     | inl y ↦
-        let all : reached P S (front ++ more) ≡ Fault = with-more Title front more ∙ (ap (λ at. with_lines P S at more) (fault-is (reached P S front) y) ∙ faulty more) in
+        let all : reached P S (front ++ more) ≡ Fault = with_more Title front more ∙ (ap (λ at. with_lines P S at more) (fault-is (reached P S front) y) ∙ faulty more) in
         let bad : is_fault (reached P S (front ++ more)) ≡ true = ap is_fault all in
         absurd (both_ways _ h bad)
     | inr n ↦ n
@@ -171,7 +171,7 @@ module _ (P : Policy) (S : Script) where
       → reached P S (titled (length (later ++ K)) ∷ event_lines K) ≡ behind P K (length later)
   own-journal later [] legal some small =
       let same : length (later ++ []) ≡ length later = ap length (append-nil later) in
-      one-line Title (titled (length (later ++ []))) ∙ (titled-event (length (later ++ [])) some small ∙ ap (behind P []) same)
+      one_line Title (titled (length (later ++ []))) ∙ (titled-event (length (later ++ [])) some small ∙ ap (behind P []) same)
   own-journal later (e ∷ K) legal some small =
       let all : (later ++ e ∷ []) ++ K ≡ later ++ e ∷ K = append_assoc later (e ∷ []) K in
       let size : length (later ++ e ∷ []) ≡ suc (length later) = omega (arith, length-append later (e ∷ [])) in
@@ -179,9 +179,9 @@ module _ (P : Policy) (S : Script) where
       let before : reached P S front ≡ behind P K (length (later ++ e ∷ [])) =
       subst (λ H. reached P S (titled (length H) ∷ event_lines K) ≡ behind P K (length (later ++ e ∷ []))) all
       (own-journal (later ++ e ∷ []) K (subst IsPast (sym all) legal) (omega (arith, ap length all)) (omega (arith, ap length all))) in
-      with-more Title front (event_line (length K) e ∷ [])
+      with_more Title front (event_line (length K) e ∷ [])
       ∙ (ap (λ at. with_lines P S at (event_line (length K) e ∷ [])) (before ∙ ap (behind P K) size)
-      ∙ (one-line (Journal K (length later)) (event_line (length K) e) ∙ next-own later K e legal))
+      ∙ (one_line (Journal K (length later)) (event_line (length K) e) ∙ next-own later K e legal))
 
   module _ (policy : IsPolicy P) where
     own-report : (H : List Event) → Legal P S H → reached P S (lines (report_by P H)) ≡ Rest H []
@@ -189,7 +189,7 @@ module _ (P : Policy) (S : Script) where
         let front = titled (length H) ∷ event_lines H in
         let rest = lines (rest_of P H) in
         ap (reached P S) (report-lines policy H legal.0)
-        ∙ (with-more Title front rest ∙ (ap (λ at. with_lines P S at rest) (own-journal [] H legal.0 legal.2 legal.1) ∙ same-rest H rest))
+        ∙ (with_more Title front rest ∙ (ap (λ at. with_lines P S at rest) (own-journal [] H legal.0 legal.2 legal.1) ∙ same-rest H rest))
 
   -- ---- What the pass has heard
 
@@ -199,7 +199,7 @@ module _ (P : Policy) (S : Script) where
   Sound front (Rest H rest) = Legal P S H × (lines (report_by P H) ≡ front ++ rest)
   Sound front Fault = Unit {0}
 
-  counted : (word : List ℕ) (n : ℕ) → number_between 1 (2 ^ 64 - 1) word ≡ Some n → (1 ≤ n) × (n < 2 ^ 64)
+  pub counted : (word : List ℕ) (n : ℕ) → number_between 1 (2 ^ 64 - 1) word ≡ Some n → (1 ≤ n) × (n < 2 ^ 64)
   counted word n q = by (is_number word && (nat_le 1 v && nat_le v (2 ^ 64 - 1))) refl q
     where
       v : ℕ

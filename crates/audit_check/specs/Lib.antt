@@ -4,3 +4,5 @@ pub mod Actors
 pub mod Reading
 pub mod Trail
 pub mod Traced
+pub mod Pass
+pub mod Checked

@@ -5,11 +5,20 @@
 //! but its actor; all else is computed.
 //!
 //! The model is one pass over the lines (`specs/Reading.antt`), which finds a fault exactly at the first line that no legal
-//! history's report has there (`specs/Reported.antt`), and the trail of a history (`specs/Trail.antt`).
+//! history's report has there (`specs/Reported.antt`), and the trail of a history (`specs/Trail.antt`). `check_report` makes
+//! that pass with one machine, and compares what stands behind the journal as it is written: neither the report nor a line of it
+//! is kept.
 //!
-//! Below stand the report's writers (`audit_log`) and the facts of legal histories (`mediation`). Above stands the program.
+//! Below stand the machine that takes the steps (`worker_gate`), the report's writers (`audit_log`) and the facts of legal
+//! histories (`mediation`). Above stands the program.
 #![tactic(auto)]
 
+mod actor;
+pub mod check;
+mod compare;
+pub mod found;
 pub mod laws;
+mod line_ends;
+mod stages;
 pub mod trace;
 pub mod trail;

@@ -1,0 +1,18 @@
+use Rattle.std.proofs.Common.{ℕ, ◌+◌, ◌-◌, ◌^◌, ◌<◌, List, length}
+use Rattle.model_kernel.specs.Kernels.{past}
+use Rattle.worker_gate.specs.Serving.{Reaches}
+use Rattle.audit_check.specs.Lines.{lines}
+use Rattle.audit_check.specs.Pass.{HasRead}
+use Rattle.audit_check.specs.Reading.{behind}
+use Rattle.audit_check.proofs.check.events.Given as goal
+
+abbrev pub invariant-loop-more : goal.invariant-loop-more
+invariant-loop-more l = record {
+  here : Reaches l.fn.policy l.fn.machine (past l.machine.kernel) l.machine;
+  room : l.number + length l.text < 2 ^ 32 - 1;
+  read : (bytes : List ℕ) → HasRead l.fn.policy l.fn.machine.kernel.script bytes l.fn.start.number (lines l.fn.start.text.now) (behind l.fn.policy (past l.fn.machine.kernel) l.fn.count)
+      → HasRead l.fn.policy l.fn.machine.kernel.script bytes l.number (lines l.text) (behind l.fn.policy (past l.machine.kernel) l.more);
+}
+
+abbrev pub decreases-loop-more : goal.decreases-loop-more
+decreases-loop-more l = l.more

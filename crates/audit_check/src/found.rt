@@ -1,0 +1,12 @@
+//! What a checker finds of a report.
+
+use hist_model::history::History;
+
+/// What a checker finds of a report.
+#[derive(Drop)]
+pub enum Found {
+    /// The report is that of this legal history. It is finished where nothing is left to do but to close the listener.
+    Yes { history: History, finished: bool },
+    /// No legal history has a report that begins with the lines up to this one, counted from 1.
+    No { line: u32 },
+}
