@@ -1,0 +1,107 @@
+/*
+ * Stands before a program's own calls of the C library (LD_PRELOAD), and makes one of them fail. tools/every-allocation builds it.
+ *
+ *   FAIL_ALLOC=N   the N-th call of malloc or realloc finds no memory
+ *   FAIL_IO=N      the N-th call of open, read or write fails with EIO
+ *   SHORT_IO=N     the N-th read or write of several bytes moves one
+ *   COUNTS=FILE    at the end, how many calls of each kind there were is written to this file: three numbers
+ *
+ * Calls are counted from 1 and by all threads together, from when the loader hands over to the program.
+ */
+#define _GNU_SOURCE
+#include <dlfcn.h>
+#include <errno.h>
+#include <fcntl.h>
+#include <stdarg.h>
+#include <stdbool.h>
+#include <stddef.h>
+#include <stdio.h>
+#include <stdlib.h>
+#include <unistd.h>
+
+void *__libc_malloc(size_t size);
+void *__libc_realloc(void *block, size_t size);
+
+static unsigned long allocations, calls, several;
+static unsigned long failing_allocation, failing_call, short_call;
+static bool counts;
+
+static unsigned long number_named(const char *name) {
+  const char *text = getenv(name);
+  return text == NULL ? 0 : strtoul(text, NULL, 10);
+}
+
+__attribute__((constructor)) static void begin(void) {
+  failing_allocation = number_named("FAIL_ALLOC");
+  failing_call = number_named("FAIL_IO");
+  short_call = number_named("SHORT_IO");
+  counts = true;
+}
+
+/* Whether this call, the next one of those counted there, is the one that fails. */
+static bool is_next(unsigned long *counted, unsigned long failing) {
+  return counts && __atomic_add_fetch(counted, 1, __ATOMIC_RELAXED) == failing;
+}
+
+void *malloc(size_t size) {
+  if (is_next(&allocations, failing_allocation)) {
+    errno = ENOMEM;
+    return NULL;
+  }
+  return __libc_malloc(size);
+}
+
+void *realloc(void *block, size_t size) {
+  if (is_next(&allocations, failing_allocation)) {
+    errno = ENOMEM;
+    return NULL;
+  }
+  return __libc_realloc(block, size);
+}
+
+static bool fails(void) {
+  if (!is_next(&calls, failing_call))
+    return false;
+  errno = EIO;
+  return true;
+}
+
+/* How many of these bytes a call moves. */
+static size_t moved(size_t size) {
+  return size > 1 && is_next(&several, short_call) ? 1 : size;
+}
+
+int open(const char *name, int flags, ...) {
+  static int (*next)(const char *, int, ...);
+  va_list more;
+  va_start(more, flags);
+  mode_t mode = flags & O_CREAT ? va_arg(more, mode_t) : 0;
+  va_end(more);
+  if (next == NULL)
+    next = (int (*)(const char *, int, ...))dlsym(RTLD_NEXT, "open");
+  return fails() ? -1 : next(name, flags, mode);
+}
+
+ssize_t read(int file, void *bytes, size_t size) {
+  static ssize_t (*next)(int, void *, size_t);
+  if (next == NULL)
+    next = (ssize_t(*)(int, void *, size_t))dlsym(RTLD_NEXT, "read");
+  return fails() ? -1 : next(file, bytes, moved(size));
+}
+
+ssize_t write(int file, const void *bytes, size_t size) {
+  static ssize_t (*next)(int, const void *, size_t);
+  if (next == NULL)
+    next = (ssize_t(*)(int, const void *, size_t))dlsym(RTLD_NEXT, "write");
+  return fails() ? -1 : next(file, bytes, moved(size));
+}
+
+__attribute__((destructor)) static void tell(void) {
+  const char *name = getenv("COUNTS");
+  counts = false;
+  FILE *file = name == NULL ? NULL : fopen(name, "w");
+  if (file != NULL) {
+    fprintf(file, "%lu %lu %lu\n", allocations, calls, several);
+    fclose(file);
+  }
+}
