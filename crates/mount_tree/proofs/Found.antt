@@ -11,10 +11,12 @@ use Rattle.hist_model.specs.Look.{is_place}
 use Rattle.hist_model.specs.Trees.{entry_in, mount_on, target_of}
 use Rattle.hist_model.specs.declared.tree.NodeRow.{NodeRow}
 use Rattle.hist_model.specs.declared.tree.AttrRow.{AttrRow}
-use Rattle.mount_tree.specs.Keys.{key_of, key_cmp, rank, newest, newest_row, node_key, attr_key, mount_key, covered_key, covered_by}
+use Rattle.mount_tree.specs.Keys.{key_of, key_cmp, rank, newest, newest_row, node_key, attr_key, mount_key, covered_key, covered_by, alike_key}
+use Rattle.mount_tree.specs.declared.rows.Alike.{Alike}
 use Rattle.mount_tree.specs.declared.rows.Covered.{Covered}
 use Rattle.hist_model.specs.declared.tree.Mounted.{Mounted}
 use Rattle.mount_tree.specs.Places.{attr_place}
+use Rattle.mount_tree.specs.Stacks.{other_in}
 
 then_ties : (a b : Ordering) → is_eq (ordering_then a b) ≡ (is_eq a && is_eq b)
 then_ties Less b = refl
@@ -55,6 +57,10 @@ abbrev target_in : Option Covered → Option ℕ
 target_in (Some c) = Some c.target
 target_in None = None
 
+abbrev other_or : ℕ → Option Alike → ℕ
+other_or n (Some a) = a.other
+other_or n None = n
+
 plain_tie : (m n : ℕ) → is_eq (key_cmp (key_of (Some m) []) (key_of (Some n) [])) ≡ (m == n)
 plain_tie m n = keys_tie (Some m) n [] [] ∙ and_true (m == n)
   where
@@ -74,6 +80,12 @@ target_newest [] n = refl
 target_newest (m ∷ ms) n =
     rw (plain_tie m.root n) (elim (cases_Bool (m.root == n)) [ inl h ↦ rw h refl | inr h ↦ rw h (target_newest ms n) ])
 
+other_newest : (alike : List Alike) (n : ℕ) → other_or n (newest_row alike_key alike (key_of (Some n) [])) ≡ other_in alike n
+unfolding newest_row other_in
+other_newest [] n = refl
+other_newest (a ∷ rest) n =
+    rw (plain_tie a.node n) (elim (cases_Bool (a.node == n)) [ inl h ↦ rw h refl | inr h ↦ rw h (other_newest rest n) ])
+
 -- the newest mount on a node, and none
 pub mount_found : (ms : List Mounted) (n : ℕ) (m : Mounted) → newest_row mount_key ms (key_of (Some n) []) ≡ Some m → Some m.root ≡ mount_on ms n
 mount_found ms n m e = ap root_of (sym e) ∙ mount_newest ms n
@@ -87,3 +99,10 @@ target_found ms n c e = ap target_in (sym e) ∙ target_newest ms n
 
 pub target_absent : (ms : List Mounted) (n : ℕ) → newest_row covered_key (map covered_by ms) (key_of (Some n) []) ≡ None → None ≡ target_of ms n
 target_absent ms n e = ap target_in (sym e) ∙ target_newest ms n
+
+-- the other node of a node's newest row, and none
+pub other_found : (alike : List Alike) (n : ℕ) (a : Alike) → newest_row alike_key alike (key_of (Some n) []) ≡ Some a → a.other ≡ other_in alike n
+other_found alike n a e = ap (other_or n) (sym e) ∙ other_newest alike n
+
+pub other_absent : (alike : List Alike) (n : ℕ) → newest_row alike_key alike (key_of (Some n) []) ≡ None → n ≡ other_in alike n
+other_absent alike n e = ap (other_or n) (sym e) ∙ other_newest alike n

@@ -3,3 +3,4 @@ pub mod Places
 pub mod Walks
 pub mod Attributes
 pub mod Found
+pub mod Piled

@@ -7,6 +7,7 @@ use Rattle.std.specs.declared.cmp.Ordering.{Ordering}
 use Rattle.hist_model.specs.declared.tree.NodeRow.{NodeRow}
 use Rattle.hist_model.specs.declared.tree.AttrRow.{AttrRow}
 use Rattle.hist_model.specs.declared.tree.Mounted.{Mounted}
+use Rattle.mount_tree.specs.declared.rows.Alike.{Alike}
 use Rattle.mount_tree.specs.declared.rows.Covered.{Covered}
 
 -- what a row is found by: 0 where it has no owner, else one more than its owner's ordinal; and a name
@@ -38,6 +39,9 @@ mount_key m = key_of (Some m.target) []
 
 abbrev pub covered_key : Covered → Key
 covered_key c = key_of (Some c.root) []
+
+abbrev pub alike_key : Alike → Key
+alike_key a = key_of (Some a.node) []
 
 abbrev pub covered_by : Mounted → Covered
 covered_by m = record { root = m.root; target = m.target }

@@ -3,8 +3,10 @@
 ghost use Rattle.std.specs.Prelude.{◌≡◌, ◌∷◌, ◌+◌, ◌^◌, ◌<◌, [], true, false, length, reverse, OnOk, OnErr};
 ghost use Rattle.hist_model.specs.Trees as trees;
 ghost use Rattle.mount_tree.specs.Changes.{row_of, row_length};
+ghost use Rattle.mount_tree.specs.Stacks.{IsOnTop, seen};
 
 use crate::rows::Covered;
+use crate::stacks::Stacks;
 use crate::table::Table;
 use hist_model::request::MountRow;
 use hist_model::tree::Mounted;
@@ -58,18 +60,20 @@ pub struct Mounts {
     rows: Table<Mounted>,
     /// The directories that they cover, by the roots.
     roots: Table<Covered>,
+    stacks: Stacks,
 }
 
 impl Model for Mounts {
     ghost use Rattle.std.specs.Prelude.{◌≡◌, true, map};
     ghost use Rattle.hist_model.specs.declared.tree.Mounted.{Mounted};
     ghost use Rattle.mount_tree.specs.Keys.{Kept, covered_by};
+    ghost use Rattle.mount_tree.specs.Stacks.{Follow, HasRoom};
 
     ghost Value = { Kept Mounted };
 
     ghost view = { λ t. t.rows };
 
-    ghost invariant = { λ t. (t.roots.rows ≡ map covered_by t.rows.rows) × (t.rows.roomy ≡ true → t.roots.roomy ≡ true) };
+    ghost invariant = { λ t. (t.roots.rows ≡ map covered_by t.rows.rows) × (t.rows.roomy ≡ true → t.roots.roomy ≡ true) × (t.rows.roomy ≡ true → HasRoom t.stacks) × Follow t.rows.rows t.stacks };
 }
 
 impl Mounts {
@@ -80,6 +84,7 @@ impl Mounts {
         Mounts {
             rows: Table::new(alloc),
             roots: Table::new(alloc),
+            stacks: Stacks::new(alloc),
         }
     }
 
@@ -90,6 +95,7 @@ impl Mounts {
         ensures unchanged { OnErr result (self.new ≡ self.old) }
     {
         self.roots.reserve()?;
+        self.stacks.reserve()?;
         self.rows.reserve()
     }
 
@@ -130,11 +136,31 @@ impl Mounts {
         }
     }
 
+    /// A node at which the same is seen, with no mount on it as long as each was put on what is seen at its place.
+    pub fn near_top(&self, node: u32) -> u32
+        ensures { seen self.now.rows result ≡ seen self.now.rows node }
+    {
+        self.stacks.near_top(node)
+    }
+
+    /// Whether a mount would lie on top, with a root that is new.
+    #[tactic(auto, using(crate::proofs::Piled::is_on_top))]
+    fn is_on_top(&self, target: u32, root: u32) -> bool
+        ensures { result ≡ true → IsOnTop self.now.rows target root }
+    {
+        if target == root {
+            return false;
+        }
+        self.mount_on(target).is_none() && self.mount_on(root).is_none()
+    }
+
     /// Adds a mount. There is room for it.
     pub fn push(&mut self, mount: Mounted)
         requires { self.old.roomy ≡ true }
         ensures { self.new ≡ record { rows = mount ∷ self.old.rows; roomy = false } }
     {
+        let is_on_top = self.is_on_top(mount.target, mount.root);
+        self.stacks.push(mount.target, mount.root, is_on_top);
         self.roots.push(Covered {
             root: mount.root,
             target: mount.target,

@@ -1,7 +1,7 @@
 //! What the rows of a tree are found by.
 
 ghost use Rattle.std.specs.Prelude.{◌≡◌};
-ghost use Rattle.mount_tree.specs.Keys.{node_key, attr_key, mount_key, covered_key};
+ghost use Rattle.mount_tree.specs.Keys.{node_key, attr_key, mount_key, covered_key, alike_key};
 
 use crate::table::Row;
 use hist_model::request::MountRow;
@@ -90,6 +90,29 @@ impl Row for Covered {
 
     fn owner(&self) -> Option<u32> {
         Some(self.root)
+    }
+
+    fn name(&self) -> &[u8] {
+        &[]
+    }
+
+    fn make_exact(&mut self, _alloc: Global) -> Result<(), NoMemory> {
+        Ok(())
+    }
+}
+
+/// A node, by which it is found, and another one at which the same is seen.
+#[derive(Clone, Copy, Debug)]
+pub struct Alike {
+    pub node: u32,
+    pub other: u32,
+}
+
+impl Row for Alike {
+    ghost key = { alike_key };
+
+    fn owner(&self) -> Option<u32> {
+        Some(self.node)
     }
 
     fn name(&self) -> &[u8] {

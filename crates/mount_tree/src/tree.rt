@@ -121,7 +121,7 @@ impl Tree {
     pub fn top(&self, n: NodeRef) -> NodeRef
         ensures { result.ordinal ≡ top self.now.tree n.ordinal }
     {
-        let mut ordinal = n.ordinal;
+        let mut ordinal = self.mounts.near_top(n.ordinal);
         let mut left = self.mounts.len();
         while left > 0 {
             match self.mounts.mount_on(ordinal) {
