@@ -1,3 +1,5 @@
+-- The actor of a line is that of its second word.
+-- By what stands before and behind its first space (`first_word`, `behind_word`).
 use Rattle.std.proofs.lemmas.Result.{IfOk-weaker}
 use Rattle.std.proofs.Common.{ap, ◌∙◌}
 use Rattle.audit_check.specs.Actors.{actor_in, actor_of}

@@ -1,4 +1,5 @@
 -- Each word between points is read.
+-- By the list that the split yields (`Iterator`).
 use Rattle.std.proofs.Common.{rules, tests}
 use Rattle.std.specs.Prelude.{◌==◌}
 use Rattle.std.proofs.lemmas.Iterator.{items_from_collect, YieldsList-from_map}

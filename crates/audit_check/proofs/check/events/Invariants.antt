@@ -1,3 +1,5 @@
+-- So many lines are read, and so many events are left to come.
+-- By the machine's history, which is that of the pass.
 use Rattle.std.proofs.Common.{ℕ, ◌+◌, ◌-◌, ◌^◌, ◌<◌, List, length}
 use Rattle.model_kernel.specs.Kernels.{past}
 use Rattle.worker_gate.specs.Serving.{Reaches}

@@ -1,3 +1,5 @@
+-- The newest event stands at the last place.
+-- By the history's length, which is one more than the place.
 use Rattle.std.proofs.Common.{◌≡◌, ◌-◌, Some, length, sym, ap, ◌∙◌, arith}
 use Rattle.std.proofs.lemmas.Result.{IfOk-weaker}
 use Rattle.hist_model.proofs.Look.{event_at-here}

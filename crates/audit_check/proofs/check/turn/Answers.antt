@@ -1,3 +1,5 @@
+-- An actor's turn gives the line that is compared.
+-- By what the machine's turn makes of the pass (`Machines`).
 use Rattle.std.proofs.Common.{ap, ◌∙◌}
 use Rattle.hist_model.specs.declared.history.History.{History}
 use Rattle.audit_check.proofs.Machines.{turned, turned_other}

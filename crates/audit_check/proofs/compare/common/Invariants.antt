@@ -1,3 +1,5 @@
+-- The bytes so far are the same in both.
+-- By the places that were looked at.
 use Rattle.std.proofs.Common.{◌≡◌, take}
 use Rattle.audit_check.proofs.compare.common.Given as goal
 

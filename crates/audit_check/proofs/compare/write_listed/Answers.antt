@@ -1,3 +1,5 @@
+-- The calls are written, and then the audit.
+-- By what is written one text after another (`Writing`).
 use Rattle.std.proofs.Common.{rules, ◌≡◌, Err}
 use Rattle.hist_model.specs.ReportCalls.{calls}
 use Rattle.hist_model.specs.ReportAudit.{audit, judging_by}
