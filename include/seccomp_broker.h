@@ -31,16 +31,16 @@
 extern "C" {
 #endif
 
-/* How a call ended. 0 to 8 are the program's exit statuses. With each but BROKER_DONE and BROKER_SHORT_BUFFER, `line` has the one
+/* How a call ended. 0 to 9 are the program's exit statuses. With each but BROKER_DONE and BROKER_SHORT_BUFFER, `line` has the one
  * line that the program would print on standard error; with these two it is empty. */
 enum broker_status {
-  /* `out` has the whole report. */
+  /* `out` has the whole report, or the whole of what broker_audit_check found. */
   BROKER_DONE = 0,
   /* `count` isn't 1 to 4000. */
   BROKER_USAGE = 1,
   /* A file couldn't be read. No call of this library answers it. */
   BROKER_READ_FAULT = 2,
-  /* The policy has more than 1,048,576 bytes, or the script more than 8,388,608. */
+  /* The policy has more than 1,048,576 bytes, the script more than 8,388,608, or the report more than 33,554,432. */
   BROKER_TOO_LONG = 3,
   /* The policy is refused. */
   BROKER_BAD_POLICY = 4,
@@ -52,6 +52,8 @@ enum broker_status {
   BROKER_NO_MEMORY = 7,
   /* The words of the program aren't built. No call of this library answers it. */
   BROKER_NOT_BUILT = 8,
+  /* The bytes are the report of no legal history. `line` has the number of their first line at which they are none. */
+  BROKER_NOT_REPORT = 9,
   /* The report is whole, and has more bytes than `out`, which has the beginning of it. */
   BROKER_SHORT_BUFFER = 100
 };
@@ -89,6 +91,22 @@ enum broker_status broker_stress(uint64_t from, uint32_t count,
                                  size_t room,
                                  void *out, size_t out_size, size_t *out_length,
                                  void *line, size_t line_size, size_t *line_length);
+
+/*
+ * Checks whether bytes are the report of a legal history under a policy and a script, whatever its schedule, and writes to `out`
+ * what `audit-check POLICY SCRIPT REPORT` prints: a line with the number of events and whether the history is finished, and then
+ * the trail, a line for each call. Here the lengths, `room` and BROKER_SHORT_BUFFER are of that text.
+ *
+ * Answers BROKER_DONE, BROKER_TOO_LONG, BROKER_BAD_POLICY, BROKER_BAD_SCRIPT, BROKER_WRITE_FAULT, BROKER_NO_MEMORY,
+ * BROKER_NOT_REPORT or BROKER_SHORT_BUFFER. The report is looked at only where the policy and the script are taken.
+ */
+BROKER_NOT_NULL(10, 13)
+enum broker_status broker_audit_check(const void *policy, size_t policy_length,
+                                      const void *script, size_t script_length,
+                                      const void *report, size_t report_length,
+                                      size_t room,
+                                      void *out, size_t out_size, size_t *out_length,
+                                      void *line, size_t line_size, size_t *line_length);
 
 #undef BROKER_NOT_NULL
 

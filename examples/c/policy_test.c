@@ -1,5 +1,5 @@
-/* Tests of a container's policy, over the broker as a library: what is granted, what is left to the kernel, what a race comes to, and
- * what is said of a policy with a fault. */
+/* Tests of a container's policy, over the broker as a library: what is granted, what is left to the kernel, what a race comes to, what
+ * is said of a policy with a fault, and whether a report is one. */
 #include <seccomp_broker.h>
 
 #include <stdbool.h>
@@ -73,6 +73,22 @@ static struct play play(const char *policy_text, const char *script_text) {
   return played;
 }
 
+/* What the check of a report came to: what is found, as far as it fits, and the line. */
+struct check {
+  enum broker_status status;
+  char found[1024];
+  char line[256];
+};
+
+/* Checks a report under a policy and a script. */
+static struct check check(const char *policy_text, const char *script_text, const char *report) {
+  struct check checked = {BROKER_NO_MEMORY, "", ""};
+  size_t length, line_length;
+  checked.status = broker_audit_check(policy_text, strlen(policy_text), script_text, strlen(script_text), report, strlen(report), BROKER_ROOM_LIMIT,
+                                      checked.found, sizeof checked.found - 1, &length, checked.line, sizeof checked.line - 1, &line_length);
+  return checked;
+}
+
 static int failures;
 
 /* Counts a failure where the text doesn't contain what is wanted. */
@@ -85,30 +101,52 @@ static void wants(const char *what, const char *text, const char *wanted) {
   }
 }
 
-static void wants_status(const char *what, const struct play *played, enum broker_status wanted) {
-  printf("%s %s\n", played->status == wanted ? "ok  " : "FAIL", what);
-  if (played->status != wanted) {
-    printf("     wanted status %d, got %d: %s", wanted, played->status, played->line);
+static void wants_status(const char *what, enum broker_status status, const char *line, enum broker_status wanted) {
+  printf("%s %s\n", status == wanted ? "ok  " : "FAIL", what);
+  if (status != wanted) {
+    printf("     wanted status %d, got %d: %s", wanted, status, line);
     failures++;
   }
 }
 
+/* Checks the report of a play, and then the same with an answer changed. */
+static void check_report(const char *report) {
+  struct check whole = check(policy, script, report);
+  wants_status("the report is one", whole.status, whole.line, BROKER_DONE);
+  wants("of a history that is finished", whole.found, " finished=yes\n");
+  wants("and its trail names the rule", whole.found, " rule=lxd.mknod.1:3\n");
+
+  char *changed = malloc(strlen(report) + 1);
+  char *made = changed == NULL ? NULL : strstr(strcpy(changed, report), "chr 1:3 ok");
+  if (made == NULL) {
+    wants("the act has its line", NULL, "chr 1:3 ok");
+  } else {
+    memcpy(made, "chr 1:1", strlen("chr 1:1"));
+    struct check other = check(policy, script, changed);
+    wants_status("with another device in its act it is none", other.status, other.line, BROKER_NOT_REPORT);
+    wants("and the line is named", other.line, "report: line ");
+  }
+  free(changed);
+}
+
 int main(void) {
   struct play boot = play(policy, script);
-  wants_status("the boot is played", &boot, BROKER_DONE);
+  wants_status("the boot is played", boot.status, boot.line, BROKER_DONE);
   wants("/dev/null is made", boot.report, "mknod rule=lxd.mknod.1:3 verdict=grant answer=0 reply=sent\n");
   wants("ext4 is mounted", boot.report, "mount rule=lxd.mount.ext4 verdict=grant answer=0 reply=sent\n");
   wants("xfs is left to the kernel", boot.report, "mount rule=default.mount verdict=pass answer=continue reply=sent\n");
   wants("which refuses it", boot.report, "pid=1 mount EPERM\n");
+  if (boot.report != NULL)
+    check_report(boot.report);
   free(boot.report);
 
   struct play raced = play(policy, race);
-  wants_status("the race is played", &raced, BROKER_DONE);
+  wants_status("the race is played", raced.status, raced.line, BROKER_DONE);
   wants("what was judged is made, and not what stands there later", raced.report, "act mknod \"/null\" chr 1:3 ok\n");
   free(raced.report);
 
   struct play typo = play("{\"config\": {\"security.syscalls.intercept.mknodd\": \"true\"}}", script);
-  wants_status("a key with a typing error is refused", &typo, BROKER_BAD_POLICY);
+  wants_status("a key with a typing error is refused", typo.status, typo.line, BROKER_BAD_POLICY);
   wants("and named", typo.line, "policy: unknown key at config.\"security.syscalls.intercept.mknodd\"\n");
   free(typo.report);
   return failures > 0;

@@ -1,4 +1,5 @@
-"""Plays scripts under policies by the C library that tools/make-c-library makes: play(policy, script) gives a Report, or raises Refused."""
+"""Plays scripts under policies, and checks reports, by the C library that tools/make-c-library makes: play(policy, script) gives a
+Report, and check(policy, script, report) what is found of one; both raise Refused."""
 import ctypes
 import os
 from dataclasses import dataclass
@@ -7,8 +8,9 @@ from pathlib import Path
 DIST = Path(__file__).resolve().parents[2] / "dist"
 LIBRARY = ctypes.CDLL(os.environ.get("SECCOMP_BROKER", str(DIST / "lib/libseccomp_broker.so")))
 BYTES, SIZE, LENGTH = ctypes.c_char_p, ctypes.c_size_t, ctypes.POINTER(ctypes.c_size_t)
-LIBRARY.broker_play.argtypes = [BYTES, SIZE, BYTES, SIZE, SIZE, BYTES, SIZE, LENGTH, BYTES, SIZE, LENGTH]
-LIBRARY.broker_play.restype = ctypes.c_uint
+LIBRARY.broker_play.argtypes = [BYTES, SIZE] * 2 + [SIZE, BYTES, SIZE, LENGTH, BYTES, SIZE, LENGTH]
+LIBRARY.broker_audit_check.argtypes = [BYTES, SIZE] * 3 + [SIZE, BYTES, SIZE, LENGTH, BYTES, SIZE, LENGTH]
+LIBRARY.broker_play.restype = LIBRARY.broker_audit_check.restype = ctypes.c_uint
 DONE, SHORT_BUFFER, ROOM_LIMIT = 0, 100, 1 << 30
 
 
@@ -30,20 +32,46 @@ class Report:
     summary: dict
 
 
-def play(policy, script, size=65536):
-    """The report of a script that is played under a policy, both as bytes or as text."""
-    policy, script = (text.encode() if isinstance(text, str) else text for text in (policy, script))
+@dataclass(frozen=True)
+class Findings:
+    """What is found of a report: how many events its history has, whether it is finished, and the lines of its trail."""
+
+    events: int
+    finished: bool
+    trail: list
+
+
+def answer(call, *texts, size=65536):
+    """What a function of the library gives for these texts, each as bytes or as text."""
+    texts = [text.encode() if isinstance(text, str) else text for text in texts]
     out, line = ctypes.create_string_buffer(size), ctypes.create_string_buffer(4096)
     length, said = ctypes.c_size_t(), ctypes.c_size_t()
-    status = LIBRARY.broker_play(policy, len(policy), script, len(script), ROOM_LIMIT,
-                                 out, size, ctypes.byref(length), line, len(line), ctypes.byref(said))
+    status = call(*(part for text in texts for part in (text, len(text))), ROOM_LIMIT,
+                  out, size, ctypes.byref(length), line, len(line), ctypes.byref(said))
     if status == SHORT_BUFFER:
-        return play(policy, script, length.value)
+        return answer(call, *texts, size=length.value)
     if status != DONE:
         raise Refused(status, line.raw[:said.value].decode())
-    parts, lines = [], out.raw[:length.value].decode().splitlines()
+    return out.raw[:length.value].decode()
+
+
+def report_of(policy, script, size=65536):
+    """The text of the report of a script that is played under a policy."""
+    return answer(LIBRARY.broker_play, policy, script, size=size)
+
+
+def play(policy, script, size=65536):
+    """The report of a script that is played under a policy."""
+    parts, lines = [], report_of(policy, script, size).splitlines()
     while len(parts) < 3:
         end = 1 + int(lines[0].split()[1])
         parts.append(lines[1:end])
         lines = lines[end:]
     return Report(*parts, {name: int(count) for name, count in (field.split("=") for field in lines[0].split()[1:])})
+
+
+def check(policy, script, report):
+    """What is found of a report under a policy and a script."""
+    first, *trail = answer(LIBRARY.broker_audit_check, policy, script, report).splitlines()
+    fields = dict(field.split("=") for field in first.split()[1:])
+    return Findings(int(fields["events"]), fields["finished"] == "yes", trail)

@@ -2,7 +2,7 @@
 import json
 import unittest
 
-from seccomp_broker import Refused, play
+from seccomp_broker import Refused, check, play, report_of
 
 KEYS = "security.syscalls.intercept."
 SCRIPT = r"""
@@ -57,6 +57,19 @@ class Boot(unittest.TestCase):
 
     def test_a_report_that_is_longer_than_the_buffer_is_whole(self):
         self.assertEqual(play(policy(), SCRIPT, size=1), play(policy(), SCRIPT))
+
+    def test_a_report_is_checked_and_its_calls_are_traced(self):
+        report = report_of(policy(mknod="true"), SCRIPT)
+        found = check(policy(mknod="true"), SCRIPT, report)
+        self.assertTrue(found.finished)
+        self.assertEqual(f"journal {found.events}", report.splitlines()[0])
+        self.assertTrue(found.trail[0].endswith(" rule=lxd.mknod.1:3"))
+
+    def test_a_report_of_another_policy_is_none(self):
+        with self.assertRaises(Refused) as refused:
+            check(policy(), SCRIPT, report_of(policy(mknod="true"), SCRIPT))
+        self.assertEqual(refused.exception.status, 9)
+        self.assertRegex(refused.exception.line, r"^report: line \d+\n$")
 
 
 if __name__ == "__main__":

@@ -1,6 +1,6 @@
--- How a play ends.
+-- What came of the printing of a text, and how a play ends.
 -- By the lemmas of `Writing`, by what `Flushes` says of the sink, by cases on the error, and since equal histories have equal texts.
-use Rattle.std.proofs.Common.{◌≡◌, ℕ, true, List, ◌++◌, length, ◌∙◌, ap, refl, sym, subst, arith}
+use Rattle.std.proofs.Common.{◌≡◌, ℕ, List, ◌++◌, length, ◌∙◌, ap, inl, refl, sym, subst, arith}
 use Rattle.std.proofs.lemmas.List.{take_all}
 use Rattle.std.specs.Prelude.{Result, Ok, Err}
 use Rattle.hist_model.specs.Legal.{played}
@@ -9,15 +9,17 @@ use Rattle.hist_model.specs.declared.event.Event.{Event}
 use Rattle.hist_model.specs.declared.policy.Policy.{Policy}
 use Rattle.hist_model.specs.declared.script.Script.{Script}
 use Rattle.io_edge.proofs.Laws.{then_rose}
-use Rattle.io_edge.specs.SinkState.{SinkState, AddsPrefix, Flushes}
+use Rattle.io_edge.specs.FileState.{FileState}
+use Rattle.io_edge.specs.SinkState.{SinkState, Flushes}
 use Rattle.audit_log.proofs.Writing.{adds_nothing, wrote_front}
 use Rattle.audit_log.specs.Written.{Wrote}
 use Rattle.audit_log.specs.declared.error.ReportError.{ReportError}
 use Rattle.audit_log.specs.declared.error.ReportError.TheVariants.{WriteFault, NoMemory}
 use Rattle.generated_input.specs.GeneratedPolicy.{generated_policy}
 use Rattle.generated_input.specs.GeneratedScript.{generated_script}
-use Rattle.broker_app.specs.Answers.{GeneratedIsMediated, Printed, Stands, StressEnds, generated_summary, printout_of, status_of, text_of}
+use Rattle.broker_app.specs.Answers.{GeneratedIsMediated, Printed, PlayEnds, StressEnds, generated_summary, printout_of, status_of, text_of}
 use Rattle.broker_app.specs.Lines.{status_of_report}
+use Rattle.broker_app.specs.Refusals.{InputRefused, Stands}
 use Rattle.broker_app.specs.declared.printing.Printout.{Printout}
 use Rattle.broker_app.specs.declared.printing.Printout.TheVariants.{Summary}
 use Rattle.broker_app.specs.declared.status.Status.{Status}
@@ -26,14 +28,6 @@ use Rattle.broker_app.specs.declared.status.Status.TheVariants.{Done, NoMemory a
 -- a part that failed ends what it is a part of
 pub wrote_stopped : (old new : SinkState) (a b : List ℕ) (e : ReportError) (r : Result (Unit {0}) ReportError) → r ≡ Err e → Wrote old a (Err e) new → Wrote old (a ++ b) r new
 wrote_stopped old new a b e r is w = rw is (wrote_front old new a b e w)
-
--- a text that is this one was written whole
-told_whole : (text same : List ℕ) (old new : SinkState) → text ≡ same → Wrote old text (Ok tt) new → old.tells ≡ true → new.taken ≡ old.taken ++ same
-told_whole text same old new e w t = w.whole t ∙ ap (λ xs. old.taken ++ xs) e
-
--- a prefix of it was written
-told_part : (text same : List ℕ) (x : ReportError) (old new : SinkState) → text ≡ same → Wrote old text (Err x) new → old.tells ≡ true → AddsPrefix old.taken same new.taken
-told_part text same x old new e w t = rw (sym e) (w.part t)
 
 same_printout : (printout : Printout) (Q P : Policy) (K L : List Event) → Q ≡ P → K ≡ L → text_of printout (judging_by Q.rules) K ≡ text_of printout (judging_by P.rules) L
 same_printout printout Q P K L q e = rw (q, e) refl
@@ -63,15 +57,25 @@ unflushed old mid new text u x e r is w f = rw is failed
     }
 
 -- the whole text was written, and stands
-pub ends_written : (printout : Printout) (Q P : Policy) (S : Script) (K : List Event) (old new : SinkState) → Q ≡ P → K ≡ played P S → Wrote old (text_of printout (judging_by Q.rules) K) (Ok tt) new → Stands new
-    → Printed (printout_of printout P S) old new (Ok tt)
-ends_written printout Q P S K old new q e w stands = (told_whole _ _ old new (same_printout printout Q P K (played P S) q e) w, stands)
+pub printed_whole : (text : List ℕ) (old new : SinkState) → Wrote old text (Ok tt) new → Stands new → Printed text old new (Ok tt)
+printed_whole text old new w stands = (w.whole, stands)
 
 -- a part of it was
+pub printed_part : (text : List ℕ) (old new : SinkState) (x : ReportError) → Wrote old text (Err x) new → Printed text old new (Err (status_of_report x))
+printed_part text old new WriteFault w = (w.cause refl, w.part)
+printed_part text old new NoMemory w = w.part
+
+-- the whole text is that of the history that is played
+pub ends_written : (printout : Printout) (Q P : Policy) (S : Script) (K : List Event) (old new : SinkState) → Q ≡ P → K ≡ played P S → Wrote old (text_of printout (judging_by Q.rules) K) (Ok tt) new → Stands new
+    → Printed (printout_of printout P S) old new (Ok tt)
+ends_written printout Q P S K old new q e w stands =
+    subst (λ text. Printed text old new (Ok tt)) (same_printout printout Q P K (played P S) q e) (printed_whole _ old new w stands)
+
+-- and a part of it
 pub ends_cut : (printout : Printout) (Q P : Policy) (S : Script) (K : List Event) (old new : SinkState) (x : ReportError) → Q ≡ P → K ≡ played P S → Wrote old (text_of printout (judging_by Q.rules) K) (Err x) new
     → Printed (printout_of printout P S) old new (Err (status_of_report x))
-ends_cut printout Q P S K old new WriteFault q e w = (w.cause refl, told_part _ _ WriteFault old new (same_printout printout Q P K (played P S) q e) w)
-ends_cut printout Q P S K old new NoMemory q e w = told_part _ _ NoMemory old new (same_printout printout Q P K (played P S) q e) w
+ends_cut printout Q P S K old new x q e w =
+    subst (λ text. Printed text old new (Err (status_of_report x))) (same_printout printout Q P K (played P S) q e) (printed_part _ old new x w)
 
 -- nothing was, for want of memory
 pub ends_unplayed : (text : List ℕ) (old : SinkState) → Printed text old old (Err OutOfMemory)
@@ -91,3 +95,10 @@ stress_ends from count old new (Err CannotWrite) m p = (p.0, (m, p.1))
 stress_ends from count old new (Err OutOfMemory) m p = (m, p)
 stress_ends from count old new (Err Done) m p = absurd p
 stress_ends from count old new (Err status) m p = p
+
+-- nothing was played, since the policy or the script wasn't taken
+pub play_stops : (files after : FileState) (sink : SinkState) (policy script : List ℕ) (status : Status) → InputRefused files after policy script status → PlayEnds files after sink sink policy script status
+play_stops files after sink policy script OutOfMemory h = inl (λ t. refl)
+play_stops files after sink policy script Done h = absurd h
+play_stops files after sink policy script CannotWrite h = absurd h
+play_stops files after sink policy script status h = (h, λ t. refl)

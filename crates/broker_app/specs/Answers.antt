@@ -1,5 +1,5 @@
 -- What the program's answer means: what it read, what it wrote, and why it stopped.
-use Rattle.std.specs.Prelude.{◌≡◌, ℕ, ◌≤◌, ◌++◌, true, false, List, Option, Some, None, Result, Ok, Err, ◌⊎◌}
+use Rattle.std.specs.Prelude.{◌≡◌, ℕ, ◌≤◌, ◌++◌, true, List, Option, Some, None, Result, Ok, Err, ◌⊎◌}
 use Rattle.hist_model.specs.Legal.{played}
 use Rattle.hist_model.specs.Mediated.{Mediated}
 use Rattle.hist_model.specs.Report.{report, summary}
@@ -13,20 +13,22 @@ use Rattle.io_edge.specs.FileState.{FileState}
 use Rattle.io_edge.specs.SinkState.{SinkState, AddsPrefix}
 use Rattle.generated_input.specs.GeneratedPolicy.{generated_policy}
 use Rattle.generated_input.specs.GeneratedScript.{generated_script}
-use Rattle.broker_app.specs.Inputs.{PolicyIs, ScriptIs, IsLonger, policy_limit, script_limit}
+use Rattle.broker_app.specs.Checks.{CheckEnds}
+use Rattle.broker_app.specs.Findings.{findings}
+use Rattle.broker_app.specs.Inputs.{PolicyIs, ScriptIs}
+use Rattle.broker_app.specs.Refusals.{InputRefused, Stands, TookNothing}
 use Rattle.broker_app.specs.declared.printing.Printout.{Printout}
-use Rattle.broker_app.specs.declared.printing.Printout.TheVariants.{Report, Summary}
-use Rattle.broker_app.specs.declared.status.InputFile.{InputFile}
-use Rattle.broker_app.specs.declared.status.InputFile.TheVariants.{Policy as PolicyFile, Script as ScriptFile}
+use Rattle.broker_app.specs.declared.printing.Printout.TheVariants.{Report, Summary, Findings}
 use Rattle.broker_app.specs.declared.status.Status.{Status}
-use Rattle.broker_app.specs.declared.status.Status.TheVariants.{Done, Usage, ReadFault, TooLong, BadPolicy, BadScript, WriteFault, NoMemory, NotBuilt}
+use Rattle.broker_app.specs.declared.status.Status.TheVariants.{Done, Usage, WriteFault, NoMemory, NotBuilt}
 
 -- ---- What was printed
 
--- the whole report of a history, or its summary alone
+-- the whole report of a history, its summary alone, or what is found of it where a report tells it
 abbrev pub text_of : Printout → Judging → List Event → List ℕ
 text_of Report J H = report J H
 text_of Summary J H = summary J H
+text_of (Findings finished) J H = findings J H finished
 
 -- that of the history that a policy and a script play
 abbrev pub printout_of : Printout → Policy → Script → List ℕ
@@ -42,10 +44,6 @@ pub record AreRead (files : FileState) (policy script : List ℕ) (P : Policy) (
   pub script_is : ScriptIs files script (Ok S)
   pub mediated : Mediated P S (played P S)
 
--- the sink took nothing
-abbrev pub TookNothing : SinkState → SinkState → Type 0
-TookNothing old new = old.tells ≡ true → new.taken ≡ old.taken
-
 -- the sink took a prefix of the report of what the two files play
 abbrev pub TookPrefix : FileState → List ℕ → List ℕ → SinkState → SinkState → Type 0
 TookPrefix files policy script old new = (P : Policy) × (S : Script) × AreRead files policy script P S × (old.tells ≡ true → AddsPrefix old.taken (report_of P S) new.taken)
@@ -53,10 +51,6 @@ TookPrefix files policy script old new = (P : Policy) × (S : Script) × AreRead
 -- the sink took the whole report
 abbrev pub TookReport : FileState → List ℕ → List ℕ → SinkState → SinkState → Type 0
 TookReport files policy script old new = (P : Policy) × (S : Script) × AreRead files policy script P S × (old.tells ≡ true → new.taken ≡ old.taken ++ report_of P S)
-
--- all that the sink took stands where it belongs
-abbrev pub Stands : SinkState → Type 0
-Stands sink = sink.pending ≡ false
 
 -- what the printing of a text came to
 abbrev pub Printed : List ℕ → SinkState → SinkState → Result (Unit {0}) Status → Type 0
@@ -83,43 +77,6 @@ TookSummaryPrefix from count old new = GeneratedIsMediated from count × (old.te
 abbrev pub TookSummary : ℕ → ℕ → SinkState → SinkState → Type 0
 TookSummary from count old new = GeneratedIsMediated from count × (old.tells ≡ true → new.taken ≡ old.taken ++ generated_summary from count)
 
--- ---- What was read
-
--- the source failed: a sound one, only where it has no file of this name
-abbrev pub CannotRead : FileState → FileState → List ℕ → Type 0
-CannotRead files after name = Rose files.faults after.faults × (files.sound ≡ true → files.bytes name ≡ None)
-
--- no file was opened after the one of this name
-abbrev pub OpenedLast : FileState → FileState → List ℕ → Type 0
-OpenedLast files after name = files.tells ≡ true → after.current ≡ Some name
-
--- why the bytes of a file weren't read: this file's, of which there may be so many
-abbrev pub FileRefused : InputFile → ℕ → FileState → FileState → List ℕ → Status → Type 0
-FileRefused file limit files after name (ReadFault which) = (which ≡ file) × CannotRead files after name
-FileRefused file limit files after name (TooLong which) = (which ≡ file) × (files.tells ≡ true → IsLonger limit (files.bytes name))
-FileRefused file limit files after name NoMemory = Unit {0}
-FileRefused file limit files after name _ = ⊥
-
--- why the policy wasn't taken
-abbrev pub PolicyRefused : FileState → FileState → List ℕ → Status → Type 0
-PolicyRefused files after policy (ReadFault PolicyFile) = CannotRead files after policy
-PolicyRefused files after policy (TooLong PolicyFile) = files.tells ≡ true → IsLonger policy_limit (files.bytes policy)
-PolicyRefused files after policy (BadPolicy error) = PolicyIs files policy (Err error) × OpenedLast files after policy
-PolicyRefused files after policy NoMemory = Unit {0}
-PolicyRefused files after policy _ = ⊥
-
--- why the script wasn't taken
-abbrev pub ScriptRefused : FileState → FileState → List ℕ → Status → Type 0
-ScriptRefused files after script (ReadFault ScriptFile) = CannotRead files after script
-ScriptRefused files after script (TooLong ScriptFile) = files.tells ≡ true → IsLonger script_limit (files.bytes script)
-ScriptRefused files after script (BadScript error) = ScriptIs files script (Err error)
-ScriptRefused files after script NoMemory = Unit {0}
-ScriptRefused files after script _ = ⊥
-
--- a policy was taken, and then the script wasn't
-abbrev pub OnlyPolicy : FileState → FileState → List ℕ → List ℕ → Status → Type 0
-OnlyPolicy files after policy script status = (P : Policy) × PolicyIs files policy (Ok P) × ScriptRefused files after script status
-
 -- ---- How it ended
 
 -- how the play of a policy's and a script's files ended
@@ -127,13 +84,7 @@ abbrev pub PlayEnds : FileState → FileState → SinkState → SinkState → Li
 PlayEnds files after old new policy script Done = TookReport files policy script old new × Stands new
 PlayEnds files after old new policy script WriteFault = Rose old.faults new.faults × TookPrefix files policy script old new
 PlayEnds files after old new policy script NoMemory = TookNothing old new ⊎ TookPrefix files policy script old new
-PlayEnds files after old new policy script (ReadFault PolicyFile) = PolicyRefused files after policy (ReadFault PolicyFile) × TookNothing old new
-PlayEnds files after old new policy script (TooLong PolicyFile) = PolicyRefused files after policy (TooLong PolicyFile) × TookNothing old new
-PlayEnds files after old new policy script (BadPolicy error) = PolicyRefused files after policy (BadPolicy error) × TookNothing old new
-PlayEnds files after old new policy script (ReadFault ScriptFile) = OnlyPolicy files after policy script (ReadFault ScriptFile) × TookNothing old new
-PlayEnds files after old new policy script (TooLong ScriptFile) = OnlyPolicy files after policy script (TooLong ScriptFile) × TookNothing old new
-PlayEnds files after old new policy script (BadScript error) = OnlyPolicy files after policy script (BadScript error) × TookNothing old new
-PlayEnds files after old new policy script _ = ⊥
+PlayEnds files after old new policy script status = InputRefused files after policy script status × TookNothing old new
 
 -- how the play of generated input ended
 abbrev pub StressEnds : ℕ → ℕ → SinkState → SinkState → Status → Type 0
@@ -157,7 +108,7 @@ Answers None files after old new status = IsUsage status × TookNothing old new
 Answers (Some (Play policy script)) files after old new status = PlayEnds files after old new policy script status
 Answers (Some (Stress from count)) files after old new status = StressEnds from count old new status
 Answers (Some (Run policy script workers cpus)) files after old new status = IsUnbuilt status × TookNothing old new
-Answers (Some (AuditCheck policy script report)) files after old new status = IsUnbuilt status × TookNothing old new
+Answers (Some (AuditCheck policy script report)) files after old new status = CheckEnds files after old new policy script report status
 
 -- the status that an outcome is
 abbrev pub status_of : Result (Unit {0}) Status → Status

@@ -1,4 +1,4 @@
--- What the program reads: a policy and a script, each from the whole bytes of its file.
+-- What the program reads: a policy, a script and a report, each from the whole bytes of its file.
 use Rattle.std.specs.Prelude.{◌≡◌, ℕ, ◌<◌, ◌≤◌, true, List, length, Option, Some, None, Result}
 use Rattle.hist_model.specs.declared.policy.Policy.{Policy}
 use Rattle.hist_model.specs.declared.script.Script.{Script}
@@ -8,12 +8,15 @@ use Rattle.policy_reader.specs.declared.error.PolicyError.{PolicyError}
 use Rattle.script_reader.specs.Scripts.{script}
 use Rattle.script_reader.specs.declared.error.ScriptError.{ScriptError}
 
--- the bytes that a policy has at most, and a script
+-- the bytes that a policy has at most, a script, and a report
 abbrev pub policy_limit : ℕ
 policy_limit = 1048576
 
 abbrev pub script_limit : ℕ
 script_limit = 8388608
+
+abbrev pub report_limit : ℕ
+report_limit = 33554432
 
 -- the file is there and within the limit, and its bytes are read as this
 abbrev pub ReadsAs : {A : Type 0} → (List ℕ → A) → ℕ → Option (List ℕ) → A → Type 0
@@ -36,3 +39,7 @@ PolicyIs files name reading = files.tells ≡ true → ReadsAs policy policy_lim
 -- and this script
 abbrev pub ScriptIs : FileState → List ℕ → Result Script ScriptError → Type 0
 ScriptIs files name reading = files.tells ≡ true → ReadsAs script script_limit (files.bytes name) reading
+
+-- and these are the bytes of this report
+abbrev pub ReportIs : FileState → List ℕ → List ℕ → Type 0
+ReportIs files name bytes = files.tells ≡ true → HasBytes report_limit (files.bytes name) bytes

@@ -9,9 +9,9 @@ use Rattle.policy_reader.specs.declared.error.PolicyError.TheVariants.{NotJson, 
 use Rattle.script_reader.specs.declared.error.ScriptError.{ScriptError}
 use Rattle.script_reader.specs.declared.error.ScriptError.TheVariants.{BadLine, TooLarge, NoMemory as LacksMemory}
 use Rattle.broker_app.specs.declared.status.InputFile.{InputFile}
-use Rattle.broker_app.specs.declared.status.InputFile.TheVariants.{Policy as PolicyFile, Script as ScriptFile}
+use Rattle.broker_app.specs.declared.status.InputFile.TheVariants.{Policy as PolicyFile, Script as ScriptFile, Report as ReportFile}
 use Rattle.broker_app.specs.declared.status.Status.{Status}
-use Rattle.broker_app.specs.declared.status.Status.TheVariants.{Done, Usage, ReadFault, TooLong, BadPolicy, BadScript, WriteFault, NoMemory, NotBuilt}
+use Rattle.broker_app.specs.declared.status.Status.TheVariants.{Done, Usage, ReadFault, TooLong, BadPolicy, BadScript, WriteFault, NoMemory, NotBuilt, NotReport}
 
 abbrev pub code_of : Status → ℕ
 code_of Done = 0
@@ -23,11 +23,13 @@ code_of (BadScript error) = 5
 code_of WriteFault = 6
 code_of NoMemory = 7
 code_of NotBuilt = 8
+code_of (NotReport line) = 9
 
 -- the name of a file in a line, with the byte that ends the line
 abbrev pub file_named : InputFile → List ℕ
 file_named PolicyFile = codes "policy\n"
 file_named ScriptFile = codes "script\n"
+file_named ReportFile = codes "report\n"
 
 -- why a line of a script is refused
 abbrev pub reason_text : Reason → List ℕ
@@ -74,6 +76,7 @@ line_of (BadScript error) = script_line error
 line_of WriteFault = codes "write fault\n"
 line_of NoMemory = codes "no memory\n"
 line_of NotBuilt = codes "not built: command\n"
+line_of (NotReport line) = codes "report: line " ++ (decimal line ++ codes "\n")
 
 abbrev pub status_of_report : ReportError → Status
 status_of_report CannotWrite = WriteFault

@@ -1,9 +1,9 @@
-//! The two files that a play reads.
+//! The files that a play and a check read.
 
 ghost use Rattle.std.specs.Prelude.{◌≡◌, ◌^◌, ◌-◌, ◌<◌, ◌≤◌, true, length, None, Some, Ok, IfOk, IfErr, OnOk, Err};
 ghost use Rattle.io_edge.specs.FileState.{SameFiles};
-ghost use Rattle.broker_app.specs.Answers.{FileRefused, PolicyRefused, ScriptRefused};
-ghost use Rattle.broker_app.specs.Inputs.{HasBytes, PolicyIs, ScriptIs};
+ghost use Rattle.broker_app.specs.Inputs.{HasBytes, PolicyIs, ReportIs, ScriptIs};
+ghost use Rattle.broker_app.specs.Refusals.{FileRefused, InputRefused, PolicyRefused, ReportRefused, ScriptRefused};
 ghost use Rattle.broker_app.specs.declared.status.InputFile.TheVariants.{Policy as PolicyFile, Script as ScriptFile};
 ghost use Rattle.broker_app.specs.declared.status.Status.TheVariants.{ReadFault};
 
@@ -22,7 +22,10 @@ const POLICY_LIMIT: u64 = 1_048_576;
 /// How many bytes of a script are read at most.
 const SCRIPT_LIMIT: u64 = 8_388_608;
 
-/// Reads the whole file of this name, of at most so many bytes; `file` says which of the two it is.
+/// How many bytes of a report are read at most.
+const REPORT_LIMIT: u64 = 33_554_432;
+
+/// Reads the whole file of this name, of at most so many bytes; `file` says which one it is.
 fn read_file<F: Files>(
     alloc: Global,
     files: &mut F,
@@ -49,11 +52,7 @@ fn read_file<F: Files>(
 
 /// Reads the policy of this name.
 #[tactic(auto, using(crate::proofs::Reading::reads_as, crate::proofs::Reading::policy_unread))]
-pub(crate) fn read_policy<F: Files>(
-    alloc: Global,
-    files: &mut F,
-    name: &str,
-) -> Result<Policy, Status>
+fn read_policy<F: Files>(alloc: Global, files: &mut F, name: &str) -> Result<Policy, Status>
     ensures same { SameFiles (F.state files.old) (F.state files.new) }
     ensures read { IfOk result (λ p. PolicyIs (F.state files.old) name.now (Ok p)) }
     ensures refused { IfErr result (λ s. PolicyRefused (F.state files.old) (F.state files.new) name.now s) }
@@ -69,11 +68,7 @@ pub(crate) fn read_policy<F: Files>(
 
 /// Reads the script of this name.
 #[tactic(auto, using(crate::proofs::Reading::reads_as, crate::proofs::Reading::script_unread))]
-pub(crate) fn read_script<F: Files>(
-    alloc: Global,
-    files: &mut F,
-    name: &str,
-) -> Result<Script, Status>
+fn read_script<F: Files>(alloc: Global, files: &mut F, name: &str) -> Result<Script, Status>
     ensures same { SameFiles (F.state files.old) (F.state files.new) }
     ensures read { IfOk result (λ s. ScriptIs (F.state files.old) name.now (Ok s)) }
     ensures refused { IfErr result (λ s. ScriptRefused (F.state files.old) (F.state files.new) name.now s) }
@@ -90,4 +85,38 @@ pub(crate) fn read_script<F: Files>(
         }
         Err(ScriptError::NoMemory) => Err(Status::NoMemory),
     }
+}
+
+/// Reads the policy and then the script of these names.
+#[tactic(auto, using(crate::proofs::Reading::policy_stops, crate::proofs::Reading::script_stops))]
+pub(crate) fn read_inputs<F: Files>(
+    alloc: Global,
+    files: &mut F,
+    policy: &str,
+    script: &str,
+) -> Result<(Policy, Script), Status>
+    ensures same { SameFiles (F.state files.old) (F.state files.new) }
+    ensures policy { IfOk result (λ read. PolicyIs (F.state files.old) policy.now (Ok read.0)) }
+    ensures script { IfOk result (λ read. ScriptIs (F.state files.old) script.now (Ok read.1)) }
+    ensures refused { IfErr result (λ s. InputRefused (F.state files.old) (F.state files.new) policy.now script.now s) }
+    ensures absent { (F.state files.old).sound ≡ true → (F.state files.old).bytes policy.now ≡ None → result ≡ Err (ReadFault PolicyFile) }
+{
+    let policy = read_policy(alloc, files, policy)?;
+    let script = read_script(alloc, files, script)?;
+    Ok((policy, script))
+}
+
+/// Reads the bytes of the report of this name.
+#[tactic(auto, using(crate::proofs::Reading::report_unread))]
+pub(crate) fn read_report<F: Files>(
+    alloc: Global,
+    files: &mut F,
+    name: &str,
+) -> Result<Vec<u8>, Status>
+    ensures same { SameFiles (F.state files.old) (F.state files.new) }
+    ensures read { IfOk result (λ bytes. ReportIs (F.state files.old) name.now bytes.items) }
+    ensures within { IfOk result (λ bytes. length bytes.items ≤ 33554432) }
+    ensures refused { IfErr result (λ s. ReportRefused (F.state files.old) (F.state files.new) name.now s) }
+{
+    read_file(alloc, files, name, InputFile::Report, REPORT_LIMIT)
 }

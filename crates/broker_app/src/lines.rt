@@ -44,6 +44,7 @@ fn file_named(file: InputFile) -> &'static [u8]
     match file {
         InputFile::Policy => b"policy\n",
         InputFile::Script => b"script\n",
+        InputFile::Report => b"report\n",
     }
 }
 
@@ -111,6 +112,14 @@ fn write_script_line<E: Sink>(error: &ScriptError, err: &mut E) -> Result<(), Fa
     }
 }
 
+/// Writes the line at which a report is none.
+fn write_report_line<E: Sink>(line: u32, err: &mut E) -> Result<(), Failed>
+    ensures { Writes (E.state err.old) (codes "report: line " ++ (decimal line ++ codes "\n")) result (E.state err.new) }
+{
+    let mut digits = itoa::Buffer::new();
+    write_ended(b"report: line ", digits.format(line).as_bytes(), err)
+}
+
 /// Writes the line of a status.
 fn write_status<E: Sink>(status: &Status, err: &mut E) -> Result<(), Failed>
     ensures { Writes (E.state err.old) (line_of status.now) result (E.state err.new) }
@@ -127,6 +136,7 @@ fn write_status<E: Sink>(status: &Status, err: &mut E) -> Result<(), Failed>
         Status::WriteFault => err.write(b"write fault\n"),
         Status::NoMemory => err.write(b"no memory\n"),
         Status::NotBuilt => err.write(b"not built: command\n"),
+        Status::NotReport { line } => write_report_line(*line, err),
     }
 }
 

@@ -13,6 +13,7 @@ use sys_abi::memory;
 pub enum InputFile {
     Policy,
     Script,
+    Report,
 }
 
 /// How the program ends.
@@ -24,7 +25,7 @@ pub enum Status {
     Usage,
     /// A file couldn't be read.
     ReadFault(InputFile),
-    /// A file has more bytes than it may have: 1,048,576 of a policy, 8,388,608 of a script.
+    /// A file has more bytes than it may have: 1,048,576 of a policy, 8,388,608 of a script, 33,554,432 of a report.
     TooLong(InputFile),
     /// The policy is refused.
     BadPolicy(PolicyError),
@@ -36,6 +37,9 @@ pub enum Status {
     NoMemory,
     /// The words have a form that isn't built yet.
     NotBuilt,
+    /// The bytes of the report's file are no report: the first line, counted from 1, at which they are none, or one more than
+    /// they have lines.
+    NotReport { line: u32 },
 }
 
 impl Status {
@@ -53,6 +57,7 @@ impl Status {
             Status::WriteFault => 6,
             Status::NoMemory => 7,
             Status::NotBuilt => 8,
+            Status::NotReport { .. } => 9,
         }
     }
 }

@@ -8,7 +8,7 @@ use Rattle.std.proofs.lemmas.Grind.{common_steps}
 use Rattle.broker_app.specs.declared.status.Status.{Status}
 use Rattle.broker_app.specs.declared.status.Status.TheVariants.{Done, ReadFault}
 use Rattle.broker_c.specs.Buffers.{Holds, number_of}
-use Rattle.broker_c.specs.Outcomes.{IsReport, IsSummary, PlayGives, StressGives}
+use Rattle.broker_c.specs.Outcomes.{CheckGives, IsFindings, IsReport, IsSummary, PlayGives, StressGives}
 
 -- a text that fits is read back
 read_back : (text old new : List ℕ) (told : ℕ) → length text ≤ length old → Holds text old new told → take told new ≡ text
@@ -34,6 +34,14 @@ report_told policy script room status printed old new told number gives is held 
     let fits = number-0 status (length printed) (length old) (sym is ∙ zero) in
     let whole : PlayGives policy script room printed Done = subst (λ s. PlayGives policy script room printed s) fits.0 gives in
     subst (λ text. IsReport policy script text) (sym (read_back printed old new told fits.1 held)) whole.0
+
+-- and what was found of a report
+pub findings_told : (policy script report : List ℕ) (room : ℕ) (status : Status) (printed old new : List ℕ) (told number : ℕ) → CheckGives policy script report room printed status
+    → number ≡ number_of status (length printed) (length old) → Holds printed old new told → number ≡ 0 → IsFindings policy script report (take told new)
+findings_told policy script report room status printed old new told number gives is held zero =
+    let fits = number-0 status (length printed) (length old) (sym is ∙ zero) in
+    let whole : CheckGives policy script report room printed Done = subst (λ s. CheckGives policy script report room printed s) fits.0 gives in
+    subst (λ text. IsFindings policy script report text) (sym (read_back printed old new told fits.1 held)) whole.0
 
 -- and a summary
 pub summary_told : (from count room : ℕ) (status : Status) (printed old new : List ℕ) (told number : ℕ) → StressGives from count room printed status

@@ -1,5 +1,7 @@
 -- What a call came to: what was printed, and why it stopped.
 use Rattle.std.specs.Prelude.{◌≡◌, ℕ, ◌<◌, ◌≤◌, ◌⊎◌, Bool, true, false, List, [], length, Some, Result, Ok, Err}
+use Rattle.hist_model.specs.ReportAudit.{judging_by}
+use Rattle.hist_model.specs.declared.event.Event.{Event}
 use Rattle.hist_model.specs.Legal.{played}
 use Rattle.hist_model.specs.Mediated.{Mediated}
 use Rattle.hist_model.specs.declared.policy.Policy.{Policy}
@@ -10,11 +12,13 @@ use Rattle.policy_reader.specs.declared.error.PolicyError.{PolicyError}
 use Rattle.script_reader.specs.Scripts.{script as script_of}
 use Rattle.script_reader.specs.declared.error.ScriptError.{ScriptError}
 use Rattle.broker_app.specs.Answers.{GeneratedIsMediated, generated_summary, report_of}
-use Rattle.broker_app.specs.Inputs.{ReadsAs, policy_limit, script_limit}
+use Rattle.broker_app.specs.Checks.{IsFound, IsNotFound}
+use Rattle.broker_app.specs.Findings.{findings}
+use Rattle.broker_app.specs.Inputs.{ReadsAs, policy_limit, report_limit, script_limit}
 use Rattle.broker_app.specs.Lines.{line_of}
-use Rattle.broker_app.specs.declared.status.InputFile.TheVariants.{Policy as PolicyFile, Script as ScriptFile}
+use Rattle.broker_app.specs.declared.status.InputFile.TheVariants.{Policy as PolicyFile, Script as ScriptFile, Report as ReportFile}
 use Rattle.broker_app.specs.declared.status.Status.{Status}
-use Rattle.broker_app.specs.declared.status.Status.TheVariants.{Done, Usage, TooLong, BadPolicy, BadScript, WriteFault, NoMemory}
+use Rattle.broker_app.specs.declared.status.Status.TheVariants.{Done, Usage, TooLong, BadPolicy, BadScript, WriteFault, NoMemory, NotReport}
 
 -- ---- What was read
 
@@ -30,7 +34,15 @@ ScriptReads script reading = ReadsAs script_of script_limit (Some script) readin
 abbrev pub IsPolicy : List ℕ → Type 0
 IsPolicy policy = (P : Policy) × PolicyReads policy (Ok P)
 
--- these are the policy and the script of the bytes, and what they play is mediated
+-- these are the policy and the script of the bytes
+abbrev pub AreInput : List ℕ → List ℕ → Policy → Script → Type 0
+AreInput policy script P S = PolicyReads policy (Ok P) × ScriptReads script (Ok S)
+
+-- the bytes are a policy and a script
+abbrev pub IsInput : List ℕ → List ℕ → Type 0
+IsInput policy script = (P : Policy) × (S : Script) × AreInput policy script P S
+
+-- and what they play is mediated
 pub record AreGiven (policy script : List ℕ) (P : Policy) (S : Script) : Type 0 where
   pub policy_is : PolicyReads policy (Ok P)
   pub script_is : ScriptReads script (Ok S)
@@ -46,6 +58,21 @@ IsReport policy script printed = (P : Policy) × (S : Script) × AreGiven policy
 abbrev pub BeginsReport : List ℕ → List ℕ → List ℕ → Type 0
 BeginsReport policy script printed = (P : Policy) × (S : Script) × AreGiven policy script P S × AddsPrefix [] (report_of P S) printed
 
+-- what is found of the history that the bytes of a report tell
+abbrev pub IsFindings : List ℕ → List ℕ → List ℕ → List ℕ → Type 0
+IsFindings policy script report printed =
+    (P : Policy) × (S : Script) × (H : List Event) × (finished : Bool) × AreInput policy script P S × IsFound P S report H finished × (printed ≡ findings (judging_by P.rules) H finished)
+
+-- a prefix of it
+abbrev pub BeginsFindings : List ℕ → List ℕ → List ℕ → List ℕ → Type 0
+BeginsFindings policy script report printed =
+    (P : Policy) × (S : Script) × (H : List Event) × (finished : Bool) × AreInput policy script P S × IsFound P S report H finished
+    × AddsPrefix [] (findings (judging_by P.rules) H finished) printed
+
+-- the bytes of a report are none, and have this fault line
+abbrev pub HasFault : List ℕ → List ℕ → List ℕ → ℕ → Type 0
+HasFault policy script report line = (P : Policy) × (S : Script) × AreInput policy script P S × IsNotFound P S report line
+
 -- the summary of the history that generated input plays
 abbrev pub IsSummary : ℕ → ℕ → List ℕ → Type 0
 IsSummary from count printed = GeneratedIsMediated from count × (printed ≡ generated_summary from count)
@@ -56,16 +83,30 @@ BeginsSummary from count printed = GeneratedIsMediated from count × AddsPrefix 
 
 -- ---- How it ended
 
+-- why the policy's and the script's bytes weren't both taken: nothing was printed
+abbrev pub InputGives : List ℕ → List ℕ → List ℕ → Status → Type 0
+InputGives policy script printed (TooLong PolicyFile) = (policy_limit < length policy) × (printed ≡ [])
+InputGives policy script printed (BadPolicy error) = PolicyReads policy (Err error) × (printed ≡ [])
+InputGives policy script printed (TooLong ScriptFile) = IsPolicy policy × (script_limit < length script) × (printed ≡ [])
+InputGives policy script printed (BadScript error) = IsPolicy policy × ScriptReads script (Err error) × (printed ≡ [])
+InputGives policy script printed NoMemory = printed ≡ []
+InputGives policy script printed _ = ⊥
+
 -- how the play of a policy's and a script's bytes ended, with room for so many bytes of a report
 abbrev pub PlayGives : List ℕ → List ℕ → ℕ → List ℕ → Status → Type 0
 PlayGives policy script room printed Done = IsReport policy script printed × (length printed ≤ room)
 PlayGives policy script room printed WriteFault = BeginsReport policy script printed × (room < length printed)
 PlayGives policy script room printed NoMemory = (printed ≡ []) ⊎ BeginsReport policy script printed
-PlayGives policy script room printed (TooLong PolicyFile) = (policy_limit < length policy) × (printed ≡ [])
-PlayGives policy script room printed (BadPolicy error) = PolicyReads policy (Err error) × (printed ≡ [])
-PlayGives policy script room printed (TooLong ScriptFile) = IsPolicy policy × (script_limit < length script) × (printed ≡ [])
-PlayGives policy script room printed (BadScript error) = IsPolicy policy × ScriptReads script (Err error) × (printed ≡ [])
-PlayGives policy script room printed _ = ⊥
+PlayGives policy script room printed status = InputGives policy script printed status
+
+-- how the check of a report's bytes ended, with room for so many bytes of what is found
+abbrev pub CheckGives : List ℕ → List ℕ → List ℕ → ℕ → List ℕ → Status → Type 0
+CheckGives policy script report room printed Done = IsFindings policy script report printed × (length printed ≤ room)
+CheckGives policy script report room printed WriteFault = BeginsFindings policy script report printed × (room < length printed)
+CheckGives policy script report room printed NoMemory = (printed ≡ []) ⊎ BeginsFindings policy script report printed
+CheckGives policy script report room printed (NotReport line) = HasFault policy script report line × (printed ≡ [])
+CheckGives policy script report room printed (TooLong ReportFile) = IsInput policy script × (report_limit < length report) × (printed ≡ [])
+CheckGives policy script report room printed status = InputGives policy script printed status
 
 -- generated input has 1 to 4000 calls
 abbrev pub IsCount : ℕ → Type 0

@@ -3,9 +3,9 @@
 ghost use Rattle.std.specs.Prelude.{◌≡◌, length, min, take};
 ghost use Rattle.broker_app.specs.Lines.{line_of};
 ghost use Rattle.broker_c.specs.Buffers.{Holds, Tells, number_of};
-ghost use Rattle.broker_c.specs.Outcomes.{IsReport, IsSummary, PlayGives, Says, StressGives};
+ghost use Rattle.broker_c.specs.Outcomes.{CheckGives, IsFindings, IsReport, IsSummary, PlayGives, Says, StressGives};
 
-use crate::outcome::{Outcome, play, stress};
+use crate::outcome::{Outcome, check, play, stress};
 use broker_app::status::Status;
 use std::alloc::Global;
 
@@ -100,5 +100,26 @@ pub extern "C" fn broker_stress(
     ensures tells { Tells (StressGives from count (min room ROOM_LIMIT)) result out.old out.new out_length.new line.old line.new line_length.new }
 {
     let outcome = stress(alloc, from, count, room.min(ROOM_LIMIT));
+    tell(&outcome, out, out_length, line, line_length)
+}
+
+/// Checks a report under a policy and a script, as `audit-check POLICY SCRIPT REPORT` does, and tells what is found of it and its
+/// line.
+#[unsafe(no_mangle)]
+pub extern "C" fn broker_audit_check(
+    alloc: Global,
+    policy: &[u8],
+    script: &[u8],
+    report: &[u8],
+    room: usize,
+    out: &mut [u8],
+    out_length: &mut usize,
+    line: &mut [u8],
+    line_length: &mut usize,
+) -> u32
+    ensures done { result ≡ 0 → IsFindings policy.now script.now report.now (take out_length.new out.new) }
+    ensures tells { Tells (CheckGives policy.now script.now report.now (min room ROOM_LIMIT)) result out.old out.new out_length.new line.old line.new line_length.new }
+{
+    let outcome = check(alloc, policy, script, report, room.min(ROOM_LIMIT));
     tell(&outcome, out, out_length, line, line_length)
 }

@@ -1,4 +1,4 @@
-//! A policy and a script in memory, as a source of files.
+//! A policy, a script and a report in memory, as a source of files.
 
 ghost use Rattle.std.specs.Prelude.{◌≡◌, ◌≤◌, refl, [], length, drop};
 ghost use Rattle.std.specs.Option.{ForSome, option_map_or};
@@ -14,17 +14,21 @@ pub(crate) const POLICY: &str = "policy";
 /// The name of the script's file.
 pub(crate) const SCRIPT: &str = "script";
 
-/// A policy and a script in memory, as the files of two names. Every other name isn't there. A read gives as many bytes as
+/// The name of the report's file.
+pub(crate) const REPORT: &str = "report";
+
+/// A policy, a script and a report in memory, as the files of three names. Every other name isn't there. A read gives as many bytes as
 /// there are left and fit into the buffer.
 #[derive(Drop)]
 pub(crate) struct GivenFiles<'a> {
     policy: &'a [u8],
     script: &'a [u8],
+    report: &'a [u8],
     current: Option<InputFile>,
     // how many bytes reads gave since the last `open`
     given: usize,
     faults: u64,
-    ghost within: { ForSome current (λ file. given ≤ length (bytes_of policy.now script.now file)) },
+    ghost within: { ForSome current (λ file. given ≤ length (bytes_of policy.now script.now report.now file)) },
 }
 
 /// The file of this name.
@@ -35,19 +39,22 @@ fn file_of(name: &str) -> Option<InputFile>
         Some(InputFile::Policy)
     } else if name.as_bytes() == b"script".as_slice() {
         Some(InputFile::Script)
+    } else if name.as_bytes() == b"report".as_slice() {
+        Some(InputFile::Report)
     } else {
         None
     }
 }
 
 impl<'a> GivenFiles<'a> {
-    /// This policy and this script. There is no current file yet.
-    pub(crate) fn new(policy: &'a [u8], script: &'a [u8]) -> GivenFiles<'a>
-        ensures { ⟦<GivenFiles<'a> as Files>⟧.state result ≡ files_of policy.now script.now }
+    /// This policy, this script and this report. There is no current file yet.
+    pub(crate) fn new(policy: &'a [u8], script: &'a [u8], report: &'a [u8]) -> GivenFiles<'a>
+        ensures { ⟦<GivenFiles<'a> as Files>⟧.state result ≡ files_of policy.now script.now report.now }
     {
         GivenFiles {
             policy,
             script,
+            report,
             current: None,
             given: 0,
             faults: 0,
@@ -56,17 +63,18 @@ impl<'a> GivenFiles<'a> {
 
     /// The bytes of a file.
     fn bytes(&self, file: InputFile) -> &[u8]
-        ensures { result.now ≡ bytes_of self.now.policy.now self.now.script.now file }
+        ensures { result.now ≡ bytes_of self.now.policy.now self.now.script.now self.now.report.now file }
     {
         match file {
             InputFile::Policy => self.policy,
             InputFile::Script => self.script,
+            InputFile::Report => self.report,
         }
     }
 
     /// What is left of the current file.
     fn left(&self) -> &[u8]
-        ensures { result.now ≡ option_map_or (λ file. drop self.now.given (bytes_of self.now.policy.now self.now.script.now file)) self.now.current [] }
+        ensures { result.now ≡ option_map_or (λ file. drop self.now.given (bytes_of self.now.policy.now self.now.script.now self.now.report.now file)) self.now.current [] }
     {
         match self.current {
             Some(file) => &self.bytes(file)[self.given..],
@@ -78,7 +86,7 @@ impl<'a> GivenFiles<'a> {
 impl Files for GivenFiles<'_> {
     ghost use Rattle.io_edge.specs.FileState.{FileState};
 
-    ghost state = { λ f. files_at f.policy.now f.script.now f.current f.given f.faults };
+    ghost state = { λ f. files_at f.policy.now f.script.now f.report.now f.current f.given f.faults };
 
     ghost sound_tells = { λ files sound. refl };
 

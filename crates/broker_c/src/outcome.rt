@@ -7,9 +7,9 @@ ghost use Rattle.broker_app.specs.Answers.{Said};
 ghost use Rattle.broker_app.specs.Forms.{HasFewCalls, form_of};
 ghost use Rattle.broker_app.specs.Lines.{line_of};
 ghost use Rattle.broker_c.specs.Held.{empty_sink};
-ghost use Rattle.broker_c.specs.Outcomes.{PlayGives, Says, StressGives, settled};
+ghost use Rattle.broker_c.specs.Outcomes.{CheckGives, PlayGives, Says, StressGives, settled};
 
-use crate::given::{GivenFiles, POLICY, SCRIPT};
+use crate::given::{GivenFiles, POLICY, REPORT, SCRIPT};
 use crate::held::HeldBytes;
 use broker_app::broker::carry_out;
 use broker_app::status::Status;
@@ -64,12 +64,36 @@ pub(crate) fn play(alloc: Global, policy: &[u8], script: &[u8], room: usize) -> 
     ensures gives { PlayGives policy.now script.now room result.printed.items result.status }
     ensures says { Says result.status result.said.items }
 {
-    let mut files = GivenFiles::new(policy, script);
+    let mut files = GivenFiles::new(policy, script, &[]);
     let mut out = HeldBytes::new(alloc, room + 1);
     let mut err = HeldBytes::new(alloc, LINE_ROOM);
     let form = Form::Play {
         policy: POLICY,
         script: SCRIPT,
+    };
+    let status = carry_out(alloc, Some(form), &mut files, &mut out, &mut err);
+    outcome_of(status, room, out, err)
+}
+
+/// Checks a report under a policy and a script, with room for so many bytes of what is found.
+pub(crate) fn check(
+    alloc: Global,
+    policy: &[u8],
+    script: &[u8],
+    report: &[u8],
+    room: usize,
+) -> Outcome
+    requires { room < 2 ^ 63 }
+    ensures gives { CheckGives policy.now script.now report.now room result.printed.items result.status }
+    ensures says { Says result.status result.said.items }
+{
+    let mut files = GivenFiles::new(policy, script, report);
+    let mut out = HeldBytes::new(alloc, room + 1);
+    let mut err = HeldBytes::new(alloc, LINE_ROOM);
+    let form = Form::AuditCheck {
+        policy: POLICY,
+        script: SCRIPT,
+        report: REPORT,
     };
     let status = carry_out(alloc, Some(form), &mut files, &mut out, &mut err);
     outcome_of(status, room, out, err)
@@ -81,7 +105,7 @@ pub(crate) fn stress(alloc: Global, from: u64, count: u32, room: usize) -> Outco
     ensures gives { StressGives from count room result.printed.items result.status }
     ensures says { Says result.status result.said.items }
 {
-    let mut files = GivenFiles::new(&[], &[]);
+    let mut files = GivenFiles::new(&[], &[], &[]);
     let mut out = HeldBytes::new(alloc, room + 1);
     let mut err = HeldBytes::new(alloc, LINE_ROOM);
     let status = carry_out(

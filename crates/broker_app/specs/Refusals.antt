@@ -1,0 +1,81 @@
+-- What a sink took before a text is begun, and why the bytes of a file weren't read or taken.
+use Rattle.std.specs.Prelude.{◌≡◌, ℕ, true, false, List, Some, None, Ok, Err}
+use Rattle.hist_model.specs.declared.policy.Policy.{Policy}
+use Rattle.hist_model.specs.declared.script.Script.{Script}
+use Rattle.io_edge.specs.Faults.{Rose}
+use Rattle.io_edge.specs.FileState.{FileState}
+use Rattle.io_edge.specs.SinkState.{SinkState}
+use Rattle.broker_app.specs.Inputs.{PolicyIs, ScriptIs, IsLonger, policy_limit, script_limit, report_limit}
+use Rattle.broker_app.specs.declared.status.InputFile.{InputFile}
+use Rattle.broker_app.specs.declared.status.InputFile.TheVariants.{Policy as PolicyFile, Script as ScriptFile, Report as ReportFile}
+use Rattle.broker_app.specs.declared.status.Status.{Status}
+use Rattle.broker_app.specs.declared.status.Status.TheVariants.{ReadFault, TooLong, BadPolicy, BadScript, NoMemory}
+
+-- ---- What was printed
+
+-- the sink took nothing
+abbrev pub TookNothing : SinkState → SinkState → Type 0
+TookNothing old new = old.tells ≡ true → new.taken ≡ old.taken
+
+-- all that the sink took stands where it belongs
+abbrev pub Stands : SinkState → Type 0
+Stands sink = sink.pending ≡ false
+
+-- ---- What was read
+
+-- the source failed: a sound one, only where it has no file of this name
+abbrev pub CannotRead : FileState → FileState → List ℕ → Type 0
+CannotRead files after name = Rose files.faults after.faults × (files.sound ≡ true → files.bytes name ≡ None)
+
+-- no file was opened after the one of this name
+abbrev pub OpenedLast : FileState → FileState → List ℕ → Type 0
+OpenedLast files after name = files.tells ≡ true → after.current ≡ Some name
+
+-- why the bytes of a file weren't read: this file's, of which there may be so many
+abbrev pub FileRefused : InputFile → ℕ → FileState → FileState → List ℕ → Status → Type 0
+FileRefused file limit files after name (ReadFault which) = (which ≡ file) × CannotRead files after name
+FileRefused file limit files after name (TooLong which) = (which ≡ file) × (files.tells ≡ true → IsLonger limit (files.bytes name))
+FileRefused file limit files after name NoMemory = Unit {0}
+FileRefused file limit files after name _ = ⊥
+
+-- why the policy wasn't taken
+abbrev pub PolicyRefused : FileState → FileState → List ℕ → Status → Type 0
+PolicyRefused files after policy (ReadFault PolicyFile) = CannotRead files after policy
+PolicyRefused files after policy (TooLong PolicyFile) = files.tells ≡ true → IsLonger policy_limit (files.bytes policy)
+PolicyRefused files after policy (BadPolicy error) = PolicyIs files policy (Err error) × OpenedLast files after policy
+PolicyRefused files after policy NoMemory = Unit {0}
+PolicyRefused files after policy _ = ⊥
+
+-- why the script wasn't taken
+abbrev pub ScriptRefused : FileState → FileState → List ℕ → Status → Type 0
+ScriptRefused files after script (ReadFault ScriptFile) = CannotRead files after script
+ScriptRefused files after script (TooLong ScriptFile) = files.tells ≡ true → IsLonger script_limit (files.bytes script)
+ScriptRefused files after script (BadScript error) = ScriptIs files script (Err error)
+ScriptRefused files after script NoMemory = Unit {0}
+ScriptRefused files after script _ = ⊥
+
+-- a policy was taken, and then the script wasn't
+abbrev pub OnlyPolicy : FileState → FileState → List ℕ → List ℕ → Status → Type 0
+OnlyPolicy files after policy script status = (P : Policy) × PolicyIs files policy (Ok P) × ScriptRefused files after script status
+
+-- why the report wasn't taken
+abbrev pub ReportRefused : FileState → FileState → List ℕ → Status → Type 0
+ReportRefused files after report (ReadFault ReportFile) = CannotRead files after report
+ReportRefused files after report (TooLong ReportFile) = files.tells ≡ true → IsLonger report_limit (files.bytes report)
+ReportRefused files after report NoMemory = Unit {0}
+ReportRefused files after report _ = ⊥
+
+-- a policy and a script were taken, and then the report wasn't
+abbrev pub OnlyScript : FileState → FileState → List ℕ → List ℕ → List ℕ → Status → Type 0
+OnlyScript files after policy script report status = (P : Policy) × (S : Script) × PolicyIs files policy (Ok P) × ScriptIs files script (Ok S) × ReportRefused files after report status
+
+-- why the policy and the script weren't both taken
+abbrev pub InputRefused : FileState → FileState → List ℕ → List ℕ → Status → Type 0
+InputRefused files after policy script (ReadFault PolicyFile) = PolicyRefused files after policy (ReadFault PolicyFile)
+InputRefused files after policy script (TooLong PolicyFile) = PolicyRefused files after policy (TooLong PolicyFile)
+InputRefused files after policy script (BadPolicy error) = PolicyRefused files after policy (BadPolicy error)
+InputRefused files after policy script (ReadFault ScriptFile) = OnlyPolicy files after policy script (ReadFault ScriptFile)
+InputRefused files after policy script (TooLong ScriptFile) = OnlyPolicy files after policy script (TooLong ScriptFile)
+InputRefused files after policy script (BadScript error) = OnlyPolicy files after policy script (BadScript error)
+InputRefused files after policy script NoMemory = Unit {0}
+InputRefused files after policy script _ = ⊥
