@@ -1,23 +1,18 @@
 -- A table of tasks with another row is changed at that row's name alone.
--- By cases on whether a name is the changed one, with what `UpdatesBy` says of it and of the others, and the laws of the order of names.
+-- By cases on whether a name is the changed one, with what `UpdatesBy` says of it and of the others, and the laws of equality on names.
 use Rattle.std.proofs.Common.{◌≡◌, ℕ, List, Some, Bool, true, false, Vec, inl, inr, sym, ap, subst, ◌∙◌, if◌then◌else◌}
-use Rattle.std.specs.BTreeMap.{BTreeMap, UpdatesBy, get_by}
-use Rattle.std.specs.Cmp.{eq_by_cmp_equiv}
-use Rattle.std.specs.Cmp.Lexicographic.{slice_cmp, nat_list_cmp_total, nat_list_eq_equiv}
+use Rattle.std.specs.Cmp.Lexicographic.{nat_list_eq_equiv}
+use Rattle.std.specs.HashMap.{HashMap, UpdatesBy, get_by}
 use Rattle.std.specs.Map.{lookup, IsKeyTest, AreApart, KeepsOthers}
-use Rattle.std.specs.Ordering.{is_eq, nat_cmp}
 use Rattle.std.proofs.lemmas.Bool.{cases_Bool, cond-true, cond-false}
-use Rattle.std.proofs.lemmas.Map.Text.{is_eq-slice_cmp}
 use Rattle.hist_model.specs.Look.{Name, name_eq}
 use Rattle.hist_model.proofs.Look.{name_eq-true}
 use Rattle.audit_log.specs.Tasks.{facts_or_none}
 use Rattle.audit_log.specs.declared.tasks.TaskFacts.{TaskFacts}
 
 -- a key under one name is under no other
-apart : (n m key : Name) → name_eq n m ≡ false → is_eq (slice_cmp nat_cmp n key) ≡ true → is_eq (slice_cmp nat_cmp m key) ≡ false
-apart n m key other same =
-    is_eq-slice_cmp m key
-    ∙ (nat_list_eq_equiv.symm m key ∙ sym (nat_list_eq_equiv.congr n key m (sym (is_eq-slice_cmp n key) ∙ same)) ∙ other)
+apart : (n m key : Name) → name_eq n m ≡ false → name_eq n key ≡ true → name_eq m key ≡ false
+apart n m key other same = nat_list_eq_equiv.symm m key ∙ (sym (nat_list_eq_equiv.congr n key m same) ∙ other)
 
 kept : {K X : Type 0} (eq : K → K → Bool) (test : K → Bool) (old new : List (K × X)) → KeepsOthers eq test old new
     → (other : K → Bool) → IsKeyTest eq other → AreApart test other → lookup other new ≡ lookup other old
@@ -25,16 +20,16 @@ unfolding KeepsOthers
 kept eq test old new h = h
 
 -- what the table has of any task, with these facts of the one with this name
-pub put_told : {Y : Type 0} (key name : Name) (old new : BTreeMap (Vec ℕ Y) TaskFacts) (facts : TaskFacts) → key ≡ name
-    → UpdatesBy (λ x y. slice_cmp nat_cmp x.items y.items) (λ k. slice_cmp nat_cmp key k.items) old new (Some facts)
-    → (n : Name) → facts_or_none (get_by (λ k. slice_cmp nat_cmp n k.items) new) ≡ (if name_eq name n then facts else facts_or_none (get_by (λ k. slice_cmp nat_cmp n k.items) old))
-put_told key name old new facts e h n = subst (λ m. facts_or_none (get_by (λ k. slice_cmp nat_cmp n k.items) new) ≡ (if name_eq m n then facts else facts_or_none (get_by (λ k. slice_cmp nat_cmp n k.items) old))) e (elim (cases_Bool (name_eq key n)) [
+pub put_told : {Y S : Type 0} (key name : Name) (old new : HashMap (Vec ℕ Y) TaskFacts S) (facts : TaskFacts) → key ≡ name
+    → UpdatesBy (λ x y. name_eq x.items y.items) (λ k. name_eq key k.items) old new (Some facts)
+    → (n : Name) → facts_or_none (get_by (λ k. name_eq n k.items) new) ≡ (if name_eq name n then facts else facts_or_none (get_by (λ k. name_eq n k.items) old))
+put_told key name old new facts e h n = subst (λ m. facts_or_none (get_by (λ k. name_eq n k.items) new) ≡ (if name_eq m n then facts else facts_or_none (get_by (λ k. name_eq n k.items) old))) e (elim (cases_Bool (name_eq key n)) [
   | inl y ↦
-      subst (λ m. facts_or_none (get_by (λ k. slice_cmp nat_cmp m k.items) new) ≡ facts) (name_eq-true key n y) (ap facts_or_none h.1)
-      ∙ sym (cond-true (name_eq key n) facts (facts_or_none (get_by (λ k. slice_cmp nat_cmp n k.items) old)) y)
+      subst (λ m. facts_or_none (get_by (λ k. name_eq m k.items) new) ≡ facts) (name_eq-true key n y) (ap facts_or_none h.1)
+      ∙ sym (cond-true (name_eq key n) facts (facts_or_none (get_by (λ k. name_eq n k.items) old)) y)
   | inr y ↦
-      ap facts_or_none (kept _ _ _ _ h.3 _ (λ x z. (eq_by_cmp_equiv nat_list_cmp_total).congr n x.items z.items) (λ k. apart key n k.items y))
-      ∙ sym (cond-false (name_eq key n) facts (facts_or_none (get_by (λ k. slice_cmp nat_cmp n k.items) old)) y)
+      ap facts_or_none (kept _ _ _ _ h.3 _ (λ x z. nat_list_eq_equiv.congr n x.items z.items) (λ k. apart key n k.items y))
+      ∙ sym (cond-false (name_eq key n) facts (facts_or_none (get_by (λ k. name_eq n k.items) old)) y)
 ])
 
 -- a change at one name is one at every name, where it changes nothing at the others

@@ -1,9 +1,7 @@
 -- What is kept of each task while the events are gone through: the first process number that it was given, and its newest call.
 use Rattle.std.specs.Prelude.{◌≡◌, ℕ, ◌&&◌, if◌then◌else◌, List, Option, Some, None}
-use Rattle.std.specs.BTreeMap.{get_by}
-use Rattle.std.specs.Cmp.Lexicographic.{slice_cmp}
-use Rattle.std.specs.Ordering.{nat_cmp}
-use Rattle.hist_model.specs.Look.{Name, is_task, or_else}
+use Rattle.std.specs.HashMap.{get_by}
+use Rattle.hist_model.specs.Look.{Name, is_task, name_eq, or_else}
 use Rattle.hist_model.specs.Kinds.{enters}
 use Rattle.hist_model.specs.ReportCalls.{newest_call, first_pid, pid_given}
 use Rattle.hist_model.specs.declared.event.Actor.{Actor}
@@ -23,7 +21,7 @@ facts_or_none None = no_task
 
 -- what the table has of task n
 abbrev pub facts_in : Tasks → Name → TaskFacts
-facts_in t n = facts_or_none (get_by (λ key. slice_cmp nat_cmp n key.items) t.rows)
+facts_in t n = facts_or_none (get_by (λ key. name_eq n key.items) t.rows)
 
 -- of task n in these events
 abbrev pub task_facts : List Event → Name → TaskFacts

@@ -1,22 +1,11 @@
-//! What came of a call, and who entered it.
+//! What came of a call.
 
 ghost use Rattle.std.specs.Prelude.{◌≡◌};
-ghost use Rattle.hist_model.specs.Look.{task_name};
 ghost use Rattle.hist_model.specs.ReportCalls.{is_pending, outcome_at_entry, outcome_by, outcome_next, outcome_of_verdict};
 
-use hist_model::event::{Actor, Back, Delivered, Entered, What};
+use hist_model::event::{Back, Delivered, Entered, What};
 use hist_model::report::Outcome;
 use sys_abi::errno::Errno;
-
-/// The numbers of a task's name; none of an actor that is no task.
-pub(crate) fn task_numbers(who: &Actor) -> &[u32]
-    ensures { result.now ≡ task_name who.now }
-{
-    match who {
-        Actor::Task(name) => name.items(),
-        _ => &[],
-    }
-}
 
 /// What the filters alone make of a call.
 fn outcome_of_verdict(verdict: Entered) -> Outcome

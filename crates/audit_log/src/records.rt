@@ -5,7 +5,7 @@ ghost use Rattle.hist_model.specs.declared.report.Outcome.{Outcome};
 ghost use Rattle.audit_log.specs.Records.{Tells, advanced, no_record, record_after, recorded};
 ghost use Rattle.audit_log.specs.Tasks.{facts_in};
 
-use crate::outcome::{is_pending, outcome_at_entry, outcome_next, task_numbers};
+use crate::outcome::{is_pending, outcome_at_entry, outcome_next};
 use crate::step::number_given;
 use crate::tasks::Tasks;
 use hist_model::event::{Event, What};
@@ -75,11 +75,11 @@ pub(crate) fn record(
 ) -> Result<(), NoMemory>
     ensures { OnOk result (records.new.items ≡ recorded event.now (facts_in tasks.now) records.old.items) }
 {
-    let pid = tasks.get(task_numbers(&event.who)).pid.unwrap_or(0);
+    let facts = tasks.of_actor(&event.who);
     let outcome: Outcome = outcome_at_entry(&event.what);
-    advance(records, tasks.call_of(&event.who), &event.what);
+    advance(records, facts.newest, &event.what);
     records.push(CallRecord {
-        pid,
+        pid: facts.pid.unwrap_or(0),
         outcome,
         number: None,
     })?;

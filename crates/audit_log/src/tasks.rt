@@ -1,12 +1,12 @@
 //! What is kept of each task while the events are gone through.
 
 ghost use Rattle.std.specs.Prelude.{◌≡◌, ℕ, List, OnOk, Some, if◌then◌else◌};
-ghost use Rattle.hist_model.specs.Look.{is_task, name_eq, or_else};
+ghost use Rattle.hist_model.specs.Look.{is_task, name_eq, or_else, task_name};
 ghost use Rattle.audit_log.specs.Tasks.{call_of, facts_in, no_task, task_after};
 
 use hist_model::event::{Actor, Event, What};
 use std::alloc::Global;
-use std::collections::BTreeMap;
+use std::collections::HashMap;
 use sys_abi::memory::NoMemory;
 
 /// What is kept of a task.
@@ -30,7 +30,7 @@ impl TaskFacts {
 #[derive(Drop)]
 pub(crate) struct Tasks {
     alloc: Global,
-    rows: BTreeMap<Vec<u32>, TaskFacts>,
+    rows: HashMap<Vec<u32>, TaskFacts>,
 }
 
 impl Tasks {
@@ -40,7 +40,7 @@ impl Tasks {
     {
         Tasks {
             alloc,
-            rows: BTreeMap::new(alloc),
+            rows: HashMap::new(alloc),
         }
     }
 
@@ -51,6 +51,19 @@ impl Tasks {
         match self.rows.get(name) {
             Some(facts) => *facts,
             None => TaskFacts::NONE,
+        }
+    }
+
+    /// Of the task that an actor is; of another actor without a newest call.
+    pub(crate) fn of_actor(&self, who: &Actor) -> TaskFacts
+        ensures { result ≡ record { pid = (facts_in self.now (task_name who.now)).pid; newest = call_of who.now (facts_in self.now) } }
+    {
+        match who {
+            Actor::Task(name) => self.get(name.items()),
+            _ => TaskFacts {
+                newest: None,
+                ..self.get(&[])
+            },
         }
     }
 
