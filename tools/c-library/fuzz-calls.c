@@ -644,7 +644,7 @@ int main(int count, char **words) {
   }
   struct rusage usage;
   getrusage(RUSAGE_SELF, &usage);
-  printf("%llu inputs of seed %llu, each called twice:", (unsigned long long)inputs, (unsigned long long)seed);
+  printf("%llu inputs of seed %llu from %llu on, each called twice:", (unsigned long long)inputs, (unsigned long long)seed, (unsigned long long)first);
   for (size_t at = 0; at < STATUSES; at++)
     if (statuses[at] > 0)
       printf(" %zu with status %zu,", statuses[at], at);

@@ -12,9 +12,30 @@ const POLICY: &str = "{\"config\":{\"security.syscalls.intercept.mknod\":\"true\
 const SCRIPT: &str =
     "notify mknod\nprog main\npoke 0x10000 \"/null\\0\"\ncall mknod 0x10000 0o020666 259\nend\nschedule\nt 0 2\nw 0 9\nt 0 2\nend\n";
 
-/// The report of this script under this policy, worked out by hand.
-const REPORT: &str =
-    "journal 15\n0 - spawn 0 pid=1 new\n1 t0 poke 65536 2f6e756c6c00\n2 t0 call mknod 65536 8630 259 0 0 0 notify id=1\n3 w0 recv id=1 pid=1\n4 w0 open-mem 1 ok\n5 w0 open-base 1 -100 ok\n6 w0 check 1 ok\n7 w0 read 65536 256 2f6e756c6c\n8 w0 check 1 ok\n9 w0 act mknod \"/null\" chr 1:3 ok\n10 w0 send 1 0 ok\n11 w0 let-go\n12 t0 resume 0\n13 t0 exit\n14 listener close\ncalls 1\n2 t0 pid=1 mknod 0\naudit 1\n3 w0 id=1 mknod rule=lxd.mknod.1:3 verdict=grant answer=0 reply=sent\nsummary events=15 calls=1 notified=1 answered=1 granted=1 denied=0 passed=0 injected=0 faults=0 gone=0 lost=0\n";
+/// The lines of the report of this script under this policy, worked out by hand.
+const REPORT: [&'static str; 21] = [
+    "journal 15\n",
+    "0 - spawn 0 pid=1 new\n",
+    "1 t0 poke 65536 2f6e756c6c00\n",
+    "2 t0 call mknod 65536 8630 259 0 0 0 notify id=1\n",
+    "3 w0 recv id=1 pid=1\n",
+    "4 w0 open-mem 1 ok\n",
+    "5 w0 open-base 1 -100 ok\n",
+    "6 w0 check 1 ok\n",
+    "7 w0 read 65536 256 2f6e756c6c\n",
+    "8 w0 check 1 ok\n",
+    "9 w0 act mknod \"/null\" chr 1:3 ok\n",
+    "10 w0 send 1 0 ok\n",
+    "11 w0 let-go\n",
+    "12 t0 resume 0\n",
+    "13 t0 exit\n",
+    "14 listener close\n",
+    "calls 1\n",
+    "2 t0 pid=1 mknod 0\n",
+    "audit 1\n",
+    "3 w0 id=1 mknod rule=lxd.mknod.1:3 verdict=grant answer=0 reply=sent\n",
+    "summary events=15 calls=1 notified=1 answered=1 granted=1 denied=0 passed=0 injected=0 faults=0 gone=0 lost=0\n",
+];
 
 /// The words that play this script under this policy.
 const PLAY: [&'static str; 3] = ["play", "p", "s"];
@@ -37,7 +58,56 @@ fn file(alloc: Global, name: &str, bytes: &str) -> Result<(String, Vec<u8>), Fai
     ))
 }
 
-/// What a call is to answer: its status with its code, the line on `err`, and what `out` took.
+/// What the program is given: its words, its files, and which call of the files and which write to `out` and to `err` fails,
+/// counted from 1; none is 0.
+#[derive(Clone, Copy)]
+struct Given {
+    words: [&'static str; 3],
+    policy: &'static str,
+    script: &'static str,
+    failing_call: u64,
+    failing_write: u64,
+    failing_line: u64,
+}
+
+/// This policy and this script, with these words, where nothing fails.
+const fn sound(words: [&'static str; 3], policy: &'static str, script: &'static str) -> Given {
+    Given {
+        words,
+        policy,
+        script,
+        failing_call: 0,
+        failing_write: 0,
+        failing_line: 0,
+    }
+}
+
+/// What came of a run.
+#[derive(Drop)]
+struct Answer {
+    status: Status,
+    out: MemSink,
+    err: MemSink,
+}
+
+/// Runs the program.
+fn run(alloc: Global, given: Given) -> Result<Answer, Fail> {
+    let listed = vec![in alloc;
+        file(alloc, "p", given.policy)?,
+        file(alloc, "s", given.script)?,
+    ]?;
+    let mut files = MemFiles::new(listed, vec![in alloc; given.failing_call]?);
+    let mut out = MemSink::new(alloc, ROOM, vec![in alloc; given.failing_write]?)?;
+    let mut err = MemSink::new(alloc, ROOM, vec![in alloc; given.failing_line]?)?;
+    let mut words = Vec::new(alloc);
+    for word in given.words {
+        words.push(String::from_str(alloc, word)?)?;
+    }
+    let status = broker(alloc, words.as_slice(), &mut files, &mut out, &mut err);
+    Ok(Answer { status, out, err })
+}
+
+/// What a run is to answer: its status with its code, the line on `err`, and what `out` took.
 #[derive(Drop)]
 struct Want<'a> {
     status: Status,
@@ -46,29 +116,24 @@ struct Want<'a> {
     report: &'a str,
 }
 
-/// The program with these words, where this call of the files and this write to `out` fail; none is the call 0.
-fn check<R: Abort>(
-    rt: &R,
-    alloc: Global,
-    command: [&'static str; 3],
-    failing_call: u64,
-    failing_write: u64,
-    want: Want<'_>,
-) -> Result<(), Fail> {
-    let listed = vec![in alloc; file(alloc, "p", POLICY)?, file(alloc, "s", SCRIPT)?]?;
-    let mut files = MemFiles::new(listed, vec![in alloc; failing_call]?);
-    let mut out = MemSink::new(alloc, ROOM, vec![in alloc; failing_write]?)?;
-    let mut err = MemSink::new(alloc, ROOM, Vec::new(alloc))?;
-    let mut words = Vec::new(alloc);
-    for word in command {
-        words.push(String::from_str(alloc, word)?)?;
-    }
-    let status = broker(alloc, words.as_slice(), &mut files, &mut out, &mut err);
-    assert_eq!(rt; status.code(), want.code);
-    assert_eq!(rt; status, want.status);
-    assert_eq!(rt; err.taken(), want.line.as_bytes());
-    assert_eq!(rt; out.taken(), want.report.as_bytes());
+/// Sees that the program answers what it is to answer.
+fn check<R: Abort>(rt: &R, alloc: Global, given: Given, want: Want<'_>) -> Result<(), Fail> {
+    let answer = run(alloc, given)?;
+    assert_eq!(rt; answer.status.code(), want.code);
+    assert_eq!(rt; answer.status, want.status);
+    assert_eq!(rt; answer.err.taken(), want.line.as_bytes());
+    assert_eq!(rt; answer.out.taken(), want.report.as_bytes());
     Ok(())
+}
+
+/// The whole of what is printed.
+fn done(report: &str) -> Want<'_> {
+    Want {
+        status: Status::Done,
+        code: 0,
+        line: "",
+        report,
+    }
 }
 
 /// No report, since a call on this file failed.
@@ -92,45 +157,128 @@ fn write_fault(report: &str) -> Want<'_> {
 }
 
 #[test]
-fn prints_the_report(rt: HostRuntime) -> Result<(), Fail> {
-    let whole = Want {
-        status: Status::Done,
-        code: 0,
-        line: "",
-        report: REPORT,
-    };
-    check(&rt, rt.alloc(), PLAY, 0, 0, whole)
-}
-
-#[test]
 fn names_the_file_that_a_call_failed_on(rt: HostRuntime) -> Result<(), Fail> {
     // The first call opens the policy, the next two read it, and then comes the script.
-    for call in 1..4 {
-        let want = read_fault(InputFile::Policy, "read fault: policy\n");
-        check(&rt, rt.alloc(), PLAY, call, 0, want)?;
-    }
-    for call in 4..7 {
-        let want = read_fault(InputFile::Script, "read fault: script\n");
-        check(&rt, rt.alloc(), PLAY, call, 0, want)?;
+    for failing_call in 1..7 {
+        let want = if failing_call < 4 {
+            read_fault(InputFile::Policy, "read fault: policy\n")
+        } else {
+            read_fault(InputFile::Script, "read fault: script\n")
+        };
+        let play = Given {
+            failing_call,
+            ..sound(PLAY, POLICY, SCRIPT)
+        };
+        check(&rt, rt.alloc(), play, want)?;
     }
     Ok(())
 }
 
 #[test]
-fn leaves_a_prefix_where_a_write_fails(rt: HostRuntime) -> Result<(), Fail> {
-    check(&rt, rt.alloc(), PLAY, 0, 1, write_fault(""))?;
-    let two_lines = "journal 15\n0 - spawn 0 pid=1 new\n";
-    check(&rt, rt.alloc(), PLAY, 0, 3, write_fault(two_lines))
+fn leaves_the_lines_before_a_write_that_fails(rt: HostRuntime) -> Result<(), Fail> {
+    let alloc = rt.alloc();
+    let mut before = String::new(alloc);
+    for place in 0..REPORT.len() {
+        let play = Given {
+            failing_write: place as u64 + 1,
+            ..sound(PLAY, POLICY, SCRIPT)
+        };
+        check(&rt, alloc, play, write_fault(before.as_str()))?;
+        before.push_str(REPORT[place])?;
+    }
+    check(
+        &rt,
+        alloc,
+        sound(PLAY, POLICY, SCRIPT),
+        done(before.as_str()),
+    )
 }
 
 #[test]
 fn prints_the_summary_of_generated_input(rt: HostRuntime) -> Result<(), Fail> {
-    let whole = Want {
-        status: Status::Done,
-        code: 0,
-        line: "",
-        report: SUMMARY,
+    let stress = sound(STRESS, POLICY, SCRIPT);
+    check(&rt, rt.alloc(), stress, done(SUMMARY))?;
+    let stress = Given {
+        failing_write: 1,
+        ..stress
     };
-    check(&rt, rt.alloc(), STRESS, 0, 0, whole)?;
-    check(&rt, rt.alloc(), STRESS, 0, 1, write_fault(""))
+    check(&rt, rt.alloc(), stress, write_fault(""))
+}
+
+/// A policy with an error that has no number.
+const UNKNOWN_ERROR: &str =
+    "{\"rules\":[{\"name\":\"a\",\"call\":\"mount\",\"then\":{\"deny\":\"EWHAT\"}}]}";
+
+/// What is refused: the names of the files, the policy and the script, with the code of the status and the line.
+const REFUSALS: [([&'static str; 2], [&'static str; 2], u8, &'static str); 7] = [
+    (["x", "s"], [POLICY, SCRIPT], 2, "read fault: policy\n"),
+    (["p", "x"], [POLICY, SCRIPT], 2, "read fault: script\n"),
+    (
+        ["p", "s"],
+        ["{\"rules\":[", SCRIPT],
+        4,
+        "policy: not JSON\n",
+    ),
+    (
+        ["p", "s"],
+        ["{\"rulez\":[]}", SCRIPT],
+        4,
+        "policy: unknown key at \"rulez\"\n",
+    ),
+    (
+        ["p", "s"],
+        [UNKNOWN_ERROR, SCRIPT],
+        4,
+        "policy: bad value at rules[0].then.deny\n",
+    ),
+    (
+        ["p", "s"],
+        [POLICY, "pidmax 12x\n"],
+        5,
+        "script: line 1: bad number\n",
+    ),
+    (["p", "s"], [POLICY, ""], 5, "script: line 0: no program\n"),
+];
+
+/// Sees that the status stays where each write to `err` in turn fails, and that `err` took a part of the line from its beginning.
+fn keeps_its_status<R: Abort>(
+    rt: &R,
+    alloc: Global,
+    refused: Given,
+    code: u8,
+    line: &str,
+) -> Result<(), Fail> {
+    for failing_line in 1..6 {
+        let failing = Given {
+            failing_line,
+            ..refused
+        };
+        let answer = run(alloc, failing)?;
+        assert_eq!(rt; answer.status.code(), code);
+        assert!(rt; line.as_bytes().starts_with(answer.err.taken()));
+    }
+    Ok(())
+}
+
+#[test]
+fn keeps_its_status_where_standard_error_fails(rt: HostRuntime) -> Result<(), Fail> {
+    for ([policy, script], [policy_text, script_text], code, line) in REFUSALS {
+        let refused = sound(["play", policy, script], policy_text, script_text);
+        keeps_its_status(&rt, rt.alloc(), refused, code, line)?;
+    }
+    Ok(())
+}
+
+#[test]
+fn keeps_its_status_where_all_fails(rt: HostRuntime) -> Result<(), Fail> {
+    let unread = Given {
+        failing_call: 2,
+        ..sound(PLAY, POLICY, SCRIPT)
+    };
+    keeps_its_status(&rt, rt.alloc(), unread, 2, "read fault: policy\n")?;
+    let unwritten = Given {
+        failing_write: 3,
+        ..sound(PLAY, POLICY, SCRIPT)
+    };
+    keeps_its_status(&rt, rt.alloc(), unwritten, 6, "write fault\n")
 }
