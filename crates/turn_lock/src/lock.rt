@@ -208,9 +208,19 @@ impl<S: Journalled> TurnLock<S> {
         let gone = shared.exchange(seat, 0, Some(state));
         let None = gone else { unreachable!() };
         shared.store::<Publish>(seat, 0, count);
-        shared.fetch_add::<Release>(seat, 2, 1);
-        shared.wake_all(2);
+        let ended = shared.fetch_add::<Release>(seat, 2, 1);
+        self.wake_waiting(ended);
         count
+    }
+
+    /// Wakes the passes that wait, once the turn of this ticket has ended.
+    fn wake_waiting(&self, ended: u64) {
+        let shared = &self.table.shared;
+        // A pass that waits drew its ticket before it found another one served. With no later ticket none waits, and the
+        // system needn't be asked.
+        if shared.peek(1) != ended.wrapping_add(1) {
+            shared.wake_all(2);
+        }
     }
 }
 

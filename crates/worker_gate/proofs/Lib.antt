@@ -8,3 +8,5 @@ pub mod Remembering
 pub mod Turns
 pub mod Tasks
 pub mod Schedules
+pub mod KnownTasks
+pub mod Kept

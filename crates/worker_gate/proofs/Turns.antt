@@ -5,7 +5,7 @@ use Rattle.std.specs.Prelude.{slice_set}
 use Rattle.std.proofs.lemmas.List.{length-set}
 use Rattle.hist_model.specs.Look.{Name, ev}
 use Rattle.hist_model.specs.Names.{is_task_name}
-use Rattle.hist_model.specs.Legal.{played, rules_of, started, system_of, with_step, with_steps}
+use Rattle.hist_model.specs.Legal.{played, rules_of, started, system_of, with_schedule, with_step, with_steps}
 use Rattle.hist_model.specs.Sessions.{session}
 use Rattle.hist_model.specs.Steps.{start, step, task_step, worker_step}
 use Rattle.hist_model.specs.declared.event.Actor.{Actor}
@@ -100,7 +100,11 @@ module _ (P : Policy) (old mid new : Machine) (r : Reaches P old (past mid.kerne
 pub reached_last : (P : Policy) (old new : Machine) (K : List Event) → Reaches P old (past new.kernel) new → past new.kernel ≡ K → Reaches P old K new
 reached_last P old new K r is = record { served = r.served; script = r.script; events = is }
 
--- the turns of the schedule after the start, and the close, are what is played
-pub played_to_end : (P : Policy) (S : Script) (s t : Machine) → IsAt P S (started S) s → Reaches P s (after_schedule P s) t → ev Listener Close ∷ past t.kernel ≡ played P S
+-- the schedule's steps after the start, and the close, are what is played
+pub closed_is_played : (P : Policy) (S : Script) (K : List Event) → K ≡ with_schedule P S S.schedule (started S) → ev Listener Close ∷ K ≡ played P S
 unfolding step
-played_to_end P S s t a r = ap (λ K. ev Listener Close ∷ K) (rw (a.script, a.events) at r.events)
+closed_is_played P S K is = ap (λ (H : List Event). ev Listener Close ∷ H) is
+
+-- and so are the turns of a machine
+pub played_to_end : (P : Policy) (S : Script) (s t : Machine) → IsAt P S (started S) s → Reaches P s (after_schedule P s) t → ev Listener Close ∷ past t.kernel ≡ played P S
+played_to_end P S s t a r = closed_is_played P S (past t.kernel) (rw (a.script, a.events) at r.events)

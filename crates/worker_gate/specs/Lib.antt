@@ -1,2 +1,4 @@
 pub mod Workers
 pub mod Serving
+pub mod Keeping
+pub mod Scheduling

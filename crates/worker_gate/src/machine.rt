@@ -127,7 +127,7 @@ impl Machine {
     }
 
     /// The ordinal of the task that an actor is, if it is one and was made.
-    fn task_of(&self, who: &Actor) -> Option<u32>
+    pub(crate) fn task_of(&self, who: &Actor) -> Option<u32>
         requires { IsKernel self.now.kernel }
         ensures { IsFound (past self.now.kernel) who.now result }
     {
@@ -138,7 +138,7 @@ impl Machine {
     }
 
     /// A turn of an actor; of a task its ordinal is found.
-    fn found_turn(
+    pub(crate) fn found_turn(
         &mut self,
         alloc: Global,
         policy: &Policy,

@@ -1,6 +1,6 @@
 //! The play of a script's schedule.
 
-ghost use Rattle.std.specs.Prelude.{◌≡◌, ◌<◌, length, true, OnOk, IfOk, Some, slice_get};
+ghost use Rattle.std.specs.Prelude.{◌≡◌, ◌<◌, length, true, OnOk, IfOk, Some, slice_get, All};
 ghost use Rattle.hist_model.specs.Legal.{played};
 ghost use Rattle.hist_model.specs.ScriptRules.{can_be_scheduled};
 
@@ -50,6 +50,19 @@ fn line(alloc: Global, script: &Script, index: usize) -> Result<Step, NoMemory>
         who: copied(alloc, &step.who)?,
         count: step.count,
     })
+}
+
+/// The lines of a script's schedule, copied.
+pub fn schedule_of(alloc: Global, script: &Script) -> Result<Vec<Step>, NoMemory>
+    ensures lines { IfOk result (λ v. v.items ≡ script.now.schedule) }
+    ensures scheduled { IfOk result (λ v. All (λ s. can_be_scheduled s.who ≡ true) v.items) }
+{
+    let mut copies = Vec::with_capacity(alloc, lines(script))?;
+    for index in 0..lines(script) {
+        let copy = line(alloc, script, index)?;
+        copies.push(copy)?;
+    }
+    Ok(copies)
 }
 
 impl Machine {

@@ -11,8 +11,8 @@ store-requires g c = let may = c.requires.turn in let h = holding g.S.Journalled
       (may.4.1 ∙ ap (λ m. may.4.0 ++ m.0.seen) (sym h)) (c.len-count.ensures ∙ ap (λ h. length h.events) c.journal.ensures),
 )
 
-pub fetch_add-requires : goal.fetch_add-requires
-fetch_add-requires g c = let may = c.requires.turn in let h = holding g.S.Journalled.setup g.S.Journalled.history c.args.seat.now.me c.exchange-gone.new.seat.me c.args.state may c.exchange-gone.ensures.3 in
+pub fetch_add-ended-requires : goal.fetch_add-ended-requires
+fetch_add-ended-requires g c = let may = c.requires.turn in let h = holding g.S.Journalled.setup g.S.Journalled.history c.args.seat.now.me c.exchange-gone.new.seat.me c.args.state may c.exchange-gone.ensures.3 in
     let w = wrote g.S.Journalled.setup g.S.Journalled.history c.args.seat.now.me c.exchange-gone.new.seat.me c.store.new.seat.me c.args.state 0 h c.store.ensures.2 in (
       search rules,
       search rules,
@@ -23,4 +23,4 @@ fetch_add-requires g c = let may = c.requires.turn in let h = holding g.S.Journa
 pub returns-clause-put : goal.returns-clause-put
 returns-clause-put g c = let may = c.requires.turn in let h = holding g.S.Journalled.setup g.S.Journalled.history c.args.seat.now.me c.exchange-gone.new.seat.me c.args.state may c.exchange-gone.ensures.3 in
     let w = wrote g.S.Journalled.setup g.S.Journalled.history c.args.seat.now.me c.exchange-gone.new.seat.me c.store.new.seat.me c.args.state 0 h c.store.ensures.2 in
-    put_in g.S.Journalled.setup g.S.Journalled.history c.args.seat.now.me c.store.new.seat.me c.fetch_add.new.seat.me c.args.state 0 w c.fetch_add.ensures.2
+    put_in g.S.Journalled.setup g.S.Journalled.history c.args.seat.now.me c.store.new.seat.me c.fetch_add-ended.new.seat.me c.args.state 0 w c.fetch_add-ended.ensures.2

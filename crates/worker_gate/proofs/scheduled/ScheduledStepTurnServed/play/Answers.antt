@@ -1,0 +1,15 @@
+use Rattle.std.proofs.Common.{◌≡◌, ◌++◌, ap, ◌∙◌}
+use Rattle.model_kernel.specs.Kernels.{past}
+use Rattle.worker_gate.specs.Keeping.{ServedFacts}
+use Rattle.worker_gate.specs.declared.served.Serving.{Serving}
+use Rattle.worker_gate.proofs.KnownTasks.{still_begins}
+use Rattle.worker_gate.proofs.scheduled.ScheduledStepTurnServed.play.Goals as goal
+
+pub returns-clause-history : goal.returns-clause-history
+returns-clause-history c =
+    let old = c.deref_mut.result.now in
+    let begins = still_begins old.policy old.machine c.step-stepped.new.self.machine c.args.self.now.who.now c.step-stepped.result c.step-stepped.ensures.done c.step-stepped.ensures.same in
+    let viewed = ap (λ (s : ServedFacts). s.history.events) c.state.view_is in
+    let lent = ap (λ (s : Serving). past s.machine.kernel) c.deref_mut.ensures.value in
+    let same : past old.machine.kernel ≡ c.args.state.now.history.events = cc (viewed, lent) in
+    (begins.0, begins.1 ∙ ap (λ h. begins.0 ++ h) same)

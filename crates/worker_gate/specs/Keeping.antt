@@ -1,0 +1,25 @@
+-- What the state behind the listener's lock keeps of its history, and what contracts see of it.
+use Rattle.std.specs.Prelude.{ℕ, List, Option, Some, None, ⊤}
+use Rattle.hist_model.specs.Histories.{Seen}
+use Rattle.hist_model.specs.Legal.{NoSkip, NoWorkerAbove}
+use Rattle.hist_model.specs.declared.event.Event.{Event}
+use Rattle.hist_model.specs.declared.history.Setup.{Setup}
+use Rattle.hist_model.specs.declared.policy.Policy.{Policy}
+use Rattle.model_kernel.specs.Kernels.{past}
+use Rattle.worker_gate.specs.Serving.{IsServed}
+use Rattle.worker_gate.specs.declared.machine.Machine.{Machine}
+
+-- under a limit no event is a Skip, and none is a step of a worker whose number is above it
+abbrev pub IsWithinLimit : Option ℕ → List Event → Type 0
+IsWithinLimit None K = ⊤
+IsWithinLimit (Some limit) K = NoSkip K × NoWorkerAbove limit K
+
+-- under the policy the machine's history is legal and goes on, each of its workers remembers its session of it, and it keeps the limit
+pub record IsKept (P : Policy) (limit : Option ℕ) (m : Machine) : Type 0 where
+  pub served : IsServed P m
+  pub within : IsWithinLimit limit (past m.kernel)
+
+-- its policy, script and limit, and its history
+pub record ServedFacts : Type 0 where
+  pub setup : Setup
+  pub history : Seen

@@ -1,0 +1,139 @@
+//! The state behind the listener's lock.
+
+ghost use Rattle.std.specs.Prelude.{◌≡◌, ◌≤◌, ◌∷◌, [], None, OnOk, OnErr, IfOk};
+ghost use Rattle.hist_model.specs.Legal.{started};
+ghost use Rattle.hist_model.specs.Look.{ev};
+ghost use Rattle.hist_model.specs.declared.event.Actor.TheVariants.{Listener};
+ghost use Rattle.hist_model.specs.declared.event.What.TheVariants.{Close};
+ghost use Rattle.mediation.specs.Scheduled.{IsScheduled};
+ghost use Rattle.model_kernel.specs.Kernels.{IsKernel, past};
+ghost use Rattle.worker_gate.specs.Keeping.{IsKept};
+ghost use Rattle.worker_gate.specs.Scheduling.{IsKnown};
+ghost use Rattle.worker_gate.specs.Serving.{IsFound, Reaches, after_step};
+
+use crate::machine::Machine;
+use crate::schedule::Played;
+use hist_model::event::Actor;
+use hist_model::history::{History, Journalled};
+use hist_model::policy::Policy;
+use hist_model::script::Script;
+use std::alloc::Global;
+use std::marker::Model;
+use sys_abi::memory::NoMemory;
+
+/// A machine, the policy by which its workers serve, and the number of the last worker that may, where not all may.
+#[derive(Drop)]
+pub(crate) struct Serving {
+    pub(crate) machine: Machine,
+    pub(crate) policy: Policy,
+    pub(crate) limit: Option<u8>,
+}
+
+impl Serving {
+    /// The ordinal of the task that an actor is, if it is one and was made: the known one, or else the one that is found.
+    fn ordinal(&self, who: &Actor, known: Option<u32>) -> Option<u32>
+        requires kernel { IsKernel self.now.machine.kernel }
+        requires known { IsKnown (past self.now.machine.kernel) who.now known }
+        ensures { IsFound (past self.now.machine.kernel) who.now result }
+    {
+        match known {
+            Some(task) => Some(task),
+            None => self.machine.task_of(who),
+        }
+    }
+
+    /// An actor's step, or a `Skip` where it can't step. What is known of the actor is kept for its next step.
+    pub(crate) fn step(
+        &mut self,
+        alloc: Global,
+        who: &Actor,
+        known: &mut Option<u32>,
+    ) -> Result<(), NoMemory>
+        requires kept { IsKept self.old.policy self.old.limit self.old.machine }
+        requires unlimited { self.old.limit ≡ None }
+        requires scheduled { IsScheduled who.now }
+        requires known { IsKnown (past self.old.machine.kernel) who.now known.old }
+        ensures done { OnOk result (Reaches self.old.policy self.old.machine (after_step self.old.policy self.old.machine who.now) self.new.machine) }
+        ensures known { OnOk result (IsKnown (past self.new.machine.kernel) who.now known.new) }
+        ensures same { OnErr result (Reaches self.old.policy self.old.machine (past self.old.machine.kernel) self.new.machine) }
+        ensures kept { IsKept self.new.policy self.new.limit self.new.machine }
+        ensures setup { (self.new.policy ≡ self.old.policy) × (self.new.limit ≡ self.old.limit) }
+    {
+        let task = self.ordinal(who, *known);
+        *known = task;
+        self.machine.found_turn(alloc, &self.policy, who, task)
+    }
+}
+
+/// The state behind the listener's lock: a kernel, the workers that serve it, and a policy, whose history is legal and still
+/// goes on. Where it has a limit, the history has no `Skip` and no step of a worker above it.
+///
+/// It is one box, so that a turn moves a pointer out of the lock and back.
+#[derive(Drop)]
+pub struct Served {
+    pub(crate) serving: Box<Serving>,
+}
+
+impl Model for Served {
+    ghost use Rattle.worker_gate.specs.Keeping.{IsKept, ServedFacts};
+
+    ghost Value = { ServedFacts };
+
+    ghost view = { λ s. record { setup = record { policy = s.serving.value.policy; script = s.serving.value.machine.kernel.script; limit = s.serving.value.limit }; history = s.serving.value.machine.kernel.history } };
+
+    ghost invariant = { λ s. IsKept s.serving.value.policy s.serving.value.limit s.serving.value.machine };
+}
+
+impl Journalled for Served {
+    ghost history = { λ s. s.history };
+
+    ghost setup = { λ s. s.setup };
+
+    fn journal(&self) -> &History {
+        self.serving.machine.history()
+    }
+}
+
+impl Served {
+    /// The kernel of a script after its start, with workers without a session. A limit is the number of the last worker that may
+    /// serve; where there is none, all may, and an actor that can't step gives a `Skip`.
+    pub fn new(
+        alloc: Global,
+        policy: Policy,
+        script: Script,
+        limit: Option<u8>,
+    ) -> Result<Served, NoMemory>
+        ensures setup { IfOk result (λ s. s.setup ≡ record { policy = policy; script = script; limit = limit }) }
+        ensures events { IfOk result (λ s. s.history.events ≡ started script) }
+    {
+        let machine = Machine::new(alloc, script)?;
+        let serving = Box::new(
+            alloc,
+            Serving {
+                machine,
+                policy,
+                limit,
+            },
+        )?;
+        Ok(Served { serving })
+    }
+
+    /// Closes the listener, and gives the history with the policy and the script.
+    pub fn finish(self) -> Result<Played, NoMemory>
+        ensures policy { IfOk result (λ p. p.policy ≡ self.setup.policy) }
+        ensures script { IfOk result (λ p. p.script ≡ self.setup.script) }
+        ensures events { IfOk result (λ p. p.history.events ≡ ev Listener Close ∷ self.history.events) }
+    {
+        let Serving {
+            machine,
+            policy,
+            ..
+        } = Box::into_inner(self.serving);
+        let (script, history) = machine.closed()?;
+        Ok(Played {
+            policy,
+            script,
+            history,
+        })
+    }
+}
