@@ -24,7 +24,8 @@ fn bytes_read(what: &What) -> Option<&[u8]>
 {
     match what {
         What::Read {
-            answer: Ok(bytes), ..
+            answer: Ok(bytes),
+            ..
         } => Some(bytes.items()),
         What::Read { answer: Err(_), .. } => Some(&[]),
         _ => None,
