@@ -12,7 +12,6 @@ mod deeds;
 mod kernel;
 pub mod laws;
 mod listening;
-mod reads;
 mod ready;
 mod start;
 mod steps;
