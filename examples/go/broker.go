@@ -1,4 +1,4 @@
-// Package seccompbroker plays scripts under policies by the C library that tools/make-c-library makes.
+// Package seccompbroker plays scripts under policies, and checks reports, by the C library that tools/make-c-library makes.
 package seccompbroker
 
 /*
@@ -23,7 +23,14 @@ type Report struct {
 	Summary map[string]int
 }
 
-// Refused says why there is no report: the program's status, and its line.
+// Findings has what is found of a report: how many events its history has, whether it is finished, and the lines of its trail.
+type Findings struct {
+	Events   int
+	Finished bool
+	Trail    []string
+}
+
+// Refused says why there is no report, or why one isn't taken: the program's status, and its line.
 type Refused struct {
 	Status int
 	Line   string
@@ -35,28 +42,53 @@ func (r *Refused) Error() string {
 
 // Play plays the schedule of a script under a policy.
 func Play(policy, script string) (*Report, error) {
-	out, line := make([]byte, 65536), make([]byte, 4096)
-	status, length, said := call(policy, script, out, line)
-	if status == C.BROKER_SHORT_BUFFER {
-		out = make([]byte, length)
-		status, length, said = call(policy, script, out, line)
+	text, err := ReportOf(policy, script)
+	if err != nil {
+		return nil, err
 	}
-	if status != C.BROKER_DONE {
-		return nil, &Refused{int(status), string(line[:said])}
-	}
-	return parse(string(out[:length]))
+	return parse(text)
 }
 
-// call makes one call, and gives its status, the length of the report, and how much of the line there is.
-func call(policy, script string, out, line []byte) (C.enum_broker_status, int, int) {
+// ReportOf gives the text of the report of a script that is played under a policy.
+func ReportOf(policy, script string) (string, error) {
 	p, s := []byte(policy), []byte(script)
-	var length, said C.size_t
-	status := C.broker_play(at(p), C.size_t(len(p)), at(s), C.size_t(len(s)), C.BROKER_ROOM_LIMIT,
-		at(out), C.size_t(len(out)), &length, at(line), C.size_t(len(line)), &said)
-	if int(said) > len(line) {
-		said = C.size_t(len(line))
+	return answer(func(out, line []byte, length, said *C.size_t) C.enum_broker_status {
+		return C.broker_play(at(p), size(p), at(s), size(s), C.BROKER_ROOM_LIMIT, at(out), size(out), length, at(line), size(line), said)
+	})
+}
+
+// Check gives what is found of a report under a policy and a script.
+func Check(policy, script, report string) (*Findings, error) {
+	p, s, r := []byte(policy), []byte(script), []byte(report)
+	text, err := answer(func(out, line []byte, length, said *C.size_t) C.enum_broker_status {
+		return C.broker_audit_check(at(p), size(p), at(s), size(s), at(r), size(r), C.BROKER_ROOM_LIMIT, at(out), size(out), length, at(line), size(line), said)
+	})
+	if err != nil {
+		return nil, err
 	}
-	return status, int(length), int(said)
+	lines := strings.Split(strings.TrimSuffix(text, "\n"), "\n")
+	findings, finished := &Findings{Trail: lines[1:]}, ""
+	_, err = fmt.Sscanf(lines[0], "yes events=%d finished=%s", &findings.Events, &finished)
+	findings.Finished = finished == "yes"
+	return findings, err
+}
+
+// answer makes a call, again where its text didn't fit, and gives the text.
+func answer(call func(out, line []byte, length, said *C.size_t) C.enum_broker_status) (string, error) {
+	out, line := make([]byte, 65536), make([]byte, 4096)
+	var length, said C.size_t
+	status := call(out, line, &length, &said)
+	if status == C.BROKER_SHORT_BUFFER {
+		out = make([]byte, length)
+		status = call(out, line, &length, &said)
+	}
+	if said > size(line) {
+		said = size(line)
+	}
+	if status != C.BROKER_DONE {
+		return "", &Refused{int(status), string(line[:said])}
+	}
+	return string(out[:length]), nil
 }
 
 // at is where the bytes begin; NULL where there are none.
@@ -65,6 +97,10 @@ func at(bytes []byte) unsafe.Pointer {
 		return nil
 	}
 	return unsafe.Pointer(&bytes[0])
+}
+
+func size(bytes []byte) C.size_t {
+	return C.size_t(len(bytes))
 }
 
 // parse takes a report apart.

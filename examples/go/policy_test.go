@@ -75,3 +75,31 @@ func TestKeyWithTypingError(t *testing.T) {
 		t.Errorf("got %v", err)
 	}
 }
+
+func TestReportIsChecked(t *testing.T) {
+	policy, script := config(t, map[string]string{"security.syscalls.intercept.mknod": "true"}), container("ext4")
+	report, err := ReportOf(policy, script)
+	if err != nil {
+		t.Fatal(err)
+	}
+	findings, err := Check(policy, script, report)
+	if err != nil {
+		t.Fatal(err)
+	}
+	if !findings.Finished || !strings.HasSuffix(findings.Trail[0], " rule=lxd.mknod.1:3") {
+		t.Errorf("found %v", findings)
+	}
+}
+
+func TestReportOfAnotherPolicy(t *testing.T) {
+	script := container("ext4")
+	report, err := ReportOf(config(t, map[string]string{"security.syscalls.intercept.mknod": "true"}), script)
+	if err != nil {
+		t.Fatal(err)
+	}
+	_, err = Check(config(t, map[string]string{}), script, report)
+	var refused *Refused
+	if !errors.As(err, &refused) || refused.Status != 9 || !strings.HasPrefix(refused.Line, "report: line ") {
+		t.Errorf("got %v", err)
+	}
+}

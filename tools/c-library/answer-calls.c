@@ -18,9 +18,12 @@
 /* What stands in a buffer before a call, and how much stack the calls have. */
 enum { UNTOUCHED = 0xa5, STACK = 256 << 10 };
 
-/* A call as it is read: generated input where `generated` isn't 0. */
+/* Which function is called. */
+enum function { PLAY, STRESS, AUDIT_CHECK };
+
+/* A call as it is read, before the bytes of the policy, the script and the report. */
 struct call {
-  uint64_t generated, from, count, policy_length, script_length, room, out_size, line_size;
+  uint64_t function, from, count, policy_length, script_length, report_length, room, out_size, line_size;
 };
 
 /* What is written of an answer, before the bytes of both buffers. */
@@ -80,14 +83,25 @@ static void write_front(struct buffer buffer, size_t length) {
     fwrite(buffer.bytes, 1, front, stdout);
 }
 
+static enum broker_status made_call(struct call call, struct buffer policy, struct buffer script, struct buffer report, struct buffer out,
+                                    struct buffer line, size_t *out_length, size_t *line_length) {
+  switch (call.function) {
+  case PLAY:
+    return broker_play(policy.bytes, policy.size, script.bytes, script.size, call.room, out.bytes, out.size, out_length, line.bytes, line.size,
+                       line_length);
+  case STRESS:
+    return broker_stress(call.from, (uint32_t)call.count, call.room, out.bytes, out.size, out_length, line.bytes, line.size, line_length);
+  default:
+    return broker_audit_check(policy.bytes, policy.size, script.bytes, script.size, report.bytes, report.size, call.room, out.bytes, out.size,
+                              out_length, line.bytes, line.size, line_length);
+  }
+}
+
 static void answer(struct call call) {
-  struct buffer policy = read_bytes(call.policy_length), script = read_bytes(call.script_length);
+  struct buffer policy = read_bytes(call.policy_length), script = read_bytes(call.script_length), report = read_bytes(call.report_length);
   struct buffer out = made(call.out_size), line = made(call.line_size);
   size_t out_length = SIZE_MAX, line_length = SIZE_MAX;
-  enum broker_status status =
-      call.generated ? broker_stress(call.from, (uint32_t)call.count, call.room, out.bytes, out.size, &out_length, line.bytes, line.size, &line_length)
-                     : broker_play(policy.bytes, policy.size, script.bytes, script.size, call.room, out.bytes, out.size, &out_length, line.bytes,
-                                   line.size, &line_length);
+  enum broker_status status = made_call(call, policy, script, report, out, line, &out_length, &line_length);
   struct answer told = {status, out_length, line_length};
   fwrite(&told, sizeof told, 1, stdout);
   write_front(out, out_length);
@@ -95,6 +109,7 @@ static void answer(struct call call) {
   fflush(stdout);
   unmade(policy);
   unmade(script);
+  unmade(report);
   unmade(out);
   unmade(line);
 }

@@ -7,10 +7,12 @@
  * An input is told by the seed and its number. It is a good policy and a good script, of which one is changed: bytes, tokens, lines
  * and blocks are replaced, moved, repeated and cut; tokens become numbers at an edge, words, or names of some length; a schedule is
  * made at random. Or it is bytes at random, or a policy that is deep, or has a long number, all escapes, or keys that stand again. Or
- * it is generated calls. Counts of steps are mostly kept short, so that many inputs are tried.
+ * it is generated calls. Counts of steps are mostly kept short, so that many inputs are tried. A third of the plays are followed by a
+ * check of their report, which is whole or changed in the same ways, or of some bytes where there is none.
  *
- * An answer is at fault where it isn't a whole report with status 0, or one line of its own with another status, and where the second
- * call answers otherwise. A signal ends the program, and so does a call that takes more than a second of the processor; both
+ * An answer is at fault where it isn't a whole report, or what is found of one, with status 0, or one line of its own with another
+ * status; where the second call answers otherwise; and where a check doesn't take the report of its play, refuses a changed one before
+ * the change, or doesn't refuse a policy or a script as the play does. A signal ends the program, and so does a call that takes more than a second of the processor; both
  * tell the input. The program may take 1 GB of address space, so that a call that finds no memory is at fault too.
  */
 #include <seccomp_broker.h>
@@ -25,7 +27,7 @@
 #include <time.h>
 #include <unistd.h>
 
-enum { MOST = 1 << 20, OUT = 64 << 20, LINE = 2 << 20, SPANS = 1 << 16, STATUSES = 101 };
+enum { MOST = 1 << 20, MOST_CHECKED = 100000, OUT = 64 << 20, LINE = 2 << 20, SPANS = 1 << 16, STATUSES = 101 };
 
 struct text {
   unsigned char *bytes;
@@ -440,7 +442,7 @@ static void make_bytes(struct text *text) {
 
 /* ---- inputs */
 
-static struct text policies[256], scripts[1024], policy, script;
+static struct text policies[256], scripts[1024], policy, script, report;
 static size_t policy_count, script_count;
 static bool is_generated;
 static uint64_t generated_from;
@@ -477,15 +479,20 @@ static struct itimerval limit = {{0, 0}, {1, 0}}, unlimited;
 static volatile uint64_t current;
 static double longest;
 
-static void call(struct answer *answer) {
+enum function { PLAY, STRESS, AUDIT_CHECK };
+
+static void call(enum function function, struct answer *answer) {
   struct timespec begun, ended;
   clock_gettime(CLOCK_PROCESS_CPUTIME_ID, &begun);
   setitimer(ITIMER_PROF, &limit, NULL);
-  if (is_generated)
+  if (function == STRESS)
     answer->status = broker_stress(generated_from, generated_count, BROKER_ROOM_LIMIT, answer->out, OUT, &answer->out_length, answer->line, LINE, &answer->line_length);
-  else
+  else if (function == PLAY)
     answer->status = broker_play(policy.bytes, policy.length, script.bytes, script.length, BROKER_ROOM_LIMIT, answer->out, OUT, &answer->out_length, answer->line,
                                  LINE, &answer->line_length);
+  else
+    answer->status = broker_audit_check(policy.bytes, policy.length, script.bytes, script.length, report.bytes, report.length, BROKER_ROOM_LIMIT, answer->out, OUT,
+                                        &answer->out_length, answer->line, LINE, &answer->line_length);
   setitimer(ITIMER_PROF, &unlimited, NULL);
   clock_gettime(CLOCK_PROCESS_CPUTIME_ID, &ended);
   double took = (double)(ended.tv_sec - begun.tv_sec) + (double)(ended.tv_nsec - begun.tv_nsec) / 1e9;
@@ -506,16 +513,20 @@ static bool is_line(const unsigned char *line, size_t length) {
   return true;
 }
 
-static bool is_line_of(enum broker_status status, char *line, size_t length) {
+static bool is_line_of(enum function function, enum broker_status status, char *line, size_t length) {
   static const char *const fronts[][5] = {
       [BROKER_USAGE] = {"usage: "},
       [BROKER_TOO_LONG] = {"too long: policy\n", "too long: script\n"},
       [BROKER_BAD_POLICY] = {"policy: not JSON\n", "policy: too many rules\n", "policy: unknown key at ", "policy: bad value at "},
       [BROKER_BAD_SCRIPT] = {"script: line "},
   };
-  if (status > BROKER_BAD_SCRIPT || !is_line((unsigned char *)line, length))
+  if (!is_line((unsigned char *)line, length))
     return false;
   line[length] = 0;
+  if (function == AUDIT_CHECK && status == BROKER_NOT_REPORT)
+    return behind(line, "report: line ") != NULL;
+  if (status > BROKER_BAD_SCRIPT)
+    return false;
   for (size_t at = 0; at < 5 && fronts[status][at] != NULL; at++)
     if (behind(line, fronts[status][at]) != NULL)
       return true;
@@ -540,11 +551,18 @@ static const char *past_part(const char *text, const char *name) {
   return at;
 }
 
+/* Whether the printed text is what is found of a report: a line with its events, and lines of a trail. */
+static bool is_found(const char *out) {
+  const char *at = behind(out, "yes events=");
+  for (at = at == NULL ? NULL : strchr(at, '\n'); at != NULL && at[1] != 0; at = strchr(at, '\n'))
+    at = behind(at + 1, "trail ");
+  return at != NULL;
+}
+
 /* Whether the printed text is whole: the four parts, each with as many lines as it says. */
-static bool is_report(char *out, size_t length) {
-  out[length] = 0;
+static bool is_report(enum function function, const char *out, size_t length) {
   const char *at = out;
-  if (!is_generated) {
+  if (function == PLAY) {
     at = past_part(at, "journal");
     at = at == NULL ? NULL : past_part(at, "calls");
     at = at == NULL ? NULL : past_part(at, "audit");
@@ -556,20 +574,69 @@ static bool is_report(char *out, size_t length) {
 }
 
 /* What is wrong with an answer by itself. */
-static const char *fault_of(const struct answer *answer) {
+static const char *fault_of(enum function function, const struct answer *answer) {
   if (answer->status == BROKER_SHORT_BUFFER)
     return answer->out_length > OUT && answer->line_length == 0 ? NULL : "a short buffer";
   if (answer->out_length >= OUT || answer->line_length >= LINE)
     return "a text that doesn't fit";
-  if (answer->status == BROKER_DONE)
-    return answer->line_length == 0 && is_report((char *)answer->out, answer->out_length) ? NULL : "status 0 without a whole report";
-  return answer->out_length == 0 && is_line_of(answer->status, (char *)answer->line, answer->line_length) ? NULL : "a status without its line";
+  if (answer->status != BROKER_DONE)
+    return answer->out_length == 0 && is_line_of(function, answer->status, (char *)answer->line, answer->line_length) ? NULL : "a status without its line";
+  answer->out[answer->out_length] = 0;
+  const char *out = (const char *)answer->out;
+  bool is_whole = function == AUDIT_CHECK ? is_found(out) : is_report(function, out, answer->out_length);
+  return is_whole && answer->line_length == 0 ? NULL : "status 0 without a whole report";
 }
 
 static bool are_same(const struct answer *one, const struct answer *other) {
   size_t front = one->out_length < OUT ? one->out_length : OUT;
   return one->status == other->status && one->out_length == other->out_length && one->line_length == other->line_length &&
          memcmp(one->out, other->out, front) == 0 && memcmp(one->line, other->line, one->line_length) == 0;
+}
+
+/* Makes a call twice, and says what is wrong with the first answer or differs in the second. */
+static const char *call_twice(enum function function, struct answer *one, struct answer *other) {
+  call(function, one);
+  call(function, other);
+  return are_same(one, other) ? fault_of(function, one) : "it answered otherwise the second time";
+}
+
+/* ---- checks */
+
+static struct text played;
+
+/* Takes the report of a play, whole or changed, or some bytes where there is none, and says whether it is checked. */
+static bool make_report(const struct answer *play) {
+  if (is_generated || play->out_length > MOST_CHECKED || below(3) > 0)
+    return false;
+  set_text(&played, play->out, play->out_length);
+  set_text(&report, play->out, play->out_length);
+  if (play->status != BROKER_DONE)
+    add_string(&report, "journal 1\n");
+  else if (below(8) > 0)
+    change(&report, false);
+  return true;
+}
+
+/* The number of the line in which two texts differ first, from 1. */
+static size_t first_difference(const struct text *one, const struct text *other) {
+  size_t number = 1;
+  for (size_t at = 0; at < one->length && at < other->length && one->bytes[at] == other->bytes[at]; at++)
+    number += one->bytes[at] == '\n';
+  return number;
+}
+
+/* What is wrong with the answer of a check that is good by itself, after that of the play of its policy and script. */
+static const char *check_fault(const struct answer *play, const struct answer *check) {
+  if (play->status != BROKER_DONE)
+    return are_same(play, check) ? NULL : "a check of what isn't played";
+  if (check->status == BROKER_DONE)
+    return NULL;
+  if (check->status != BROKER_NOT_REPORT)
+    return "a check of what is played";
+  if (report.length == played.length && memcmp(report.bytes, played.bytes, played.length) == 0)
+    return "the report of a play was refused";
+  size_t number = strtoul((const char *)check->line + strlen("report: line "), NULL, 10);
+  return number >= first_difference(&played, &report) ? NULL : "a report was refused before its change";
 }
 
 /* ---- the program */
@@ -617,9 +684,25 @@ static void *room(size_t size) {
   return bytes;
 }
 
+/* Counts the status of an input or a check, and tells what is wrong with it. */
+static bool is_at_fault(size_t statuses[STATUSES], const char *what, const char *wrong, const struct answer *answer) {
+  size_t status = (size_t)answer->status;
+  statuses[status < STATUSES ? status : STATUSES - 1]++;
+  if (wrong != NULL)
+    printf("fuzz-calls: %s %llu: %s: status %d, %zu bytes, a line of %zu\n", what, (unsigned long long)current, wrong, (int)answer->status, answer->out_length,
+           answer->line_length);
+  return wrong != NULL;
+}
+
+static void print_statuses(const size_t statuses[STATUSES]) {
+  for (size_t at = 0; at < STATUSES; at++)
+    if (statuses[at] > 0)
+      printf(" %zu with status %zu,", statuses[at], at);
+}
+
 int main(int count, char **words) {
   static const int signals[] = {SIGSEGV, SIGBUS, SIGILL, SIGFPE, SIGABRT, SIGTRAP, SIGPROF};
-  static size_t statuses[STATUSES];
+  static size_t statuses[STATUSES], checked[STATUSES];
   if (count < 7)
     die("SEED FIRST COUNT POLICY .. -- SCRIPT ..");
   uint64_t seed = strtoull(words[1], NULL, 10), first = strtoull(words[2], NULL, 10), inputs = strtoull(words[3], NULL, 10), faults = 0;
@@ -629,25 +712,25 @@ int main(int count, char **words) {
   read_texts(count - 4, words + 4);
   policy.bytes = room(MOST);
   script.bytes = room(MOST);
-  struct answer one = {.out = room(OUT + 1), .line = room(LINE + 1)}, other = {.out = room(OUT + 1), .line = room(LINE + 1)};
+  report.bytes = room(MOST);
+  played.bytes = room(MOST);
+  struct answer play = {.out = room(OUT + 1), .line = room(LINE + 1)}, check = {.out = room(OUT + 1), .line = room(LINE + 1)},
+                other = {.out = room(OUT + 1), .line = room(LINE + 1)};
   for (current = first; current < first + inputs; current++) {
     make_input(seed, current);
-    call(&one);
-    call(&other);
-    const char *wrong = are_same(&one, &other) ? fault_of(&one) : "it answered otherwise the second time";
-    size_t status = (size_t)one.status;
-    statuses[status < STATUSES ? status : STATUSES - 1]++;
-    if (wrong != NULL) {
-      faults++;
-      printf("fuzz-calls: input %llu: %s: status %d, %zu bytes, a line of %zu\n", (unsigned long long)current, wrong, (int)one.status, one.out_length, one.line_length);
-    }
+    const char *wrong = call_twice(is_generated ? STRESS : PLAY, &play, &other);
+    faults += is_at_fault(statuses, "input", wrong, &play);
+    if (wrong != NULL || !make_report(&play))
+      continue;
+    wrong = call_twice(AUDIT_CHECK, &check, &other);
+    faults += is_at_fault(checked, "the check of input", wrong != NULL ? wrong : check_fault(&play, &check), &check);
   }
   struct rusage usage;
   getrusage(RUSAGE_SELF, &usage);
   printf("%llu inputs of seed %llu from %llu on, each called twice:", (unsigned long long)inputs, (unsigned long long)seed, (unsigned long long)first);
-  for (size_t at = 0; at < STATUSES; at++)
-    if (statuses[at] > 0)
-      printf(" %zu with status %zu,", statuses[at], at);
+  print_statuses(statuses);
+  printf(" and of reports that were checked");
+  print_statuses(checked);
   printf(" %llu at fault; %ld s of the processor, the longest call %.2f s, at most %ld MB resident\n", (unsigned long long)faults,
          (long)usage.ru_utime.tv_sec + (long)usage.ru_stime.tv_sec, longest, usage.ru_maxrss / 1024);
   return faults > 0;

@@ -1,6 +1,6 @@
 /*
- * Measures calls of the library on a policy's and a script's files: how long one takes, how much of the heap and of a stack it
- * takes, and whether memory grows over many. It is linked with --wrap for malloc, realloc and free, so that their calls are counted.
+ * Measures calls of the library on a policy's and a script's files, plays first and then checks of their report: how long one takes,
+ * how much of the heap and of a stack it takes, and whether memory grows over many. It is linked with --wrap for malloc, realloc and free, so that their calls are counted.
  *
  *     measure POLICY SCRIPT CALLS
  */
@@ -18,8 +18,8 @@
 
 enum { BATCH = 1000, STACK = 8 << 20, UNTOUCHED = 0xa5 };
 
-static unsigned char policy[1 << 20], script[8 << 20], out[1 << 20], line[4096];
-static size_t policy_length, script_length, out_length, line_length;
+static unsigned char policy[1 << 20], script[8 << 20], report[1 << 20], out[1 << 20], line[4096];
+static size_t policy_length, script_length, report_length, out_length, line_length;
 
 static void die(const char *why) {
   fprintf(stderr, "measure: %s\n", why);
@@ -35,10 +35,20 @@ static size_t read_file(const char *name, unsigned char *into, size_t size) {
   return length;
 }
 
-static void call(void) {
-  if (broker_play(policy, policy_length, script, script_length, BROKER_ROOM_LIMIT, out, sizeof out, &out_length, line, sizeof line, &line_length) != BROKER_DONE)
+static void play(void) {
+  if (broker_play(policy, policy_length, script, script_length, BROKER_ROOM_LIMIT, report, sizeof report, &report_length, line, sizeof line, &line_length) !=
+      BROKER_DONE)
     die("a call gave no report");
 }
+
+static void check(void) {
+  if (broker_audit_check(policy, policy_length, script, script_length, report, report_length, BROKER_ROOM_LIMIT, out, sizeof out, &out_length, line, sizeof line,
+                         &line_length) != BROKER_DONE)
+    die("a call took the report of a play for none");
+}
+
+/* The call that is measured. */
+static void (*call)(void);
 
 /* ---- the heap: how many blocks are out, and how many bytes of them there were at most while they were weighed */
 
@@ -131,14 +141,12 @@ static size_t stack_taken(void) {
   return STACK - untouched;
 }
 
-int main(int count, char **words) {
+/* Measures calls of one kind, and says whether memory grew. */
+static bool measure(void (*measured)(void), const char *name, size_t batches) {
   static double times[1000];
-  size_t batches = count == 4 ? (size_t)atoi(words[3]) / BATCH : 0;
-  if (batches < 1 || batches > 1000)
-    die("measure POLICY SCRIPT CALLS, of which there are 1000 to 1,000,000");
-  policy_length = read_file(words[1], policy, sizeof policy);
-  script_length = read_file(words[2], script, sizeof script);
+  call = measured;
   batch();
+  bytes = most_bytes = 0;
   weighing = true;
   call();
   weighing = false;
@@ -149,11 +157,22 @@ int main(int count, char **words) {
     times[at] = batch();
   long after = resident();
   qsort(times, batches, sizeof *times, ascending);
-  printf("a report of %zu bytes\n", out_length);
-  printf("a call takes %.1f microseconds of the processor at best, %.1f in the middle of %zu batches of %d calls\n", times[0], times[batches / 2], batches, BATCH);
-  printf("a call takes %zu blocks of the heap, and %zu bytes of it at most\n", taken / (batches * BATCH), most_bytes);
+  printf("%s takes %.1f microseconds of the processor at best, %.1f in the middle of %zu batches of %d\n", name, times[0], times[batches / 2], batches, BATCH);
+  printf("%s takes %zu blocks of the heap, and %zu bytes of it at most\n", name, taken / (batches * BATCH), most_bytes);
   printf("blocks not given back: %zu before %zu calls, %zu after\n", blocks_before, batches * BATCH, blocks);
   printf("greatest resident memory: %ld kB before, %ld kB after\n", before, after);
-  printf("stack of a thread that makes one call: %zu bytes\n", stack_taken());
+  printf("stack of a thread in which %s is made: %zu bytes\n", name, stack_taken());
   return after > before || blocks > blocks_before;
+}
+
+int main(int count, char **words) {
+  size_t batches = count == 4 ? (size_t)atoi(words[3]) / BATCH : 0;
+  if (batches < 1 || batches > 1000)
+    die("measure POLICY SCRIPT CALLS, of which there are 1000 to 1,000,000");
+  policy_length = read_file(words[1], policy, sizeof policy);
+  script_length = read_file(words[2], script, sizeof script);
+  play();
+  printf("a report of %zu bytes\n", report_length);
+  bool grows = measure(play, "a play", batches);
+  return measure(check, "a check", batches) || grows;
 }
