@@ -18,6 +18,7 @@ ghost use Rattle.broker_app.specs.declared.status.Status.TheVariants.{ReadFault}
 
 use crate::inputs::{read_inputs, read_report};
 use crate::lines::say;
+use crate::players::{Player, TurnTaker};
 use crate::printing::{Printout, print_history};
 use crate::status::Status;
 use crate::words::{Form, read_form};
@@ -30,11 +31,12 @@ use hist_model::script::Script;
 use io_edge::files::Files;
 use io_edge::sink::Sink;
 use std::alloc::Global;
-use worker_gate::play;
+use std::sync::Wait;
 
 /// Plays a script under a policy and prints what is asked of it.
 #[tactic(auto, using(crate::proofs::Ends::ends_written, crate::proofs::Ends::ends_cut, crate::proofs::Ends::ends_unplayed))]
-fn print_played<O: Sink>(
+fn print_played<P: Player, O: Sink>(
+    player: &P,
     alloc: Global,
     printout: Printout,
     policy: Policy,
@@ -43,7 +45,7 @@ fn print_played<O: Sink>(
 ) -> Result<(), Status>
     ensures { Printed (printout_of printout policy script) (O.state out.old) (O.state out.new) result }
 {
-    let played = play(alloc, policy, script)?;
+    let played = player.play(alloc, policy, script)?;
     print_history(alloc, printout, &played.policy, &played.history, out)?;
     Ok(())
 }
@@ -64,27 +66,40 @@ fn generated_is_mediated(from: u64, count: u32)
 
 /// Plays generated input and prints the summary.
 #[tactic(auto, using(crate::proofs::Ends::ends_unplayed, crate::proofs::Ends::generated_printed))]
-fn print_generated<O: Sink>(alloc: Global, from: u64, count: u32, out: &mut O) -> Result<(), Status>
+fn print_generated<P: Player, O: Sink>(
+    player: &P,
+    alloc: Global,
+    from: u64,
+    count: u32,
+    out: &mut O,
+) -> Result<(), Status>
     requires { count ≤ 4000 }
     ensures { Printed (generated_summary from count) (O.state out.old) (O.state out.new) result }
 {
     let policy = generated_policy(alloc)?;
     let script = generated_script(alloc, from, count)?;
-    print_played(alloc, Printout::Summary, policy, script, out)
+    print_played(player, alloc, Printout::Summary, policy, script, out)
 }
 
 /// Plays generated input, whose history is mediated, and prints the summary.
-fn stress<O: Sink>(alloc: Global, from: u64, count: u32, out: &mut O) -> Result<(), Status>
+fn stress<P: Player, O: Sink>(
+    player: &P,
+    alloc: Global,
+    from: u64,
+    count: u32,
+    out: &mut O,
+) -> Result<(), Status>
     requires { count ≤ 4000 }
     ensures { StressEnds from count (O.state out.old) (O.state out.new) (status_of result) }
 {
     generated_is_mediated(from, count);
-    print_generated(alloc, from, count, out)
+    print_generated(player, alloc, from, count, out)
 }
 
 /// Plays the script of a file under the policy of another, and writes the report.
 #[tactic(auto, using(crate::proofs::Ends::play_stops))]
-fn play_files<F: Files, O: Sink>(
+fn play_files<P: Player, F: Files, O: Sink>(
+    player: &P,
     alloc: Global,
     files: &mut F,
     policy: &str,
@@ -96,7 +111,7 @@ fn play_files<F: Files, O: Sink>(
 {
     let (policy, script) = read_inputs(alloc, files, policy, script)?;
     is_mediated(&policy, &script);
-    print_played(alloc, Printout::Report, policy, script, out)
+    print_played(player, alloc, Printout::Report, policy, script, out)
 }
 
 /// Bytes are the report of one history under a policy at most, and have one fault line at most, and not both.
@@ -158,7 +173,8 @@ fn check_files<F: Files, O: Sink>(
 }
 
 /// Does what a form of the words asks for; none is a usage error.
-fn answer<F: Files, O: Sink>(
+fn answer<P: Player, F: Files, O: Sink>(
+    player: &P,
     alloc: Global,
     form: Option<Form<'_>>,
     files: &mut F,
@@ -169,8 +185,10 @@ fn answer<F: Files, O: Sink>(
 {
     match form {
         None => Err(Status::Usage),
-        Some(Form::Play { policy, script }) => play_files(alloc, files, policy, script, out),
-        Some(Form::Stress { from, count }) => stress(alloc, from, count, out),
+        Some(Form::Play { policy, script }) => play_files(
+            player, alloc, files, policy, script, out,
+        ),
+        Some(Form::Stress { from, count }) => stress(player, alloc, from, count, out),
         Some(
             Form::AuditCheck {
                 policy,
@@ -183,8 +201,9 @@ fn answer<F: Files, O: Sink>(
 }
 
 /// Does what a form of the words asks for, and says on `err` why it didn't, in one line. Where there is no form, that is the
-/// usage line.
-pub fn carry_out<F: Files, O: Sink, E: Sink>(
+/// usage line. What is played, the player plays.
+pub fn carry_out<P: Player, F: Files, O: Sink, E: Sink>(
+    player: &P,
     alloc: Global,
     form: Option<Form<'_>>,
     files: &mut F,
@@ -195,7 +214,7 @@ pub fn carry_out<F: Files, O: Sink, E: Sink>(
     ensures answers { Answers (option_map form_of form.entry) (F.state files.old) (F.state files.new) (O.state out.old) (O.state out.new) result }
     ensures said { Said (E.state err.old) (line_of result) (E.state err.new) }
 {
-    let status = match answer(alloc, form, files, out) {
+    let status = match answer(player, alloc, form, files, out) {
         Ok(()) => Status::Done,
         Err(status) => status,
     };
@@ -204,7 +223,8 @@ pub fn carry_out<F: Files, O: Sink, E: Sink>(
 }
 
 /// Does what the words ask for, and says on `err` why it didn't, in one line.
-pub fn broker<F: Files, O: Sink, E: Sink>(
+pub fn broker<R: Wait, F: Files, O: Sink, E: Sink>(
+    rt: &R,
     alloc: Global,
     words: &[String],
     files: &mut F,
@@ -214,5 +234,6 @@ pub fn broker<F: Files, O: Sink, E: Sink>(
     ensures answers { Answers (form (texts words.now)) (F.state files.old) (F.state files.new) (O.state out.old) (O.state out.new) result }
     ensures said { Said (E.state err.old) (line_of result) (E.state err.new) }
 {
-    carry_out(alloc, read_form(words), files, out, err)
+    let player = TurnTaker { rt };
+    carry_out(&player, alloc, read_form(words), files, out, err)
 }

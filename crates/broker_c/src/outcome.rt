@@ -12,6 +12,7 @@ ghost use Rattle.broker_c.specs.Outcomes.{CheckGives, PlayGives, Says, StressGiv
 use crate::given::{GivenFiles, POLICY, REPORT, SCRIPT};
 use crate::held::HeldBytes;
 use broker_app::broker::carry_out;
+use broker_app::players::LoneThread;
 use broker_app::status::Status;
 use broker_app::words::Form;
 use io_edge::sink::Sink;
@@ -71,7 +72,14 @@ pub(crate) fn play(alloc: Global, policy: &[u8], script: &[u8], room: usize) -> 
         policy: POLICY,
         script: SCRIPT,
     };
-    let status = carry_out(alloc, Some(form), &mut files, &mut out, &mut err);
+    let status = carry_out(
+        &LoneThread,
+        alloc,
+        Some(form),
+        &mut files,
+        &mut out,
+        &mut err,
+    );
     outcome_of(status, room, out, err)
 }
 
@@ -95,7 +103,14 @@ pub(crate) fn check(
         script: SCRIPT,
         report: REPORT,
     };
-    let status = carry_out(alloc, Some(form), &mut files, &mut out, &mut err);
+    let status = carry_out(
+        &LoneThread,
+        alloc,
+        Some(form),
+        &mut files,
+        &mut out,
+        &mut err,
+    );
     outcome_of(status, room, out, err)
 }
 
@@ -109,6 +124,7 @@ pub(crate) fn stress(alloc: Global, from: u64, count: u32, room: usize) -> Outco
     let mut out = HeldBytes::new(alloc, room + 1);
     let mut err = HeldBytes::new(alloc, LINE_ROOM);
     let status = carry_out(
+        &LoneThread,
         alloc,
         stress_form(from, count),
         &mut files,

@@ -5,6 +5,7 @@ use broker_app::status::{InputFile, Status};
 use io_edge::memory::{MemFiles, MemSink};
 use std::alloc::Global;
 use std::process::Abort;
+use std::sync::Wait;
 use std::test::Fail;
 
 const POLICY: &str = "{\"config\":{\"security.syscalls.intercept.mknod\":\"true\"}}";
@@ -91,7 +92,7 @@ struct Answer {
 }
 
 /// Runs the program.
-fn run(alloc: Global, given: Given) -> Result<Answer, Fail> {
+fn run<R: Wait>(rt: &R, alloc: Global, given: Given) -> Result<Answer, Fail> {
     let listed = vec![in alloc;
         file(alloc, "p", given.policy)?,
         file(alloc, "s", given.script)?,
@@ -103,7 +104,7 @@ fn run(alloc: Global, given: Given) -> Result<Answer, Fail> {
     for word in given.words {
         words.push(String::from_str(alloc, word)?)?;
     }
-    let status = broker(alloc, words.as_slice(), &mut files, &mut out, &mut err);
+    let status = broker(rt, alloc, words.as_slice(), &mut files, &mut out, &mut err);
     Ok(Answer { status, out, err })
 }
 
@@ -117,8 +118,8 @@ struct Want<'a> {
 }
 
 /// Sees that the program answers what it is to answer.
-fn check<R: Abort>(rt: &R, alloc: Global, given: Given, want: Want<'_>) -> Result<(), Fail> {
-    let answer = run(alloc, given)?;
+fn check<R: Abort + Wait>(rt: &R, alloc: Global, given: Given, want: Want<'_>) -> Result<(), Fail> {
+    let answer = run(rt, alloc, given)?;
     assert_eq!(rt; answer.status.code(), want.code);
     assert_eq!(rt; answer.status, want.status);
     assert_eq!(rt; answer.err.taken(), want.line.as_bytes());
@@ -241,7 +242,7 @@ const REFUSALS: [([&'static str; 2], [&'static str; 2], u8, &'static str); 7] = 
 ];
 
 /// Sees that the status stays where each write to `err` in turn fails, and that `err` took a part of the line from its beginning.
-fn keeps_its_status<R: Abort>(
+fn keeps_its_status<R: Abort + Wait>(
     rt: &R,
     alloc: Global,
     refused: Given,
@@ -253,7 +254,7 @@ fn keeps_its_status<R: Abort>(
             failing_line,
             ..refused
         };
-        let answer = run(alloc, failing)?;
+        let answer = run(rt, alloc, failing)?;
         assert_eq!(rt; answer.status.code(), code);
         assert!(rt; line.as_bytes().starts_with(answer.err.taken()));
     }
