@@ -1,16 +1,16 @@
 -- A text that begins with another one and a slash.
 -- By induction on the path and on the directory.
-use Rattle.std.proofs.Common.{◌≡◌, ℕ, ◌<◌, ◌≤◌, Bool, true, false, ◌&&◌, List, [], ◌∷◌, ◌++◌, length, get_or, refl, ap, sym, ◌∙◌, arith}
-use Rattle.std.specs.Prelude.{nat_eq}
+use Rattle.std.proofs.Common.{◌≡◌, ℕ, ◌<◌, ◌≤◌, Bool, true, false, ◌&&◌, List, [], ◌∷◌, ◌++◌, length, take, get_or, refl, ap, sym, ◌∙◌, arith}
+use Rattle.std.specs.Prelude.{nat_eq, bytes_eq}
 use Rattle.std.specs.List.{starts_with}
 use Rattle.std.proofs.lemmas.Bool.{eq-eqb, ne_eqb}
 
-and_false : (b : Bool) → (b && false) ≡ false
+pub and_false : (b : Bool) → (b && false) ≡ false
 and_false true = refl
 and_false false = refl
 
--- where the directory's bytes are followed by a slash, it is enough that the path begins with the directory
-pub begins_by_slash : (path dir : List ℕ) → length dir < length path → get_or path (length dir) 0 ≡ 47 → starts_with nat_eq path (dir ++ 47 ∷ []) ≡ starts_with nat_eq path dir
+-- where the directory's bytes are followed by a slash, it is enough that the directory's are the path's first
+pub begins_by_slash : (path dir : List ℕ) → length dir < length path → get_or path (length dir) 0 ≡ 47 → starts_with nat_eq path (dir ++ 47 ∷ []) ≡ bytes_eq dir (take (length dir) path)
 begins_by_slash [] dir l h = absurd (omega arith)
 begins_by_slash (b ∷ path) [] l h = rw (eq-eqb 47 b (sym h))
 begins_by_slash (b ∷ path) (a ∷ dir) l h = ap (λ r. nat_eq a b && r) (begins_by_slash path dir (omega arith) h)

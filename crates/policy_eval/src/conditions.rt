@@ -1,6 +1,6 @@
 //! Whether a rule fits a request.
 
-ghost use Rattle.std.specs.Prelude.{◌≡◌, ◌==◌, ◌&&◌, ◌++◌, ◌∷◌, [], nat_eq};
+ghost use Rattle.std.specs.Prelude.{◌≡◌, ◌==◌, ◌&&◌, ◌++◌, ◌∷◌, [], nat_eq, bytes_eq};
 ghost use Rattle.std.specs.Option.{option_copied};
 ghost use Rattle.std.specs.List.{starts_with, list_all};
 ghost use Rattle.hist_model.specs.Requests.{major_of, minor_of};
@@ -17,6 +17,9 @@ const MS_REMOUNT: u64 = 32;
 const MS_BIND: u64 = 4096;
 
 const MS_MOVE: u64 = 8192;
+
+/// How many bytes at the end of a text are compared before those in front of them.
+const END: usize = 16;
 
 /// The calls that a policy can name: close, getpid, sysinfo, mknod, mount, setxattr, openat and mknodat.
 const NAMED: [i32; 8] = [
@@ -76,9 +79,23 @@ fn is_text(found: Option<&[u8]>, text: &[u8]) -> bool
     ensures { result ≡ is_text (option_copied found.entry) text.now }
 {
     match found {
-        Some(t) => t == text,
+        Some(t) => is_same(t, text),
         None => false,
     }
+}
+
+/// Whether the two texts are one. Their ends are compared first: the paths of one directory differ there alone.
+#[tactic(auto, using(crate::proofs::Texts::other_length, crate::proofs::Texts::other_end, crate::proofs::Texts::same_end))]
+fn is_same(a: &[u8], b: &[u8]) -> bool
+    ensures { result ≡ bytes_eq a.now b.now }
+{
+    if a.len() != b.len() {
+        return false;
+    }
+    let front = a.len().saturating_sub(END);
+    let (front_of_a, end_of_a) = a.split_at(front);
+    let (front_of_b, end_of_b) = b.split_at(front);
+    end_of_a == end_of_b && front_of_a == front_of_b
 }
 
 /// The path of the request, which for a mount is its target.
@@ -139,7 +156,7 @@ fn lies_under(found: Option<&[u8]>, dir: &[u8]) -> bool
 fn begins_with_dir(path: &[u8], dir: &[u8]) -> bool
     ensures { result ≡ starts_with nat_eq path.now (dir.now ++ 47 ∷ []) }
 {
-    dir.len() < path.len() && path[dir.len()] == b'/' && path.starts_with(dir)
+    dir.len() < path.len() && path[dir.len()] == b'/' && is_same(dir, &path[..dir.len()])
 }
 
 /// Whether the path has a component `..`.
