@@ -1,13 +1,14 @@
 -- What is seen at a node with one more mount, which is put on top.
 -- By induction on the steps of a walk, and on the mounts.
-use Rattle.std.proofs.Common.{◌≡◌, ℕ, zero, suc, true, false, inl, inr, List, [], ◌∷◌, Option, Some, None, length, refl, sym, ap, ◌∙◌, subst, true≢false, if◌then◌else◌}
+use Rattle.std.proofs.Common.{◌≡◌, ℕ, zero, suc, Bool, true, false, inl, inr, List, [], ◌∷◌, Option, Some, None, length, refl, sym, ap, ◌∙◌, subst, true≢false, if◌then◌else◌}
 use Rattle.std.specs.Prelude.{◌==◌}
 use Rattle.std.proofs.lemmas.Bool.{cases_Bool, cases_eq, eq-eqb, ne_eqb}
 use Rattle.hist_model.specs.Trees.{covered, mount_on, top_through}
 use Rattle.hist_model.specs.declared.tree.Mounted.{Mounted}
 use Rattle.mount_tree.specs.declared.rows.Alike.{Alike}
 use Rattle.mount_tree.specs.declared.stacks.Stacks.{Stacks}
-use Rattle.mount_tree.specs.Stacks.{seen, other_in, AreAlike, ArePiled, Follow, IsOnTop}
+use Rattle.mount_tree.specs.Stacks.{seen, under_through, other_in, AreAlike, AreFresh, ArePiled, Follow, IsFresh, IsOnTop}
+use Rattle.mount_tree.proofs.Under.{under_rows}
 
 -- a node without a mount is seen itself
 seen_itself : (k : ℕ) (ms : List Mounted) (n : ℕ) → mount_on ms n ≡ None → top_through k ms n ≡ n
@@ -28,7 +29,7 @@ newer m ms n = refl
 
 -- nothing is mounted on the root of a mount that is put on top
 bare_more : (m : Mounted) (ms : List Mounted) → IsOnTop ms m.target m.root → mount_on (m ∷ ms) m.root ≡ None
-bare_more m ms t = newer m ms m.root ∙ rw (t.apart) t.bare
+bare_more m ms t = newer m ms m.root ∙ rw (t.fresh.apart) t.fresh.bare
 
 -- one step with the mount, and one without
 step : (k : ℕ) (m : Mounted) (ms : List Mounted) (n : ℕ) (o : Option ℕ) → IsOnTop ms m.target m.root → mount_on ms n ≡ o
@@ -104,28 +105,49 @@ tops_more m ms alike tops t p h g =
 
 -- without mounts
 pub none_follow : (s : Stacks) → s.bottoms.rows ≡ [] → s.tops.rows ≡ [] → Follow [] s
-unfolding ArePiled other_in
-none_follow s b t = record { piled = λ _. tt; bottoms = λ _ n. rw b refl; tops = λ _ n. rw t refl }
+unfolding ArePiled AreFresh other_in under_through
+none_follow s b t = record { fresh = λ _. tt; under = λ _ n. rw b refl; piled = λ _. tt; bottoms = λ _ n. rw b refl; tops = λ _ n. rw t refl }
 
--- where a mount wasn't put on top nothing is kept
-pub unpiled_follow : (ms : List Mounted) (s : Stacks) → s.piled ≡ false → Follow ms s
-unpiled_follow ms s e = record { piled = λ h. absurd (true≢false (sym h ∙ e)); bottoms = λ h. absurd (true≢false (sym h ∙ e)); tops = λ h. absurd (true≢false (sym h ∙ e)) }
+never : {A : Type 0} (b : Bool) → b ≡ false → b ≡ true → A
+never b e h = absurd (true≢false (sym h ∙ e))
 
-pub is_on_top : (ms : List Mounted) (target root : ℕ) → (target ≡ root → ⊥) → mount_on ms target ≡ None → mount_on ms root ≡ None → IsOnTop ms target root
-is_on_top ms target root apart free bare = record { free = free; bare = bare; apart = ne_eqb target root apart }
+-- where a root wasn't fresh nothing is kept
+pub unkept_follow : (ms : List Mounted) (s : Stacks) → s.fresh ≡ false → s.piled ≡ false → Follow ms s
+unkept_follow ms s f e = record { fresh = never s.fresh f; under = never s.fresh f; piled = never s.piled e; bottoms = never s.piled e; tops = never s.piled e }
+
+pub is_fresh : (ms : List Mounted) (target root : ℕ) → (target ≡ root → ⊥) → mount_on ms root ≡ None → IsFresh ms target root
+is_fresh ms target root apart bare = record { bare = bare; apart = ne_eqb target root apart }
+
+pub is_on_top : (ms : List Mounted) (target root : ℕ) → IsFresh ms target root → mount_on ms target ≡ None → IsOnTop ms target root
+is_on_top ms target root fresh free = record { free = free; fresh = fresh }
 
 -- the same is seen at the root on top of a node's stack
 pub near_seen : (ms : List Mounted) (s : Stacks) (n : ℕ) → s.piled ≡ true → Follow ms s → seen ms (other_in s.tops.rows (other_in s.bottoms.rows n)) ≡ seen ms n
 near_seen ms s n p h = h.tops p (other_in s.bottoms.rows n) ∙ h.bottoms p n
 
 -- with a mount that is put on top
-pub more_follow : (m : Mounted) (ms : List Mounted) (old new : Stacks) → IsOnTop ms m.target m.root → old.piled ≡ true
+pub more_follow : (m : Mounted) (ms : List Mounted) (old new : Stacks) → IsOnTop ms m.target m.root → old.piled ≡ true → new.fresh ≡ old.fresh
     → new.bottoms.rows ≡ record { node = m.root; other = other_in old.bottoms.rows m.target } ∷ old.bottoms.rows
     → new.tops.rows ≡ record { node = other_in old.bottoms.rows m.target; other = m.root } ∷ old.tops.rows
     → Follow ms old → Follow (m ∷ ms) new
-unfolding ArePiled
-more_follow m ms old new t p b u h = record {
+unfolding ArePiled AreFresh
+more_follow m ms old new t p f b u h = record {
+  fresh = λ e. (t.fresh, h.fresh (sym f ∙ e));
+  under = λ e. rw b (under_rows m ms old.bottoms.rows t.fresh (h.fresh (sym f ∙ e)) (h.under (sym f ∙ e)));
   piled = λ _. (t, h.piled p);
   bottoms = λ _. rw b (bottoms_more m ms old.bottoms.rows t (h.piled p) (h.bottoms p));
   tops = λ _. rw u (tops_more m ms old.bottoms.rows old.tops.rows t (h.piled p) (h.bottoms p) (h.tops p));
+}
+
+-- with a mount whose root is fresh
+pub aside_follow : (m : Mounted) (ms : List Mounted) (old new : Stacks) → IsFresh ms m.target m.root → new.fresh ≡ old.fresh → new.piled ≡ false
+    → new.bottoms.rows ≡ record { node = m.root; other = other_in old.bottoms.rows m.target } ∷ old.bottoms.rows
+    → Follow ms old → Follow (m ∷ ms) new
+unfolding AreFresh
+aside_follow m ms old new t f e b h = record {
+  fresh = λ g. (t, h.fresh (sym f ∙ g));
+  under = λ g. rw b (under_rows m ms old.bottoms.rows t (h.fresh (sym f ∙ g)) (h.under (sym f ∙ g)));
+  piled = never new.piled e;
+  bottoms = never new.piled e;
+  tops = never new.piled e;
 }

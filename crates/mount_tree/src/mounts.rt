@@ -1,9 +1,9 @@
 //! The mounts of a tree.
 
-ghost use Rattle.std.specs.Prelude.{◌≡◌, ◌∷◌, ◌+◌, ◌^◌, ◌<◌, [], true, false, length, reverse, OnOk, OnErr};
+ghost use Rattle.std.specs.Prelude.{◌≡◌, ◌∷◌, ◌+◌, ◌^◌, ◌<◌, [], true, false, None, length, reverse, IfSome, OnOk, OnErr};
 ghost use Rattle.hist_model.specs.Trees as trees;
 ghost use Rattle.mount_tree.specs.Changes.{row_of, row_length};
-ghost use Rattle.mount_tree.specs.Stacks.{IsOnTop, seen};
+ghost use Rattle.mount_tree.specs.Stacks.{IsBottom, IsFresh, seen};
 
 use crate::rows::Covered;
 use crate::stacks::Stacks;
@@ -143,15 +143,29 @@ impl Mounts {
         self.stacks.near_top(node)
     }
 
-    /// Whether a mount would lie on top, with a root that is new.
-    #[tactic(auto, using(crate::proofs::Piled::is_on_top))]
-    fn is_on_top(&self, target: u32, root: u32) -> bool
-        ensures { result ≡ true → IsOnTop self.now.rows target root }
+    /// The node under all mounts of a node's stack, or the node itself; none where something was mounted on a root before it was one.
+    pub fn bottom(&self, node: u32) -> Option<u32>
+        ensures { IfSome result (IsBottom self.now.rows node) }
+    {
+        self.stacks.bottom(node)
+    }
+
+    /// Whether a mount's root is another node than the mount covers, and nothing is mounted on it.
+    #[tactic(auto, using(crate::proofs::Piled::is_fresh))]
+    fn is_fresh(&self, target: u32, root: u32) -> bool
+        ensures { result ≡ true → IsFresh self.now.rows target root }
     {
         if target == root {
             return false;
         }
-        self.mount_on(target).is_none() && self.mount_on(root).is_none()
+        self.mount_on(root).is_none()
+    }
+
+    /// Whether nothing is mounted on a node.
+    fn is_free(&self, node: u32) -> bool
+        ensures { result ≡ true → trees.mount_on self.now.rows node ≡ None }
+    {
+        self.mount_on(node).is_none()
     }
 
     /// Adds a mount. There is room for it.
@@ -159,8 +173,10 @@ impl Mounts {
         requires { self.old.roomy ≡ true }
         ensures { self.new ≡ record { rows = mount ∷ self.old.rows; roomy = false } }
     {
-        let is_on_top = self.is_on_top(mount.target, mount.root);
-        self.stacks.push(mount.target, mount.root, is_on_top);
+        let is_fresh = self.is_fresh(mount.target, mount.root);
+        let is_free = self.is_free(mount.target);
+        self.stacks
+            .push(mount.target, mount.root, is_fresh, is_free);
         self.roots.push(Covered {
             root: mount.root,
             target: mount.target,

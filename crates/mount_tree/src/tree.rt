@@ -1,7 +1,8 @@
 //! The tree, with its changes.
 
-ghost use Rattle.std.specs.Prelude.{◌≡◌, true, ◌<◌, ◌≤◌, ◌+◌, length, Some, IfOk, IfSome, OnOk, OnErr, None, is_some};
-ghost use Rattle.hist_model.specs.Trees.{bare_tree, stated, with_line, with_node, with_mount, with_attr, ordinal_of, entry, node_at, is_dir_at, attr, up, top, parent_of, row_in};
+ghost use Rattle.std.specs.Prelude.{◌≡◌, true, false, ◌<◌, ◌≤◌, ◌+◌, length, Some, IfOk, IfSome, OnOk, OnErr, None, is_some};
+ghost use Rattle.hist_model.specs.Trees.{bare_tree, stated, with_line, with_node, with_mount, with_attr, ordinal_of, entry, node_at, is_dir_at, attr, up, top, target_of, parent_of, row_in};
+ghost use Rattle.mount_tree.specs.Stacks.{IsApart};
 
 use crate::copies::copy_node;
 use crate::errors::{AttrError, Exists};
@@ -30,18 +31,21 @@ pub struct Tree {
 impl Model for Tree {
     ghost use Rattle.std.specs.Prelude.{◌≡◌, ◌<◌, true};
     ghost use Rattle.mount_tree.specs.Changes.{Seen};
+    ghost use Rattle.mount_tree.specs.Stacks.{AreRooted};
 
     ghost Value = { Seen };
 
     ghost view = { λ t. record { tree = record { nodes = t.nodes.rows; attrs = t.attrs.rows; mounts = t.mounts.rows }; spare = t.rooms } };
 
-    ghost invariant = { λ t. (0 < t.rooms → t.nodes.roomy ≡ true) × (0 < t.rooms → t.attrs.roomy ≡ true) × (0 < t.rooms → t.mounts.roomy ≡ true) };
+    ghost invariant = { λ t. (0 < t.rooms → t.nodes.roomy ≡ true) × (0 < t.rooms → t.attrs.roomy ≡ true) × (0 < t.rooms → t.mounts.roomy ≡ true)
+        × AreRooted t.nodes.rows t.mounts.rows };
 }
 
 impl Tree {
     ghost use Rattle.mount_tree.specs.Changes.{NodeMade, AttrSet, row_of, row_length};
 
     /// The tree of `/` alone.
+    #[tactic(auto, using(crate::proofs::Under::none_rooted))]
     pub fn new(alloc: Global) -> Result<Tree, NoMemory>
         ensures { IfOk result (λ t. t ≡ record { tree = bare_tree; spare = 0 }) }
     {
@@ -143,13 +147,42 @@ impl Tree {
         }
     }
 
+    /// Whether the container's root may lie among the mounts over a bottom.
+    #[tactic(auto, using(crate::proofs::Under::apart_bottoms, crate::proofs::Under::apart_itself))]
+    fn may_lie_over(&self, root: u32, bottom: u32) -> bool
+        ensures { result ≡ false → target_of self.now.tree.mounts bottom ≡ None → IsApart self.now.tree.mounts root bottom }
+    {
+        if root == bottom {
+            return false;
+        }
+        match self.mounts.bottom(root) {
+            Some(other) => other == bottom,
+            None => true,
+        }
+    }
+
+    /// A node from which `..` leads to the same: the one under all mounts of a stack, unless the container's root may lie among them.
+    #[tactic(auto, using(crate::proofs::Under::bottom_up))]
+    fn near_up(&self, root: u32, n: u32) -> u32
+        ensures { up self.now.tree root result ≡ up self.now.tree root n }
+    {
+        let Some(bottom) = self.mounts.bottom(n) else {
+            return n;
+        };
+        if self.may_lie_over(root, bottom) {
+            n
+        } else {
+            bottom
+        }
+    }
+
     /// What `..` leads to (path_resolution(7)): the container's root at itself, the parent of another node,
     /// and at the root of a mount what it leads to from the directory that the mount covers.
     #[tactic(auto, using(crate::proofs::Walks::up_step), unfolding(hist_model::specs::Trees::up_through))]
     pub fn up(&self, root: NodeRef, n: NodeRef) -> NodeRef
         ensures { result.ordinal ≡ up self.now.tree root.ordinal n.ordinal }
     {
-        let mut ordinal = n.ordinal;
+        let mut ordinal = self.near_up(root.ordinal, n.ordinal);
         let mut left = self.mounts.len() + 1;
         while left > 0 {
             if ordinal == root.ordinal {
@@ -168,6 +201,7 @@ impl Tree {
     }
 
     /// Adds a node to a directory.
+    #[tactic(auto, using(crate::proofs::Under::rooted_more))]
     fn add_node(&mut self, dir: u32, name: &[u8], node: Node) -> Result<NodeRef, NoMemory>
         ensures made { IfOk result (λ n. n.ordinal ≡ length self.old.tree.nodes) }
         ensures tree { OnOk result (self.new.tree ≡ with_node self.old.tree dir name.now node) }
@@ -207,6 +241,7 @@ impl Tree {
 
     /// Mounts something on a directory (mount(2)): its root is a new, empty directory. It succeeds where `ready` made room for
     /// the texts of the row, and takes no memory.
+    #[tactic(auto, using(crate::proofs::Under::rooted_with))]
     pub fn mount_at(&mut self, dir: NodeRef, row: NewMount<'_>) -> Result<NodeRef, NoMemory>
         requires { dir.ordinal < length self.old.tree.nodes }
         ensures made { IfOk result (λ n. n.ordinal ≡ length self.old.tree.nodes) }
