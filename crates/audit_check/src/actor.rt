@@ -1,8 +1,7 @@
 //! The actor that a line of a journal names.
 
 ghost use Rattle.std.specs.Prelude.{◌≡◌, ◌==◌, if◌then◌else◌, None, Some, [], IfOk, bytes_eq, codes, get_or, position};
-ghost use Rattle.std.specs.List.{list_all, slice_split};
-ghost use Rattle.hist_model.specs.Names.{is_child_number, is_task_name};
+ghost use Rattle.std.specs.List.{slice_split};
 ghost use Rattle.hist_model.specs.Words.{number_between};
 ghost use Rattle.hist_model.specs.declared.event.Actor.TheVariants.{Listener, Start};
 ghost use Rattle.audit_check.specs.Actors.{actor_in, actor_of, number_in, numbers_in, task_of, worker_of};
@@ -12,6 +11,7 @@ use hist_model::text::TaskName;
 use plain_words::number_between;
 use std::alloc::{AllocError, Global};
 use sys_abi::memory::NoMemory;
+use worker_gate::is_task_name;
 
 /// The place of the first space.
 fn space_in(text: &[u8]) -> Option<usize>
@@ -59,32 +59,6 @@ fn numbers_in(alloc: Global, word: &[u8]) -> Result<Vec<u32>, AllocError>
     word.split(|byte| *byte == b'.')
         .map(|number| number_in(number))
         .collect(alloc)
-}
-
-/// Whether a task is its parent's first child, or a later one, up to the hundred thousandth.
-fn is_child_number(number: u32) -> bool
-    ensures { result ≡ is_child_number number }
-{
-    1 <= number && number <= 100_000
-}
-
-/// Whether these are the numbers of children.
-fn are_child_numbers(children: &[u32]) -> bool
-    ensures { result ≡ list_all is_child_number children.now }
-{
-    children.iter().all(|number| is_child_number(*number))
-}
-
-/// Whether these are the numbers of a task's name.
-fn is_task_name(numbers: &[u32]) -> bool
-    ensures { result ≡ is_task_name numbers.now }
-{
-    match numbers.split_first() {
-        Some((&first, children)) => {
-            first == 0 && children.len() <= 64 && are_child_numbers(children)
-        }
-        None => false,
-    }
 }
 
 /// The task that a word names.

@@ -10,3 +10,6 @@ pub mod Tasks
 pub mod Schedules
 pub mod KnownTasks
 pub mod Kept
+pub mod Tried
+pub mod Continuing
+pub mod Whole

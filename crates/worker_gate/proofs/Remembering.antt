@@ -5,6 +5,7 @@ use Rattle.std.proofs.lemmas.List.{get_or_append_left, get_or-set_same, get_or-s
 use Rattle.std.proofs.Math.Seq.{get_or-append_seam}
 use Rattle.std.specs.Prelude.{slice_set, get_or, ◌==◌}
 use Rattle.std.proofs.lemmas.Bool.{cases_Bool, eqb-true, eq-eqb, ne_eqb, cases_lt}
+use Rattle.hist_model.specs.Kinds.{skips}
 use Rattle.hist_model.specs.Look.{ev, is_worker}
 use Rattle.hist_model.specs.Sessions.{session}
 use Rattle.hist_model.specs.declared.event.Event.{Event}
@@ -14,13 +15,17 @@ use Rattle.hist_model.specs.declared.policy.Policy.{Policy}
 use Rattle.hist_model.specs.declared.script.Figures.{Figures}
 use Rattle.broker_core.specs.Remembered.{Remembers}
 use Rattle.broker_core.specs.declared.worker.Worker.{Worker}
-use Rattle.worker_gate.proofs.Sessions.{session-other}
+use Rattle.worker_gate.proofs.Sessions.{session-other, session-skip}
 use Rattle.worker_gate.specs.Workers.{AllRemember}
 
 module _ (P : Policy) (F : Figures) where
   -- an event of no worker leaves what all remember
   pub all_other : (K : List Event) (e : Event) (ws : List Worker) → ((w : ℕ) → is_worker e.who w ≡ false) → AllRemember P F K ws → AllRemember P F (e ∷ K) ws
   all_other K e ws h a = λ w d l. (rw (session-other e K w (h w)) (a w d l).0, (a w d l).1)
+
+  -- and so does a skip
+  pub all_skipped : (K : List Event) (e : Event) (ws : List Worker) → skips e.what ≡ true → AllRemember P F K ws → AllRemember P F (e ∷ K) ws
+  all_skipped K e ws h a = λ w d l. (rw (session-skip e K w h) (a w d l).0, (a w d l).1)
 
   -- all remember where one does and the others do
   all-set : (K : List Event) (v : ℕ) (ws : List Worker) (x : Worker) → ((w : ℕ) (d : Worker) → w < length ws → (w ≡ v → ⊥) → Remembers P (session K w) (get_or ws w d) × ((get_or ws w d).figures ≡ F))

@@ -1,8 +1,9 @@
 -- The turns of the kernel's and the broker's actors.
 -- By the kernel after the actor's step, and what each worker remembers then.
-use Rattle.std.proofs.Common.{◌≡◌, ℕ, ◌≤◌, List, [], ◌∷◌, length, true, ap, ◌∙◌, refl}
+use Rattle.std.proofs.Common.{◌≡◌, ℕ, ◌≤◌, Bool, List, [], ◌∷◌, length, true, false, ap, ◌∙◌, refl}
 use Rattle.std.specs.Prelude.{slice_set}
 use Rattle.std.proofs.lemmas.List.{length-set}
+use Rattle.hist_model.specs.Kinds.{skips}
 use Rattle.hist_model.specs.Look.{Name, ev}
 use Rattle.hist_model.specs.Names.{is_task_name}
 use Rattle.hist_model.specs.Legal.{played, rules_of, started, system_of, with_schedule, with_step, with_steps}
@@ -11,7 +12,7 @@ use Rattle.hist_model.specs.Steps.{start, step, task_step, worker_step}
 use Rattle.hist_model.specs.declared.event.Actor.{Actor}
 use Rattle.hist_model.specs.declared.event.Actor.TheVariants.{Listener, Task, Worker as WorkerActor}
 use Rattle.hist_model.specs.declared.event.Event.{Event}
-use Rattle.hist_model.specs.declared.event.What.TheVariants.{Close}
+use Rattle.hist_model.specs.declared.event.What.TheVariants.{Close, Skip}
 use Rattle.hist_model.specs.declared.policy.Policy.{Policy}
 use Rattle.hist_model.specs.declared.script.Script.{Script}
 use Rattle.mediation.specs.Scheduled.{GoesOn, IsScheduled}
@@ -20,9 +21,9 @@ use Rattle.broker_core.specs.Remembered.{Remembers}
 use Rattle.broker_core.specs.declared.worker.Worker.{Worker}
 use Rattle.model_kernel.specs.Kernels.{IsAfter, IsBegun, IsKernel, past}
 use Rattle.model_kernel.specs.Ready.{IsSame}
-use Rattle.worker_gate.proofs.Remembering.{all_after, all_other, all_still}
-use Rattle.worker_gate.specs.Serving.{IsAt, IsServed, Reaches, after_schedule, after_step, after_steps}
-use Rattle.worker_gate.specs.Workers.{AllRemember}
+use Rattle.worker_gate.proofs.Remembering.{all_after, all_other, all_skipped, all_still}
+use Rattle.worker_gate.specs.Serving.{IsAt, IsServed, Reaches, Tries, after_schedule, after_step, after_steps, step_of}
+use Rattle.worker_gate.specs.Workers.{AllRemember, TriesStep}
 use Rattle.worker_gate.specs.declared.machine.Machine.{Machine}
 
 module _ (P : Policy) (old new : Machine) (served : IsServed P old) where
@@ -60,6 +61,18 @@ module _ (P : Policy) (old new : Machine) (served : IsServed P old) where
     worker_stayed same =
         stayed same number (rw items (all_still P old.kernel.script.figures (past old.kernel) v old.workers.items x served.workers (rw same.past_is at remembers) figures))
 
+    -- and a try of one
+    pub worker_tried : v ≤ 16 → (b : Bool) → TriesStep P old.kernel v b new.kernel → Tries P old (WorkerActor v) b new
+    unfolding step
+    worker_tried l true t = (worker_stepped l t.0, t.1)
+    worker_tried l false t = (worker_stayed t.0, t.1)
+
+  -- a worker's turn where it can't step
+  pub worker_skipped : (v : ℕ) → v ≤ 16 → new.workers ≡ old.workers → step_of P old (WorkerActor v) ≡ Skip → IsAfter old.kernel (ev (WorkerActor v) Skip) new.kernel → Reaches P old (after_step P old (WorkerActor v)) new
+  worker_skipped v l workers due after =
+      stepped (WorkerActor v) l (rw due after) (rw workers served.number)
+      (rw (workers, due) (all_skipped P old.kernel.script.figures (past old.kernel) (ev (WorkerActor v) Skip) old.workers.items refl served.workers))
+
   -- a task's step
   pub task_stepped : (n : Name) → is_task_name n ≡ true → new.workers ≡ old.workers → IsAfter old.kernel (ev (Task n) (task_step (system_of old.kernel.script) (past old.kernel) n)) new.kernel → Reaches P old (after_step P old (Task n)) new
   unfolding step
@@ -70,6 +83,16 @@ module _ (P : Policy) (old new : Machine) (served : IsServed P old) where
   -- and where it took none
   pub task_stayed : new.workers ≡ old.workers → IsSame old.kernel new.kernel → Reaches P old (past old.kernel) new
   task_stayed workers same = stayed same (rw workers served.number) (rw workers served.workers)
+
+  -- a try of a task that made its step, and one where it can't step
+  pub task_tried : (n : Name) → is_task_name n ≡ true → new.workers ≡ old.workers → IsAfter old.kernel (ev (Task n) (task_step (system_of old.kernel.script) (past old.kernel) n)) new.kernel
+      → skips (task_step (system_of old.kernel.script) (past old.kernel) n) ≡ false → Tries P old (Task n) true new
+  unfolding step
+  task_tried n named workers after steps = (task_stepped n named workers after, steps)
+
+  pub task_waits : (n : Name) → new.workers ≡ old.workers → IsSame old.kernel new.kernel → task_step (system_of old.kernel.script) (past old.kernel) n ≡ Skip → Tries P old (Task n) false new
+  unfolding step
+  task_waits n workers same due = (task_stayed workers same, due)
 
 -- the start
 pub at_start : (P : Policy) (S : Script) (m : Machine) → IsBegun S m.kernel → length m.workers.items ≡ 17 → AllRemember P S.figures [] m.workers.items → IsAt P S (started S) m
@@ -86,9 +109,23 @@ at_start P S m k number workers = record {
 
 -- ---- one turn after another
 
+-- a task that waits waits still
+pub still_waits : (P : Policy) (old mid : Machine) (n : Name) (b : Bool) → b ≡ false → Tries P old (Task n) b mid → task_step (system_of mid.kernel.script) (past mid.kernel) n ≡ Skip
+unfolding step
+still_waits P old mid n true e t = cc
+still_waits P old mid n false e t = rw (t.0.script, t.0.events) t.1
+
 module _ (P : Policy) (old mid new : Machine) (r : Reaches P old (past mid.kernel) mid) where
   pub reached_more : (K : List Event) → Reaches P mid K new → Reaches P old (past new.kernel) new
   reached_more K s = record { served = s.served; script = s.script ∙ r.script; events = refl }
+
+  -- a step after none
+  pub turn_over : (a : Actor) → past mid.kernel ≡ past old.kernel → Reaches P mid (after_step P mid a) new → Reaches P old (after_step P old a) new
+  turn_over a same s = record { served = s.served; script = s.script ∙ r.script; events = rw (r.script, same) at s.events }
+
+  -- none after none
+  pub stay_over : past mid.kernel ≡ past old.kernel → Reaches P mid (past mid.kernel) new → Reaches P old (past old.kernel) new
+  stay_over same s = record { served = s.served; script = s.script ∙ r.script; events = s.events ∙ same }
 
   -- the turns are those of the script of the first
   pub steps_more : (a : Actor) (n : ℕ) → Reaches P mid (after_steps P mid a n) new → past new.kernel ≡ with_steps P old.kernel.script a n (past mid.kernel)

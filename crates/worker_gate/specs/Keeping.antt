@@ -1,11 +1,12 @@
 -- What the state behind the listener's lock keeps of its history, and what contracts see of it.
-use Rattle.std.specs.Prelude.{ℕ, List, Option, Some, None, ⊤}
+use Rattle.std.specs.Prelude.{◌≡◌, ℕ, ◌≤◌, List, Option, Some, None, ⊤}
 use Rattle.hist_model.specs.Histories.{Seen}
 use Rattle.hist_model.specs.Legal.{NoSkip, NoWorkerAbove}
 use Rattle.hist_model.specs.declared.event.Event.{Event}
 use Rattle.hist_model.specs.declared.history.Setup.{Setup}
 use Rattle.hist_model.specs.declared.policy.Policy.{Policy}
 use Rattle.model_kernel.specs.Kernels.{past}
+use Rattle.turn_lock.specs.Lists.{Begins}
 use Rattle.worker_gate.specs.Serving.{IsServed}
 use Rattle.worker_gate.specs.declared.machine.Machine.{Machine}
 
@@ -23,3 +24,15 @@ pub record IsKept (P : Policy) (limit : Option ℕ) (m : Machine) : Type 0 where
 pub record ServedFacts : Type 0 where
   pub setup : Setup
   pub history : Seen
+
+-- a worker may be served under a limit, if it is one; a hand without a worker may always
+abbrev pub MayServe : Option ℕ → Option ℕ → Type 0
+MayServe limit None = ⊤
+MayServe None (Some w) = w ≤ 16
+MayServe (Some limit) (Some w) = (w ≤ limit) × (w ≤ 16)
+
+-- the machine keeps the same, and has perhaps gone on
+pub record Continues (P : Policy) (limit : Option ℕ) (old new : Machine) : Type 0 where
+  pub kept : IsKept P limit new
+  pub script : new.kernel.script ≡ old.kernel.script
+  pub begins : Begins (past new.kernel) (past old.kernel)

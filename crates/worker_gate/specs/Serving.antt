@@ -1,10 +1,14 @@
 -- What a kernel and the workers that serve it keep of the history so far.
-use Rattle.std.specs.Prelude.{◌≡◌, ◌<◌, ℕ, false, List, length, Option, Some, None, ⊤}
-use Rattle.hist_model.specs.Legal.{with_schedule, with_step, with_steps}
+use Rattle.std.specs.Prelude.{◌≡◌, ◌<◌, ℕ, Bool, true, false, List, length, Option, Some, None, ⊤}
+use Rattle.hist_model.specs.Kinds.{skips}
+use Rattle.hist_model.specs.Legal.{rules_of, system_of, with_schedule, with_step, with_steps}
+use Rattle.hist_model.specs.Steps.{step}
 use Rattle.hist_model.specs.Tasks.{is_made}
 use Rattle.hist_model.specs.declared.event.Actor.{Actor}
 use Rattle.hist_model.specs.declared.event.Actor.TheVariants.{Task}
 use Rattle.hist_model.specs.declared.event.Event.{Event}
+use Rattle.hist_model.specs.declared.event.What.{What}
+use Rattle.hist_model.specs.declared.event.What.TheVariants.{Skip}
 use Rattle.hist_model.specs.declared.policy.Policy.{Policy}
 use Rattle.hist_model.specs.declared.script.Script.{Script}
 use Rattle.history_frames.specs.Ordinals.{task_name_of, tasks_made}
@@ -46,3 +50,12 @@ abbrev pub IsFound : List Event → Actor → Option ℕ → Type 0
 IsFound K (Task n) (Some o) = (o < tasks_made K) × (task_name_of K o ≡ n)
 IsFound K (Task n) None = is_made K n ≡ false
 IsFound K a o = ⊤
+
+-- the step that an actor has next, by the definitions
+abbrev pub step_of : Policy → Machine → Actor → What
+step_of P m a = step (system_of m.kernel.script) (rules_of P m.kernel.script.figures) (past m.kernel) a
+
+-- the actor made its step; or it waits, and the history is as it was
+abbrev pub Tries : Policy → Machine → Actor → Bool → Machine → Type 0
+Tries P old a true new = Reaches P old (after_step P old a) new × (skips (step_of P old a) ≡ false)
+Tries P old a false new = Reaches P old (past old.kernel) new × (step_of P old a ≡ Skip)

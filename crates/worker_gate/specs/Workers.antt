@@ -1,28 +1,42 @@
 -- What the workers of a broker remember, and what the kernel knows of a worker before a deed and after it.
-use Rattle.std.specs.Prelude.{◌≡◌, ◌<◌, ℕ, true, List, length, get_or, None, ⊤}
+use Rattle.std.specs.Prelude.{◌≡◌, ◌<◌, ℕ, Bool, true, false, List, ◌∷◌, length, get_or, None, ⊤}
 use Rattle.addfd.specs.Puts.{is_known}
 use Rattle.hist_model.specs.Legal.{rules_of}
 use Rattle.hist_model.specs.Sessions.{deed, session}
-use Rattle.hist_model.specs.Steps.{mem, request_of}
+use Rattle.hist_model.specs.Deeds as definition
+use Rattle.hist_model.specs.Kinds.{skips}
+use Rattle.hist_model.specs.Look.{ev}
+use Rattle.hist_model.specs.Steps.{deed_step, mem, request_of, worker_step}
 use Rattle.hist_model.specs.declared.event.Event.{Event}
+use Rattle.hist_model.specs.declared.event.Actor.TheVariants.{Worker as WorkerActor}
 use Rattle.hist_model.specs.declared.event.What.{What}
+use Rattle.hist_model.specs.declared.event.What.TheVariants.{Skip}
 use Rattle.hist_model.specs.declared.policy.Policy.{Policy}
 use Rattle.hist_model.specs.declared.script.Figures.{Figures}
 use Rattle.broker_core.specs.Answers.{shown}
 use Rattle.broker_core.specs.Deeds.{due}
 use Rattle.broker_core.specs.Remembered.{IsReady, Remembers}
 use Rattle.broker_core.specs.declared.deed.Deed.{Deed}
-use Rattle.broker_core.specs.declared.deed.Deed.TheVariants.{Act, AddfdPut, AddfdTake, OpenMem, Plant, Read}
+use Rattle.broker_core.specs.declared.deed.Deed.TheVariants.{Act, AddfdPut, AddfdTake, OpenMem, Plant, Read, Recv}
 use Rattle.broker_core.specs.declared.worker.Worker.{Worker}
-use Rattle.model_kernel.specs.Kernels.{DoesDeed, past}
+use Rattle.model_kernel.specs.Kernels.{DoesDeed, IsAfter, past, system}
+use Rattle.model_kernel.specs.Ready.{IsSame}
 use Rattle.model_kernel.specs.declared.kernel.Kernel.{Kernel}
 
 -- each worker remembers its session, and knows the container's figures
 abbrev pub AllRemember : Policy → Figures → List Event → List Worker → Type 0
 AllRemember P F K workers = (w : ℕ) (d : Worker) → w < length workers → Remembers P (session K w) (get_or workers w d) × ((get_or workers w d).figures ≡ F)
 
--- the deed takes no memory but for its event
+-- the deed never waits
+abbrev pub IsSteady : Deed → Type 0
+IsSteady Recv = ⊥
+IsSteady AddfdTake = ⊥
+IsSteady _ = ⊤
+
+-- the deed never waits, and takes no memory but for its event
 abbrev pub IsPlain : Deed → Type 0
+IsPlain Recv = ⊥
+IsPlain AddfdTake = ⊥
 IsPlain (Read addr len) = ⊥
 IsPlain (Act cap) = ⊥
 IsPlain (Plant addr bytes cap) = ⊥
@@ -49,3 +63,26 @@ pub record HasDone (P : Policy) (old : Kernel) (n : ℕ) (new : Kernel) (worker 
   pub remembers : Remembers P (session (past old) n) worker
   pub figures : worker.figures ≡ old.script.figures
   pub due : due worker ≡ shown (deed (rules_of P old.script.figures) (session (past old) n))
+
+-- the deed was done, which was a step; or it waits, and nothing has changed
+abbrev pub TriesDeed : Kernel → ℕ → definition.Deed → Bool → Kernel → Type 0
+TriesDeed old n d true new = DoesDeed old n d new × (skips (deed_step (system old) (past old) n d) ≡ false)
+TriesDeed old n d false new = IsSame old new × (deed_step (system old) (past old) n d ≡ Skip)
+
+-- the deed that a worker has next, by the definitions
+abbrev pub next_of : Policy → Kernel → ℕ → definition.Deed
+next_of P k n = deed (rules_of P k.script.figures) (session (past k) n)
+
+-- what was due for the worker was done, which was a step, and it has not taken the answer; or it waits, and nothing has changed
+abbrev pub HasTried : Policy → Kernel → ℕ → Bool → Kernel → Worker → Type 0
+HasTried P old n true new worker = HasDone P old n new worker × (skips (deed_step (system old) (past old) n (next_of P old n)) ≡ false)
+HasTried P old n false new worker = IsSame old new × (deed_step (system old) (past old) n (next_of P old n) ≡ Skip)
+
+-- the step that a worker has next, by the definitions
+abbrev pub step_due : Policy → Kernel → ℕ → What
+step_due P k n = worker_step (system k) (rules_of P k.script.figures) (past k) n
+
+-- the worker made its step; or it waits, and nothing has changed
+abbrev pub TriesStep : Policy → Kernel → ℕ → Bool → Kernel → Type 0
+TriesStep P old n true new = IsAfter old (ev (WorkerActor n) (step_due P old n)) new × (skips (step_due P old n) ≡ false)
+TriesStep P old n false new = IsSame old new × (step_due P old n ≡ Skip)

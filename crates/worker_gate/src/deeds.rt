@@ -1,24 +1,22 @@
 //! A worker's turn: the deed that is due, on the kernel.
 
-ghost use Rattle.std.specs.Prelude.{◌≡◌, ℕ, ◌<◌, ◌≤◌, List, ◌∷◌, length, Option, None, OnOk, OnErr};
+ghost use Rattle.std.specs.Prelude.{◌≡◌, ℕ, ◌<◌, ◌≤◌, List, ◌∷◌, length, Option, None, OnOk, OnErr, IfOk};
 ghost use Rattle.broker_core.specs.Answers.{answer_of, deed_of, shown, told};
 ghost use Rattle.broker_core.specs.Deeds.{due};
 ghost use Rattle.broker_core.specs.Remembered.{HasEffect, Remembers};
 ghost use Rattle.broker_core.specs.declared.deed.Deed.TheVariants.{Act};
 ghost use Rattle.hist_model.specs.Deeds as definition;
 ghost use Rattle.hist_model.specs.Legal.{rules_of};
-ghost use Rattle.hist_model.specs.Look.{ev};
 ghost use Rattle.hist_model.specs.Sessions.{deed, session};
-ghost use Rattle.hist_model.specs.Steps.{IsLegal, mem, request_of, worker_step};
-ghost use Rattle.hist_model.specs.declared.event.Actor.TheVariants.{Worker as WorkerActor};
+ghost use Rattle.hist_model.specs.Steps.{IsLegal, mem, request_of};
 ghost use Rattle.hist_model.specs.declared.event.Event.{Event};
 ghost use Rattle.hist_model.specs.declared.event.What.{What};
 ghost use Rattle.hist_model.specs.declared.policy.Cap.{Cap as CapValue};
 ghost use Rattle.hist_model.specs.declared.policy.Policy.{Policy as PolicyValue};
 ghost use Rattle.hist_model.specs.declared.request.Request.{Request};
-ghost use Rattle.model_kernel.specs.Kernels.{DoesDeed, IsAfter, IsKernel, past, system};
+ghost use Rattle.model_kernel.specs.Kernels.{DoesDeed, IsKernel, past, system};
 ghost use Rattle.model_kernel.specs.Ready.{IsSame};
-ghost use Rattle.worker_gate.specs.Workers.{Allows, HasDone, IsPlain, KeepsOn};
+ghost use Rattle.worker_gate.specs.Workers.{Allows, HasTried, IsPlain, IsSteady, KeepsOn, TriesDeed, TriesStep};
 
 use addfd::TakeError;
 use broker_core::deed::{Deed, Got, answer_of};
@@ -30,29 +28,29 @@ use notif_queue::FetchError;
 use std::alloc::Global;
 use sys_abi::memory::NoMemory;
 
-/// A worker receives a notification. It can't step where no call is there to receive.
-fn receive(kernel: &mut Kernel, number: u8)
+/// A worker receives a notification, or finds its call gone. It waits where no call is there to receive; says whether it stepped.
+fn receive(kernel: &mut Kernel, number: u8) -> bool
     requires kernel { IsKernel kernel.old }
     requires number { number ≤ 16 }
     requires room { 0 < kernel.old.history.spare }
-    ensures { DoesDeed kernel.old number definition.Recv kernel.new }
+    ensures { TriesDeed kernel.old number definition.Recv result kernel.new }
 {
     match kernel.receive(number) {
-        Err(FetchError::Empty) => kernel.skip_worker(number),
-        Ok(_) | Err(FetchError::Gone) => {}
+        Err(FetchError::Empty) => false,
+        Ok(_) | Err(FetchError::Gone) => true,
     }
 }
 
-/// A worker takes what came of its request, which it has. It can't step where nothing has come yet.
-fn take(kernel: &mut Kernel, number: u8)
+/// A worker takes what came of its request, which it has. It waits where nothing has come yet; says whether it stepped.
+fn take(kernel: &mut Kernel, number: u8) -> bool
     requires kernel { IsKernel kernel.old }
     requires asked { request_of (past kernel.old) number ≡ None → ⊥ }
     requires room { 0 < kernel.old.history.spare }
-    ensures { DoesDeed kernel.old number definition.AddfdTake kernel.new }
+    ensures { TriesDeed kernel.old number definition.AddfdTake result kernel.new }
 {
     match kernel.take(number) {
-        Err(TakeError::Pending) => kernel.skip_worker(number),
-        Ok(_) | Err(TakeError::Fault(_)) => {}
+        Err(TakeError::Pending) => false,
+        Ok(_) | Err(TakeError::Fault(_)) => true,
     }
 }
 
@@ -107,7 +105,7 @@ fn act(
     Ok(())
 }
 
-/// A worker does a deed that takes no memory but for its event.
+/// A worker does a deed that doesn't wait, and takes no memory but for its event.
 fn do_plain(kernel: &mut Kernel, number: u8, deed: &Deed)
     requires kernel { IsKernel kernel.old }
     requires number { number ≤ 16 }
@@ -117,7 +115,6 @@ fn do_plain(kernel: &mut Kernel, number: u8, deed: &Deed)
     ensures { (q : Request) → DoesDeed kernel.old number (deed_of q deed.now) kernel.new }
 {
     match deed {
-        Deed::Recv => receive(kernel, number),
         Deed::OpenMem { pid } => {
             let _ = kernel.open_mem(number, *pid);
         }
@@ -130,17 +127,17 @@ fn do_plain(kernel: &mut Kernel, number: u8, deed: &Deed)
         Deed::AddfdPut(asked) => {
             let _ = kernel.put(number, *asked);
         }
-        Deed::AddfdTake => take(kernel, number),
         Deed::Send { id, back } => {
             let _ = kernel.send(number, *id, back);
         }
         Deed::LetGo => kernel.let_go(number),
+        Deed::Recv | Deed::AddfdTake => unreachable!(),
         Deed::Read { .. } | Deed::Act { .. } | Deed::Plant { .. } => unreachable!(),
     }
 }
 
-/// A worker does this deed, for whose event there is room.
-fn do_deed(
+/// A worker does a deed that doesn't wait, for whose event there is room.
+fn do_steady(
     alloc: Global,
     kernel: &mut Kernel,
     number: u8,
@@ -152,6 +149,7 @@ fn do_deed(
     requires room { 0 < kernel.old.history.spare }
     requires allows { Allows (past kernel.old) number next }
     requires effect { (cap : Option CapValue) → next ≡ Act cap → HasEffect worker.old }
+    requires steady { IsSteady next }
     ensures done { (P : PolicyValue) (own : List What) → Remembers P own worker.old → next ≡ shown (deed (rules_of P worker.old.figures) own) → OnOk result (DoesDeed kernel.old number (deed (rules_of P worker.old.figures) own) kernel.new) }
     ensures same { OnErr result (IsSame kernel.old kernel.new) }
     ensures keeps { KeepsOn worker.old worker.new }
@@ -167,20 +165,47 @@ fn do_deed(
     }
 }
 
-/// A worker does what is due for it, once there is room for its event.
+/// A worker does this deed, for whose event there is room, unless it waits; says whether it stepped.
+fn do_deed(
+    alloc: Global,
+    kernel: &mut Kernel,
+    number: u8,
+    worker: &mut Worker,
+    next: Deed,
+) -> Result<bool, NoMemory>
+    requires kernel { IsKernel kernel.old }
+    requires number { number ≤ 16 }
+    requires room { 0 < kernel.old.history.spare }
+    requires allows { Allows (past kernel.old) number next }
+    requires effect { (cap : Option CapValue) → next ≡ Act cap → HasEffect worker.old }
+    ensures done { (P : PolicyValue) (own : List What) → Remembers P own worker.old → next ≡ shown (deed (rules_of P worker.old.figures) own) → IfOk result (λ stepped. TriesDeed kernel.old number (deed (rules_of P worker.old.figures) own) stepped kernel.new) }
+    ensures same { OnErr result (IsSame kernel.old kernel.new) }
+    ensures keeps { KeepsOn worker.old worker.new }
+{
+    match next {
+        Deed::Recv => Ok(receive(kernel, number)),
+        Deed::AddfdTake => Ok(take(kernel, number)),
+        _ => {
+            do_steady(alloc, kernel, number, worker, next)?;
+            Ok(true)
+        }
+    }
+}
+
+/// A worker does what is due for it, once there is room for its event, unless it waits; says whether it stepped.
 fn do_next(
     alloc: Global,
     kernel: &mut Kernel,
     number: u8,
     worker: &mut Worker,
     next: Deed,
-) -> Result<(), NoMemory>
+) -> Result<bool, NoMemory>
     requires kernel { IsKernel kernel.old }
     requires number { number ≤ 16 }
     requires allows { Allows (past kernel.old) number next }
     requires effect { (cap : Option CapValue) → next ≡ Act cap → HasEffect worker.old }
     requires due { next ≡ due worker.old }
-    ensures done { (P : PolicyValue) → Remembers P (session (past kernel.old) number) worker.old → worker.old.figures ≡ kernel.old.script.figures → next ≡ shown (deed (rules_of P worker.old.figures) (session (past kernel.old) number)) → OnOk result (HasDone P kernel.old number kernel.new worker.new) }
+    ensures done { (P : PolicyValue) → Remembers P (session (past kernel.old) number) worker.old → worker.old.figures ≡ kernel.old.script.figures → next ≡ shown (deed (rules_of P worker.old.figures) (session (past kernel.old) number)) → IfOk result (λ stepped. HasTried P kernel.old number stepped kernel.new worker.new) }
     ensures same { OnErr result (IsSame kernel.old kernel.new) }
     ensures keeps { KeepsOn worker.old worker.new }
 {
@@ -199,20 +224,20 @@ fn newest_answer(history: &History) -> Got<'_>
     }
 }
 
-/// A worker's turn: what it does next, with the kernel's answer, which it takes. Where it can't step it takes nothing.
+/// A worker's turn: what it does next, with the kernel's answer, which it takes, unless it waits; says whether it stepped.
 pub(crate) fn worker_turn(
     alloc: Global,
     policy: &Policy,
     kernel: &mut Kernel,
     number: u8,
     worker: &mut Worker,
-) -> Result<(), NoMemory>
+) -> Result<bool, NoMemory>
     requires kernel { IsKernel kernel.old }
     requires legal { IsLegal (system kernel.old) (rules_of policy.now kernel.old.script.figures) (past kernel.old) }
     requires number { number ≤ 16 }
     requires remembers { Remembers policy.now (session (past kernel.old) number) worker.old }
     requires figures { worker.old.figures ≡ kernel.old.script.figures }
-    ensures step { OnOk result (IsAfter kernel.old (ev (WorkerActor number) (worker_step (system kernel.old) (rules_of policy.now kernel.old.script.figures) (past kernel.old) number)) kernel.new) }
+    ensures step { IfOk result (λ stepped. TriesStep policy.now kernel.old number stepped kernel.new) }
     ensures same { OnErr result (IsSame kernel.old kernel.new) }
     ensures remembers { Remembers policy.now (session (past kernel.new) number) worker.new }
     ensures figures { worker.new.figures ≡ kernel.old.script.figures }
@@ -221,7 +246,10 @@ pub(crate) fn worker_turn(
     let _events = kernel.count();
     worker.ready(policy)?;
     let next = worker.next();
-    do_next(alloc, kernel, number, worker, next)?;
-    worker.took(&newest_answer(kernel.history()));
-    Ok(())
+    if do_next(alloc, kernel, number, worker, next)? {
+        worker.took(&newest_answer(kernel.history()));
+        Ok(true)
+    } else {
+        Ok(false)
+    }
 }

@@ -6,6 +6,9 @@
 //! may have. `Served` is that state behind the listener's lock, and `play_schedule` takes a turn of the lock for each step;
 //! `play` does it all on one thread, with no lock.
 //!
+//! `serve_hands` lets threads step instead of a schedule (`hands`), each of their turns a step of a worker or of a task
+//! (`serving`). Which task is tried is a hint (`runnable`), and a hand with nothing to do sleeps (`wait_queues`).
+//!
 //! Its model is the history that `Legal` of `hist_model` plays from a policy and a script. What stands for it (the kernel
 //! after the events so far, each worker's session) is `specs/Serving.antt`. The kernel asks of a deed what an order of deeds
 //! gives it, as that a worker opens no second memory: the history is legal, so it holds (`proofs/Held.antt`).
@@ -14,12 +17,21 @@
 #![tactic(auto)]
 
 mod deeds;
+mod gate;
+mod hands;
 mod machine;
+mod names;
+mod runnable;
 mod schedule;
 mod scheduled;
 mod served;
+mod serving;
+mod wait_queues;
 
+pub use gate::{Gate, OpenGate, Point};
+pub use hands::serve_hands;
 pub use machine::Machine;
+pub use names::is_task_name;
 pub use schedule::{Played, play, schedule_of};
 pub use scheduled::play_schedule;
 pub use served::Served;

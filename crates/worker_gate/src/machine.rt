@@ -3,6 +3,7 @@
 ghost use Rattle.std.specs.Prelude.{◌≡◌, ◌<◌, ◌≤◌, ◌↔◌, ◌∷◌, [], length, true, OnOk, OnErr, IfOk, Some};
 ghost use Rattle.hist_model.specs.Legal.{Finished, started};
 ghost use Rattle.hist_model.specs.Names.{is_task_name};
+ghost use Rattle.history_frames.specs.Ordinals.{task_name_of, tasks_made};
 ghost use Rattle.hist_model.specs.Look.{ev};
 ghost use Rattle.hist_model.specs.Steps.{task_step};
 ghost use Rattle.hist_model.specs.declared.event.Actor.TheVariants.{Listener, Task, Worker as WorkerActor};
@@ -13,6 +14,7 @@ ghost use Rattle.model_kernel.specs.Kernels.{IsKernel, past, system};
 ghost use Rattle.worker_gate.specs.Workers.{AllRemember};
 
 use crate::deeds::worker_turn;
+use crate::names::is_task_name;
 use broker_core::worker::Worker;
 use hist_model::event::Actor;
 use hist_model::history::History;
@@ -47,7 +49,7 @@ fn idle_workers(alloc: Global, figures: Figures) -> Result<Vec<Worker>, NoMemory
 }
 
 impl Machine {
-    ghost use Rattle.worker_gate.specs.Serving.{IsAt, IsFound, IsServed, Reaches, after_step, after_steps};
+    ghost use Rattle.worker_gate.specs.Serving.{IsAt, IsFound, IsServed, Reaches, Tries, after_step, after_steps, step_of};
 
     /// The kernel of a script after its start, and workers without a session, for whichever policy.
     pub fn new(alloc: Global, script: Script) -> Result<Machine, NoMemory>
@@ -60,15 +62,47 @@ impl Machine {
         })
     }
 
-    /// A worker's turn.
+    /// A worker's step, unless it waits; says whether it made one.
+    pub(crate) fn try_worker(
+        &mut self,
+        alloc: Global,
+        policy: &Policy,
+        number: u8,
+    ) -> Result<bool, NoMemory>
+        requires served { IsServed policy.now self.old }
+        requires number { number ≤ 16 }
+        ensures done { IfOk result (λ stepped. Tries policy.now self.old (WorkerActor number) stepped self.new) }
+        ensures same { OnErr result (Reaches policy.now self.old (past self.old.kernel) self.new) }
+    {
+        let worker = &mut self.workers[number as usize];
+        worker_turn(alloc, policy, &mut self.kernel, number, worker)
+    }
+
+    /// A turn of a worker that waits.
+    fn skip_worker(&mut self, policy: &Policy, number: u8) -> Result<(), NoMemory>
+        requires served { IsServed policy.now self.old }
+        requires number { number ≤ 16 }
+        requires due { step_of policy.now self.old (WorkerActor number) ≡ Skip }
+        ensures done { OnOk result (Reaches policy.now self.old (after_step policy.now self.old (WorkerActor number)) self.new) }
+        ensures same { OnErr result (Reaches policy.now self.old (past self.old.kernel) self.new) }
+    {
+        self.kernel.ready_event()?;
+        self.kernel.skip_worker(number);
+        Ok(())
+    }
+
+    /// A worker's turn: its step, or a `Skip` where it waits.
     fn worker_turn(&mut self, alloc: Global, policy: &Policy, number: u8) -> Result<(), NoMemory>
         requires served { IsServed policy.now self.old }
         requires number { number ≤ 16 }
         ensures done { OnOk result (Reaches policy.now self.old (after_step policy.now self.old (WorkerActor number)) self.new) }
         ensures same { OnErr result (Reaches policy.now self.old (past self.old.kernel) self.new) }
     {
-        let worker = &mut self.workers[number as usize];
-        worker_turn(alloc, policy, &mut self.kernel, number, worker)
+        if self.try_worker(alloc, policy, number)? {
+            Ok(())
+        } else {
+            self.skip_worker(policy, number)
+        }
     }
 
     /// A turn of a task that can't step, or of a name that no task has.
@@ -85,6 +119,35 @@ impl Machine {
         Ok(())
     }
 
+    /// Whether a task of this ordinal was made, and has a name that a scheduled task may have.
+    pub(crate) fn is_task(&self, task: u32) -> bool
+        requires { IsKernel self.now.kernel }
+        ensures made { result ≡ true → task < tasks_made (past self.now.kernel) }
+        ensures named { result ≡ true → is_task_name (task_name_of (past self.now.kernel) task) ≡ true }
+    {
+        (task as usize) < self.kernel.tasks() && is_task_name(self.kernel.name_of(task))
+    }
+
+    /// A step of the task of an ordinal, unless it can't step; says whether it made one.
+    pub(crate) fn try_task(
+        &mut self,
+        alloc: Global,
+        policy: &Policy,
+        task: u32,
+    ) -> Result<bool, NoMemory>
+        requires served { IsServed policy.now self.old }
+        requires made { task < tasks_made (past self.old.kernel) }
+        requires named { is_task_name (task_name_of (past self.old.kernel) task) ≡ true }
+        ensures done { IfOk result (λ stepped. Tries policy.now self.old (Task (task_name_of (past self.old.kernel) task)) stepped self.new) }
+        ensures same { OnErr result (Reaches policy.now self.old (past self.old.kernel) self.new) }
+    {
+        let ready = self.kernel.ready_task(alloc, task)?;
+        match self.kernel.task_step(task, ready) {
+            Ok(()) => Ok(true),
+            Err(CannotStep) => Ok(false),
+        }
+    }
+
     /// A turn of the task of an ordinal, which has this name.
     fn task_turn(
         &mut self,
@@ -99,10 +162,10 @@ impl Machine {
         ensures done { OnOk result (Reaches policy.now self.old (after_step policy.now self.old (Task name.now)) self.new) }
         ensures same { OnErr result (Reaches policy.now self.old (past self.old.kernel) self.new) }
     {
-        let ready = self.kernel.ready_task(alloc, task)?;
-        match self.kernel.task_step(task, ready) {
-            Ok(()) => Ok(()),
-            Err(CannotStep) => self.skip_turn(alloc, policy, name),
+        if self.try_task(alloc, policy, task)? {
+            Ok(())
+        } else {
+            self.skip_turn(alloc, policy, name)
         }
     }
 

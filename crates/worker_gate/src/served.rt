@@ -12,6 +12,7 @@ ghost use Rattle.worker_gate.specs.Scheduling.{IsKnown};
 ghost use Rattle.worker_gate.specs.Serving.{IsFound, Reaches, after_step};
 
 use crate::machine::Machine;
+use crate::runnable::Runnable;
 use crate::schedule::Played;
 use hist_model::event::Actor;
 use hist_model::history::{History, Journalled};
@@ -27,6 +28,10 @@ pub(crate) struct Serving {
     pub(crate) machine: Machine,
     pub(crate) policy: Policy,
     pub(crate) limit: Option<u8>,
+    /// The tasks that hands try.
+    pub(crate) runnable: Runnable,
+    /// Whether a hand found no memory, so that all of them end.
+    pub(crate) lacks_memory: bool,
 }
 
 impl Serving {
@@ -113,6 +118,8 @@ impl Served {
                 machine,
                 policy,
                 limit,
+                runnable: Runnable::new(alloc),
+                lacks_memory: false,
             },
         )?;
         Ok(Served { serving })

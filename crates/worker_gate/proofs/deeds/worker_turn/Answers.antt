@@ -4,8 +4,9 @@ use Rattle.hist_model.specs.declared.history.History.{History}
 use Rattle.broker_core.specs.Answers.{told}
 use Rattle.model_kernel.specs.Kernels.{past, system}
 use Rattle.worker_gate.proofs.Allowed.{allows}
-use Rattle.worker_gate.proofs.Done.{due-next, fits-done, remembers-done, took-step}
-use Rattle.worker_gate.specs.Workers.{HasDone}
+use Rattle.worker_gate.proofs.Done.{due-next, fits-done, remembers-done}
+use Rattle.worker_gate.proofs.Tried.{tries_step, was_done}
+use Rattle.worker_gate.specs.Workers.{HasDone, HasTried}
 use Rattle.worker_gate.proofs.deeds.worker_turn.Goals as goal
 use Rattle.worker_gate.proofs.deeds.worker_turn.Goals.{After-history}
 
@@ -31,7 +32,8 @@ done : (c : After-history) → HasDone c.args.policy.now c.args.kernel.now c.arg
 done c =
     let P = c.args.policy.now in
     let r = c.in_ok-ready.ensures.known _ c.requires.remembers in
-    c.in_ok-do_next.ensures.done P r (c.in_ok-ready.ensures.figures ∙ c.requires.figures) (c.next-next.ensures.deed P _ r)
+    was_done P c.args.kernel.now c.args.number c.do_next.new.kernel c.do_next.new.worker c.in_ok-do_next.field-0 c.if-branch.true
+    (c.in_ok-do_next.ensures.done P r (c.in_ok-ready.ensures.figures ∙ c.requires.figures) (c.next-next.ensures.deed P _ r))
 
 pub newest_answer-requires : goal.newest_answer-requires
 newest_answer-requires c = rw (c.history.ensures, (done c).does.events) (omega arith)
@@ -41,10 +43,29 @@ took-requires-clause-fits c =
     fits-done c.args.policy.now c.args.kernel.now c.args.number c.do_next.new.kernel c.do_next.new.worker (done (goal.at.took-requires-clause-fits c).After-history) (told c.newest_answer.result)
     (λ e K is. c.newest_answer.ensures e K (ap (λ (x : History). x.events) c.history.ensures ∙ is))
 
-pub returns-clause-step : goal.returns-clause-step
-returns-clause-step c = took-step c.args.policy.now c.args.kernel.now c.args.number c.do_next.new.kernel c.do_next.new.worker (done (goal.at.returns-clause-step c).After-history)
+pub returns-then-branch-clause-step : goal.returns-then-branch-clause-step
+returns-then-branch-clause-step c =
+    let P = c.args.policy.now in
+    let r = c.in_ok-ready.ensures.known _ c.requires.remembers in
+    let tried = c.in_ok-do_next.ensures.done P r (c.in_ok-ready.ensures.figures ∙ c.requires.figures) (c.next-next.ensures.deed P _ r) in
+    rw c.if-branch.true at (tries_step P c.args.kernel.now c.args.number c.do_next.new.kernel c.do_next.new.worker c.in_ok-do_next.field-0 tried)
 
-pub returns-clause-remembers : goal.returns-clause-remembers
-returns-clause-remembers c =
-    remembers-done c.args.policy.now c.args.kernel.now c.args.number c.do_next.new.kernel c.do_next.new.worker (done (goal.at.returns-clause-remembers c).After-history) (told c.newest_answer.result)
+pub returns-then-branch-clause-remembers : goal.returns-then-branch-clause-remembers
+returns-then-branch-clause-remembers c =
+    remembers-done c.args.policy.now c.args.kernel.now c.args.number c.do_next.new.kernel c.do_next.new.worker (done (goal.at.returns-then-branch-clause-remembers c).After-history) (told c.newest_answer.result)
     (λ e K is. c.newest_answer.ensures e K (ap (λ (x : History). x.events) c.history.ensures ∙ is)) c.took.new.self c.took.ensures.known
+
+pub returns-else-branch-clause-step : goal.returns-else-branch-clause-step
+returns-else-branch-clause-step c =
+    let P = c.args.policy.now in
+    let r = c.in_ok-ready.ensures.known _ c.requires.remembers in
+    let tried = c.in_ok-do_next.ensures.done P r (c.in_ok-ready.ensures.figures ∙ c.requires.figures) (c.next-next.ensures.deed P _ r) in
+    rw c.if-branch.false at (tries_step P c.args.kernel.now c.args.number c.do_next.new.kernel c.do_next.new.worker c.in_ok-do_next.field-0 tried)
+
+pub returns-else-branch-clause-remembers : goal.returns-else-branch-clause-remembers
+returns-else-branch-clause-remembers c =
+    let P = c.args.policy.now in
+    let r = c.in_ok-ready.ensures.known _ c.requires.remembers in
+    let tried = c.in_ok-do_next.ensures.done P r (c.in_ok-ready.ensures.figures ∙ c.requires.figures) (c.next-next.ensures.deed P _ r) in
+    let still = rw c.if-branch.false at tried in
+    rw still.0.past_is (c.in_ok-do_next.ensures.keeps.known P _ r)

@@ -1,12 +1,6 @@
-use Rattle.std.proofs.Common.{refl}
-use Rattle.worker_gate.proofs.Rooms.{after-same}
-use Rattle.worker_gate.proofs.Turns.{task_stepped}
+use Rattle.worker_gate.proofs.Turns.{still_waits}
 use Rattle.worker_gate.proofs.machine.Machine.task_turn.Goals as goal
 
-pub returns-in-Ok-clause-done : goal.returns-in-Ok-clause-done
-returns-in-Ok-clause-done c =
-    let old = c.args.self.now in
-    let mid = c.ready_task.new.self in
-    let room = c.in_ok-ready.ensures.same in
-    let after = rw (room.script, room.past_is, c.requires.found.1) at (after-same old.kernel mid c.task_step.new.self _ room c.in-Ok.ensures.0) in
-    task_stepped c.args.policy.now old _ c.requires.served c.args.name.now c.requires.named refl after
+pub skip_turn-requires-clause-due : goal.skip_turn-requires-clause-due
+skip_turn-requires-clause-due c =
+    rw c.requires.found.1 at (still_waits c.args.policy.now c.args.self.now c.try_task.new.self _ c.in_ok-try_task.field-0 c.if-branch.false c.in_ok-try_task.ensures.done)

@@ -1,0 +1,260 @@
+//! Hands, which serve notifications and step tasks side by side, in turns of the listener's lock.
+
+ghost use Rattle.std.specs.Prelude.{◌≡◌, ◌≤◌, ◌<◌, ◌+◌, true, false, length, All, IfOk, OnErr, OnOk, Some};
+ghost use Rattle.turn_lock.specs.Facts.{IsAlone, IsPassOf, PassFacts};
+ghost use Rattle.turn_lock.specs.Lists.{Begins};
+ghost use Rattle.worker_gate.specs.Hands.{Ends, IsServedWhole};
+ghost use Rattle.worker_gate.specs.Keeping.{MayServe};
+
+use crate::gate::Gate;
+use crate::runnable::Moves;
+use crate::served::Served;
+use crate::serving::{Came, Role, Turned};
+use crate::wait_queues::{Awaits, WaitQueues};
+use std::alloc::Global;
+use std::sync::Wait;
+use std::thread::{Threads, for_each_mut};
+use sys_abi::memory::NoMemory;
+use turn_lock::{Pass, Turn, TurnLock};
+
+/// A turn in which a hand makes one step of what it may do.
+#[derive(Drop)]
+pub(crate) struct HandTurn {
+    pub(crate) alloc: Global,
+    pub(crate) role: Role,
+    /// How many good checks its worker made since it received its notification.
+    good_checks: u8,
+    turned: Turned,
+}
+
+impl Turn<Served> for HandTurn {
+    ghost plays = { λ t s u e. u.role ≡ t.role };
+
+    ghost asks = { λ t s. MayServe s.setup.limit t.role.worker };
+
+    fn play(&mut self, state: &mut Served) {
+        self.turned = state
+            .serving
+            .serve(self.alloc, self.role, &mut self.good_checks);
+    }
+}
+
+/// A turn that looks whether nothing is left to do.
+#[derive(Drop)]
+struct Look {
+    finished: bool,
+}
+
+impl Turn<Served> for Look {
+    ghost plays = { λ t s u e. (e.history.events ≡ s.history.events) × Ends s.setup u.finished s.history.events };
+
+    ghost asks = { λ t s. Unit {0} };
+
+    fn play(&mut self, state: &mut Served) {
+        self.finished = state.serving.is_served();
+    }
+}
+
+/// A hand: its pass, and its turn.
+#[derive(Drop)]
+pub(crate) struct Hand {
+    pub(crate) pass: Pass,
+    pub(crate) turn: HandTurn,
+}
+
+/// A turn of a hand, behind the door. It wakes whom the turn lets go on; or it sleeps, where it has nothing to do.
+fn take_turn<W: Wait>(rt: &W, lock: &TurnLock<Served>, queues: &WaitQueues, hand: &mut Hand)
+    requires own { IsPassOf lock.now hand.old.pass }
+    requires may { MayServe lock.now.setup.limit hand.old.turn.role.worker }
+    ensures own { IsPassOf lock.now hand.new.pass }
+    ensures role { hand.new.turn.role ≡ hand.old.turn.role }
+{
+    let mut door = queues.enter(rt);
+    lock.turn(rt, &mut hand.pass, &mut hand.turn);
+    let turned = hand.turn.turned;
+    match turned.came {
+        Came::Over => queues.wake_all(&mut door),
+        Came::Waits(awaits) => queues.sleep(rt, door, awaits),
+        Came::Stepped | Came::Reached(..) => {
+            queues.wake(&mut door, turned.moves, turned.has_task);
+        }
+    }
+}
+
+/// Calls the gate, where a hand's worker came to a point.
+fn call<G: Gate>(gate: &G, turn: &HandTurn) {
+    if let (Some(worker), Came::Reached(point, id)) = (turn.role.worker, turn.turned.came) {
+        gate.at(point, worker, id);
+    }
+}
+
+/// Takes turns until nothing is left to do, or a hand found no memory.
+fn work<W: Wait, G: Gate>(
+    rt: &W,
+    lock: &TurnLock<Served>,
+    queues: &WaitQueues,
+    gate: &G,
+    hand: &mut Hand,
+)
+    requires own { IsPassOf lock.now hand.old.pass }
+    requires may { MayServe lock.now.setup.limit hand.old.turn.role.worker }
+    ensures own { IsPassOf lock.now hand.new.pass }
+{
+    for _ in rt.forever() {
+        take_turn(rt, lock, queues, hand);
+        if let Came::Over = hand.turn.turned.came {
+            return;
+        }
+        call(gate, &hand.turn);
+    }
+    unreachable!()
+}
+
+/// A hand with a pass of its own.
+fn new_hand(alloc: Global, lock: &TurnLock<Served>, pass: &mut Pass, role: Role) -> Hand
+    requires own { IsPassOf lock.now pass.old × (pass.old.first ≡ true) }
+    requires few { pass.old.out < 65535 }
+    ensures own { IsPassOf lock.now pass.new × (pass.new.first ≡ true) }
+    ensures out { pass.new.out ≡ pass.old.out + 1 }
+    ensures seen { pass.new.seen ≡ pass.old.seen }
+    ensures hand { IsPassOf lock.now result.pass × (result.turn.role ≡ role) }
+{
+    let pass = lock.split(pass);
+    let turn = HandTurn {
+        alloc,
+        role,
+        good_checks: 0,
+        turned: Turned::OVER,
+    };
+    Hand { pass, turn }
+}
+
+/// What the hand at a place may do: the first, which is the calling one, serves as the last worker and steps tasks; the next
+/// serve as the workers below; and the others step tasks.
+fn role(place: u8, workers: u8) -> Role
+    requires { workers ≤ 16 }
+    ensures { MayServe (Some workers) result.worker }
+{
+    if place == 0 {
+        Role {
+            worker: Some(workers),
+            steps_tasks: true,
+        }
+    } else if place <= workers {
+        Role {
+            worker: Some(place - 1),
+            steps_tasks: false,
+        }
+    } else {
+        Role {
+            worker: None,
+            steps_tasks: true,
+        }
+    }
+}
+
+/// All hands, each with a pass. Want of memory comes before any pass is split.
+fn all_hands(
+    alloc: Global,
+    lock: &TurnLock<Served>,
+    pass: &mut Pass,
+    workers: u8,
+    cpus: u8,
+) -> Result<Vec<Hand>, NoMemory>
+    requires own { IsPassOf lock.now pass.old × IsAlone pass.old }
+    requires limit { lock.now.setup.limit ≡ Some workers }
+    requires numbers { (workers ≤ 16) × (cpus ≤ 16) }
+    ensures own { IsPassOf lock.now pass.new × (pass.new.first ≡ true) }
+    ensures seen { pass.new.seen ≡ pass.old.seen }
+    ensures out { IfOk result (λ v. pass.new.out ≡ length v.items) }
+    ensures none { OnErr result (pass.new.out ≡ 0) }
+    ensures hands { IfOk result (λ v. All (λ h. IsPassOf lock.now h.pass × MayServe lock.now.setup.limit h.turn.role.worker) v.items) }
+{
+    let count = 1 + workers + cpus;
+    let mut hands = Vec::with_capacity(alloc, usize::from(count))?;
+    for place in 0..count {
+        let hand = new_hand(alloc, lock, pass, role(place, workers));
+        hands.push_reserved(hand);
+    }
+    Ok(hands)
+}
+
+/// Joins the passes of all hands to the first one.
+fn gather(lock: &TurnLock<Served>, pass: &mut Pass, mut hands: Vec<Hand>)
+    requires own { IsPassOf lock.now pass.old × (pass.old.first ≡ true) × (pass.old.out ≡ length hands.items) }
+    requires hands { All (λ h. IsPassOf lock.now h.pass) hands.items }
+    ensures own { IsPassOf lock.now pass.new × IsAlone pass.new }
+    ensures begins { Begins pass.new.seen pass.old.seen }
+{
+    while let Some(hand) = hands.pop() {
+        let Hand {
+            pass: other,
+            turn: _,
+        } = hand;
+        lock.join(pass, other);
+    }
+}
+
+/// All hands at work, each in a thread of its own where one can be had. Where none can, they work one after another: the
+/// first does all.
+fn work_all<R: Threads + Wait + Sync, G: Gate + Sync>(
+    rt: &R,
+    lock: &TurnLock<Served>,
+    gate: &G,
+    hands: &mut Vec<Hand>,
+)
+    requires { All (λ h. IsPassOf lock.now h.pass × MayServe lock.now.setup.limit h.turn.role.worker) hands.old.items }
+    ensures number { length hands.new.items ≡ length hands.old.items }
+    ensures hands { All (λ h. IsPassOf lock.now h.pass) hands.new.items }
+{
+    let queues = WaitQueues::new();
+    let threads = hands.len().max(1);
+    for_each_mut(
+        rt,
+        hands.as_mut_slice(),
+        threads,
+        &|_: usize, hand: &mut Hand|
+            requires { IsPassOf lock.now hand.old.pass × MayServe lock.now.setup.limit hand.old.turn.role.worker }
+            ensures { IsPassOf lock.entry.now hand.new.pass }
+        { work(rt, lock, &queues, gate, hand) },
+    );
+}
+
+/// Looks whether nothing is left to do. Where something is, a hand found no memory.
+fn see_end<W: Wait>(rt: &W, lock: &TurnLock<Served>, pass: &mut Pass) -> Result<(), NoMemory>
+    requires own { IsPassOf lock.now pass.old × IsAlone pass.old }
+    ensures own { IsPassOf lock.now pass.new × IsAlone pass.new }
+    ensures begins { Begins pass.new.seen pass.old.seen }
+    ensures served { OnOk result (Ends lock.now.setup true pass.new.seen) }
+{
+    let mut look = Look { finished: false };
+    lock.turn(rt, pass, &mut look);
+    if look.finished { Ok(()) } else { Err(NoMemory) }
+}
+
+/// Serves a container until nothing is left to do, with a hand for each of the workers 0 to `workers` - 1, `cpus` hands that step
+/// tasks, and the calling hand, which steps tasks and serves as worker `workers`. It does the work of each hand that couldn't be
+/// started. A hand that has nothing to do sleeps. Where tasks wait for ever, so does this.
+///
+/// Want of memory ends it; the turns that were made stay, and the pass has seen them.
+pub fn serve_hands<R: Threads + Wait + Sync, G: Gate + Sync>(
+    rt: &R,
+    alloc: Global,
+    lock: &TurnLock<Served>,
+    pass: &mut Pass,
+    workers: u8,
+    cpus: u8,
+    gate: &G,
+) -> Result<(), NoMemory>
+    requires own { IsPassOf lock.now pass.old × IsAlone pass.old }
+    requires limit { lock.now.setup.limit ≡ Some workers }
+    requires numbers { (workers ≤ 16) × (cpus ≤ 16) }
+    ensures own { IsPassOf lock.now pass.new × IsAlone pass.new }
+    ensures begins { Begins pass.new.seen pass.old.seen }
+    ensures served { OnOk result (IsServedWhole lock.now.setup workers pass.new.seen) }
+{
+    let mut hands = all_hands(alloc, lock, pass, workers, cpus)?;
+    work_all(rt, lock, gate, &mut hands);
+    gather(lock, pass, hands);
+    see_end(rt, lock, pass)
+}

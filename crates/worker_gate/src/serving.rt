@@ -1,0 +1,260 @@
+//! What a hand does in a turn of the listener's lock: one step, of its worker or of a task that is worth a try.
+
+ghost use Rattle.std.specs.Prelude.{◌≡◌, ◌<◌, ◌^◌, Some, length, true};
+ghost use Rattle.hist_model.specs.Legal.{Finished};
+ghost use Rattle.model_kernel.specs.Kernels.{past};
+ghost use Rattle.worker_gate.specs.Keeping.{Continues, IsKept, MayServe};
+
+use crate::gate::Point;
+use crate::runnable::Moves;
+use crate::served::Serving;
+use crate::wait_queues::Awaits;
+use hist_model::event::What;
+use std::alloc::Global;
+use sys_abi::memory::NoMemory;
+
+/// What a hand may do: it serves as a worker, steps tasks, or both.
+#[derive(Clone, Copy, Debug)]
+pub(crate) struct Role {
+    pub(crate) worker: Option<u8>,
+    pub(crate) steps_tasks: bool,
+}
+
+/// What came of a hand's turn.
+#[derive(Clone, Copy, Debug)]
+pub(crate) enum Came {
+    /// Nothing is left to do, or a hand found no memory.
+    Over,
+    /// It has nothing to do before this.
+    Waits(Awaits),
+    /// It did something.
+    Stepped,
+    /// Its worker came to a point in the service of the notification with this id.
+    Reached(Point, u64),
+}
+
+/// What a hand's turn tells: what came of it, and whom it lets go on.
+#[derive(Clone, Copy, Debug)]
+pub(crate) struct Turned {
+    pub(crate) came: Came,
+    pub(crate) moves: Moves,
+    /// A task is worth a try that the hand itself won't try next.
+    pub(crate) has_task: bool,
+}
+
+impl Turned {
+    /// Nothing is left to do.
+    pub(crate) const OVER: Turned = Turned {
+        came: Came::Over,
+        moves: Moves::NONE,
+        has_task: false,
+    };
+}
+
+/// What a worker came to by a step, where it had made so many good checks since it received its notification.
+fn reached(step: &What, good_checks: &mut u8) -> Came {
+    match step {
+        What::Recv { answer: Ok(notif) } => {
+            *good_checks = 0;
+            Came::Reached(Point::Fetched, notif.id)
+        }
+        What::Check { id, answer: Ok(()) } => {
+            *good_checks = good_checks.saturating_add(1);
+            if *good_checks == 2 {
+                Came::Reached(Point::Checked, *id)
+            } else {
+                Came::Stepped
+            }
+        }
+        What::Send { id, .. } => Came::Reached(Point::Sent, *id),
+        _ => Came::Stepped,
+    }
+}
+
+impl Serving {
+    /// A worker's step, unless it waits; says whether it made one.
+    fn step_worker(&mut self, alloc: Global, number: u8) -> Result<bool, NoMemory>
+        requires kept { IsKept self.old.policy self.old.limit self.old.machine }
+        requires may { MayServe self.old.limit (Some number) }
+        ensures goes_on { Continues self.new.policy self.new.limit self.old.machine self.new.machine }
+        ensures setup { (self.new.policy ≡ self.old.policy) × (self.new.limit ≡ self.old.limit) }
+    {
+        self.machine.try_worker(alloc, &self.policy, number)
+    }
+
+    /// A step of a task, unless it can't step; says whether it made one.
+    fn step_task(&mut self, alloc: Global, task: u32) -> Result<bool, NoMemory>
+        requires kept { IsKept self.old.policy self.old.limit self.old.machine }
+        ensures goes_on { Continues self.new.policy self.new.limit self.old.machine self.new.machine }
+        ensures setup { (self.new.policy ≡ self.old.policy) × (self.new.limit ≡ self.old.limit) }
+    {
+        if self.machine.is_task(task) {
+            self.machine.try_task(alloc, &self.policy, task)
+        } else {
+            Ok(false)
+        }
+    }
+
+    /// A step of the task that is tried next, if it can step. Where no task is worth a try, the hand waits.
+    fn try_next(&mut self, alloc: Global, awaits: Awaits) -> Result<Came, NoMemory>
+        requires kept { IsKept self.old.policy self.old.limit self.old.machine }
+        ensures goes_on { Continues self.new.policy self.new.limit self.old.machine self.new.machine }
+        ensures setup { (self.new.policy ≡ self.old.policy) × (self.new.limit ≡ self.old.limit) }
+    {
+        match self.runnable.take() {
+            Some(task) => self.try_task(alloc, task),
+            None => Ok(Came::Waits(awaits)),
+        }
+    }
+
+    /// A step of a task, if it can step, which is then tried again after the others.
+    fn try_task(&mut self, alloc: Global, task: u32) -> Result<Came, NoMemory>
+        requires kept { IsKept self.old.policy self.old.limit self.old.machine }
+        ensures goes_on { Continues self.new.policy self.new.limit self.old.machine self.new.machine }
+        ensures setup { (self.new.policy ≡ self.old.policy) × (self.new.limit ≡ self.old.limit) }
+    {
+        if self.step_task(alloc, task)? {
+            self.runnable.put(task)?;
+        }
+        Ok(Came::Stepped)
+    }
+
+    /// What a worker waits for that can't step.
+    fn awaited(&self, number: u8) -> Awaits {
+        if self.machine.kernel.has_request(number) {
+            Awaits::Request
+        } else {
+            Awaits::Call
+        }
+    }
+
+    /// What a worker came to by the newest event.
+    fn came(&self, good_checks: &mut u8) -> Came {
+        let history = self.machine.kernel.history();
+        match history.get(history.len().saturating_sub(1)) {
+            Some(event) => reached(&event.what, good_checks),
+            None => Came::Stepped,
+        }
+    }
+
+    /// What a hand does where its worker has nothing to do.
+    fn pass_on(&mut self, alloc: Global, role: Role, number: u8) -> Result<Came, NoMemory>
+        requires kept { IsKept self.old.policy self.old.limit self.old.machine }
+        ensures goes_on { Continues self.new.policy self.new.limit self.old.machine self.new.machine }
+        ensures setup { (self.new.policy ≡ self.old.policy) × (self.new.limit ≡ self.old.limit) }
+    {
+        if role.steps_tasks {
+            self.try_next(alloc, Awaits::Anything)
+        } else {
+            Ok(Came::Waits(self.awaited(number)))
+        }
+    }
+
+    /// A step of a worker, or else what its hand does beside.
+    fn work(
+        &mut self,
+        alloc: Global,
+        role: Role,
+        number: u8,
+        good_checks: &mut u8,
+    ) -> Result<Came, NoMemory>
+        requires kept { IsKept self.old.policy self.old.limit self.old.machine }
+        requires may { MayServe self.old.limit (Some number) }
+        ensures goes_on { Continues self.new.policy self.new.limit self.old.machine self.new.machine }
+        ensures setup { (self.new.policy ≡ self.old.policy) × (self.new.limit ≡ self.old.limit) }
+    {
+        if self.step_worker(alloc, number)? {
+            Ok(self.came(good_checks))
+        } else {
+            self.pass_on(alloc, role, number)
+        }
+    }
+
+    /// One step of what a hand may do.
+    fn take_step(
+        &mut self,
+        alloc: Global,
+        role: Role,
+        good_checks: &mut u8,
+    ) -> Result<Came, NoMemory>
+        requires kept { IsKept self.old.policy self.old.limit self.old.machine }
+        requires may { MayServe self.old.limit role.worker }
+        ensures goes_on { Continues self.new.policy self.new.limit self.old.machine self.new.machine }
+        ensures setup { (self.new.policy ≡ self.old.policy) × (self.new.limit ≡ self.old.limit) }
+    {
+        match role.worker {
+            Some(number) => self.work(alloc, role, number, good_checks),
+            None => self.try_next(alloc, Awaits::Task),
+        }
+    }
+
+    /// Whether a task is worth a try that a hand won't try next itself.
+    fn has_task_beside(&self, role: Role, came: Came) -> bool {
+        match came {
+            Came::Stepped if role.steps_tasks => self.runnable.count() > 1,
+            Came::Stepped | Came::Reached(..) => self.runnable.count() > 0,
+            Came::Waits(_) | Came::Over => false,
+        }
+    }
+
+    /// A hand's step, and whom it lets go on.
+    fn try_serve(
+        &mut self,
+        alloc: Global,
+        role: Role,
+        good_checks: &mut u8,
+    ) -> Result<Turned, NoMemory>
+        requires kept { IsKept self.old.policy self.old.limit self.old.machine }
+        requires may { MayServe self.old.limit role.worker }
+        ensures goes_on { Continues self.new.policy self.new.limit self.old.machine self.new.machine }
+        ensures setup { (self.new.policy ≡ self.old.policy) × (self.new.limit ≡ self.old.limit) }
+    {
+        // The script's start makes the first task, before any hand's turn.
+        let _ = self.runnable.catch_up(&self.machine.kernel)?;
+        let came = self.take_step(alloc, role, good_checks)?;
+        let moves = self.runnable.catch_up(&self.machine.kernel)?;
+        let has_task = self.has_task_beside(role, came);
+        Ok(Turned {
+            came,
+            moves,
+            has_task,
+        })
+    }
+
+    /// Whether hands are done: nothing is left to do, or one of them found no memory.
+    fn is_over(&self) -> bool
+        requires { IsKept self.now.policy self.now.limit self.now.machine }
+    {
+        self.lacks_memory || self.machine.finished()
+    }
+
+    /// Whether nothing is left to do: every task has ended, no call is listed, and each worker has let go.
+    pub(crate) fn is_served(&self) -> bool
+        requires { IsKept self.now.policy self.now.limit self.now.machine }
+        ensures few { length (past self.now.machine.kernel) < 2 ^ 64 }
+        ensures finished { result ≡ true → Finished (past self.now.machine.kernel) }
+    {
+        // There are fewer than 2^64 events, as a legal history has.
+        let _events = self.machine.kernel.count();
+        self.machine.finished()
+    }
+
+    /// A hand's step, unless hands are done. One that finds no memory ends them all.
+    pub(crate) fn serve(&mut self, alloc: Global, role: Role, good_checks: &mut u8) -> Turned
+        requires kept { IsKept self.old.policy self.old.limit self.old.machine }
+        requires may { MayServe self.old.limit role.worker }
+        ensures goes_on { Continues self.new.policy self.new.limit self.old.machine self.new.machine }
+        ensures setup { (self.new.policy ≡ self.old.policy) × (self.new.limit ≡ self.old.limit) }
+    {
+        if self.is_over() {
+            return Turned::OVER;
+        }
+        match self.try_serve(alloc, role, good_checks) {
+            Ok(turned) => turned,
+            Err(NoMemory) => {
+                self.lacks_memory = true;
+                Turned::OVER
+            }
+        }
+    }
+}
