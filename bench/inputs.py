@@ -120,6 +120,26 @@ def devices(calls):
 # ---- the greatest inputs: each takes a number that divides its size, 1 for the greatest
 
 
+def crowd(tasks, calls):
+    """So many tasks at once, each of which makes so many nodes with paths of their own. In the schedule they step by turns, and worker 0
+    grants each call."""
+    made = Input(MKNOD, "notify mknod")
+    for task in range(tasks):
+        made.program(f"p{task}", *[line for call in range(calls) for line in (f'poke 0x10000 "/{task}.{call}\\0"', "call mknod 0x10000 0o020666 259")])
+    made.program("main", *[f"spawn p{task}" for task in range(tasks)], *["wait"] * tasks)
+    made.task("0", tasks)
+    for _ in range(calls):
+        for task in range(tasks):
+            made.task(f"0.{task + 1}", 2)
+            made.worker(0, GRANTED)
+            made.task(f"0.{task + 1}")
+            made.expect(calls=1, notified=1, answered=1, granted=1)
+    for task in range(tasks):
+        made.task(f"0.{task + 1}")
+    made.task("0", tasks + 1)
+    return made
+
+
 def instructions(divide):
     """100,000 executed instructions: stores of eight bytes all over the memory, and the exit"""
     count = LIMITS["instructions"] // divide

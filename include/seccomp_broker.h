@@ -50,9 +50,7 @@ enum broker_status {
   BROKER_WRITE_FAULT = 6,
   /* There was no memory. `out` has nothing, or a beginning of the report. */
   BROKER_NO_MEMORY = 7,
-  /* The words of the program aren't built. No call of this library answers it. */
-  BROKER_NOT_BUILT = 8,
-  /* The bytes are the report of no legal history. `line` has the number of their first line at which they are none. */
+  /* (No status is 8.) The bytes are the report of no legal history. `line` has the number of their first line at which they are none. */
   BROKER_NOT_REPORT = 9,
   /* The report is whole, and has more bytes than `out`, which has the beginning of it. */
   BROKER_SHORT_BUFFER = 100

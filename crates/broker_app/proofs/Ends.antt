@@ -65,17 +65,10 @@ pub printed_part : (text : List ℕ) (old new : SinkState) (x : ReportError) →
 printed_part text old new WriteFault w = (w.cause refl, w.part)
 printed_part text old new NoMemory w = w.part
 
--- the whole text is that of the history that is played
-pub ends_written : (printout : Printout) (Q P : Policy) (S : Script) (K : List Event) (old new : SinkState) → Q ≡ P → K ≡ played P S → Wrote old (text_of printout (judging_by Q.rules) K) (Ok tt) new → Stands new
-    → Printed (printout_of printout P S) old new (Ok tt)
-ends_written printout Q P S K old new q e w stands =
-    subst (λ text. Printed text old new (Ok tt)) (same_printout printout Q P K (played P S) q e) (printed_whole _ old new w stands)
-
--- and a part of it
-pub ends_cut : (printout : Printout) (Q P : Policy) (S : Script) (K : List Event) (old new : SinkState) (x : ReportError) → Q ≡ P → K ≡ played P S → Wrote old (text_of printout (judging_by Q.rules) K) (Err x) new
-    → Printed (printout_of printout P S) old new (Err (status_of_report x))
-ends_cut printout Q P S K old new x q e w =
-    subst (λ text. Printed text old new (Err (status_of_report x))) (same_printout printout Q P K (played P S) q e) (printed_part _ old new x w)
+-- the text is that of the history that is played
+pub ends_printed : (printout : Printout) (Q P : Policy) (S : Script) (K : List Event) (old new : SinkState) (r : Result (Unit {0}) Status) → Q ≡ P → K ≡ played P S
+    → Printed (text_of printout (judging_by Q.rules) K) old new r → Printed (printout_of printout P S) old new r
+ends_printed printout Q P S K old new r q e p = subst (λ text. Printed text old new r) (same_printout printout Q P K (played P S) q e) p
 
 -- nothing was, for want of memory
 pub ends_unplayed : (text : List ℕ) (old : SinkState) → Printed text old old (Err OutOfMemory)

@@ -17,10 +17,11 @@ use Rattle.broker_app.specs.Checks.{CheckEnds}
 use Rattle.broker_app.specs.Findings.{findings}
 use Rattle.broker_app.specs.Inputs.{PolicyIs, ScriptIs}
 use Rattle.broker_app.specs.Refusals.{InputRefused, Stands, TookNothing}
+use Rattle.broker_app.specs.Runs.{RunEnds}
 use Rattle.broker_app.specs.declared.printing.Printout.{Printout}
 use Rattle.broker_app.specs.declared.printing.Printout.TheVariants.{Report, Summary, Findings}
 use Rattle.broker_app.specs.declared.status.Status.{Status}
-use Rattle.broker_app.specs.declared.status.Status.TheVariants.{Done, Usage, WriteFault, NoMemory, NotBuilt}
+use Rattle.broker_app.specs.declared.status.Status.TheVariants.{Done, Usage, WriteFault, NoMemory}
 
 -- ---- What was printed
 
@@ -98,16 +99,12 @@ abbrev pub IsUsage : Status → Type 0
 IsUsage Usage = Unit {0}
 IsUsage _ = ⊥
 
-abbrev pub IsUnbuilt : Status → Type 0
-IsUnbuilt NotBuilt = Unit {0}
-IsUnbuilt _ = ⊥
-
 -- what the answer means, by the form of the words: usage exactly where they have none
 abbrev pub Answers : Option Form → FileState → FileState → SinkState → SinkState → Status → Type 0
 Answers None files after old new status = IsUsage status × TookNothing old new
 Answers (Some (Play policy script)) files after old new status = PlayEnds files after old new policy script status
 Answers (Some (Stress from count)) files after old new status = StressEnds from count old new status
-Answers (Some (Run policy script workers cpus)) files after old new status = IsUnbuilt status × TookNothing old new
+Answers (Some (Run policy script workers cpus)) files after old new status = RunEnds files after old new policy script workers status
 Answers (Some (AuditCheck policy script report)) files after old new status = CheckEnds files after old new policy script report status
 
 -- the status that an outcome is

@@ -4,20 +4,31 @@ use Rattle.std.specs.String.{string_bytes}
 use Rattle.std.specs.declared.alloc.Global.{Global}
 use Rattle.hist_model.specs.Words.{Form as Meaning, AuditCheck as Checks, Play as Plays, Run as Runs, Stress as Stresses}
 use Rattle.broker_app.specs.declared.words.Form.{Form}
-use Rattle.broker_app.specs.declared.words.Form.TheVariants.{AuditCheck, Play, Run, Stress}
+use Rattle.broker_app.specs.declared.words.Form.TheVariants.{Job as IsJob, Run}
+use Rattle.broker_app.specs.declared.words.Job.{Job}
+use Rattle.broker_app.specs.declared.words.Job.TheVariants.{AuditCheck, Play, Stress}
 
 -- the bytes of the words
 abbrev pub texts : List (String Global) → List (List ℕ)
 texts words = map (λ (w : String Global). string_bytes w) words
 
+-- the form of the words that ask for a job
+abbrev pub job_of : Job → Meaning
+job_of (Play policy script) = Plays policy.now script.now
+job_of (Stress from count) = Stresses from count
+job_of (AuditCheck policy script report) = Checks policy.now script.now report.now
+
 -- the form that the words have
 abbrev pub form_of : Form → Meaning
-form_of (Play policy script) = Plays policy.now script.now
+form_of (IsJob job) = job_of job
 form_of (Run policy script workers cpus) = Runs policy.now script.now workers cpus
-form_of (Stress from count) = Stresses from count
-form_of (AuditCheck policy script report) = Checks policy.now script.now report.now
 
 -- generated input has at most 4000 calls
-abbrev pub HasFewCalls : Form → Type 0
+abbrev pub HasFewCalls : Job → Type 0
 HasFewCalls (Stress from count) = count ≤ 4000
 HasFewCalls _ = Unit {0}
+
+-- and a run has at most 16 hands of either kind beside the calling one
+abbrev pub IsInRange : Form → Type 0
+IsInRange (IsJob job) = HasFewCalls job
+IsInRange (Run policy script workers cpus) = (workers ≤ 16) × (cpus ≤ 16)

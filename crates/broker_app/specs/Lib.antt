@@ -4,4 +4,5 @@ pub mod Inputs
 pub mod Refusals
 pub mod Findings
 pub mod Checks
+pub mod Runs
 pub mod Answers

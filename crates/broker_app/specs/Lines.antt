@@ -11,7 +11,7 @@ use Rattle.script_reader.specs.declared.error.ScriptError.TheVariants.{BadLine, 
 use Rattle.broker_app.specs.declared.status.InputFile.{InputFile}
 use Rattle.broker_app.specs.declared.status.InputFile.TheVariants.{Policy as PolicyFile, Script as ScriptFile, Report as ReportFile}
 use Rattle.broker_app.specs.declared.status.Status.{Status}
-use Rattle.broker_app.specs.declared.status.Status.TheVariants.{Done, Usage, ReadFault, TooLong, BadPolicy, BadScript, WriteFault, NoMemory, NotBuilt, NotReport}
+use Rattle.broker_app.specs.declared.status.Status.TheVariants.{Done, Usage, ReadFault, TooLong, BadPolicy, BadScript, WriteFault, NoMemory, NotReport}
 
 abbrev pub code_of : Status → ℕ
 code_of Done = 0
@@ -22,7 +22,6 @@ code_of (BadPolicy error) = 4
 code_of (BadScript error) = 5
 code_of WriteFault = 6
 code_of NoMemory = 7
-code_of NotBuilt = 8
 code_of (NotReport line) = 9
 
 -- the name of a file in a line, with the byte that ends the line
@@ -75,7 +74,6 @@ line_of (BadPolicy error) = policy_line error
 line_of (BadScript error) = script_line error
 line_of WriteFault = codes "write fault\n"
 line_of NoMemory = codes "no memory\n"
-line_of NotBuilt = codes "not built: command\n"
 line_of (NotReport line) = codes "report: line " ++ (decimal line ++ codes "\n")
 
 abbrev pub status_of_report : ReportError → Status

@@ -8,20 +8,20 @@ ghost use Rattle.hist_model.specs.ReportAudit.{judging_by};
 ghost use Rattle.hist_model.specs.Words.{form};
 ghost use Rattle.hist_model.specs.declared.script.Script.{Script};
 ghost use Rattle.std.specs.Option.{option_map};
-ghost use Rattle.broker_app.specs.Forms.{HasFewCalls, form_of, texts};
-ghost use Rattle.broker_app.specs.Answers.{Answers, GeneratedIsMediated, PlayEnds, Printed, Said, StressEnds, generated_summary, printout_of, status_of};
+ghost use Rattle.broker_app.specs.Forms.{HasFewCalls, IsInRange, form_of, job_of, texts};
+ghost use Rattle.broker_app.specs.Answers.{Answers, GeneratedIsMediated, PlayEnds, Printed, Said, StressEnds, generated_summary, printout_of, status_of, text_of};
 ghost use Rattle.broker_app.specs.Checks.{BytesCheckEnds, CheckEnds};
-ghost use Rattle.broker_app.specs.Findings.{findings};
 ghost use Rattle.broker_app.specs.Lines.{line_of};
+ghost use Rattle.broker_app.specs.Runs.{RunEnds};
 ghost use Rattle.broker_app.specs.declared.status.InputFile.TheVariants.{Policy as PolicyFile};
 ghost use Rattle.broker_app.specs.declared.status.Status.TheVariants.{ReadFault};
 
 use crate::inputs::{read_inputs, read_report};
 use crate::lines::say;
-use crate::players::{Player, TurnTaker};
+use crate::players::{Player, TurnTaker, run_container};
 use crate::printing::{Printout, print_history};
 use crate::status::Status;
-use crate::words::{Form, read_form};
+use crate::words::{Form, Job, read_form};
 use audit_check::check::check_report;
 use audit_check::found::Found;
 use generated_input::{generated_policy, generated_script};
@@ -32,9 +32,26 @@ use io_edge::files::Files;
 use io_edge::sink::Sink;
 use std::alloc::Global;
 use std::sync::Wait;
+use std::thread::Threads;
+use worker_gate::Gate;
+
+/// Prints what is asked of a history.
+#[tactic(auto, using(crate::proofs::Ends::printed_whole, crate::proofs::Ends::printed_part))]
+fn print_text<O: Sink>(
+    alloc: Global,
+    printout: Printout,
+    policy: &Policy,
+    history: &History,
+    out: &mut O,
+) -> Result<(), Status>
+    ensures { Printed (text_of printout (judging_by policy.now.rules) history.now.events) (O.state out.old) (O.state out.new) result }
+{
+    print_history(alloc, printout, policy, history, out)?;
+    Ok(())
+}
 
 /// Plays a script under a policy and prints what is asked of it.
-#[tactic(auto, using(crate::proofs::Ends::ends_written, crate::proofs::Ends::ends_cut, crate::proofs::Ends::ends_unplayed))]
+#[tactic(auto, using(crate::proofs::Ends::ends_printed, crate::proofs::Ends::ends_unplayed))]
 fn print_played<P: Player, O: Sink>(
     player: &P,
     alloc: Global,
@@ -46,8 +63,7 @@ fn print_played<P: Player, O: Sink>(
     ensures { Printed (printout_of printout policy script) (O.state out.old) (O.state out.new) result }
 {
     let played = player.play(alloc, policy, script)?;
-    print_history(alloc, printout, &played.policy, &played.history, out)?;
-    Ok(())
+    print_text(alloc, printout, &played.policy, &played.history, out)
 }
 
 /// What a script plays under a policy is mediated.
@@ -121,21 +137,6 @@ fn is_unique(policy: &Policy)
     let _rules = &policy.rules;
 }
 
-/// Prints what is found of a history that a report tells.
-#[tactic(auto, using(crate::proofs::Ends::printed_whole, crate::proofs::Ends::printed_part))]
-fn print_findings<O: Sink>(
-    alloc: Global,
-    policy: &Policy,
-    history: &History,
-    finished: bool,
-    out: &mut O,
-) -> Result<(), Status>
-    ensures { Printed (findings (judging_by policy.now.rules) history.now.events finished) (O.state out.old) (O.state out.new) result }
-{
-    print_history(alloc, Printout::Findings { finished }, policy, history, out)?;
-    Ok(())
-}
-
 /// Checks the bytes of a report, and prints what is found of the history that it tells.
 #[tactic(auto, using(crate::proofs::Checks::found_ends, crate::proofs::Checks::not_found_ends))]
 fn check_bytes<O: Sink>(
@@ -150,7 +151,13 @@ fn check_bytes<O: Sink>(
 {
     is_unique(policy);
     match check_report(alloc, policy, script, report)? {
-        Found::Yes { history, finished } => print_findings(alloc, policy, &history, finished, out),
+        Found::Yes { history, finished } => print_text(
+            alloc,
+            Printout::Findings { finished },
+            policy,
+            &history,
+            out,
+        ),
         Found::No { line } => Err(Status::NotReport { line }),
     }
 }
@@ -172,49 +179,85 @@ fn check_files<F: Files, O: Sink>(
     check_bytes(alloc, &policy, script, report.as_slice(), out)
 }
 
-/// Does what a form of the words asks for; none is a usage error.
+/// Does a job; none is a usage error.
 fn answer<P: Player, F: Files, O: Sink>(
     player: &P,
     alloc: Global,
-    form: Option<Form<'_>>,
+    job: Option<Job<'_>>,
     files: &mut F,
     out: &mut O,
 ) -> Result<(), Status>
-    requires { IfSome form (λ f. HasFewCalls f) }
-    ensures { Answers (option_map form_of form.entry) (F.state files.old) (F.state files.new) (O.state out.old) (O.state out.new) (status_of result) }
+    requires { IfSome job (λ j. HasFewCalls j) }
+    ensures { Answers (option_map job_of job.entry) (F.state files.old) (F.state files.new) (O.state out.old) (O.state out.new) (status_of result) }
 {
-    match form {
+    match job {
         None => Err(Status::Usage),
-        Some(Form::Play { policy, script }) => play_files(
-            player, alloc, files, policy, script, out,
-        ),
-        Some(Form::Stress { from, count }) => stress(player, alloc, from, count, out),
+        Some(Job::Play { policy, script }) => play_files(player, alloc, files, policy, script, out),
+        Some(Job::Stress { from, count }) => stress(player, alloc, from, count, out),
         Some(
-            Form::AuditCheck {
+            Job::AuditCheck {
                 policy,
                 script,
                 report,
             },
         ) => check_files(alloc, files, policy, script, report, out),
-        Some(Form::Run { .. }) => Err(Status::NotBuilt),
     }
 }
 
-/// Does what a form of the words asks for, and says on `err` why it didn't, in one line. Where there is no form, that is the
-/// usage line. What is played, the player plays.
-pub fn carry_out<P: Player, F: Files, O: Sink, E: Sink>(
-    player: &P,
+/// Runs the script of a file with threads under the policy of another, and writes the report.
+#[tactic(auto, using(crate::proofs::Runs::run_stops, crate::proofs::Runs::run_unserved))]
+fn run_files<R: Threads + Wait + Sync, F: Files, O: Sink, G: Gate + Sync>(
+    rt: &R,
+    alloc: Global,
+    files: &mut F,
+    policy: &str,
+    script: &str,
+    workers: u8,
+    cpus: u8,
+    out: &mut O,
+    gate: &G,
+) -> Result<(), Status>
+    requires { (workers ≤ 16) × (cpus ≤ 16) }
+    ensures { RunEnds (F.state files.old) (F.state files.new) (O.state out.old) (O.state out.new) policy.now script.now workers (status_of result) }
+{
+    let (policy, script) = read_inputs(alloc, files, policy, script)?;
+    let ended = run_container(rt, alloc, policy, script, workers, cpus, gate)?;
+    print_text(alloc, Printout::Report, &ended.policy, &ended.history, out)
+}
+
+/// Does what a form of the words asks for; none is a usage error.
+fn answer_form<R: Threads + Wait + Sync, F: Files, O: Sink, G: Gate + Sync>(
+    rt: &R,
     alloc: Global,
     form: Option<Form<'_>>,
     files: &mut F,
     out: &mut O,
-    err: &mut E,
-) -> Status
-    requires { IfSome form (λ f. HasFewCalls f) }
-    ensures answers { Answers (option_map form_of form.entry) (F.state files.old) (F.state files.new) (O.state out.old) (O.state out.new) result }
+    gate: &G,
+) -> Result<(), Status>
+    requires { IfSome form (λ f. IsInRange f) }
+    ensures { Answers (option_map form_of form.entry) (F.state files.old) (F.state files.new) (O.state out.old) (O.state out.new) (status_of result) }
+{
+    let player = TurnTaker { rt };
+    match form {
+        None => answer(&player, alloc, None, files, out),
+        Some(Form::Job(job)) => answer(&player, alloc, Some(job), files, out),
+        Some(
+            Form::Run {
+                policy,
+                script,
+                workers,
+                cpus,
+            },
+        ) => run_files(rt, alloc, files, policy, script, workers, cpus, out, gate),
+    }
+}
+
+/// The status that an outcome is. Says on `err` why it isn't `Done`, in one line.
+fn tell<E: Sink>(outcome: Result<(), Status>, err: &mut E) -> Status
+    ensures status { result ≡ status_of outcome }
     ensures said { Said (E.state err.old) (line_of result) (E.state err.new) }
 {
-    let status = match answer(player, alloc, form, files, out) {
+    let status = match outcome {
         Ok(()) => Status::Done,
         Err(status) => status,
     };
@@ -222,18 +265,39 @@ pub fn carry_out<P: Player, F: Files, O: Sink, E: Sink>(
     status
 }
 
-/// Does what the words ask for, and says on `err` why it didn't, in one line.
-pub fn broker<R: Wait, F: Files, O: Sink, E: Sink>(
+/// Does a job, and says on `err` why it didn't, in one line. Where there is no job, that is the usage line. What is played, the
+/// player plays.
+pub fn carry_out<P: Player, F: Files, O: Sink, E: Sink>(
+    player: &P,
+    alloc: Global,
+    job: Option<Job<'_>>,
+    files: &mut F,
+    out: &mut O,
+    err: &mut E,
+) -> Status
+    requires { IfSome job (λ j. HasFewCalls j) }
+    ensures answers { Answers (option_map job_of job.entry) (F.state files.old) (F.state files.new) (O.state out.old) (O.state out.new) result }
+    ensures said { Said (E.state err.old) (line_of result) (E.state err.new) }
+{
+    tell(answer(player, alloc, job, files, out), err)
+}
+
+/// Does what the words ask for, and says on `err` why it didn't, in one line. Where a script is run with threads, each worker's
+/// hand calls at the gate.
+pub fn broker<R: Threads + Wait + Sync, F: Files, O: Sink, E: Sink, G: Gate + Sync>(
     rt: &R,
     alloc: Global,
     words: &[String],
     files: &mut F,
     out: &mut O,
     err: &mut E,
+    gate: &G,
 ) -> Status
     ensures answers { Answers (form (texts words.now)) (F.state files.old) (F.state files.new) (O.state out.old) (O.state out.new) result }
     ensures said { Said (E.state err.old) (line_of result) (E.state err.new) }
 {
-    let player = TurnTaker { rt };
-    carry_out(&player, alloc, read_form(words), files, out, err)
+    tell(
+        answer_form(rt, alloc, read_form(words), files, out, gate),
+        err,
+    )
 }

@@ -135,7 +135,6 @@ fn write_status<E: Sink>(status: &Status, err: &mut E) -> Result<(), Failed>
         Status::BadScript(error) => write_script_line(error, err),
         Status::WriteFault => err.write(b"write fault\n"),
         Status::NoMemory => err.write(b"no memory\n"),
-        Status::NotBuilt => err.write(b"not built: command\n"),
         Status::NotReport { line } => write_report_line(*line, err),
     }
 }

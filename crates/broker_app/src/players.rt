@@ -1,15 +1,18 @@
-//! How the schedule of a script is played: in turns of the listener's lock, or without a lock.
+//! How a script is played and run: its schedule in turns of the listener's lock, or without a lock; its container by threads.
 
-ghost use Rattle.std.specs.Prelude.{◌≡◌, IfOk};
+ghost use Rattle.std.specs.Prelude.{◌≡◌, ◌≤◌, IfOk};
 ghost use Rattle.hist_model.specs.Legal.{played};
+ghost use Rattle.mediation.specs.Scheduled.{IsUnclosed};
+ghost use Rattle.broker_app.specs.Runs.{ClosesBehind, HasEnded};
 
 use hist_model::policy::Policy;
 use hist_model::script::Script;
 use std::alloc::Global;
 use std::sync::Wait;
+use std::thread::Threads;
 use sys_abi::memory::NoMemory;
 use turn_lock::TurnLock;
-use worker_gate::{Played, Served, play, play_schedule, schedule_of};
+use worker_gate::{Gate, Played, Served, play, play_schedule, schedule_of, serve_hands};
 
 /// Who plays the schedule of a script.
 pub trait Player {
@@ -60,4 +63,40 @@ fn play_in_turns<R: Wait>(
     };
     play_schedule(rt, alloc, &lock, &mut pass, schedule.as_slice())?;
     lock.close(pass).finish()
+}
+
+/// Closes the listener behind a history that isn't closed.
+fn close_listener(served: Served) -> Result<Played, NoMemory>
+    requires { IsUnclosed served.history.events }
+    ensures policy { IfOk result (λ p. p.policy ≡ served.setup.policy) }
+    ensures script { IfOk result (λ p. p.script ≡ served.setup.script) }
+    ensures closed { IfOk result (λ p. ClosesBehind served.history.events p.history.events) }
+{
+    let played = served.finish()?;
+    // There are fewer than 2^64 events, as a legal history has.
+    let _events = played.history.len();
+    Ok(played)
+}
+
+/// Serves the container of a script with threads until nothing is left to do, and closes the listener.
+pub(crate) fn run_container<R: Threads + Wait + Sync, G: Gate + Sync>(
+    rt: &R,
+    alloc: Global,
+    policy: Policy,
+    script: Script,
+    workers: u8,
+    cpus: u8,
+    gate: &G,
+) -> Result<Played, NoMemory>
+    requires numbers { (workers ≤ 16) × (cpus ≤ 16) }
+    ensures ended { IfOk result (λ p. HasEnded policy script workers p.history.events) }
+    ensures policy { IfOk result (λ p. p.policy ≡ policy) }
+    ensures script { IfOk result (λ p. p.script ≡ script) }
+{
+    let served = Served::new(alloc, policy, script, Some(workers))?;
+    let Ok((lock, mut pass)) = TurnLock::new(alloc, served) else {
+        return Err(NoMemory);
+    };
+    serve_hands(rt, alloc, &lock, &mut pass, workers, cpus, gate)?;
+    close_listener(lock.close(pass))
 }

@@ -35,8 +35,6 @@ pub enum Status {
     WriteFault,
     /// There was no memory.
     NoMemory,
-    /// The words have a form that isn't built yet.
-    NotBuilt,
     /// The bytes of the report's file are no report: the first line, counted from 1, at which they are none, or one more than
     /// they have lines.
     NotReport { line: u32 },
@@ -56,7 +54,6 @@ impl Status {
             Status::BadScript(_) => 5,
             Status::WriteFault => 6,
             Status::NoMemory => 7,
-            Status::NotBuilt => 8,
             Status::NotReport { .. } => 9,
         }
     }

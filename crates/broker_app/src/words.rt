@@ -3,24 +3,17 @@
 ghost use Rattle.std.specs.Prelude.{◌≡◌, ◌^◌, ◌-◌, map, IfSome};
 ghost use Rattle.std.specs.Option.{option_map};
 ghost use Rattle.hist_model.specs.Words.{number_between, run_form, stress_form, three_words, four_words, five_words, form};
-ghost use Rattle.broker_app.specs.Forms.{HasFewCalls, form_of, texts};
+ghost use Rattle.broker_app.specs.Forms.{IsInRange, form_of, texts};
 
 use plain_words::number_between;
 
-/// A form of the words.
+/// What one thread does alone.
 #[derive(Clone, Copy, Debug)]
-pub enum Form<'a> {
+pub enum Job<'a> {
     /// Play the schedule of a script: the names of the policy's and the script's files.
     Play {
         policy: &'a str,
         script: &'a str,
-    },
-    /// Run a script with threads.
-    Run {
-        policy: &'a str,
-        script: &'a str,
-        workers: u8,
-        cpus: u8,
     },
     /// Play generated input, of 1 to 4000 calls.
     Stress {
@@ -35,9 +28,23 @@ pub enum Form<'a> {
     },
 }
 
+/// A form of the words.
+#[derive(Clone, Copy, Debug)]
+pub enum Form<'a> {
+    Job(Job<'a>),
+    /// Run a script with threads: the names of the policy's and the script's files, and two numbers from 0 to 16, of the hands
+    /// that serve notifications and of those that step tasks.
+    Run {
+        policy: &'a str,
+        script: &'a str,
+        workers: u8,
+        cpus: u8,
+    },
+}
+
 fn run_form<'a>(policy: &'a str, script: &'a str, workers: &str, cpus: &str) -> Option<Form<'a>>
     ensures meant { option_map form_of result ≡ run_form policy.now script.now (number_between 0 16 workers.now) (number_between 0 16 cpus.now) }
-    ensures few { IfSome result (λ f. HasFewCalls f) }
+    ensures range { IfSome result (λ f. IsInRange f) }
 {
     let workers = number_between(workers.as_bytes(), 0, 16)?;
     let cpus = number_between(cpus.as_bytes(), 0, 16)?;
@@ -51,25 +58,25 @@ fn run_form<'a>(policy: &'a str, script: &'a str, workers: &str, cpus: &str) -> 
 
 fn stress_form<'a>(from: &str, count: &str) -> Option<Form<'a>>
     ensures meant { option_map form_of result ≡ stress_form (number_between 0 (2 ^ 64 - 1) from.now) (number_between 1 4000 count.now) }
-    ensures few { IfSome result (λ f. HasFewCalls f) }
+    ensures range { IfSome result (λ f. IsInRange f) }
 {
     let from = number_between(from.as_bytes(), 0, u64::MAX)?;
     let count = number_between(count.as_bytes(), 1, 4000)?;
-    Some(Form::Stress {
+    Some(Form::Job(Job::Stress {
         from,
         count: count as u32,
-    })
+    }))
 }
 
 fn three_words<'a>(command: &str, a: &'a str, b: &'a str) -> Option<Form<'a>>
     ensures meant { option_map form_of result ≡ three_words command.now a.now b.now }
-    ensures few { IfSome result (λ f. HasFewCalls f) }
+    ensures range { IfSome result (λ f. IsInRange f) }
 {
     if command.as_bytes() == b"play".as_slice() {
-        Some(Form::Play {
+        Some(Form::Job(Job::Play {
             policy: a,
             script: b,
-        })
+        }))
     } else if command.as_bytes() == b"stress".as_slice() {
         stress_form(a, b)
     } else {
@@ -79,14 +86,14 @@ fn three_words<'a>(command: &str, a: &'a str, b: &'a str) -> Option<Form<'a>>
 
 fn four_words<'a>(command: &str, a: &'a str, b: &'a str, c: &'a str) -> Option<Form<'a>>
     ensures meant { option_map form_of result ≡ four_words command.now a.now b.now c.now }
-    ensures few { IfSome result (λ f. HasFewCalls f) }
+    ensures range { IfSome result (λ f. IsInRange f) }
 {
     if command.as_bytes() == b"audit-check".as_slice() {
-        Some(Form::AuditCheck {
+        Some(Form::Job(Job::AuditCheck {
             policy: a,
             script: b,
             report: c,
-        })
+        }))
     } else {
         None
     }
@@ -94,7 +101,7 @@ fn four_words<'a>(command: &str, a: &'a str, b: &'a str, c: &'a str) -> Option<F
 
 fn five_words<'a>(command: &str, a: &'a str, b: &'a str, c: &str, d: &str) -> Option<Form<'a>>
     ensures meant { option_map form_of result ≡ five_words command.now a.now b.now c.now d.now }
-    ensures few { IfSome result (λ f. HasFewCalls f) }
+    ensures range { IfSome result (λ f. IsInRange f) }
 {
     if command.as_bytes() == b"run".as_slice() {
         run_form(a, b, c, d)
@@ -106,7 +113,7 @@ fn five_words<'a>(command: &str, a: &'a str, b: &'a str, c: &str, d: &str) -> Op
 /// The form of the words, if they have one.
 pub fn read_form(words: &[String]) -> Option<Form<'_>>
     ensures meant { option_map form_of result ≡ form (texts words.now) }
-    ensures few { IfSome result (λ f. HasFewCalls f) }
+    ensures range { IfSome result (λ f. IsInRange f) }
 {
     if let [command, a, b] = words {
         return three_words(command.as_str(), a.as_str(), b.as_str());

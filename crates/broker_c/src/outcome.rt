@@ -4,7 +4,7 @@ ghost use Rattle.std.specs.Prelude.{◌≡◌, ◌^◌, ◌<◌, ◌&&◌, lengt
 ghost use Rattle.std.specs.Option.{ForSome, option_map};
 ghost use Rattle.hist_model.specs.Words.{Stress};
 ghost use Rattle.broker_app.specs.Answers.{Said};
-ghost use Rattle.broker_app.specs.Forms.{HasFewCalls, form_of};
+ghost use Rattle.broker_app.specs.Forms.{HasFewCalls, job_of};
 ghost use Rattle.broker_app.specs.Lines.{line_of};
 ghost use Rattle.broker_c.specs.Held.{empty_sink};
 ghost use Rattle.broker_c.specs.Outcomes.{CheckGives, PlayGives, Says, StressGives, settled};
@@ -14,7 +14,7 @@ use crate::held::HeldBytes;
 use broker_app::broker::carry_out;
 use broker_app::players::LoneThread;
 use broker_app::status::Status;
-use broker_app::words::Form;
+use broker_app::words::Job;
 use io_edge::sink::Sink;
 use std::alloc::Global;
 
@@ -68,14 +68,14 @@ pub(crate) fn play(alloc: Global, policy: &[u8], script: &[u8], room: usize) -> 
     let mut files = GivenFiles::new(policy, script, &[]);
     let mut out = HeldBytes::new(alloc, room + 1);
     let mut err = HeldBytes::new(alloc, LINE_ROOM);
-    let form = Form::Play {
+    let job = Job::Play {
         policy: POLICY,
         script: SCRIPT,
     };
     let status = carry_out(
         &LoneThread,
         alloc,
-        Some(form),
+        Some(job),
         &mut files,
         &mut out,
         &mut err,
@@ -98,7 +98,7 @@ pub(crate) fn check(
     let mut files = GivenFiles::new(policy, script, report);
     let mut out = HeldBytes::new(alloc, room + 1);
     let mut err = HeldBytes::new(alloc, LINE_ROOM);
-    let form = Form::AuditCheck {
+    let job = Job::AuditCheck {
         policy: POLICY,
         script: SCRIPT,
         report: REPORT,
@@ -106,7 +106,7 @@ pub(crate) fn check(
     let status = carry_out(
         &LoneThread,
         alloc,
-        Some(form),
+        Some(job),
         &mut files,
         &mut out,
         &mut err,
@@ -126,7 +126,7 @@ pub(crate) fn stress(alloc: Global, from: u64, count: u32, room: usize) -> Outco
     let status = carry_out(
         &LoneThread,
         alloc,
-        stress_form(from, count),
+        stress_job(from, count),
         &mut files,
         &mut out,
         &mut err,
@@ -134,13 +134,13 @@ pub(crate) fn stress(alloc: Global, from: u64, count: u32, room: usize) -> Outco
     outcome_of(status, room, out, err)
 }
 
-/// The form that asks for generated input of so many calls, if it can have so many.
-fn stress_form<'a>(from: u64, count: u32) -> Option<Form<'a>>
-    ensures meant { option_map form_of result ≡ (if nat_le 1 count && nat_le count 4000 then Some (Stress from count) else None) }
+/// The job that asks for generated input of so many calls, if it can have so many.
+fn stress_job<'a>(from: u64, count: u32) -> Option<Job<'a>>
+    ensures meant { option_map job_of result ≡ (if nat_le 1 count && nat_le count 4000 then Some (Stress from count) else None) }
     ensures few { ForSome result HasFewCalls }
 {
     if (1..=4000).contains(&count) {
-        Some(Form::Stress { from, count })
+        Some(Job::Stress { from, count })
     } else {
         None
     }

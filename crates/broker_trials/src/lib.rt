@@ -9,3 +9,5 @@
 
 #[cfg(test)]
 mod runs;
+#[cfg(test)]
+mod threads;

@@ -7,6 +7,8 @@ use std::alloc::Global;
 use std::process::Abort;
 use std::sync::Wait;
 use std::test::Fail;
+use std::thread::Threads;
+use worker_gate::OpenGate;
 
 const POLICY: &str = "{\"config\":{\"security.syscalls.intercept.mknod\":\"true\"}}";
 
@@ -52,7 +54,7 @@ const SUMMARY: &str =
 const ROOM: usize = 8192;
 
 /// A file of this name with these bytes.
-fn file(alloc: Global, name: &str, bytes: &str) -> Result<(String, Vec<u8>), Fail> {
+pub(crate) fn file(alloc: Global, name: &str, bytes: &str) -> Result<(String, Vec<u8>), Fail> {
     Ok((
         String::from_str(alloc, name)?,
         bytes.as_bytes().to_vec(alloc)?,
@@ -92,7 +94,7 @@ struct Answer {
 }
 
 /// Runs the program.
-fn run<R: Wait>(rt: &R, alloc: Global, given: Given) -> Result<Answer, Fail> {
+fn run<R: Threads + Wait + Sync>(rt: &R, alloc: Global, given: Given) -> Result<Answer, Fail> {
     let listed = vec![in alloc;
         file(alloc, "p", given.policy)?,
         file(alloc, "s", given.script)?,
@@ -104,7 +106,15 @@ fn run<R: Wait>(rt: &R, alloc: Global, given: Given) -> Result<Answer, Fail> {
     for word in given.words {
         words.push(String::from_str(alloc, word)?)?;
     }
-    let status = broker(rt, alloc, words.as_slice(), &mut files, &mut out, &mut err);
+    let status = broker(
+        rt,
+        alloc,
+        words.as_slice(),
+        &mut files,
+        &mut out,
+        &mut err,
+        &OpenGate,
+    );
     Ok(Answer { status, out, err })
 }
 
@@ -118,7 +128,12 @@ struct Want<'a> {
 }
 
 /// Sees that the program answers what it is to answer.
-fn check<R: Abort + Wait>(rt: &R, alloc: Global, given: Given, want: Want<'_>) -> Result<(), Fail> {
+fn check<R: Abort + Threads + Wait + Sync>(
+    rt: &R,
+    alloc: Global,
+    given: Given,
+    want: Want<'_>,
+) -> Result<(), Fail> {
     let answer = run(rt, alloc, given)?;
     assert_eq!(rt; answer.status.code(), want.code);
     assert_eq!(rt; answer.status, want.status);
@@ -242,7 +257,7 @@ const REFUSALS: [([&'static str; 2], [&'static str; 2], u8, &'static str); 7] = 
 ];
 
 /// Sees that the status stays where each write to `err` in turn fails, and that `err` took a part of the line from its beginning.
-fn keeps_its_status<R: Abort + Wait>(
+fn keeps_its_status<R: Abort + Threads + Wait + Sync>(
     rt: &R,
     alloc: Global,
     refused: Given,

@@ -9,5 +9,5 @@ pub returns-in-Yes : goal.returns-in-Yes
 returns-in-Yes g c =
     let told : Tells c.args.policy.now c.args.script c.args.report.now (Yes c.in-Yes.history c.in-Yes.finished) =
     subst (λ (found : Found). Tells c.args.policy.now c.args.script c.args.report.now found) c.in-Yes.is c.in_ok-history.ensures in
-    found_ends c.args.policy.now c.args.script c.args.report.now c.in-Yes.history.events c.in-Yes.finished (g.O.Sink.state c.args.out.now) (g.O.Sink.state c.print_findings.new.out)
-    c.print_findings.result told.0 told.1 c.print_findings.ensures
+    found_ends c.args.policy.now c.args.script c.args.report.now c.in-Yes.history.events c.in-Yes.finished (g.O.Sink.state c.args.out.now) (g.O.Sink.state c.print_text.new.out)
+    c.print_text.result told.0 told.1 c.print_text.ensures

@@ -5,6 +5,3 @@ returns-in-ReadFault g c = rw (c.in-ReadFault.is, ← c.file_named.ensures) c.wr
 
 pub returns-in-WriteFault : goal.returns-in-WriteFault
 returns-in-WriteFault g c = rw c.in-WriteFault.is c.write-in-WriteFault.ensures
-
-pub returns-in-NotBuilt : goal.returns-in-NotBuilt
-returns-in-NotBuilt g c = rw c.in-NotBuilt.is c.write-in-NotBuilt.ensures

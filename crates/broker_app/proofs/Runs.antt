@@ -1,0 +1,81 @@
+-- How a run with threads ends.
+-- By the law that every legal history is mediated, since the close is a step behind one that goes on, and by cases on the status.
+use Rattle.std.proofs.Common.{◌≡◌, ℕ, ◌<◌, ◌^◌, List, [], ◌∷◌, length, Result, Ok, Err, Some, inl, inr, refl, sym, subst, arith}
+use Rattle.hist_model.specs.Legal.{rules_of, system_of}
+use Rattle.hist_model.specs.Look.{ev}
+use Rattle.hist_model.specs.Report.{report}
+use Rattle.hist_model.specs.ReportAudit.{judging_by}
+use Rattle.hist_model.specs.Steps.{IsLegal, step}
+use Rattle.hist_model.specs.declared.event.Actor.TheVariants.{Listener}
+use Rattle.hist_model.specs.declared.event.Event.{Event}
+use Rattle.hist_model.specs.declared.event.What.TheVariants.{Close}
+use Rattle.hist_model.specs.declared.history.Setup.{Setup}
+use Rattle.hist_model.specs.declared.policy.Policy.{Policy}
+use Rattle.hist_model.specs.declared.script.Script.{Script}
+use Rattle.io_edge.specs.FileState.{FileState}
+use Rattle.io_edge.specs.SinkState.{SinkState}
+use Rattle.mediation.proofs.Mediation.{mediated}
+use Rattle.mediation.specs.Scheduled.{IsUnclosed}
+use Rattle.worker_gate.specs.Hands.{IsServedWhole}
+use Rattle.broker_app.specs.Answers.{Printed, status_of}
+use Rattle.broker_app.specs.Inputs.{PolicyIs, ScriptIs}
+use Rattle.broker_app.specs.Refusals.{InputRefused}
+use Rattle.broker_app.specs.Runs.{AreRun, ClosesBehind, HasEnded, RunEnds}
+use Rattle.broker_app.specs.declared.status.Status.{Status}
+use Rattle.broker_app.specs.declared.status.Status.TheVariants.{Done, NoMemory, WriteFault}
+
+-- ---- The history
+
+-- the close is a step behind a legal history that isn't closed
+close_is_legal : (P : Policy) (S : Script) (K : List Event) → IsLegal (system_of S) (rules_of P S.figures) K → IsUnclosed K → IsLegal (system_of S) (rules_of P S.figures) (ev Listener Close ∷ K)
+unfolding step
+close_is_legal P S [] legal unclosed = absurd unclosed
+close_is_legal P S (f ∷ K) legal unclosed = ((unclosed, refl, refl, refl), legal)
+
+-- so the hands' history ends with it
+pub has_ended : (P : Policy) (S : Script) (made : Setup) (workers : ℕ) (seen K H : List Event) → made ≡ record { policy = P; script = S; limit = Some workers } → IsServedWhole made workers seen → K ≡ seen
+    → ClosesBehind K H → HasEnded P S workers H
+has_ended P S made workers seen K H m whole k c =
+    let served = subst (λ (setup : Setup). IsServedWhole setup workers K) m (subst (λ (L : List Event). IsServedWhole made workers L) (sym k) whole) in
+    subst (λ (L : List Event). HasEnded P S workers L) (sym c.closed) (ended served (subst (λ (L : List Event). length L < 2 ^ 64) c.closed c.room))
+  where
+    ended : IsServedWhole (record { policy = P; script = S; limit = Some workers }) workers K → length (ev Listener Close ∷ K) < 2 ^ 64 → HasEnded P S workers (ev Listener Close ∷ K)
+    ended whole room =
+        let legal = close_is_legal P S K whole.rules.legal.0 c.unclosed in
+        record {
+          legal = (legal, room, omega arith);
+          no_skip = (refl, whole.rules.no_skip);
+          within = (tt, whole.rules.within);
+          ends = (K, refl, whole.finished);
+          mediated = mediated P S (ev Listener Close ∷ K) legal room;
+        }
+
+-- ---- How it ended
+
+-- nothing was served, since the policy or the script wasn't taken
+pub run_stops : (files after : FileState) (sink : SinkState) (policy script : List ℕ) (workers : ℕ) (status : Status) → InputRefused files after policy script status
+    → RunEnds files after sink sink policy script workers status
+run_stops files after sink policy script workers NoMemory h = inl (λ t. refl)
+run_stops files after sink policy script workers Done h = absurd h
+run_stops files after sink policy script workers WriteFault h = absurd h
+run_stops files after sink policy script workers status h = (h, λ t. refl)
+
+-- or nothing was printed, for want of memory
+pub run_unserved : (files after : FileState) (sink : SinkState) (policy script : List ℕ) (workers : ℕ) → RunEnds files after sink sink policy script workers NoMemory
+run_unserved files after sink policy script workers = inl (λ t. refl)
+
+-- the report of the history was printed, or a part of it
+pub run_ends : (files after : FileState) (old new : SinkState) (policy script : List ℕ) (workers : ℕ) (Q P : Policy) (S : Script) (H : List Event) (r : Result (Unit {0}) Status) → Q ≡ P
+    → PolicyIs files policy (Ok P) → ScriptIs files script (Ok S) → HasEnded P S workers H → Printed (report (judging_by Q.rules) H) old new r
+    → RunEnds files after old new policy script workers (status_of r)
+run_ends files after old new policy script workers Q P S H r q policy_is script_is ended printed =
+    by r (subst (λ (X : Policy). Printed (report (judging_by X.rules) H) old new r) q printed)
+  where
+    are : AreRun files policy script workers P S H
+    are = record { policy_is = policy_is; script_is = script_is; ended = ended }
+
+    by : (r : Result (Unit {0}) Status) → Printed (report (judging_by P.rules) H) old new r → RunEnds files after old new policy script workers (status_of r)
+    by (Ok u) p = ((P, S, H, are, p.0), p.1)
+    by (Err WriteFault) p = (p.0, (P, S, H, are, p.1))
+    by (Err NoMemory) p = inr (P, S, H, are, p)
+    by (Err status) p = absurd p

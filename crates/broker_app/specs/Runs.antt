@@ -1,0 +1,67 @@
+-- What the answer of a run with threads means: which history is printed, and why it stopped.
+use Rattle.std.specs.Prelude.{◌≡◌, ℕ, ◌<◌, ◌^◌, ◌++◌, ◌∷◌, ◌⊎◌, true, List, length, Ok}
+use Rattle.hist_model.specs.Legal.{Finished, Legal, NoSkip, NoWorkerAbove}
+use Rattle.hist_model.specs.Look.{ev}
+use Rattle.hist_model.specs.Mediated.{Mediated}
+use Rattle.hist_model.specs.Report.{report}
+use Rattle.hist_model.specs.ReportAudit.{judging_by}
+use Rattle.hist_model.specs.declared.event.Actor.TheVariants.{Listener}
+use Rattle.hist_model.specs.declared.event.Event.{Event}
+use Rattle.hist_model.specs.declared.event.What.TheVariants.{Close}
+use Rattle.hist_model.specs.declared.policy.Policy.{Policy}
+use Rattle.hist_model.specs.declared.script.Script.{Script}
+use Rattle.io_edge.specs.Faults.{Rose}
+use Rattle.io_edge.specs.FileState.{FileState}
+use Rattle.io_edge.specs.SinkState.{SinkState, AddsPrefix}
+use Rattle.mediation.specs.Scheduled.{IsUnclosed}
+use Rattle.broker_app.specs.Inputs.{PolicyIs, ScriptIs}
+use Rattle.broker_app.specs.Refusals.{InputRefused, Stands, TookNothing}
+use Rattle.broker_app.specs.declared.status.Status.{Status}
+use Rattle.broker_app.specs.declared.status.Status.TheVariants.{Done, WriteFault, NoMemory}
+
+-- ---- The history
+
+-- a history that isn't closed, and the same with the close of the listener
+pub record ClosesBehind (K H : List Event) : Type 0 where
+  pub unclosed : IsUnclosed K
+  pub closed : H ≡ ev Listener Close ∷ K
+  pub room : length H < 2 ^ 64
+
+-- the history is a finished one, behind which the listener is closed
+abbrev pub ClosesFinished : List Event → Type 0
+ClosesFinished H = (K : List Event) × (H ≡ ev Listener Close ∷ K) × Finished K
+
+-- the container was served to its end: by a legal history, in which every turn is a step, and no worker above this one steps
+pub record HasEnded (P : Policy) (S : Script) (workers : ℕ) (H : List Event) : Type 0 where
+  pub legal : Legal P S H
+  pub no_skip : NoSkip H
+  pub within : NoWorkerAbove workers H
+  pub ends : ClosesFinished H
+  pub mediated : Mediated P S H
+
+-- ---- What was printed
+
+-- these are the policy and the script of the named files, and so ended the history of their container
+pub record AreRun (files : FileState) (policy script : List ℕ) (workers : ℕ) (P : Policy) (S : Script) (H : List Event) : Type 0 where
+  pub policy_is : PolicyIs files policy (Ok P)
+  pub script_is : ScriptIs files script (Ok S)
+  pub ended : HasEnded P S workers H
+
+-- the sink took a prefix of the report of one such history
+abbrev pub TookRunPrefix : FileState → List ℕ → List ℕ → ℕ → SinkState → SinkState → Type 0
+TookRunPrefix files policy script workers old new =
+    (P : Policy) × (S : Script) × (H : List Event) × AreRun files policy script workers P S H × (old.tells ≡ true → AddsPrefix old.taken (report (judging_by P.rules) H) new.taken)
+
+-- the sink took the whole report of one
+abbrev pub TookRun : FileState → List ℕ → List ℕ → ℕ → SinkState → SinkState → Type 0
+TookRun files policy script workers old new =
+    (P : Policy) × (S : Script) × (H : List Event) × AreRun files policy script workers P S H × (old.tells ≡ true → new.taken ≡ old.taken ++ report (judging_by P.rules) H)
+
+-- ---- How it ended
+
+-- how the run of a policy's and a script's files ended, with workers up to this number
+abbrev pub RunEnds : FileState → FileState → SinkState → SinkState → List ℕ → List ℕ → ℕ → Status → Type 0
+RunEnds files after old new policy script workers Done = TookRun files policy script workers old new × Stands new
+RunEnds files after old new policy script workers WriteFault = Rose old.faults new.faults × TookRunPrefix files policy script workers old new
+RunEnds files after old new policy script workers NoMemory = TookNothing old new ⊎ TookRunPrefix files policy script workers old new
+RunEnds files after old new policy script workers status = InputRefused files after policy script status × TookNothing old new

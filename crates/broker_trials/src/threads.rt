@@ -1,0 +1,123 @@
+//! The top call with threads, under a gate that holds one notification until another one was answered.
+
+use crate::runs::file;
+use broker_app::broker::broker;
+use broker_app::status::Status;
+use io_edge::memory::{MemFiles, MemSink};
+use std::alloc::Global;
+use std::process::Abort;
+use std::sync::Wait;
+use std::sync::atomic::{AtomicU64, Ordering};
+use std::test::Fail;
+use std::thread::Threads;
+use worker_gate::{Gate, OpenGate, Point};
+
+const POLICY: &str = "{\"config\":{\"security.syscalls.intercept.mknod\":\"true\"}}";
+
+/// Two tasks, each of which makes a node.
+const TWO_TASKS: &str =
+    "notify mknod\nprog a\npoke 0x10000 \"/a\\0\"\ncall mknod 0x10000 0o020666 259\nend\nprog b\npoke 0x10000 \"/b\\0\"\ncall mknod 0x10000 0o020666 259\nend\nprog main\nspawn a\nspawn b\nwait\nwait\nend\n";
+
+/// The summary of each history of theirs, worked out by hand: a start, two spawns, two waits and an end of the first task; of each
+/// other one a store, a call, nine steps of its worker, a return and an end; and the close.
+const SUMMARY: &[u8] =
+    b"\nsummary events=33 calls=2 notified=2 answered=2 granted=2 denied=0 passed=0 injected=0 faults=0 gone=0 lost=0\n";
+
+/// How often the gate looks whether the other call was answered, before it gives up.
+const LOOKS: u64 = 4_000_000_000;
+
+/// Holds the worker of the call that was received first where the second check found it valid, until the other call was answered.
+#[derive(Drop)]
+struct HoldFirst {
+    /// The id of the call that was received first, or 0.
+    first: AtomicU64,
+    /// The id of the other call, once it was answered, or 0.
+    answered: AtomicU64,
+    /// How often it held a worker to no end.
+    gave_up: AtomicU64,
+}
+
+impl HoldFirst {
+    fn new() -> HoldFirst {
+        HoldFirst {
+            first: AtomicU64::new(0),
+            answered: AtomicU64::new(0),
+            gave_up: AtomicU64::new(0),
+        }
+    }
+
+    /// Waits until the other call was answered.
+    fn hold(&self) {
+        for _ in 0..LOOKS {
+            if self.answered.load(Ordering::SeqCst) != 0 {
+                return;
+            }
+        }
+        self.gave_up.fetch_add(1, Ordering::SeqCst);
+    }
+}
+
+impl Gate for HoldFirst {
+    fn at(&self, point: Point, _worker: u8, id: u64) {
+        match point {
+            Point::Fetched => {
+                let _ = self
+                    .first
+                    .compare_exchange(0, id, Ordering::SeqCst, Ordering::SeqCst);
+            }
+            Point::Checked => {
+                if self.first.load(Ordering::SeqCst) == id {
+                    self.hold();
+                }
+            }
+            Point::Sent => {
+                if self.first.load(Ordering::SeqCst) != id {
+                    self.answered.store(id, Ordering::SeqCst);
+                }
+            }
+        }
+    }
+}
+
+/// Runs the two tasks with so many workers and hands for tasks, and sees that the report ends with their summary.
+fn run_two<R: Abort + Threads + Wait + Sync, G: Gate + Sync>(
+    rt: &R,
+    alloc: Global,
+    workers: &str,
+    cpus: &str,
+    gate: &G,
+) -> Result<(), Fail> {
+    let listed = vec![in alloc; file(alloc, "p", POLICY)?, file(alloc, "s", TWO_TASKS)?]?;
+    let mut files = MemFiles::new(listed, Vec::new(alloc));
+    let mut out = MemSink::new(alloc, 16384, Vec::new(alloc))?;
+    let mut err = MemSink::new(alloc, 128, Vec::new(alloc))?;
+    let mut words = Vec::new(alloc);
+    for word in ["run", "p", "s", workers, cpus] {
+        words.push(String::from_str(alloc, word)?)?;
+    }
+    let status = broker(
+        rt,
+        alloc,
+        words.as_slice(),
+        &mut files,
+        &mut out,
+        &mut err,
+        gate,
+    );
+    assert_eq!(rt; status, Status::Done);
+    assert!(rt; out.taken().ends_with(SUMMARY));
+    Ok(())
+}
+
+#[test]
+fn serves_one_call_while_another_is_held(rt: HostRuntime) -> Result<(), Fail> {
+    let gate = HoldFirst::new();
+    run_two(&rt, rt.alloc(), "2", "1", &gate)?;
+    assert_eq!(rt; gate.gave_up.load(Ordering::SeqCst), 0);
+    Ok(())
+}
+
+#[test]
+fn serves_all_by_the_calling_hand(rt: HostRuntime) -> Result<(), Fail> {
+    run_two(&rt, rt.alloc(), "0", "0", &OpenGate)
+}
