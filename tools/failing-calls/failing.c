@@ -4,7 +4,8 @@
  *   FAIL_ALLOC=N   the N-th call of malloc or realloc finds no memory
  *   FAIL_IO=N      the N-th call of open, read or write fails with EIO
  *   SHORT_IO=N     the N-th read or write of several bytes moves one
- *   COUNTS=FILE    at the end, how many calls of each kind there were is written to this file: three numbers
+ *   FAIL_THREAD=N  the N-th call of pthread_create fails with EAGAIN
+ *   COUNTS=FILE    at the end, how many calls of each kind there were is written to this file: four numbers
  *
  * Calls are counted from 1 and by all threads together, from when the loader hands over to the program.
  */
@@ -12,18 +13,20 @@
 #include <dlfcn.h>
 #include <errno.h>
 #include <fcntl.h>
+#include <pthread.h>
 #include <stdarg.h>
 #include <stdbool.h>
 #include <stddef.h>
 #include <stdio.h>
 #include <stdlib.h>
+#include <sys/syscall.h>
 #include <unistd.h>
 
 void *__libc_malloc(size_t size);
 void *__libc_realloc(void *block, size_t size);
 
-static unsigned long allocations, calls, several;
-static unsigned long failing_allocation, failing_call, short_call;
+static unsigned long allocations, calls, several, threads;
+static unsigned long failing_allocation, failing_call, short_call, failing_thread;
 static bool counts;
 
 static unsigned long number_named(const char *name) {
@@ -35,6 +38,7 @@ __attribute__((constructor)) static void begin(void) {
   failing_allocation = number_named("FAIL_ALLOC");
   failing_call = number_named("FAIL_IO");
   short_call = number_named("SHORT_IO");
+  failing_thread = number_named("FAIL_THREAD");
   counts = true;
 }
 
@@ -96,12 +100,26 @@ ssize_t write(int file, const void *bytes, size_t size) {
   return fails() ? -1 : next(file, bytes, moved(size));
 }
 
+int pthread_create(pthread_t *thread, const pthread_attr_t *attributes, void *(*start)(void *), void *argument) {
+  static int (*next)(pthread_t *, const pthread_attr_t *, void *(*)(void *), void *);
+  if (next == NULL)
+    next = (int (*)(pthread_t *, const pthread_attr_t *, void *(*)(void *), void *))dlsym(RTLD_NEXT, "pthread_create");
+  return is_next(&threads, failing_thread) ? EAGAIN : next(thread, attributes, start, argument);
+}
+
 __attribute__((destructor)) static void tell(void) {
   const char *name = getenv("COUNTS");
   counts = false;
   FILE *file = name == NULL ? NULL : fopen(name, "w");
   if (file != NULL) {
-    fprintf(file, "%lu %lu %lu\n", allocations, calls, several);
+    fprintf(file, "%lu %lu %lu %lu\n", allocations, calls, several, threads);
     fclose(file);
   }
+}
+
+/* A program that may start threads ends by this call, which runs no destructor. */
+void _exit(int status) {
+  tell();
+  syscall(SYS_exit_group, status);
+  __builtin_unreachable();
 }
