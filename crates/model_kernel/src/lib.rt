@@ -12,6 +12,7 @@ mod deeds;
 mod kernel;
 pub mod laws;
 mod listening;
+mod reads;
 mod ready;
 mod start;
 mod steps;
