@@ -7,12 +7,11 @@ ghost use Rattle.worker_gate.specs.Hands.{Ends, IsServedWhole};
 ghost use Rattle.worker_gate.specs.Keeping.{MayServe};
 
 use crate::gate::Gate;
-use crate::runnable::Moves;
 use crate::served::Served;
 use crate::serving::{Came, Role, Turned};
-use crate::wait_queues::{Awaits, WaitQueues};
+use crate::wait_queues::{Sleepers, WaitQueues, Work};
 use std::alloc::Global;
-use std::sync::Wait;
+use std::sync::{MutexGuard, Wait};
 use std::thread::{Threads, for_each_mut};
 use sys_abi::memory::NoMemory;
 use turn_lock::{Pass, Turn, TurnLock};
@@ -55,30 +54,12 @@ impl Turn<Served> for Look {
     }
 }
 
-/// A hand: its pass, and its turn.
+/// A hand: its pass, its turn, and the work that others count on it to look for.
 #[derive(Drop)]
 pub(crate) struct Hand {
     pub(crate) pass: Pass,
     pub(crate) turn: HandTurn,
-}
-
-/// A turn of a hand, behind the door. It wakes whom the turn lets go on; or it sleeps, where it has nothing to do.
-fn take_turn<W: Wait>(rt: &W, lock: &TurnLock<Served>, queues: &WaitQueues, hand: &mut Hand)
-    requires own { IsPassOf lock.now hand.old.pass }
-    requires may { MayServe lock.now.setup.limit hand.old.turn.role.worker }
-    ensures own { IsPassOf lock.now hand.new.pass }
-    ensures role { hand.new.turn.role ≡ hand.old.turn.role }
-{
-    let mut door = queues.enter(rt);
-    lock.turn(rt, &mut hand.pass, &mut hand.turn);
-    let turned = hand.turn.turned;
-    match turned.came {
-        Came::Over => queues.wake_all(&mut door),
-        Came::Waits(awaits) => queues.sleep(rt, door, awaits),
-        Came::Stepped | Came::Reached(..) => {
-            queues.wake(&mut door, turned.moves, turned.has_task);
-        }
-    }
+    seeks: Work,
 }
 
 /// Calls the gate, where a hand's worker came to a point.
@@ -86,6 +67,62 @@ fn call<G: Gate>(gate: &G, turn: &HandTurn) {
     if let (Some(worker), Came::Reached(point, id)) = (turn.role.worker, turn.turned.came) {
         gate.at(point, worker, id);
     }
+}
+
+/// What a hand does after its turn, behind the door: it wakes whom the turn lets go on, sleeps where it has nothing to do, and
+/// calls the gate where its worker came to a point. It tells what the hand seeks from then on.
+fn after_turn<W: Wait, G: Gate>(
+    rt: &W,
+    queues: &WaitQueues,
+    gate: &G,
+    mut door: MutexGuard<'_, Sleepers>,
+    turn: &HandTurn,
+) -> Work {
+    let turned = turn.turned;
+    if turned.settled {
+        queues.wake_takers(&mut door);
+    }
+    match turned.came {
+        Came::Over => {
+            queues.wake_all(&mut door);
+            Work::NONE
+        }
+        Came::Waits(awaits) => {
+            queues.wake_for(&mut door, turned.left);
+            queues.sleep(rt, door, awaits)
+        }
+        Came::Stepped => {
+            queues.seek(turned.seeks);
+            queues.wake_for(&mut door, turned.left);
+            turned.seeks
+        }
+        Came::Reached(..) => {
+            queues.wake_for(&mut door, turned.left);
+            drop(door);
+            call(gate, turn);
+            queues.seek(turned.seeks);
+            turned.seeks
+        }
+    }
+}
+
+/// A turn of a hand, behind the door, and what it does after it.
+fn take_turn<W: Wait, G: Gate>(
+    rt: &W,
+    lock: &TurnLock<Served>,
+    queues: &WaitQueues,
+    gate: &G,
+    hand: &mut Hand,
+)
+    requires own { IsPassOf lock.now hand.old.pass }
+    requires may { MayServe lock.now.setup.limit hand.old.turn.role.worker }
+    ensures own { IsPassOf lock.now hand.new.pass }
+    ensures role { hand.new.turn.role ≡ hand.old.turn.role }
+{
+    let door = queues.enter(rt);
+    lock.turn(rt, &mut hand.pass, &mut hand.turn);
+    queues.found(hand.seeks);
+    hand.seeks = after_turn(rt, queues, gate, door, &hand.turn);
 }
 
 /// Takes turns until nothing is left to do, or a hand found no memory.
@@ -101,11 +138,10 @@ fn work<W: Wait, G: Gate>(
     ensures own { IsPassOf lock.now hand.new.pass }
 {
     for _ in rt.forever() {
-        take_turn(rt, lock, queues, hand);
+        take_turn(rt, lock, queues, gate, hand);
         if let Came::Over = hand.turn.turned.came {
             return;
         }
-        call(gate, &hand.turn);
     }
     unreachable!()
 }
@@ -126,7 +162,11 @@ fn new_hand(alloc: Global, lock: &TurnLock<Served>, pass: &mut Pass, role: Role)
         good_checks: 0,
         turned: Turned::OVER,
     };
-    Hand { pass, turn }
+    Hand {
+        pass,
+        turn,
+        seeks: Work::NONE,
+    }
 }
 
 /// What the hand at a place may do: the first, which is the calling one, serves as the last worker and steps tasks; the next
@@ -190,6 +230,7 @@ fn gather(lock: &TurnLock<Served>, pass: &mut Pass, mut hands: Vec<Hand>)
         let Hand {
             pass: other,
             turn: _,
+            seeks: _,
         } = hand;
         lock.join(pass, other);
     }

@@ -4,30 +4,15 @@
 //! sent to it, or a child of its ended. This is a hint, read off the history's new events: what a try does the kernel alone
 //! decides.
 
+use crate::wait_queues::Work;
 use hist_model::event::{Actor, Delivered, Entered, Event, What};
 use model_kernel::Kernel;
 use std::alloc::Global;
 use std::collections::{HashMap, VecDeque};
 use sys_abi::memory::NoMemory;
 
-/// What new events may let others do than tasks.
-#[derive(Clone, Copy, PartialEq, Eq, Debug)]
-pub(crate) struct Moves {
-    /// A call can be received.
-    pub(crate) called: bool,
-    /// A request for a descriptor may have come to something.
-    pub(crate) settled: bool,
-}
-
-impl Moves {
-    /// Nothing.
-    pub(crate) const NONE: Moves = Moves {
-        called: false,
-        settled: false,
-    };
-}
-
-/// The tasks that are worth a try, in the order in which they are tried, and what is known of tasks to find others.
+/// The tasks that are worth a try, in the order in which they are tried, what is known of tasks to find others, and whether a
+/// worker is worth a try.
 #[derive(Drop)]
 pub(crate) struct Runnable {
     /// How many of the history's events were read.
@@ -39,6 +24,8 @@ pub(crate) struct Runnable {
     callers: HashMap<u64, u32>,
     /// The tasks that got a process number last, by that number.
     holders: HashMap<u32, u32>,
+    /// How many calls were listed, and not received, since a worker last found none to receive: no fewer than there are.
+    calls: u64,
 }
 
 /// The ordinal of the task that took a step, if one did.
@@ -69,12 +56,21 @@ impl Runnable {
             is_queued: Vec::new(alloc),
             callers: HashMap::new(alloc),
             holders: HashMap::new(alloc),
+            calls: 0,
         }
     }
 
-    /// How many tasks are worth a try.
-    pub(crate) fn count(&self) -> usize {
-        self.queue.len()
+    /// The work that is worth a try.
+    pub(crate) fn left(&self) -> Work {
+        Work {
+            calls: self.calls != 0,
+            tasks: !self.queue.is_empty(),
+        }
+    }
+
+    /// A worker found no call to receive.
+    pub(crate) fn note_no_call(&mut self) {
+        self.calls = 0;
     }
 
     /// Puts a task into the queue, unless it is there.
@@ -117,6 +113,7 @@ impl Runnable {
 
     /// A task entered a call that is listed.
     fn note_call(&mut self, kernel: &Kernel, who: &Actor, id: u64) -> Result<(), NoMemory> {
+        self.calls = self.calls.saturating_add(1);
         if let Some(task) = task_of(kernel, who) {
             self.callers.insert(id, task)?;
         }
@@ -171,6 +168,10 @@ impl Runnable {
     /// Reads a worker's event.
     fn read_worker(&mut self, event: &Event) -> Result<(), NoMemory> {
         match &event.what {
+            What::Recv { answer: Ok(_) } => {
+                self.calls = self.calls.saturating_sub(1);
+                Ok(())
+            }
             What::Send {
                 id,
                 answer: Ok(()),
@@ -199,36 +200,24 @@ impl Runnable {
         }
     }
 
-    /// Reads the history's new events, and tells what they let others do than tasks.
-    pub(crate) fn catch_up(&mut self, kernel: &Kernel) -> Result<Moves, NoMemory> {
-        let mut moves = Moves::NONE;
+    /// Reads the history's new events, and tells whether a worker's request may have come to something by them.
+    pub(crate) fn catch_up(&mut self, kernel: &Kernel) -> Result<bool, NoMemory> {
+        let mut settled = false;
         for place in self.events..kernel.history().len() {
             if let Some(event) = kernel.history().get(place) {
                 self.read(kernel, event)?;
-                moves = moves.with(&event.what);
+                settled |= settles(&event.what);
             }
             self.events = place + 1;
         }
-        Ok(moves)
+        Ok(settled)
     }
 }
 
-impl Moves {
-    /// With what a further event lets others do.
-    fn with(self, what: &What) -> Moves {
-        match what {
-            What::Enter {
-                verdict: Entered::Notify { .. },
-                ..
-            } => Moves {
-                called: true,
-                ..self
-            },
-            What::Install { .. } | What::Resume { .. } | What::Deliver { .. } => Moves {
-                settled: true,
-                ..self
-            },
-            _ => self,
-        }
+/// Whether a worker's request may have come to something by an event.
+fn settles(what: &What) -> bool {
+    match what {
+        What::Install { .. } | What::Resume { .. } | What::Deliver { .. } => true,
+        _ => false,
     }
 }

@@ -6,9 +6,8 @@ ghost use Rattle.model_kernel.specs.Kernels.{past};
 ghost use Rattle.worker_gate.specs.Keeping.{Continues, IsKept, MayServe};
 
 use crate::gate::Point;
-use crate::runnable::Moves;
 use crate::served::Serving;
-use crate::wait_queues::Awaits;
+use crate::wait_queues::{Awaits, Work};
 use hist_model::event::What;
 use std::alloc::Global;
 use sys_abi::memory::NoMemory;
@@ -33,21 +32,25 @@ pub(crate) enum Came {
     Reached(Point, u64),
 }
 
-/// What a hand's turn tells: what came of it, and whom it lets go on.
+/// What a hand's turn tells: what came of it, and what there is to do after it.
 #[derive(Clone, Copy, Debug)]
 pub(crate) struct Turned {
     pub(crate) came: Came,
-    pub(crate) moves: Moves,
-    /// A task is worth a try that the hand itself won't try next.
-    pub(crate) has_task: bool,
+    /// Whether a request for a descriptor may have come to something.
+    pub(crate) settled: bool,
+    /// The work that is left.
+    pub(crate) left: Work,
+    /// The work that the hand looks for in turns to come.
+    pub(crate) seeks: Work,
 }
 
 impl Turned {
     /// Nothing is left to do.
     pub(crate) const OVER: Turned = Turned {
         came: Came::Over,
-        moves: Moves::NONE,
-        has_task: false,
+        settled: false,
+        left: Work::NONE,
+        seeks: Work::NONE,
     };
 }
 
@@ -119,15 +122,6 @@ impl Serving {
         Ok(Came::Stepped)
     }
 
-    /// What a worker waits for that can't step.
-    fn awaited(&self, number: u8) -> Awaits {
-        if self.machine.kernel.has_request(number) {
-            Awaits::Request
-        } else {
-            Awaits::Call
-        }
-    }
-
     /// What a worker came to by the newest event.
     fn came(&self, good_checks: &mut u8) -> Came {
         let history = self.machine.kernel.history();
@@ -143,10 +137,15 @@ impl Serving {
         ensures goes_on { Continues self.new.policy self.new.limit self.old.machine self.new.machine }
         ensures setup { (self.new.policy ≡ self.old.policy) × (self.new.limit ≡ self.old.limit) }
     {
-        if role.steps_tasks {
-            self.try_next(alloc, Awaits::Anything)
-        } else {
-            Ok(Came::Waits(self.awaited(number)))
+        let has_request = self.machine.kernel.has_request(number);
+        if !has_request {
+            self.runnable.note_no_call();
+        }
+        match (role.steps_tasks, has_request) {
+            (true, true) => self.try_next(alloc, Awaits::RequestOrTask),
+            (true, false) => self.try_next(alloc, Awaits::CallOrTask),
+            (false, true) => Ok(Came::Waits(Awaits::Request)),
+            (false, false) => Ok(Came::Waits(Awaits::Call)),
         }
     }
 
@@ -188,16 +187,18 @@ impl Serving {
         }
     }
 
-    /// Whether a task is worth a try that a hand won't try next itself.
-    fn has_task_beside(&self, role: Role, came: Came) -> bool {
-        match came {
-            Came::Stepped if role.steps_tasks => self.runnable.count() > 1,
-            Came::Stepped | Came::Reached(..) => self.runnable.count() > 0,
-            Came::Waits(_) | Came::Over => false,
+    /// The work that a hand looks for in turns to come: while its worker's request has come to nothing, it receives no call.
+    fn seeks(&self, role: Role) -> Work {
+        Work {
+            calls: match role.worker {
+                Some(number) => !self.machine.kernel.has_request(number),
+                None => false,
+            },
+            tasks: role.steps_tasks,
         }
     }
 
-    /// A hand's step, and whom it lets go on.
+    /// A hand's step, and what there is to do after it.
     fn try_serve(
         &mut self,
         alloc: Global,
@@ -212,12 +213,12 @@ impl Serving {
         // The script's start makes the first task, before any hand's turn.
         let _ = self.runnable.catch_up(&self.machine.kernel)?;
         let came = self.take_step(alloc, role, good_checks)?;
-        let moves = self.runnable.catch_up(&self.machine.kernel)?;
-        let has_task = self.has_task_beside(role, came);
+        let settled = self.runnable.catch_up(&self.machine.kernel)?;
         Ok(Turned {
             came,
-            moves,
-            has_task,
+            settled,
+            left: self.runnable.left(),
+            seeks: self.seeks(role),
         })
     }
 

@@ -1,9 +1,12 @@
 //! Where hands wait that have nothing to do.
 //!
-//! A hand takes its turn of the lock behind a door, and looks there whom its turn lets go on. One that found nothing to do
-//! leaves the door to the others while it sleeps, so that nothing happens between its look and its sleep.
+//! A hand takes its turn of the lock behind a door, and sees there which work is left. One that found nothing to do leaves the
+//! door to the others while it sleeps, so that nothing happens between its look and its sleep.
+//!
+//! A hand is woken only for work that no hand seeks that is awake: turns come one after another, so a second hand would but
+//! find that the first was faster. Hands at the gate seek nothing, since they may be held there.
 
-use crate::runnable::Moves;
+use std::sync::atomic::{AtomicU32, Ordering};
 use std::sync::{Condvar, Mutex, MutexGuard, Wait};
 
 /// What a hand waits for.
@@ -15,8 +18,85 @@ pub(crate) enum Awaits {
     Request,
     /// A task that may step.
     Task,
-    /// Any of these.
-    Anything,
+    /// A call, or a task.
+    CallOrTask,
+    /// What comes of its worker's request, or a task.
+    RequestOrTask,
+}
+
+/// Which kinds of work there are, or which a hand seeks.
+#[derive(Clone, Copy, PartialEq, Eq, Debug)]
+pub(crate) struct Work {
+    /// Calls to receive.
+    pub(crate) calls: bool,
+    /// Tasks that may step.
+    pub(crate) tasks: bool,
+}
+
+impl Work {
+    /// None.
+    pub(crate) const NONE: Work = Work {
+        calls: false,
+        tasks: false,
+    };
+}
+
+impl Awaits {
+    /// The work that a hand seeks once it is woken.
+    fn sought(self) -> Work {
+        match self {
+            Awaits::Call => Work {
+                calls: true,
+                tasks: false,
+            },
+            Awaits::Request => Work::NONE,
+            Awaits::Task | Awaits::RequestOrTask => Work {
+                calls: false,
+                tasks: true,
+            },
+            Awaits::CallOrTask => Work {
+                calls: true,
+                tasks: true,
+            },
+        }
+    }
+}
+
+/// How many hands seek work of a kind: each looks for it in a turn to come, before it sleeps or calls the gate.
+#[derive(Drop)]
+struct Seekers {
+    calls: AtomicU32,
+    tasks: AtomicU32,
+}
+
+impl Seekers {
+    /// A hand begins to seek.
+    fn add(&self, sought: Work) {
+        if sought.calls {
+            let _ = self.calls.fetch_add(1, Ordering::SeqCst);
+        }
+        if sought.tasks {
+            let _ = self.tasks.fetch_add(1, Ordering::SeqCst);
+        }
+    }
+
+    /// A hand seeks no longer what it sought.
+    fn remove(&self, sought: Work) {
+        if sought.calls {
+            let _ = self.calls.fetch_sub(1, Ordering::SeqCst);
+        }
+        if sought.tasks {
+            let _ = self.tasks.fetch_sub(1, Ordering::SeqCst);
+        }
+    }
+
+    /// The kinds of this work that nobody seeks.
+    fn unsought(&self, work: Work) -> Work {
+        Work {
+            calls: work.calls && self.calls.load(Ordering::SeqCst) == 0,
+            tasks: work.tasks && self.tasks.load(Ordering::SeqCst) == 0,
+        }
+    }
 }
 
 /// The hands that wait for one thing.
@@ -33,45 +113,27 @@ impl Waiting {
         asleep: 0,
         woken: 0,
     };
-
-    /// Wakes one that sleeps, if one does.
-    fn wake_one(&mut self, bell: &Condvar) -> bool {
-        if self.asleep == 0 {
-            return false;
-        }
-        self.asleep -= 1;
-        self.woken = self.woken.saturating_add(1);
-        bell.notify_one();
-        true
-    }
-
-    /// Wakes all that sleep.
-    fn wake_all(&mut self, bell: &Condvar) {
-        if self.asleep != 0 {
-            self.woken = self.woken.saturating_add(self.asleep);
-            self.asleep = 0;
-            bell.notify_all();
-        }
-    }
 }
 
 /// Who waits for what.
 #[derive(Clone, Copy, Debug)]
 pub(crate) struct Sleepers {
-    receivers: Waiting,
-    takers: Waiting,
-    task_hands: Waiting,
-    caller: Waiting,
+    call: Waiting,
+    request: Waiting,
+    task: Waiting,
+    call_or_task: Waiting,
+    request_or_task: Waiting,
 }
 
 impl Sleepers {
     /// Those that wait for this.
     fn waiting(&mut self, awaits: Awaits) -> &mut Waiting {
         match awaits {
-            Awaits::Call => &mut self.receivers,
-            Awaits::Request => &mut self.takers,
-            Awaits::Task => &mut self.task_hands,
-            Awaits::Anything => &mut self.caller,
+            Awaits::Call => &mut self.call,
+            Awaits::Request => &mut self.request,
+            Awaits::Task => &mut self.task,
+            Awaits::CallOrTask => &mut self.call_or_task,
+            Awaits::RequestOrTask => &mut self.request_or_task,
         }
     }
 }
@@ -80,10 +142,12 @@ impl Sleepers {
 #[derive(Drop)]
 pub(crate) struct WaitQueues {
     door: Mutex<Sleepers>,
-    receivers: Condvar,
-    takers: Condvar,
-    task_hands: Condvar,
-    caller: Condvar,
+    seekers: Seekers,
+    call: Condvar,
+    request: Condvar,
+    task: Condvar,
+    call_or_task: Condvar,
+    request_or_task: Condvar,
 }
 
 impl WaitQueues {
@@ -91,15 +155,21 @@ impl WaitQueues {
     pub(crate) fn new() -> WaitQueues {
         WaitQueues {
             door: Mutex::new(Sleepers {
-                receivers: Waiting::NONE,
-                takers: Waiting::NONE,
-                task_hands: Waiting::NONE,
-                caller: Waiting::NONE,
+                call: Waiting::NONE,
+                request: Waiting::NONE,
+                task: Waiting::NONE,
+                call_or_task: Waiting::NONE,
+                request_or_task: Waiting::NONE,
             }),
-            receivers: Condvar::new(),
-            takers: Condvar::new(),
-            task_hands: Condvar::new(),
-            caller: Condvar::new(),
+            seekers: Seekers {
+                calls: AtomicU32::new(0),
+                tasks: AtomicU32::new(0),
+            },
+            call: Condvar::new(),
+            request: Condvar::new(),
+            task: Condvar::new(),
+            call_or_task: Condvar::new(),
+            request_or_task: Condvar::new(),
         }
     }
 
@@ -108,23 +178,34 @@ impl WaitQueues {
         self.door.lock(rt)
     }
 
+    /// A hand begins to seek this work.
+    pub(crate) fn seek(&self, sought: Work) {
+        self.seekers.add(sought);
+    }
+
+    /// A hand seeks no longer what it sought.
+    pub(crate) fn found(&self, sought: Work) {
+        self.seekers.remove(sought);
+    }
+
     /// Where those sleep that wait for this.
     fn bell(&self, awaits: Awaits) -> &Condvar {
         match awaits {
-            Awaits::Call => &self.receivers,
-            Awaits::Request => &self.takers,
-            Awaits::Task => &self.task_hands,
-            Awaits::Anything => &self.caller,
+            Awaits::Call => &self.call,
+            Awaits::Request => &self.request,
+            Awaits::Task => &self.task,
+            Awaits::CallOrTask => &self.call_or_task,
+            Awaits::RequestOrTask => &self.request_or_task,
         }
     }
 
-    /// Leaves the door, and sleeps until it is woken.
+    /// Leaves the door, and sleeps until it is woken. It tells what the hand then seeks.
     pub(crate) fn sleep<R: Wait>(
         &self,
         rt: &R,
         mut door: MutexGuard<'_, Sleepers>,
         awaits: Awaits,
-    ) {
+    ) -> Work {
         let waiting = door.waiting(awaits);
         waiting.asleep = waiting.asleep.saturating_add(1);
         let mut door = self
@@ -132,34 +213,53 @@ impl WaitQueues {
             .wait_while(rt, door, |sleepers| sleepers.waiting(awaits).woken == 0);
         let waiting = door.waiting(awaits);
         waiting.woken = waiting.woken.saturating_sub(1);
+        awaits.sought()
     }
 
-    /// Wakes one that can do this, or else the calling hand, which does all.
-    fn wake_one(&self, sleepers: &mut Sleepers, awaits: Awaits) {
-        if !sleepers.waiting(awaits).wake_one(self.bell(awaits)) {
-            let _ = sleepers.caller.wake_one(&self.caller);
+    /// Wakes one that waits for this, if one does. From now on it seeks what it waited for.
+    fn wake_one(&self, sleepers: &mut Sleepers, awaits: Awaits) -> bool {
+        let waiting = sleepers.waiting(awaits);
+        if waiting.asleep == 0 {
+            return false;
+        }
+        waiting.asleep -= 1;
+        waiting.woken = waiting.woken.saturating_add(1);
+        self.seekers.add(awaits.sought());
+        self.bell(awaits).notify_one();
+        true
+    }
+
+    /// Wakes all that wait for this.
+    fn wake_each(&self, sleepers: &mut Sleepers, awaits: Awaits) {
+        for _ in 0..sleepers.waiting(awaits).asleep {
+            let _ = self.wake_one(sleepers, awaits);
         }
     }
 
-    /// Wakes who can go on after a turn with these moves, where a task is worth a try that the turn's own hand won't take next.
-    pub(crate) fn wake(&self, sleepers: &mut Sleepers, moves: Moves, has_task: bool) {
-        if moves.called {
-            self.wake_one(sleepers, Awaits::Call);
+    /// Wakes one for each kind of the work that is left and that nobody seeks who is awake.
+    pub(crate) fn wake_for(&self, sleepers: &mut Sleepers, left: Work) {
+        if self.seekers.unsought(left).calls && !self.wake_one(sleepers, Awaits::Call) {
+            let _ = self.wake_one(sleepers, Awaits::CallOrTask);
         }
-        if has_task {
-            self.wake_one(sleepers, Awaits::Task);
+        if self.seekers.unsought(left).tasks
+            && !self.wake_one(sleepers, Awaits::Task)
+            && !self.wake_one(sleepers, Awaits::CallOrTask)
+        {
+            let _ = self.wake_one(sleepers, Awaits::RequestOrTask);
         }
-        if moves.settled {
-            sleepers.takers.wake_all(&self.takers);
-            sleepers.caller.wake_all(&self.caller);
-        }
+    }
+
+    /// Wakes all whose worker's request may have come to something.
+    pub(crate) fn wake_takers(&self, sleepers: &mut Sleepers) {
+        self.wake_each(sleepers, Awaits::Request);
+        self.wake_each(sleepers, Awaits::RequestOrTask);
     }
 
     /// Wakes all, since nothing is left to do.
     pub(crate) fn wake_all(&self, sleepers: &mut Sleepers) {
-        sleepers.receivers.wake_all(&self.receivers);
-        sleepers.takers.wake_all(&self.takers);
-        sleepers.task_hands.wake_all(&self.task_hands);
-        sleepers.caller.wake_all(&self.caller);
+        self.wake_takers(sleepers);
+        self.wake_each(sleepers, Awaits::Call);
+        self.wake_each(sleepers, Awaits::Task);
+        self.wake_each(sleepers, Awaits::CallOrTask);
     }
 }
