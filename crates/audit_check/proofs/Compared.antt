@@ -10,7 +10,6 @@ use Rattle.std.proofs.lemmas.List.{length-take, length-take-le, take-append-drop
 use Rattle.std.proofs.Math.Seq.{take-add}
 use Rattle.io_edge.specs.SinkState.{AddsPrefix, SinkState, Writes}
 use Rattle.audit_log.specs.Written.{Wrote}
-use Rattle.audit_log.proofs.Writing.{wrote_front}
 use Rattle.audit_log.specs.declared.error.ReportError.{ReportError}
 use Rattle.audit_log.specs.declared.error.ReportError.TheVariants.{WriteFault}
 use Rattle.audit_check.specs.Pass.{Compares, ends, faults_of, parted, told, written}
@@ -116,11 +115,6 @@ module _ (text : List ℕ) (same : ℕ) (within : same ≤ length text) where
   pub compares_part : (other : Option ℕ) (T : List ℕ) (n : ℕ) → ForSome other (λ b. slice_get text same ≡ Some b → ⊥) → 0 < faults_of other → written text same other ≡ take n T → Compares T text (parted text same other)
   compares_part None T n d f q = absurd (omega arith)
   compares_part (Some b) T n d f q = compares-other b T (drop n T) (d b refl) (sym (take-append-drop n T) ∙ ap (λ front. front ++ drop n T) (sym q))
-
--- ---- Writers that stopped, or went on
-
-pub stopped : (old new : SinkState) (a b : List ℕ) (e : ReportError) (r : Result (Unit {0}) ReportError) → r ≡ Err e → Wrote old a (Err e) new → Wrote old (a ++ b) r new
-stopped old new a b e r is w = rw is (wrote_front old new a b e w)
 
 -- ---- The sink
 

@@ -2,9 +2,7 @@
 use Rattle.std.specs.Prelude.{◌≡◌, ℕ, zero, suc, ◌+◌, ◌-◌, ◌<◌, ◌≤◌, ◌^◌, Bool, true, false, ◌&&◌, ◌||◌, not, if◌then◌else◌, ◌==◌, List, [], ◌∷◌, ◌++◌, length, take, drop, Option, Some, None, bytes_eq, codes}
 use Rattle.hist_model.specs.Kinds.{closes}
 use Rattle.hist_model.specs.Legal.{started, with_step}
-use Rattle.hist_model.specs.Report.{summary}
-use Rattle.hist_model.specs.ReportAudit.{audit, judging_by}
-use Rattle.hist_model.specs.ReportCalls.{calls}
+use Rattle.hist_model.specs.ReportAudit.{judging_by}
 use Rattle.hist_model.specs.ReportJournal.{event_line, title}
 use Rattle.hist_model.specs.Steps.{is_start}
 use Rattle.hist_model.specs.Words.{number_between}
@@ -12,6 +10,7 @@ use Rattle.hist_model.specs.declared.event.Actor.{Actor}
 use Rattle.hist_model.specs.declared.event.Event.{Event}
 use Rattle.hist_model.specs.declared.policy.Policy.{Policy}
 use Rattle.hist_model.specs.declared.script.Script.{Script}
+use Rattle.audit_log.specs.Rest.{rest}
 use Rattle.audit_check.specs.Actors.{actor_in}
 use Rattle.audit_check.specs.Lines.{lines}
 use Rattle.audit_check.specs.Reported.{BeginsReport, IsFaultLine, IsReported}
@@ -33,7 +32,7 @@ is_fault _ = false
 
 -- what a report has behind its journal
 abbrev pub rest_of : Policy → List Event → List ℕ
-rest_of P H = calls H ++ audit (judging_by P.rules) H ++ summary (judging_by P.rules) H
+rest_of P H = rest (judging_by P.rules) H
 
 -- behind these events, when so many more are to come
 abbrev pub behind : Policy → List Event → ℕ → Reached

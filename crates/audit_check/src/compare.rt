@@ -1,18 +1,13 @@
 //! What a report has behind its journal, compared with a text as it is written.
 
-ghost use Rattle.std.specs.Prelude.{◌≡◌, ◌≢◌, ◌<◌, ◌≤◌, ◌++◌, ◌↔◌, true, false, IfOk, IfSome, IsTrue, None, Some, length, slice_get, take};
+ghost use Rattle.std.specs.Prelude.{◌≡◌, ◌≢◌, ◌<◌, ◌≤◌, ◌↔◌, true, false, IfOk, IfSome, IsTrue, None, Some, length, slice_get, take};
 ghost use Rattle.std.specs.Option.{ForSome};
-ghost use Rattle.hist_model.specs.ReportAudit.{audit, judging_by};
-ghost use Rattle.hist_model.specs.ReportCalls.{calls};
 ghost use Rattle.io_edge.specs.SinkState.{Writes};
-ghost use Rattle.audit_log.specs.Written.{Wrote};
 ghost use Rattle.audit_check.specs.Pass.{Compares, ends, faults_of, parted, told};
 ghost use Rattle.audit_check.specs.Reading.{rest_of};
 
-use audit_log::audit::write_audit;
-use audit_log::calls::write_calls;
 use audit_log::error::ReportError;
-use audit_log::summary::write_summary;
+use audit_log::report::write_rest;
 use hist_model::history::History;
 use hist_model::policy::Policy;
 use io_edge::fault::Failed;
@@ -100,32 +95,6 @@ impl Sink for Compare<'_> {
     fn flush(&mut self) -> Result<(), Failed> {
         Ok(())
     }
-}
-
-/// Writes the calls and the audit.
-fn write_listed<O: Sink>(
-    alloc: Global,
-    policy: &Policy,
-    history: &History,
-    out: &mut O,
-) -> Result<(), ReportError>
-    ensures { Wrote (O.state out.old) (calls history.now.events ++ audit (judging_by policy.now.rules) history.now.events) result (O.state out.new) }
-{
-    write_calls(alloc, history, out)?;
-    write_audit(alloc, policy, history, out)
-}
-
-/// Writes what the report of a history has behind its journal.
-fn write_rest<O: Sink>(
-    alloc: Global,
-    policy: &Policy,
-    history: &History,
-    out: &mut O,
-) -> Result<(), ReportError>
-    ensures { Wrote (O.state out.old) (rest_of policy.now history.now.events) result (O.state out.new) }
-{
-    write_listed(alloc, policy, history, out)?;
-    write_summary(alloc, policy, history, out)
 }
 
 /// Whether a text is what the report of a history has behind its journal, or how many lines end in what they have in common.

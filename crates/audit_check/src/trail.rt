@@ -9,11 +9,10 @@ ghost use Rattle.audit_check.specs.Trail.{trail};
 ghost use Rattle.audit_check.specs.Traced.{TellsAnswers, TellsSessions, noted, row_at};
 
 use crate::trace::{push_trace, trace_of};
-use audit_log::answer::installed_answers;
+use audit_log::call_table::CallTable;
 use audit_log::error::ReportError;
 use audit_log::line::Line;
 use audit_log::part::{Part, write_lines};
-use audit_log::received::received_calls;
 use hist_model::event::{Entered, Event, What};
 use hist_model::history::History;
 use hist_model::policy::Policy;
@@ -37,15 +36,9 @@ pub fn write_trail<O: Sink>(
 {
     let events = history.events();
     let sessions = sessions(alloc, policy, events)?;
-    let received = received_calls(alloc, events)?;
-    let served = served_calls(
-        alloc,
-        events.len(),
-        received.as_slice(),
-        sessions.as_slice(),
-    )?;
-    let answered = installed_answers(alloc, events)?;
-    let installed = answered_calls(alloc, events.len(), answered.as_slice())?;
+    let calls = CallTable::of(alloc, events)?;
+    let served = served_calls(alloc, events.len(), calls.received(), sessions.as_slice())?;
+    let installed = answered_calls(alloc, events.len(), calls.answered())?;
     let part = Trail {
         policy,
         sessions: sessions.as_slice(),

@@ -22,24 +22,25 @@ use Rattle.session_facts.specs.declared.session.Session.{Session}
 use Rattle.session_facts.proofs.Found.{finding_told}
 use Rattle.session_table.specs.Sessions.{begun, begun_by}
 use Rattle.audit_log.specs.Audited.{audited, session_line}
-use Rattle.audit_log.specs.Numbers.{TellsNumbers, number_in}
+use Rattle.audit_log.specs.CallTable.{TellsCalls, TellsNumbers, number_in}
 use Rattle.audit_log.specs.Written.{Wrote}
 use Rattle.audit_log.specs.declared.error.ReportError.{ReportError}
-use Rattle.audit_log.specs.declared.numbers.Numbers.{Numbers}
+use Rattle.audit_log.specs.declared.call_table.CallTable.{CallTable}
+use Rattle.audit_log.proofs.ReceivedCalls.{numbers_told}
 use Rattle.audit_log.proofs.Writing.{wrote_more, wrote_front}
 
 audited-told : (J : Judging) (s : Begun) (number : Option ℕ) → audited number (told J s) ≡ audit_by J s.notif s.steps number
 audited-told J s number = rw (finding_told J s) refl
 
 -- of one event
-audits-by : (J : Judging) (n : Numbers) (H K : List Event) (who : Actor) (a : What) → ((notif : Notif) → a ≡ Recv (Ok notif) → number_in n (length K) ≡ installed_at H K (call_with_id notif.id K))
+audits-by : (J : Judging) (n : CallTable) (H K : List Event) (who : Actor) (a : What) → ((notif : Notif) → a ≡ Recv (Ok notif) → number_in n (length K) ≡ installed_at H K (call_with_id notif.id K))
     → map (λ (x : Session). audited (number_in n x.place) x) (map (told J) (begun_by H K who a)) ≡ audits_by J H K who a
 audits-by J n H K (Worker w) (Recv (Ok notif)) q =
     let s : Begun = record { place = length K; worker = w; notif = notif; steps = session_at w (length K) H; stages = stages_at w (length K) H } in
     ap (λ (x : Audit). x ∷ []) (audited-told J s (number_in n (length K)) ∙ ap (audit_by J notif (session_at w (length K) H)) (q notif refl))
 audits-by J n H K _ _ q = refl
 
-lines-by : (J : Judging) (n : Numbers) (H K : List Event) (who : Actor) (a : What) → ((notif : Notif) → a ≡ Recv (Ok notif) → number_in n (length K) ≡ installed_at H K (call_with_id notif.id K))
+lines-by : (J : Judging) (n : CallTable) (H K : List Event) (who : Actor) (a : What) → ((notif : Notif) → a ≡ Recv (Ok notif) → number_in n (length K) ≡ installed_at H K (call_with_id notif.id K))
     → flat_map (session_line J n) (map (told J) (begun_by H K who a)) ≡ audit_line_by J H K who a
 lines-by J n H K (Worker w) (Recv (Ok notif)) q =
     let s : Begun = record { place = length K; worker = w; notif = notif; steps = session_at w (length K) H; stages = stages_at w (length K) H } in
@@ -47,7 +48,7 @@ lines-by J n H K (Worker w) (Recv (Ok notif)) q =
     ∙ ap (audit_line_of J (length K) w notif) (audited-told J s (number_in n (length K)) ∙ ap (audit_by J notif (session_at w (length K) H)) (q notif refl))
 lines-by J n H K _ _ q = refl
 
-audits-from : (J : Judging) (n : Numbers) (H later K : List Event) → TellsNumbers H n → H ≡ later ++ K
+audits-from : (J : Judging) (n : CallTable) (H later K : List Event) → TellsNumbers H n → H ≡ later ++ K
     → map (λ (x : Session). audited (number_in n x.place) x) (map (told J) (begun H K)) ≡ audits J H K
 unfolding audits begun
 audits-from J n H later [] t h = refl
@@ -59,7 +60,7 @@ audits-from J n H later (e ∷ K) t h =
     ∙ ap (λ xs. xs ++ map f (map (told J) (begun_by H K e.who e.what))) (audits-from J n H (later ++ e ∷ []) K t q)
     ∙ ap (λ xs. audits J H K ++ xs) (audits-by J n H K e.who e.what (λ notif. t later K e notif h))
 
-lines-from : (J : Judging) (n : Numbers) (H later K : List Event) → TellsNumbers H n → H ≡ later ++ K
+lines-from : (J : Judging) (n : CallTable) (H later K : List Event) → TellsNumbers H n → H ≡ later ++ K
     → flat_map (session_line J n) (map (told J) (begun H K)) ≡ lines_of (audit_line J H) K
 unfolding lines_of begun
 lines-from J n H later [] t h = refl
@@ -71,18 +72,18 @@ lines-from J n H later (e ∷ K) t h =
     ∙ ap (λ xs. xs ++ flat_map f (map (told J) (begun_by H K e.who e.what))) (lines-from J n H (later ++ e ∷ []) K t q)
     ∙ ap (λ xs. lines_of (audit_line J H) K ++ xs) (lines-by J n H K e.who e.what (λ notif. t later K e notif h))
 
-pub audits_told : (J : Judging) (n : Numbers) (H : List Event) (rows : List Session) → TellsNumbers H n → rows ≡ map (told J) (begun H H)
+pub audits_told : (J : Judging) (n : CallTable) (H : List Event) (rows : List Session) → TellsCalls H n → rows ≡ map (told J) (begun H H)
     → map (λ (x : Session). audited (number_in n x.place) x) rows ≡ audits J H H
-audits_told J n H rows t r = ap (map (λ (x : Session). audited (number_in n x.place) x)) r ∙ audits-from J n H [] H t refl
+audits_told J n H rows t r = ap (map (λ (x : Session). audited (number_in n x.place) x)) r ∙ audits-from J n H [] H (numbers_told n H t) refl
 
-audit_told : (J : Judging) (n : Numbers) (H : List Event) (rows : List Session) → TellsNumbers H n → rows ≡ map (told J) (begun H H)
+audit_told : (J : Judging) (n : CallTable) (H : List Event) (rows : List Session) → TellsNumbers H n → rows ≡ map (told J) (begun H H)
     → flat_map (session_line J n) rows ≡ lines_of (audit_line J H) H
 audit_told J n H rows t r = ap (flat_map (session_line J n)) r ∙ lines-from J n H [] H t refl
 
 -- the title and the lines are the audit
-pub audit_whole : (J : Judging) (n : Numbers) (H events : List Event) (count : ℕ) (slice rows : List Session) → H ≡ reverse events → count ≡ count_by begins (reverse events) → slice ≡ rows
-    → TellsNumbers (reverse events) n → rows ≡ map (told J) (begun (reverse events) (reverse events)) → title (codes "audit") count ++ flat_map (session_line J n) slice ≡ audit J H
-audit_whole J n H events count slice rows h c s t r = rw (h, c, s) (ap (λ text. title (codes "audit") (count_by begins (reverse events)) ++ text) (audit_told J n (reverse events) rows t r))
+pub audit_whole : (J : Judging) (n : CallTable) (H events : List Event) (count : ℕ) (slice rows : List Session) → H ≡ reverse events → count ≡ count_by begins (reverse events) → slice ≡ rows
+    → TellsCalls H n → rows ≡ map (told J) (begun H H) → title (codes "audit") count ++ flat_map (session_line J n) slice ≡ audit J H
+audit_whole J n H events count slice rows h c s t r = rw (c, ← h, s) (ap (λ text. title (codes "audit") (count_by begins H) ++ text) (audit_told J n H rows (numbers_told n H t) r))
 
 -- ---- Writing
 

@@ -8,8 +8,8 @@ use Rattle.hist_model.specs.Calls.{actor_in, caller}
 use Rattle.hist_model.specs.ReportAudit.{call_with_id, installed, installed_at, is_notified}
 use Rattle.hist_model.specs.declared.event.Event.{Event}
 use Rattle.hist_model.proofs.Look.{event_at-here, event_at-older}
-use Rattle.audit_log.specs.Numbers.{TellsNumbers}
-use Rattle.audit_log.specs.declared.numbers.Numbers.{Numbers}
+use Rattle.audit_log.specs.CallTable.{TellsCalls, TellsNumbers}
+use Rattle.audit_log.specs.declared.call_table.CallTable.{CallTable}
 use Rattle.audit_log.specs.Received.{Names, TellsReceived, place_in, received_by}
 use Rattle.audit_log.specs.Records.{Tells, no_record, number_at}
 use Rattle.audit_log.specs.declared.received.Ids.{Ids}
@@ -74,8 +74,8 @@ number_told H records t later K x h = by (call_with_id x K) refl
         let who : task_name f.who ≡ caller K c = sym (ap actor_in v) in
         subst (λ y. (get_or records y no_record).number ≡ installed (caller K c) y H) n (subst (λ y. (get_or records (length M) no_record).number ≡ installed y (length M) H) who told)
 
-pub numbers_told : (n : Numbers) (H : List Event) → Tells H n.records.items → TellsReceived H n.calls.items → TellsNumbers H n
-numbers_told n H t r later K e notif h q =
-    let named : get_or n.calls.items (length K) None ≡ call_with_id notif.id K = r later K e h ∙ ap (received_by (λ x. call_with_id x K)) q in
+pub numbers_told : (n : CallTable) (H : List Event) → TellsCalls H n → TellsNumbers H n
+numbers_told n H t later K e notif h q =
+    let named : get_or n.received.items (length K) None ≡ call_with_id notif.id K = t.received later K e h ∙ ap (received_by (λ x. call_with_id x K)) q in
     let whole : H ≡ (later ++ e ∷ []) ++ K = h ∙ sym (append_assoc later (e ∷ []) K) in
-    ap (number_at n.records.items) named ∙ number_told H n.records.items t (later ++ e ∷ []) K notif.id whole
+    ap (number_at n.records.items) named ∙ number_told H n.records.items t.records (later ++ e ∷ []) K notif.id whole

@@ -99,3 +99,7 @@ lines_stop f xs i e x old mid new l is before now =
     let (r, q) = lines_rest f xs (i + 1) in
     let whole = wrote_front old new (lines_of f (reverse (take i xs)) ++ f (reverse (take i xs)) e) r x one in
     rw (q, lines_more f xs i e l, ← is) whole
+
+-- a part that failed ends what it is a part of
+pub wrote_stopped : (old new : SinkState) (a b : List ℕ) (e : ReportError) (r : Result (Unit {0}) ReportError) → r ≡ Err e → Wrote old a (Err e) new → Wrote old (a ++ b) r new
+wrote_stopped old new a b e r is w = rw is (wrote_front old new a b e w)

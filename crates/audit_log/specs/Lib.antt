@@ -1,9 +1,10 @@
 pub mod Audited
 pub mod ByPlace
+pub mod CallTable
 pub mod Laws
-pub mod Numbers
 pub mod Received
 pub mod Records
 pub mod Requests
+pub mod Rest
 pub mod Tasks
 pub mod Written

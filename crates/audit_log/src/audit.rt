@@ -9,77 +9,69 @@ ghost use Rattle.hist_model.specs.ReportAudit.{answer_of, answer_text, arrival_o
 ghost use Rattle.audit_log.specs.Audited.{audited, session_line};
 ghost use Rattle.audit_log.specs.Written.{Wrote};
 
+use crate::call_table::CallTable;
 use crate::count::begun;
 use crate::error::ReportError;
 use crate::line::Line;
-use crate::numbers::Numbers;
 use crate::part::{write_line, write_title};
+use crate::report::Report;
 use crate::words::{push_back, push_call};
 use hist_model::event::Back;
-use hist_model::history::History;
 use hist_model::policy::Policy;
 use hist_model::report::{Arrival, Finding};
 use io_edge::sink::Sink;
 use policy_eval::rule_name;
 use session_facts::facts::Facts;
 use session_facts::session::Session;
-use session_table::sessions;
 use std::alloc::Global;
 use sys_abi::memory::NoMemory;
 use sys_abi::wire::Notif;
 
-/// Writes the audit of a history: `audit N` and a line for each of the N sessions, from the oldest on, with the rule that decided, what was answered, and whether that reached the call.
-///
-/// `WriteFault` comes only where the sink's count of faults rose. After an error the sink took a prefix of the audit.
-pub fn write_audit<O: Sink>(
-    alloc: Global,
-    policy: &Policy,
-    history: &History,
-    out: &mut O,
-) -> Result<(), ReportError>
-    ensures { Wrote (O.state out.old) (audit (judging_by policy.now.rules) history.now.events) result (O.state out.new) }
-{
-    let events = history.events();
-    let numbers = Numbers::of(alloc, events)?;
-    let found = sessions(alloc, policy, events)?;
-    let mut line = Line::new(alloc);
-    write_titled(
-        policy,
-        &numbers,
-        found.as_slice(),
-        begun(events),
-        &mut line,
-        out,
-    )
+impl Report<'_> {
+    /// Writes the audit.
+    pub(crate) fn write_audit<O: Sink>(&self, alloc: Global, out: &mut O) -> Result<(), ReportError>
+        ensures { Wrote (O.state out.old) (audit (judging_by self.now.policy.now.rules) self.now.history.now.events) result (O.state out.new) }
+    {
+        let events = self.history.events();
+        let mut line = Line::new(alloc);
+        write_titled(
+            self.policy,
+            &self.calls,
+            self.sessions.as_slice(),
+            begun(events),
+            &mut line,
+            out,
+        )
+    }
 }
 
 /// Writes the title, with the number of sessions, and their lines.
 fn write_titled<O: Sink>(
     policy: &Policy,
-    numbers: &Numbers,
+    calls: &CallTable,
     sessions: &[Session],
     count: usize,
     line: &mut Line,
     out: &mut O,
 ) -> Result<(), ReportError>
-    ensures { Wrote (O.state out.old) (title (codes "audit") count ++ flat_map (session_line (judging_by policy.now.rules) numbers.now) sessions.now) result (O.state out.new) }
+    ensures { Wrote (O.state out.old) (title (codes "audit") count ++ flat_map (session_line (judging_by policy.now.rules) calls.now) sessions.now) result (O.state out.new) }
 {
     write_title(line, "audit", count, out)?;
-    write_sessions(policy, numbers, sessions, line, out)
+    write_sessions(policy, calls, sessions, line, out)
 }
 
 /// Writes the lines of the sessions, from the oldest on.
 fn write_sessions<O: Sink>(
     policy: &Policy,
-    numbers: &Numbers,
+    calls: &CallTable,
     sessions: &[Session],
     line: &mut Line,
     out: &mut O,
 ) -> Result<(), ReportError>
-    ensures { Wrote (O.state out.old) (flat_map (session_line (judging_by policy.now.rules) numbers.now) sessions.now) result (O.state out.new) }
+    ensures { Wrote (O.state out.old) (flat_map (session_line (judging_by policy.now.rules) calls.now) sessions.now) result (O.state out.new) }
 {
     for row in 0..sessions.len() {
-        write_session(policy, numbers, &sessions[row], line, out)?;
+        write_session(policy, calls, &sessions[row], line, out)?;
     }
     Ok(())
 }
@@ -87,15 +79,15 @@ fn write_sessions<O: Sink>(
 /// Writes the line of a session.
 fn write_session<O: Sink>(
     policy: &Policy,
-    numbers: &Numbers,
+    calls: &CallTable,
     session: &Session,
     line: &mut Line,
     out: &mut O,
 ) -> Result<(), ReportError>
-    ensures { Wrote (O.state out.old) (session_line (judging_by policy.now.rules) numbers.now session.now) result (O.state out.new) }
+    ensures { Wrote (O.state out.old) (session_line (judging_by policy.now.rules) calls.now session.now) result (O.state out.new) }
 {
     line.clear();
-    push_session(line, policy, session, numbers.received_at(session.place))?;
+    push_session(line, policy, session, calls.number_received(session.place))?;
     write_line(line, out)
 }
 

@@ -8,32 +8,27 @@ use crate::count::entered;
 use crate::error::ReportError;
 use crate::line::Line;
 use crate::part::{Part, write_part};
-use crate::records::{CallRecord, record_at, records};
+use crate::records::{CallRecord, record_at};
+use crate::report::Report;
 use crate::words::{push_actor, push_call, push_errno};
 use hist_model::event::{Actor, Event, What};
-use hist_model::history::History;
 use hist_model::report::Outcome;
 use io_edge::sink::Sink;
 use std::alloc::Global;
 use sys_abi::memory::NoMemory;
 
-/// Writes the calls of a history: `calls N` and a line for each of the N calls that a task entered, from the oldest on, with what came of it.
-///
-/// `WriteFault` comes only where the sink's count of faults rose. After an error the sink took a prefix of the calls.
-#[tactic(auto, using(crate::proofs::Recorded::lines_same))]
-pub fn write_calls<O: Sink>(
-    alloc: Global,
-    history: &History,
-    out: &mut O,
-) -> Result<(), ReportError>
-    ensures { Wrote (O.state out.old) (calls history.now.events) result (O.state out.new) }
-{
-    let events = history.events();
-    let records = records(alloc, events)?;
-    let part = Calls {
-        records: records.as_slice(),
-    };
-    write_part(alloc, &part, "calls", entered(events), events, out)
+impl Report<'_> {
+    /// Writes the calls.
+    #[tactic(auto, using(crate::proofs::Recorded::lines_same))]
+    pub(crate) fn write_calls<O: Sink>(&self, alloc: Global, out: &mut O) -> Result<(), ReportError>
+        ensures { Wrote (O.state out.old) (calls self.now.history.now.events) result (O.state out.new) }
+    {
+        let events = self.history.events();
+        let part = Calls {
+            records: self.calls.records.as_slice(),
+        };
+        write_part(alloc, &part, "calls", entered(events), events, out)
+    }
 }
 
 /// The calls as a part of the report.

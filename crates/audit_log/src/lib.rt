@@ -1,30 +1,33 @@
 //! The report of a history: its journal, its calls, the audit of its sessions, and a summary.
 //!
 //! The writers' model is the text that `hist_model` defines for any list of events. Each writes its part to a sink, line by
-//! line, one write for each; after any error the sink took a prefix of that part.
+//! line, one write for each; after any error the sink took a prefix of that part. What the calls, the audit and the summary
+//! have in common is found once (`report`): of the calls in one pass over the events (`call_table`), and of the sessions in
+//! another.
 //!
 //! Below stand what came of the sessions (`session_table`), the rules' names (`policy_eval`), the plain types and the
 //! definitions (`hist_model`) and the sinks (`io_edge`). Above stands the program, which writes the report of what it played, and
 //! the checker of reports (`audit_check`), which writes and traces by the same lines and passes.
 #![tactic(auto)]
 
-pub mod answer;
+mod answer;
 pub mod audit;
-pub mod calls;
+pub mod call_table;
+mod calls;
 mod count;
 pub mod error;
 mod event;
 pub mod journal;
 pub mod laws;
 pub mod line;
-mod numbers;
 mod outcome;
 pub mod part;
-pub mod received;
+mod received;
 mod records;
+pub mod report;
 mod request;
 mod requests;
 mod step;
-pub mod summary;
+mod summary;
 mod tasks;
 mod words;

@@ -1,10 +1,10 @@
-//! The call of each notification that is received, in one pass over the events.
+//! The call of each notification that is received.
 
-ghost use Rattle.std.specs.Prelude.{◌≡◌, ℕ, IfOk, OnOk, None, Some, if◌then◌else◌, reverse};
+ghost use Rattle.std.specs.Prelude.{◌≡◌, ℕ, OnOk, None, Some, if◌then◌else◌};
 ghost use Rattle.hist_model.specs.ReportAudit.{is_notified};
-ghost use Rattle.audit_log.specs.Received.{TellsReceived, place_in, received_by};
+ghost use Rattle.audit_log.specs.Received.{place_in, received_by};
 
-use hist_model::event::{Entered, Event, What};
+use hist_model::event::{Entered, What};
 use std::alloc::Global;
 use std::collections::BTreeMap;
 use sys_abi::memory::NoMemory;
@@ -47,7 +47,7 @@ impl Ids {
     }
 
     /// The call of the notification that a step receives.
-    fn received(&self, what: &What) -> Option<usize>
+    pub(crate) fn received(&self, what: &What) -> Option<usize>
         ensures { result ≡ received_by (place_in self.now) what.now }
     {
         match what {
@@ -55,19 +55,4 @@ impl Ids {
             _ => None,
         }
     }
-}
-
-/// Of each event, by its place, the call of the notification that it receives: the newest with its id.
-#[tactic(auto, using(crate::proofs::ReceivedCalls::none_received, crate::proofs::ReceivedCalls::none_named))]
-pub fn received_calls(alloc: Global, events: &[Event]) -> Result<Vec<Option<usize>>, NoMemory>
-    ensures { IfOk result (λ found. TellsReceived (reverse events.now) found.items) }
-{
-    let mut ids = Ids::new(alloc);
-    let mut calls = Vec::new(alloc);
-    for place in 0..events.len() {
-        let what = &events[place].what;
-        calls.push(ids.received(what))?;
-        ids.note(place, what)?;
-    }
-    Ok(calls)
 }

@@ -1,8 +1,8 @@
-//! What came of each call, in one pass over the events.
+//! What came of each call.
 
-ghost use Rattle.std.specs.Prelude.{◌≡◌, IfOk, OnOk, get_or, reverse};
+ghost use Rattle.std.specs.Prelude.{◌≡◌, OnOk, get_or};
 ghost use Rattle.hist_model.specs.declared.report.Outcome.{Outcome};
-ghost use Rattle.audit_log.specs.Records.{Tells, advanced, no_record, record_after, recorded};
+ghost use Rattle.audit_log.specs.Records.{advanced, no_record, record_after, recorded};
 ghost use Rattle.audit_log.specs.Tasks.{facts_in};
 
 use crate::outcome::{is_pending, outcome_at_entry, outcome_next};
@@ -10,7 +10,6 @@ use crate::step::number_given;
 use crate::tasks::Tasks;
 use hist_model::event::{Event, What};
 use hist_model::report::Outcome;
-use std::alloc::Global;
 use sys_abi::memory::NoMemory;
 
 /// What is kept of an event, as if it entered a call.
@@ -84,19 +83,4 @@ pub(crate) fn record(
         number: None,
     })?;
     Ok(())
-}
-
-/// Of each event, by its place.
-#[tactic(auto, using(crate::proofs::Recorded::none_told, crate::proofs::Recorded::known_none))]
-pub(crate) fn records(alloc: Global, events: &[Event]) -> Result<Vec<CallRecord>, NoMemory>
-    ensures { IfOk result (λ found. Tells (reverse events.now) found.items) }
-{
-    let mut tasks = Tasks::new(alloc);
-    let mut records = Vec::new(alloc);
-    for place in 0..events.len() {
-        let event = &events[place];
-        record(&mut records, &tasks, event)?;
-        tasks.note(place, event)?;
-    }
-    Ok(records)
 }

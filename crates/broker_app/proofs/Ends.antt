@@ -11,7 +11,7 @@ use Rattle.hist_model.specs.declared.script.Script.{Script}
 use Rattle.io_edge.proofs.Laws.{then_rose}
 use Rattle.io_edge.specs.FileState.{FileState}
 use Rattle.io_edge.specs.SinkState.{SinkState, Flushes}
-use Rattle.audit_log.proofs.Writing.{adds_nothing, wrote_front}
+use Rattle.audit_log.proofs.Writing.{adds_nothing}
 use Rattle.audit_log.specs.Written.{Wrote}
 use Rattle.audit_log.specs.declared.error.ReportError.{ReportError}
 use Rattle.audit_log.specs.declared.error.ReportError.TheVariants.{WriteFault, NoMemory}
@@ -24,10 +24,6 @@ use Rattle.broker_app.specs.declared.printing.Printout.{Printout}
 use Rattle.broker_app.specs.declared.printing.Printout.TheVariants.{Summary}
 use Rattle.broker_app.specs.declared.status.Status.{Status}
 use Rattle.broker_app.specs.declared.status.Status.TheVariants.{Done, NoMemory as OutOfMemory, WriteFault as CannotWrite}
-
--- a part that failed ends what it is a part of
-pub wrote_stopped : (old new : SinkState) (a b : List ℕ) (e : ReportError) (r : Result (Unit {0}) ReportError) → r ≡ Err e → Wrote old a (Err e) new → Wrote old (a ++ b) r new
-wrote_stopped old new a b e r is w = rw is (wrote_front old new a b e w)
 
 same_printout : (printout : Printout) (Q P : Policy) (K L : List Event) → Q ≡ P → K ≡ L → text_of printout (judging_by Q.rules) K ≡ text_of printout (judging_by P.rules) L
 same_printout printout Q P K L q e = rw (q, e) refl

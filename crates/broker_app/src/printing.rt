@@ -1,23 +1,19 @@
 //! What is printed of a history.
 
-ghost use Rattle.std.specs.Prelude.{◌≡◌, ◌++◌, IfOk, OnOk};
+ghost use Rattle.std.specs.Prelude.{◌≡◌, IfOk, OnOk};
 ghost use Rattle.hist_model.specs.Report.{report, summary};
-ghost use Rattle.hist_model.specs.ReportJournal.{journal};
-ghost use Rattle.hist_model.specs.ReportCalls.{calls};
-ghost use Rattle.hist_model.specs.ReportAudit.{judging_by, audit};
+ghost use Rattle.hist_model.specs.ReportAudit.{judging_by};
 ghost use Rattle.audit_log.specs.Written.{Wrote};
 ghost use Rattle.broker_app.specs.Answers.{text_of};
 ghost use Rattle.broker_app.specs.Findings.{findings, finished_text, yes_line};
 ghost use Rattle.broker_app.specs.Refusals.{Stands};
 
 use audit_check::trail::write_trail;
-use audit_log::audit::write_audit;
-use audit_log::calls::write_calls;
 use audit_log::error::ReportError;
 use audit_log::journal::write_journal;
 use audit_log::line::Line;
 use audit_log::part::write_line;
-use audit_log::summary::write_summary;
+use audit_log::report::{write_rest, write_summary};
 use hist_model::history::History;
 use hist_model::policy::Policy;
 use io_edge::sink::Sink;
@@ -35,27 +31,6 @@ pub(crate) enum Printout {
     Findings { finished: bool },
 }
 
-/// Writes the journal and the calls.
-fn write_events<O: Sink>(alloc: Global, history: &History, out: &mut O) -> Result<(), ReportError>
-    ensures { Wrote (O.state out.old) (journal history.now.events ++ calls history.now.events) result (O.state out.new) }
-{
-    write_journal(alloc, history, out)?;
-    write_calls(alloc, history, out)
-}
-
-/// Writes the journal, the calls and the audit.
-fn write_sessions<O: Sink>(
-    alloc: Global,
-    policy: &Policy,
-    history: &History,
-    out: &mut O,
-) -> Result<(), ReportError>
-    ensures { Wrote (O.state out.old) (journal history.now.events ++ calls history.now.events ++ audit (judging_by policy.now.rules) history.now.events) result (O.state out.new) }
-{
-    write_events(alloc, history, out)?;
-    write_audit(alloc, policy, history, out)
-}
-
 /// Writes the report.
 fn write_report<O: Sink>(
     alloc: Global,
@@ -65,8 +40,8 @@ fn write_report<O: Sink>(
 ) -> Result<(), ReportError>
     ensures { Wrote (O.state out.old) (report (judging_by policy.now.rules) history.now.events) result (O.state out.new) }
 {
-    write_sessions(alloc, policy, history, out)?;
-    write_summary(alloc, policy, history, out)
+    write_journal(alloc, history, out)?;
+    write_rest(alloc, policy, history, out)
 }
 
 /// The end of the line that says whether a history is finished.

@@ -2,10 +2,8 @@
 
 use crate::events::{check, open, read, started, task, worker};
 use crate::texts::text;
-use audit_log::audit::write_audit;
-use audit_log::calls::write_calls;
 use audit_log::journal::write_journal;
-use audit_log::summary::write_summary;
+use audit_log::report::write_rest;
 use hist_model::event::{Back, Delivered, Mode, What};
 use hist_model::history::History;
 use io_edge::memory::MemSink;
@@ -81,9 +79,7 @@ fn tells_lost_and_installed(rt: HostRuntime) -> Result<(), Fail> {
     let mut journal = MemSink::new(alloc, 4096, Vec::new(alloc))?;
     write_journal(alloc, &history, &mut journal)?;
     let mut out = MemSink::new(alloc, 4096, Vec::new(alloc))?;
-    write_calls(alloc, &history, &mut out)?;
-    write_audit(alloc, &policy, &history, &mut out)?;
-    write_summary(alloc, &policy, &history, &mut out)?;
+    write_rest(alloc, &policy, &history, &mut out)?;
     let want = "calls 3
 2 t0 pid=1 openat 3
 12 t0 pid=1 openat EINTR

@@ -6,4 +6,4 @@ use Rattle.audit_log.specs.Written.{Wrote}
 use Rattle.audit_log.proofs.audit.write_sessions.Given as goal
 
 abbrev pub invariant-loop-row : goal.invariant-loop-row
-invariant-loop-row g l = Wrote (g.O.Sink.state l.fn.out) (flat_map (session_line (judging_by l.policy.rules) l.numbers) (take l.row l.sessions)) (Ok tt) (g.O.Sink.state l.out)
+invariant-loop-row g l = Wrote (g.O.Sink.state l.fn.out) (flat_map (session_line (judging_by l.policy.rules) l.calls) (take l.row l.sessions)) (Ok tt) (g.O.Sink.state l.out)

@@ -1,9 +1,8 @@
 use Rattle.std.proofs.Common.{rules, ◌≡◌, Ok, Err, length, subst}
 use Rattle.audit_check.specs.Trail.{trail}
-use Rattle.audit_log.proofs.Writing.{wrote_more}
+use Rattle.audit_log.proofs.Writing.{wrote_more, wrote_stopped}
 use Rattle.audit_log.specs.Written.{Wrote}
 use Rattle.hist_model.specs.ReportAudit.{judging_by}
-use Rattle.broker_app.proofs.Ends.{wrote_stopped}
 use Rattle.broker_app.specs.Findings.{yes_line}
 use Rattle.broker_app.proofs.printing.write_findings.Goals as goal
 

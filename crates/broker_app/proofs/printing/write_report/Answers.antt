@@ -1,19 +1,28 @@
-use Rattle.std.proofs.Common.{rules, ◌≡◌, ◌++◌, Err}
-use Rattle.hist_model.specs.ReportJournal.{journal}
-use Rattle.hist_model.specs.ReportCalls.{calls}
+-- The journal is written, and then what stands behind it: by what is written one text after another, and the grouping of texts.
+use Rattle.std.proofs.Common.{rules, ◌≡◌, ℕ, List, ◌++◌, Err, append_assoc, subst}
+use Rattle.hist_model.specs.Report.{report, summary}
 use Rattle.hist_model.specs.ReportAudit.{audit, judging_by}
-use Rattle.hist_model.specs.Report.{summary}
-use Rattle.audit_log.proofs.Writing.{wrote_more}
-use Rattle.broker_app.proofs.Ends.{wrote_stopped}
+use Rattle.hist_model.specs.ReportCalls.{calls}
+use Rattle.hist_model.specs.ReportJournal.{journal}
+use Rattle.audit_log.specs.Rest.{rest}
+use Rattle.audit_log.specs.Written.{Wrote}
+use Rattle.audit_log.proofs.Writing.{wrote_more, wrote_stopped}
 use Rattle.broker_app.proofs.printing.write_report.Goals as goal
 
-pub returns-in_err-write_sessions : goal.returns-in_err-write_sessions
-returns-in_err-write_sessions g c =
+grouped : (a b c d : List ℕ) → a ++ (b ++ c ++ d) ≡ a ++ b ++ c ++ d
+grouped a b c d = simp append_assoc
+
+pub returns-in_err-write_journal : goal.returns-in_err-write_journal
+returns-in_err-write_journal g c =
+    let J = judging_by c.args.policy.now.rules in
     let K = c.args.history.now.events in
-    let stopped : c.from_residual.result ≡ Err c.in_err-write_sessions.field-0.0 = search rules in
-    wrote_stopped _ _ (journal K ++ calls K ++ audit (judging_by c.args.policy.now.rules) K) (summary (judging_by c.args.policy.now.rules) K) _ _ stopped c.in_err-write_sessions.ensures
+    let stopped : c.from_residual.result ≡ Err c.in_err-write_journal.field-0.0 = search rules in
+    subst (λ text. Wrote (g.O.Sink.state c.args.out.now) text c.from_residual.result (g.O.Sink.state c.write_journal.new.out)) (grouped (journal K) (calls K) (audit J K) (summary J K))
+    (wrote_stopped _ _ (journal K) (rest J K) _ _ stopped c.in_err-write_journal.ensures)
 
 pub returns : goal.returns
 returns g c =
+    let J = judging_by c.args.policy.now.rules in
     let K = c.args.history.now.events in
-    wrote_more _ _ _ _ (summary (judging_by c.args.policy.now.rules) K) _ c.in_ok-write_sessions.ensures c.write_summary.ensures
+    subst (λ text. Wrote (g.O.Sink.state c.args.out.now) text c.write_rest.result (g.O.Sink.state c.write_rest.new.out)) (grouped (journal K) (calls K) (audit J K) (summary J K))
+    (wrote_more _ _ _ (journal K) (rest J K) _ c.in_ok-write_journal.ensures c.write_rest.ensures)

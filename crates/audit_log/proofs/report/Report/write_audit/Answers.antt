@@ -3,11 +3,12 @@ use Rattle.std.proofs.Common.{subst}
 use Rattle.hist_model.specs.ReportAudit.{judging_by}
 use Rattle.audit_log.specs.Written.{Wrote}
 use Rattle.audit_log.proofs.Audited.{audit_whole}
-use Rattle.audit_log.proofs.audit.write_audit.Goals as goal
+use Rattle.audit_log.proofs.report.Report.write_audit.Goals as goal
 
 pub returns : goal.returns
 returns g c =
+    let r = c.args.self.now in
     subst (λ text. Wrote (g.O.Sink.state c.args.out.now) text c.write_titled.result (g.O.Sink.state c.write_titled.new.out))
-    (audit_whole (judging_by c.args.policy.now.rules) c.in_ok-numbers.numbers c.args.history.now.events c.events-events.result.now c.begun.result c.as_slice.result.now c.in_ok-found.found.items
-    c.events-events.ensures c.begun.ensures c.as_slice.ensures.value c.in_ok-numbers.ensures c.in_ok-found.ensures)
+    (audit_whole (judging_by r.policy.now.rules) r.calls r.history.now.events c.events-events.result.now c.begun.result c.as_slice.result.now r.sessions.items
+    c.events-events.ensures c.begun.ensures c.as_slice.ensures.value r.of_calls r.of_sessions)
     c.write_titled.ensures
