@@ -11,3 +11,5 @@
 mod runs;
 #[cfg(test)]
 mod threads;
+#[cfg(test)]
+mod top_call;

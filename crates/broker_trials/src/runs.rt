@@ -1,8 +1,7 @@
 //! The top call over files and sinks in memory, where a call of the files or a write fails.
 
-use broker_app::broker::broker;
+use crate::top_call::{Given, run, sound};
 use broker_app::status::{InputFile, Status};
-use io_edge::memory::{MemFiles, MemSink};
 use std::alloc::Global;
 use std::process::Abort;
 use std::sync::Wait;
@@ -50,74 +49,6 @@ const STRESS: [&'static str; 3] = ["stress", "7", "3"];
 const SUMMARY: &str =
     "summary events=40 calls=3 notified=3 answered=2 granted=1 denied=0 passed=1 injected=0 faults=0 gone=1 lost=0\n";
 
-/// The size of the sinks, in bytes.
-const ROOM: usize = 8192;
-
-/// A file of this name with these bytes.
-pub(crate) fn file(alloc: Global, name: &str, bytes: &str) -> Result<(String, Vec<u8>), Fail> {
-    Ok((
-        String::from_str(alloc, name)?,
-        bytes.as_bytes().to_vec(alloc)?,
-    ))
-}
-
-/// What the program is given: its words, its files, and which call of the files and which write to `out` and to `err` fails,
-/// counted from 1; none is 0.
-#[derive(Clone, Copy)]
-struct Given {
-    words: [&'static str; 3],
-    policy: &'static str,
-    script: &'static str,
-    failing_call: u64,
-    failing_write: u64,
-    failing_line: u64,
-}
-
-/// This policy and this script, with these words, where nothing fails.
-const fn sound(words: [&'static str; 3], policy: &'static str, script: &'static str) -> Given {
-    Given {
-        words,
-        policy,
-        script,
-        failing_call: 0,
-        failing_write: 0,
-        failing_line: 0,
-    }
-}
-
-/// What came of a run.
-#[derive(Drop)]
-struct Answer {
-    status: Status,
-    out: MemSink,
-    err: MemSink,
-}
-
-/// Runs the program.
-fn run<R: Threads + Wait + Sync>(rt: &R, alloc: Global, given: Given) -> Result<Answer, Fail> {
-    let listed = vec![in alloc;
-        file(alloc, "p", given.policy)?,
-        file(alloc, "s", given.script)?,
-    ]?;
-    let mut files = MemFiles::new(listed, vec![in alloc; given.failing_call]?);
-    let mut out = MemSink::new(alloc, ROOM, vec![in alloc; given.failing_write]?)?;
-    let mut err = MemSink::new(alloc, ROOM, vec![in alloc; given.failing_line]?)?;
-    let mut words = Vec::new(alloc);
-    for word in given.words {
-        words.push(String::from_str(alloc, word)?)?;
-    }
-    let status = broker(
-        rt,
-        alloc,
-        words.as_slice(),
-        &mut files,
-        &mut out,
-        &mut err,
-        &OpenGate,
-    );
-    Ok(Answer { status, out, err })
-}
-
 /// What a run is to answer: its status with its code, the line on `err`, and what `out` took.
 #[derive(Drop)]
 struct Want<'a> {
@@ -131,10 +62,10 @@ struct Want<'a> {
 fn check<R: Abort + Threads + Wait + Sync>(
     rt: &R,
     alloc: Global,
-    given: Given,
+    given: Given<'_>,
     want: Want<'_>,
 ) -> Result<(), Fail> {
-    let answer = run(rt, alloc, given)?;
+    let answer = run(rt, alloc, given, &OpenGate)?;
     assert_eq!(rt; answer.status.code(), want.code);
     assert_eq!(rt; answer.status, want.status);
     assert_eq!(rt; answer.err.taken(), want.line.as_bytes());
@@ -183,7 +114,7 @@ fn names_the_file_that_a_call_failed_on(rt: HostRuntime) -> Result<(), Fail> {
         };
         let play = Given {
             failing_call,
-            ..sound(PLAY, POLICY, SCRIPT)
+            ..sound(&PLAY, POLICY, SCRIPT)
         };
         check(&rt, rt.alloc(), play, want)?;
     }
@@ -197,7 +128,7 @@ fn leaves_the_lines_before_a_write_that_fails(rt: HostRuntime) -> Result<(), Fai
     for place in 0..REPORT.len() {
         let play = Given {
             failing_write: place as u64 + 1,
-            ..sound(PLAY, POLICY, SCRIPT)
+            ..sound(&PLAY, POLICY, SCRIPT)
         };
         check(&rt, alloc, play, write_fault(before.as_str()))?;
         before.push_str(REPORT[place])?;
@@ -205,14 +136,14 @@ fn leaves_the_lines_before_a_write_that_fails(rt: HostRuntime) -> Result<(), Fai
     check(
         &rt,
         alloc,
-        sound(PLAY, POLICY, SCRIPT),
+        sound(&PLAY, POLICY, SCRIPT),
         done(before.as_str()),
     )
 }
 
 #[test]
 fn prints_the_summary_of_generated_input(rt: HostRuntime) -> Result<(), Fail> {
-    let stress = sound(STRESS, POLICY, SCRIPT);
+    let stress = sound(&STRESS, POLICY, SCRIPT);
     check(&rt, rt.alloc(), stress, done(SUMMARY))?;
     let stress = Given {
         failing_write: 1,
@@ -260,7 +191,7 @@ const REFUSALS: [([&'static str; 2], [&'static str; 2], u8, &'static str); 7] = 
 fn keeps_its_status<R: Abort + Threads + Wait + Sync>(
     rt: &R,
     alloc: Global,
-    refused: Given,
+    refused: Given<'_>,
     code: u8,
     line: &str,
 ) -> Result<(), Fail> {
@@ -269,7 +200,7 @@ fn keeps_its_status<R: Abort + Threads + Wait + Sync>(
             failing_line,
             ..refused
         };
-        let answer = run(rt, alloc, failing)?;
+        let answer = run(rt, alloc, failing, &OpenGate)?;
         assert_eq!(rt; answer.status.code(), code);
         assert!(rt; line.as_bytes().starts_with(answer.err.taken()));
     }
@@ -279,7 +210,8 @@ fn keeps_its_status<R: Abort + Threads + Wait + Sync>(
 #[test]
 fn keeps_its_status_where_standard_error_fails(rt: HostRuntime) -> Result<(), Fail> {
     for ([policy, script], [policy_text, script_text], code, line) in REFUSALS {
-        let refused = sound(["play", policy, script], policy_text, script_text);
+        let words = ["play", policy, script];
+        let refused = sound(&words, policy_text, script_text);
         keeps_its_status(&rt, rt.alloc(), refused, code, line)?;
     }
     Ok(())
@@ -289,12 +221,12 @@ fn keeps_its_status_where_standard_error_fails(rt: HostRuntime) -> Result<(), Fa
 fn keeps_its_status_where_all_fails(rt: HostRuntime) -> Result<(), Fail> {
     let unread = Given {
         failing_call: 2,
-        ..sound(PLAY, POLICY, SCRIPT)
+        ..sound(&PLAY, POLICY, SCRIPT)
     };
     keeps_its_status(&rt, rt.alloc(), unread, 2, "read fault: policy\n")?;
     let unwritten = Given {
         failing_write: 3,
-        ..sound(PLAY, POLICY, SCRIPT)
+        ..sound(&PLAY, POLICY, SCRIPT)
     };
     keeps_its_status(&rt, rt.alloc(), unwritten, 6, "write fault\n")
 }

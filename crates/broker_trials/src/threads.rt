@@ -1,9 +1,7 @@
 //! The top call with threads, under a gate that holds one notification until another one was answered.
 
-use crate::runs::file;
-use broker_app::broker::broker;
+use crate::top_call::{run, sound};
 use broker_app::status::Status;
-use io_edge::memory::{MemFiles, MemSink};
 use std::alloc::Global;
 use std::process::Abort;
 use std::sync::Wait;
@@ -87,25 +85,10 @@ fn run_two<R: Abort + Threads + Wait + Sync, G: Gate + Sync>(
     cpus: &str,
     gate: &G,
 ) -> Result<(), Fail> {
-    let listed = vec![in alloc; file(alloc, "p", POLICY)?, file(alloc, "s", TWO_TASKS)?]?;
-    let mut files = MemFiles::new(listed, Vec::new(alloc));
-    let mut out = MemSink::new(alloc, 16384, Vec::new(alloc))?;
-    let mut err = MemSink::new(alloc, 128, Vec::new(alloc))?;
-    let mut words = Vec::new(alloc);
-    for word in ["run", "p", "s", workers, cpus] {
-        words.push(String::from_str(alloc, word)?)?;
-    }
-    let status = broker(
-        rt,
-        alloc,
-        words.as_slice(),
-        &mut files,
-        &mut out,
-        &mut err,
-        gate,
-    );
-    assert_eq!(rt; status, Status::Done);
-    assert!(rt; out.taken().ends_with(SUMMARY));
+    let words = ["run", "p", "s", workers, cpus];
+    let answer = run(rt, alloc, sound(&words, POLICY, TWO_TASKS), gate)?;
+    assert_eq!(rt; answer.status, Status::Done);
+    assert!(rt; answer.out.taken().ends_with(SUMMARY));
     Ok(())
 }
 
