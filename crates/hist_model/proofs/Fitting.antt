@@ -1,18 +1,18 @@
 -- The kernel's step for a worker's deed answers the deed, unless it is a skip: by the cases of the deed, where each operand is itself
 -- and a read gives some of the bytes that were asked for. And each read that is due asks for at least one byte.
-use Rattle.std.proofs.Common.{◌≡◌, ℕ, ◌≤◌, Bool, true, false, ◌&&◌, not, List, [], ◌∷◌, refl, ap, Option, Some, None, inl, inr, arith}
+use Rattle.std.proofs.Common.{◌≡◌, ℕ, ◌≤◌, Bool, true, false, not, List, refl, Option, Some, None, arith}
 use Rattle.std.specs.Prelude.{if◌then◌else◌, ◌==◌, ℤ, Result, Ok, Err, bytes_eq}
 use Rattle.std.specs.Ordering.{int_eq}
 use Rattle.std.specs.Option.{option_eq}
-use Rattle.std.proofs.lemmas.Bool.{cases_Bool, and_from, eq-eqb}
+use Rattle.std.proofs.lemmas.Bool.{eq-eqb}
 use Rattle.std.proofs.lemmas.Bool.Decides.{Decides-int_eq}
 use Rattle.std.proofs.lemmas.Slice.Eq.{bytes_eq-Decides}
-use Rattle.hist_model.specs.Copies.{fits_piece, wanted, plan, progress}
+use Rattle.hist_model.specs.Copies.{fits_piece}
 use Rattle.hist_model.specs.Fitting.{fits, request_eq, cap_eq, addfd_eq, back_eq}
-use Rattle.hist_model.specs.Legal.{system_of, rules_of, copied, read_answers}
+use Rattle.hist_model.specs.Legal.{system_of, rules_of, copied}
 use Rattle.hist_model.specs.Deeds.{Deed}
 use Rattle.hist_model.specs.Kinds.{is_letgo, gives_up, opens, opens_base, checks, skips}
-use Rattle.hist_model.specs.Sessions.{Rules, Decision, Denies, Passes, Acts, Plants, Injects, after_act, inject_deed, addfd_of, decided_deed, judged_deed, copied_deed, checked_deed, based_deed, open_deed, deed_for, deed, notif_of, reads_of, first_some, outcome_in, put_in, take_in, any_of, number_of}
+use Rattle.hist_model.specs.Sessions.{Decision, Denies, Passes, Acts, Plants, Injects, after_act, inject_deed, addfd_of, decided_deed, judged_deed, copied_deed, checked_deed, based_deed, open_deed, deed_for, deed, notif_of, reads_of, first_some, outcome_in, put_in, take_in, any_of, number_of}
 use Rattle.hist_model.specs.Steps.{deed_step, mem, read_answer, recv_answer, take_step, install_at, request_of, request_listed, oldest_unfetched}
 use Rattle.hist_model.specs.Calls.{count}
 use Rattle.hist_model.specs.declared.event.Back.{Back}

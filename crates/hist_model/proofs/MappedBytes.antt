@@ -1,7 +1,7 @@
 -- A read of a task's memory gives at least one and at most as many bytes as it asks for, or EFAULT.
 -- By induction on the number of bytes.
 use Rattle.std.proofs.Common.{inl, inr, ◌≡◌, ℕ, zero, suc, ◌+◌, ◌≤◌, true, List, length, refl, Some, arith}
-use Rattle.std.specs.Prelude.{Ok, Err, nat_le}
+use Rattle.std.specs.Prelude.{nat_le}
 use Rattle.std.proofs.lemmas.Bool.{cases_Bool, and_from}
 use Rattle.std.proofs.lemmas.Bool.Decides.{nat_tests}
 use Rattle.hist_model.specs.Copies.{fits_piece}

@@ -1,10 +1,10 @@
 -- A piece that is wanted has at least one byte.
 -- By induction on the plan and on the answers: each part of a plan asks for some bytes, and a text goes on with what is left.
-use Rattle.std.proofs.Common.{inl, inr, ◌≡◌, ℕ, ◌+◌, ◌-◌, ◌%◌, ◌<◌, ◌≤◌, Bool, true, false, List, [], ◌∷◌, ◌++◌, length, refl, ap, sym, ◌∙◌, Option, Some, None, arith, lit<}
-use Rattle.std.specs.Prelude.{Result, Ok, Err, ℤ, pos, negsuc, nat_le, nat_lt, ◌==◌, if◌then◌else◌, min}
+use Rattle.std.proofs.Common.{inl, inr, ◌≡◌, ℕ, ◌-◌, ◌<◌, ◌≤◌, Bool, true, false, List, [], ◌∷◌, length, refl, ap, sym, Option, Some, None, arith, lit<}
+use Rattle.std.specs.Prelude.{Result, Ok, Err, ℤ, pos, negsuc, nat_le, nat_lt, ◌==◌, if◌then◌else◌}
 use Rattle.std.proofs.lemmas.Bool.{cases_Bool}
 use Rattle.std.proofs.lemmas.Bool.Decides.{nat_tests}
-use Rattle.hist_model.specs.Copies.{Reading, Asks, Whole, Fails, Progress, Wants, Complete, Faulty, further, piece, has_zero, begun_with, text_goes_on, text_piece, read_text, value_piece, read_value, read_sized, read_part, progress_with, progress_after, progress, wanted, plan, path_at, option_at, name_at, arg}
+use Rattle.hist_model.specs.Copies.{Reading, Asks, Whole, Fails, Progress, Wants, Complete, Faulty, further, piece, has_zero, begun_with, text_goes_on, text_piece, read_text, value_piece, read_value, read_sized, read_part, progress_with, progress_after, progress, wanted, plan, option_at, arg}
 use Rattle.hist_model.specs.declared.copy.Part.{Part}
 use Rattle.hist_model.specs.declared.copy.Part.TheVariants.{Text, Value}
 use Rattle.sys_abi.specs.Calls.{nr_mknod, nr_mknodat, nr_openat, nr_mount, nr_setxattr}

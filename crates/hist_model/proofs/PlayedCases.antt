@@ -1,8 +1,8 @@
 -- Histories that the definitions play, computed.
 -- By `refl`: both sides of each equation compute to the same value.
-use Rattle.std.proofs.Common.{◌≡◌, ℕ, List, [], ◌∷◌, Option, Some, None, refl, Bool, true, false}
-use Rattle.std.specs.Prelude.{Ok, Err, pos, negsuc, codes, ◌++◌, replicate}
-use Rattle.hist_model.specs.Look.{ev, event_at, newest, oldest}
+use Rattle.std.proofs.Common.{◌≡◌, List, [], ◌∷◌, None, refl}
+use Rattle.std.specs.Prelude.{Ok, pos, negsuc, codes, ◌++◌, replicate}
+use Rattle.hist_model.specs.Look.{event_at, newest, oldest}
 use Rattle.hist_model.specs.Tasks.{ended, was_waited_for, reaped, holder, free_from, last_pid, next_pid, is_made, mode, pending}
 use Rattle.hist_model.specs.Signals.{call_of, next_signal}
 use Rattle.hist_model.specs.Calls.{listed, fetched, named, settled, queue, calls, recvs}
@@ -21,7 +21,7 @@ use Rattle.hist_model.specs.Legal.{with_steps, with_schedule, played}
 use Rattle.hist_model.specs.WorkedExample.{mknod_policy, mknod_script}
 use Rattle.hist_model.specs.declared.event.Event.{Event}
 use Rattle.hist_model.specs.declared.event.What.{What}
-use Rattle.hist_model.specs.declared.event.What.TheVariants.{Spawn, Poke, Enter, Resume, Exit, Recv, OpenMem, OpenBase, Check, Read, Act, Send, LetGo, Skip, Close}
+use Rattle.hist_model.specs.declared.event.What.TheVariants.{Spawn, Poke, Enter, Resume, Exit, Recv, OpenMem, OpenBase, Check, Read, Act, Send, LetGo, Close}
 use Rattle.hist_model.specs.declared.event.Entered.TheVariants.{Notify}
 use Rattle.hist_model.specs.declared.event.Back.TheVariants.{Value}
 use Rattle.hist_model.specs.declared.request.Request.TheVariants.{Mknod}

@@ -1,12 +1,10 @@
 -- A list that is kept the oldest first, seen the newest first.
 -- By what the library says of reversed lists and of their parts.
-use Rattle.std.proofs.Common.{◌≡◌, ℕ, zero, suc, ◌+◌, ◌<◌, ◌≤◌, Bool, true, false, None, ◌||◌, List, [], ◌∷◌, ◌++◌, length, reverse, take, get_or, Some, inl, inr, add-one, refl, sym, ap, ◌∙◌, arith}
+use Rattle.std.proofs.Common.{◌≡◌, ℕ, zero, suc, ◌+◌, ◌<◌, ◌≤◌, List, [], ◌∷◌, ◌++◌, length, reverse, take, get_or, Some, inl, inr, add-one, sym, ap, ◌∙◌, arith}
 use Rattle.std.proofs.Math.Seq.{take-length}
 use Rattle.std.proofs.lemmas.List.{take_more, reverse-append, length-reverse, length-take}
-use Rattle.std.proofs.lemmas.Bool.{cases_Bool, cases_order, ne_eqb, eq-eqb, false_from_ne_true}
-use Rattle.std.specs.Prelude.{if◌then◌else◌, ◌==◌, ◌&&◌, not}
 use Rattle.hist_model.specs.declared.event.Event.{Event}
-use Rattle.hist_model.specs.Look.{event_at, oldest}
+use Rattle.hist_model.specs.Look.{event_at}
 use Rattle.hist_model.proofs.Look.{event_at-here, event_at-older, below_or_last}
 
 pub reverse_push : {A : Type 0} → (xs : List A) (x : A) → reverse (xs ++ x ∷ []) ≡ x ∷ reverse xs

@@ -2,6 +2,7 @@
 -- By `refl`: both sides of each equation compute to the same value.
 use Rattle.std.proofs.Common.{◌≡◌, ℕ, List, [], ◌∷◌, Some, None, refl}
 use Rattle.std.specs.Prelude.{Ok, Err, pos, codes, true, false}
+use Rattle.hist_model.specs.TreeOps.{Fail, Make, Mount, SetAttr, Open}
 use Rattle.hist_model.specs.Trees.{Tree, row_in, entry_in, attr_in, mount_on, top_through, top, target_of, up_through, attr_replaced, with_lines, with_node, with_mount, stated, attr}
 use Rattle.hist_model.specs.Paths.{Last, Follow, Create, Place, At, New, Refused, reaches, walk, walk_parts, pieces, components}
 use Rattle.hist_model.specs.Effects.{perform, effect}
@@ -9,7 +10,6 @@ use Rattle.hist_model.specs.declared.request.Node.{Node}
 use Rattle.hist_model.specs.declared.request.Node.TheVariants as node
 use Rattle.hist_model.specs.declared.request.MountRow.{MountRow}
 use Rattle.hist_model.specs.declared.request.Request.TheVariants as request
-use Rattle.hist_model.specs.declared.request.TreeOp.TheVariants.{Fail, Make, Mount, SetAttr, Open}
 use Rattle.hist_model.specs.declared.script.TreeLine.{TreeLine}
 use Rattle.hist_model.specs.declared.script.TreeLine.TheVariants.{Made, Attr}
 

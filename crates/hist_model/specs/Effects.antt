@@ -1,5 +1,5 @@
 -- What a request does to the tree: mknod(2), mount(2), setxattr(2), openat(2).
-use Rattle.std.specs.Prelude.{ℕ, ◌+◌, ◌*◌, ◌/◌, ◌%◌, Bool, if◌then◌else◌, ◌==◌, List, [], ◌∷◌, Option, Some, None, is_some, Result, Ok, Err}
+use Rattle.std.specs.Prelude.{ℕ, ◌/◌, ◌%◌, Bool, if◌then◌else◌, ◌==◌, List, [], ◌∷◌, Option, Some, None, is_some, Result, Ok, Err}
 use Rattle.hist_model.specs.declared.request.Kind.{Kind}
 use Rattle.hist_model.specs.declared.request.Kind.TheVariants as kind
 use Rattle.hist_model.specs.declared.request.Node.{Node}
@@ -7,8 +7,7 @@ use Rattle.hist_model.specs.declared.request.Node.TheVariants as node
 use Rattle.hist_model.specs.declared.request.Request.{Request}
 use Rattle.hist_model.specs.declared.request.Request.TheVariants as request
 use Rattle.hist_model.specs.declared.request.MountRow.{MountRow}
-use Rattle.hist_model.specs.declared.request.TreeOp.{TreeOp}
-use Rattle.hist_model.specs.declared.request.TreeOp.TheVariants.{Fail, Make, Mount, SetAttr, Open}
+use Rattle.hist_model.specs.TreeOps.{TreeOp, Fail, Make, Mount, SetAttr, Open}
 use Rattle.hist_model.specs.Requests.{kind_of, major_of, minor_of}
 use Rattle.hist_model.specs.Trees.{Tree, is_dir_at, entry, attr, with_node, with_mount, with_attr, are_attr_flags, creates_attr, replaces_attr}
 use Rattle.hist_model.specs.Paths.{Follow, Create, Place, At, New, Refused, reaches}

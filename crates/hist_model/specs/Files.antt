@@ -1,6 +1,6 @@
 -- The tree and the descriptor tables after a history (path_resolution(7), open(2), close(2), seccomp_unotify(2) on SECCOMP_IOCTL_NOTIF_ADDFD).
-use Rattle.std.specs.Prelude.{ℕ, ◌%◌, Bool, true, false, ◌&&◌, not, if◌then◌else◌, ◌==◌, List, [], ◌∷◌, length, Option, Some, None, Result, Ok, Err, ℤ, nat_le, nat_lt}
-use Rattle.hist_model.specs.Look.{Name, event_at, task_name}
+use Rattle.std.specs.Prelude.{ℕ, ◌%◌, Bool, ◌&&◌, if◌then◌else◌, ◌==◌, List, [], ◌∷◌, length, Option, Some, None, Result, Ok, Err, nat_le, nat_lt}
+use Rattle.hist_model.specs.Look.{event_at, task_name}
 use Rattle.hist_model.specs.Tasks.{holder}
 use Rattle.hist_model.specs.Signals.{call_of}
 use Rattle.hist_model.specs.Calls.{queue, caller}
@@ -9,7 +9,7 @@ use Rattle.hist_model.specs.Systems.{Slot, Number, Full, Over}
 use Rattle.hist_model.specs.Memory.{group_named, own_group}
 use Rattle.hist_model.specs.Trees.{Tree, stated}
 use Rattle.hist_model.specs.Effects.{effect, perform}
-use Rattle.hist_model.specs.Natives.{Files, root, base_of, lowest_free, NativeStep, Fails, Gives, Changes, Opens, Closes, Writes, native_step}
+use Rattle.hist_model.specs.Natives.{Files, root, base_of, lowest_free, NativeStep, Changes, Opens, Closes, native_step}
 use Rattle.hist_model.specs.declared.event.Event.{Event}
 use Rattle.hist_model.specs.declared.event.Actor.{Actor}
 use Rattle.hist_model.specs.declared.event.Actor.TheVariants.{Worker}
@@ -19,7 +19,6 @@ use Rattle.hist_model.specs.declared.event.SpawnKind.{SpawnKind}
 use Rattle.hist_model.specs.declared.event.SpawnKind.TheVariants.{New, Copied, Shared}
 use Rattle.hist_model.specs.declared.request.Obj.{Obj}
 use Rattle.hist_model.specs.declared.request.Obj.TheVariants.{Console, Node as NodeObj, Broker}
-use Rattle.hist_model.specs.declared.request.Request.{Request}
 use Rattle.hist_model.specs.declared.script.Script.{Script}
 use Rattle.sys_abi.specs.declared.wire.Addfd.{Addfd}
 

@@ -1,6 +1,6 @@
 -- Which steps answer a worker's deed: a step of the deed's kind, with all that the deed names, and with an answer that a deed of this
 -- kind can have.
-use Rattle.std.specs.Prelude.{ℕ, Bool, true, false, ◌&&◌, not, if◌then◌else◌, ◌==◌, List, Option, Some, None, Ok, Err, bytes_eq}
+use Rattle.std.specs.Prelude.{Bool, true, false, ◌&&◌, not, if◌then◌else◌, ◌==◌, Some, Ok, Err, bytes_eq}
 use Rattle.std.specs.Ordering.{int_eq}
 use Rattle.std.specs.Option.{option_eq}
 use Rattle.hist_model.specs.Copies.{fits_piece}

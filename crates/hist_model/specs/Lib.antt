@@ -20,6 +20,7 @@ pub mod Programs
 pub mod Steps
 pub mod Trees
 pub mod Paths
+pub mod TreeOps
 pub mod Effects
 pub mod Requests
 pub mod Decisions

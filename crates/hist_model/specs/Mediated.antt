@@ -1,23 +1,24 @@
 -- What mediation means: a history in which each notification is answered at most once, each reply or descriptor reaches the waiting call it was meant for or nobody,
 -- each effect is what the policy grants on one copy of its call's arguments found valid afterwards, and each denial names its rule (seccomp_unotify(2)).
-use Rattle.std.specs.Prelude.{◌≡◌, ℕ, ◌+◌, ◌≤◌, Bool, true, false, ◌&&◌, ◌||◌, not, if◌then◌else◌, ◌==◌, List, [], ◌∷◌, length, filter, Option, Some, None, Result, Ok, ◌⊎◌, nat_le, nat_eq, codes, ℤ}
+use Rattle.std.specs.Prelude.{◌≡◌, ℕ, ◌+◌, ◌≤◌, Bool, true, false, ◌&&◌, ◌||◌, not, if◌then◌else◌, ◌==◌, List, [], ◌∷◌, length, filter, Option, Some, None, Result, Ok, Err, ◌⊎◌, nat_le, nat_eq, codes, ℤ}
 use Rattle.std.specs.List.{list_any, starts_with}
 use Rattle.hist_model.specs.Look.{Name, ev, before, event_at, is_worker, is_task, task_name}
-use Rattle.hist_model.specs.Kinds.{closes, receives as is_receive, checks, is_letgo, is_good_check, is_spent, is_accepted, is_busy, is_known_error, returns, is_lost, ends_work, is_effect}
-use Rattle.hist_model.specs.Calls.{listed, caller, fetched, fetches, id, is_call, answers, puts_to, settled, waiting}
+use Rattle.hist_model.specs.Kinds.{closes, receives as is_receive, checks, is_letgo, is_good_check, is_spent, is_accepted, is_busy, is_known_error, returns, is_lost, ends_work, is_effect, uses_copy}
+use Rattle.hist_model.specs.Calls.{listed, caller, fetched, fetches, id, is_call, answers, puts_to, named, settled, waiting}
 use Rattle.hist_model.specs.Sessions.{Rules, session, notif_of, reads_of, first_some, outcome_in, put_in, Acts, Plants, Injects, addfd_of, number_of}
-use Rattle.hist_model.specs.Steps.{session_call, mem, task_place, times_spent, opened, notif, owes_native, slot_answer, is_spent as has_spent}
+use Rattle.hist_model.specs.Steps.{session_call, mem, task_place, times_spent, opened, place_or, lives, notif, oldest_unfetched, owes_native, request_of, call_at, install_of, slot_answer, is_spent as has_spent}
 use Rattle.hist_model.specs.Systems.{Slot}
 use Rattle.hist_model.specs.Laws.{AnsweredOnce, count_below, empty_recvs, fetcher}
 use Rattle.hist_model.specs.Settlers.{InstallsOwn, ResumesOwn, ReturnsInstalled}
 use Rattle.hist_model.specs.Orders.{InOrder}
 use Rattle.hist_model.specs.Causes.{Cause}
 use Rattle.hist_model.specs.Trees.{Tree}
-use Rattle.hist_model.specs.Memory.{own_group}
+use Rattle.hist_model.specs.Memory.{all_mapped, bytes_read, own_group, sysinfo_size}
 use Rattle.hist_model.specs.Signals.{call_of}
+use Rattle.hist_model.specs.Tasks.{holder}
 use Rattle.hist_model.specs.Natives.{base_of, native_step, native_answer}
 use Rattle.hist_model.specs.Files.{files, request_for, slot_in}
-use Rattle.hist_model.specs.Legal.{rules_of, tree, copied, is_open_session}
+use Rattle.hist_model.specs.Legal.{rules_of, tree, copied, is_there, outcome, is_open_session}
 use Rattle.hist_model.specs.declared.event.Back.{Back}
 use Rattle.hist_model.specs.declared.event.Event.{Event}
 use Rattle.hist_model.specs.declared.event.Actor.{Actor}
@@ -29,6 +30,7 @@ use Rattle.hist_model.specs.declared.policy.Verdict.TheVariants.{Grant}
 use Rattle.hist_model.specs.declared.policy.Cap.{Cap}
 use Rattle.hist_model.specs.declared.request.Node.{Node}
 use Rattle.hist_model.specs.declared.request.Node.TheVariants.{Chr, Blk}
+use Rattle.hist_model.specs.declared.request.Obj.TheVariants.{Broker}
 use Rattle.hist_model.specs.declared.request.Request.{Request}
 use Rattle.hist_model.specs.declared.script.Script.{Script}
 use Rattle.hist_model.specs.declared.tree.NodeRow.{NodeRow}
@@ -36,9 +38,10 @@ use Rattle.hist_model.specs.declared.tree.AttrRow.{AttrRow}
 use Rattle.hist_model.specs.Copies.{Progress, Wants, Complete, Faulty}
 use Rattle.hist_model.specs.Decisions.{cap_of, decide}
 use Rattle.hist_model.specs.Requests.{request}
-use Rattle.hist_model.specs.ReportAudit.{audit_of, judging_by, judged_as, finding_of}
+use Rattle.hist_model.specs.ReportAudit.{audit_of, judging_by, judged_as, finding_of, session_at}
 use Rattle.hist_model.specs.declared.report.Finding.{Finding}
 use Rattle.hist_model.specs.declared.report.Finding.TheVariants.{Fault}
+use Rattle.sys_abi.specs.Errnos.{enoent, esrch, ebadf, efault, edquot}
 use Rattle.sys_abi.specs.declared.wire.Addfd.{Addfd}
 use Rattle.sys_abi.specs.declared.wire.Notif.{Notif}
 
@@ -112,6 +115,15 @@ slot_next S K a = slot_in S.rlimit (files S K) (own_group K a) (request_for K (c
 -- an installation answers the number where its request goes in the table before it, or why there is none
 abbrev pub InstallsThere : Script → List Event → Event → Type 0
 InstallsThere S K e = (x : Result ℕ ℕ) → e.what ≡ Install x → x ≡ slot_answer (slot_next S K e.who)
+
+-- one that gave a number puts its request's file there, and leaves every other slot of every group as it was
+abbrev pub InstallsAlone : Script → List Event → Event → Type 0
+InstallsAlone S K e = (m : ℕ) → e.what ≡ Install (Ok m) → (f j : ℕ)
+    → (files S (e ∷ K)).slot f j ≡ (if (f == own_group K e.who) && (j == m) then Some (Broker (request_for K (call_of K (task_name e.who))).srcfd) else (files S K).slot f j)
+
+-- one that failed leaves every slot as it was
+abbrev pub FailsAlone : Script → List Event → Event → Type 0
+FailsAlone S K e = (x : ℕ) → e.what ≡ Install (Err x) → (f j : ℕ) → (files S (e ∷ K)).slot f j ≡ (files S K).slot f j
 
 abbrev pub is_arrival : List Event → Event → ℕ → Bool
 is_arrival K e c = closes e.what || (returns e.what && is_task e.who (caller K c))
@@ -205,6 +217,52 @@ SpentExactly K e = is_spent e.what ≡ has_spent K (cap_in e.what)
 abbrev pub KeepsOrder : List Event → Event → Type 0
 KeepsOrder K e = (w : ℕ) → e.who ≡ Worker w → InOrder (session (e ∷ K) w)
 
+-- ---- What a worker is told is so
+
+-- a receive that gives a notification gives that of the oldest call that nobody has fetched, whole, and its id names this call
+abbrev pub FetchesOldest : List Event → Event → Type 0
+FetchesOldest K e = (n : Notif) → e.what ≡ Recv (Ok n) → (c : ℕ) × (oldest_unfetched K ≡ Some c) × (n ≡ notif K c) × (named K n.id ≡ Some c)
+
+-- one that finds nothing answers ENOENT, and there is no such call
+abbrev pub FindsNone : List Event → Event → Type 0
+FindsNone K e = (x : ℕ) → e.what ≡ Recv (Err x) → (oldest_unfetched K ≡ None) × (x ≡ enoent)
+
+-- an opening answers ESRCH exactly where no living task holds the number; a base is then the container's root or an open directory of the task's group, else EBADF
+abbrev pub OpensHeld : Script → List Event → Event → Type 0
+OpensHeld S K e = (w p : ℕ) (a : Result (Unit {0}) ℕ) → e.who ≡ Worker w
+    → (e.what ≡ OpenMem p a → a ≡ (if lives K (holder K p) then Ok tt else Err esrch))
+    × ((d : ℤ) → e.what ≡ OpenBase p d a → a ≡ (if lives K (holder K p) then (if is_there (base_of S (files S K) (place_or (opened K (holder K p))) d) then Ok tt else Err ebadf) else Err esrch))
+
+-- a check names the id of its session's call, and answers ENOENT exactly where that call isn't listed; where it is, it waits
+abbrev pub ChecksOwn : List Event → Event → Type 0
+ChecksOwn K e = (w x : ℕ) (a : Result (Unit {0}) ℕ) → e.who ≡ Worker w → e.what ≡ Check x a
+    → (c : ℕ) × (session_call K w ≡ Some c) × (x ≡ id K c) × (a ≡ (if listed K c then Ok tt else Err enoent)) × (listed K c ≡ true → waiting K c ≡ true)
+
+-- a read answers what the memory that its session has opened holds at that moment
+abbrev pub ReadsMemory : Script → List Event → Event → Type 0
+ReadsMemory S K e = (w addr len g : ℕ) (a : Result (List ℕ) ℕ) → e.who ≡ Worker w → e.what ≡ Read addr len a → mem K w ≡ Some g → a ≡ bytes_read S K g addr len
+
+-- an act answers what its walk and the tree give, unless its rule's times are spent
+abbrev pub ActsOnTree : Script → List Event → Event → Type 0
+ActsOnTree S K e = (w : ℕ) (q : Request) (cap : Option Cap) (a : Result (Unit {0}) ℕ) → e.who ≡ Worker w → e.what ≡ Act q cap a
+    → a ≡ (if has_spent K cap then Err edquot else outcome S (files S K) w q)
+
+-- and the answer of sysinfo is written exactly where all of it is mapped
+abbrev pub PlantsWhereMapped : Script → List Event → Event → Type 0
+PlantsWhereMapped S K e = (w addr : ℕ) (bytes : List ℕ) (cap : Option Cap) (a : Result (Unit {0}) ℕ) → e.who ≡ Worker w → e.what ≡ Plant addr bytes cap a
+    → a ≡ (if has_spent K cap then Err edquot else (if all_mapped S.map addr sysinfo_size then Ok tt else Err efault))
+
+-- a request for a descriptor answers EBADF exactly where that isn't open in the broker, else ENOENT exactly where the session's call isn't listed
+abbrev pub PutsOpen : Script → List Event → Event → Type 0
+PutsOpen S K e = (w : ℕ) (q : Addfd) (a : Result (Unit {0}) ℕ) → e.who ≡ Worker w → e.what ≡ AddfdPut q a
+    → (c : ℕ) × (session_call K w ≡ Some c) × (a ≡ (if list_any (λ m. m == q.srcfd) S.broker then (if listed K c then Ok tt else Err enoent) else Err ebadf))
+
+-- a take is of a request that was put for the session's call, and answers what its installation did; ENOENT where it has none, and the call isn't listed
+abbrev pub TakesInstalled : List Event → Event → Type 0
+TakesInstalled K e = (w : ℕ) (a : Result ℕ ℕ) → e.who ≡ Worker w → e.what ≡ AddfdTake a
+    → (c r : ℕ) × (session_call K w ≡ Some c) × (request_of K w ≡ Some r) × (call_at K r ≡ Some c)
+    × ((install_of K r ≡ Some a) ⊎ ((install_of K r ≡ None) × (listed K c ≡ false) × (a ≡ Err enoent)))
+
 -- ---- Each answer has its cause
 
 -- what holds of an answer to a notification: it is its session's, stands after two good checks, and carries what the one whole copy and the policy make of it
@@ -222,18 +280,23 @@ abbrev pub HasCause : Rules → List Event → Event → Type 0
 HasCause R K e = (w x : ℕ) (b : Back) (a : Result (Unit {0}) ℕ) → e.who ≡ Worker w → e.what ≡ Send x b a → (c : ℕ) × (n : Notif) × IsCaused R K w c n x b
 
 -- what an audit finds of a session with these steps, by how far its copy is: its fault; else the rule that decided and its verdict, or, of a rule that grants, that its times were spent;
--- and there is no answer without a whole copy
+-- and there is no use without a whole copy
 abbrev pub Finds : Policy → List What → Notif → Finding → Progress → Type 0
 Finds P own n found (Wants a l) = ⊥
 Finds P own n found (Faulty e) = found ≡ Fault
 Finds P own n found (Complete texts) = (found ≡ finding_of (judged_as (decide P.rules (request n.call.nr n.call.args texts))) (list_any is_spent own))
     × (list_any is_spent own ≡ true → (decide P.rules (request n.call.nr n.call.args texts)).1 ≡ Grant)
 
--- the audit of each session that answered
+-- what holds of a use of the copy: the session has its line in the audit, which stands where it received, and names by the copy what decided
+pub record IsAudited (P : Policy) (H : List Event) (s w : ℕ) (what : What) (n : Notif) : Type 0 where
+  pub place : ℕ
+  pub receive : event_at H place ≡ Some (ev (Worker w) (Recv (Ok n)))
+  pub is_session : session_at w place (before H s) ≡ session (before H s) w
+  pub finds : Finds P (what ∷ session (before H s) w) n (audit_of (judging_by P.rules) H (before H place) w n).finding (copied n (reads_of (session (before H s) w)))
+
+-- the audit of each session that used its copy: for an act, for what is written as an answer, for a request for a descriptor, or for its answer
 abbrev pub AuditNames : Policy → List Event → Type 0
-AuditNames P H = (s w x : ℕ) (b : Back) (a : Result (Unit {0}) ℕ) (n : Notif) → event_at H s ≡ Some (ev (Worker w) (Send x b a)) → notif_of (session (before H s) w) ≡ Some n
-    → (r : ℕ) × (event_at H r ≡ Some (ev (Worker w) (Recv (Ok n))))
-    × Finds P (session (before H s) w) n (audit_of (judging_by P.rules) H (before H r) w n).finding (copied n (reads_of (session (before H s) w)))
+AuditNames P H = (s w : ℕ) (what : What) (n : Notif) → event_at H s ≡ Some (ev (Worker w) what) → uses_copy what ≡ true → notif_of (session (before H s) w) ≡ Some n → IsAudited P H s w what n
 
 -- so only where the session's call is not listed
 abbrev pub LostIfGone : List Event → Event → Type 0
@@ -305,6 +368,8 @@ pub record Mediated (P : Policy) (S : Script) (K : List Event) : Type 0 where
   pub errors : Each ErrorsKnown K
   pub installs : Each InstallsOwn K
   pub installs_there : Each (InstallsThere S) K
+  pub installs_alone : Each (InstallsAlone S) K
+  pub fails_alone : Each (FailsAlone S) K
   pub arrives : Each Arrives K
   -- each effect is what the policy grants on one copy, found valid afterwards
   pub acts : Each (ActIsGranted P S) K
@@ -314,6 +379,16 @@ pub record Mediated (P : Policy) (S : Script) (K : List Event) : Type 0 where
   pub times : TimesKept P K
   pub spent : Each SpentExactly K
   pub ordered : Each KeepsOrder K
+  -- what a worker is told is so
+  pub fetches_oldest : Each FetchesOldest K
+  pub finds_none : Each FindsNone K
+  pub opens_held : Each (OpensHeld S) K
+  pub checks_own : Each ChecksOwn K
+  pub reads_memory : Each (ReadsMemory S) K
+  pub acts_on_tree : Each (ActsOnTree S) K
+  pub plants_where_mapped : Each (PlantsWhereMapped S) K
+  pub puts_open : Each (PutsOpen S) K
+  pub takes_installed : Each TakesInstalled K
   -- each answer has its cause
   pub cause : Each (HasCause (rules_of P S.figures)) K
   pub audit : AuditNames P K

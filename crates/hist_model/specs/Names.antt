@@ -1,5 +1,5 @@
 -- The names that tasks have: the first task is 0, and the k-th child of a task has its parent's name and then k.
-use Rattle.std.specs.Prelude.{ℕ, Bool, false, ◌&&◌, ◌==◌, nat_le, List, [], ◌∷◌, length}
+use Rattle.std.specs.Prelude.{ℕ, Bool, false, ◌&&◌, ◌==◌, nat_le, [], ◌∷◌, length}
 use Rattle.std.specs.List.{list_all}
 use Rattle.hist_model.specs.Look.{Name}
 

@@ -1,5 +1,5 @@
 -- Calls that run natively, without rights (close(2), getpid(2), sysinfo(2), mknod(2), mount(2), setxattr(2), openat(2)).
-use Rattle.std.specs.Prelude.{ℕ, ◌+◌, ◌-◌, ◌%◌, ◌^◌, Bool, true, false, not, if◌then◌else◌, ◌==◌, List, [], ◌∷◌, length, Option, Some, None, Result, Ok, Err, ℤ, pos, negsuc, nat_eq, codes}
+use Rattle.std.specs.Prelude.{ℕ, ◌%◌, ◌^◌, Bool, true, false, not, if◌then◌else◌, ◌==◌, List, Option, Some, None, Result, Ok, Err, ℤ, pos, negsuc, nat_eq, codes}
 use Rattle.std.specs.List.{starts_with}
 use Rattle.hist_model.specs.Look.{Name, oldest}
 use Rattle.hist_model.specs.Steps.{number_entered, entered, pid_named, place_or}
@@ -11,14 +11,12 @@ use Rattle.hist_model.specs.Copies.{plan, copy_of}
 use Rattle.hist_model.specs.Requests.{request, base_dirfd}
 use Rattle.hist_model.specs.declared.event.Event.{Event}
 use Rattle.hist_model.specs.declared.event.What.{What}
-use Rattle.hist_model.specs.declared.request.Node.{Node}
 use Rattle.hist_model.specs.declared.request.Node.TheVariants.{Chr, Blk}
 use Rattle.hist_model.specs.declared.request.Obj.{Obj}
-use Rattle.hist_model.specs.declared.request.Obj.TheVariants.{Console, Node as NodeObj, Broker}
+use Rattle.hist_model.specs.declared.request.Obj.TheVariants.{Node as NodeObj}
 use Rattle.hist_model.specs.declared.request.Request.{Request}
-use Rattle.hist_model.specs.declared.request.Request.TheVariants.{Mknod, Mount, SetXattr, OpenAt}
-use Rattle.hist_model.specs.declared.request.TreeOp.{TreeOp}
-use Rattle.hist_model.specs.declared.request.TreeOp.TheVariants.{Fail, Make}
+use Rattle.hist_model.specs.declared.request.Request.TheVariants.{Mknod, SetXattr, OpenAt}
+use Rattle.hist_model.specs.TreeOps.{TreeOp, Fail, Make}
 use Rattle.hist_model.specs.declared.script.Script.{Script}
 use Rattle.sys_abi.specs.Calls.{nr_close, nr_getpid, nr_sysinfo}
 use Rattle.sys_abi.specs.Errnos.{eperm, enoent, ebadf, efault, emfile, enosys}

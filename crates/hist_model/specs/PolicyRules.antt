@@ -1,5 +1,5 @@
 -- What every policy keeps.
-use Rattle.std.specs.Prelude.{ℕ, ◌<◌, ◌≤◌, ◌^◌, ◌≡◌, ◌&&◌, true, false, List, [], length, All}
+use Rattle.std.specs.Prelude.{◌<◌, ◌≤◌, ◌^◌, ◌≡◌, ◌&&◌, true, false, List, [], length, All}
 use Rattle.std.specs.List.{list_any, list_all}
 use Rattle.hist_model.specs.Decisions.{Switches, all_rules}
 use Rattle.hist_model.specs.Records.{PolicyRecord}

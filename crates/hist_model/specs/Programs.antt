@@ -1,5 +1,5 @@
 -- The program of a task.
-use Rattle.std.specs.Prelude.{ℕ, Bool, List, [], ◌∷◌, slice_get, length, ◌-◌, ◌==◌, if◌then◌else◌, Option, Some, None}
+use Rattle.std.specs.Prelude.{ℕ, List, [], ◌∷◌, slice_get, length, ◌-◌, ◌==◌, if◌then◌else◌, Option, Some, None}
 use Rattle.hist_model.specs.Look.{Name}
 use Rattle.hist_model.specs.Tasks.{is_none}
 use Rattle.hist_model.specs.declared.script.Script.{Script}

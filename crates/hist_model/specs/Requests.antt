@@ -1,6 +1,6 @@
 -- What a call asks for, from its number, its six arguments and the texts that were read for it
 -- (mknod(2), mount(2), setxattr(2), openat(2), sysinfo(2)). The texts stand in the order of the call's plan.
-use Rattle.std.specs.Prelude.{ℕ, ◌+◌, ◌*◌, ◌/◌, ◌%◌, false, if◌then◌else◌, ◌==◌, ◌||◌, List, [], get_or, Option, Some, None, ℤ, pos, negsuc}
+use Rattle.std.specs.Prelude.{ℕ, ◌/◌, ◌%◌, false, if◌then◌else◌, ◌==◌, ◌||◌, List, [], get_or, Option, Some, None, ℤ, pos, negsuc}
 use Rattle.std.specs.Int.{w32, cast_signed}
 pub use Rattle.sys_abi.specs.Devices.{major_of, minor_of}
 use Rattle.hist_model.specs.declared.policy.Rule.{Rule}

@@ -240,9 +240,9 @@ unfoldable pub group : List Event → ℕ → ℕ
 group [] t = no_place
 group (e ∷ K) t = if t == length K then (if shares_now e.what then group K (place_or (task_place K (task_name e.who))) else t) else group K t
 
--- the call of the worker's open session
+-- the call of the worker's open session: the one that is named by the id that it fetched
 abbrev pub call_after : List Event → What → Option ℕ → Option ℕ
-call_after K (Recv (Ok n)) c = oldest_unfetched K
+call_after K (Recv (Ok n)) c = named K n.id
 call_after K LetGo c = None
 call_after K _ c = c
 

@@ -1,11 +1,11 @@
 -- Calls: their ids, the request count, one answer for each, and the events before a place.
 -- By induction on a legal history, with the row of its newest step.
-use Rattle.mediation.proofs.Common.{[], Actor, AnsweredOnce, answers_to, arith, before, below_or_last, Bool, caller, CallIdsDiffer, calls, count, count_below, CountIs, Each, empty_recvs, eq-eqb, ev}
+use Rattle.mediation.proofs.Common.{[], Actor, AnsweredOnce, answers_to, ap, arith, before, below_or_last, Bool, caller, CallIdsDiffer, calls, count, count_below, CountIs, Each, empty_recvs, eq-eqb, ev}
 use Rattle.mediation.proofs.Common.{Event, event_at-here, event_at-older, false, fetched, fetches, id, IdsDiffer, if◌then◌else◌, inl, inr, is_call, is_install, is_task}
-use Rattle.mediation.proofs.Common.{IsLegal, le-leb, left_unfetched, length, List, listed, lt-leb, None, not, Notif, notif, notifies, notify_id, Ok, oldest, oldest-some, oldest_unfetched, Option}
+use Rattle.mediation.proofs.Common.{IsLegal, le-leb, left_unfetched, length, List, listed, lt-leb, named, None, not, Notif, notif, notifies, notify_id, Ok, oldest, oldest-some, oldest_unfetched, Option}
 use Rattle.mediation.proofs.Common.{ReceivesFor, Recv, recv_answer, recvs, refl, Rules, settled, settles, Some, suc, sym, System, true, What, zero, ℕ, ◌%◌, ◌&&◌, ◌+◌, ◌<◌, ◌^◌, ◌||◌, ◌∙◌, ◌∷◌, ◌≡◌}
 use Rattle.mediation.proofs.Common.{◌≤◌}
-use Rattle.history_frames.proofs.Listed.{listed-below, listed-older, is_call-below, listed-is_call, fetched-new}
+use Rattle.history_frames.proofs.Listed.{listed-below, listed-older, is_call-below, listed-is_call, fetched-new, named-is}
 use Rattle.mediation.proofs.Rows.{Row, by-steps, by-few-steps}
 use Rattle.mediation.proofs.Tasks.{same-name, event_at-last, waits-here}
 
@@ -122,6 +122,14 @@ fetch-one S R K e d legal b q l f =
 pub fetching : (K : List Event) (n : Notif) (o : Option ℕ) → oldest_unfetched K ≡ o → Ok n ≡ recv_answer K o → (d : ℕ) × (n ≡ notif K d) × (listed K d ≡ true) × (fetched K d ≡ false) × (o ≡ Some d)
 unfolding oldest_unfetched
 fetching K n o q h = grind (arith, oldest-some)
+
+-- the id of what is fetched names the oldest call that nobody has fetched
+pub named-fetched : (S : System) (R : Rules) (K : List Event) (n : Notif) → IsLegal S R K → length K < 2 ^ 64 → Ok n ≡ recv_answer K (oldest_unfetched K) → named K n.id ≡ oldest_unfetched K
+named-fetched S R K n legal room h =
+    let f = fetching K n (oldest_unfetched K) refl h in
+    let x : n.id ≡ id K f.0 = ap (λ (m : Notif). m.id) f.1 in
+    let d = ids_differ S R K legal room in
+    ap (named K) x ∙ (named-is K (id K f.0) f.0 f.2 refl (λ c l q. d c f.0 l f.2 q) ∙ sym f.4)
 
 same-unfetched : (e : Event) (K : List Event) → ((c : ℕ) → fetches e.what (id K c) ≡ false) → count_below (unfetched (e ∷ K)) (length K) ≡ count_below (unfetched K) (length K)
 unfolding fetched

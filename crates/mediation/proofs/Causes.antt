@@ -51,7 +51,7 @@ module _ (S : System) (R : Rules) where
   has_cause = each S R (HasCause R) (λ K e legal room row w x b y who what.
       let r : WorkerRow S R K w (Send x b y) = rw (who, what) at row in
       let t = r.0 in
-      let j = in-hand K w (session_call K w) t.0 t.1 (hand S R K legal w) in (
+      let j = in-hand K w (session_call K w) t.0 t.1 (hand S R K legal room w) in (
         j.0,
         t.0,
         record {

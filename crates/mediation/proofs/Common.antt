@@ -23,9 +23,9 @@ pub use Rattle.hist_model.specs.Laws.{AnsweredOnce, CallsAreLast, CountIs, IdsDi
 pub use Rattle.hist_model.specs.Legal.{copied, decision, Finished, is_open_session, judged, outcome, played, read_answers, rules_of, started, system_of, with_step}
 unfoldable pub use Rattle.hist_model.specs.Look.{before, event_at, newest, oldest}
 pub use Rattle.hist_model.specs.Look.{ev, is_place, is_task, is_worker, Name, name_eq, task_name}
-pub use Rattle.hist_model.specs.Mediated.{ActIsGranted, ActsAlone, Arrives, AuditNames, BaseIs, Each, ends_with_check, EndsForReason, ErrorsKnown, Finds, has_ended, HasCause, HasMemory, InstallsThere}
+pub use Rattle.hist_model.specs.Mediated.{ActIsGranted, ActsAlone, ActsOnTree, Arrives, AuditNames, BaseIs, ChecksOwn, Each, ends_with_check, EndsForReason, ErrorsKnown, FailsAlone, FetchesOldest, Finds, FindsNone, has_ended, HasCause, HasMemory, InstallsAlone, InstallsThere}
 pub use Rattle.hist_model.specs.Mediated.{is_others_row, is_until_checked, IsCaused, IsMediated, KeepsOrder, KeepsPrivileged, left_unfetched, LostIfGone, Mediated, NamesOwn}
-pub use Rattle.hist_model.specs.Mediated.{NeverBusy, OneSession, PlantIsGranted, PutIsInjected, ReadsOwn, ReceivesFor, RunsNatively, slot_next, SpentExactly, TakenByItsActor, takes, TimesKept, WaitedUntilChecked}
+pub use Rattle.hist_model.specs.Mediated.{NeverBusy, OneSession, OpensHeld, PlantIsGranted, PlantsWhereMapped, PutIsInjected, PutsOpen, ReadsMemory, ReadsOwn, ReceivesFor, RunsNatively, slot_next, SpentExactly, TakenByItsActor, takes, TakesInstalled, TimesKept, WaitedUntilChecked}
 pub use Rattle.hist_model.specs.Mediated.{WithoutRights}
 pub use Rattle.hist_model.specs.Natives.{base_of, call_natively, changed, Changes, close_natively, copied_natively, Fails, Files, Gives, has_base, native_step, NativeStep, Writes}
 pub use Rattle.hist_model.specs.Orders.{InOrder}
@@ -57,5 +57,5 @@ pub use Rattle.hist_model.specs.declared.script.Figures.{Figures}
 pub use Rattle.hist_model.specs.declared.script.Script.{Script}
 pub use Rattle.hist_model.proofs.Look.{below_or_last, event_at-above, event_at-below, event_at-here, event_at-older, name_eq-refl, name_eq-true, newest-found, newest-some, oldest-found, oldest-same}
 pub use Rattle.hist_model.proofs.Look.{oldest-some, oldest-stays}
-pub use Rattle.mediation.specs.Facts.{CallIdsDiffer, changes_answered, changes_list, changes_tasks, FailsAlone, Frame, InstallsAlone, NamesDiffer, SessionsSettle, StaysFinished}
+pub use Rattle.mediation.specs.Facts.{CallIdsDiffer, changes_answered, changes_list, changes_tasks, Frame, NamesDiffer, SessionsSettle, StaysFinished}
 pub use Rattle.mediation.specs.Journals.{actors, FixedByJournal, IsLegalByPlace}

@@ -60,7 +60,7 @@ module _ (S : System) (R : Rules) where
   until-waits K w c legal room s g either u = elim (cases_Bool (nat_le (number_of is_good_check (session K w)) 1)) [
     | inl n ↦
         let few = leb-true (number_of is_good_check (session K w)) 1 n in
-        let i = in-hand-of S R K w c legal s in
+        let i = in-hand-of S R K w c legal room s in
         elim either [ inl l ↦ waits-now S R K w c legal room s l g (put-late K w i.n legal (record { notif_is = i.notif_is; no_letgo = i.no_letgo; no_end = g }) few) | inr t ↦ absurd (omega arith) ]
     | inr n ↦ at-check K legal room s g (rw n at u)
   ]
@@ -75,7 +75,7 @@ module _ (S : System) (R : Rules) where
           let t = at-work S R K w e.what r v in
           let own = session-grows e K w t.0 p.1 k.no_skip k.no_start t.1.notif_is in
           let h : session_call K w ≡ Some c = sym (k.call (session_call K w)) ∙ (sym (moved e K w p.1).0 ∙ s) in
-          check-waits K e.who w c e.what legal room r (in-hand-of S R K w c legal.1 h) s own g p.0
+          check-waits K e.who w c e.what legal room r (in-hand-of S R K w c legal.1 (omega arith) h) s own g p.0
 
   -- what is asked of a session
   abbrev Held : List Event → ℕ → ℕ → Type 0
@@ -154,7 +154,7 @@ uses-copy : (S : System) (R : Rules) (K : List Event) (w : ℕ) (n : Notif) → 
     → HasCopied R (session K w) n → R.fault n (reads_of (session K w)) ≡ None
     → (c : ℕ) × IsMediated R K w c n
 uses-copy S R K w n legal room work ready copy sound =
-    let j = in-hand K w (session_call K w) n work (hand S R K legal w) in
+    let j = in-hand K w (session_call K w) n work (hand S R K legal room w) in
     let two = used-two R (session K w) n work copy (ordered R (session K w) (is-own S R K legal w)) in (
       j.0,
       record {
@@ -198,7 +198,7 @@ pub reads-are-own : (S : System) (R : Rules) (K : List Event) → IsLegal S R K 
 reads-are-own S R = each S R ReadsOwn (λ K e legal room row w x l a who what.
     let r : WorkerRow S R K w (Read x l a) = rw (who, what) at row in
     let t = r.0 in
-    let j = in-hand K w (session_call K w) t.0 t.1 (hand S R K legal w) in
+    let j = in-hand K w (session_call K w) t.0 t.1 (hand S R K legal room w) in
     (j.0, j.1, own-memory S R K w j.0 legal room j.1 t.2.mem t.3 t.1.no_end))
 
 -- ---- a native call changes no device, no mount, and no attribute but the user's own

@@ -8,7 +8,7 @@ use Rattle.mediation.proofs.Common.{◌∙◌, ◌∷◌, ◌≡◌, ◌⊎◌}
 use Rattle.history_frames.proofs.Groups.{group-kept, place-kept}
 use Rattle.history_frames.proofs.Listed.{is_call-below}
 use Rattle.history_frames.proofs.Queued.{worker-is}
-use Rattle.mediation.proofs.Rows.{WorkerRow, Row, by-steps}
+use Rattle.mediation.proofs.Rows.{WorkerRow, Row, by-few-steps}
 use Rattle.mediation.proofs.Tasks.{listed-was, calls_are_last, place-is, living-holder}
 use Rattle.mediation.proofs.Calls.{before-older, before-newest}
 use Rattle.mediation.proofs.Hands.{worker-row, still, moved, session-grows, InSession, Hand, works, idle-of, hand, in-hand-of, FetchKept, WorkKept, StillKept, by-session, named-own}
@@ -97,7 +97,7 @@ module _ (S : System) (R : Rules) where
   pub own-memory : (K : List Event) (w c : ℕ) → IsLegal S R K → length K < 2 ^ 64 → session_call K w ≡ Some c → any_of opens (session K w) ≡ true → any_of checks (session K w) ≡ true
       → any_of gives_up (session K w) ≡ false → HasMemory K w c
   own-memory K w c legal room s o k g =
-      let i = in-hand-of S R K w c legal s in
+      let i = in-hand-of S R K w c legal room s in
       let t = steady K legal room w c s in
       let m = t.opened o g in
       let v = (t.handles i.t m.0 i.task_is (inr (good-check (session K w) k g))).0 m.1 in
@@ -179,16 +179,16 @@ module _ (S : Script) (R : Rules) where
   unfolding session session_call
   session-stays K a what w i r m = let o = idle-of K w (session_call K w) i in grind arith
 
-  based : (K : List Event) → IsLegal (system_of S) R K → (w : ℕ) → BaseOf S R K w (base K w)
-  based = by-steps (system_of S) R (λ K. (w : ℕ) → BaseOf S R K w (base K w)) (λ w. unfold files_base files base in refl) (λ K e legal r ih w. based-more K e.who e.what w legal r (ih w))
+  based : (K : List Event) → IsLegal (system_of S) R K → length K < 2 ^ 64 → (w : ℕ) → BaseOf S R K w (base K w)
+  based = by-few-steps (system_of S) R (λ K. (w : ℕ) → BaseOf S R K w (base K w)) (λ w. unfold files_base files base in refl) (λ K e legal room r ih w. based-more K e.who e.what w legal room r (ih w))
     where
       moved-base : (K : List Event) (w : ℕ) (what : What) → WorkerRow (system_of S) R K w what → moves what ≡ true → BaseOf S R (ev (Worker w) what ∷ K) w (base_after K what (base K w))
       moved-base K w (OpenBase p d (Ok u)) r m = based-opens K w p d u r
       moved-base K w LetGo r m = files-drops S K (Worker w) w (eq-eqb w w refl)
       moved-base K w what r m = cc
 
-      based-more : (K : List Event) (a : Actor) (what : What) (w : ℕ) → IsLegal (system_of S) R K → Row (system_of S) R K a what → BaseOf S R K w (base K w) → BaseOf S R (ev a what ∷ K) w (base (ev a what ∷ K) w)
-      based-more K a what w legal r b = elim (cases_Bool (is_worker a w && moves what)) [
+      based-more : (K : List Event) (a : Actor) (what : What) (w : ℕ) → IsLegal (system_of S) R K → length K < 2 ^ 64 → Row (system_of S) R K a what → BaseOf S R K w (base K w) → BaseOf S R (ev a what ∷ K) w (base (ev a what ∷ K) w)
+      based-more K a what w legal room r b = elim (cases_Bool (is_worker a w && moves what)) [
         | inl q ↦
             let p = and_parts (is_worker a w) (moves what) q in
             rw (worker-is a w p.0, (moved (ev (Worker w) what) K w (eq-eqb w w refl)).2) (moved-base K w what (worker-row (system_of S) R K a what w r p.0) p.1)
@@ -196,7 +196,7 @@ module _ (S : Script) (R : Rules) where
             let e = ev a what in
             let f = files-same S e K w q in
             let z : base (e ∷ K) w ≡ base K w = unfold base in grind arith in
-            rw z (elim (session-stays K a what w (hand (system_of S) R K legal w) r q) [ inl n ↦ rw n (f ∙ (rw n at b)) | inr t ↦ based-later e K w (base K w) f t.0 t.1 b ])
+            rw z (elim (session-stays K a what w (hand (system_of S) R K legal room w) r q) [ inl n ↦ rw n (f ∙ (rw n at b)) | inr t ↦ based-later e K w (base K w) f t.0 t.1 b ])
       ]
 
   -- after a good check, the base is the one that the call names, or none
@@ -204,7 +204,7 @@ module _ (S : Script) (R : Rules) where
       → any_of checks (session K w) ≡ true → any_of gives_up (session K w) ≡ false
       → BaseIs S K w c n (R.dirfd n)
   unfolding files_base
-  base-is K w c n legal room s m k g = go (base K w) refl (based K legal w)
+  base-is K w c n legal room s m k g = go (base K w) refl (based K legal room w)
     where
       none-is : (d : Option ℤ) → files_base S K w ≡ None → BaseIs S K w c n d
       none-is None b = b
@@ -213,7 +213,7 @@ module _ (S : Script) (R : Rules) where
       go : (o : Option ℕ) → base K w ≡ o → BaseOf S R K w o → BaseIs S K w c n (R.dirfd n)
       go None q b = none-is (R.dirfd n) b
       go (Some x) q b =
-          let i = in-hand-of (system_of S) R K w c legal s in
+          let i = in-hand-of (system_of S) R K w c legal room s in
           let y = ((steady (system_of S) R K legal room w c s).handles i.t x i.task_is (inr (good-check (session K w) k g))).1 q in
           let f = b.named n m in
           rw f.1 (inr (x, record { place = b.place; opening = rw f.0 at b.opening; in_session = b.in_session ∙ s; of_caller = ap (opened K) i.task_is ∙ ap Some (sym y); is_base = b.is_base }))

@@ -7,9 +7,9 @@ use Rattle.mediation.proofs.Common.{pid_at, pid_of, pid_or, Plant, Read, Recv, r
 use Rattle.mediation.proofs.Common.{◌<◌, ◌==◌, ◌^◌, ◌∙◌, ◌∷◌, ◌≡◌, ◌⊎◌}
 use Rattle.history_frames.proofs.Groups.{place-kept}
 use Rattle.history_frames.proofs.Listed.{listed-below, is_call-below, listed-is_call, named-listed}
-use Rattle.mediation.proofs.Rows.{AtWork, WorkerRow, Row, row-of, by-steps}
+use Rattle.mediation.proofs.Rows.{AtWork, WorkerRow, Row, row-of, by-few-steps}
 use Rattle.mediation.proofs.Tasks.{calls_are_last, place-is, made-place, makes-pid}
-use Rattle.mediation.proofs.Calls.{call_ids, fetching}
+use Rattle.mediation.proofs.Calls.{call_ids, fetching, named-fetched}
 
 -- ---- a worker's open session, and its call
 
@@ -120,7 +120,7 @@ pub in-hand : (K : List Event) (w : ℕ) (o : Option ℕ) (n : Notif) → AtWork
 in-hand K w (Some c) n work i = (c, refl, i, cc (i.notif_is, work.notif_is))
 in-hand K w None n work i = grind arith
 
-module _ (S : System) (R : Rules) (K : List Event) (a : Actor) (w : ℕ) (legal : IsLegal S R K) (is_mine : is_worker a w ≡ true) where
+module _ (S : System) (R : Rules) (K : List Event) (a : Actor) (w : ℕ) (legal : IsLegal S R K) (room : length K < 2 ^ 64) (is_mine : is_worker a w ≡ true) where
   hand-works : (what : What) → WorkerRow S R K w what → works what ≡ true → Hand K w (session_call K w) → Hand (ev a what ∷ K) w (session_call (ev a what ∷ K) w)
   hand-works what r h i =
       let g = at-work S R K w what r h in
@@ -144,7 +144,7 @@ module _ (S : System) (R : Rules) (K : List Event) (a : Actor) (w : ℕ) (legal 
       let x : n.id ≡ id K d = ap (λ (x : Notif). x.id) f.1 in
       let pid : n.pid ≡ pid_or (pid_of K m.0) = ap (λ (x : Notif). x.pid) f.1 ∙ ap (pid_at K) m.1 in
       let s : session (e ∷ K) w ≡ Recv (Ok n) ∷ [] = session-begins e K w is_mine refl in
-      rw ((moved e K w is_mine).0, f.4) (record {
+      rw ((moved e K w is_mine).0, named-fetched S R K n legal room r.1.1, f.4) (record {
         n = n;
         t = m.0;
         call = rw event_at-older (listed-is_call K d f.2);
@@ -173,18 +173,18 @@ hand-stays e K w (Some c) h i = let s = (still e K w h).0 in in-session-kept e K
 hand-stays e K w None h i = grind (arith, still e K w h)
 
 -- what each worker has in hand
-pub hand : (S : System) (R : Rules) (K : List Event) → IsLegal S R K → (w : ℕ) → Hand K w (session_call K w)
-hand S R = by-steps S R (λ K. (w : ℕ) → Hand K w (session_call K w)) (λ w. unfold session_call session mem base in record { none = inl refl; mem_none = refl; base_none = refl }) (λ K e legal r ih w.
+pub hand : (S : System) (R : Rules) (K : List Event) → IsLegal S R K → length K < 2 ^ 64 → (w : ℕ) → Hand K w (session_call K w)
+hand S R = by-few-steps S R (λ K. (w : ℕ) → Hand K w (session_call K w)) (λ w. unfold session_call session mem base in record { none = inl refl; mem_none = refl; base_none = refl }) (λ K e legal room r ih w.
     elim (cases_Bool (is_worker e.who w && not (skips e.what))) [
-      | inl q ↦ let p = and_parts (is_worker e.who w) (not (skips e.what)) q in hand-step S R K e.who w legal p.0 e.what (worker-row S R K e.who e.what w r p.0) (not-true (skips e.what) p.1) (ih w)
+      | inl q ↦ let p = and_parts (is_worker e.who w) (not (skips e.what)) q in hand-step S R K e.who w legal room p.0 e.what (worker-row S R K e.who e.what w r p.0) (not-true (skips e.what) p.1) (ih w)
       | inr q ↦ rw ((still e K w q).1) (hand-stays e K w (session_call K w) q (ih w))
     ])
 
 -- ---- what holds of a call in a worker's hand, by induction on the steps since it was fetched
 
 -- the call in hand
-pub in-hand-of : (S : System) (R : Rules) (K : List Event) (w c : ℕ) → IsLegal S R K → session_call K w ≡ Some c → InSession K w c
-in-hand-of S R K w c legal h = rw h at (hand S R K legal w)
+pub in-hand-of : (S : System) (R : Rules) (K : List Event) (w c : ℕ) → IsLegal S R K → length K < 2 ^ 64 → session_call K w ≡ Some c → InSession K w c
+in-hand-of S R K w c legal room h = rw h at (hand S R K legal room w)
 
 -- a fact of calls in hand is there after the worker's receive
 abbrev pub FetchKept : System → Rules → (List Event → ℕ → ℕ → Type 0) → Type 0
@@ -206,14 +206,15 @@ module _ (S : System) (R : Rules) (P : List Event → ℕ → ℕ → Type 0) (f
       → (session_call K w ≡ Some c → P K w c) → session_call (ev a what ∷ K) w ≡ Some c → P (ev a what ∷ K) w c
   session-step K a (Recv (Ok n)) w c legal room q z row ih h =
       let e = ev a (Recv (Ok n)) in
-      fetch K a w c n legal room q row (sym (moved e K w q).0 ∙ h) (idle-of K w (session_call K w) (hand S R K legal.1 w) row.0) (session-begins e K w q refl)
+      let o = named-fetched S R K n legal.1 (omega arith) row.1.1 in
+      fetch K a w c n legal room q row (sym o ∙ (sym (moved e K w q).0 ∙ h)) (idle-of K w (session_call K w) (hand S R K legal.1 (omega arith) w) row.0) (session-begins e K w q refl)
   session-step K a what w c legal room q z row ih h = elim (cases_Bool (works what)) [
     | inl k ↦
         let t = works-keep K what k in
         let s : session_call K w ≡ Some c = sym (t.call (session_call K w)) ∙ (sym (moved (ev a what) K w q).0 ∙ h) in
-        let j = in-hand-of S R K w c legal.1 s in
+        let j = in-hand-of S R K w c legal.1 (omega arith) s in
         work K a w c what legal room q row k j s (session-grows (ev a what) K w j.n q z t.no_start j.notif_is) (ih s)
-    | inr k ↦ grind (arith, no-fetch, moved, in-hand-of)
+    | inr k ↦ let i = in-hand-of S R K w c legal.1 (omega arith) in grind (arith, no-fetch, moved)
   ]
 
   pub by-session : (K : List Event) → IsLegal S R K → length K < 2 ^ 64 → (w c : ℕ) → session_call K w ≡ Some c → P K w c
@@ -225,7 +226,7 @@ module _ (S : System) (R : Rules) (P : List Event → ℕ → ℕ → Type 0) (f
             let p = and_parts (is_worker e.who w) (not (skips e.what)) q in
             let row = worker-row S R K e.who e.what w (row-of S R K e legal.0) p.0 in
             session-step K e.who e.what w c legal room p.0 (not-true (skips e.what) p.1) row ih h
-        | inr q ↦ let t = still e K w q in let s = sym t.1 ∙ h in rest K e w c legal room q (in-hand-of S R K w c legal.1 s) s t.0 (ih s)
+        | inr q ↦ let t = still e K w q in let s = sym t.1 ∙ h in rest K e w c legal room q (in-hand-of S R K w c legal.1 (omega arith) s) s t.0 (ih s)
       ]
 
 -- ---- what a session names is its own call, or nothing once the call has left the list

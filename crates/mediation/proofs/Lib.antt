@@ -10,6 +10,7 @@ pub mod Replies
 pub mod Causes
 pub mod Spent
 pub mod Effects
+pub mod Told
 pub mod Audited
 pub mod Mediation
 pub mod Framed
@@ -17,3 +18,6 @@ pub mod Journals
 pub mod Played
 pub mod PlayedScripts
 pub mod Unmediated
+pub mod UnmediatedActs
+pub mod UnmediatedScripts
+pub mod MisledWorkers

@@ -52,7 +52,7 @@ no-more : (R : Rules) (own : List What) (a : What) (n : Notif) → Follows R own
     → HasCopied R (a ∷ own) n × (reads_of (a ∷ own) ≡ reads_of own) × (notif_of (a ∷ own) ≡ Some n)
 no-more R own a n s h c = grind arith
 
-used-more : (R : Rules) (D : Decision → Type 0) (own : List What) (a : What) (n : Notif) → Follows R own a → notif_of own ≡ Some n → Used R D own n → Used R D (a ∷ own) n
+pub used-more : (R : Rules) (D : Decision → Type 0) (own : List What) (a : What) (n : Notif) → Follows R own a → notif_of own ≡ Some n → Used R D own n → Used R D (a ∷ own) n
 used-more R D own a n s h u = let m = no-more R own a n s h u.copied in record { copied = m.0; sound = rw m.1 u.sound; decided = rw m.1 u.decided }
 
 -- once something was put, the rule injects, and once an effect's times were spent, it grants

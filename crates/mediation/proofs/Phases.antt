@@ -2,15 +2,15 @@
 -- By induction on a legal history, through the worker that has the call in hand.
 use Rattle.mediation.proofs.Common.{[], Actor, Addfd, AddfdPut, AddfdTake, answers, any_of, arith, below_or_last, Bool, both_ways, call_at, call_of, caller, cases_Bool, Check}
 use Rattle.mediation.proofs.Common.{eq-eqb, Err, ev, Event, event_at-here, event_at-older, false, false_from_ne_true, fetched, fetcher, fetches, first_some, gives_up, id, inl, inr, Install}
-use Rattle.mediation.proofs.Common.{install_of, install_step, installs_for, is_first, is_known_error, is_lost, is_place, is_send, is_worker, IsLegal, length, List, listed, name_eq-true, name_of}
+use Rattle.mediation.proofs.Common.{install_at, install_of, install_step, installs_for, is_first, is_known_error, is_lost, is_place, is_send, is_worker, IsLegal, length, List, listed, name_eq-true, name_of}
 use Rattle.mediation.proofs.Common.{named, None, Ok, oldest_unfetched, OpenBase, OpenMem, Option, or_left, or_parts, or_right, put_in, puts_to, queue, Recv, refl, request_after, request_of}
 use Rattle.mediation.proofs.Common.{Result, Rules, Send, session, session_call, SessionsSettle, settled, settles, slot_answer, Some, sym, System, take_in, take_step, Task, true, waiting, What}
-use Rattle.mediation.proofs.Common.{Worker, ℕ, ◌&&◌, ◌+◌, ◌<◌, ◌==◌, ◌^◌, ◌||◌, ◌∙◌, ◌∷◌, ◌≡◌, ◌≤◌}
+use Rattle.mediation.proofs.Common.{Worker, ℕ, ◌&&◌, ◌+◌, ◌<◌, ◌==◌, ◌^◌, ◌||◌, ◌∙◌, ◌∷◌, ◌≡◌, ◌≤◌, ◌⊎◌}
 use Rattle.history_frames.proofs.Listed.{listed-below, is_call-below, fetched-new}
 use Rattle.history_frames.proofs.Queued.{call-older, call-above, call-here}
 use Rattle.mediation.proofs.Rows.{WorkerRow, Row, row-of, by-few-steps}
 use Rattle.mediation.proofs.Tasks.{same-name, listed-was, waits-here, place-is}
-use Rattle.mediation.proofs.Calls.{ids_differ, fetching}
+use Rattle.mediation.proofs.Calls.{ids_differ, fetching, named-fetched}
 use Rattle.mediation.proofs.Hands.{InSession, works, at-work, no-fetch, in-hand, hand, in-hand-of, FetchKept, WorkKept, StillKept, by-session, named-own}
 use Rattle.mediation.proofs.Order.{is-own, put-fixed, take-after_put}
 use Rattle.mediation.proofs.Handles.{opens-own}
@@ -99,7 +99,7 @@ pub actor-acts : (S : System) (R : Rules) (K : List Event) (a : Actor) (what : W
     → (puts_to K what c || answers K what c) ≡ true → (v : ℕ) × (a ≡ Worker v) × (session_call K v ≡ Some c)
 actor-acts S R K (Worker v) what c legal room r h =
     let g = at-work S R K v what r (grind arith) in
-    let j = in-hand K v (session_call K v) g.0 g.1 (hand S R K legal v) in
+    let j = in-hand K v (session_call K v) g.0 g.1 (hand S R K legal room v) in
     let o = named-own S R K v j.0 legal room j.2 in
     (v, refl, grind arith)
 actor-acts S R K a what c legal room r h = grind arith
@@ -121,7 +121,7 @@ module _ (S : System) (R : Rules) where
   -- a call that nobody fetched is clean
   unfetched-calm : (K : List Event) (e : Event) (c : ℕ) → IsLegal S R K → length K < 2 ^ 64 → Row S R K e.who e.what → fetched K c ≡ false → Clean K c → Calm K e c
   unfetched-calm K e c legal room r f k =
-      calm-by K e c legal room r (λ v q z s. cc (f, (in-hand-of S R K v c legal s).got)) (false_from_ne_true (installs_for K e c) (λ z. cc (k.empty, (installing S R K e.who e.what c legal r z).queue_is)))
+      calm-by K e c legal room r (λ v q z s. cc (f, (in-hand-of S R K v c legal room s).got)) (false_from_ne_true (installs_for K e c) (λ z. cc (k.empty, (installing S R K e.who e.what c legal r z).queue_is)))
 
   unfetched-clean : (K : List Event) → IsLegal S R K → length K < 2 ^ 64 → (c : ℕ) → fetched K c ≡ false → Clean K c
   unfolding fetched
@@ -324,26 +324,32 @@ module _ (S : System) (R : Rules) where
   -- a listed call whose session has not asked for a descriptor, and has not given up, waits
   pub waits-now : (K : List Event) (w c : ℕ) → IsLegal S R K → length K < 2 ^ 64 → session_call K w ≡ Some c → listed K c ≡ true → any_of gives_up (session K w) ≡ false
       → first_some put_in (session K w) ≡ None → waiting K c ≡ true
-  waits-now K w c legal room s l g p = clean-waiting K c l (in-hand-of S R K w c legal s).got (rw p at ((at-call K legal room w c s l).stage g))
+  waits-now K w c legal room s l g p = clean-waiting K c l (in-hand-of S R K w c legal room s).got (rw p at ((at-call K legal room w c s l).stage g))
+
+  -- nor is it answered any more where what it asked for has failed
+  waits-anew : (K : List Event) (w c x : ℕ) (p : Option (Result (Unit {0}) ℕ)) (t : Option (Result ℕ ℕ)) → listed K c ≡ true → fetched K c ≡ true
+      → (install_at K (request_of K w) ≡ Some (Err x)) ⊎ (t ≡ Some (Err x)) → StageOf K c w p t → waiting K c ≡ true
+  waits-anew K w c x (Some (Ok u)) None l f h a = clean-waiting K c l f (elim h [ inl q ↦ let z : install_of K a.r ≡ Some (Err x) = rw a.mine at q in (rw z at a.placed).1 | inr q ↦ cc ])
+  waits-anew K w c x p t l f h k = clean-waiting K c l f k
 
   -- ---- a session leaves its call settled
 
   -- only a session that has given up lets go
-  left-hand : (K : List Event) (a : Actor) (what : What) (w c : ℕ) → IsLegal S R K → Row S R K a what → session_call K w ≡ Some c
+  left-hand : (K : List Event) (a : Actor) (what : What) (w c : ℕ) → IsLegal S R K → length K < 2 ^ 64 → Row S R K a what → session_call K w ≡ Some c
       → (session_call (ev a what ∷ K) w ≡ Some c → ⊥) → any_of gives_up (session K w) ≡ true
   unfolding session_call
-  left-hand K a what w c legal r s n = let i = in-hand-of S R K w c legal s in grind (arith, no-fetch)
+  left-hand K a what w c legal room r s n = let i = in-hand-of S R K w c legal room s in grind (arith, no-fetch)
 
   now-hand : (K : List Event) (a : Actor) (what : What) (w c : ℕ) → IsLegal S R K → length K < 2 ^ 64 → Row S R K a what → fetched K c ≡ false
       → fetcher (ev a what ∷ K) c ≡ Some w → session_call (ev a what ∷ K) w ≡ Some c
   unfolding session_call fetcher
-  now-hand K (Worker v) (Recv (Ok n)) w c legal room r f q = let d = fetching K n (oldest_unfetched K) refl r.1.1 in let y = fetcher-fetched K c w in let z = ids_differ S R K legal room d.0 c in grind arith
+  now-hand K (Worker v) (Recv (Ok n)) w c legal room r f q = let d = fetching K n (oldest_unfetched K) refl r.1.1 in let o = named-fetched S R K n legal room r.1.1 in let y = fetcher-fetched K c w in let z = ids_differ S R K legal room d.0 c in grind arith
   now-hand K a what w c legal room r f q = absurd (both_ways (fetched K c) f (fetcher-fetched K c w (grind arith)))
 
   settled-step : (K : List Event) (e : Event) (w c : ℕ) → IsLegal S R K → length K < 2 ^ 64 → Row S R K e.who e.what → ((session_call K w ≡ Some c → ⊥) → settled K c ≡ true)
       → listed K c ≡ true → (session_call (e ∷ K) w ≡ Some c → ⊥) → settled (e ∷ K) c ≡ true
   settled-step K e w c legal room r ih l n = settled-more e K c (elim (cases_Bool (is_place (session_call K w) c)) [
-    | inl q ↦ let s : session_call K w ≡ Some c = grind arith in (at-call K legal room w c s l).over (left-hand K e.who e.what w c legal r s n)
+    | inl q ↦ let s : session_call K w ≡ Some c = grind arith in (at-call K legal room w c s l).over (left-hand K e.who e.what w c legal room r s n)
     | inr q ↦ ih (λ s. both_ways (is_place (session_call K w) c) q (rw s (eq-eqb c c refl)))
   ])
 
@@ -358,4 +364,10 @@ module _ (S : System) (R : Rules) where
       ])
 
   pub sessions_settle : (K : List Event) → IsLegal S R K → length K < 2 ^ 64 → SessionsSettle K
-  sessions_settle K legal room w c l f = record { ended = let-go K legal room w c f l; ends = λ s g. (at-call K legal room w c s l).over g; goes_on = λ s. waits-now K w c legal room s l }
+  sessions_settle K legal room w c l f = record {
+    ended = let-go K legal room w c f l;
+    ends = λ s g. (at-call K legal room w c s l).over g;
+    goes_on = λ s. waits-now K w c legal room s l;
+    refused = λ x s g p. clean-waiting K c l (in-hand-of S R K w c legal room s).got (rw p at ((at-call K legal room w c s l).stage g));
+    failed = λ x s g h. waits-anew K w c x (first_some put_in (session K w)) (first_some take_in (session K w)) l (in-hand-of S R K w c legal room s).got h ((at-call K legal room w c s l).stage g);
+  }

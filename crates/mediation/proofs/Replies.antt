@@ -187,7 +187,7 @@ module _ (S : System) (R : Rules) where
       own : (K : List Event) (a : Actor) (what : What) → IsLegal S R K → length K < 2 ^ 64 → Row S R K a what → NamesOwn K (ev a what)
       own K (Worker w) what legal room row h =
           let g = at-work S R K w what row (grind arith) in
-          let j = in-hand K w (session_call K w) g.0 g.1 (hand S R K legal w) in
+          let j = in-hand K w (session_call K w) g.0 g.1 (hand S R K legal room w) in
           (w, j.0, refl, j.1, accepts K w j.0 what j.2.n row h j.2.notif_is (named-own S R K w j.0 legal room j.2))
       own K a what legal room row h = grind arith
 
@@ -196,7 +196,7 @@ module _ (S : System) (R : Rules) where
       let r : WorkerRow S R K w e.what = rw who at row in
       let v : works e.what ≡ true = grind arith in
       let g = at-work S R K w e.what r v in
-      let j = in-hand K w (session_call K w) g.0 g.1 (hand S R K legal w) in
+      let j = in-hand K w (session_call K w) g.0 g.1 (hand S R K legal room w) in
       (j.0, j.1, false_from_ne_true (listed K j.0) (λ l. both_ways (is_lost e.what) (fine S R K e.who w j.0 legal room l j.2 (at-call S R K legal room w j.0 j.1 l) e.what r v).0 z)))
 
   install-known : (K : List Event) → IsLegal S R K → (p x : ℕ) → install_of K p ≡ Some (Err x) → ((x == ebadf) || ((x == emfile) || (x == enoent))) ≡ true
@@ -212,7 +212,7 @@ module _ (S : System) (R : Rules) where
   error-known K (Worker w) what legal room row = elim (cases_Bool (works what)) [
     | inl v ↦
         let g = at-work S R K w what row v in
-        let j = in-hand K w (session_call K w) g.0 g.1 (hand S R K legal w) in
+        let j = in-hand K w (session_call K w) g.0 g.1 (hand S R K legal room w) in
         elim (cases_Bool (listed K j.0)) [
           | inl l ↦ (fine S R K (Worker w) w j.0 legal room l j.2 (at-call S R K legal room w j.0 j.1 l) what row v).1
           | inr l ↦ gone-known K w j.0 what legal row j.2 (rw l at (named-own S R K w j.0 legal room j.2))

@@ -147,3 +147,8 @@ by-few-steps S R P z f (e ∷ K) legal room = f K e legal.1 (omega arith) (row-o
 pub each : (S : System) (R : Rules) (P : List Event → Event → Type 0) → ((K : List Event) (e : Event) → IsLegal S R K → length K < 2 ^ 64 → Row S R K e.who e.what → P K e)
     → (K : List Event) → IsLegal S R K → length K < 2 ^ 64 → Each P K
 each S R P f = by-few-steps S R (Each P) tt (λ K e legal room r ih. (f K e legal room r, ih))
+
+-- and so does what holds of any list of events and one more
+pub each-any : (P : List Event → Event → Type 0) → ((K : List Event) (e : Event) → P K e) → (K : List Event) → Each P K
+each-any P f [] = tt
+each-any P f (e ∷ K) = (f K e, each-any P f K)

@@ -12,8 +12,7 @@ use Rattle.hist_model.specs.Trees.{are_attr_flags, Tree}
 use Rattle.hist_model.specs.declared.request.MountRow.{MountRow}
 use Rattle.hist_model.specs.declared.request.Node.{Node}
 use Rattle.hist_model.specs.declared.request.Request.{Request}
-use Rattle.hist_model.specs.declared.request.TreeOp.{TreeOp}
-use Rattle.hist_model.specs.declared.request.TreeOp.TheVariants.{Fail, Make, Mount, SetAttr, Open}
+use Rattle.hist_model.specs.TreeOps.{TreeOp, Fail, Make, Mount, SetAttr, Open}
 use Rattle.sys_abi.specs.Errnos.{efault, einval, edquot}
 use Rattle.mediation.proofs.Rows.{Row, each}
 

@@ -42,7 +42,7 @@ use Rattle.mediation.specs.Unmediated.{effect_before_check, other_effect, other_
 use Rattle.mediation.specs.Unmediated.{unread_pass, other_denial, other_failure, long_read, lost_too_soon, given_up, left_open, empty_receive, privileged_pass}
 
 -- a clause that is broken is one of the mediated history's
-breaks : (Clause : List Event → Type 0) (steps : Turns) → (Mediated rules container (history steps) → Clause (history steps)) → (Clause (history steps) → ⊥) → Breaks Clause steps
+pub breaks : (Clause : List Event → Type 0) (steps : Turns) → (Mediated rules container (history steps) → Clause (history steps)) → (Clause (history steps) → ⊥) → Breaks Clause steps
 breaks Clause steps part refuted = (refuted, λ m. refuted (part m))
 
 pub granted_is_played : GrantedIsPlayed
@@ -68,7 +68,7 @@ second-receive = breaks OneSession second_receive (λ m. m.one_session) (λ h. o
 -- ---- each reply or descriptor reaches the call it was meant for or nobody
 
 answer-to-another : Breaks (Each NamesOwn) answer_to_another
-unfolding session_call oldest_unfetched fetched listed named oldest event_at
+unfolding session_call listed named oldest event_at
 answer-to-another = breaks (Each NamesOwn) answer_to_another (λ m. m.own) (λ h. let z = h.0 refl in let w : z.0 ≡ 0 = cc (z.2) in let c : z.1 ≡ 3 = cc (rw w at z.3) in cc (rw c at z.4))
 
 other-number : Breaks (Each ReturnsInstalled) other_number
@@ -148,7 +148,7 @@ flagless : (a : Addfd) (x src flags : ℕ) (at : Option ℕ) → a.flags ≡ 0 �
 flagless a x src flags None f q = cc
 flagless a x src flags (Some n) f q = cc
 
-unlike : (m n : ℕ) → m ≡ n → (m == n) ≡ false → ⊥
+pub unlike : (m n : ℕ) → m ≡ n → (m == n) ≡ false → ⊥
 unlike m n q h = grind arith
 
 other-effect : Breaks (Each (ActIsGranted rules container)) other_effect
@@ -226,12 +226,12 @@ long-place r n h = grind arith
 long-read : Breaks (AuditNames rules) long_read
 unfolding event_at before session progress read_text request fits decide_from decide session_at heard
 long-read = breaks (AuditNames rules) long_read (λ m. m.audit) (λ h.
-    let z = h 9 0 1 (Fail 13) (Ok tt) (notified node 1) refl refl in
-    let r = long-place z.0 (notified node 1) z.1 in
-    cc ((rw (r.0) at z.2).0))
+    let z = h 9 0 (Send 1 (Fail 13) (Ok tt)) (notified node 1) refl refl refl in
+    let r = long-place z.place (notified node 1) z.receive in
+    cc ((rw (r.0) at z.finds).0))
 
 lost-too-soon : Breaks (Each LostIfGone) lost_too_soon
-unfolding session_call oldest_unfetched fetched listed oldest event_at
+unfolding session_call named listed oldest event_at
 lost-too-soon = breaks (Each LostIfGone) lost_too_soon (λ m. m.lost) (λ h. let z = h.0 0 refl refl in let c : z.0 ≡ 2 = cc (z.1) in cc (rw c at z.2))
 
 given-up : Breaks (Each EndsForReason) given_up

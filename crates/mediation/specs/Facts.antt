@@ -1,18 +1,13 @@
 -- Facts of legal histories, beside those that mediation asks for, and which kinds of event can change which definitions.
-use Rattle.std.specs.Prelude.{◌≡◌, ◌⊎◌, ◌&&◌, ◌==◌, if◌then◌else◌, ℕ, true, false, List, [], ◌∷◌, ◌++◌, Some, None, Ok, Err, Bool}
-use Rattle.hist_model.specs.Look.{event_at, Name, is_worker, task_name}
-use Rattle.hist_model.specs.Memory.{own_group}
-use Rattle.hist_model.specs.Files.{files, request_for}
-use Rattle.hist_model.specs.Signals.{call_of}
-use Rattle.hist_model.specs.declared.request.Obj.TheVariants.{Broker}
-use Rattle.hist_model.specs.declared.script.Script.{Script}
+use Rattle.std.specs.Prelude.{◌≡◌, ◌⊎◌, ℕ, true, false, List, [], ◌∷◌, ◌++◌, Some, None, Err, Bool}
+use Rattle.hist_model.specs.Look.{event_at, Name, is_worker}
 use Rattle.hist_model.specs.Tasks.{name_of, ended, reaped, holder, next_pid}
 use Rattle.hist_model.specs.Kinds.{closes, gives_up, is_good_check}
 use Rattle.hist_model.specs.Calls.{is_call, id, caller, listed, settled, waiting, named, fetched, answered, count}
-use Rattle.hist_model.specs.Sessions.{Rules, session, any_of, first_some, put_in}
+use Rattle.hist_model.specs.Sessions.{Rules, session, any_of, first_some, put_in, take_in}
 use Rattle.hist_model.specs.Systems.{System}
 use Rattle.hist_model.specs.Laws.{fetcher}
-use Rattle.hist_model.specs.Steps.{IsLegal, makes_in, session_call, task_place, group, mem, base}
+use Rattle.hist_model.specs.Steps.{IsLegal, makes_in, session_call, task_place, group, mem, base, install_at, request_of}
 use Rattle.hist_model.specs.Legal.{Finished}
 use Rattle.hist_model.specs.declared.event.Event.{Event}
 use Rattle.hist_model.specs.declared.event.What.{What}
@@ -40,25 +35,17 @@ abbrev pub HandlesOwn : List Event → Type 0
 HandlesOwn K = (w c t g : ℕ) → session_call K w ≡ Some c → task_place K (caller K c) ≡ Some t → (listed K c ≡ true) ⊎ (any_of is_good_check (session K w) ≡ true)
     → (mem K w ≡ Some g → g ≡ group K t) × (base K w ≡ Some g → g ≡ group K t)
 
--- a fetched call that is still listed: where its session has ended, or is about to, it is settled; where the session goes on and has asked for no descriptor, it waits
+-- a fetched call that is still listed: where its session has ended, or is about to, it is settled; where the session goes on, and isn't to get the descriptor that it asked for, it waits
 pub record SessionSettles (K : List Event) (w c : ℕ) : Type 0 where
   pub ended : (session_call K w ≡ Some c → ⊥) → settled K c ≡ true
   pub ends : session_call K w ≡ Some c → any_of gives_up (session K w) ≡ true → settled K c ≡ true
   pub goes_on : session_call K w ≡ Some c → any_of gives_up (session K w) ≡ false → first_some put_in (session K w) ≡ None → waiting K c ≡ true
+  -- it waits too where the broker had no such descriptor, and where the installation failed, before the session has taken that answer and after it
+  pub refused : (x : ℕ) → session_call K w ≡ Some c → any_of gives_up (session K w) ≡ false → first_some put_in (session K w) ≡ Some (Err x) → waiting K c ≡ true
+  pub failed : (x : ℕ) → session_call K w ≡ Some c → any_of gives_up (session K w) ≡ false → (install_at K (request_of K w) ≡ Some (Err x)) ⊎ (first_some take_in (session K w) ≡ Some (Err x)) → waiting K c ≡ true
 
 abbrev pub SessionsSettle : List Event → Type 0
 SessionsSettle K = (w c : ℕ) → listed K c ≡ true → fetcher K c ≡ Some w → SessionSettles K w c
-
--- ---- what an installation changes, in any list of events
-
--- one that gave a number puts its request's file there, and leaves every other slot of every group as it was
-abbrev pub InstallsAlone : Script → List Event → Event → Type 0
-InstallsAlone S K e = (m : ℕ) → e.what ≡ Install (Ok m) → (f j : ℕ)
-    → (files S (e ∷ K)).slot f j ≡ (if (f == own_group K e.who) && (j == m) then Some (Broker (request_for K (call_of K (task_name e.who))).srcfd) else (files S K).slot f j)
-
--- one that failed leaves every slot as it was
-abbrev pub FailsAlone : Script → List Event → Event → Type 0
-FailsAlone S K e = (x : ℕ) → e.what ≡ Install (Err x) → (f j : ℕ) → (files S (e ∷ K)).slot f j ≡ (files S K).slot f j
 
 -- ---- which kinds of event can change which definitions
 

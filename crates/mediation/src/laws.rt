@@ -14,9 +14,9 @@ ghost use Rattle.hist_model.specs.Legal.{Legal, played};
 ghost use Rattle.hist_model.specs.ScriptRules.{IsScript};
 ghost use Rattle.hist_model.specs.declared.policy.Policy.{Policy};
 ghost use Rattle.hist_model.specs.declared.script.Script.{Script};
-ghost use Rattle.hist_model.specs.Mediated.{Mediated, Each, TakenByItsActor, NamesOwn, NeverBusy, ErrorsKnown, LostIfGone, HasCause, KeepsOrder, EndsForReason};
+ghost use Rattle.hist_model.specs.Mediated.{Mediated, Each, TakenByItsActor, NamesOwn, NeverBusy, ErrorsKnown, InstallsAlone, FailsAlone, LostIfGone, HasCause, KeepsOrder, EndsForReason};
 ghost use Rattle.mediation.specs.Journals.{actors, IsLegalByPlace, FixedByJournal};
-ghost use Rattle.mediation.specs.Facts.{CallIdsDiffer, NamesDiffer, HandlesOwn, SessionsSettle, StaysFinished, InstallsAlone, FailsAlone, Frame};
+ghost use Rattle.mediation.specs.Facts.{CallIdsDiffer, NamesDiffer, HandlesOwn, SessionsSettle, StaysFinished, Frame};
 ghost use Rattle.mediation.specs.Scheduled.{AllScheduled};
 
 /// Every legal history is mediated: each notification is answered at most once; each reply or descriptor reaches the
@@ -192,7 +192,8 @@ pub fn handles_own()
     ensures { (S : System) (R : Rules) (K : List Event) → IsLegal S R K → length K < 2 ^ 64 → HandlesOwn K }
 {}
 
-/// A listed call whose session has ended is settled, and one whose session goes on, and has asked for no descriptor, waits.
+/// A listed call whose session has ended is settled, and one whose session goes on waits, where it asked for no descriptor,
+/// was refused one, or the installation of what it asked for failed.
 #[tactic(auto, using(crate::proofs::Phases::sessions_settle))]
 pub fn sessions_settle()
     ensures { (S : System) (R : Rules) (K : List Event) → IsLegal S R K → length K < 2 ^ 64 → SessionsSettle K }

@@ -12,4 +12,6 @@
 #![tactic(auto)]
 
 pub mod laws;
+pub mod misled;
 pub mod refused;
+pub mod refused_acts;
