@@ -4,7 +4,7 @@ use Rattle.std.proofs.Common.{◌≡◌, ◌≢◌, ℕ, zero, suc, ◌<◌, ◌
 use Rattle.std.specs.Prelude.{nat_lt, ◌==◌, ⊤}
 use Rattle.std.proofs.lemmas.Bool.{cases_Bool}
 use Rattle.std.proofs.lemmas.Bool.Decides.{nat_tests}
-use Rattle.lex_core.specs.Lexical.{is_blank, is_bare, escaped, hex_digit, hex_byte, fault_behind_bare, tokens, bare, quoted, after, ended, begun, with_byte}
+use Rattle.lex_core.specs.Lexical.{is_blank, is_bare, begins_token, escaped, hex_digit, hex_byte, fault_behind, tokens, bare, quoted, after, ended, begun, with_byte}
 use Rattle.lex_core.specs.Steps.{with_bytes, with_tokens, EndsToken}
 use Rattle.lex_core.specs.Grammar.{AreBare, Written, LacksDigits, LacksEscape, Breaks, Reads}
 use Rattle.lex_core.specs.Grammar.Written.{nothing, itself, letter, digits}
@@ -23,6 +23,18 @@ bare-not-blank b h = grind (arith, nat_tests)
 bare-not-quote : (b : ℕ) → is_bare b ≡ true → (b == 34) ≡ false
 bare-not-quote b h = grind (arith, nat_tests)
 
+begins-not-blank : (b : ℕ) → begins_token b ≡ true → is_blank b ≡ false
+begins-not-blank b h = grind (arith, nat_tests)
+
+stray-not-bare : (b : ℕ) → begins_token b ≡ false → is_bare b ≡ false
+stray-not-bare b h = grind (arith, nat_tests)
+
+stray-not-quote : (b : ℕ) → begins_token b ≡ false → (b == 34) ≡ false
+stray-not-quote b h = grind (arith, nat_tests)
+
+begins-none : (b : ℕ) → is_bare b ≡ false → (b == 34) ≡ false → begins_token b ≡ false
+begins-none b h q = rw (h, q) refl
+
 after-blank : (b : ℕ) (rest : List ℕ) → is_blank b ≡ true → after (b ∷ rest) ≡ tokens (b ∷ rest)
 unfolding tokens
 after-blank b rest h = rw h refl
@@ -35,11 +47,11 @@ after_ends : (rest : List ℕ) → EndsToken rest → after rest ≡ tokens rest
 after_ends [] e = after-end
 after_ends (b ∷ bs) e = after-blank b bs e
 
-after_touched : (b : ℕ) (rest : List ℕ) → is_bare b ≡ true → after (b ∷ rest) ≡ Err BadQuote
+after_touched : (b : ℕ) (rest : List ℕ) → begins_token b ≡ true → after (b ∷ rest) ≡ Err BadQuote
 unfolding tokens
-after_touched b rest h = let k : is_blank b ≡ false = bare-not-blank b h in rw (k, h) refl
+after_touched b rest h = let k : is_blank b ≡ false = begins-not-blank b h in rw (k, h) refl
 
-after_strays : (b : ℕ) (rest : List ℕ) → is_blank b ≡ false → is_bare b ≡ false → after (b ∷ rest) ≡ Err BadByte
+after_strays : (b : ℕ) (rest : List ℕ) → is_blank b ≡ false → begins_token b ≡ false → after (b ∷ rest) ≡ Err BadByte
 unfolding tokens
 after_strays b rest h k = rw (h, k) refl
 
@@ -47,15 +59,15 @@ bare_word : (front rest : List ℕ) → AreBare front → EndsToken rest → bar
 bare_word [] rest a e = bare-ended rest e ∙ sym (with_bytes-none _)
 bare_word (b ∷ bs) rest a e = bare-more b (bs ++ rest) a.0 ∙ ap (with_byte b) (bare_word bs rest a.1 e) ∙ with_byte-bytes b bs _
 
-word_stopped : (front : List ℕ) (c : ℕ) (rest : List ℕ) → AreBare front → is_blank c ≡ false → is_bare c ≡ false → bare (front ++ c ∷ rest) ≡ Err (fault_behind_bare c)
+word_stopped : (front : List ℕ) (c : ℕ) (rest : List ℕ) → AreBare front → is_blank c ≡ false → is_bare c ≡ false → bare (front ++ c ∷ rest) ≡ Err (fault_behind c)
 word_stopped [] c rest a h k = bare-stopped c rest k h
 word_stopped (b ∷ bs) c rest a h k = bare-more b (bs ++ c ∷ rest) a.0 ∙ ap (with_byte b) (word_stopped bs c rest a.1 h k)
 
 not-same : (b n : ℕ) → b ≢ n → (b == n) ≡ false
 not-same b n h = grind (arith, nat_tests)
 
-fault-not-quote : (c : ℕ) → c ≢ 34 → fault_behind_bare c ≡ BadByte
-fault-not-quote c q = rw (not-same c 34 q) refl
+fault-stray : (c : ℕ) → begins_token c ≡ false → fault_behind c ≡ BadByte
+fault-stray c k = rw k refl
 
 quoted-itself : (b : ℕ) (bs : List ℕ) → (b == 34) ≡ false → (b == 92) ≡ false → nat_lt b 32 ≡ false → quoted (b ∷ bs) ≡ with_byte b (quoted bs)
 unfolding tokens
@@ -125,9 +137,9 @@ tokens-nothing : tokens [] ≡ Ok []
 unfolding tokens
 tokens-nothing = refl
 
-tokens-stray : (b : ℕ) (rest : List ℕ) → is_blank b ≡ false → is_bare b ≡ false → (b == 34) ≡ false → tokens (b ∷ rest) ≡ Err BadByte
+tokens-stray : (b : ℕ) (rest : List ℕ) → is_blank b ≡ false → begins_token b ≡ false → tokens (b ∷ rest) ≡ Err BadByte
 unfolding tokens
-tokens-stray b rest h k q = rw (h, k, q) refl
+tokens-stray b rest h k = let w : is_bare b ≡ false = stray-not-bare b k in let q : (b == 34) ≡ false = stray-not-quote b k in rw (h, w, q) refl
 
 tokens-word : (b : ℕ) (rest : List ℕ) → is_bare b ≡ true → tokens (b ∷ rest) ≡ begun Bare (bare (b ∷ rest))
 tokens-word b rest h = tokens-bare b rest (bare-not-blank b h) (bare-not-quote b h)
@@ -141,10 +153,10 @@ reads_only _ _ (word b front rest reading a e d) =
 reads_only _ _ (text front bytes rest reading w e d) =
     tokens_of_quoted (front ++ 34 ∷ rest) ∙ ap (begun Quoted) (quoted_followed front bytes rest w ∙ ap (λ r. with_bytes bytes (ended r)) (after_ends rest e))
     ∙ begun_ended Quoted bytes (tokens rest) ∙ ap (with_tokens (Quoted bytes ∷ [])) (reads_only rest reading d)
-reads_only _ _ (stray b rest h k q) = tokens-stray b rest h k (not-same b 34 q)
+reads_only _ _ (stray b rest h k) = tokens-stray b rest h k
 reads_only _ _ (word_touched b front rest a) = tokens-word b (front ++ 34 ∷ rest) a.0 ∙ ap (begun Bare) (word_stopped (b ∷ front) 34 rest a refl refl)
-reads_only _ _ (word_strays b c front rest a h k q) =
-    tokens-word b (front ++ c ∷ rest) a.0 ∙ ap (begun Bare) (word_stopped (b ∷ front) c rest a h k) ∙ ap Err (fault-not-quote c q)
+reads_only _ _ (word_strays b c front rest a h k) =
+    tokens-word b (front ++ c ∷ rest) a.0 ∙ ap (begun Bare) (word_stopped (b ∷ front) c rest a h (stray-not-bare c k)) ∙ ap Err (fault-stray c k)
 reads_only _ _ (text_touched c front bytes rest w h) =
     tokens_of_quoted (front ++ 34 ∷ c ∷ rest) ∙ ap (begun Quoted) (quoted_followed front bytes (c ∷ rest) w ∙ ap (λ r. with_bytes bytes (ended r)) (after_touched c rest h))
 reads_only _ _ (text_strays c front bytes rest w h k) =
@@ -241,7 +253,7 @@ read-word b front (c ∷ rest) a s r = elim (cases_Bool (is_blank c)) [
   | inl h ↦ (_, word b front (c ∷ rest) r.0 a h r.1)
   | inr h ↦ elim (cases_Bool (c == 34)) [
     | inl q ↦ (_, subst (λ (d : ℕ). Reads (b ∷ front ++ d ∷ rest) (Err BadQuote)) (sym (same c 34 q)) (word_touched b front rest a))
-    | inr q ↦ (_, word_strays b c front rest a h s (other c 34 q))
+    | inr q ↦ (_, word_strays b c front rest a h (begins-none c s q))
   ]
 ]
 
@@ -249,7 +261,7 @@ read-text : (front bytes rest : List ℕ) → Written front bytes → Read rest 
 read-text front bytes [] w r = (_, text front bytes [] r.0 w tt r.1)
 read-text front bytes (c ∷ rest) w r = elim (cases_Bool (is_blank c)) [
   | inl h ↦ (_, text front bytes (c ∷ rest) r.0 w h r.1)
-  | inr h ↦ elim (cases_Bool (is_bare c)) [
+  | inr h ↦ elim (cases_Bool (begins_token c)) [
     | inl k ↦ (_, text_touched c front bytes rest w k)
     | inr k ↦ (_, text_strays c front bytes rest w h k)
   ]
@@ -279,7 +291,7 @@ read_of (suc n) (b ∷ bs) l = elim (cases_Bool (is_blank b)) [
     | inl k ↦ read_bare n (λ line m. read_of n line m) b bs (omega arith) k (word_of bs)
     | inr k ↦ elim (cases_Bool (b == 34)) [
       | inl q ↦ subst (λ (c : ℕ). Read (c ∷ bs)) (sym (same b 34 q)) (read_quoted n (λ line m. read_of n line m) bs (omega arith) (text_of (length bs) bs (omega arith)))
-      | inr q ↦ (Err BadByte, stray b bs h k (other b 34 q))
+      | inr q ↦ (Err BadByte, stray b bs h (begins-none b k q))
     ]
   ]
 ]

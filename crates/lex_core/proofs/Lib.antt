@@ -2,3 +2,4 @@ pub mod Readings
 pub mod Splits
 pub mod Values
 pub mod Derivations
+mod WorkedLines

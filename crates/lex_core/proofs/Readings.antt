@@ -4,9 +4,9 @@ use Rattle.std.proofs.Common.{◌≡◌, ◌≢◌, ℕ, zero, suc, ◌+◌, ◌
 use Rattle.std.specs.Prelude.{◌==◌}
 use Rattle.std.specs.List.{prefix_len}
 use Rattle.std.proofs.lemmas.Bool.{cases_Bool}
-use Rattle.lex_core.specs.Lexical.{Within, is_blank, is_bare, fault_behind_bare, tokens, bare, quoted, ended, begun, with_byte}
+use Rattle.lex_core.specs.Lexical.{Within, is_blank, is_bare, fault_behind, tokens, bare, quoted, ended, begun, with_byte}
 use Rattle.lex_core.specs.Lines.{is_skipped}
-use Rattle.lex_core.specs.Steps.{past_blanks, with_bytes, with_tokens, BeginsToken, EndsToken, Refuses, touching}
+use Rattle.lex_core.specs.Steps.{past_blanks, with_bytes, with_tokens, IsPastBlanks, EndsToken, Refuses, touching}
 use Rattle.lex_core.specs.declared.line.Token.{Token}
 use Rattle.lex_core.specs.declared.line.Token.TheVariants.{Bare, Quoted}
 use Rattle.lex_core.specs.declared.reason.Reason.{Reason}
@@ -45,7 +45,7 @@ past_shorter (b ∷ bs) = elim (cases_Bool (is_blank b)) [
   | inr h ↦ rw (past-other b bs h) (omega arith)
 ]
 
-pub begins_past : (line : List ℕ) → 0 < length (past_blanks line) → BeginsToken (past_blanks line)
+pub begins_past : (line : List ℕ) → 0 < length (past_blanks line) → IsPastBlanks (past_blanks line)
 begins_past [] l = let k : 0 < 0 = rw past-end at l in absurd (omega arith)
 begins_past (b ∷ bs) l = elim (cases_Bool (is_blank b)) [
   | inl h ↦ let k : 0 < length (past_blanks bs) = rw (past-blank b bs h) at l in rw (past-blank b bs h) (begins_past bs k)
@@ -115,7 +115,7 @@ pub bare-ended : (rest : List ℕ) → EndsToken rest → bare rest ≡ ended (t
 bare-ended [] e = bare-end
 bare-ended (b ∷ bs) e = bare-blank b bs e (blank-not-bare b e)
 
-pub bare-stopped : (b : ℕ) (bs : List ℕ) → is_bare b ≡ false → is_blank b ≡ false → bare (b ∷ bs) ≡ Err (fault_behind_bare b)
+pub bare-stopped : (b : ℕ) (bs : List ℕ) → is_bare b ≡ false → is_blank b ≡ false → bare (b ∷ bs) ≡ Err (fault_behind b)
 unfolding tokens
 bare-stopped b bs h k = rw (h, k) refl
 
@@ -147,18 +147,18 @@ touching-byte : (b c : ℕ) (cs : List ℕ) → is_blank c ≡ false → touchin
 touching-byte b c cs h e = let k : Some c ≡ Some b = rw h at e in cc
 
 -- the byte that stops a bare token is no blank
-pub bare_refused : (text : List ℕ) (b : ℕ) → touching (drop (prefix_len is_bare text) text) ≡ Some b → bare text ≡ Err (fault_behind_bare b)
+pub bare_refused : (text : List ℕ) (b : ℕ) → touching (drop (prefix_len is_bare text) text) ≡ Some b → bare text ≡ Err (fault_behind b)
 bare_refused [] b e = absurd (touching-end b e)
 bare_refused (c ∷ cs) b e = elim (cases_Bool (is_bare c)) [
   | inl h ↦ bare-more c cs h ∙ ap (with_byte c) (bare_refused cs b (rw (h, drop-next) at e))
   | inr h ↦ elim (cases_Bool (is_blank c)) [
     | inl k ↦ absurd (touching-blank b c cs k (rw h at e))
-    | inr k ↦ bare-stopped c cs h k ∙ ap (λ d. Err (fault_behind_bare d)) (touching-byte b c cs k (rw h at e))
+    | inr k ↦ bare-stopped c cs h k ∙ ap (λ d. Err (fault_behind d)) (touching-byte b c cs k (rw h at e))
   ]
 ]
 
 -- what ends a token doesn't begin one
-pub token_is_some : (n : ℕ) (text : List ℕ) → BeginsToken text → EndsToken (drop n text) → n ≤ length text → length (drop n text) < length text
+pub token_is_some : (n : ℕ) (text : List ℕ) → IsPastBlanks text → EndsToken (drop n text) → n ≤ length text → length (drop n text) < length text
 token_is_some n [] begins ends l = absurd begins
 token_is_some zero (b ∷ bs) begins ends l = let k : true ≡ false = sym ends ∙ begins in absurd (cc)
 token_is_some (suc n) (b ∷ bs) begins ends l = omega (arith, length-drop n bs)
@@ -177,9 +177,9 @@ tokens-bare b bs h q = elim (cases_Bool (is_bare b)) [
   | inr k ↦ rw (h, k, q) refl
 ]
 
-tokens_bare : (text inner : List ℕ) (b : ℕ) → text ≡ b ∷ inner → BeginsToken text → b ≢ 34 → tokens text ≡ begun Bare (bare text)
+tokens_bare : (text inner : List ℕ) (b : ℕ) → text ≡ b ∷ inner → IsPastBlanks text → b ≢ 34 → tokens text ≡ begun Bare (bare text)
 tokens_bare text inner b e h q =
-    let k : is_blank b ≡ false = let P : List ℕ → Type 0 = BeginsToken in subst P e h in
+    let k : is_blank b ≡ false = let P : List ℕ → Type 0 = IsPastBlanks in subst P e h in
     ap tokens e ∙ tokens-bare b inner k (grind (arith, nat_tests)) ∙ ap (λ t. begun Bare (bare t)) (sym e)
 
 pub begun_ended : (kind : List ℕ → Token) (bytes : List ℕ) (later : Result (List Token) Reason) → begun kind (with_bytes bytes (ended later)) ≡ with_tokens (kind bytes ∷ []) later
@@ -196,10 +196,10 @@ quoted_read text inner bytes b later e q h = tokens_quoted text inner b e q ∙ 
 pub quoted_refused : (text inner : List ℕ) (b : ℕ) (e : OrNoMemory Reason) → text ≡ b ∷ inner → b ≡ 34 → Refuses e (quoted inner) → Refuses e (tokens text)
 quoted_refused text inner b e i q h = begun_refused e Quoted (quoted inner) (tokens text) (tokens_quoted text inner b i q) h
 
-pub bare_read : (text inner bytes : List ℕ) (b : ℕ) (later : Result (List Token) Reason) → text ≡ b ∷ inner → BeginsToken text → b ≢ 34 → bare text ≡ with_bytes bytes (ended later) → tokens text ≡ with_tokens (Bare bytes ∷ []) later
+pub bare_read : (text inner bytes : List ℕ) (b : ℕ) (later : Result (List Token) Reason) → text ≡ b ∷ inner → IsPastBlanks text → b ≢ 34 → bare text ≡ with_bytes bytes (ended later) → tokens text ≡ with_tokens (Bare bytes ∷ []) later
 bare_read text inner bytes b later e t q h = tokens_bare text inner b e t q ∙ ap (begun Bare) h ∙ begun_ended Bare bytes later
 
-pub word_refused : (text inner : List ℕ) (b : ℕ) (e : OrNoMemory Reason) → text ≡ b ∷ inner → BeginsToken text → b ≢ 34 → Refuses e (bare text) → Refuses e (tokens text)
+pub word_refused : (text inner : List ℕ) (b : ℕ) (e : OrNoMemory Reason) → text ≡ b ∷ inner → IsPastBlanks text → b ≢ 34 → Refuses e (bare text) → Refuses e (tokens text)
 word_refused text inner b e i t q h = begun_refused e Bare (bare text) (tokens text) (tokens_bare text inner b i t q) h
 
 -- ---- one token after another

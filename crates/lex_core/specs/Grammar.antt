@@ -4,7 +4,7 @@ use Rattle.lex_core.specs.declared.line.Token.{Token}
 use Rattle.lex_core.specs.declared.line.Token.TheVariants.{Bare, Quoted}
 use Rattle.lex_core.specs.declared.reason.Reason.{Reason}
 use Rattle.lex_core.specs.declared.reason.Reason.TheVariants.{BadByte, BadQuote}
-use Rattle.lex_core.specs.Lexical.{is_blank, is_bare, escaped, hex_digit, hex_byte}
+use Rattle.lex_core.specs.Lexical.{is_blank, is_bare, begins_token, escaped, hex_digit, hex_byte}
 use Rattle.lex_core.specs.Steps.{with_tokens, EndsToken}
 
 -- the bytes of a bare token, or a part of one
@@ -47,14 +47,14 @@ pub data Reads : List ℕ → Result (List Token) Reason → Type 0 where
   text : (front bytes rest : List ℕ) (reading : Result (List Token) Reason) → Written front bytes → EndsToken rest → Reads rest reading
       → Reads (34 ∷ front ++ 34 ∷ rest) (with_tokens (Quoted bytes ∷ []) reading)
   -- a byte that begins no token
-  stray : (b : ℕ) (rest : List ℕ) → is_blank b ≡ false → is_bare b ≡ false → b ≢ 34 → Reads (b ∷ rest) (Err BadByte)
+  stray : (b : ℕ) (rest : List ℕ) → is_blank b ≡ false → begins_token b ≡ false → Reads (b ∷ rest) (Err BadByte)
   -- a bare token that a quote touches
   word_touched : (b : ℕ) (word rest : List ℕ) → AreBare (b ∷ word) → Reads (b ∷ word ++ 34 ∷ rest) (Err BadQuote)
-  -- a bare token, and then a byte that can stand in no token
-  word_strays : (b c : ℕ) (word rest : List ℕ) → AreBare (b ∷ word) → is_blank c ≡ false → is_bare c ≡ false → c ≢ 34 → Reads (b ∷ word ++ c ∷ rest) (Err BadByte)
-  -- a quoted token that a bare one touches
-  text_touched : (c : ℕ) (front bytes rest : List ℕ) → Written front bytes → is_bare c ≡ true → Reads (34 ∷ front ++ 34 ∷ c ∷ rest) (Err BadQuote)
-  -- a quoted token, and then a byte that can stand in no bare one
-  text_strays : (c : ℕ) (front bytes rest : List ℕ) → Written front bytes → is_blank c ≡ false → is_bare c ≡ false → Reads (34 ∷ front ++ 34 ∷ c ∷ rest) (Err BadByte)
+  -- a bare token, and then a byte that begins none
+  word_strays : (b c : ℕ) (word rest : List ℕ) → AreBare (b ∷ word) → is_blank c ≡ false → begins_token c ≡ false → Reads (b ∷ word ++ c ∷ rest) (Err BadByte)
+  -- a quoted token that another token touches, bare or quoted
+  text_touched : (c : ℕ) (front bytes rest : List ℕ) → Written front bytes → begins_token c ≡ true → Reads (34 ∷ front ++ 34 ∷ c ∷ rest) (Err BadQuote)
+  -- a quoted token, and then a byte that begins none
+  text_strays : (c : ℕ) (front bytes rest : List ℕ) → Written front bytes → is_blank c ≡ false → begins_token c ≡ false → Reads (34 ∷ front ++ 34 ∷ c ∷ rest) (Err BadByte)
   -- a quoted token that isn't closed, or has what can't stand in it
   text_broken : (front bytes rest : List ℕ) → Written front bytes → Breaks rest → Reads (34 ∷ front ++ rest) (Err BadQuote)

@@ -33,13 +33,13 @@ abbrev pub hex_byte : Option ℕ → Option ℕ → Option ℕ
 hex_byte (Some high) (Some low) = Some (high * 16 + low)
 hex_byte _ _ = None
 
--- a byte, no blank, that ends a bare token: a quote begins a token that touches it, and any other can stand in none
-abbrev pub fault_behind_bare : ℕ → Reason
-fault_behind_bare b = if b == 34 then BadQuote else BadByte
+-- a byte that begins a token: a bare one, or with a quote a quoted one
+abbrev pub begins_token : ℕ → Bool
+begins_token b = is_bare b || (b == 34)
 
--- a byte, no blank, behind a quoted token: one that can stand in a bare token begins one that touches it, and a quote is as any other
-abbrev pub fault_behind_quoted : ℕ → Reason
-fault_behind_quoted b = if is_bare b then BadQuote else BadByte
+-- what is wrong with a byte right behind a token, where that doesn't go on and no blank follows: it begins a token that touches it, or none
+abbrev pub fault_behind : ℕ → Reason
+fault_behind b = if begins_token b then BadQuote else BadByte
 
 -- ---- lines
 
@@ -83,7 +83,7 @@ unfoldable mutual
   bare (b ∷ bs) =
       if is_bare b then with_byte b (bare bs)
       else if is_blank b then ended (tokens bs)
-      else Err (fault_behind_bare b)
+      else Err (fault_behind b)
 
   -- within a quoted token
   pub quoted : List ℕ → Within
@@ -108,4 +108,4 @@ unfoldable mutual
   -- behind a quoted token
   pub after : List ℕ → Result (List Token) Reason
   after [] = Ok []
-  after (b ∷ bs) = if is_blank b then tokens bs else Err (fault_behind_quoted b)
+  after (b ∷ bs) = if is_blank b then tokens bs else Err (fault_behind b)

@@ -42,9 +42,9 @@ Refuses (Refused reason) reading = reading ≡ Err reason
 Refuses NoMemory reading = ⊤
 
 -- a text that begins with no blank and isn't empty
-abbrev pub BeginsToken : List ℕ → Type 0
-BeginsToken [] = ⊥
-BeginsToken (b ∷ bs) = is_blank b ≡ false
+abbrev pub IsPastBlanks : List ℕ → Type 0
+IsPastBlanks [] = ⊥
+IsPastBlanks (b ∷ bs) = is_blank b ≡ false
 
 -- nothing follows a token, or a blank
 abbrev pub EndsToken : List ℕ → Type 0

@@ -1,7 +1,7 @@
 //! What single bytes of a line are for.
 
 ghost use Rattle.std.specs.Prelude.{◌≡◌, IfNone};
-ghost use Rattle.lex_core.specs.Lexical.{escaped, fault_behind_bare, fault_behind_quoted, hex_digit, is_bare, is_blank};
+ghost use Rattle.lex_core.specs.Lexical.{begins_token, escaped, fault_behind, hex_digit, is_bare, is_blank};
 ghost use Rattle.lex_core.specs.Steps.{touching, EndsToken};
 
 use crate::reason::Reason;
@@ -56,22 +56,18 @@ pub fn touching(rest: &[u8]) -> Option<u8>
     }
 }
 
-/// What is wrong with a byte, no blank, that ends a bare token.
-pub fn fault_behind_bare(byte: u8) -> Reason
-    ensures { result ≡ fault_behind_bare byte }
+/// Whether a byte begins a token.
+fn begins_token(byte: u8) -> bool
+    ensures { result ≡ begins_token byte }
 {
-    if byte == b'"' {
-        Reason::BadQuote
-    } else {
-        Reason::BadByte
-    }
+    is_bare(byte) || byte == b'"'
 }
 
-/// What is wrong with a byte, no blank, behind a quoted token.
-pub fn fault_behind_quoted(byte: u8) -> Reason
-    ensures { result ≡ fault_behind_quoted byte }
+/// What is wrong with a byte, no blank, that stands where a token has to end.
+pub fn fault_behind(byte: u8) -> Reason
+    ensures { result ≡ fault_behind byte }
 {
-    if is_bare(byte) {
+    if begins_token(byte) {
         Reason::BadQuote
     } else {
         Reason::BadByte

@@ -5,7 +5,7 @@ ghost use Rattle.lex_core.specs.Lexical as definitions;
 ghost use Rattle.lex_core.specs.Lexical.{after, ended, escape, hex, quoted, tokens, with_escape};
 ghost use Rattle.lex_core.specs.Steps.{after_escape, after_piece, with_bytes, Refuses};
 
-use crate::bytes::{escaped, fault_behind_quoted, hex_digit, touching};
+use crate::bytes::{escaped, fault_behind, hex_digit, touching};
 use crate::reason::Reason;
 use std::alloc::Global;
 use sys_abi::memory::OrNoMemory;
@@ -85,7 +85,7 @@ fn expect_end(rest: &[u8]) -> Result<(), OrNoMemory<Reason>>
     ensures refused { IfErr result (λ e. Refuses e (after rest.now)) }
 {
     match touching(rest) {
-        Some(byte) => Err(OrNoMemory::Refused(fault_behind_quoted(byte))),
+        Some(byte) => Err(OrNoMemory::Refused(fault_behind(byte))),
         None => Ok(()),
     }
 }

@@ -6,11 +6,11 @@ use thiserror::Error;
 /// of filters the others. Printed, a reason is the text that the program writes.
 #[derive(Clone, Copy, PartialEq, Eq, Debug, Error)]
 pub enum Reason {
-    /// Outside quotes, a byte that can stand in no token, or a quote right behind a quoted token.
+    /// Outside quotes, a byte that is no blank and begins no token.
     #[error("bad byte")]
     BadByte,
     /// A quote that isn't closed on its line, an unknown escape, a byte below 0x20 between quotes, or a
-    /// bare token that touches a quoted one.
+    /// token that touches a quoted one, before or behind it.
     #[error("bad quote")]
     BadQuote,
     /// The first token isn't a word that is known in any part.

@@ -2,11 +2,11 @@
 
 ghost use Rattle.std.specs.Prelude.{◌≡◌, ◌<◌, ◌≤◌, ◌+◌, [], ◌∷◌, length, not, position, Bool, false, IfOk, IfErr, OnOk, Ok, Err};
 ghost use Rattle.lex_core.specs.Lexical.{after, bare, ended, is_bare, is_blank, tokens};
-ghost use Rattle.lex_core.specs.Steps.{past_blanks, with_bytes, with_tokens, BeginsToken, Refuses};
+ghost use Rattle.lex_core.specs.Steps.{past_blanks, with_bytes, with_tokens, IsPastBlanks, Refuses};
 ghost use Rattle.lex_core.specs.Lines.{is_skipped};
 ghost use Rattle.std.specs.List.{prefix_len};
 
-use crate::bytes::{fault_behind_bare, is_bare, is_blank, touching};
+use crate::bytes::{fault_behind, is_bare, is_blank, touching};
 use crate::line::{Token, TokenBytes, Tokens};
 use crate::quotes::read_quoted;
 use crate::reason::Reason;
@@ -56,14 +56,14 @@ fn bare_len(text: &[u8]) -> usize
 /// The bytes of the bare token that `text` begins with, and what follows it.
 #[tactic(auto, using(crate::proofs::Readings::bare_taken, crate::proofs::Readings::bare_refused, crate::proofs::Readings::prefix_within, crate::proofs::Readings::token_is_some))]
 fn read_bare(alloc: Global, text: &[u8]) -> Result<(Vec<u8>, &[u8]), OrNoMemory<Reason>>
-    requires { BeginsToken text.now }
+    requires { IsPastBlanks text.now }
     ensures reading { IfOk result (λ found. bare text.now ≡ with_bytes found.0.items (ended (tokens found.1.now))) }
     ensures shorter { IfOk result (λ found. length found.1.now < length text.now) }
     ensures refused { IfErr result (λ e. Refuses e (bare text.now)) }
 {
     let (front, rest) = text.split_at(bare_len(text));
     match touching(rest) {
-        Some(byte) => Err(OrNoMemory::Refused(fault_behind_bare(byte))),
+        Some(byte) => Err(OrNoMemory::Refused(fault_behind(byte))),
         None => Ok((Vec::from_slice(alloc, front)?, rest)),
     }
 }
@@ -71,7 +71,7 @@ fn read_bare(alloc: Global, text: &[u8]) -> Result<(Vec<u8>, &[u8]), OrNoMemory<
 /// The token that `text` begins with, and what follows it.
 #[tactic(auto, using(crate::proofs::Readings::quoted_read, crate::proofs::Readings::quoted_refused, crate::proofs::Readings::bare_read, crate::proofs::Readings::word_refused))]
 fn read_token(alloc: Global, text: &[u8]) -> Result<(Token, &[u8]), OrNoMemory<Reason>>
-    requires { BeginsToken text.now }
+    requires { IsPastBlanks text.now }
     ensures reading { IfOk result (λ found. tokens text.now ≡ with_tokens (found.0 ∷ []) (tokens found.1.now)) }
     ensures shorter { IfOk result (λ found. length found.1.now < length text.now) }
     ensures refused { IfErr result (λ e. Refuses e (tokens text.now)) }
