@@ -11,7 +11,7 @@ use Rattle.hist_model.specs.declared.history.Setup.{Setup}
 use Rattle.hist_model.specs.declared.policy.Policy.{Policy}
 use Rattle.hist_model.specs.declared.script.Script.{Script}
 use Rattle.hist_model.specs.declared.script.Step.{Step}
-use Rattle.worker_gate.proofs.Turns.{closed_is_played}
+use Rattle.worker_gate.proofs.Schedules.{closed_is_played}
 
 -- A lock was opened on the script's start, its pass has seen what the schedule's turns made of it, and the state that came out has seen the same.
 pub turns_are_played : (P : Policy) (S : Script) (made : Setup) (lines : List Step) (opening seen closed : List Event)

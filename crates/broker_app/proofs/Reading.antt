@@ -1,13 +1,14 @@
 -- What the bytes of a file are read as, where the file told them, and why there are none; the same of files that others were read before.
 -- By the equation that says which bytes they are, since no reading changes files, and by cases on the status.
-use Rattle.std.proofs.Common.{◌≡◌, ℕ, List, Option, Result, Ok, Err, true, ◌∙◌, ap, sym, subst}
+use Rattle.std.proofs.Common.{◌≡◌, ℕ, ◌<◌, List, length, Option, Result, Ok, Err, true, ◌∙◌, ap, sym, subst}
+use Rattle.std.specs.Prelude.{IsSomeAnd}
 use Rattle.hist_model.specs.declared.policy.Policy.{Policy}
 use Rattle.hist_model.specs.declared.script.Script.{Script}
 use Rattle.io_edge.proofs.Laws.{then_rose}
-use Rattle.io_edge.specs.FileState.{FileState, SameFiles}
+use Rattle.io_edge.specs.FileState.{FileState, ReadsPast, SameFiles}
 use Rattle.script_reader.specs.Scripts.{script as script_of}
 use Rattle.script_reader.specs.declared.error.ScriptError.{ScriptError}
-use Rattle.broker_app.specs.Inputs.{HasBytes, IsLonger, PolicyIs, ReadsAs, ReportIs, ScriptIs, policy_limit, report_limit, script_limit}
+use Rattle.broker_app.specs.Inputs.{HasBytes, PolicyIs, ReadsAs, ReportIs, ScriptIs, policy_limit, report_limit, script_limit}
 use Rattle.broker_app.specs.Refusals.{CannotRead, FileRefused, InputRefused, PolicyRefused, ReportRefused, ScriptRefused}
 use Rattle.broker_app.specs.declared.status.InputFile.TheVariants.{Policy as PolicyFile, Script as ScriptFile, Report as ReportFile}
 use Rattle.broker_app.specs.declared.status.Status.{Status}
@@ -52,22 +53,26 @@ module _ (files mid after : FileState) (name : List ℕ) (same : SameFiles files
   pub report_is_before : (bytes : List ℕ) → ReportIs mid name bytes → ReportIs files name bytes
   report_is_before bytes h = λ t. subst (λ f. HasBytes report_limit f bytes) bytes_before (h (same.tells ∙ t))
 
-  longer_before : (limit : ℕ) → (mid.tells ≡ true → IsLonger limit (mid.bytes name)) → files.tells ≡ true → IsLonger limit (files.bytes name)
-  longer_before limit h = λ t. subst (λ f. IsLonger limit f) bytes_before (h (same.tells ∙ t))
+  past_before : (limit : ℕ) → ReadsPast limit mid name after → ReadsPast limit files name after
+  past_before limit h = record {
+    given = h.given;
+    named = λ t. h.named (same.tells ∙ t);
+    longer = λ t. subst (λ (f : Option (List ℕ)). IsSomeAnd f (λ bytes. limit < length bytes)) bytes_before (h.longer (same.tells ∙ t));
+  }
 
   cannot_before : CannotRead mid after name → CannotRead files after name
   cannot_before h = (then_rose files.faults mid.faults after.faults same.faults h.0, λ s. sym bytes_before ∙ h.1 (same.sound ∙ s))
 
   pub script_before : (status : Status) → ScriptRefused mid after name status → ScriptRefused files after name status
   script_before (ReadFault ScriptFile) h = cannot_before h
-  script_before (TooLong ScriptFile) h = longer_before script_limit h
+  script_before (TooLong ScriptFile) h = past_before script_limit h
   script_before (BadScript error) h = script_is_before (Err error) h
   script_before NoMemory h = tt
   script_before status h = absurd h
 
   pub report_before : (status : Status) → ReportRefused mid after name status → ReportRefused files after name status
   report_before (ReadFault ReportFile) h = cannot_before h
-  report_before (TooLong ReportFile) h = longer_before report_limit h
+  report_before (TooLong ReportFile) h = past_before report_limit h
   report_before NoMemory h = tt
   report_before status h = absurd h
 

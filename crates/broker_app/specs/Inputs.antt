@@ -1,5 +1,5 @@
 -- What the program reads: a policy, a script and a report, each from the whole bytes of its file.
-use Rattle.std.specs.Prelude.{◌≡◌, ℕ, ◌<◌, ◌≤◌, true, List, length, Option, Some, None, Result}
+use Rattle.std.specs.Prelude.{◌≡◌, ℕ, ◌≤◌, true, List, length, Option, Some, None, Result}
 use Rattle.hist_model.specs.declared.policy.Policy.{Policy}
 use Rattle.hist_model.specs.declared.script.Script.{Script}
 use Rattle.io_edge.specs.FileState.{FileState}
@@ -26,11 +26,6 @@ ReadsAs read limit (Some bytes) reading = (length bytes ≤ limit) × (read byte
 -- the file is there and within the limit, and has these bytes
 abbrev pub HasBytes : ℕ → Option (List ℕ) → List ℕ → Type 0
 HasBytes limit file bytes = (file ≡ Some bytes) × (length bytes ≤ limit)
-
--- the file is longer than it may be
-abbrev pub IsLonger : ℕ → Option (List ℕ) → Type 0
-IsLonger limit None = ⊥
-IsLonger limit (Some bytes) = limit < length bytes
 
 -- the file of this name is this policy, or has this refusal, where the files tell their bytes
 abbrev pub PolicyIs : FileState → List ℕ → Result Policy PolicyError → Type 0

@@ -7,7 +7,7 @@ use Rattle.lex_core.specs.declared.reason.Reason.TheVariants.{BadByte, BadQuote,
 use Rattle.policy_reader.specs.declared.error.PolicyError.{PolicyError}
 use Rattle.policy_reader.specs.declared.error.PolicyError.TheVariants.{NotJson, BadKey, BadValue, TooMany}
 use Rattle.script_reader.specs.declared.error.ScriptError.{ScriptError}
-use Rattle.script_reader.specs.declared.error.ScriptError.TheVariants.{BadLine, TooLarge, NoMemory as LacksMemory}
+use Rattle.script_reader.specs.declared.error.ScriptError.TheVariants.{BadLine, TooLarge}
 use Rattle.broker_app.specs.declared.status.InputFile.{InputFile}
 use Rattle.broker_app.specs.declared.status.InputFile.TheVariants.{Policy as PolicyFile, Script as ScriptFile, Report as ReportFile}
 use Rattle.broker_app.specs.declared.status.Status.{Status}
@@ -63,7 +63,6 @@ script_line_of number reason = codes "script: line " ++ (decimal number ++ (code
 abbrev pub script_line : ScriptError → List ℕ
 script_line (BadLine number reason) = script_line_of number (reason_text reason)
 script_line (TooLarge number) = script_line_of number (codes "too large")
-script_line LacksMemory = codes "no memory\n"
 
 abbrev pub line_of : Status → List ℕ
 line_of Done = []

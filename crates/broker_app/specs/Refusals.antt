@@ -3,9 +3,9 @@ use Rattle.std.specs.Prelude.{◌≡◌, ℕ, true, false, List, Some, None, Ok,
 use Rattle.hist_model.specs.declared.policy.Policy.{Policy}
 use Rattle.hist_model.specs.declared.script.Script.{Script}
 use Rattle.io_edge.specs.Faults.{Rose}
-use Rattle.io_edge.specs.FileState.{FileState}
+use Rattle.io_edge.specs.FileState.{FileState, ReadsPast}
 use Rattle.io_edge.specs.SinkState.{SinkState}
-use Rattle.broker_app.specs.Inputs.{PolicyIs, ScriptIs, IsLonger, policy_limit, script_limit, report_limit}
+use Rattle.broker_app.specs.Inputs.{PolicyIs, ScriptIs, policy_limit, script_limit, report_limit}
 use Rattle.broker_app.specs.declared.status.InputFile.{InputFile}
 use Rattle.broker_app.specs.declared.status.InputFile.TheVariants.{Policy as PolicyFile, Script as ScriptFile, Report as ReportFile}
 use Rattle.broker_app.specs.declared.status.Status.{Status}
@@ -34,14 +34,14 @@ OpenedLast files after name = files.tells ≡ true → after.current ≡ Some na
 -- why the bytes of a file weren't read: this file's, of which there may be so many
 abbrev pub FileRefused : InputFile → ℕ → FileState → FileState → List ℕ → Status → Type 0
 FileRefused file limit files after name (ReadFault which) = (which ≡ file) × CannotRead files after name
-FileRefused file limit files after name (TooLong which) = (which ≡ file) × (files.tells ≡ true → IsLonger limit (files.bytes name))
+FileRefused file limit files after name (TooLong which) = (which ≡ file) × ReadsPast limit files name after
 FileRefused file limit files after name NoMemory = Unit {0}
 FileRefused file limit files after name _ = ⊥
 
 -- why the policy wasn't taken
 abbrev pub PolicyRefused : FileState → FileState → List ℕ → Status → Type 0
 PolicyRefused files after policy (ReadFault PolicyFile) = CannotRead files after policy
-PolicyRefused files after policy (TooLong PolicyFile) = files.tells ≡ true → IsLonger policy_limit (files.bytes policy)
+PolicyRefused files after policy (TooLong PolicyFile) = ReadsPast policy_limit files policy after
 PolicyRefused files after policy (BadPolicy error) = PolicyIs files policy (Err error) × OpenedLast files after policy
 PolicyRefused files after policy NoMemory = Unit {0}
 PolicyRefused files after policy _ = ⊥
@@ -49,7 +49,7 @@ PolicyRefused files after policy _ = ⊥
 -- why the script wasn't taken
 abbrev pub ScriptRefused : FileState → FileState → List ℕ → Status → Type 0
 ScriptRefused files after script (ReadFault ScriptFile) = CannotRead files after script
-ScriptRefused files after script (TooLong ScriptFile) = files.tells ≡ true → IsLonger script_limit (files.bytes script)
+ScriptRefused files after script (TooLong ScriptFile) = ReadsPast script_limit files script after
 ScriptRefused files after script (BadScript error) = ScriptIs files script (Err error)
 ScriptRefused files after script NoMemory = Unit {0}
 ScriptRefused files after script _ = ⊥
@@ -61,7 +61,7 @@ OnlyPolicy files after policy script status = (P : Policy) × PolicyIs files pol
 -- why the report wasn't taken
 abbrev pub ReportRefused : FileState → FileState → List ℕ → Status → Type 0
 ReportRefused files after report (ReadFault ReportFile) = CannotRead files after report
-ReportRefused files after report (TooLong ReportFile) = files.tells ≡ true → IsLonger report_limit (files.bytes report)
+ReportRefused files after report (TooLong ReportFile) = ReadsPast report_limit files report after
 ReportRefused files after report NoMemory = Unit {0}
 ReportRefused files after report _ = ⊥
 

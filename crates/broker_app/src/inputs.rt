@@ -12,7 +12,6 @@ use hist_model::policy::Policy;
 use hist_model::script::Script;
 use io_edge::files::Files;
 use io_edge::whole::{ReadAllError, read_all};
-use script_reader::ScriptError;
 use std::alloc::Global;
 use sys_abi::memory::OrNoMemory;
 
@@ -77,13 +76,8 @@ fn read_script<F: Files>(alloc: Global, files: &mut F, name: &str) -> Result<Scr
     let bytes = read_file(alloc, files, name, InputFile::Script, SCRIPT_LIMIT)?;
     match script_reader::read_script(alloc, bytes.as_slice()) {
         Ok(script) => Ok(script),
-        Err(ScriptError::BadLine { line, reason }) => {
-            Err(Status::BadScript(ScriptError::BadLine { line, reason }))
-        }
-        Err(ScriptError::TooLarge { line }) => {
-            Err(Status::BadScript(ScriptError::TooLarge { line }))
-        }
-        Err(ScriptError::NoMemory) => Err(Status::NoMemory),
+        Err(OrNoMemory::Refused(error)) => Err(Status::BadScript(error)),
+        Err(OrNoMemory::NoMemory) => Err(Status::NoMemory),
     }
 }
 

@@ -92,8 +92,8 @@ fitting policy script report room false after new (NotReport line) le e =
     let g = given policy script report new (NotReport line) e in
     ((g.P, g.S, g.are, g.ends.0), g.ends.1 refl)
 fitting policy script report room false after new (ReadFault ReportFile) le ((P, S, policy_is, script_is, cannot), nothing) = let absent = cannot.1 refl in cc
-fitting policy script report room false after new (TooLong ReportFile) le ((P, S, policy_is, script_is, longer), nothing) =
-    ((P, S, (policy_is refl, script_is refl)), longer refl, nothing refl)
+fitting policy script report room false after new (TooLong ReportFile) le ((P, S, policy_is, script_is, past), nothing) =
+    ((P, S, (policy_is refl, script_is refl)), past.longer refl, nothing refl)
 fitting policy script report room false after new status le e = input_gives policy script report new.taken after status e.0 (e.1 refl)
 
 -- what the check of the bytes gave

@@ -12,9 +12,9 @@ use Rattle.broker_c.specs.Outcomes.{InputGives}
 
 pub input_gives : (policy script report printed : List ℕ) (after : FileState) (status : Status) → InputRefused (files_of policy script report) after (codes "policy") (codes "script") status → printed ≡ []
     → InputGives policy script printed status
-input_gives policy script report printed after (TooLong PolicyFile) h nothing = (h refl, nothing)
+input_gives policy script report printed after (TooLong PolicyFile) h nothing = (h.longer refl, nothing)
 input_gives policy script report printed after (BadPolicy error) h nothing = (h.0 refl, nothing)
-input_gives policy script report printed after (TooLong ScriptFile) h nothing = ((h.0, h.1 refl), h.2 refl, nothing)
+input_gives policy script report printed after (TooLong ScriptFile) h nothing = ((h.0, h.1 refl), h.2.longer refl, nothing)
 input_gives policy script report printed after (BadScript error) h nothing = ((h.0, h.1 refl), h.2 refl, nothing)
 input_gives policy script report printed after NoMemory h nothing = nothing
 input_gives policy script report printed after (ReadFault PolicyFile) h nothing = let absent = h.1 refl in cc

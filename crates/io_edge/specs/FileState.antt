@@ -1,5 +1,5 @@
 -- What is known of a source of files, and what its calls do to that.
-use Rattle.std.specs.Prelude.{◌≡◌, ℕ, ◌+◌, ◌^◌, ◌<◌, ◌≤◌, ◌↔◌, Bool, true, List, [], ◌++◌, length, take, drop, Option, None, Some, IsSome, Result, IsOk, IsErr, IfOk, OnOk, OnErr}
+use Rattle.std.specs.Prelude.{◌≡◌, ℕ, ◌+◌, ◌^◌, ◌<◌, ◌≤◌, ◌↔◌, Bool, true, List, [], ◌++◌, length, take, drop, Option, None, Some, IsSome, IsSomeAnd, Result, IsOk, IsErr, IfOk, OnOk, OnErr}
 use Rattle.io_edge.specs.Faults.{Rose}
 
 -- What is known of a source of files.
@@ -53,3 +53,10 @@ pub record Reads {E : Type 0} (old : FileState) (buf : List ℕ) (result : Resul
   pub err_given : OnErr result (new.given ≡ old.given)
   pub err_left : OnErr result (old.tells ≡ true → new.left ≡ old.left)
   pub err_filled : OnErr result (old.tells ≡ true → filled ≡ buf)
+
+-- What the reading of a file that is longer than a limit did: it read one byte more than the limit of it and no more, and opened no
+-- file after it. How many bytes were read is known of every source, also of one that tells none of them.
+pub record ReadsPast (limit : ℕ) (old : FileState) (name : List ℕ) (new : FileState) : Type 0 where
+  pub given : new.given ≡ limit + 1
+  pub named : old.tells ≡ true → new.current ≡ Some name
+  pub longer : old.tells ≡ true → IsSomeAnd (old.bytes name) (λ bytes. limit < length bytes)

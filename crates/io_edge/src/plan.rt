@@ -17,7 +17,7 @@ pub struct Plan {
 impl Plan {
     ghost use Rattle.io_edge.specs.Planned.{fails_next};
 
-    /// These calls are to fail. There was none yet.
+    /// A plan under which these calls fail, before the first call.
     pub fn new(listed: Vec<u64>) -> Plan
         ensures { result ≡ record { listed = listed; calls = 0; faults = 0 } }
     {

@@ -17,7 +17,7 @@ pub trait Sink {
     fn write(&mut self, piece: &[u8]) -> Result<(), Failed>
         ensures { Writes (state self.old) piece.now result (state self.new) };
 
-    /// Sees that all that was taken stands where it belongs. `Failed` comes only where the count of
+    /// Makes sure that everything taken is where it belongs. `Failed` comes only if the count of
     /// faults rose in this call, as for `write`.
     fn flush(&mut self) -> Result<(), Failed>
         ensures { Flushes (state self.old) result (state self.new) };

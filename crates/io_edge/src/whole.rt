@@ -1,8 +1,8 @@
 //! Whole files.
 
-ghost use Rattle.std.specs.Prelude.{◌≡◌, ℕ, ◌+◌, ◌-◌, ◌^◌, ◌<◌, ◌≤◌, ◌↔◌, true, [], length, drop, Some, None, IsSome, IsSomeAnd, OnOk, OnErr, IfOk, IfSome, IsErrOf};
+ghost use Rattle.std.specs.Prelude.{◌≡◌, ℕ, ◌+◌, ◌-◌, ◌^◌, ◌<◌, ◌≤◌, ◌↔◌, true, [], length, drop, Some, None, IsSome, OnOk, OnErr, IfOk, IfSome, IsErrOf};
 ghost use Rattle.io_edge.specs.Faults.{Rose};
-ghost use Rattle.io_edge.specs.FileState.{SameFiles};
+ghost use Rattle.io_edge.specs.FileState.{ReadsPast, SameFiles};
 ghost use Rattle.io_edge.specs.declared.whole.ReadAllError.TheVariants.{ReadFault, NoMemory};
 
 use crate::fault::Failed;
@@ -47,7 +47,7 @@ impl From<AllocError> for ReadAllError {
 /// after any error it is empty.
 ///
 /// `ReadFault` comes only where the source's count of faults rose, and over a sound source exactly where
-/// the name isn't there. `TooLong` comes exactly where `limit + 1` bytes were read.
+/// the name isn't there. `TooLong` comes exactly where `limit + 1` bytes were read, and no more are.
 pub fn read_all<F: Files>(
     files: &mut F,
     name: &str,
@@ -71,8 +71,8 @@ pub fn read_all<F: Files>(
     ensures absent { (F.state files.old).sound ≡ true
         → (IsErrOf result ReadAllError.ReadFault ↔ ((F.state files.old).bytes name.now ≡ None)) }
     ensures too_long { IsErrOf result ReadAllError.TooLong ↔ ((F.state files.new).given ≡ limit + 1) }
-    ensures longer { IsErrOf result ReadAllError.TooLong → (F.state files.old).tells ≡ true
-        → IsSomeAnd ((F.state files.old).bytes name.now) (λ bytes. limit < length bytes) }
+    ensures past { IsErrOf result ReadAllError.TooLong
+        → ReadsPast limit (F.state files.old) name.now (F.state files.new) }
     ensures empty { OnErr result (into.new.items ≡ []) }
 {
     into.clear();

@@ -7,13 +7,15 @@ use Rattle.lex_core.specs.Lines.{Numbered, lines_after}
 use Rattle.lex_core.specs.declared.line.Token.{Token}
 use Rattle.lex_core.specs.declared.reason.Reason.{Reason}
 use Rattle.hist_model.specs.declared.script.Script.{Script}
+use Rattle.sys_abi.specs.declared.memory.OrNoMemory.{OrNoMemory}
+use Rattle.sys_abi.specs.declared.memory.OrNoMemory.TheVariants.{Refused, NoMemory}
 use Rattle.script_reader.specs.Above.{Above, Stated, above, with_line, nothing_above}
 use Rattle.script_reader.specs.Lines.{line_statement}
-use Rattle.script_reader.specs.Outcomes.{EndsWith, Reads, reading_from, rest_of, with_reading}
+use Rattle.script_reader.specs.Outcomes.{EndsWith, States, reading_from, rest_of, with_reading}
 use Rattle.script_reader.specs.Scripts.{reading, script, script_at_end, after_line, refusal}
 use Rattle.script_reader.specs.declared.error.Fault.{Fault}
 use Rattle.script_reader.specs.declared.error.ScriptError.{ScriptError}
-use Rattle.script_reader.specs.declared.error.ScriptError.TheVariants.{BadLine, TooLarge, NoMemory}
+use Rattle.script_reader.specs.declared.error.ScriptError.TheVariants.{BadLine}
 use Rattle.script_reader.specs.declared.statement.Statement.{Statement}
 
 above-more : (n : ℕ) (s : Statement) (older : List Stated) → above (record { line = n; what = s } ∷ older) ≡ with_line n s (above older)
@@ -79,11 +81,9 @@ pub read_unread : (old : List Numbered) (n : ℕ) (reason : Reason) (A : Above) 
 read_unread old n reason A h = reading-first old n (Err reason) A h
 
 -- a script whose first faulty line is the first that is left
-pub read_refused : (bytes : List ℕ) (old : List Numbered) (n : ℕ) (ts : List Token) (A : Above) (error : ScriptError)
+pub read_refused : (bytes : List ℕ) (old : List Numbered) (n : ℕ) (ts : List Token) (A : Above) (error : OrNoMemory ScriptError)
     → reading_from old A ≡ reading_from (lines_after 0 bytes) nothing_above → FirstReads old n (Ok ts)
-    → EndsWith n (with_reading n (line_statement A (Ok ts)) A) error → Reads (script bytes) (Err error)
-read_refused bytes old n ts A (BadLine line reason) so h g =
-    script_read bytes ∙ (sym so ∙ read_faulty old n ts A g.0 (BadLine line reason) h g.1 g.2)
-read_refused bytes old n ts A (TooLarge line) so h g =
-    script_read bytes ∙ (sym so ∙ read_faulty old n ts A g.0 (TooLarge line) h g.1 g.2)
+    → EndsWith n (with_reading n (line_statement A (Ok ts)) A) error → States (script bytes) (Err error)
+read_refused bytes old n ts A (Refused error) so h g =
+    script_read bytes ∙ (sym so ∙ read_faulty old n ts A g.0 error h g.1 g.2)
 read_refused bytes old n ts A NoMemory so h g = tt

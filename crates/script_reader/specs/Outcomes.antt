@@ -14,10 +14,10 @@ use Rattle.script_reader.specs.Above.{Above, with_line}
 use Rattle.script_reader.specs.Lines.{line_statement}
 use Rattle.script_reader.specs.Scripts.{refusal, script_at_end}
 
--- the answer is what the line states, or its fault; nothing is said of want of memory
-abbrev pub States : {T : Type 0} → Result T Fault → Result T (OrNoMemory Fault) → Type 0
+-- the answer is what is stated, or why it is refused; nothing is said of want of memory
+abbrev pub States : {T E : Type 0} → Result T E → Result T (OrNoMemory E) → Type 0
 States reading (Ok s) = reading ≡ Ok s
-States reading (Err (Refused fault)) = reading ≡ Err fault
+States reading (Err (Refused error)) = reading ≡ Err error
 States reading (Err NoMemory) = ⊤
 
 -- what is stated with one more line, or the line's fault
@@ -31,26 +31,19 @@ Becomes outcome (Ok t) new = outcome ≡ Ok new
 Becomes outcome (Err (Refused fault)) new = outcome ≡ Err fault
 Becomes outcome (Err NoMemory) new = ⊤
 
--- the answer is the script that the bytes state, or why they are refused; nothing is said of want of memory
-abbrev pub Reads : Result Script ScriptError → Result Script ScriptError → Type 0
-Reads stated (Ok s) = stated ≡ Ok s
-Reads stated (Err (refused.BadLine line reason)) = stated ≡ Err (refused.BadLine line reason)
-Reads stated (Err (refused.TooLarge line)) = stated ≡ Err (refused.TooLarge line)
-Reads stated (Err refused.NoMemory) = ⊤
-
 -- the first line that is left can't be read; nothing is said of want of memory
-abbrev pub FirstRefused : List Numbered → ScriptError → Type 0
-FirstRefused lines (refused.BadLine n reason) = FirstReads lines n (Err reason)
-FirstRefused lines (refused.TooLarge n) = ⊥
-FirstRefused lines refused.NoMemory = ⊤
+abbrev pub FirstRefused : List Numbered → OrNoMemory ScriptError → Type 0
+FirstRefused lines (Refused (refused.BadLine n reason)) = FirstReads lines n (Err reason)
+FirstRefused lines (Refused (refused.TooLarge n)) = ⊥
+FirstRefused lines NoMemory = ⊤
 
 -- the reading ends with the fault of a line with this number; nothing is said of want of memory
-abbrev pub EndsWith : ℕ → Result Above Fault → ScriptError → Type 0
-EndsWith n outcome refused.NoMemory = ⊤
-EndsWith n outcome error = (fault : Fault) × (outcome ≡ Err fault) × (error ≡ refusal n fault)
+abbrev pub EndsWith : ℕ → Result Above Fault → OrNoMemory ScriptError → Type 0
+EndsWith n outcome (Refused error) = (fault : Fault) × (outcome ≡ Err fault) × (error ≡ refusal n fault)
+EndsWith n outcome NoMemory = ⊤
 
 -- the reading goes on with what is stated now, or ends
-abbrev pub GoesOn : {T : Type 0} → ℕ → Result Above Fault → Result T ScriptError → Above → Type 0
+abbrev pub GoesOn : {T : Type 0} → ℕ → Result Above Fault → Result T (OrNoMemory ScriptError) → Above → Type 0
 GoesOn n outcome (Ok t) new = outcome ≡ Ok new
 GoesOn n outcome (Err error) new = EndsWith n outcome error
 

@@ -56,14 +56,15 @@ impl Builder {
     ghost use Rattle.std.specs.Prelude.{◌≤◌, false, true, length, is_some, IfOk, OnOk};
     ghost use Rattle.script_reader.specs.Faults.{Admits};
     ghost use Rattle.script_reader.specs.Above.{with_statement, statement_fault, nothing_above, end_fault, close_block, program_part};
-    ghost use Rattle.script_reader.specs.Rules.{IsSound};
+    ghost use Rattle.script_reader.specs.Rules.{IsKept, IsSound};
     ghost use Rattle.script_reader.specs.Views.{above_in};
     ghost use Rattle.script_reader.specs.declared.statement.Statement.TheVariants as states;
     ghost use Rattle.script_reader.specs.declared.word.Part.TheVariants as part;
 
     /// Nothing is stated.
     pub fn new(alloc: Global) -> Result<Builder, NoMemory>
-        ensures { IfOk result (λ b. above_in b ≡ nothing_above) }
+        ensures begins { IfOk result (λ b. above_in b ≡ nothing_above) }
+        ensures kept { IfOk result (λ b. IsKept (above_in b)) }
     {
         Ok(Builder {
             alloc,
@@ -318,7 +319,7 @@ impl Builder {
     ghost use Rattle.std.specs.Prelude.{Ok, is_some, true, IfOk, OnOk};
     ghost use Rattle.script_reader.specs.Above.{statement_fault};
     ghost use Rattle.script_reader.specs.Lines.{line_statement, unless_faulty};
-    ghost use Rattle.script_reader.specs.Outcomes.{Becomes, Reads, with_reading};
+    ghost use Rattle.script_reader.specs.Outcomes.{Becomes, States, with_reading};
     ghost use Rattle.script_reader.specs.Rules.{IsKept, IsSound};
     ghost use Rattle.script_reader.specs.Scripts.{has_items, script_at_end, script_of};
     ghost use Rattle.script_reader.specs.Views.{above_in};
@@ -347,26 +348,23 @@ impl Builder {
     }
 
     /// The script that the lines make, where all blocks are closed and there is a program.
-    pub fn finish(self) -> Result<Script, ScriptError>
+    pub fn finish(self) -> Result<Script, OrNoMemory<ScriptError>>
         requires { IsKept (above_in self) }
-        ensures { Reads (script_at_end (above_in self)) result }
+        ensures { States (script_at_end (above_in self)) result }
     {
         if in_block(self.part) {
-            return Err(ScriptError::BadLine {
+            return Err(OrNoMemory::Refused(ScriptError::BadLine {
                 line: self.opened,
                 reason: Reason::NotClosed,
-            });
+            }));
         }
         if self.programs.is_empty() {
-            return Err(ScriptError::BadLine {
+            return Err(OrNoMemory::Refused(ScriptError::BadLine {
                 line: 0,
                 reason: Reason::NoProgram,
-            });
+            }));
         }
-        match self.into_script() {
-            Ok(script) => Ok(script),
-            Err(_) => Err(ScriptError::NoMemory),
-        }
+        Ok(self.into_script()?)
     }
 
     /// The script of all settings, each that isn't stated having its default.

@@ -22,6 +22,4 @@ pub enum ScriptError {
     /// The line takes a quantity past its limit.
     #[error("line {line}: too large")]
     TooLarge { line: u32 },
-    #[error("no memory")]
-    NoMemory,
 }

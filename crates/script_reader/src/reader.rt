@@ -2,13 +2,11 @@
 
 ghost use Rattle.std.specs.Prelude.{◌≡◌, ◌≤◌, Ok, length, IfOk, IfErr, OnOk};
 ghost use Rattle.lex_core.specs.Given.{GivesFirst};
-ghost use Rattle.script_reader.specs.Above.{nothing_above};
 ghost use Rattle.script_reader.specs.Lines.{line_statement};
-ghost use Rattle.script_reader.specs.Outcomes.{FirstRefused, GoesOn, Reads, with_reading};
+ghost use Rattle.script_reader.specs.Outcomes.{FirstRefused, GoesOn, States, with_reading};
 ghost use Rattle.script_reader.specs.Rules.{IsKept};
 ghost use Rattle.script_reader.specs.Scripts.{refusal, script};
 ghost use Rattle.script_reader.specs.Views.{above_in};
-ghost use Rattle.script_reader.specs.declared.error.ScriptError.TheVariants.{NoMemory};
 
 use crate::builder::Builder;
 use crate::error::{Fault, ScriptError};
@@ -28,54 +26,42 @@ fn refusal(line: u32, fault: Fault) -> ScriptError
 }
 
 /// The next line that has tokens.
-fn next_line(lines: &mut Lines<'_>) -> Result<Option<Line>, ScriptError>
+fn next_line(lines: &mut Lines<'_>) -> Result<Option<Line>, OrNoMemory<ScriptError>>
     ensures line { IfOk result (λ line. GivesFirst lines.old line lines.new) }
     ensures refused { IfErr result (λ e. FirstRefused lines.old e) }
 {
     match lines.next() {
         Ok(line) => Ok(line),
-        Err(OrNoMemory::Refused(error)) => Err(ScriptError::BadLine {
+        Err(OrNoMemory::Refused(error)) => Err(OrNoMemory::Refused(ScriptError::BadLine {
             line: error.line,
             reason: error.reason,
-        }),
-        Err(OrNoMemory::NoMemory) => Err(ScriptError::NoMemory),
+        })),
+        Err(OrNoMemory::NoMemory) => Err(OrNoMemory::NoMemory),
     }
 }
 
 /// Reads a line behind those that were read.
-fn read_line(builder: &mut Builder, line: Line) -> Result<(), ScriptError>
+fn read_line(builder: &mut Builder, line: Line) -> Result<(), OrNoMemory<ScriptError>>
     ensures goes_on { GoesOn line.number (with_reading line.number (line_statement (above_in builder.old) (Ok line.tokens)) (above_in builder.old)) result (above_in builder.new) }
     ensures kept { OnOk result (IsKept (above_in builder.old) → IsKept (above_in builder.new)) }
 {
     let number = line.number;
     match builder.read(line) {
         Ok(()) => Ok(()),
-        Err(OrNoMemory::Refused(fault)) => Err(refusal(number, fault)),
-        Err(OrNoMemory::NoMemory) => Err(ScriptError::NoMemory),
-    }
-}
-
-/// Nothing was read.
-fn new_builder(alloc: Global) -> Result<Builder, ScriptError>
-    ensures begins { IfOk result (λ b. above_in b ≡ nothing_above) }
-    ensures kept { IfOk result (λ b. IsKept (above_in b)) }
-    ensures refused { IfErr result (λ e. e ≡ NoMemory) }
-{
-    match Builder::new(alloc) {
-        Ok(builder) => Ok(builder),
-        Err(_) => Err(ScriptError::NoMemory),
+        Err(OrNoMemory::Refused(fault)) => Err(OrNoMemory::Refused(refusal(number, fault))),
+        Err(OrNoMemory::NoMemory) => Err(OrNoMemory::NoMemory),
     }
 }
 
 /// The script that the bytes of a file state. The first faulty line decides, and within a line the reason that stands first in
 /// the table of reasons; a block without its end and a script without programs are refused last.
 #[tactic(auto, using(crate::proofs::Readings::script_read, crate::proofs::Readings::read_all, crate::proofs::Readings::read_more, crate::proofs::Readings::read_refused, crate::proofs::Readings::read_unread))]
-pub fn read_script(alloc: Global, bytes: &[u8]) -> Result<Script, ScriptError>
+pub fn read_script(alloc: Global, bytes: &[u8]) -> Result<Script, OrNoMemory<ScriptError>>
     requires { length bytes.now ≤ 8388608 }
-    ensures { Reads (script bytes.now) result }
+    ensures { States (script bytes.now) result }
 {
     let mut lines = Lines::new(alloc, bytes);
-    let mut builder = new_builder(alloc)?;
+    let mut builder = Builder::new(alloc)?;
     while let Some(line) = next_line(&mut lines)? {
         if let Err(error) = read_line(&mut builder, line) {
             return Err(error);
