@@ -40,7 +40,6 @@ pub struct Request {
 
 /// The requests of the workers 0 to 16, one at most for each. Contracts see them as a list, in the order in which they were
 /// put.
-#[derive(Drop)]
 pub struct Requests {
     requests: Vec<Request>,
 }
@@ -55,6 +54,15 @@ impl Model for Requests {
     ghost view = { λ r. r.requests.items };
 
     ghost invariant = { λ r. AreKept r.requests.items (vec_capacity r.requests) };
+}
+
+// (written out, so that what letting one go comes to is proved here once, and not in each crate that owns one)
+impl Drop for Requests {
+    fn drop(self) {
+        let Requests {
+            requests: _requests,
+        } = self;
+    }
 }
 
 impl Requests {

@@ -64,7 +64,6 @@ pub struct Table {
 }
 
 /// The descriptor tables of a kernel.
-#[derive(Drop)]
 pub struct Tables {
     tables: Slab<Table>,
     /// Room for the entries of the next table; it has no entries itself.
@@ -73,6 +72,19 @@ pub struct Tables {
     /// New numbers are below it.
     rlimit: u32,
     made: u32,
+}
+
+// (written out, so that what letting one go comes to is proved here once, and not in each crate that owns one)
+impl Drop for Tables {
+    fn drop(self) {
+        let Tables {
+            tables: _tables,
+            spare: _spare,
+            alloc: _alloc,
+            rlimit: _rlimit,
+            made: _made,
+        } = self;
+    }
 }
 
 /// What is open in a new table: standard input, output and error.

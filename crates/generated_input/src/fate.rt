@@ -1,9 +1,9 @@
-//! What comes of a generated call.
+//! The outcome of a generated call.
 
 ghost use Rattle.std.specs.Prelude.{◌≡◌};
 ghost use Rattle.generated_input.specs.GeneratedScript.{fate_of};
 
-/// What comes of a generated call.
+/// The outcome of a generated call.
 #[derive(Clone, Copy, PartialEq, Eq, Debug)]
 pub enum Fate {
     /// It makes the device 1:3, and a switch's rule grants it.

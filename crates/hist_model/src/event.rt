@@ -17,7 +17,7 @@ pub enum Actor {
     Listener,
 }
 
-/// How a task came by its memory and descriptors (clone(2)).
+/// How a task got its memory and descriptors (clone(2)).
 #[derive(Clone, Copy, PartialEq, Eq, Debug)]
 pub enum SpawnKind {
     New,
@@ -34,7 +34,7 @@ pub enum Mode {
     Default,
     /// It runs a handler with SA_RESTART.
     Restart,
-    /// It runs a handler without.
+    /// It runs a handler without SA_RESTART.
     Plain,
 }
 
@@ -50,7 +50,7 @@ pub enum Entered {
     Kill,
 }
 
-/// How a call returns.
+/// What a call returns.
 #[derive(Clone, Copy, PartialEq, Eq, Debug)]
 pub enum Back {
     Value(i64),

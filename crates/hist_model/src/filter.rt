@@ -20,7 +20,7 @@ pub enum Operation {
     Jump,
     /// Skips instructions by whether the accumulator is the number.
     JumpEqual,
-    /// By whether it is greater.
+    /// Skips instructions depending on whether it is greater.
     JumpGreater,
     /// By whether it is greater or equal.
     JumpAtLeast,

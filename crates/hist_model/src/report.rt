@@ -4,7 +4,7 @@ use crate::event::Back;
 use crate::policy::Verdict;
 use sys_abi::errno::Errno;
 
-/// What came of a call.
+/// The outcome of a call.
 #[derive(Clone, Copy, PartialEq, Eq, Debug)]
 pub enum Outcome {
     /// Nothing yet.

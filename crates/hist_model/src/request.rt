@@ -137,7 +137,7 @@ pub enum Request {
 impl Request {
     ghost use Rattle.hist_model.specs.Requests.{call_of_request};
 
-    /// Another request of the same.
+    /// A copy of this request.
     pub fn copied(&self, alloc: Global) -> Result<Request, NoMemory>
         ensures { IfOk result (λ q. q ≡ self.now) }
     {
@@ -205,31 +205,6 @@ impl Request {
             Request::Other { nr } => *nr,
         }
     }
-}
-
-/// What a request does to the tree.
-#[derive(Debug, Drop)]
-pub enum TreeOp {
-    /// Nothing: it is refused before any walk.
-    Fail(Errno),
-    Make {
-        path: Text,
-        node: Node,
-    },
-    Mount {
-        target: Text,
-        row: MountRow,
-    },
-    SetAttr {
-        path: Text,
-        name: Text,
-        value: Text,
-        flags: u32,
-    },
-    Open {
-        path: Text,
-        cloexec: bool,
-    },
 }
 
 /// The texts that were read for a call, in the order of its plan.

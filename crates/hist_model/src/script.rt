@@ -121,14 +121,14 @@ pub struct Totals {
     pub starts: u64,
     /// How many bytes are stored by `poke` and `fill`.
     pub stored: u64,
-    /// 0 where no program is started, else one more than the greatest of those that are.
+    /// 0 if it starts no program, else one more than the greatest depth of those that it starts.
     pub depth: u64,
 }
 
 /// A container: its settings, its programs, of which the last one is the first task's, and a schedule. Every script keeps
 /// the rules of its format: the ranges and limits of its parts, what one part says of another, and the names in its tree,
 /// of which none stands twice in a directory.
-#[derive(Debug, Drop)]
+#[derive(Debug)]
 pub struct Script {
     /// Process numbers go from `pidbase + 1` to `pidbase + pidmax`.
     pub pidbase: u32,
@@ -161,6 +161,27 @@ impl Model for Script {
     ghost view = { λ s. record { pidbase = s.pidbase; pidmax = s.pidmax; firstid = s.firstid; rlimit = s.rlimit; killable = s.killable; root = s.root; figures = s.figures; tree = s.tree; broker = s.broker; map = s.map; filters = s.filters; programs = s.programs; schedule = s.schedule } };
 
     ghost invariant = { λ s. IsScript (record { pidbase = s.pidbase; pidmax = s.pidmax; firstid = s.firstid; rlimit = s.rlimit; killable = s.killable; root = s.root; figures = s.figures; tree = s.tree; broker = s.broker; map = s.map; filters = s.filters; programs = s.programs; schedule = s.schedule }) };
+}
+
+// (written out, so that what letting one go comes to is proved here once, and not in each crate that owns one)
+impl Drop for Script {
+    fn drop(self) {
+        let Script {
+            pidbase: _pidbase,
+            pidmax: _pidmax,
+            firstid: _firstid,
+            rlimit: _rlimit,
+            killable: _killable,
+            root: _root,
+            figures: _figures,
+            tree: _tree,
+            broker: _broker,
+            map: _map,
+            filters: _filters,
+            programs: _programs,
+            schedule: _schedule,
+        } = self;
+    }
 }
 
 impl Script {

@@ -29,7 +29,7 @@ impl Text {
         Text { bytes }
     }
 
-    /// Another text of the same bytes.
+    /// A copy of this text.
     pub fn copied(&self, alloc: Global) -> Result<Text, NoMemory>
         ensures { IfOk result (λ t. t ≡ self.now) }
     {
@@ -88,7 +88,7 @@ impl TaskName {
         TaskName { numbers }
     }
 
-    /// Another name of the same numbers.
+    /// A copy of this name.
     pub fn copied(&self, alloc: Global) -> Result<TaskName, NoMemory>
         ensures { IfOk result (λ n. n ≡ self.now) }
     {

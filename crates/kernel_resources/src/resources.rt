@@ -1,7 +1,10 @@
 //! The resources of a container.
 
 ghost use Rattle.std.specs.Prelude.{◌≡◌, ℕ, ◌<◌, ◌≤◌, List, [], ◌∷◌, Some, None, IfOk};
+ghost use Rattle.hist_model.specs.declared.event.Event.{Event};
 ghost use Rattle.hist_model.specs.declared.script.Script.{Script as ScriptData};
+ghost use Rattle.history_frames.specs.Ordinals.{groups_made};
+ghost use Rattle.task_groups.specs.Groups.{IsFresh, one_more};
 ghost use Rattle.kernel_resources.specs.Stands.{StandsFor};
 
 use hist_model::script::Script;
@@ -15,7 +18,6 @@ use task_groups::Groups;
 use worker_rows::{SpentRows, WorkerRows};
 
 /// What tasks and workers use.
-#[derive(Drop)]
 pub struct Resources {
     pub(crate) groups: Groups,
     pub(crate) listener: Listener,
@@ -24,6 +26,21 @@ pub struct Resources {
     pub(crate) workers: WorkerRows,
     pub(crate) spent: SpentRows,
     pub(crate) container: Container,
+}
+
+// (written out, so that what letting one go comes to is proved here once, and not in each crate that owns one)
+impl Drop for Resources {
+    fn drop(self) {
+        let Resources {
+            groups: _groups,
+            listener: _listener,
+            tree: _tree,
+            walk: _walk,
+            workers: _workers,
+            spent: _spent,
+            container: _container,
+        } = self;
+    }
 }
 
 impl Resources {
@@ -42,6 +59,30 @@ impl Resources {
                 root: script.root,
                 figures: script.figures,
             },
+        })
+    }
+
+    /// Makes the group of the first task.
+    pub fn first(self) -> Result<Resources, NoMemory>
+        ensures { IfOk result (λ r. (S : ScriptData) (K : List Event) (living : ℕ → ℕ) (e : Event) → StandsFor S K living self → IsFresh e → StandsFor S (e ∷ K) (one_more living (groups_made K)) r) }
+    {
+        let Resources {
+            groups,
+            listener,
+            tree,
+            walk,
+            workers,
+            spent,
+            container,
+        } = self;
+        Ok(Resources {
+            groups: groups.fresh()?,
+            listener,
+            tree,
+            walk,
+            workers,
+            spent,
+            container,
         })
     }
 }

@@ -20,7 +20,7 @@ ghost use Rattle.native_calls.specs.Prepared.{IsPrepared};
 ghost use Rattle.native_calls.specs.Stands.{IsEntered};
 ghost use Rattle.notif_queue.specs.Stands.{IsEntry, IsLeaving};
 ghost use Rattle.notif_queue.specs.Table.{HasRoom as HasCallRoom};
-ghost use Rattle.task_groups.specs.Groups.{HasRoom as HasGroupRoom, HasRoomFor, IsCopyOf, IsFresh, IsInstall as IsGroupInstall, IsLive, IsPoke, one_less, one_more};
+ghost use Rattle.task_groups.specs.Groups.{HasRoom as HasGroupRoom, HasRoomFor, IsCopyOf, IsInstall as IsGroupInstall, IsLive, IsPoke, one_less, one_more};
 ghost use Rattle.kernel_resources.specs.Stands.{HasNativeRoom, IsThread, StandsFor};
 
 use crate::resources::Resources;
@@ -33,30 +33,6 @@ use sys_abi::memory::NoMemory;
 use sys_abi::wire::Addfd;
 
 impl Resources {
-    /// Makes the group of the first task.
-    pub fn first(self) -> Result<Resources, NoMemory>
-        ensures { IfOk result (λ r. (S : Script) (K : List Event) (living : ℕ → ℕ) (e : Event) → StandsFor S K living self → IsFresh e → StandsFor S (e ∷ K) (one_more living (groups_made K)) r) }
-    {
-        let Resources {
-            groups,
-            listener,
-            tree,
-            walk,
-            workers,
-            spent,
-            container,
-        } = self;
-        Ok(Resources {
-            groups: groups.fresh()?,
-            listener,
-            tree,
-            walk,
-            workers,
-            spent,
-            container,
-        })
-    }
-
     /// Makes room for the entry of one call that is listed, and for one copy of a group, or one `poke` of at most `len` bytes
     /// or one `install` in it. There is none for the 2^32-th group.
     pub fn ready(&mut self, group: u32, len: u32) -> Result<(), NoMemory>

@@ -36,13 +36,24 @@ use task_progress::{EnteredCall, TaskProgress};
 use task_table::{NoChild, NoPid, NoTask, TaskTable};
 
 /// The tasks of a kernel, by their ordinals: the n-th task that was made has the ordinal n, from 0.
-#[derive(Drop)]
 pub struct Tasks {
     table: TaskTable,
     /// The references that the table gave, by ordinal.
     refs: Vec<TaskRef>,
     names: TaskNames,
     progress: TaskProgress,
+}
+
+// (written out, so that what letting one go comes to is proved here once, and not in each crate that owns one)
+impl Drop for Tasks {
+    fn drop(self) {
+        let Tasks {
+            table: _table,
+            refs: _refs,
+            names: _names,
+            progress: _progress,
+        } = self;
+    }
 }
 
 /// What a signal does to a task with this mode for it, which waits in a listed call or doesn't (signal(7)).

@@ -38,7 +38,7 @@ fn other(rows: &Table<Alike>, node: u32) -> u32
 }
 
 impl Stacks {
-    /// Without mounts, and without room.
+    /// The stacks of a tree without mounts, without room for any.
     #[tactic(auto, using(crate::proofs::Piled::none_follow))]
     pub fn new(alloc: Global) -> Stacks
         ensures { Follow [] result }

@@ -20,7 +20,6 @@ use sys_abi::memory::{NoMemory, OrNoMemory};
 
 /// A tree: its nodes, their attributes and its mounts. Contracts see it as `hist_model`'s definitions do, beside `spare`,
 /// which is one more than the bytes for which `ready` made room, or 0.
-#[derive(Drop)]
 pub struct Tree {
     nodes: Table<NodeRow>,
     attrs: Table<AttrRow>,
@@ -39,6 +38,18 @@ impl Model for Tree {
 
     ghost invariant = { λ t. (0 < t.rooms → t.nodes.roomy ≡ true) × (0 < t.rooms → t.attrs.roomy ≡ true) × (0 < t.rooms → t.mounts.roomy ≡ true)
         × AreRooted t.nodes.rows t.mounts.rows };
+}
+
+// (written out, so that what letting one go comes to is proved here once, and not in each crate that owns one)
+impl Drop for Tree {
+    fn drop(self) {
+        let Tree {
+            nodes: _nodes,
+            attrs: _attrs,
+            mounts: _mounts,
+            rooms: _rooms,
+        } = self;
+    }
 }
 
 impl Tree {

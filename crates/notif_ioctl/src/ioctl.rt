@@ -55,8 +55,8 @@ fn may_be_sent(resp: &Resp) -> bool
     }
 }
 
-/// Whether an answer is taken of the listed call that its id names, if it names one: ENOENT exactly where there is none,
-/// EINPROGRESS where nobody has received the call's notification, or it was answered.
+/// Whether an answer is accepted, given the state of the listed call that its id names, if it names one: ENOENT exactly if there
+/// is none, EINPROGRESS if nobody has received the call's notification, or if it was answered.
 pub fn admit_send(state: Option<State>) -> Result<(), Errno>
     ensures { result ≡ admission state }
 {
@@ -67,8 +67,8 @@ pub fn admit_send(state: Option<State>) -> Result<(), Errno>
     }
 }
 
-/// Whether an id is valid (SECCOMP_IOCTL_NOTIF_ID_VALID) that names a listed call of this state, or none: ENOENT exactly where
-/// it names none that was received and not answered.
+/// Whether an id is valid (SECCOMP_IOCTL_NOTIF_ID_VALID), given the state of the listed call that it names, if it names one:
+/// ENOENT unless that call was received and not answered.
 pub fn check_valid(state: Option<State>) -> Result<(), Errno>
     ensures { result ≡ validity state }
 {
@@ -78,7 +78,7 @@ pub fn check_valid(state: Option<State>) -> Result<(), Errno>
     }
 }
 
-/// The structure by which a broker has the call of an id return so.
+/// The structure with which a broker makes the call with this id return this.
 pub fn response(id: u64, back: Back) -> Resp
     ensures { result ≡ response id back }
 {
@@ -95,8 +95,8 @@ pub fn response(id: u64, back: Back) -> Resp
     }
 }
 
-/// How the call returns that is answered by this structure, which passed the test of `parse_send`: it runs natively where
-/// the flag is set, fails where there is an error, and else returns the value.
+/// What a call returns when this structure answers it. The structure has passed the test of `parse_send`. The call runs natively
+/// if the flag is set, fails if there is an error, and otherwise returns the value.
 pub fn back_of(resp: &Resp) -> Back
     requires { may_be_sent resp.now ≡ true }
     ensures { result ≡ back_of resp.now }

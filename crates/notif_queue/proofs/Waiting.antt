@@ -17,8 +17,8 @@ use Rattle.notif_queue.specs.declared.order.Entry.{Entry}
 use Rattle.notif_queue.specs.declared.queue.Call.{Call}
 use Rattle.notif_queue.specs.declared.queue.Queue.{Queue}
 use Rattle.notif_queue.specs.Entries.{slot_of, is_empty}
-use Rattle.notif_queue.specs.Table.{call_found, number_of, id_of, owner_found}
-use Rattle.notif_queue.specs.Stands.{IsOwner, IsOwnerAt, StandsFor}
+use Rattle.notif_queue.specs.Table.{call_found, number_of, id_of}
+use Rattle.notif_queue.specs.Stands.{IsOwner, StandsFor}
 use Rattle.notif_queue.proofs.Found.{nothing-found}
 use Rattle.notif_queue.proofs.Named.{named-by, named-lost, named-row, row-named}
 use Rattle.notif_queue.proofs.Received.{owner-name}
@@ -61,13 +61,6 @@ none-listed first K Q c S h = false_from_ne_true (listed K c) (λ l. let s = S.s
     empty (e ∷ es) h = cc
 
 -- ---- whose a call is
-
-pub owner-at : (first : ℕ) (K : List Event) (Q : Queue) (x : ℕ) → StandsFor first K Q → x < 2 ^ 64 → IsOwnerAt K (named K x) (owner_found Q x)
-owner-at first K Q x S l = go (call_found Q (number_of Q x)) refl
-  where
-    go : (o : Option Call) → call_found Q (number_of Q x) ≡ o → IsOwnerAt K (named K x) (owner_found Q x)
-    go None f = rw (f, named-lost first K Q x S f) tt
-    go (Some r) f = let i = S.rows (number_of Q x) r f in rw (f, named-row first K Q x r S l f i) i.owner_is
 
 pub owner-made : (K : List Event) (c : ℕ) (t : TaskRef) → IsOwner K c t → (t.ordinal < tasks_made K) × (task_name_of K t.ordinal ≡ caller K c)
 owner-made K c t h = ((place-below makes K t.ordinal h.place h.at).0, owner-name K c t h)

@@ -59,12 +59,6 @@ pub record IsOwner (K : List Event) (c : ℕ) (t : TaskRef) : Type 0 where
   pub at : place_of K t.ordinal ≡ Some place
   pub name_is : name_of K place ≡ caller K c
 
--- the call at a place, where there is one, is entered by this task
-abbrev pub IsOwnerAt : List Event → Option ℕ → Option TaskRef → Type 0
-IsOwnerAt K (Some c) (Some t) = IsOwner K c t
-IsOwnerAt K None None = Unit {0}
-IsOwnerAt K _ _ = ⊥
-
 -- what the definitions say of the listed call that has this number, where those with lower numbers than `seen` were fetched
 pub record IsCall (K : List Event) (seen n : ℕ) (r : Call) : Type 0 where
   pub place : ℕ

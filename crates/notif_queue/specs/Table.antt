@@ -60,14 +60,6 @@ reply_in None = None
 abbrev pub reply_found : Queue → ℕ → Option Reply
 reply_found Q id = reply_in (call_found Q (number_of Q id))
 
-abbrev pub owner_in : Option Call → Option TaskRef
-owner_in (Some r) = Some r.owner
-owner_in None = None
-
--- the task of the listed call with this id
-abbrev pub owner_found : Queue → ℕ → Option TaskRef
-owner_found Q id = owner_in (call_found Q (number_of Q id))
-
 abbrev pub with_owner : Slab Call → Option Entry → Option (ℕ × TaskRef)
 with_owner calls (Some e) = owned e.number (get calls e.slot)
   where

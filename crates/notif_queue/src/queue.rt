@@ -10,8 +10,8 @@ ghost use Rattle.hist_model.specs.Calls.{calls, count, id as id_at, is_call, lis
 ghost use Rattle.hist_model.specs.Steps.{oldest_unfetched};
 ghost use Rattle.notif_queue.specs.declared.queue.FetchError.TheVariants.{Empty, Gone};
 ghost use Rattle.notif_queue.specs.Entries.{slot_of, without};
-ghost use Rattle.notif_queue.specs.Stands.{StandsFor, IsReply, IsEntry, IsNext, IsOwnerAt, IsReceipt, IsAnswer, IsInstall, IsFailure, IsLeaving};
-ghost use Rattle.notif_queue.specs.Table.{HasRoom, SameCalls, number_of, id_of, call_found, next_found, state_found, owner_found, reply_found, IsReplied};
+ghost use Rattle.notif_queue.specs.Stands.{StandsFor, IsReply, IsEntry, IsNext, IsReceipt, IsAnswer, IsInstall, IsFailure, IsLeaving};
+ghost use Rattle.notif_queue.specs.Table.{HasRoom, SameCalls, number_of, id_of, call_found, next_found, state_found, reply_found, IsReplied};
 ghost use Rattle.sys_abi.specs.Errnos.{enoent};
 
 use crate::order::Order;
@@ -41,7 +41,6 @@ pub struct Call {
 }
 
 /// The listed calls of a listener, and the count of its requests.
-#[derive(Drop)]
 pub struct Queue {
     calls: Slab<Call>,
     order: Order,
@@ -51,6 +50,19 @@ pub struct Queue {
     fetched: u64,
     /// How many receives were answered.
     received: u64,
+}
+
+// (written out, so that what letting one go comes to is proved here once, and not in each crate that owns one)
+impl Drop for Queue {
+    fn drop(self) {
+        let Queue {
+            calls: _calls,
+            order: _order,
+            first: _first,
+            fetched: _fetched,
+            received: _received,
+        } = self;
+    }
 }
 
 impl Queue {
@@ -153,17 +165,6 @@ impl Queue {
         ensures some { result ≡ false → (first : ℕ) (K : List Event) → StandsFor first K self.now → (c : ℕ) × (listed K c ≡ true) }
     {
         self.order.is_empty()
-    }
-
-    /// The task that waits in the listed call with this id. None exactly where no listed call has it.
-    pub fn owner_of(&self, id: u64) -> Option<TaskRef>
-        ensures found { result ≡ owner_found self.now id }
-        ensures owner { (first : ℕ) (K : List Event) → StandsFor first K self.now → IsOwnerAt K (named K id) result }
-    {
-        match self.find(id) {
-            Some(call) => Some(call.owner),
-            None => None,
-        }
     }
 
     /// How far the listed call with this id is. None exactly where no listed call has it.

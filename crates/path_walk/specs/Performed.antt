@@ -3,8 +3,7 @@ use Rattle.std.specs.Prelude.{◌≡◌, List, ℕ, ◌+◌, ◌<◌, length, Re
 use Rattle.hist_model.specs.Trees.{Tree}
 use Rattle.hist_model.specs.Paths.{Place, At, New}
 use Rattle.hist_model.specs.Paths as paths
-use Rattle.hist_model.specs.declared.request.TreeOp.{TreeOp}
-use Rattle.hist_model.specs.declared.request.TreeOp.TheVariants.{Fail, Make, Mount, SetAttr, Open}
+use Rattle.hist_model.specs.TreeOps.{TreeOp, Fail, Make, Mount, SetAttr, Open}
 use Rattle.mount_tree.specs.Changes.{Seen, row_length}
 use Rattle.hist_model.specs.declared.request.Node.{Node}
 use Rattle.sys_abi.specs.declared.memory.OrNoMemory.{OrNoMemory}

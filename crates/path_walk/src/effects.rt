@@ -5,12 +5,13 @@ ghost use Rattle.hist_model.specs.Trees.{ordinal_of};
 ghost use Rattle.hist_model.specs.Paths.{Follow, At, reaches};
 ghost use Rattle.hist_model.specs.Effects.{effect, making, mounting, perform};
 ghost use Rattle.hist_model.specs.Requests.{kind_of};
+ghost use Rattle.hist_model.specs.TreeOps.{TreeOp};
 ghost use Rattle.mount_tree.specs.Changes.{row_of, row_length};
 ghost use Rattle.path_walk.specs.Performed.{IsPerformed, IsNotFollowed, making_of, room_wanted};
 
 use crate::places::{Last, Place};
 use crate::resolution::{Walk, resolve};
-use hist_model::request::{Kind, Node, NodeRef, Request, TreeOp};
+use hist_model::request::{Kind, Node, NodeRef, Request};
 use mount_tree::errors::AttrError;
 use mount_tree::mounts::NewMount;
 use mount_tree::tree::Tree;
@@ -173,43 +174,6 @@ fn mount_typed(
         return Err(OrNoMemory::Refused(Errno::EINVAL));
     }
     mount(tree, root, base, target, row, walk)
-}
-
-/// Does what a request does to the tree, with paths from a container's root and from a base.
-///
-/// Each errno comes exactly as the definitions have it, and leaves the tree as it is; `Open` changes nothing.
-/// It takes no memory. `NoMemory` comes only where the tree isn't ready for a name of 255 bytes, for an attribute's name and
-/// value, or for the texts of a mount.
-pub fn perform(
-    tree: &mut Tree,
-    root: NodeRef,
-    base: Option<NodeRef>,
-    op: TreeOp,
-    walk: &mut Walk,
-) -> Result<(), OrNoMemory<Errno>>
-    ensures { IsPerformed (room_wanted op) tree.old tree.new (perform tree.old.tree root.ordinal (ordinal_of base) op) result }
-{
-    match op {
-        TreeOp::Fail(errno) => Err(OrNoMemory::Refused(errno)),
-        TreeOp::Make { path, node } => make(tree, root, base, path.items(), node, walk),
-        TreeOp::Mount { target, row } => {
-            mount(tree, root, base, target.items(), NewMount::of(&row), walk)
-        }
-        TreeOp::SetAttr {
-            path,
-            name,
-            value,
-            flags,
-        } => {
-            let change = AttrChange {
-                name: name.items(),
-                value: value.items(),
-                flags,
-            };
-            set_attr(tree, root, base, path.items(), change, walk)
-        }
-        TreeOp::Open { path, .. } => open(tree, root, base, path.items(), walk),
-    }
 }
 
 /// The node that a mode and a device ask for (mknod(2)): EPERM for a directory, and EINVAL for a mode without a kind.

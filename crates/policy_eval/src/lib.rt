@@ -61,7 +61,7 @@ pub fn grant(alloc: Global, p: &Policy, i: usize, r: &mut Request) -> Result<(),
     Ok(())
 }
 
-/// How often effects of rule i may be done, where that is limited.
+/// How many effects rule i allows, if that is limited.
 pub fn cap(p: &Policy, i: usize) -> Option<Cap>
     requires place { i < length p.now.rules }
     requires small { i < 2 ^ 32 }

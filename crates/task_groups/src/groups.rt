@@ -34,7 +34,6 @@ pub struct Group {
 
 /// The groups of a kernel. A group is named by its ordinal, which is how many were made before it. Its space is held by its
 /// living tasks and by the handles that are open, its table by its living tasks.
-#[derive(Drop)]
 pub struct Groups {
     /// A native call stores here what it answers (sysinfo(2)).
     pub spaces: Spaces,
@@ -42,6 +41,17 @@ pub struct Groups {
     pub tables: Tables,
     /// By ordinal.
     rows: Vec<Group>,
+}
+
+// (written out, so that what letting one go comes to is proved here once, and not in each crate that owns one)
+impl Drop for Groups {
+    fn drop(self) {
+        let Groups {
+            spaces: _spaces,
+            tables: _tables,
+            rows: _rows,
+        } = self;
+    }
 }
 
 impl Groups {

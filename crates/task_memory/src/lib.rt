@@ -15,4 +15,4 @@ mod map;
 mod pages;
 mod spaces;
 
-pub use spaces::{MemHandle, SpaceRef, Spaces};
+pub use spaces::{SpaceRef, Spaces};

@@ -30,12 +30,6 @@ pub struct SpaceRef {
     pub ordinal: u64,
 }
 
-/// A space that a worker has opened, which it holds until it closes the handle.
-#[derive(Debug, Drop)]
-pub struct MemHandle {
-    space: SpaceRef,
-}
-
 /// A space: who holds it, and its pages that were written.
 #[derive(Drop)]
 pub struct Space {
@@ -46,7 +40,6 @@ pub struct Space {
 }
 
 /// The address spaces that tasks and handles hold, over one map of addresses.
-#[derive(Drop)]
 pub struct Spaces {
     map: Vec<MapRange>,
     spaces: Slab<Space>,
@@ -55,6 +48,20 @@ pub struct Spaces {
     spare: Vec<Entry>,
     made: u64,
     alloc: Global,
+}
+
+// (written out, so that what letting one go comes to is proved here once, and not in each crate that owns one)
+impl Drop for Spaces {
+    fn drop(self) {
+        let Spaces {
+            map: _map,
+            spaces: _spaces,
+            pages: _pages,
+            spare: _spare,
+            made: _made,
+            alloc: _alloc,
+        } = self;
+    }
 }
 
 impl Spaces {
@@ -301,35 +308,6 @@ impl Spaces {
         Ok(())
     }
 
-    /// Opens a space: the handle holds it, like a task.
-    pub fn open(&mut self, s: SpaceRef) -> MemHandle
-        ensures space { result.space ≡ s }
-        ensures holders { IsHeld self.old s → holders_of self.old s < 2 ^ 63 → holders_of self.new s ≡ holders_of self.old s + 1 }
-        ensures stale { holders_of self.old s ≡ 0 → self.new ≡ self.old }
-        ensures others { (t : SpaceRef) → t ≢ s → holders_of self.new t ≡ holders_of self.old t }
-        ensures same { (S : Script) (K : List Event) → StandsFor S K self.old → StandsFor S K self.new }
-    {
-        self.share(s);
-        MemHandle { space: s }
-    }
-
-    /// The space of a handle.
-    pub fn space_of(&self, h: &MemHandle) -> SpaceRef
-        ensures { result ≡ h.now.space }
-    {
-        h.space
-    }
-
-    /// Closes a handle. The last holder frees its space.
-    pub fn close(&mut self, h: MemHandle)
-        ensures holders { holders_of self.new h.space ≡ holders_of self.old h.space - 1 }
-        ensures stale { holders_of self.old h.space ≡ 0 → self.new ≡ self.old }
-        ensures others { (t : SpaceRef) → t ≢ h.space → holders_of self.new t ≡ holders_of self.old t }
-        ensures same { (S : Script) (K : List Event) → StandsFor S K self.old → StandsFor S K self.new }
-    {
-        self.release(h.space);
-    }
-
     /// Reads the bytes of a task's space from an address on, up to the first that isn't mapped, and at most `len`: `out` then
     /// holds them, and nothing else, and has the room that it had. A fault where the first isn't mapped; `out` is then as it
     /// was.
@@ -359,37 +337,5 @@ impl Spaces {
             self.pages.append(&space.list, addr, count, out);
         }
         Ok(())
-    }
-
-    /// Reads the bytes of the space that a worker has opened, as `peek` does.
-    pub fn read(
-        &self,
-        h: &MemHandle,
-        addr: u64,
-        len: u16,
-        out: &mut Vec<u8>,
-    ) -> Result<(), OrNoMemory<Fault>>
-        ensures answer { (S : Script) (K : List Event) (g : ℕ) → StandsFor S K self.now → IsHeld self.now h.now.space → group_of K h.now.space.ordinal ≡ Some g → IsReadAnswer result out.new.items (bytes_read S K g addr len) }
-        ensures fault { (S : Script) (K : List Event) → StandsFor S K self.now → lacked_memory result ≡ false → was_refused result ≡ not (is_mapped S.map addr) }
-        ensures stale { (S : Script) (K : List Event) → StandsFor S K self.now → holders_of self.now h.now.space ≡ 0 → OnOk result (out.new.items ≡ []) }
-        ensures room { len ≤ vec_capacity out.old → lacked_memory result ≡ false }
-        ensures capacity { vec_capacity out.old ≤ vec_capacity out.new }
-        ensures refused { was_refused result ≡ true → out.new ≡ out.old }
-        ensures same { OnErr result (out.new.items ≡ out.old.items) }
-    {
-        self.peek(h.space, addr, len, out)
-    }
-
-    /// Stores bytes of a worker in the space that it has opened, as `poke` does.
-    pub fn plant(&mut self, h: &MemHandle, addr: u64, bytes: &[u8]) -> Result<(), OrNoMemory<Fault>>
-        ensures fault { (S : Script) (K : List Event) → StandsFor S K self.old → was_refused result ≡ not (all_mapped S.map addr (length bytes.now)) }
-        ensures step { OnOk result ((S : Script) (K : List Event) (e : Event) (g : ℕ) → StandsFor S K self.old → IsHeld self.old h.now.space → group_of K h.now.space.ordinal ≡ Some g → Stores S K e g addr bytes.now → StandsFor S (e ∷ K) self.new) }
-        ensures stale { holders_of self.old h.now.space ≡ 0 → (S : Script) (K : List Event) → StandsFor S K self.old → StandsFor S K self.new }
-        ensures holders { (t : SpaceRef) → holders_of self.new t ≡ holders_of self.old t }
-        ensures room { (len : ℕ) → HasRoom self.old h.now.space len → length bytes.now ≤ len → lacked_memory result ≡ false }
-        ensures refused { was_refused result ≡ true → self.new ≡ self.old }
-        ensures same { OnErr result (SameSpaces self.old self.new) }
-    {
-        self.poke(h.space, addr, bytes)
     }
 }

@@ -58,7 +58,6 @@ pub struct Task {
 ///
 /// A `TaskRef` has the slot of its task beside the ordinal, and slots are used again. So whoever goes over the ordinals from
 /// 0 on can't make references of them, and keeps each one that `spawn` gave, under its ordinal.
-#[derive(Drop)]
 pub struct TaskTable {
     tasks: Slab<Task>,
     /// By process number.
@@ -71,6 +70,21 @@ pub struct TaskTable {
     /// The process number that was given last.
     last: u32,
     made: u32,
+}
+
+// (written out, so that what letting one go comes to is proved here once, and not in each crate that owns one)
+impl Drop for TaskTable {
+    fn drop(self) {
+        let TaskTable {
+            tasks: _tasks,
+            pids: _pids,
+            children: _children,
+            base: _base,
+            top: _top,
+            last: _last,
+            made: _made,
+        } = self;
+    }
 }
 
 impl TaskTable {
