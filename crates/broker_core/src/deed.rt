@@ -1,4 +1,4 @@
-//! What a worker does next, and how that is answered.
+//! What a worker does next, and the answer to it.
 
 ghost use Rattle.std.specs.Prelude.{◌≡◌};
 ghost use Rattle.broker_core.specs.Answers.{answer_of, done_or_failed, is_let_go, is_not_yet, number_or_failed, told};
@@ -110,8 +110,7 @@ fn number_or_fault<'a>(answer: Result<u32, Errno>) -> Got<'a>
     }
 }
 
-/// The answer that a worker's step had, as the history recorded it. A step that is no worker's has none, and a skip is
-/// none.
+/// The answer to a worker's step, as the history recorded it. Steps of others and skips have none.
 pub fn answer_of(what: &What) -> Got<'_>
     ensures { told result ≡ answer_of what.now }
 {

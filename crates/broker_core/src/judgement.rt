@@ -19,7 +19,7 @@ pub struct Judgement {
     pub rule: usize,
     /// What that rule answers.
     pub verdict: Verdict,
-    /// How often effects of that rule may be done, where that is limited.
+    /// How many effects that rule allows, if that is limited.
     pub cap: Option<Cap>,
 }
 

@@ -50,7 +50,7 @@ pub struct Session {
     pub(crate) granted: bool,
     /// Another of the granted request, which the event of the act keeps.
     pub(crate) effect: Option<Request>,
-    /// What came of the effect.
+    /// The outcome of the effect.
     pub(crate) outcome: Option<Result<(), Errno>>,
     /// What came of the request for a descriptor, and of taking its number.
     pub(crate) put: Option<Result<(), Errno>>,

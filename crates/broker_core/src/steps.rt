@@ -39,7 +39,7 @@ pub(crate) fn opens_base(deed: &Deed, got: &Got<'_>) -> bool
     )
 }
 
-/// What came of an effect.
+/// The outcome of an effect.
 pub(crate) fn outcome_in(deed: &Deed, got: &Got<'_>) -> Option<Result<(), Errno>>
     ensures { (q : Request) → result ≡ outcome_in (step_of (deed_of q deed.now) (told got.now)) }
 {
@@ -50,7 +50,7 @@ pub(crate) fn outcome_in(deed: &Deed, got: &Got<'_>) -> Option<Result<(), Errno>
     }
 }
 
-/// What came of a request for a descriptor.
+/// The outcome of a request for a descriptor.
 pub(crate) fn put_in(deed: &Deed, got: &Got<'_>) -> Option<Result<(), Errno>>
     ensures { (q : Request) → result ≡ put_in (step_of (deed_of q deed.now) (told got.now)) }
 {
@@ -61,7 +61,7 @@ pub(crate) fn put_in(deed: &Deed, got: &Got<'_>) -> Option<Result<(), Errno>>
     }
 }
 
-/// What came of taking its number.
+/// The outcome of taking its number.
 pub(crate) fn take_in(deed: &Deed, got: &Got<'_>) -> Option<Result<u32, Errno>>
     ensures { (q : Request) → result ≡ take_in (step_of (deed_of q deed.now) (told got.now)) }
 {

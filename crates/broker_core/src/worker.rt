@@ -28,9 +28,7 @@ use sys_abi::memory::NoMemory;
 use sys_abi::wire::Notif;
 
 /// A worker: what it remembers of the notification that it works on, and the container's figures.
-#[derive(Drop)]
 pub struct Worker {
-    no: u8,
     figures: Figures,
     alloc: Global,
     /// The copy of the arguments. Without a session it is kept for its room.
@@ -38,28 +36,31 @@ pub struct Worker {
     session: Option<Session>,
 }
 
+// (written out, so that what letting one go comes to is proved here once, and not in each crate that owns one)
+impl Drop for Worker {
+    fn drop(self) {
+        let Worker {
+            figures: _figures,
+            alloc: _alloc,
+            capture: _capture,
+            session: _session,
+        } = self;
+    }
+}
+
 impl Worker {
-    /// The worker of a number, of a container with these figures, without a session. It takes no memory before `ready`.
+    /// A worker of a container with these figures, without a session. It takes no memory before `ready`.
     #[tactic(auto, using(crate::proofs::Workers::idle_start))]
-    pub fn new(alloc: Global, no: u8, figures: Figures) -> Worker
-        ensures no { result.no ≡ no }
+    pub fn new(alloc: Global, figures: Figures) -> Worker
         ensures figures { result.figures ≡ figures }
         ensures idle { (P : Policy) → Remembers P [] result }
     {
         Worker {
-            no,
             figures,
             alloc,
             capture: Capture::nothing(alloc),
             session: None,
         }
-    }
-
-    /// Its number.
-    pub fn no(&self) -> u8
-        ensures { result ≡ self.now.no }
-    {
-        self.no
     }
 
     /// What the worker does next.
@@ -94,7 +95,6 @@ impl Worker {
         ensures ready { OnOk result (IsReady self.new) }
         ensures effect { OnOk result ((cap : Option Cap) → due self.new ≡ Act cap → HasEffect self.new) }
         ensures figures { self.new.figures ≡ self.old.figures }
-        ensures no { self.new.no ≡ self.old.no }
     {
         match &mut self.session {
             None => self.capture.ready_for_any(),
@@ -111,7 +111,6 @@ impl Worker {
         ensures due { due self.new ≡ due self.old }
         ensures granted { is_granted self.new ≡ is_granted self.old }
         ensures figures { self.new.figures ≡ self.old.figures }
-        ensures no { self.new.no ≡ self.old.no }
     {
         match &mut self.session {
             Some(Session { effect, .. }) => match effect.take() {
@@ -128,7 +127,6 @@ impl Worker {
         ensures begun { BeginsIf notif self.new.session }
         ensures follows { Follows (plan notif.call.nr notif.call.args) [] self.new.capture }
         ensures figures { self.new.figures ≡ self.old.figures }
-        ensures no { self.new.no ≡ self.old.no }
     {
         self.capture
             .start(Plan::of(notif.call.nr, &notif.call.args));
@@ -142,7 +140,6 @@ impl Worker {
         requires fits { Fits (due self.old) (told got.now) }
         ensures known { (P : Policy) (own : List What) → Remembers P own self.old → Remembers P (with_step (step_of definition.Recv (told got.now)) own) self.new }
         ensures figures { self.new.figures ≡ self.old.figures }
-        ensures no { self.new.no ≡ self.old.no }
     {
         if let Got::Notif(notif) = got {
             self.begin(*notif);
@@ -156,7 +153,6 @@ impl Worker {
         requires fits { Fits (due self.old) (told got.now) }
         ensures known { (P : Policy) (own : List What) → Remembers P own self.old → Remembers P (with_step (step_of (deed (rules_of P self.old.figures) own) (told got.now)) own) self.new }
         ensures figures { self.new.figures ≡ self.old.figures }
-        ensures no { self.new.no ≡ self.old.no }
     {
         if got.is_not_yet() {
             return;

@@ -10,3 +10,4 @@ pub mod Taken
 pub mod TaskSteps
 pub mod Waiting
 pub mod Workers
+pub mod Requested

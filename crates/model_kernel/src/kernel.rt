@@ -15,12 +15,23 @@ use sys_abi::errno::Errno;
 use sys_abi::memory::NoMemory;
 
 /// A container's kernel.
-#[derive(Drop)]
 pub struct Kernel {
     pub(crate) script: Script,
     pub(crate) history: History,
     pub(crate) tasks: Tasks,
     pub(crate) resources: Resources,
+}
+
+// (written out, so that what letting one go comes to is proved here once, and not in each crate that owns one)
+impl Drop for Kernel {
+    fn drop(self) {
+        let Kernel {
+            script: _script,
+            history: _history,
+            tasks: _tasks,
+            resources: _resources,
+        } = self;
+    }
 }
 
 impl Kernel {
@@ -72,7 +83,8 @@ impl Kernel {
         let Kernel {
             script,
             mut history,
-            ..
+            tasks: _tasks,
+            resources: _resources,
         } = self;
         history.push(Event {
             who: Actor::Listener,
@@ -85,7 +97,13 @@ impl Kernel {
     pub fn into_history(self) -> History
         ensures { result ≡ self.history }
     {
-        self.history
+        let Kernel {
+            script: _script,
+            history,
+            tasks: _tasks,
+            resources: _resources,
+        } = self;
+        history
     }
 
     /// Appends a step of a worker, for which there is room.
@@ -101,7 +119,7 @@ impl Kernel {
     }
 }
 
-/// Another answer of the same.
+/// A copy of this answer.
 pub(crate) fn same(answer: &Result<(), Errno>) -> Result<(), Errno>
     ensures { result ≡ answer.now }
 {

@@ -9,7 +9,7 @@ ghost use Rattle.hist_model.specs.Calls.{caller, count, named};
 ghost use Rattle.hist_model.specs.Deeds as deed;
 ghost use Rattle.hist_model.specs.Look.{ev, event_at};
 ghost use Rattle.hist_model.specs.Signals.{call_of};
-ghost use Rattle.hist_model.specs.Steps.{args_in, check_answer, deed_step, notif, nr_in, oldest_unfetched, recv_answer, send_answer};
+ghost use Rattle.hist_model.specs.Steps.{args_in, check_answer, deed_step, notif, nr_in, oldest_unfetched, recv_answer, request_of, send_answer};
 ghost use Rattle.hist_model.specs.declared.event.Actor.TheVariants.{Worker};
 ghost use Rattle.hist_model.specs.declared.event.Event.{Event};
 ghost use Rattle.hist_model.specs.declared.event.What.TheVariants.{AddfdPut, Skip};
@@ -165,7 +165,7 @@ impl Kernel {
     pub fn put(&mut self, worker: u8, asked: Addfd) -> Result<(), Errno>
         requires kernel { IsKernel self.old }
         requires worker { worker ≤ 16 }
-        requires free { has_request self.old.resources.listener.requests worker ≡ false }
+        requires free { request_of (past self.old) worker ≡ None }
         requires known { is_known asked ≡ true }
         requires room { 0 < self.old.history.spare }
         ensures answer { AddfdPut asked result ≡ deed_step (system self.old) (past self.old) worker (deed.AddfdPut asked) }
@@ -188,7 +188,7 @@ impl Kernel {
     /// the call is listed, which is no event.
     pub fn take(&mut self, worker: u8) -> Result<u32, TakeError>
         requires kernel { IsKernel self.old }
-        requires asked { has_request self.old.resources.listener.requests worker ≡ true }
+        requires asked { request_of (past self.old) worker ≡ None → ⊥ }
         requires room { 0 < self.old.history.spare }
         ensures answer { take_of result ≡ deed_step (system self.old) (past self.old) worker deed.AddfdTake }
         ensures done { (result ≡ Err Pending → ⊥) → DoesDeed self.old worker deed.AddfdTake self.new }

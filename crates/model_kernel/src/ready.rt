@@ -59,7 +59,7 @@ pub struct ReadyTask {
     pub(crate) next: Next,
 }
 
-/// So many bytes that are all the same.
+/// This number of equal bytes.
 fn filled(alloc: Global, len: u32, byte: u8) -> Result<Text, NoMemory>
     ensures { IfOk result (λ text. text ≡ replicate len byte) }
 {
@@ -200,7 +200,7 @@ impl Kernel {
         ensures next { IfOk result (λ next. IsNext self.new task next) }
         ensures resources { IfOk result (λ next. HasNextRoom self.new task next) }
     {
-        let _events = self.count();
+        self.has_few_events();
         self.ready_rows(task)?;
         let next = self.next(alloc, task)?;
         self.ready_next(task, &next)?;

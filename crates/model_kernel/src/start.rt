@@ -1,8 +1,6 @@
 //! A kernel's start, and what it says of its tasks and workers.
 
-ghost use Rattle.std.specs.Prelude.{◌≡◌, ◌↔◌, ◌+◌, is_some, ℕ, ◌<◌, [], ◌∷◌, length, Ok, IfOk, IfSome, IfNone, true, false};
-ghost use Rattle.addfd.specs.Requests.{has_request};
-ghost use Rattle.addfd.specs.Stands.{is_asking};
+ghost use Rattle.std.specs.Prelude.{◌≡◌, ◌↔◌, ◌+◌, is_some, ℕ, ◌<◌, [], ◌∷◌, length, Ok, IfOk, IfSome, IfNone, None, true, false};
 ghost use Rattle.hist_model.specs.Legal.{started, Finished};
 ghost use Rattle.hist_model.specs.Steps.{mem, request_of};
 ghost use Rattle.hist_model.specs.Tasks.{is_made};
@@ -107,8 +105,8 @@ impl Kernel {
 
     /// Whether a worker has a request for a descriptor: one that was put and not taken.
     pub fn has_request(&self, worker: u8) -> bool
-        ensures has { result ≡ has_request self.now.resources.listener.requests worker }
-        ensures stands { IsKernel self.now → result ≡ is_asking (request_of (past self.now) worker) }
+        ensures some { IsKernel self.now → result ≡ true → request_of (past self.now) worker ≡ None → ⊥ }
+        ensures none { IsKernel self.now → result ≡ false → request_of (past self.now) worker ≡ None }
     {
         self.resources.has_request(worker)
     }

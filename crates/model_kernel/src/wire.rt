@@ -1,9 +1,9 @@
 //! What workers ask of the listener by the structures that they hand over (seccomp_unotify(2)).
 
-ghost use Rattle.std.specs.Prelude.{◌≡◌, ◌<◌, ◌≤◌, true, false};
+ghost use Rattle.std.specs.Prelude.{◌≡◌, ◌<◌, ◌≤◌, true, false, None};
 ghost use Rattle.addfd.specs.Puts.{may_be_put};
-ghost use Rattle.addfd.specs.Requests.{has_request};
 ghost use Rattle.hist_model.specs.Deeds as deed;
+ghost use Rattle.hist_model.specs.Steps.{request_of};
 ghost use Rattle.notif_ioctl.specs.Answers.{may_be_sent};
 ghost use Rattle.sys_abi.specs.Wire.{addfd_of, resp_of};
 ghost use Rattle.model_kernel.specs.Kernels.{DoesDeed, IsKernel, past, system};
@@ -76,7 +76,7 @@ impl Kernel {
     pub fn addfd_put(&mut self, worker: u8, bytes: &[u8; 24]) -> Result<(), Errno>
         requires kernel { IsKernel self.old }
         requires worker { worker ≤ 16 }
-        requires free { has_request self.old.resources.listener.requests worker ≡ false }
+        requires free { request_of (past self.old) worker ≡ None }
         requires room { 0 < self.old.history.spare }
         ensures answer { result ≡ put_result (system self.old) (past self.old) (addfd_of bytes.now) }
         ensures done { may_be_put (addfd_of bytes.now) ≡ true → DoesDeed self.old worker (deed.AddfdPut (addfd_of bytes.now)) self.new }

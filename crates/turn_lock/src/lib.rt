@@ -2,7 +2,7 @@
 //!
 //! A `TurnLock` holds a state that is `Journalled`: it was set up with a policy, a script and a limit of workers, which never
 //! change, and it keeps a history, which only grows. A caller has a `Pass`, and gives a `Turn` to `TurnLock::turn`, which waits
-//! until no other turn runs and plays it on the state. Contracts see a lock as the setup and the history that it began with,
+//! until no other turn runs and plays it on the state. A turn adds one event at most. Contracts see a lock as the setup and the history that it began with,
 //! and a pass as the history that it has seen and the places of the events that its own turns appended. So a caller learns of
 //! its turn: it was played on one state, whose history begins with all that the pass had seen. Passes are split from the first
 //! pass and joined to it again, and with none out the lock is closed and gives the state back.

@@ -216,7 +216,7 @@ impl<S: Journalled> TurnLock<S> {
     /// Wakes the passes that wait, once the turn of this ticket has ended.
     fn wake_waiting(&self, ended: u64) {
         let shared = &self.table.shared;
-        // A pass that waits drew its ticket before it found another one served. With no later ticket none waits, and the
+        // A waiting pass drew its ticket before it found another one served. Without a later ticket nobody waits, and the
         // system needn't be asked.
         if shared.peek(1) != ended.wrapping_add(1) {
             shared.wake_all(2);

@@ -1,6 +1,6 @@
--- What a machine that keeps a limit keeps after a try of an actor, and after one try and another.
+-- What a machine that keeps a limit keeps after a try of an actor, and after a try behind one that made no step.
 -- By cases on the limit and on whether the actor stepped: a step that was made is no skip, and its actor is within the limit.
-use Rattle.std.proofs.Common.{◌≡◌, ℕ, ◌≤◌, Bool, true, false, List, [], ◌∷◌, Option, Some, None, refl, ◌∙◌}
+use Rattle.std.proofs.Common.{◌≡◌, ℕ, ◌≤◌, Bool, true, false, List, [], ◌∷◌, Option, Some, None, refl, ◌∙◌, arith}
 use Rattle.std.specs.Prelude.{Result, Ok, Err, IfOk, OnErr, ⊤}
 use Rattle.hist_model.specs.Kinds.{skips}
 use Rattle.hist_model.specs.Legal.{IsWithin}
@@ -13,8 +13,8 @@ use Rattle.hist_model.specs.declared.policy.Policy.{Policy}
 use Rattle.model_kernel.specs.Kernels.{past}
 use Rattle.turn_lock.proofs.Lists.{begins_trans}
 use Rattle.worker_gate.specs.Keeping.{Continues, IsKept, IsWithinLimit, MayServe}
-use Rattle.worker_gate.specs.Serving.{Reaches, Tries}
-use Rattle.worker_gate.specs.declared.machine.Machine.{Machine}
+use Rattle.broker_machine.specs.Serving.{Reaches, Tries}
+use Rattle.broker_machine.specs.declared.machine.Machine.{Machine}
 
 -- the actor is no worker above the limit
 abbrev pub MayAct : Option ℕ → Actor → Type 0
@@ -42,7 +42,7 @@ within_more (Some l) K a what may steps within = ((steps, within.0), (may, withi
 module _ (P : Policy) (limit : Option ℕ) (old new : Machine) (kept : IsKept P limit old) where
   -- without a step
   pub stayed_on : Reaches P old (past old.kernel) new → Continues P limit old new
-  stayed_on r = record { kept = record { served = r.served; within = rw r.events kept.within }; script = r.script; begins = ([], r.events) }
+  stayed_on r = record { kept = record { served = r.served; within = rw r.events kept.within }; script = r.script; begins = ([], r.events); one = rw r.events (omega arith) }
 
   -- with a try
   pub tried_on : (a : Actor) → MayAct limit a → (b : Bool) → Tries P old a b new → Continues P limit old new
@@ -50,6 +50,7 @@ module _ (P : Policy) (limit : Option ℕ) (old new : Machine) (kept : IsKept P 
     kept = record { served = t.0.served; within = rw t.0.events (within_more limit (past old.kernel) a _ may t.1 kept.within) };
     script = t.0.script;
     begins = (_ ∷ [], t.0.events);
+    one = rw t.0.events (omega arith);
   }
   tried_on a may false t = stayed_on t.0
 
@@ -58,6 +59,12 @@ module _ (P : Policy) (limit : Option ℕ) (old new : Machine) (kept : IsKept P 
   went_on a may (Ok b) done same = tried_on a may b done
   went_on a may (Err e) done same = stayed_on same
 
--- one after another
-pub continues_trans : (P : Policy) (limit : Option ℕ) (a b c : Machine) → Continues P limit a b → Continues P limit b c → Continues P limit a c
-continues_trans P limit a b c p q = record { kept = q.kept; script = q.script ∙ p.script; begins = begins_trans _ _ _ q.begins p.begins }
+-- an actor that waited left the history as it was
+pub waited : {E : Type 0} (P : Policy) (old new : Machine) (a : Actor) (r : Result Bool E) → IfOk r (λ b. Tries P old a b new) → IfOk r (λ b. b ≡ false → past new.kernel ≡ past old.kernel)
+waited P old new a (Ok true) t = λ e. cc
+waited P old new a (Ok false) t = λ e. t.0.events
+waited P old new a (Err e) t = tt
+
+-- going on after that is going on
+pub continues_after : (P : Policy) (limit : Option ℕ) (a b c : Machine) → past b.kernel ≡ past a.kernel → Continues P limit a b → Continues P limit b c → Continues P limit a c
+continues_after P limit a b c same p q = record { kept = q.kept; script = q.script ∙ p.script; begins = begins_trans _ _ _ q.begins p.begins; one = rw same at q.one }

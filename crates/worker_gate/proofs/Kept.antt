@@ -5,8 +5,8 @@ use Rattle.hist_model.specs.Legal.{started}
 use Rattle.hist_model.specs.declared.policy.Policy.{Policy}
 use Rattle.hist_model.specs.declared.script.Script.{Script}
 use Rattle.worker_gate.specs.Keeping.{IsKept, IsWithinLimit}
-use Rattle.worker_gate.specs.Serving.{IsAt, IsServed}
-use Rattle.worker_gate.specs.declared.machine.Machine.{Machine}
+use Rattle.broker_machine.specs.Serving.{IsAt, IsServed}
+use Rattle.broker_machine.specs.declared.machine.Machine.{Machine}
 
 within_start : (limit : Option ℕ) (S : Script) → IsWithinLimit limit (started S)
 within_start None S = tt

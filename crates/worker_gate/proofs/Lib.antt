@@ -1,15 +1,5 @@
-pub mod Held
-pub mod Sessions
-pub mod Fitting
-pub mod Rooms
-pub mod Allowed
-pub mod Done
-pub mod Remembering
-pub mod Turns
-pub mod Tasks
 pub mod Schedules
 pub mod KnownTasks
 pub mod Kept
-pub mod Tried
 pub mod Continuing
 pub mod Whole

@@ -13,7 +13,7 @@ use Rattle.turn_lock.specs.Lists.{Begins, longer, shorter}
 use Rattle.turn_lock.proofs.Lists.{begins_self}
 use Rattle.worker_gate.specs.Hands.{Ends, IsServedWhole}
 use Rattle.worker_gate.specs.Keeping.{IsKept}
-use Rattle.worker_gate.specs.declared.machine.Machine.{Machine}
+use Rattle.broker_machine.specs.declared.machine.Machine.{Machine}
 
 -- a history with a newest event isn't empty
 pub is_begun : (K : List Event) → IsUnclosed K → 0 < length K

@@ -1,5 +1,5 @@
 -- What the state behind the listener's lock keeps of its history, and what contracts see of it.
-use Rattle.std.specs.Prelude.{◌≡◌, ℕ, ◌≤◌, List, Option, Some, None, ⊤}
+use Rattle.std.specs.Prelude.{◌≡◌, ℕ, ◌+◌, ◌≤◌, List, length, Option, Some, None, ⊤}
 use Rattle.hist_model.specs.Histories.{Seen}
 use Rattle.hist_model.specs.Legal.{NoSkip, NoWorkerAbove}
 use Rattle.hist_model.specs.declared.event.Event.{Event}
@@ -7,8 +7,8 @@ use Rattle.hist_model.specs.declared.history.Setup.{Setup}
 use Rattle.hist_model.specs.declared.policy.Policy.{Policy}
 use Rattle.model_kernel.specs.Kernels.{past}
 use Rattle.turn_lock.specs.Lists.{Begins}
-use Rattle.worker_gate.specs.Serving.{IsServed}
-use Rattle.worker_gate.specs.declared.machine.Machine.{Machine}
+use Rattle.broker_machine.specs.Serving.{IsServed}
+use Rattle.broker_machine.specs.declared.machine.Machine.{Machine}
 
 -- under a limit no event is a Skip, and none is a step of a worker whose number is above it
 abbrev pub IsWithinLimit : Option ℕ → List Event → Type 0
@@ -31,8 +31,9 @@ MayServe limit None = ⊤
 MayServe None (Some w) = w ≤ 16
 MayServe (Some limit) (Some w) = (w ≤ limit) × (w ≤ 16)
 
--- the machine keeps the same, and has perhaps gone on
+-- the machine keeps the same, and has perhaps gone on by one event
 pub record Continues (P : Policy) (limit : Option ℕ) (old new : Machine) : Type 0 where
   pub kept : IsKept P limit new
   pub script : new.kernel.script ≡ old.kernel.script
   pub begins : Begins (past new.kernel) (past old.kernel)
+  pub one : length (past new.kernel) ≤ length (past old.kernel) + 1

@@ -1,11 +1,22 @@
--- What a turn of a scheduled actor comes to, and what it is asked of.
+-- The turns of a schedule: what they make of a machine's history, what a turn of a scheduled actor comes to, and what it is asked of.
 use Rattle.std.specs.Prelude.{◌≡◌, ℕ, Bool, true, false, List, Option, Some, None, ⊤}
-use Rattle.hist_model.specs.Legal.{with_step}
+use Rattle.hist_model.specs.Legal.{with_schedule, with_step, with_steps}
 use Rattle.hist_model.specs.declared.event.Actor.{Actor}
 use Rattle.hist_model.specs.declared.event.Event.{Event}
 use Rattle.hist_model.specs.declared.history.Setup.{Setup}
+use Rattle.hist_model.specs.declared.policy.Policy.{Policy}
 use Rattle.mediation.specs.Scheduled.{IsScheduled}
-use Rattle.worker_gate.specs.Serving.{IsFound}
+use Rattle.model_kernel.specs.Kernels.{past}
+use Rattle.broker_machine.specs.Serving.{IsFound}
+use Rattle.broker_machine.specs.declared.machine.Machine.{Machine}
+
+-- a machine's history with so many more steps of an actor
+abbrev pub after_steps : Policy → Machine → Actor → ℕ → List Event
+after_steps P m a n = with_steps P m.kernel.script a n (past m.kernel)
+
+-- with the steps of the script's schedule
+abbrev pub after_schedule : Policy → Machine → List Event
+after_schedule P m = with_schedule P m.kernel.script m.kernel.script.schedule (past m.kernel)
 
 -- what is known of an actor: nothing, or the ordinal of the task that it is
 abbrev pub IsKnown : List Event → Actor → Option ℕ → Type 0

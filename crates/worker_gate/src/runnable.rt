@@ -1,8 +1,8 @@
 //! Which tasks are worth a try, so that hands needn't try all.
 //!
 //! A task that couldn't step is worth a try again once its call was answered or a descriptor was asked for in it, a signal was
-//! sent to it, or a child of its ended. This is a hint, read off the history's new events: what a try does the kernel alone
-//! decides.
+//! sent to it, or one of its children ended. This is a hint, taken from the history's new events: only the kernel decides what
+//! a try does.
 
 use crate::wait_queues::Work;
 use hist_model::event::{Actor, Delivered, Entered, Event, What};

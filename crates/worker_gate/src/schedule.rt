@@ -1,10 +1,13 @@
 //! The play of a script's schedule.
 
 ghost use Rattle.std.specs.Prelude.{◌≡◌, ◌<◌, length, true, OnOk, IfOk, Some, slice_get, All};
+ghost use Rattle.broker_machine.specs.Serving.{IsServed, Reaches};
 ghost use Rattle.hist_model.specs.Legal.{played};
 ghost use Rattle.hist_model.specs.ScriptRules.{can_be_scheduled};
+ghost use Rattle.mediation.specs.Scheduled.{IsScheduled};
+ghost use Rattle.worker_gate.specs.Scheduling.{after_schedule, after_steps};
 
-use crate::machine::Machine;
+use broker_machine::Machine;
 use hist_model::event::Actor;
 use hist_model::history::History;
 use hist_model::policy::Policy;
@@ -20,7 +23,7 @@ pub struct Played {
     pub history: History,
 }
 
-/// Another actor of the same.
+/// A copy of this actor.
 fn copied(alloc: Global, who: &Actor) -> Result<Actor, NoMemory>
     ensures { IfOk result (λ a. a ≡ who.now) }
 {
@@ -65,20 +68,35 @@ pub fn schedule_of(alloc: Global, script: &Script) -> Result<Vec<Step>, NoMemory
     Ok(copies)
 }
 
-impl Machine {
-    ghost use Rattle.worker_gate.specs.Serving.{IsServed, Reaches, after_schedule};
-
-    /// The turns of the script's schedule, in order.
-    pub fn schedule(&mut self, alloc: Global, policy: &Policy) -> Result<(), NoMemory>
-        requires { IsServed policy.now self.old }
-        ensures { OnOk result (Reaches policy.now self.old (after_schedule policy.now self.old) self.new) }
-    {
-        for index in 0..lines(self.kernel.script()) {
-            let step = line(alloc, self.kernel.script(), index)?;
-            self.turns(alloc, policy, &step.who, step.count)?;
-        }
-        Ok(())
+/// As many turns of an actor, which is looked up once.
+fn turns(
+    machine: &mut Machine,
+    alloc: Global,
+    policy: &Policy,
+    who: &Actor,
+    count: u32,
+) -> Result<(), NoMemory>
+    requires served { IsServed policy.now machine.old }
+    requires scheduled { IsScheduled who.now }
+    ensures { OnOk result (Reaches policy.now machine.old (after_steps policy.now machine.old who.now count) machine.new) }
+{
+    let task = machine.task_of(who);
+    for _ in 0..count {
+        machine.found_turn(alloc, policy, who, task)?;
     }
+    Ok(())
+}
+
+/// The turns of the script's schedule, in order.
+fn play_lines(machine: &mut Machine, alloc: Global, policy: &Policy) -> Result<(), NoMemory>
+    requires { IsServed policy.now machine.old }
+    ensures { OnOk result (Reaches policy.now machine.old (after_schedule policy.now machine.old) machine.new) }
+{
+    for index in 0..lines(machine.script()) {
+        let step = line(alloc, machine.script(), index)?;
+        turns(machine, alloc, policy, &step.who, step.count)?;
+    }
+    Ok(())
 }
 
 /// Plays the schedule of a script on a kernel and its workers, and closes the listener.
@@ -88,7 +106,7 @@ pub fn play(alloc: Global, policy: Policy, script: Script) -> Result<Played, NoM
     ensures script { IfOk result (λ p. p.script ≡ script) }
 {
     let mut machine = Machine::new(alloc, script)?;
-    machine.schedule(alloc, &policy)?;
+    play_lines(&mut machine, alloc, &policy)?;
     let (script, history) = machine.closed()?;
     Ok(Played {
         policy,

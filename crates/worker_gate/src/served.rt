@@ -9,11 +9,11 @@ ghost use Rattle.mediation.specs.Scheduled.{IsScheduled};
 ghost use Rattle.model_kernel.specs.Kernels.{IsKernel, past};
 ghost use Rattle.worker_gate.specs.Keeping.{IsKept};
 ghost use Rattle.worker_gate.specs.Scheduling.{IsKnown};
-ghost use Rattle.worker_gate.specs.Serving.{IsFound, Reaches, after_step};
+ghost use Rattle.broker_machine.specs.Serving.{IsFound, Reaches, after_step};
 
-use crate::machine::Machine;
 use crate::runnable::Runnable;
 use crate::schedule::Played;
+use broker_machine::Machine;
 use hist_model::event::Actor;
 use hist_model::history::{History, Journalled};
 use hist_model::policy::Policy;

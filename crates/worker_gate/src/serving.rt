@@ -1,6 +1,6 @@
 //! What a hand does in a turn of the listener's lock: one step, of its worker or of a task that is worth a try.
 
-ghost use Rattle.std.specs.Prelude.{◌≡◌, ◌<◌, ◌^◌, Some, length, true};
+ghost use Rattle.std.specs.Prelude.{◌≡◌, ◌<◌, ◌^◌, IfOk, Some, false, length, true};
 ghost use Rattle.hist_model.specs.Legal.{Finished};
 ghost use Rattle.model_kernel.specs.Kernels.{past};
 ghost use Rattle.worker_gate.specs.Keeping.{Continues, IsKept, MayServe};
@@ -19,12 +19,12 @@ pub(crate) struct Role {
     pub(crate) steps_tasks: bool,
 }
 
-/// What came of a hand's turn.
+/// The outcome of a hand's turn.
 #[derive(Clone, Copy, Debug)]
 pub(crate) enum Came {
     /// Nothing is left to do, or a hand found no memory.
     Over,
-    /// It has nothing to do before this.
+    /// It has nothing to do until this happens.
     Waits(Awaits),
     /// It did something.
     Stepped,
@@ -32,7 +32,7 @@ pub(crate) enum Came {
     Reached(Point, u64),
 }
 
-/// What a hand's turn tells: what came of it, and what there is to do after it.
+/// What a hand learns from its turn: the outcome, and the work that is left.
 #[derive(Clone, Copy, Debug)]
 pub(crate) struct Turned {
     pub(crate) came: Came,
@@ -54,7 +54,7 @@ impl Turned {
     };
 }
 
-/// What a worker came to by a step, where it had made so many good checks since it received its notification.
+/// The point that a worker reached by a step, given how many good checks it had made since it received its notification.
 fn reached(step: &What, good_checks: &mut u8) -> Came {
     match step {
         What::Recv { answer: Ok(notif) } => {
@@ -80,6 +80,7 @@ impl Serving {
         requires kept { IsKept self.old.policy self.old.limit self.old.machine }
         requires may { MayServe self.old.limit (Some number) }
         ensures goes_on { Continues self.new.policy self.new.limit self.old.machine self.new.machine }
+        ensures waits { IfOk result (λ stepped. stepped ≡ false → past self.new.machine.kernel ≡ past self.old.machine.kernel) }
         ensures setup { (self.new.policy ≡ self.old.policy) × (self.new.limit ≡ self.old.limit) }
     {
         self.machine.try_worker(alloc, &self.policy, number)
@@ -124,7 +125,7 @@ impl Serving {
 
     /// What a worker came to by the newest event.
     fn came(&self, good_checks: &mut u8) -> Came {
-        let history = self.machine.kernel.history();
+        let history = self.machine.history();
         match history.get(history.len().saturating_sub(1)) {
             Some(event) => reached(&event.what, good_checks),
             None => Came::Stepped,
@@ -137,7 +138,7 @@ impl Serving {
         ensures goes_on { Continues self.new.policy self.new.limit self.old.machine self.new.machine }
         ensures setup { (self.new.policy ≡ self.old.policy) × (self.new.limit ≡ self.old.limit) }
     {
-        let has_request = self.machine.kernel.has_request(number);
+        let has_request = self.machine.kernel().has_request(number);
         if !has_request {
             self.runnable.note_no_call();
         }
@@ -191,7 +192,7 @@ impl Serving {
     fn seeks(&self, role: Role) -> Work {
         Work {
             calls: match role.worker {
-                Some(number) => !self.machine.kernel.has_request(number),
+                Some(number) => !self.machine.kernel().has_request(number),
                 None => false,
             },
             tasks: role.steps_tasks,
@@ -211,9 +212,9 @@ impl Serving {
         ensures setup { (self.new.policy ≡ self.old.policy) × (self.new.limit ≡ self.old.limit) }
     {
         // The script's start makes the first task, before any hand's turn.
-        let _ = self.runnable.catch_up(&self.machine.kernel)?;
+        let _ = self.runnable.catch_up(self.machine.kernel())?;
         let came = self.take_step(alloc, role, good_checks)?;
-        let settled = self.runnable.catch_up(&self.machine.kernel)?;
+        let settled = self.runnable.catch_up(self.machine.kernel())?;
         Ok(Turned {
             came,
             settled,
@@ -235,8 +236,7 @@ impl Serving {
         ensures few { length (past self.now.machine.kernel) < 2 ^ 64 }
         ensures finished { result ≡ true → Finished (past self.now.machine.kernel) }
     {
-        // There are fewer than 2^64 events, as a legal history has.
-        let _events = self.machine.kernel.count();
+        self.machine.kernel().has_few_events();
         self.machine.finished()
     }
 

@@ -1,10 +1,10 @@
-//! Where hands wait that have nothing to do.
+//! Where hands with nothing to do wait.
 //!
 //! A hand takes its turn of the lock behind a door, and sees there which work is left. One that found nothing to do leaves the
 //! door to the others while it sleeps, so that nothing happens between its look and its sleep.
 //!
-//! A hand is woken only for work that no hand seeks that is awake: turns come one after another, so a second hand would but
-//! find that the first was faster. Hands at the gate seek nothing, since they may be held there.
+//! A hand is woken only for work that no hand which is awake is looking for: turns come one after another, so a second hand would
+//! only find that the first was faster. Hands at the gate seek nothing, since they may be held there.
 
 use std::sync::atomic::{AtomicU32, Ordering};
 use std::sync::{Condvar, Mutex, MutexGuard, Wait};
@@ -14,13 +14,13 @@ use std::sync::{Condvar, Mutex, MutexGuard, Wait};
 pub(crate) enum Awaits {
     /// A call to receive.
     Call,
-    /// What comes of its worker's request for a descriptor.
+    /// The outcome of its worker's request for a descriptor.
     Request,
     /// A task that may step.
     Task,
     /// A call, or a task.
     CallOrTask,
-    /// What comes of its worker's request, or a task.
+    /// The outcome of its worker's request, or a task that may step.
     RequestOrTask,
 }
 
@@ -34,7 +34,7 @@ pub(crate) struct Work {
 }
 
 impl Work {
-    /// None.
+    /// No work.
     pub(crate) const NONE: Work = Work {
         calls: false,
         tasks: false,
@@ -90,7 +90,7 @@ impl Seekers {
         }
     }
 
-    /// The kinds of this work that nobody seeks.
+    /// The kinds of this work that no hand is looking for.
     fn unsought(&self, work: Work) -> Work {
         Work {
             calls: work.calls && self.calls.load(Ordering::SeqCst) == 0,
@@ -102,9 +102,9 @@ impl Seekers {
 /// The hands that wait for one thing.
 #[derive(Clone, Copy, Debug)]
 struct Waiting {
-    /// How many sleep and weren't woken.
+    /// How many are asleep and haven't been woken.
     asleep: u32,
-    /// How many were woken and don't know yet.
+    /// How many have been woken but haven't run yet.
     woken: u32,
 }
 
@@ -126,7 +126,7 @@ pub(crate) struct Sleepers {
 }
 
 impl Sleepers {
-    /// Those that wait for this.
+    /// The hands that wait for this.
     fn waiting(&mut self, awaits: Awaits) -> &mut Waiting {
         match awaits {
             Awaits::Call => &mut self.call,
@@ -151,7 +151,7 @@ pub(crate) struct WaitQueues {
 }
 
 impl WaitQueues {
-    /// With nobody asleep.
+    /// The queues with all hands awake.
     pub(crate) fn new() -> WaitQueues {
         WaitQueues {
             door: Mutex::new(Sleepers {

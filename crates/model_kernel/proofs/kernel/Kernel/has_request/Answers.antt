@@ -1,7 +1,9 @@
-use Rattle.std.proofs.Common.{◌∙◌}
-use Rattle.addfd.proofs.Taken.{asks}
-use Rattle.model_kernel.specs.Kernels.{past}
+use Rattle.std.proofs.Common.{sym, ◌∙◌}
+use Rattle.model_kernel.proofs.Requested.{asked-none, asked-one}
 use Rattle.model_kernel.proofs.kernel.Kernel.has_request.Goals as goal
 
-pub returns-clause-stands : goal.returns-clause-stands
-returns-clause-stands c k = c.has_request.ensures ∙ asks (past c.args.self.now) c.args.self.now.resources.listener.requests c.args.worker k.resources.listener.requests
+pub returns-clause-some : goal.returns-clause-some
+returns-clause-some c k h = asked-one c.args.self.now c.args.worker k (sym c.has_request.ensures ∙ h)
+
+pub returns-clause-none : goal.returns-clause-none
+returns-clause-none c k h = asked-none c.args.self.now c.args.worker k (sym c.has_request.ensures ∙ h)

@@ -5,7 +5,7 @@ use Rattle.model_kernel.proofs.kernel.Kernel.living_group.Goals as goal
 
 pub returns-clause-live : goal.returns-clause-live
 returns-clause-live c =
-    rw c.group.ensures.at (group-live c.args.self.now c.in_ok-task.task c.requires (sym c.has_ended.ensures.at ∙ c.if-has_ended.false) (omega (arith, c.count-events.ensures.few, c.count-events.ensures.count)))
+    rw c.group.ensures.at (group-live c.args.self.now c.in_ok-task.task c.requires (sym c.has_ended.ensures.at ∙ c.if-has_ended.false) (omega (arith, c.has_few_events.ensures)))
 
 pub returns-clause-group : goal.returns-clause-group
 returns-clause-group c =

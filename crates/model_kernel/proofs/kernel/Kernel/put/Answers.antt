@@ -4,8 +4,12 @@ use Rattle.hist_model.specs.declared.event.Actor.TheVariants.{Worker}
 use Rattle.hist_model.specs.declared.event.What.TheVariants.{AddfdPut}
 use Rattle.model_kernel.specs.Kernels.{past}
 use Rattle.model_kernel.specs.declared.kernel.Kernel.{Kernel}
+use Rattle.model_kernel.proofs.Requested.{has-none}
 use Rattle.model_kernel.proofs.Workers.{noted}
 use Rattle.model_kernel.proofs.kernel.Kernel.put.Goals as goal
+
+pub ask-answer-requires-clause-free : goal.ask-answer-requires-clause-free
+ask-answer-requires-clause-free c = has-none c.args.self.now c.args.worker c.requires.kernel c.requires.free
 
 pub returns-clause-done : goal.returns-clause-done
 returns-clause-done c =

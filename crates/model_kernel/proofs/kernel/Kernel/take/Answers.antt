@@ -3,8 +3,12 @@ use Rattle.addfd.specs.Stands.{take_of}
 use Rattle.hist_model.specs.declared.event.What.TheVariants.{AddfdTake}
 use Rattle.kernel_resources.specs.declared.resources.Resources.{Resources}
 use Rattle.model_kernel.specs.Kernels.{past, taken_step}
+use Rattle.model_kernel.proofs.Requested.{has-one}
 use Rattle.model_kernel.proofs.Workers.{noted}
 use Rattle.model_kernel.proofs.kernel.Kernel.take.Goals as goal
+
+pub take-taken-requires : goal.take-taken-requires
+take-taken-requires c = has-one c.args.self.now c.args.worker c.requires.kernel c.requires.asked
 
 pub returns-in-Some-clause-answer : goal.returns-in-Some-clause-answer
 returns-in-Some-clause-answer c = c.take-taken.ensures.answer c.args.self.now.script (past c.args.self.now) _ c.requires.kernel.resources

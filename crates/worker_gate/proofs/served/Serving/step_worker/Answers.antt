@@ -1,7 +1,10 @@
-use Rattle.worker_gate.proofs.Continuing.{went_on, worker_may}
+use Rattle.worker_gate.proofs.Continuing.{waited, went_on, worker_may}
 use Rattle.worker_gate.proofs.served.Serving.step_worker.Goals as goal
 
 pub returns-clause-goes_on : goal.returns-clause-goes_on
 returns-clause-goes_on c =
     let old = c.args.self.now in
     went_on old.policy old.limit old.machine _ c.requires.kept _ (worker_may old.limit c.args.number c.requires.may) c.try_worker.result c.try_worker.ensures.done c.try_worker.ensures.same
+
+pub returns-clause-waits : goal.returns-clause-waits
+returns-clause-waits c = waited c.args.self.now.policy c.args.self.now.machine _ _ c.try_worker.result c.try_worker.ensures.done

@@ -1,0 +1,10 @@
+pub mod Held
+pub mod Sessions
+pub mod Fitting
+pub mod Rooms
+pub mod Allowed
+pub mod Done
+pub mod Remembering
+pub mod Turns
+pub mod Tasks
+pub mod Tried

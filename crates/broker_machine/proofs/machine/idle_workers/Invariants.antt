@@ -1,0 +1,10 @@
+use Rattle.std.proofs.Common.{◌≡◌, length, []}
+use Rattle.hist_model.specs.declared.policy.Policy.{Policy}
+use Rattle.broker_machine.specs.Workers.{AllRemember}
+use Rattle.broker_machine.proofs.machine.idle_workers.Given as goal
+
+abbrev pub invariant-loop : goal.invariant-loop
+invariant-loop l = record {
+  filled : length l.workers.items ≡ l.counter;
+  idle : (P : Policy) → AllRemember P l.figures [] l.workers.items;
+}

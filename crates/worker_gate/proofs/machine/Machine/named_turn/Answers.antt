@@ -1,9 +1,0 @@
-use Rattle.model_kernel.specs.Kernels.{past, system}
-use Rattle.worker_gate.proofs.Tasks.{unmade_skips}
-use Rattle.worker_gate.proofs.machine.Machine.named_turn.Goals as goal
-
-pub skip_turn-requires-clause-due : goal.skip_turn-requires-clause-due
-skip_turn-requires-clause-due c =
-    let k = c.args.self.now.kernel in
-    let unmade = rw c.in-None.is at c.requires.found in
-    unmade_skips (system k) (past k) c.args.name.now unmade

@@ -1,7 +1,0 @@
-use Rattle.worker_gate.proofs.Turns.{at_start}
-use Rattle.worker_gate.proofs.machine.Machine.new.Goals as goal
-
-pub returns : goal.returns
-returns c =
-    let idle = c.in_ok-idle_workers.ensures in
-    λ P. at_start P c.args.script _ c.in_ok-new.ensures idle.number (rw (← c.script.view_is) (idle.idle P))
