@@ -15,8 +15,8 @@ use Rattle.hist_model.specs.declared.policy.Policy.{Policy}
 use Rattle.hist_model.specs.declared.script.Script.{Script}
 use Rattle.mediation.specs.Scheduled.{IsScheduled}
 use Rattle.model_kernel.specs.Kernels.{past}
-use Rattle.worker_gate.specs.Serving.{IsServed, Reaches, after_step}
-use Rattle.worker_gate.specs.declared.machine.Machine.{Machine}
+use Rattle.broker_machine.specs.Serving.{IsServed, Reaches, after_step}
+use Rattle.broker_machine.specs.declared.machine.Machine.{Machine}
 use Rattle.audit_check.specs.Actors.{actor_in}
 use Rattle.audit_check.specs.Checked.{HasStepped, with_close}
 use Rattle.audit_check.specs.Lines.{lines}

@@ -10,8 +10,8 @@ use Rattle.hist_model.specs.declared.event.Event.{Event}
 use Rattle.hist_model.specs.declared.policy.Policy.{Policy}
 use Rattle.hist_model.specs.declared.script.Script.{Script}
 use Rattle.model_kernel.specs.Kernels.{past}
-use Rattle.worker_gate.specs.Serving.{IsAt}
-use Rattle.worker_gate.specs.declared.machine.Machine.{Machine}
+use Rattle.broker_machine.specs.Serving.{IsAt}
+use Rattle.broker_machine.specs.declared.machine.Machine.{Machine}
 use Rattle.audit_check.specs.Checked.{HasEnded}
 use Rattle.audit_check.specs.Lines.{lines}
 use Rattle.audit_check.specs.Pass.{HasRead, count_in}

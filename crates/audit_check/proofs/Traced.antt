@@ -17,11 +17,11 @@ use Rattle.hist_model.specs.declared.event.Event.{Event}
 use Rattle.hist_model.specs.declared.event.What.{What}
 use Rattle.hist_model.specs.declared.event.What.TheVariants.{Recv}
 use Rattle.sys_abi.specs.declared.wire.Notif.{Notif}
-use Rattle.session_facts.specs.Begun.{Begun, told}
-use Rattle.session_facts.specs.Stages.{stages_at}
-use Rattle.session_facts.specs.declared.session.Session.{Session}
-use Rattle.session_facts.proofs.Found.{finding_told}
-use Rattle.session_table.specs.Sessions.{begun, begun_by}
+use Rattle.audit_log.specs.Begun.{Begun, told}
+use Rattle.audit_log.specs.SessionStages.{stages_at}
+use Rattle.audit_log.specs.declared.session.Session.{Session}
+use Rattle.audit_log.proofs.SessionFound.{finding_told}
+use Rattle.audit_log.specs.Sessions.{begun, begun_by}
 use Rattle.audit_log.specs.Received.{TellsReceived, received_by}
 use Rattle.audit_log.specs.Requests.{TellsInstalled}
 use Rattle.audit_check.specs.Trail.{installation, session_by, session_for, trace_text, traced, trail, trail_line}

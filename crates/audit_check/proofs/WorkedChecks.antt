@@ -26,7 +26,7 @@ use Rattle.hist_model.specs.Report.{audits, counts_text, findings_text}
 use Rattle.hist_model.specs.Words.{number_after}
 use Rattle.hist_model.specs.Legal.{with_steps, with_schedule, played}
 use Rattle.hist_model.specs.WorkedExample.{mknod_policy, mknod_script}
-use Rattle.session_facts.specs.Stages.{stages_at}
+use Rattle.audit_log.specs.SessionStages.{stages_at}
 use Rattle.audit_check.specs.Actors.{actor_in}
 use Rattle.audit_check.specs.Lines.{lines}
 use Rattle.audit_check.specs.Reading.{Rest, is_fault, reached, with_lines}

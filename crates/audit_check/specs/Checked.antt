@@ -9,8 +9,8 @@ use Rattle.hist_model.specs.declared.event.What.TheVariants.{Close}
 use Rattle.hist_model.specs.declared.policy.Policy.{Policy}
 use Rattle.hist_model.specs.declared.script.Script.{Script}
 use Rattle.model_kernel.specs.Kernels.{past}
-use Rattle.worker_gate.specs.Serving.{IsAt, Reaches}
-use Rattle.worker_gate.specs.declared.machine.Machine.{Machine}
+use Rattle.broker_machine.specs.Serving.{IsAt, Reaches}
+use Rattle.broker_machine.specs.declared.machine.Machine.{Machine}
 use Rattle.audit_check.specs.Lines.{lines}
 use Rattle.audit_check.specs.Pass.{HasRead}
 use Rattle.audit_check.specs.Reading.{Fault, Journal, behind, with_line}

@@ -5,8 +5,8 @@ use Rattle.hist_model.specs.Look.{is_place, or_else}
 use Rattle.hist_model.specs.ReportAudit.{Judging, rule_of}
 use Rattle.hist_model.specs.Sessions.{or_some}
 use Rattle.hist_model.specs.declared.event.Event.{Event}
-use Rattle.session_facts.specs.Begun.{finding_in}
-use Rattle.session_facts.specs.declared.session.Session.{Session}
+use Rattle.audit_log.specs.Begun.{finding_in}
+use Rattle.audit_log.specs.declared.session.Session.{Session}
 use Rattle.audit_check.specs.Trail.{installation, trace_text}
 use Rattle.audit_check.specs.declared.trace.Trace.{Trace}
 

@@ -10,8 +10,8 @@ use Rattle.hist_model.specs.declared.event.Actor.TheVariants.{Worker}
 use Rattle.hist_model.specs.declared.event.Event.{Event}
 use Rattle.hist_model.specs.declared.event.What.{What}
 use Rattle.hist_model.specs.declared.event.What.TheVariants.{Recv}
-use Rattle.session_facts.specs.Begun.{Begun}
-use Rattle.session_facts.specs.Stages.{stages_at}
+use Rattle.audit_log.specs.Begun.{Begun}
+use Rattle.audit_log.specs.SessionStages.{stages_at}
 use Rattle.audit_log.specs.Requests.{installed_for}
 use Rattle.audit_check.specs.declared.trace.Trace.{Trace}
 

@@ -6,12 +6,12 @@ ghost use Rattle.hist_model.specs.Words.{number_between};
 ghost use Rattle.hist_model.specs.declared.event.Actor.TheVariants.{Listener, Start};
 ghost use Rattle.audit_check.specs.Actors.{actor_in, actor_of, number_in, numbers_in, task_of, worker_of};
 
+use broker_machine::is_task_name;
 use hist_model::event::Actor;
 use hist_model::text::TaskName;
 use plain_words::number_between;
 use std::alloc::{AllocError, Global};
 use sys_abi::memory::NoMemory;
-use worker_gate::is_task_name;
 
 /// The place of the first space.
 fn space_in(text: &[u8]) -> Option<usize>

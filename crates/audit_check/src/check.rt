@@ -13,7 +13,7 @@ ghost use Rattle.hist_model.specs.declared.policy.Policy.{Policy as PolicyValue}
 ghost use Rattle.hist_model.specs.declared.script.Script.{Script as ScriptValue};
 ghost use Rattle.mediation.specs.Scheduled.{IsScheduled};
 ghost use Rattle.model_kernel.specs.Kernels.{past};
-ghost use Rattle.worker_gate.specs.Serving.{IsServed};
+ghost use Rattle.broker_machine.specs.Serving.{IsServed};
 ghost use Rattle.audit_check.specs.Actors.{actor_in};
 ghost use Rattle.audit_check.specs.Checked.{HasEnded, HasStepped, Serves, Tells, without_close};
 ghost use Rattle.audit_check.specs.Lines.{lines};
@@ -27,13 +27,13 @@ use crate::line_ends::{count_in, split_line};
 use crate::stages::{Ended, Left, Stepped};
 use audit_log::journal::push_event;
 use audit_log::line::Line;
+use broker_machine::Machine;
 use hist_model::event::{Actor, Event, What};
 use hist_model::history::History;
 use hist_model::policy::Policy;
 use hist_model::script::Script;
 use std::alloc::Global;
 use sys_abi::memory::NoMemory;
-use worker_gate::Machine;
 
 /// Whether a line is that of an event at a place.
 fn is_line_of(

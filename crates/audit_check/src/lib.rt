@@ -9,7 +9,7 @@
 //! that pass with one machine, and compares what stands behind the journal as it is written: neither the report nor a line of it
 //! is kept.
 //!
-//! Below stand the machine that takes the steps (`worker_gate`), the report's writers (`audit_log`) and the facts of legal
+//! Below stand the machine that takes the steps (`broker_machine`), the report's writers (`audit_log`) and the facts of legal
 //! histories (`mediation`). Above stands the program.
 #![tactic(auto)]
 

@@ -1,4 +1,4 @@
-//! What is told of a call, and the lines of a trail.
+//! What a trail says of a call, and its lines.
 
 ghost use Rattle.std.specs.Prelude.{◌≡◌, ◌++◌, OnOk, option_copied};
 ghost use Rattle.hist_model.specs.ReportAudit.{judging_by};
@@ -7,8 +7,8 @@ ghost use Rattle.audit_check.specs.Traced.{trace_of};
 
 use audit_log::audit::{push_rule, rule_of};
 use audit_log::line::Line;
+use audit_log::session::Session;
 use hist_model::policy::Policy;
-use session_facts::session::Session;
 use sys_abi::memory::NoMemory;
 
 /// What is told of a call: the places of the steps that served it, and the rule that decided, by its place in the policy.

@@ -13,12 +13,12 @@ use audit_log::call_table::CallTable;
 use audit_log::error::ReportError;
 use audit_log::line::Line;
 use audit_log::part::{Part, write_lines};
+use audit_log::session::Session;
+use audit_log::session_table::sessions;
 use hist_model::event::{Entered, Event, What};
 use hist_model::history::History;
 use hist_model::policy::Policy;
 use io_edge::sink::Sink;
-use session_facts::session::Session;
-use session_table::sessions;
 use std::alloc::Global;
 use sys_abi::memory::NoMemory;
 

@@ -16,11 +16,11 @@ use Rattle.hist_model.specs.declared.event.What.{What}
 use Rattle.hist_model.specs.declared.event.What.TheVariants.{Recv}
 use Rattle.hist_model.specs.declared.report.Audit.{Audit}
 use Rattle.sys_abi.specs.declared.wire.Notif.{Notif}
-use Rattle.session_facts.specs.Begun.{Begun, told}
-use Rattle.session_facts.specs.Stages.{stages_at}
-use Rattle.session_facts.specs.declared.session.Session.{Session}
-use Rattle.session_facts.proofs.Found.{finding_told}
-use Rattle.session_table.specs.Sessions.{begun, begun_by}
+use Rattle.audit_log.specs.Begun.{Begun, told}
+use Rattle.audit_log.specs.SessionStages.{stages_at}
+use Rattle.audit_log.specs.declared.session.Session.{Session}
+use Rattle.audit_log.proofs.SessionFound.{finding_told}
+use Rattle.audit_log.specs.Sessions.{begun, begun_by}
 use Rattle.audit_log.specs.Audited.{audited, session_line}
 use Rattle.audit_log.specs.CallTable.{TellsCalls, TellsNumbers, number_in}
 use Rattle.audit_log.specs.Written.{Wrote}

@@ -8,5 +8,10 @@ pub mod Opened
 pub mod Past
 pub mod ReceivedCalls
 pub mod Recorded
+pub mod SessionEvents
+pub mod SessionFound
+pub mod SessionReads
+pub mod SessionRows
+pub mod SessionSteps
 pub mod Trimmed
 pub mod Writing

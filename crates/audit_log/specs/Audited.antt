@@ -2,8 +2,8 @@
 use Rattle.std.specs.Prelude.{ℕ, ◌||◌, List, Option, is_some}
 use Rattle.hist_model.specs.ReportAudit.{Judging, answer_of, arrival_of, audit_line_of}
 use Rattle.hist_model.specs.declared.report.Audit.{Audit}
-use Rattle.session_facts.specs.Begun.{finding_in}
-use Rattle.session_facts.specs.declared.session.Session.{Session}
+use Rattle.audit_log.specs.Begun.{finding_in}
+use Rattle.audit_log.specs.declared.session.Session.{Session}
 use Rattle.audit_log.specs.CallTable.{number_in}
 use Rattle.audit_log.specs.declared.call_table.CallTable.{CallTable}
 

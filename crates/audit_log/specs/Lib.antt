@@ -1,4 +1,5 @@
 pub mod Audited
+pub mod Begun
 pub mod ByPlace
 pub mod CallTable
 pub mod Laws
@@ -6,5 +7,9 @@ pub mod Received
 pub mod Records
 pub mod Requests
 pub mod Rest
+pub mod SessionFacts
+pub mod SessionStages
+pub mod SessionTable
+pub mod Sessions
 pub mod Tasks
 pub mod Written

@@ -8,9 +8,9 @@ ghost use Rattle.audit_log.specs.Requests.{TellsInstalled, answered_call, pendin
 use crate::outcome::is_pending;
 use crate::records::{CallRecord, record_at};
 use crate::requests::Requests;
+use crate::session_facts::is_sent;
 use hist_model::event::{Event, What};
 use hist_model::report::Outcome;
-use session_facts::facts::is_sent;
 
 /// The call at a place, if there is one, while nothing came of it.
 pub(crate) fn pending_call(records: &[CallRecord], call: Option<usize>) -> Option<usize>

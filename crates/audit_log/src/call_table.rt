@@ -16,7 +16,7 @@ use sys_abi::memory::NoMemory;
 /// Of each event, by its place, what is kept of the call that it enters, receives or answers.
 #[derive(Drop)]
 pub struct CallTable {
-    /// What came of the call that it enters.
+    /// The outcome of the call that it enters.
     pub(crate) records: Vec<CallRecord>,
     /// The call of the notification that it receives: the newest with its id.
     pub(crate) received: Vec<Option<usize>>,

@@ -79,7 +79,7 @@ fn push_call_line(
     line.push("\n")
 }
 
-/// Adds what came of a call.
+/// Adds the outcome of a call.
 fn push_outcome(line: &mut Line, outcome: Outcome) -> Result<(), NoMemory>
     ensures { OnOk result (line.new ≡ line.old ++ outcome_text outcome) }
 {

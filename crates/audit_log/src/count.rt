@@ -22,7 +22,7 @@ pub(crate) fn entered(events: &[Event]) -> usize
     events.iter().filter(|event| enters(&event.what)).count()
 }
 
-/// Whether the step enters a call that is listed.
+/// Whether the step enters a listed call.
 fn notifies(what: &What) -> bool
     ensures { result ≡ notifies what.now }
 {

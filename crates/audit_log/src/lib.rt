@@ -3,10 +3,14 @@
 //! The writers' model is the text that `hist_model` defines for any list of events. Each writes its part to a sink, line by
 //! line, one write for each; after any error the sink took a prefix of that part. What the calls, the audit and the summary
 //! have in common is found once (`report`): of the calls in one pass over the events (`call_table`), and of the sessions in
-//! another.
+//! another (`session_table`).
 //!
-//! Below stand what came of the sessions (`session_table`), the rules' names (`policy_eval`), the plain types and the
-//! definitions (`hist_model`) and the sinks (`io_edge`). Above stands the program, which writes the report of what it played, and
+//! A worker is in one session at most, so one more event changes what is kept of one session at most (`session`): what its
+//! steps tell (`session_facts`), where they stand (`session_stages`), and what the policy makes of what was read in it
+//! (`session_judgement`), by the broker's own code.
+//!
+//! Below stand the captures (`arg_capture`), the judgement (`broker_core`), the rules' names (`policy_eval`), the plain types
+//! and the definitions (`hist_model`) and the sinks (`io_edge`). Above stands the program, which writes the report of what it played, and
 //! the checker of reports (`audit_check`), which writes and traces by the same lines and passes.
 #![tactic(auto)]
 
@@ -27,6 +31,11 @@ mod records;
 pub mod report;
 mod request;
 mod requests;
+pub mod session;
+mod session_facts;
+mod session_judgement;
+mod session_stages;
+pub mod session_table;
 mod step;
 mod summary;
 mod tasks;

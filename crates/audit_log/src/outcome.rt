@@ -1,4 +1,4 @@
-//! What came of a call.
+//! The outcome of a call.
 
 ghost use Rattle.std.specs.Prelude.{◌≡◌};
 ghost use Rattle.hist_model.specs.ReportCalls.{is_pending, outcome_at_entry, outcome_by, outcome_next, outcome_of_verdict};
@@ -68,7 +68,7 @@ fn outcome_of_delivery(effect: Delivered) -> Outcome
     }
 }
 
-/// What came of a call with one more step of its task: the first step that something came of decides.
+/// The outcome of a call after one more step of its task: the first step with an outcome decides.
 pub(crate) fn outcome_next(before: Outcome, what: &What) -> Outcome
     ensures { result ≡ outcome_next before what.now }
 {

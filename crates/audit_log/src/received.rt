@@ -1,4 +1,4 @@
-//! The call of each notification that is received.
+//! The call of each received notification.
 
 ghost use Rattle.std.specs.Prelude.{◌≡◌, ℕ, OnOk, None, Some, if◌then◌else◌};
 ghost use Rattle.hist_model.specs.ReportAudit.{is_notified};
@@ -16,7 +16,7 @@ pub(crate) struct Ids {
 }
 
 impl Ids {
-    /// Before all events.
+    /// The state before any event.
     pub(crate) fn new(alloc: Global) -> Ids
         ensures { (x : ℕ) → place_in result x ≡ None }
     {

@@ -1,4 +1,4 @@
-//! What came of each call.
+//! The outcome of each call.
 
 ghost use Rattle.std.specs.Prelude.{◌≡◌, OnOk, get_or};
 ghost use Rattle.hist_model.specs.declared.report.Outcome.{Outcome};
@@ -15,23 +15,23 @@ use sys_abi::memory::NoMemory;
 /// What is kept of an event, as if it entered a call.
 #[derive(Clone, Copy, PartialEq, Eq, Debug)]
 pub(crate) struct CallRecord {
-    /// The first process number that its task was given before it; 0 where there is none.
+    /// The process number that its task was given first, before it; 0 if there is none.
     pub(crate) pid: u32,
-    /// What came of the call.
+    /// The outcome of the call.
     pub(crate) outcome: Outcome,
     /// The number of the descriptor that was installed for it.
     pub(crate) number: Option<u32>,
 }
 
 impl CallRecord {
-    /// Of no event.
+    /// The record where there is no event.
     pub(crate) const NONE: CallRecord = CallRecord {
         pid: 0,
         outcome: Outcome::Open,
         number: None,
     };
 
-    /// With one more step of its task.
+    /// The record after one more step of its task.
     fn after(self, what: &What) -> CallRecord
         ensures { result ≡ record_after what.now self }
     {
@@ -56,7 +56,7 @@ fn advance(records: &mut Vec<CallRecord>, call: Option<usize>, what: &What)
     }
 }
 
-/// Of the event at a place.
+/// The record of the event at a place.
 pub(crate) fn record_at(records: &[CallRecord], place: usize) -> CallRecord
     ensures { result ≡ get_or records.now place no_record }
 {
@@ -66,7 +66,7 @@ pub(crate) fn record_at(records: &[CallRecord], place: usize) -> CallRecord
     }
 }
 
-/// With one more event.
+/// Adds the record of one more event.
 pub(crate) fn record(
     records: &mut Vec<CallRecord>,
     tasks: &Tasks,

@@ -4,19 +4,19 @@ ghost use Rattle.std.specs.Prelude.{◌≡◌, ◌++◌, IfOk, map};
 ghost use Rattle.hist_model.specs.Report.{summary};
 ghost use Rattle.hist_model.specs.ReportAudit.{audit, judging_by};
 ghost use Rattle.hist_model.specs.ReportCalls.{calls};
-ghost use Rattle.session_facts.specs.Begun.{told};
-ghost use Rattle.session_table.specs.Sessions.{begun};
+ghost use Rattle.audit_log.specs.Begun.{told};
+ghost use Rattle.audit_log.specs.Sessions.{begun};
 ghost use Rattle.audit_log.specs.CallTable.{TellsCalls};
 ghost use Rattle.audit_log.specs.Rest.{rest};
 ghost use Rattle.audit_log.specs.Written.{Wrote};
 
 use crate::call_table::CallTable;
 use crate::error::ReportError;
+use crate::session::Session;
+use crate::session_table::sessions;
 use hist_model::history::History;
 use hist_model::policy::Policy;
 use io_edge::sink::Sink;
-use session_facts::session::Session;
-use session_table::sessions;
 use std::alloc::Global;
 use sys_abi::memory::NoMemory;
 

@@ -29,7 +29,7 @@ pub(crate) struct Requests {
 }
 
 impl Requests {
-    /// Before all events.
+    /// The state before any event.
     pub(crate) fn new(alloc: Global) -> Requests
         ensures { (c : ℕ) → queue_in result c ≡ [] }
     {

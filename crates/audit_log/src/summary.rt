@@ -18,10 +18,10 @@ use crate::error::ReportError;
 use crate::line::Line;
 use crate::part::write_line;
 use crate::report::Report;
+use crate::session::Session;
 use hist_model::event::{Back, Event};
 use hist_model::report::Audit;
 use io_edge::sink::Sink;
-use session_facts::session::Session;
 use std::alloc::Global;
 use sys_abi::memory::NoMemory;
 
@@ -50,7 +50,7 @@ impl Report<'_> {
         Ok(line)
     }
 
-    /// What came of each session, from the oldest on.
+    /// The outcome of each session, the oldest first.
     fn audits(&self, alloc: Global) -> Result<Vec<Audit>, NoMemory>
         ensures { IfOk result (λ found. found.items ≡ audits (judging_by self.now.policy.now.rules) self.now.history.now.events self.now.history.now.events) }
     {
@@ -58,7 +58,7 @@ impl Report<'_> {
     }
 }
 
-/// What came of each of these sessions.
+/// The outcomes of these sessions.
 fn audits_of(alloc: Global, calls: &CallTable, sessions: &[Session]) -> Result<Vec<Audit>, NoMemory>
     ensures { IfOk result (λ found. found.items ≡ map (λ s. audited (number_in calls.now s.place) s) sessions.now) }
 {

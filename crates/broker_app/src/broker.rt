@@ -112,7 +112,7 @@ fn stress<P: Player, O: Sink>(
     print_generated(player, alloc, from, count, out)
 }
 
-/// Plays the script of a file under the policy of another, and writes the report.
+/// Plays the script in one file under the policy in another, and writes the report.
 #[tactic(auto, using(crate::proofs::Ends::play_stops))]
 fn play_files<P: Player, F: Files, O: Sink>(
     player: &P,
@@ -265,8 +265,8 @@ fn tell<E: Sink>(outcome: Result<(), Status>, err: &mut E) -> Status
     status
 }
 
-/// Does a job, and says on `err` why it didn't, in one line. Where there is no job, that is the usage line. What is played, the
-/// player plays.
+/// Does a job, or writes one line to `err` that says why it couldn't. Without a job that is the usage line. The player plays what
+/// is to be played.
 pub fn carry_out<P: Player, F: Files, O: Sink, E: Sink>(
     player: &P,
     alloc: Global,

@@ -1,4 +1,4 @@
-//! The line that tells on standard error how the program ended.
+//! The line on standard error that says how the program ended.
 
 ghost use Rattle.std.specs.Prelude.{◌≡◌, ◌++◌, codes, decimal};
 ghost use Rattle.io_edge.specs.SinkState.{Writes};
@@ -108,11 +108,10 @@ fn write_script_line<E: Sink>(error: &ScriptError, err: &mut E) -> Result<(), Fa
     match *error {
         ScriptError::BadLine { line, reason } => write_line_of(line, reason_text(reason), err),
         ScriptError::TooLarge { line } => write_line_of(line, b"too large", err),
-        ScriptError::NoMemory => err.write(b"no memory\n"),
     }
 }
 
-/// Writes the line at which a report is none.
+/// Writes the first line at which a report can't be right.
 fn write_report_line<E: Sink>(line: u32, err: &mut E) -> Result<(), Failed>
     ensures { Writes (E.state err.old) (codes "report: line " ++ (decimal line ++ codes "\n")) result (E.state err.new) }
 {
@@ -139,7 +138,7 @@ fn write_status<E: Sink>(status: &Status, err: &mut E) -> Result<(), Failed>
     }
 }
 
-/// Writes the line of a status, and sees that it stands.
+/// Writes the line of a status, and flushes it.
 #[tactic(auto, using(crate::proofs::Saying::said_cut, crate::proofs::Saying::said_flushed))]
 fn write_line<E: Sink>(status: &Status, err: &mut E) -> Result<(), Failed>
     ensures { Said (E.state err.old) (line_of status.now) (E.state err.new) }
@@ -148,8 +147,7 @@ fn write_line<E: Sink>(status: &Status, err: &mut E) -> Result<(), Failed>
     err.flush()
 }
 
-/// Says how the program ended, and nothing where the report was written whole. Whether the line could be written changes
-/// nothing of the answer.
+/// Says how the program ended, or nothing if the whole report was written. The answer is the same if the line can't be written.
 pub(crate) fn say<E: Sink>(status: &Status, err: &mut E)
     ensures { Said (E.state err.old) (line_of status.now) (E.state err.new) }
 {

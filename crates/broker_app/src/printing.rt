@@ -25,7 +25,7 @@ use sys_abi::memory::NoMemory;
 pub(crate) enum Printout {
     /// The whole report.
     Report,
-    /// The last line of the report alone.
+    /// Only the last line of the report.
     Summary,
     /// What is found of it where a report tells it: whether it is finished, and the trail of its calls.
     Findings { finished: bool },
@@ -110,7 +110,7 @@ fn write_printout<O: Sink>(
     }
 }
 
-/// Writes what is printed, and sees that it stands.
+/// Writes what is printed, and flushes it.
 #[tactic(auto, using(crate::proofs::Ends::flushed))]
 pub(crate) fn print_history<O: Sink>(
     alloc: Global,

@@ -21,7 +21,7 @@ pub enum InputFile {
 pub enum Status {
     /// What is printed was written whole.
     Done,
-    /// The words have no form.
+    /// The words have none of the forms.
     Usage,
     /// A file couldn't be read.
     ReadFault(InputFile),
@@ -35,8 +35,8 @@ pub enum Status {
     WriteFault,
     /// There was no memory.
     NoMemory,
-    /// The bytes of the report's file are no report: the first line, counted from 1, at which they are none, or one more than
-    /// they have lines.
+    /// The file isn't a report: the number of the first line that can't be right, counted from 1, or one more than the number
+    /// of lines.
     NotReport { line: u32 },
 }
 

@@ -7,7 +7,7 @@ ghost use Rattle.broker_app.specs.Forms.{IsInRange, form_of, texts};
 
 use plain_words::number_between;
 
-/// What one thread does alone.
+/// What one thread can do alone.
 #[derive(Clone, Copy, Debug)]
 pub enum Job<'a> {
     /// Play the schedule of a script: the names of the policy's and the script's files.

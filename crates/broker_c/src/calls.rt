@@ -24,7 +24,7 @@ fn hand_over(text: &[u8], buffer: &mut [u8], told: &mut usize)
     *told = text.len();
 }
 
-/// The line of a status, of which this was said.
+/// The line of a status, given what was said.
 fn line_of<'a>(status: &Status, said: &'a [u8]) -> &'a [u8]
     requires { Says status.now said.now }
     ensures { result.now ≡ line_of status.now }

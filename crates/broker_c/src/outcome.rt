@@ -1,4 +1,4 @@
-//! What a call of the library comes to.
+//! The outcome of a call of the library.
 
 ghost use Rattle.std.specs.Prelude.{◌≡◌, ◌^◌, ◌<◌, ◌&&◌, length, nat_le, nat_lt, Some, None, if◌then◌else◌};
 ghost use Rattle.std.specs.Option.{ForSome, option_map};
@@ -21,7 +21,7 @@ use std::alloc::Global;
 /// How many bytes of a line are held at most.
 const LINE_ROOM: usize = 1 << 30;
 
-/// What a call comes to: its status, what it printed, and the line that it said.
+/// The outcome of a call: its status, what it printed, and the line that it said.
 #[derive(Drop)]
 pub(crate) struct Outcome {
     pub(crate) status: Status,

@@ -2,7 +2,7 @@
 -- By the machine's history, which is that of the pass.
 use Rattle.std.proofs.Common.{ℕ, ◌+◌, ◌-◌, ◌^◌, ◌<◌, List, length}
 use Rattle.model_kernel.specs.Kernels.{past}
-use Rattle.worker_gate.specs.Serving.{Reaches}
+use Rattle.broker_machine.specs.Serving.{Reaches}
 use Rattle.audit_check.specs.Lines.{lines}
 use Rattle.audit_check.specs.Pass.{HasRead}
 use Rattle.audit_check.specs.Reading.{behind}

@@ -1,5 +1,5 @@
 use Rattle.std.proofs.Common.{◌≡◌, take, map}
-use Rattle.session_facts.specs.declared.session.Session.{Session}
+use Rattle.audit_log.specs.declared.session.Session.{Session}
 use Rattle.audit_log.specs.Audited.{audited}
 use Rattle.audit_log.specs.CallTable.{number_in}
 use Rattle.audit_log.proofs.summary.audits_of.Given as goal

@@ -2,7 +2,7 @@
 use Rattle.std.proofs.Common.{◌≡◌, map, ap, subst, ◌∙◌}
 use Rattle.std.specs.Prelude.{IfOk}
 use Rattle.hist_model.specs.ReportAudit.{judging_by}
-use Rattle.session_facts.specs.declared.session.Session.{Session}
+use Rattle.audit_log.specs.declared.session.Session.{Session}
 use Rattle.audit_log.specs.Audited.{audited}
 use Rattle.audit_log.specs.CallTable.{number_in}
 use Rattle.audit_log.proofs.Audited.{audits_told}

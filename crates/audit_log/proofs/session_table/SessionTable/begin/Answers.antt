@@ -1,0 +1,13 @@
+-- By `begun_ok`.
+use Rattle.std.proofs.Common.{◌≡◌, length, refl, arith}
+use Rattle.std.specs.Vec.{with_item}
+use Rattle.audit_log.proofs.SessionRows.{begun_ok}
+use Rattle.audit_log.specs.declared.session_table.SessionTable.{SessionTable}
+use Rattle.audit_log.proofs.session_table.SessionTable.begin.Goals as goal
+
+pub returns : goal.returns
+returns c = λ rules S k over.
+    let u : SessionTable = record { alloc = c.args.self.now.alloc; rows = c.push.new.self; workers = with_item c.args.self.now.workers c.from-number.result c.begin.new.self } in
+    let long : c.len-row.result ≡ length c.args.self.now.rows.items = search rules in
+    begun_ok c.begin.result rules S c.args.self.now u c.args.place c.args.worker c.from-number.result c.len-row.result c.args.notif.now c.begin.new.self
+    k over (omega arith) c.from-number.ensures long c.in_ok-push.ensures.items refl c.begin.ensures.row c.begin.ensures.follows

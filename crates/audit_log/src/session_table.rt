@@ -1,0 +1,230 @@
+//! The table of sessions, and the pass over the events.
+
+ghost use Rattle.std.specs.Prelude.{◌≡◌, ◌++◌, [], false, List, Some, IfOk, OnOk, Ok, map, reverse};
+ghost use Rattle.hist_model.specs.Copies.{plan};
+ghost use Rattle.hist_model.specs.Kinds.{skips};
+ghost use Rattle.hist_model.specs.Look.{ev};
+ghost use Rattle.hist_model.specs.ReportAudit.{judging_by};
+ghost use Rattle.hist_model.specs.Sessions.{fetched_by};
+ghost use Rattle.hist_model.specs.declared.event.Actor.TheVariants.{Worker};
+ghost use Rattle.hist_model.specs.declared.event.What.TheVariants.{Recv};
+ghost use Rattle.hist_model.specs.declared.policy.Rule.{Rule};
+ghost use Rattle.arg_capture.specs.Captures.{Follows};
+ghost use Rattle.audit_log.specs.Begun.{Begun, told};
+ghost use Rattle.audit_log.specs.Sessions.{after_event, begun, started, with_event};
+ghost use Rattle.audit_log.specs.SessionTable.{AllShut, IsIdle, IsRowStepped, IsStepped, StandsFor};
+
+use crate::session::Session;
+use crate::session_facts::Facts;
+use crate::session_stages::Stages;
+use arg_capture::{Capture, Plan};
+use hist_model::event::{Actor, Back, Event, What};
+use hist_model::policy::Policy;
+use hist_model::report::Finding;
+use std::alloc::Global;
+use sys_abi::memory::NoMemory;
+use sys_abi::wire::Notif;
+
+/// How many numbers workers may have: those of a byte.
+const WORKERS: usize = 256;
+
+/// What a worker is in.
+#[derive(Drop)]
+struct Current {
+    /// The row of the session that its newest notification began.
+    row: Option<usize>,
+    /// What is read in that session.
+    capture: Capture,
+}
+
+/// The sessions that were begun, from the oldest on, and which of them each worker is in.
+#[derive(Drop)]
+struct SessionTable {
+    alloc: Global,
+    rows: Vec<Session>,
+    /// By the worker's number.
+    workers: Vec<Current>,
+}
+
+/// Whether the step is none.
+fn is_skip(what: &What) -> bool
+    ensures { result ≡ skips what.now }
+{
+    matches!(what, What::Skip)
+}
+
+/// The notification that a step receives.
+fn received(what: &What) -> Option<Notif>
+    ensures { result ≡ fetched_by what.now }
+{
+    match what {
+        What::Recv { answer: Ok(notif) } => Some(*notif),
+        _ => None,
+    }
+}
+
+/// One more step, which has this place, in the session of a row, whose reads the capture takes.
+fn advance_row(
+    policy: &Policy,
+    place: usize,
+    rows: &mut Vec<Session>,
+    row: usize,
+    capture: &mut Capture,
+    what: &What,
+) -> Result<(), NoMemory>
+    ensures { OnOk result (IsRowStepped policy.now.rules place what.now capture.old capture.new rows.old.items rows.new.items (Some row)) }
+{
+    if row < rows.len() {
+        let before = rows[row];
+        let (facts, back, found, stages): (Facts, Option<Back>, Finding, Stages) = before.after(
+            policy, place, capture, what,
+        )?;
+        rows[row] = Session {
+            facts,
+            back,
+            found,
+            stages,
+            ..before
+        };
+    }
+    Ok(())
+}
+
+impl Current {
+    /// One more step of the worker, which has this place, in the session that it is in.
+    fn step(
+        &mut self,
+        policy: &Policy,
+        place: usize,
+        rows: &mut Vec<Session>,
+        what: &What,
+    ) -> Result<(), NoMemory>
+        ensures { OnOk result (IsStepped policy.now.rules place what.now self.old self.new rows.old.items rows.new.items) }
+    {
+        match self.row {
+            Some(row) => advance_row(policy, place, rows, row, &mut self.capture, what),
+            None => Ok(()),
+        }
+    }
+
+    /// The worker begins a session, which has a row, with a notification.
+    fn begin(&mut self, alloc: Global, row: usize, notif: &Notif) -> Result<(), NoMemory>
+        ensures row { OnOk result (self.new.row ≡ Some row) }
+        ensures follows { OnOk result (Follows (plan notif.now.call.nr notif.now.call.args) [] self.new.capture) }
+    {
+        self.capture = Capture::new(alloc, Plan::of(notif.call.nr, &notif.call.args))?;
+        self.row = Some(row);
+        Ok(())
+    }
+}
+
+/// Every worker before its first session.
+fn idle_workers(alloc: Global) -> Result<Vec<Current>, NoMemory>
+    ensures { IfOk result (λ v. IsIdle 256 v.items) }
+{
+    let mut workers = Vec::new(alloc);
+    for _ in 0..WORKERS {
+        workers.push(Current {
+            row: None,
+            capture: Capture::nothing(alloc),
+        })?;
+    }
+    Ok(workers)
+}
+
+impl SessionTable {
+    /// Before all events.
+    fn new(alloc: Global) -> Result<SessionTable, NoMemory>
+        ensures { IfOk result (λ table. (rules : List Rule) → StandsFor rules [] table) }
+    {
+        Ok(SessionTable {
+            alloc,
+            rows: Vec::new(alloc),
+            workers: idle_workers(alloc)?,
+        })
+    }
+
+    /// One more step of a worker, which has this place and is no skip, in the session that it is in.
+    fn advance(
+        &mut self,
+        policy: &Policy,
+        place: usize,
+        worker: u8,
+        what: &What,
+    ) -> Result<(), NoMemory>
+        requires { skips what.now ≡ false }
+        ensures { (S : List Begun) → StandsFor policy.now.rules S self.old → OnOk result (StandsFor policy.now.rules (map (with_event place (ev (Worker worker) what.now)) S) self.new) }
+    {
+        let number = usize::from(worker);
+        if number >= self.workers.len() {
+            return Ok(());
+        }
+        let current = &mut self.workers[number];
+        current.step(policy, place, &mut self.rows, what)
+    }
+
+    /// A worker, all of whose sessions are over, begins one with the notification at a place.
+    fn begin(&mut self, place: usize, worker: u8, notif: &Notif) -> Result<(), NoMemory>
+        ensures { (rules : List Rule) (S : List Begun) → StandsFor rules S self.old → AllShut worker S → OnOk result (StandsFor rules (S ++ started place (Worker worker) (Recv (Ok notif.now))) self.new) }
+    {
+        let number = usize::from(worker);
+        if number >= self.workers.len() {
+            return Ok(());
+        }
+        let row = self.rows.len();
+        let facts = Facts::BEGUN;
+        let back: Option<Back> = None;
+        self.rows.push(Session {
+            place,
+            worker,
+            notif: *notif,
+            facts,
+            back,
+            found: Finding::Open,
+            stages: Stages::NONE,
+        })?;
+        let current = &mut self.workers[number];
+        current.begin(self.alloc, row, notif)
+    }
+
+    /// One more step of a worker, which has this place.
+    fn step(
+        &mut self,
+        policy: &Policy,
+        place: usize,
+        worker: u8,
+        what: &What,
+    ) -> Result<(), NoMemory>
+        ensures { (S : List Begun) → StandsFor policy.now.rules S self.old → OnOk result (StandsFor policy.now.rules (after_event place (ev (Worker worker) what.now) S) self.new) }
+    {
+        if is_skip(what) {
+            return Ok(());
+        }
+        self.advance(policy, place, worker, what)?;
+        match received(what) {
+            Some(notif) => self.begin(place, worker, &notif),
+            None => Ok(()),
+        }
+    }
+
+    /// One more event, which has this place.
+    fn note(&mut self, policy: &Policy, place: usize, event: &Event) -> Result<(), NoMemory>
+        ensures { (S : List Begun) → StandsFor policy.now.rules S self.old → OnOk result (StandsFor policy.now.rules (after_event place event.now S) self.new) }
+    {
+        match &event.who {
+            Actor::Worker(worker) => self.step(policy, place, *worker, &event.what),
+            _ => Ok(()),
+        }
+    }
+}
+
+/// The outcome of each session of a history, the oldest first, in one pass over its events.
+pub fn sessions(alloc: Global, policy: &Policy, events: &[Event]) -> Result<Vec<Session>, NoMemory>
+    ensures { IfOk result (λ found. found.items ≡ map (told (judging_by policy.now.rules)) (begun (reverse events.now) (reverse events.now))) }
+{
+    let mut table = SessionTable::new(alloc)?;
+    for place in 0..events.len() {
+        table.note(policy, place, &events[place])?;
+    }
+    Ok(table.rows)
+}
