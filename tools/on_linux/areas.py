@@ -1,0 +1,30 @@
+"""The areas that scripts are drawn from, and the differences that scripts of an area may not show."""
+from on_linux import comparison, drawn_files, drawn_orders, drawn_scripts, journal, script_text
+from on_linux.folders import Pair
+
+AREAS = {
+    "arguments": drawn_files.arguments,
+    "cuts": drawn_orders.cuts,
+    "descriptors": drawn_files.descriptors,
+    "filters": drawn_orders.filters,
+    "memory": drawn_files.memory,
+    "mounts": drawn_files.mounts,
+    "paths": drawn_files.paths,
+    "plain-mounts": drawn_files.plain_mounts,
+    "plain-paths": drawn_files.plain_paths,
+    "races": drawn_orders.races,
+    "rewrites": drawn_orders.rewrites,
+    "signals": drawn_orders.signals,
+}
+# They have no path by which these could come, so that no other difference hides behind their names.
+EXCLUDED = dict.fromkeys(("plain-mounts", "plain-paths"), ("trailing-slash", "dot-dot-under-mount"))
+
+
+def pair(bench, area, seed, number):
+    """A drawn policy and script, without most of the steps that change nothing."""
+    draft, chance = drawn_scripts.drawn(AREAS, area, seed, number)
+    policy, script = draft.policy(), script_text.with_high_pids(draft.script())
+    status, report, _ = comparison.played(bench, policy, script)
+    if status == 0:
+        script = drawn_scripts.without_skips(script, list(map(journal.event, journal.journal(report))), chance)
+    return Pair(f"{area} {number}", policy, script)

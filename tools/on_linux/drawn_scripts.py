@@ -1,0 +1,68 @@
+"""Policies and scripts that are drawn at random, by area, and what of it no drawn script may show.
+
+The area, the seed and the number of a script tell it, so that it can be drawn again.
+"""
+import json
+import random
+from dataclasses import dataclass, field
+
+
+@dataclass
+class Draft:
+    """A policy and a script in the making: settings, programs by name, and the lines of the schedule."""
+
+    settings: list
+    programs: list
+    schedule: list
+    rules: list = field(default_factory=list)
+    config: dict = field(default_factory=dict)
+
+    def policy(self):
+        return json.dumps({"config": self.config, "rules": self.rules}).encode()
+
+    def script(self):
+        lines = [*self.settings]
+        for name, body in self.programs:
+            lines += [f"prog {name}", *body, "end"]
+        return "\n".join([*lines, "schedule", *self.schedule, "end", ""]).encode()
+
+
+def quoted(text):
+    """A text as a script states it."""
+    return '"' + "".join(chr(byte) if 0x20 <= byte < 0x7F and byte not in b'"\\' else f"\\x{byte:02x}" for byte in text) + '"'
+
+
+def poke(address, text):
+    return f"poke 0x{address:x} {quoted(text)}"
+
+
+def rule(name, call, then, **more):
+    return dict(name=name, call=call, then=then, **more)
+
+
+def served(rounds):
+    """A schedule in which one worker serves all calls, one after the other."""
+    return [*["t 0 3", "w 0 40"] * rounds, "t 0 9"]
+
+
+def steps(schedule):
+    """The single steps of a schedule."""
+    for line in schedule.decode().split("\n"):
+        words = line.split()
+        if words and words[0] != "end":
+            yield from [" ".join(words[:2])] * (int(words[2]) if len(words) > 2 else 1)
+
+
+def without_skips(script, events, chance):
+    """The script with few of the steps that its journal says are skips: they change nothing, and there are many."""
+    head, tail = script.split(b"\nschedule\n")
+    scheduled = list(zip(steps(tail), events[1:]))
+    last = max((at for at, (_, event) in enumerate(scheduled) if event.actor[0] == "t" and event.what != "skip"), default=0)
+    kept = [step for at, (step, event) in enumerate(scheduled) if event.what != "skip" or at < last and chance.random() < 0.06]
+    return head + b"\nschedule\n" + "\n".join([*kept, "end", ""]).encode()
+
+
+def drawn(areas, area, seed, number):
+    """The draft of a script, and the chance that it was drawn with."""
+    chance = random.Random(f"{area} {seed} {number}")
+    return areas[area](chance, number), chance

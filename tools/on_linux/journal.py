@@ -1,0 +1,26 @@
+"""The journal of a report, event by event."""
+from typing import NamedTuple
+
+
+class Event(NamedTuple):
+    place: int
+    actor: str  # "-", "listener", "t0.1", "w3"
+    what: str
+    fields: list
+    line: str
+
+
+def event(line):
+    place, actor, what, *fields = line.split()
+    return Event(int(place), actor, what, fields, line)
+
+
+def journal(report):
+    """The lines of the journal of a report."""
+    lines = report.decode("latin-1").split("\n")
+    return lines[1:int(lines[0].split()[1]) + 1]
+
+
+def workers(events):
+    """The numbers of the workers that step."""
+    return {int(event.actor[1:]) for event in events if event.actor[0] == "w"}

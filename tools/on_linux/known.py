@@ -1,0 +1,117 @@
+"""Which of the known differences one is: the names are those of differences.json.
+
+The rules are narrow: they look at the call, its arguments and both answers, so that another difference isn't taken for a known one.
+"""
+from typing import NamedTuple
+
+from on_linux.machine import CALLS, KINDS
+
+WALK = ("ENOENT", "ENOTDIR", "ELOOP", "ENAMETOOLONG", "EFAULT")
+TEXTS = ("EFAULT", "ENAMETOOLONG", "ERANGE")
+NAMESPACES = (b"user.", b"trusted.", b"security.")
+OF_PROBES = (335, 336)
+FIRST_FLAGS = 15  # read-only, and no set-user-id, devices and programs
+END_OF_ADDRESSES = 2**47
+INSTRUCTION_POINTER = ((0x20, 0, 0, 8), (0x20, 0, 0, 12))
+
+
+class Known(NamedTuple):
+    name: str
+    apart: bool = False  # the two kernels differ from here on, and what follows isn't compared
+
+
+def slash_at_the_end(path):
+    return path.endswith(b"/") and path.strip(b"/") != b""
+
+
+def of_path(path, done, play):
+    """Of a walk. `done` says whether one of the two did the call."""
+    if b".." in path.split(b"/") and play.mounted:
+        return Known("dot-dot-under-mount", True)
+    if slash_at_the_end(path) or play.links_with_slash:
+        return Known("trailing-slash", done)
+    return None
+
+
+def of_mount(arguments, linux, here):
+    if linux == "EPERM" and here in ("EFAULT", "EINVAL") and arguments[4]:
+        return Known("mount-data")
+    refused = here == "EPERM" and linux in WALK
+    if refused or here in ("EFAULT", "ENAMETOOLONG", "EINVAL") and linux in (*WALK, "EINVAL"):
+        return Known("native-mount")
+    return None
+
+
+def of_setxattr(arguments, name, linux, here):
+    if here in TEXTS and linux in (*TEXTS, "EINVAL", "E2BIG"):
+        return Known("setxattr-order")
+    if here == "E2BIG" and arguments[3] > 4096:
+        return Known("attribute-size", linux == "0")
+    if here == "EPERM" and not name.startswith(b"user.") or here == "EINVAL" and arguments[4] & 0xFFFFFFFC:
+        return Known("setxattr-order")
+    if name in (b"", b"user.") or linux == "EPERM":
+        return Known("attribute-names", True) if here == "0" else Known("setxattr-order")
+    return None
+
+
+def of_mknod(arguments, linux, here):
+    """Of mknod, or of mknodat without its first argument."""
+    mode, device = arguments[1] & 0o170000, arguments[2] & 0xFFFFFFFF
+    if (linux, here, mode, device) == ("0", "EPERM", KINDS["chr"], 0):
+        return Known("whiteout-device", True)
+    if linux in ("EPERM", "EINVAL") and here in ("EFAULT", "ENAMETOOLONG", "ENOENT"):
+        return Known("mknod-kind-first")
+    return None
+
+
+def of_native(number, arguments, linux, here, play, texts):
+    """Of the answer of a native call. `texts` reads a text of the caller by its address."""
+    names = {call: name for name, call in CALLS.items()}
+    name = names.get(number)
+    if number in OF_PROBES:
+        return Known("calls-no-filter-sees", True)
+    if name is None:
+        return Known("other-calls", linux == "dead") if here == "ENOSYS" else None
+    if name == "mount":
+        return of_mount(arguments, linux, here)
+    found = None
+    if name == "setxattr":
+        found = of_setxattr(arguments, texts(arguments[1]), linux, here)
+    if name in ("openat", "mknodat") and (linux, here) == ("ENOTDIR", "EBADF"):
+        found = Known("dirfd-not-a-directory")
+    elif name == "openat" and linux == "EMFILE":
+        found = Known("openat-full-table")
+    elif name in ("mknod", "mknodat"):
+        found = of_mknod(arguments if name == "mknod" else arguments[1:], linux, here)
+    path = texts(arguments[1 if name in ("openat", "mknodat") else 0])
+    return found or of_path(path, any(answer.isdigit() for answer in (linux, here)), play)
+
+
+def of_verdict(number, filters):
+    """Of what the filters say of a call."""
+    if number in OF_PROBES:
+        return Known("calls-no-filter-sees", True)
+    if any(instruction in INSTRUCTION_POINTER for instructions, _ in filters for instruction in instructions):
+        return Known("instruction-pointer", True)
+    return None
+
+
+def of_act(request, linux, here, play):
+    """Of what came of a worker's effect. `request` is the tokens of it."""
+    if linux == "EROFS":
+        return Known("mount-options", True)
+    if request[0] == "setxattr":
+        name = request[2]
+        if name in (b"", b"user.") or not name.startswith(NAMESPACES) or len(name) > 255 or linux == "EPERM":
+            return Known("attribute-names", True)
+    if request[0] == "mount":
+        if not request[3]:
+            return Known("mount-without-type")
+        if int(request[4].removeprefix("flags=")) & ~FIRST_FLAGS:
+            return Known("mount-flags", True)
+    path = request[2] if request[0] in ("mknodat", "mount") else request[1]
+    return of_path(path, "ok" in (linux, here), play)
+
+
+def of_installation(linux, here):
+    return Known("descriptor-limit-errors") if {linux, here} == {"EMFILE", "EBADF"} else None

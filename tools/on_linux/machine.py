@@ -1,0 +1,84 @@
+"""What is used of the machine: names of errors, the calls and structures of a listener, mounts, and the way to make calls."""
+import ctypes
+import errno
+import os
+
+CALLS = dict(close=3, getpid=39, sysinfo=99, mknod=133, mount=165, setxattr=188, openat=257, mknodat=259)
+KINDS = dict(reg=0o100000, chr=0o020000, blk=0o060000, fifo=0o010000, sock=0o140000, dir=0o040000, bad=0o170000)
+# other calls that tasks and workers make for themselves
+MMAP, IOCTL, PREAD, PWRITE, DUP2, WAIT4, KILL, FCNTL, CAPSET, FUTEX, EXIT_GROUP = 9, 16, 17, 18, 33, 61, 62, 72, 126, 202, 231
+SECCOMP, MEMFD_CREATE, PIDFD_OPEN, PIDFD_GETFD = 317, 319, 434, 438
+# of a listener
+RECEIVE, SEND, ID_VALID, ADD_DESCRIPTOR = 0xC0502100, 0xC0182101, 0x40082102, 0x40182103
+SET_NUMBER, AND_SEND, CONTINUE = 1, 2, 1
+NEW_LISTENER, WAIT_KILLABLE = 8, 32
+X86_64 = 0xC000003E
+ALLOW, NOTIFY, KILL_PROCESS = 0x7FFF0000, 0x7FC00000, 0x80000000
+NEW_MOUNTS, NEW_NAMES, NEW_IPC, NEW_USERS, NEW_PIDS, NEW_NETWORK = 0x20000, 0x4000000, 0x8000000, 0x10000000, 0x20000000, 0x40000000
+SIGUSR2 = 12
+ALL_CHILDREN = 0x40000000
+
+libc = ctypes.CDLL(None, use_errno=True)
+libc.syscall.restype = ctypes.c_long
+
+
+class Stop(Exception):
+    """The comparison of a script ends here. The text says why, and is empty where a difference does."""
+
+
+class CannotMap(Stop):
+    """A range that the script maps can't be mapped on the machine."""
+
+    def __init__(self, end, error):
+        super().__init__(f"memory up to 0x{end:x} can't be mapped: {error_name(error)}")
+        self.end, self.error = end, error
+
+
+def error_name(number):
+    return errno.errorcode.get(number, f"E{number}")
+
+
+def error_number(name):
+    """The number of an error as a report names it."""
+    return getattr(errno, name, None) or int(name[1:])
+
+
+def answer(result):
+    """What a call gave back, as a report says it."""
+    return error_name(-result) if -4096 < result < 0 else str(result)
+
+
+def checked(result, what):
+    if result < 0:
+        raise OSError(ctypes.get_errno(), f"{what}: {os.strerror(ctypes.get_errno())}")
+    return result
+
+
+def mount(source, target, kind, flags=0, data=None):
+    texts = [text and text.encode() for text in (source, target, kind, data)]
+    checked(libc.mount(*texts[:3], ctypes.c_ulong(flags), texts[3]), f"mount of {target}")
+
+
+def unshare(flags):
+    checked(libc.unshare(flags), "unshare")
+
+
+def end_with_parent():
+    """The calling process is killed when its parent ends, so that nothing is left."""
+    checked(libc.prctl(1, 9, 0, 0, 0), "prctl")
+
+
+def run_first(pid, priority=60):
+    """Lets a process run before all that has no priority, until it waits."""
+    try:
+        os.sched_setscheduler(pid, os.SCHED_FIFO, os.sched_param(priority))
+    except ProcessLookupError:
+        pass
+
+
+def stand_still(pid):
+    """A process without priority doesn't run while one with it does: it stands still, also inside the kernel."""
+    try:
+        os.sched_setscheduler(pid, os.SCHED_OTHER, os.sched_param(0))
+    except ProcessLookupError:
+        pass

@@ -1,0 +1,60 @@
+"""What came of the comparisons: a line for each that differs, and the counts at the end."""
+from collections import Counter
+
+ALL = ("equal", "known", "otherwise", "stopped", "not played")
+DIFFERENT = ("known", "otherwise", "stopped", "not played")
+NOT_KNOWN = ("otherwise", "stopped", "not played")
+WIDTH = 160
+
+
+def cut(text):
+    """A text that fits into a line: paths and data may be long."""
+    return text if len(text) <= WIDTH else f"{text[:WIDTH // 2]} .. {text[-WIDTH // 3:]}"
+
+
+class Outcome:
+    """`told` are the kinds of results that get a line."""
+
+    def __init__(self, told):
+        self.lines = told
+        self.counts, self.names, self.events = Counter(), Counter(), 0
+
+    def take(self, name, result, excluded=(), expected=None):
+        """Takes a result. `excluded` are differences that it may not show, and `expected` one that it has to."""
+        self.events += result.compared
+        unknown = [difference for difference in result.differences if not difference.name or difference.name in excluded]
+        unshown = expected is not None and expected not in result.names
+        kind = self.kind(result, unknown, unshown)
+        self.counts[kind] += 1
+        self.names.update(result.names)
+        if kind in self.lines:
+            self.print(name, kind, result, expected if unshown else None)
+
+    def kind(self, result, unknown, unshown):
+        if result.refused:
+            return "not played"
+        if unknown or unshown:
+            return "otherwise"
+        if result.names:
+            return "known"
+        return "stopped" if result.stopped else "equal"
+
+    def print(self, name, kind, result, unshown):
+        texts = {"equal": "equal", "known": ", ".join(result.names), "otherwise": "DIFFERS", "stopped": "compared in part", "not played": result.refused}
+        print(f"{name}: {texts[kind]}, {result.compared} of {len(result.journal)} events", flush=True)
+        for difference in result.differences:
+            print(f"    {cut(difference.line)}\n        {difference.what}: Linux {cut(difference.linux)}, here {cut(difference.here)}"
+                  + (f" ({difference.name})" if difference.name else ""))
+        if unshown:
+            print(f"    it doesn't show {unshown}")
+        if result.stopped:
+            print("    " + result.stopped.strip().replace("\n", "\n    "))
+
+    def told(self):
+        """Prints the counts, and gives the exit status."""
+        counts = self.counts
+        for name, count in self.names.most_common():
+            print(f"on-linux: {count:6} {name}")
+        print(f"on-linux: {sum(counts.values())} compared, {self.events} events: {counts['equal']} equal, {counts['known']} differ in known ways, "
+              f"{counts['otherwise']} otherwise, {counts['stopped']} in part, {counts['not played']} not played")
+        return 1 if counts["otherwise"] else 0

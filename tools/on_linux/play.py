@@ -1,0 +1,94 @@
+"""Plays the events of a journal on the machine, one by one, and notes where it answers otherwise."""
+import time
+from collections import defaultdict
+from typing import NamedTuple
+
+from on_linux import known, machine
+from on_linux.machine import Stop
+from on_linux.task_events import TaskEvents
+from on_linux.worker_events import WorkerEvents
+
+
+class Difference(NamedTuple):
+    line: str  # of the journal
+    what: str
+    linux: str
+    here: str
+    name: str  # of the known difference, or empty
+
+
+class Play:
+    def __init__(self, stage, events):
+        self.stage, self.settings, self.events = stage, stage.settings, events
+        self.places = self.index(events)
+        self.differences, self.compared = [], 0
+        self.first_id = None  # of the machine's notifications; a script's begin with `firstid`
+        self.entered = {}  # what each notification has to tell: number, arguments, process number
+        self.mounted = False
+        self.torn = False  # a native sysinfo wrote a part of its answer
+        self.doubt = ""  # why a difference may come of the comparison itself
+        self.links_with_slash = any(words[0] == "link" and known.slash_at_the_end(words[2]) for words in self.settings.tree)
+        self.of_tasks, self.of_workers = TaskEvents(self), WorkerEvents(self)
+
+    def index(self, events):
+        """The places of events by actor and kind, and those of signals by the number that they are sent to."""
+        places = defaultdict(list)
+        for event in events:
+            places[event.actor, event.what].append(event.place)
+            if event.what == "kill":
+                places["kill", event.fields[0]].append(event.place)
+        return places
+
+    def differs(self, what, linux, here, known=None):
+        if known is None and self.doubt:
+            raise Stop(self.doubt)
+        name = known.name if known else ""
+        again = name == "receive-without-tasks" and any(difference.name == name for difference in self.differences)
+        if not again:
+            self.differences.append(Difference(self.event.line, what, str(linux), str(here), name))
+        if known is None or known.apart:
+            raise Stop("")
+
+    def same(self, what, linux, here, known=None):
+        if str(linux) == str(here):
+            return True
+        self.differs(what, linux, here, known)
+        return False
+
+    def real_id(self, stated):
+        """The machine's id of the notification that a script's kernel names so."""
+        distance = (stated - self.settings.firstid) % 2**64
+        return (0x1234567 if self.first_id is None else self.first_id) + distance & 2**64 - 1
+
+    def play(self, end):
+        """Plays the events, up to a time."""
+        for self.event in self.events:
+            if time.monotonic() > end:
+                raise Stop("the machine lets nobody have the processor for longer")
+            self.compared += 1
+            actor = self.event.actor
+            if actor == "-":
+                self.begin()
+            elif actor == "listener":
+                self.end()
+            elif actor[0] == "t":
+                self.of_tasks.take(self.event)
+            else:
+                self.of_workers.take(self.event)
+
+    def begin(self):
+        try:
+            task = self.stage.first_task()
+        except machine.CannotMap as refused:
+            if refused.end != known.END_OF_ADDRESSES:
+                raise
+            self.differs("map", machine.error_name(refused.error), "mapped", known.Known("last-page", True))
+        self.same("process number of the first task", f"pid={task.pid}", self.event.fields[1])
+
+    def end(self):
+        """Calls that were allowed, and whose answer no event tells, are made: no filter may stop them."""
+        for task in self.stage.tasks.values():
+            if task.call_is_late and not task.is_dead():
+                task.call_is_late = False
+                state = self.of_tasks.enter(task, *task.call)
+                self.same("verdict", "notify" if state == "notify" else "allow", "allow")

@@ -1,0 +1,341 @@
+"""The events of tasks, done by stand-ins and compared."""
+import ctypes
+import os
+import signal
+from bisect import bisect_right
+
+from on_linux import known, machine
+from on_linux.known import Known
+from on_linux.machine import CALLS, Stop, answer
+from on_linux.script_text import FIRST_FREE_PID
+from on_linux.stage import CLONE_FILES, CLONE_VM
+from on_linux.stand_in import Order
+
+MODES = {"default": 0, "restart": 1, "plain": 2}
+# all steps of a task but a native call and a skip
+STEPS = ("spawn", "poke", "handler", "call", "install", "resume", "kill", "deliver", "wait", "exit")
+TO_RETURN = "a signal was delivered at the return of a call, before its step"
+BEHIND_ANSWER = "a task was killed behind its answer, before the step that tells it"
+BETWEEN = "a signal came between the entry of a call and its native run"
+
+
+class TaskEvents:
+    def __init__(self, play):
+        self.play, self.stage, self.tasks = play, play.stage, play.stage.tasks
+        self.same, self.differs = play.same, play.differs
+
+    def take(self, event):
+        task = self.tasks.get(event.actor[1:])
+        if task is None:
+            self.same("a task that wasn't made", "skip", event.what)
+        elif task.is_dead():
+            self.take_dead(task, event)
+        else:
+            getattr(self, f"do_{event.what}")(task, *event.fields)
+        self.reap_orphans()
+
+    def take_dead(self, task, event):
+        if event.what == "native" and not task.ended:
+            return  # the native call was done, and its task is gone: see do_resume
+        if event.what == "deliver" and not task.ended:
+            if event.fields[1] != "end":
+                self.differs("deliver", "dead", f"signal {event.fields[0]}", Known("fatal-signal-at-once", True))
+            task.ended = True
+            return
+        self.same("ended", "skip", event.what)
+
+    def reap_orphans(self):
+        """Ended tasks without a parent are reaped at once."""
+        for name, task in list(self.tasks.items()):
+            if task.ended and task.is_dead() and not task.reaped:
+                parent = self.tasks.get(name.rpartition(".")[0])
+                if parent is None or parent.is_dead():
+                    self.reap(task)
+
+    def reap(self, task):
+        for _ in range(1000):
+            if os.waitpid(task.pid, os.WNOHANG | machine.ALL_CHILDREN)[0]:
+                break
+        task.reaped = True
+
+    # ---- what is seen of a call
+
+    def enter(self, task, number, arguments):
+        """Enters a call of the script, and lets it run until it waits or returns."""
+        task.call, task.saved = (number, arguments), None
+        if task.restarts:
+            task.restarts = False
+            task.leave_handler()
+        else:
+            self.out_of_handler(task)
+            task.order(Order.SCRIPT_CALL, number, *arguments)
+        return task.settle()
+
+    def out_of_handler(self, task):
+        """A handler that was compared is left before the next instruction."""
+        if not task.is_in_handler():
+            return
+        latest = f"signal {task.handled(task.handlers - 1).signal}"
+        if task.compared != task.handlers:
+            self.differs("a signal is delivered", latest, "none")
+        task.leave_handler()
+        if task.settle() == "handler":
+            if task.signalled_early:
+                raise Stop(TO_RETURN)
+            self.differs("a further signal is delivered", f"signal {task.handled(task.handlers - 1).signal}", "none")
+
+    def outcome(self, task, state):
+        """What the call answered, as far as it can be seen."""
+        if state == "idle":
+            return answer(task.result())
+        if state != "handler":
+            return state
+        handled = task.handled(task.handlers - 1)
+        if handled.instruction == self.stage.code.script_call_after:
+            return answer(handled.value - (2**64 if handled.value >= 2**63 else 0))
+        return "restarts" if handled.instruction == self.stage.code.script_call_at else "handler elsewhere"
+
+    def text_of(self, task, address):
+        """The text at an address, or nothing where there is none."""
+        try:
+            with open(f"/proc/{task.pid}/mem", "rb", buffering=0) as memory:
+                memory.seek(address)
+                return memory.read(4096).split(b"\0")[0]
+        except (OSError, OverflowError, ValueError):
+            return b""
+
+    # ---- what the journal tells later
+
+    def is_signalled_before_native(self, task):
+        native, kill = self.next_place(f"t{task.name}", "native"), self.next_place("kill", str(task.pid))
+        return kill is not None and (native is None or kill < native)
+
+    def next_place(self, *key):
+        """The place of the next such event, or None."""
+        places = self.play.places[key]
+        at = bisect_right(places, self.play.event.place)
+        return places[at] if at < len(places) else None
+
+    def last_place(self, *key):
+        """The place of the last such event up to this one, or -1."""
+        places = self.play.places[key]
+        at = bisect_right(places, self.play.event.place)
+        return places[at - 1] if at else -1
+
+    def ends_next(self, task):
+        """Whether its next step but a native call is its end, by a signal that was sent in this call."""
+        name = f"t{task.name}"
+        coming = [place for place in (self.next_place(name, what) for what in STEPS) if place is not None]
+        step = self.play.events[min(coming)] if coming else None
+        if step is None or step.what != "deliver" or step.fields[1] != "end":
+            return False
+        return self.last_place("kill", str(task.pid)) > self.last_place(name, "call")
+
+    # ---- steps outside of calls
+
+    def ordered(self, task, order, *arguments):
+        self.out_of_handler(task)
+        task.order(order, *arguments)
+        return task.settle()
+
+    def do_poke(self, task, address, text):
+        data = bytes.fromhex(text)
+        task.put(data)
+        self.same("poke", self.ordered(task, Order.STORE, int(address), len(data)), "idle")
+
+    def do_handler(self, task, number, mode):
+        state = self.ordered(task, Order.HANDLE, int(number), MODES[mode])
+        self.same("handler", answer(task.result()) if state == "idle" else state, "0")
+
+    def do_spawn(self, task, name, came, kind=None):
+        child = self.stage.task(name)
+        child.hold_in_handlers()
+        shares = kind in (None, "share")
+        self.ordered(task, Order.START, signal.SIGCHLD | (CLONE_VM | CLONE_FILES if shares else 0), child.slot)
+        result = task.result()
+        if result > 0:
+            child.started(result)
+            self.tasks[name] = child
+            child.settle()
+        self.same("spawn", f"pid={result}" if result > 0 else answer(result), came)
+
+    def do_kill(self, task, pid, number, came):
+        pid, number = int(pid), int(number)
+        for other in self.tasks.values():
+            if other.pid == pid and not other.dead and other.is_in_handler() and other.compared != other.handlers:
+                other.signalled_early = True
+                self.play.doubt = self.play.doubt or TO_RETURN
+        if (pid < FIRST_FREE_PID or pid >= 2**31) and all(other.pid != pid for other in self.tasks.values()):
+            return  # kill(2) means groups by 0 and by numbers below it, and the stage's own processes stand below the first
+        if pid == task.pid:  # sent from outside: a task that signals itself runs at once
+            self.out_of_handler(task)
+            result = -ctypes.get_errno() if machine.libc.kill(pid, number) else 0
+        else:
+            state = self.ordered(task, Order.OWN_CALL, machine.KILL, pid, number)
+            result = task.result() if state == "idle" else 1000
+        self.same("kill", "ok" if result == 0 else answer(result), came)
+
+    def wait_for_child(self, task):
+        return self.ordered(task, Order.OWN_CALL, machine.WAIT4, -1, task.put(b""), machine.ALL_CHILDREN | os.WNOHANG, 0)
+
+    def do_wait(self, task, came):
+        state = self.wait_for_child(task)
+        result = task.result() if state == "idle" else state
+        child = self.tasks.get(came)
+        if child is not None:
+            child.reaped = True
+        told = "no child has ended" if result == 0 else result if isinstance(result, str) else answer(result)
+        self.same("wait", told, child.pid if child else came)
+
+    def do_exit(self, task):
+        self.same("exit", self.ordered(task, Order.OWN_CALL, machine.EXIT_GROUP, 0), "dead")
+        task.ended = True
+
+    def do_skip(self, task):
+        if task.call and not task.restarts:
+            before = task.handlers
+            state = task.settle()
+            self.same("skip", state if task.handlers == before else "a signal", "notify")
+            return
+        state = self.wait_for_child(task)
+        if state == "idle" and any(child.pid == task.result() and not child.ended for child in self.tasks.values()):
+            raise Stop("a child died before the step that tells it")
+        self.same("skip of a wait", answer(task.result()) if state == "idle" else state, "0")
+
+    # ---- calls
+
+    def do_call(self, task, name, *rest):
+        number = CALLS[name] if name in CALLS else int(name)
+        arguments, verdict = list(map(int, rest[:6])), " ".join(rest[6:])
+        allowed = verdict in ("allow", "log")
+        if allowed and not self.is_signalled_before_native(task):
+            task.call, task.saved, task.call_is_late = (number, arguments), None, True
+            return
+        if allowed and name in ("close", "mknod", "openat", "mknodat", "setxattr"):
+            self.play.doubt = self.play.doubt or BETWEEN
+        state = self.enter(task, number, arguments)
+        if allowed:
+            task.saved = self.outcome(task, state)
+        else:
+            self.compare_verdict(task, verdict, number, arguments, state)
+
+    def compare_verdict(self, task, verdict, number, arguments, state):
+        difference = known.of_verdict(number, self.play.settings.filters)
+        if verdict.startswith("notify"):
+            task.notification = int(verdict.split("=")[1])
+            self.play.entered[task.notification] = (number, arguments, task.pid)
+            self.same("verdict", state if state == "notify" else self.outcome(task, state), "notify", difference)
+            return
+        if verdict == "kill":
+            self.same("verdict", state, "dead", difference)
+            task.ended = True
+            return
+        error = 38 if verdict == "nosys" else int(verdict.split("=")[1])
+        self.same("verdict", self.outcome(task, state), machine.error_name(error) if error else "0", difference)
+        task.call = None
+
+    def do_native(self, task, came):
+        if task.return_is_late:
+            task.return_is_late = False
+            last = self.ends_next(task)
+            task.saved = self.outcome(task, task.settle())
+            if last:
+                return  # the native call was done, and its task is gone
+        if task.call_is_late:
+            task.call_is_late = False
+            task.saved = self.outcome(task, self.enter(task, *task.call))
+        linux, task.saved = task.saved, None
+        if linux == "dead" and task.call[0] not in known.OF_PROBES:
+            raise Stop(BEHIND_ANSWER)
+        self.compare_native(task, linux, came)
+        task.call = None
+
+    def compare_native(self, task, linux, here):
+        number, arguments = task.call
+        if number == CALLS["sysinfo"] and linux == here == "EFAULT":
+            self.play.torn = True  # Linux wrote the bytes before the fault
+        if number == CALLS["sysinfo"] and linux == here == "0":
+            self.write_figures(task, arguments[0])
+        if self.play.torn:
+            difference = Known("sysinfo-part", True)
+        else:
+            difference = known.of_native(number, arguments, linux, here, self.play, lambda address: self.text_of(task, address)) if linux != here else None
+        self.same(f"native call {number}", linux, here, difference)
+
+    def write_figures(self, task, address):
+        """The script's figures are written over the machine's."""
+        with open(f"/proc/{task.pid}/mem", "r+b", buffering=0) as memory:
+            memory.seek(address)
+            memory.write(self.play.of_workers.figures(self.play.settings.cgroup[:1]))
+
+    def do_resume(self, task, back):
+        # An answer that was taken wins over signals, so the task may be let run later: the native call belongs to the next step, and a task
+        # that a signal ends can't be stopped between its return and its end.
+        if back == "continue":
+            task.return_is_late = True
+            return
+        if self.ends_next(task):
+            return
+        came = self.outcome(task, "idle" if task.is_idle() else task.settle())
+        if came == "dead":
+            raise Stop(BEHIND_ANSWER)
+        self.same("resume", came, back)
+        task.call = None
+
+    def request_for(self, task):
+        """The worker whose request for a descriptor waits for the task's call."""
+        waiting = [worker for worker in self.stage.workers.values() if worker.requested == (task.pid, task.notification)]
+        return waiting[0] if waiting else None
+
+    def do_install(self, task, came):
+        state = task.settle()
+        worker = self.request_for(task)
+        if worker is None or not worker.is_idle():
+            self.differs("install", f"nothing is installed, {state}", came)
+        linux = answer(worker.result())
+        self.same("install", linux, came, known.of_installation(linux, came))
+
+    # ---- signals
+
+    def do_deliver(self, task, number, effect):
+        state = "handler"
+        if task.compared == task.handlers:  # nothing is seen yet: it is let run
+            task.leave_handler()
+            state = task.settle()
+        if effect == "end":
+            self.compare_end(task, state)
+        else:
+            self.compare_handler(task, state, number, effect)
+
+    def compare_end(self, task, state):
+        difference = None
+        if self.play.settings.killable and state == "notify":
+            difference = Known("second-fatal-signal", True)
+        elif state == "handler" and self.request_for(task):
+            difference = Known("descriptor-before-signal", True)
+        self.same("deliver", f"handler of {task.handled(task.compared).signal}" if state == "handler" else state, "dead", difference)
+        task.ended = True
+
+    def compare_handler(self, task, state, number, effect):
+        if state != "handler" or task.compared == task.handlers:
+            self.differs("deliver", self.outcome(task, state), f"signal {number}", Known("fatal-signal-at-once", True) if state == "dead" else None)
+        handled = task.handled(task.compared)
+        task.compared += 1
+        if str(handled.signal) != number and task.signalled_early:
+            raise Stop(TO_RETURN)
+        self.same("signal", handled.signal, number)
+        came = self.effect_of(task, handled)
+        interrupts = effect in ("eintr", "restart") and self.request_for(task)
+        self.same("effect of the signal", came, effect, Known("descriptor-before-signal", True) if interrupts else None)
+        if came == "restart":
+            task.restarts = True
+        elif came == "eintr":
+            task.call = None
+
+    def effect_of(self, task, handled):
+        """What a handler did to the call: it found it interrupted, about to be entered again, or not at all."""
+        if handled.instruction == self.stage.code.script_call_after and handled.value == 2**64 - 4 and task.call:
+            return "eintr"
+        # behind the first handler, a second one before the call is entered again just runs
+        again = handled.instruction == self.stage.code.script_call_at and not task.restarts
+        return "restart" if again else "run"
