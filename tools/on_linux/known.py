@@ -13,6 +13,9 @@ OF_PROBES = (335, 336)
 FIRST_FLAGS = 15  # read-only, and no set-user-id, devices and programs
 END_OF_ADDRESSES = 2**47
 INSTRUCTION_POINTER = ((0x20, 0, 0, 8), (0x20, 0, 0, 12))
+O_CREAT = 0o100
+# the flags of openat for which it has this error of its own: O_CREAT with O_EXCL, O_CREAT or access to write, O_DIRECTORY, O_NOFOLLOW
+OPENING = {"EEXIST": 0o300, "EISDIR": 0o103, "ENOTDIR": 0o200000, "ELOOP": 0o400000}
 
 
 class Known(NamedTuple):
@@ -64,6 +67,13 @@ def of_mknod(arguments, linux, here):
     return None
 
 
+def of_openat(flags, linux, here):
+    if linux == "EMFILE":
+        return Known("openat-full-table")
+    fails, makes = here.isdigit() and flags & OPENING.get(linux, 0), here == "ENOENT" and linux.isdigit() and flags & O_CREAT
+    return Known("openat-only-walks", True) if fails or makes else None
+
+
 def of_native(number, arguments, linux, here, play, texts):
     """Of the answer of a native call. `texts` reads a text of the caller by its address."""
     names = {call: name for name, call in CALLS.items()}
@@ -79,8 +89,8 @@ def of_native(number, arguments, linux, here, play, texts):
         found = of_setxattr(arguments, texts(arguments[1]), linux, here)
     if name in ("openat", "mknodat") and (linux, here) == ("ENOTDIR", "EBADF"):
         found = Known("dirfd-not-a-directory")
-    elif name == "openat" and linux == "EMFILE":
-        found = Known("openat-full-table")
+    elif name == "openat":
+        found = of_openat(arguments[2], linux, here)
     elif name in ("mknod", "mknodat"):
         found = of_mknod(arguments if name == "mknod" else arguments[1:], linux, here)
     path = texts(arguments[1 if name in ("openat", "mknodat") else 0])
