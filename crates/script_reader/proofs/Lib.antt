@@ -1,5 +1,5 @@
 mod WorkedScripts
-pub mod Operands
+pub mod OperandFaults
 pub mod Maps
 pub mod Counts
 pub mod Tables
@@ -12,3 +12,4 @@ pub mod KeptLines
 pub mod SoundStatements
 pub mod Readings
 pub mod FirstRow
+pub mod WordSlots

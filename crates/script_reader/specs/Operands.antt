@@ -1,10 +1,12 @@
 -- What may stand behind each word, and the faults that an operand shows by itself.
-use Rattle.std.specs.Prelude.{ℕ, ◌+◌, ◌-◌, ◌^◌, Bool, true, false, ◌&&◌, ◌||◌, not, if◌then◌else◌, ◌==◌, nat_le, List, [], ◌∷◌, length, Option, Some, None, is_some, ℤ, pos, neg_ℤ, int_le, bytes_eq, codes}
+use Rattle.std.specs.Prelude.{ℕ, ◌+◌, ◌-◌, ◌^◌, Bool, true, false, ◌&&◌, ◌||◌, not, if◌then◌else◌, ◌==◌, nat_le, List, [], ◌∷◌, length, Option, Some, None, is_some, slice_get, ℤ, pos, neg_ℤ, int_le, bytes_eq, codes}
+use Rattle.std.specs.Option.{option_and_then}
 use Rattle.lex_core.specs.declared.line.Token.{Token}
 use Rattle.lex_core.specs.declared.line.Token.TheVariants.{Bare, Quoted}
 use Rattle.lex_core.specs.declared.reason.Reason.{Reason}
 use Rattle.lex_core.specs.declared.reason.Reason.TheVariants as reason
 use Rattle.lex_core.specs.Numbers as numbers
+use Rattle.bpf_filter.specs.Text as text
 use Rattle.bpf_filter.specs.Text.{below}
 use Rattle.sys_abi.specs.Calls.{call_number_of}
 use Rattle.hist_model.specs.Ranges.{is_page_address}
@@ -16,6 +18,35 @@ use Rattle.script_reader.specs.declared.operand.Operand.TheVariants as operand
 use Rattle.script_reader.specs.declared.operand.Addressee.{Addressee}
 use Rattle.script_reader.specs.declared.operand.Addressee.TheVariants as addressee
 use Rattle.script_reader.specs.Paths.{is_path, has_zero, root_path, is_task_text}
+
+-- ---- what an operand says
+
+abbrev pub token_bytes : Token → List ℕ
+token_bytes (Bare word) = word
+token_bytes (Quoted bytes) = bytes
+
+-- such a word is meant as a number: it begins with `-` or a digit
+abbrev pub begins_number : List ℕ → Bool
+begins_number [] = false
+begins_number (b ∷ bs) = (b == 45) || (nat_le 48 b && nat_le b 57)
+
+-- the number that the operand at a place is
+abbrev pub number_in : List Token → ℕ → Option ℤ
+number_in operands place = option_and_then text.number (slice_get operands place)
+
+-- the numbers that the first seven operands are
+abbrev pub first_numbers : List Token → List (Option ℤ)
+first_numbers operands =
+    number_in operands 0 ∷ number_in operands 1 ∷ number_in operands 2 ∷ number_in operands 3
+    ∷ number_in operands 4 ∷ number_in operands 5 ∷ number_in operands 6 ∷ []
+
+-- the call that is named so; what begins as a number is no name
+abbrev pub named_call : List ℕ → Option ℤ
+named_call name = if begins_number name then None else call_number_of name
+
+-- the call that the operand at a place names
+abbrev pub call_in : List Token → ℕ → Option ℤ
+call_in operands place = option_and_then (λ token. named_call (token_bytes token)) (slice_get operands place)
 
 -- ---- whom a signal is for
 
@@ -173,11 +204,6 @@ abbrev pub number_fault : Operand → Option ℤ → Option Reason
 number_fault kind None = Some reason.BadNumber
 number_fault kind (Some n) = fault_unless (is_allowed kind n) reason.OutOfRange
 
--- such a word is meant as a number: it begins with `-` or a digit
-abbrev pub begins_number : List ℕ → Bool
-begins_number [] = false
-begins_number (b ∷ bs) = (b == 45) || (nat_le 48 b && nat_le b 57)
-
 abbrev pub is_call_name : List ℕ → Bool
 is_call_name word = is_some (call_number_of word)
 
@@ -222,6 +248,10 @@ is_text _ = false
 abbrev pub operand_fault : Operand → Token → Option Reason
 operand_fault kind (Bare word) = if is_text kind then Some reason.WrongForm else word_fault kind word
 operand_fault kind (Quoted bytes) = text_fault kind bytes
+
+-- of the operand at a place; none behind the last one
+abbrev pub fault_at : Operand → List Token → ℕ → Option Reason
+fault_at kind operands place = option_and_then (operand_fault kind) (slice_get operands place)
 
 -- ---- the fault of all operands
 

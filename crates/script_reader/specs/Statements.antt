@@ -2,7 +2,6 @@
 use Rattle.std.specs.Prelude.{ℕ, ◌%◌, ◌^◌, Bool, true, false, if◌then◌else◌, List, [], ◌∷◌, map, slice_get, Option, Some, None, unwrap_or, ℤ, pos, bytes_eq, codes}
 use Rattle.std.specs.Int.{w128, cast_unsigned}
 use Rattle.lex_core.specs.declared.line.Token.{Token}
-use Rattle.lex_core.specs.declared.line.Token.TheVariants.{Bare, Quoted}
 use Rattle.bpf_filter.specs.Text.{below, number_at}
 use Rattle.sys_abi.specs.Calls.{call_number_of}
 use Rattle.hist_model.specs.declared.event.Actor.TheVariants as actor
@@ -22,14 +21,10 @@ use Rattle.script_reader.specs.declared.word.Word.{Word}
 use Rattle.script_reader.specs.declared.word.Word.TheVariants as word
 use Rattle.script_reader.specs.declared.statement.Statement.{Statement}
 use Rattle.script_reader.specs.declared.statement.Statement.TheVariants as states
-pub use Rattle.script_reader.specs.Operands.{addressee_in, begins_number}
+pub use Rattle.script_reader.specs.Operands.{addressee_in, begins_number, token_bytes}
 use Rattle.script_reader.specs.Paths.{task_numbers}
 
 -- ---- the values of operands
-
-abbrev pub token_bytes : Token → List ℕ
-token_bytes (Bare word) = word
-token_bytes (Quoted bytes) = bytes
 
 abbrev pub bytes_or_none : Option Token → List ℕ
 bytes_or_none None = []

@@ -1,7 +1,7 @@
 -- The words that begin the lines of a script, and where each may stand.
-use Rattle.std.specs.Prelude.{ℕ, Bool, true, false, List, [], ◌∷◌, Option, codes, bytes_eq, find, map}
-use Rattle.std.specs.Option.{option_map}
+use Rattle.std.specs.Prelude.{ℕ, ◌+◌, ◌-◌, ◌*◌, ◌%◌, Bool, true, false, List, [], ◌∷◌, Option, Some, None, codes, bytes_eq, find, length, map, slice_get, slice_index, if◌then◌else◌}
 use Rattle.std.specs.Borrow.{Bor}
+use Rattle.std.specs.Option.{option_and_then, option_map}
 use Rattle.script_reader.specs.declared.word.Word.{Word}
 use Rattle.script_reader.specs.declared.word.Word.TheVariants as word
 use Rattle.script_reader.specs.declared.word.Part.{Part}
@@ -53,6 +53,26 @@ word_in table bytes = option_map (λ row. row.1) (find (λ row. bytes_eq row.0 b
 -- the word that is written so
 abbrev pub word_of : List ℕ → Option Word
 word_of bytes = word_in words bytes
+
+-- the first byte, and 0 where there is none
+abbrev pub first_byte : List ℕ → ℕ
+first_byte bytes = slice_index bytes 0
+
+-- the last byte, and 0 where there is none
+abbrev pub last_byte : List ℕ → ℕ
+last_byte bytes = slice_index bytes (length bytes - 1)
+
+-- a number by which words are found: no two of them have the same
+abbrev pub slot_of : List ℕ → ℕ
+slot_of bytes = (2 * first_byte bytes + 6 * last_byte bytes + 3 * (length bytes % 128)) % 128
+
+-- the word of a row, where the row is written so
+abbrev pub word_if : List ℕ → List ℕ × Word → Option Word
+word_if bytes row = if bytes_eq row.0 bytes then Some row.1 else None
+
+-- the word of the row at a place, where the row is written so
+abbrev pub word_at : List (List ℕ × Word) → ℕ → List ℕ → Option Word
+word_at table place bytes = option_and_then (word_if bytes) (slice_get table place)
 
 -- the table of the program as contracts read it, with the texts that it borrows
 abbrev pub rows_of : List (Bor (List ℕ) × Word) → List (List ℕ × Word)

@@ -21,6 +21,7 @@ pub mod error;
 mod fault;
 pub mod laws;
 pub mod operand;
+mod operands;
 pub mod paths;
 mod programs;
 mod ranges;

@@ -1,13 +1,16 @@
 //! What may stand behind the words of lines.
 
-ghost use Rattle.std.specs.Prelude.{◌≡◌, ◌≤◌, length};
+ghost use Rattle.std.specs.Prelude.{◌≡◌, ◌≤◌, length, slice_get};
+ghost use Rattle.lex_core.specs.declared.line.Token.TheVariants.{Bare};
 ghost use Rattle.lex_core.specs.Numbers as numbers;
 ghost use Rattle.script_reader.specs.Operands as definitions;
 
+use crate::operands::Operands;
 use crate::paths::{ROOT, has_zero, is_path, is_task_text};
 use crate::word::Word;
-use lex_core::{Reason, Token, read_number};
+use lex_core::{Reason, Token};
 use sys_abi::calls::call_number;
+use sys_abi::signals::{SIGKILL, SIGTERM, SIGUSR1, SIGUSR2};
 
 /// What an operand has to be.
 #[derive(Clone, Copy)]
@@ -301,7 +304,9 @@ fn is_handled_signal(number: Option<u64>) -> bool
     ensures { result ≡ definitions.is_handled_signal number }
 {
     match number {
-        Some(signal) => signal == 10 || signal == 12 || signal == 15,
+        Some(signal) => {
+            signal == SIGUSR1 as u64 || signal == SIGUSR2 as u64 || signal == SIGTERM as u64
+        }
         None => false,
     }
 }
@@ -311,7 +316,7 @@ fn is_sent_signal(number: Option<u64>) -> bool
     ensures { result ≡ definitions.is_sent_signal number }
 {
     match number {
-        Some(signal) => signal == 9 || signal == 10 || signal == 12 || signal == 15,
+        Some(signal) => signal == SIGKILL as u64 || is_handled_signal(number),
         None => false,
     }
 }
@@ -330,10 +335,10 @@ fn is_allowed(kind: Operand, number: i128) -> bool
     }
 }
 
-fn number_fault(kind: Operand, word: &[u8]) -> Option<Reason>
-    ensures { result ≡ definitions.number_fault kind (numbers.number word.now) }
+fn number_fault(kind: Operand, number: Option<i128>) -> Option<Reason>
+    ensures { result ≡ definitions.number_fault kind number }
 {
-    match read_number(word) {
+    match number {
         Some(number) => fault_unless(is_allowed(kind, number), Reason::OutOfRange),
         None => Some(Reason::BadNumber),
     }
@@ -369,29 +374,32 @@ fn is_addressee(whom: Addressee) -> bool
 }
 
 /// The fault of the operand that names a call, by its number or its name.
-fn call_fault(word: &[u8]) -> Option<Reason>
+fn call_fault(word: &[u8], number: Option<i128>, call: Option<i32>) -> Option<Reason>
+    requires number { number ≡ numbers.number word.now }
+    requires call { call ≡ definitions.named_call word.now }
     ensures { result ≡ definitions.call_fault word.now }
 {
     if begins_number(word) {
-        number_fault(Operand::Call, word)
+        number_fault(Operand::Call, number)
     } else {
-        fault_unless(is_call_name(word), Reason::UnknownName)
+        fault_unless(call.is_some(), Reason::UnknownName)
     }
 }
 
-/// The fault of an operand without quotes.
-fn word_fault(kind: Operand, word: &[u8]) -> Option<Reason>
+/// The fault of the operand at a place, which is this word.
+fn word_fault(kind: Operand, word: &[u8], operands: &Operands, place: usize) -> Option<Reason>
+    requires { slice_get operands.now place ≡ Some (Bare word.now) }
     ensures { result ≡ definitions.word_fault kind word.now }
 {
     match kind {
         Operand::Program => fault_unless(word.len() <= 64, Reason::OutOfRange),
         Operand::CallName => fault_unless(is_call_name(word), Reason::UnknownName),
-        Operand::Call => call_fault(word),
+        Operand::Call => call_fault(word, operands.number(place), operands.call(place)),
         Operand::Mode => fault_unless(is_mode(word), Reason::UnknownName),
         Operand::Listener => { fault_unless(word == b"listener".as_slice(), Reason::UnknownName) }
         Operand::Whom => { fault_unless(is_addressee(addressee_of(word)), Reason::UnknownName) }
         Operand::Task => fault_unless(is_task_text(word), Reason::BadNumber),
-        _ => number_fault(kind, word),
+        _ => number_fault(kind, operands.number(place)),
     }
 }
 
@@ -417,14 +425,15 @@ fn is_text(kind: Operand) -> bool
     matches!(kind, Operand::Path | Operand::Root | Operand::Text { .. })
 }
 
-/// The fault that an operand shows by itself.
-fn operand_fault(kind: Operand, token: &Token) -> Option<Reason>
-    ensures { result ≡ definitions.operand_fault kind token.now }
+/// The fault that the operand at a place shows by itself; none behind the last one.
+fn operand_fault(kind: Operand, operands: &Operands, place: usize) -> Option<Reason>
+    ensures { result ≡ definitions.fault_at kind operands.now place }
 {
-    match token {
-        Token::Bare(_) if is_text(kind) => Some(Reason::WrongForm),
-        Token::Bare(word) => word_fault(kind, word.items()),
-        Token::Quoted(bytes) => text_fault(kind, bytes.items()),
+    match operands.tokens().get(place) {
+        Some(Token::Bare(_)) if is_text(kind) => Some(Reason::WrongForm),
+        Some(Token::Bare(word)) => word_fault(kind, word.items(), operands, place),
+        Some(Token::Quoted(bytes)) => text_fault(kind, bytes.items()),
+        None => None,
     }
 }
 
@@ -459,16 +468,16 @@ fn earlier(one: Option<Reason>, other: Option<Reason>) -> Option<Reason>
 }
 
 /// The first fault that the operands show by themselves.
-#[tactic(auto, using(crate::proofs::Operands::faults_here, crate::proofs::Operands::faults_end))]
-fn fault_among(word: Word, operands: &[Token]) -> Option<Reason>
+#[tactic(auto, using(crate::proofs::OperandFaults::faults_end))]
+fn fault_among(word: Word, operands: &Operands) -> Option<Reason>
     ensures { result ≡ definitions.fault_from word operands.now 0 operands.now }
 {
     let mut found = None;
-    let mut place = operands.len();
+    let mut place = operands.tokens().len();
     while place > 0 {
         place -= 1;
         found = earlier(
-            operand_fault(operand_at(word, operands, place), &operands[place]),
+            operand_fault(operand_at(word, operands.tokens(), place), operands, place),
             found,
         );
     }
@@ -477,10 +486,10 @@ fn fault_among(word: Word, operands: &[Token]) -> Option<Reason>
 
 /// The fault that a line's operands show by themselves: their count, and then, whichever operand it is for, the reason that
 /// stands first in the table.
-pub fn operands_fault(word: Word, operands: &[Token]) -> Option<Reason>
+pub fn operands_fault(word: Word, operands: &Operands) -> Option<Reason>
     ensures { result ≡ definitions.operands_fault word operands.now }
 {
-    if is_counted(word, operands) {
+    if is_counted(word, operands.tokens()) {
         fault_among(word, operands)
     } else {
         Some(Reason::WrongCount)

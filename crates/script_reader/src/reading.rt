@@ -10,6 +10,7 @@ ghost use Rattle.script_reader.specs.declared.word.Part.{Part};
 
 use crate::error::Fault;
 use crate::operand::operands_fault;
+use crate::operands::Operands;
 use crate::statement::{Statement, statement_of};
 use crate::word::{Part, Word, belongs, word_of};
 use bpf_filter::{is_script_word, read_text};
@@ -59,6 +60,7 @@ fn word_statement(
     if !is_in_place(part, base_is_stated, word) {
         return Err(OrNoMemory::Refused(Fault::Wrong(Reason::OutOfPlace)));
     }
+    let operands = Operands::new(operands);
     if let Some(reason) = operands_fault(word, &operands) {
         return Err(OrNoMemory::Refused(Fault::Wrong(reason)));
     }

@@ -6,9 +6,9 @@ ghost use Rattle.hist_model.specs.declared.event.Actor.TheVariants.{Task, Worker
 ghost use Rattle.script_reader.specs.declared.statement.Statement.TheVariants.{Takes};
 
 use crate::operand::{Addressee, addressee_in, begins_number};
+use crate::operands::{Operands, token_bytes};
 use crate::paths::task_numbers;
 use crate::word::Word;
-use bpf_filter::number_at;
 use hist_model::event::{Actor, Mode};
 use hist_model::request::Node;
 use hist_model::script::{Figures, Insn, Instr, MapRange, Step, Whom};
@@ -95,20 +95,11 @@ fn into_bytes(token: Token) -> TokenBytes
     }
 }
 
-fn token_bytes(token: &Token) -> &[u8]
-    ensures { result.now ≡ definitions.token_bytes token.now }
-{
-    match token {
-        Token::Bare(bytes) => bytes.items(),
-        Token::Quoted(bytes) => bytes.items(),
-    }
-}
-
 /// The bytes of the operand at a place; none behind the last one.
-fn bytes_at(operands: &[Token], place: usize) -> &[u8]
+fn bytes_at(operands: &Operands, place: usize) -> &[u8]
     ensures { result.now ≡ definitions.bytes_at operands.now place }
 {
-    match operands.get(place) {
+    match operands.tokens().get(place) {
         Some(token) => token_bytes(token),
         None => &[],
     }
@@ -135,38 +126,38 @@ fn take_text(alloc: Global, operands: &mut Vec<Token>, place: usize) -> Text
 }
 
 /// The number of 8 bits at a place, and 0 where there is none.
-fn byte_at(operands: &[Token], place: usize) -> u8
+fn byte_at(operands: &Operands, place: usize) -> u8
     ensures { result ≡ definitions.byte_at operands.now place }
 {
-    u8::try_from(number_at(operands, place)).unwrap_or(0)
+    u8::try_from(operands.number_at(place)).unwrap_or(0)
 }
 
 /// The number of 16 bits at a place, and 0 where there is none.
-fn half_at(operands: &[Token], place: usize) -> u16
+fn half_at(operands: &Operands, place: usize) -> u16
     ensures { result ≡ definitions.half_at operands.now place }
 {
-    u16::try_from(number_at(operands, place)).unwrap_or(0)
+    u16::try_from(operands.number_at(place)).unwrap_or(0)
 }
 
 /// The number of 32 bits at a place, and 0 where there is none.
-fn word_at(operands: &[Token], place: usize) -> u32
+fn word_at(operands: &Operands, place: usize) -> u32
     ensures { result ≡ definitions.word_at operands.now place }
 {
-    u32::try_from(number_at(operands, place)).unwrap_or(0)
+    u32::try_from(operands.number_at(place)).unwrap_or(0)
 }
 
 /// The number of 64 bits at a place, and 0 where there is none.
-fn wide_at(operands: &[Token], place: usize) -> u64
+fn wide_at(operands: &Operands, place: usize) -> u64
     ensures { result ≡ definitions.wide_at operands.now place }
 {
-    u64::try_from(number_at(operands, place)).unwrap_or(0)
+    u64::try_from(operands.number_at(place)).unwrap_or(0)
 }
 
 /// An argument of a call, modulo 2^64; 0 where it is missing.
-fn argument_at(operands: &[Token], place: usize) -> u64
+fn argument_at(operands: &Operands, place: usize) -> u64
     ensures { result ≡ definitions.argument_at operands.now place }
 {
-    (number_at(operands, place).cast_unsigned() % (1 << 64)) as u64
+    (operands.number_at(place).cast_unsigned() % (1 << 64)) as u64
 }
 
 /// The number of the call with this name, and 0 where there is none.
@@ -177,32 +168,31 @@ fn call_named(name: &[u8]) -> i32
 }
 
 /// The number of a call at a place, below 2^31, and 0 where there is none.
-fn call_number_at(operands: &[Token], place: usize) -> i32
+fn call_number_at(operands: &Operands, place: usize) -> i32
     ensures { result ≡ pos (definitions.limited_at (2147483648) operands.now place) }
 {
-    match u32::try_from(number_at(operands, place)) {
+    match u32::try_from(operands.number_at(place)) {
         Ok(number) if number < 0x8000_0000 => number as i32,
         _ => 0,
     }
 }
 
-/// The number of the call that an operand states by its number or its name.
-fn call_at(operands: &[Token], place: usize) -> i32
-    ensures { result ≡ definitions.call_at operands.now place }
+/// The number of the call that the first operand states by its number or its name.
+fn first_call(operands: &Operands) -> i32
+    ensures { result ≡ definitions.call_at operands.now 0 }
 {
-    let word = bytes_at(operands, place);
-    if begins_number(word) {
-        call_number_at(operands, place)
+    if begins_number(bytes_at(operands, 0)) {
+        call_number_at(operands, 0)
     } else {
-        call_named(word)
+        operands.call(0).unwrap_or(0)
     }
 }
 
 /// How often an actor of the schedule steps.
-fn count_at(operands: &[Token], place: usize) -> u32
+fn count_at(operands: &Operands, place: usize) -> u32
     ensures { result ≡ definitions.count_at operands.now place }
 {
-    if operands.len() == 1 {
+    if operands.tokens().len() == 1 {
         1
     } else {
         word_at(operands, place)
@@ -221,10 +211,10 @@ fn mode_of(name: &[u8]) -> Mode
     }
 }
 
-fn kill(operands: &[Token]) -> Instr
+fn kill(operands: &Operands) -> Instr
     ensures { result ≡ definitions.kill_of (definitions.addressee_in operands.now) operands.now }
 {
-    let (whom, sig) = match addressee_in(operands) {
+    let (whom, sig) = match addressee_in(operands.tokens()) {
         Addressee::Child => (Whom::Child(word_at(operands, 1)), byte_at(operands, 2)),
         Addressee::Pid => (Whom::Pid(word_at(operands, 1)), byte_at(operands, 2)),
         Addressee::Parent => (Whom::Parent, byte_at(operands, 1)),
@@ -233,7 +223,7 @@ fn kill(operands: &[Token]) -> Instr
     Instr::Kill { whom, sig }
 }
 
-fn figures(operands: &[Token]) -> Figures
+fn figures(operands: &Operands) -> Figures
     ensures { result ≡ definitions.stated_figures operands.now }
 {
     Figures {
@@ -250,7 +240,7 @@ fn figures(operands: &[Token]) -> Figures
     }
 }
 
-fn arguments(operands: &[Token]) -> [u64; 6]
+fn arguments(operands: &Operands) -> [u64; 6]
     ensures { result ≡ definitions.arguments operands.now }
 {
     [
@@ -263,45 +253,57 @@ fn arguments(operands: &[Token]) -> [u64; 6]
     ]
 }
 
-fn call(operands: &[Token]) -> Instr
+fn call(operands: &Operands) -> Instr
     ensures { result ≡ definitions.call_of operands.now }
 {
     Instr::Call {
-        nr: call_at(operands, 0),
+        nr: first_call(operands),
         args: arguments(operands),
     }
 }
 
-fn node(alloc: Global, operands: &mut Vec<Token>, node: Node) -> Statement
-    ensures { result ≡ definitions.node_stated operands.old.items node }
+/// Takes the bytes of the first operand; none where there is none.
+fn take_first(alloc: Global, operands: Operands) -> TokenBytes
+    ensures { result ≡ definitions.bytes_at operands 0 }
+{
+    take_bytes(alloc, &mut operands.into_tokens(), 0)
+}
+
+fn node(alloc: Global, operands: Operands, node: Node) -> Statement
+    ensures { result ≡ definitions.node_stated operands node }
 {
     Statement::Node {
-        path: take_bytes(alloc, operands, 0),
+        path: take_first(alloc, operands),
         node,
     }
 }
 
-fn link(alloc: Global, operands: &mut Vec<Token>) -> Statement
-    ensures { result ≡ definitions.link_stated operands.old.items }
+fn link(alloc: Global, operands: Operands) -> Statement
+    ensures { result ≡ definitions.link_stated operands }
 {
-    let target = take_text(alloc, operands, 1);
-    node(alloc, operands, Node::Link(target))
+    let mut tokens = operands.into_tokens();
+    let target = take_text(alloc, &mut tokens, 1);
+    Statement::Node {
+        path: take_bytes(alloc, &mut tokens, 0),
+        node: Node::Link(target),
+    }
 }
 
-fn attr(alloc: Global, operands: &mut Vec<Token>) -> Statement
-    ensures { result ≡ definitions.attr_stated operands.old.items }
+fn attr(alloc: Global, operands: Operands) -> Statement
+    ensures { result ≡ definitions.attr_stated operands }
 {
-    let value = take_text(alloc, operands, 2);
-    let name = take_text(alloc, operands, 1);
-    let path = take_bytes(alloc, operands, 0);
+    let mut tokens = operands.into_tokens();
+    let value = take_text(alloc, &mut tokens, 2);
+    let name = take_text(alloc, &mut tokens, 1);
+    let path = take_bytes(alloc, &mut tokens, 0);
     Statement::Attr { path, name, value }
 }
 
-fn poke(alloc: Global, operands: &mut Vec<Token>) -> Instr
-    ensures { result ≡ definitions.poke_of operands.old.items }
+fn poke(alloc: Global, operands: Operands) -> Instr
+    ensures { result ≡ definitions.poke_of operands }
 {
-    let addr = wide_at(operands, 0);
-    let bytes = take_text(alloc, operands, 1);
+    let addr = wide_at(&operands, 0);
+    let bytes = take_text(alloc, &mut operands.into_tokens(), 1);
     Instr::Poke { addr, bytes }
 }
 
@@ -314,7 +316,7 @@ fn call_numbers(alloc: Global, names: &[Token]) -> Result<Vec<i32>, AllocError>
         .collect(alloc)
 }
 
-fn task_step(alloc: Global, operands: &[Token]) -> Result<Step, NoMemory>
+fn task_step(alloc: Global, operands: &Operands) -> Result<Step, NoMemory>
     ensures { IfOk result (λ step. step ≡ definitions.task_step operands.now) }
 {
     let name = TaskName::new(task_numbers(alloc, bytes_at(operands, 0))?);
@@ -324,7 +326,7 @@ fn task_step(alloc: Global, operands: &[Token]) -> Result<Step, NoMemory>
     })
 }
 
-fn worker_step(operands: &[Token]) -> Step
+fn worker_step(operands: &Operands) -> Step
     ensures { result ≡ definitions.worker_step operands.now }
 {
     Step {
@@ -334,32 +336,31 @@ fn worker_step(operands: &[Token]) -> Step
 }
 
 /// What a line with this word states, where its operands have no fault. Texts are moved.
-pub fn statement_of(alloc: Global, word: Word, operands: Vec<Token>) -> Result<Statement, NoMemory>
-    ensures { IfOk result (λ s. s ≡ definitions.statement word operands.items) }
+pub fn statement_of(alloc: Global, word: Word, operands: Operands) -> Result<Statement, NoMemory>
+    ensures { IfOk result (λ s. s ≡ definitions.statement word operands) }
 {
-    let mut operands = operands;
     Ok(match word {
         Word::Pidmax => Statement::Pidmax(word_at(&operands, 0)),
         Word::Pidbase => Statement::Pidbase(word_at(&operands, 0)),
         Word::Firstid => Statement::Firstid(wide_at(&operands, 0)),
         Word::Rlimit => Statement::Rlimit(word_at(&operands, 0)),
         Word::Killable => Statement::Killable,
-        Word::Dir => node(alloc, &mut operands, Node::Dir),
-        Word::Reg => node(alloc, &mut operands, Node::Reg),
-        Word::Fifo => node(alloc, &mut operands, Node::Fifo),
-        Word::Sock => node(alloc, &mut operands, Node::Sock),
-        Word::Link => link(alloc, &mut operands),
+        Word::Dir => node(alloc, operands, Node::Dir),
+        Word::Reg => node(alloc, operands, Node::Reg),
+        Word::Fifo => node(alloc, operands, Node::Fifo),
+        Word::Sock => node(alloc, operands, Node::Sock),
+        Word::Link => link(alloc, operands),
         Word::Chr => {
             let device = Node::Chr(word_at(&operands, 1), word_at(&operands, 2));
-            node(alloc, &mut operands, device)
+            node(alloc, operands, device)
         }
         Word::Blk => {
             let device = Node::Blk(word_at(&operands, 1), word_at(&operands, 2));
-            node(alloc, &mut operands, device)
+            node(alloc, operands, device)
         }
-        Word::Attr => attr(alloc, &mut operands),
+        Word::Attr => attr(alloc, operands),
         Word::Root => Statement::Root {
-            path: take_bytes(alloc, &mut operands, 0),
+            path: take_first(alloc, operands),
         },
         Word::Broker => Statement::Broker(word_at(&operands, 0)),
         Word::Map => Statement::Map(MapRange {
@@ -371,14 +372,14 @@ pub fn statement_of(alloc: Global, word: Word, operands: Vec<Token>) -> Result<S
             swap: wide_at(&operands, 1),
         },
         Word::Figures => Statement::Figures(figures(&operands)),
-        Word::Notify => Statement::Notify(Sequence::new(call_numbers(alloc, &operands)?)),
+        Word::Notify => Statement::Notify(Sequence::new(call_numbers(alloc, operands.tokens())?)),
         Word::Filter => Statement::Filter {
-            listener: !operands.is_empty(),
+            listener: !operands.tokens().is_empty(),
         },
         Word::Prog => Statement::Prog {
-            name: take_bytes(alloc, &mut operands, 0),
+            name: take_first(alloc, operands),
         },
-        Word::Poke => Statement::Does(poke(alloc, &mut operands)),
+        Word::Poke => Statement::Does(poke(alloc, operands)),
         Word::Fill => Statement::Does(Instr::Fill {
             addr: wide_at(&operands, 0),
             len: word_at(&operands, 1),
@@ -387,11 +388,11 @@ pub fn statement_of(alloc: Global, word: Word, operands: Vec<Token>) -> Result<S
         Word::Call => Statement::Does(call(&operands)),
         Word::Spawn => Statement::Starts {
             thread: false,
-            name: take_bytes(alloc, &mut operands, 0),
+            name: take_first(alloc, operands),
         },
         Word::Thread => Statement::Starts {
             thread: true,
-            name: take_bytes(alloc, &mut operands, 0),
+            name: take_first(alloc, operands),
         },
         Word::Kill => Statement::Does(kill(&operands)),
         Word::Handler => Statement::Does(Instr::Handler {

@@ -1,7 +1,7 @@
 //! The words that begin the lines of a script, and the parts in which they may stand.
 
 ghost use Rattle.std.specs.Prelude.{◌≡◌};
-ghost use Rattle.script_reader.specs.Words.{belongs, in_block, rows_of, word_in, word_of};
+ghost use Rattle.script_reader.specs.Words.{belongs, in_block, rows_of, slot_of, word_at, word_of};
 
 /// The word that begins a line, but for those of a filter's instructions.
 #[derive(Clone, Copy)]
@@ -103,19 +103,43 @@ const WORDS: [Row; 34] = [
     ("end", Word::End),
 ];
 
-/// The word of a table that is written so.
-fn word_in(table: &[Row], bytes: &[u8]) -> Option<Word>
-    ensures { result ≡ word_in (rows_of table.now) bytes.now }
+/// For each slot the place among [`WORDS`] of the word that has it, and 34 where none has.
+const PLACES: [u8; 128] = [
+    34, 34, 13, 14, 34, 34, 34, 34, 34, 24, 18, 34, 34, 34, 29, 34, 34, 27, 34, 16, 34, 34, 34, 34,
+    34, 34, 34, 34, 34, 34, 34, 34, 34, 34, 34, 31, 34, 34, 34, 34, 12, 34, 34, 33, 34, 34, 3, 34,
+    34, 34, 28, 34, 34, 34, 34, 34, 34, 2, 34, 32, 34, 34, 34, 34, 34, 34, 0, 34, 17, 34, 34, 34,
+    34, 34, 21, 34, 19, 34, 34, 10, 34, 34, 25, 1, 34, 34, 20, 5, 34, 34, 23, 34, 30, 34, 34, 34,
+    22, 34, 34, 34, 34, 34, 8, 34, 34, 34, 26, 34, 34, 34, 34, 34, 34, 34, 6, 34, 7, 34, 34, 34,
+    15, 34, 11, 9, 34, 4, 34, 34,
+];
+
+/// The slot of bytes, by their length, the first and the last of them. No two words have the same.
+fn slot_of(bytes: &[u8]) -> usize
+    ensures { result ≡ slot_of bytes.now }
 {
-    let row = table.iter().find(|row| row.0.as_bytes() == bytes)?;
-    Some(row.1)
+    match (bytes.first(), bytes.last()) {
+        (Some(&first), Some(&last)) => {
+            (2 * first as usize + 6 * last as usize + 3 * (bytes.len() % 128)) % 128
+        }
+        _ => 0,
+    }
 }
 
-/// The word that is written so.
+/// The word of the row at a place of a table, where the row is written so.
+fn word_at(table: &[Row], place: usize, bytes: &[u8]) -> Option<Word>
+    ensures { result ≡ word_at (rows_of table.now) place bytes.now }
+{
+    match table.get(place) {
+        Some(row) if row.0.as_bytes() == bytes => Some(row.1),
+        _ => None,
+    }
+}
+
+/// The word that is written so. It is the one with the slot of these bytes, or none.
 pub fn word_of(bytes: &[u8]) -> Option<Word>
     ensures { result ≡ word_of bytes.now }
 {
-    word_in(&WORDS, bytes)
+    word_at(&WORDS, PLACES[slot_of(bytes)] as usize, bytes)
 }
 
 /// Whether lines with this word belong to a part: settings, and then programs and at most one schedule, each block with its

@@ -1,6 +1,6 @@
 -- Each word's statement is made by its own arm.
 use Rattle.std.proofs.Common.{rules, ap, sym, ◌∙◌}
-use Rattle.script_reader.specs.Statements.{call_of, statement}
+use Rattle.script_reader.specs.Statements.{statement}
 use Rattle.script_reader.specs.declared.statement.Statement.TheVariants.{Does}
 use Rattle.script_reader.proofs.statement.statement_of.Goals as goal
 use Rattle.script_reader.proofs.statement.statement_of.Goals.{in-Pidmax, in-Pidbase, in-Firstid, in-Rlimit, in-Killable, in-Dir, in-Reg, in-Fifo, in-Sock, in-Link, in-Chr, in-Blk, in-Attr, in-Root, in-Broker, in-Map, in-Cgroup, in-Figures, in-Notify+in_ok-call_numbers-in-Notify, in-Filter, in-Prog, in-Poke, in-Fill, in-Call, in-Spawn, in-Thread, in-Kill, in-Handler, in-Wait, in-Exit, in-Schedule, in-Task+in_ok-task_step-in-Task, in-Worker, in-End}
@@ -31,7 +31,7 @@ returns c =
       | in-Prog w ↦ search rules
       | in-Poke w ↦ search rules
       | in-Fill w ↦ search rules
-      | in-Call w ↦ w.result-is ∙ (ap Does (w.call.ensures ∙ ap call_of w.deref-in-Call.ensures.value) ∙ ap (λ x. statement x c.args.operands.items) (sym w.in-Call.is))
+      | in-Call w ↦ w.result-is ∙ (ap Does w.call.ensures ∙ ap (λ x. statement x c.args.operands) (sym w.in-Call.is))
       | in-Spawn w ↦ search rules
       | in-Thread w ↦ search rules
       | in-Kill w ↦ search rules
