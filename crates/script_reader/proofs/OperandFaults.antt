@@ -1,5 +1,5 @@
--- The faults of the operands from a place on, found from the last one to the first.
--- By the definition of `fault_from`, with `drop_more` and `drop_all` on the operands that are left.
+-- The faults of the operands from a place on, found from the last one to the first, and what an operand says by what was kept of it.
+-- By the definition of `fault_from`, with `drop_more` and `drop_all` on the operands that are left, and by cases on the operand.
 use Rattle.std.proofs.Common.{◌≡◌, ℕ, zero, suc, ◌+◌, ◌<◌, ◌≤◌, List, [], ◌∷◌, length, drop, get_or, Option, Some, None, refl, ap, sym, inl, inr, arith, unwrap_or, slice_get, if◌then◌else◌, ◌∙◌}
 use Rattle.std.specs.Prelude.{false, pos}
 use Rattle.std.specs.Option.{option_and_then}
