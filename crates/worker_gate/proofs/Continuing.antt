@@ -1,6 +1,6 @@
 -- What a machine that keeps a limit keeps after a try of an actor, and after a try behind one that made no step.
 -- By cases on the limit and on whether the actor stepped: a step that was made is no skip, and its actor is within the limit.
-use Rattle.std.proofs.Common.{◌≡◌, ℕ, ◌≤◌, Bool, true, false, List, [], ◌∷◌, Option, Some, None, refl, ◌∙◌, arith}
+use Rattle.std.proofs.Common.{◌≡◌, ℕ, ◌≤◌, Bool, true, false, List, [], ◌∷◌, Option, Some, None, refl, inl, inr, ◌∙◌, arith}
 use Rattle.std.specs.Prelude.{Result, Ok, Err, IfOk, OnErr, ⊤}
 use Rattle.hist_model.specs.Kinds.{skips}
 use Rattle.hist_model.specs.Legal.{IsWithin}
@@ -12,7 +12,7 @@ use Rattle.hist_model.specs.declared.event.What.{What}
 use Rattle.hist_model.specs.declared.policy.Policy.{Policy}
 use Rattle.model_kernel.specs.Kernels.{past}
 use Rattle.turn_lock.proofs.Lists.{begins_trans}
-use Rattle.worker_gate.specs.Keeping.{Continues, IsKept, IsWithinLimit, MayServe}
+use Rattle.worker_gate.specs.Keeping.{Adds, AddsTask, Continues, IsKept, IsWithinLimit, MayServe}
 use Rattle.broker_machine.specs.Serving.{Reaches, Tries}
 use Rattle.broker_machine.specs.declared.machine.Machine.{Machine}
 
@@ -59,11 +59,28 @@ module _ (P : Policy) (limit : Option ℕ) (old new : Machine) (kept : IsKept P 
   went_on a may (Ok b) done same = tried_on a may b done
   went_on a may (Err e) done same = stayed_on same
 
+module _ (P : Policy) (old new : Machine) where
+  -- what a try adds to the history
+  pub tried : {E : Type 0} (a : Actor) (r : Result Bool E) → IfOk r (λ b. Tries P old a b new) → IfOk r (λ b. Adds a b (past old.kernel) (past new.kernel))
+  tried a (Ok true) t = (_, t.0.events)
+  tried a (Ok false) t = t.0.events
+  tried a (Err e) t = tt
+
+  -- without memory, nothing
+  pub lacked : {E : Type 0} (r : Result Bool E) → OnErr r (Reaches P old (past old.kernel) new) → OnErr r (past new.kernel ≡ past old.kernel)
+  lacked (Ok b) same = tt
+  lacked (Err e) same = same.events
+
+  -- what a task's try adds, with memory or without
+  pub task_tried : {E : Type 0} (n : Name) (r : Result Bool E) → IfOk r (λ b. Tries P old (Task n) b new) → OnErr r (Reaches P old (past old.kernel) new) → AddsTask (past old.kernel) (past new.kernel)
+  task_tried n (Ok true) t same = inr (n, _, t.0.events)
+  task_tried n (Ok false) t same = inl t.0.events
+  task_tried n (Err e) t same = inl same.events
+
 -- an actor that waited left the history as it was
-pub waited : {E : Type 0} (P : Policy) (old new : Machine) (a : Actor) (r : Result Bool E) → IfOk r (λ b. Tries P old a b new) → IfOk r (λ b. b ≡ false → past new.kernel ≡ past old.kernel)
-waited P old new a (Ok true) t = λ e. cc
-waited P old new a (Ok false) t = λ e. t.0.events
-waited P old new a (Err e) t = tt
+pub waited : (a : Actor) (b : Bool) (K H : List Event) → Adds a b K H → b ≡ false → H ≡ K
+waited a true K H s e = absurd cc
+waited a false K H s e = s
 
 -- going on after that is going on
 pub continues_after : (P : Policy) (limit : Option ℕ) (a b c : Machine) → past b.kernel ≡ past a.kernel → Continues P limit a b → Continues P limit b c → Continues P limit a c

@@ -1,8 +1,12 @@
 -- What the state behind the listener's lock keeps of its history, and what contracts see of it.
-use Rattle.std.specs.Prelude.{◌≡◌, ℕ, ◌+◌, ◌≤◌, List, length, Option, Some, None, ⊤}
+use Rattle.std.specs.Prelude.{◌≡◌, ℕ, ◌+◌, ◌≤◌, ◌⊎◌, Bool, true, false, List, ◌∷◌, length, Option, Some, None, ⊤}
 use Rattle.hist_model.specs.Histories.{Seen}
 use Rattle.hist_model.specs.Legal.{NoSkip, NoWorkerAbove}
+use Rattle.hist_model.specs.Look.{Name, ev}
+use Rattle.hist_model.specs.declared.event.Actor.{Actor}
+use Rattle.hist_model.specs.declared.event.Actor.TheVariants.{Task}
 use Rattle.hist_model.specs.declared.event.Event.{Event}
+use Rattle.hist_model.specs.declared.event.What.{What}
 use Rattle.hist_model.specs.declared.history.Setup.{Setup}
 use Rattle.hist_model.specs.declared.policy.Policy.{Policy}
 use Rattle.model_kernel.specs.Kernels.{past}
@@ -37,3 +41,12 @@ pub record Continues (P : Policy) (limit : Option ℕ) (old new : Machine) : Typ
   pub script : new.kernel.script ≡ old.kernel.script
   pub begins : Begins (past new.kernel) (past old.kernel)
   pub one : length (past new.kernel) ≤ length (past old.kernel) + 1
+
+-- an actor took a step, which is the newest event; or it waited, and the history is as it was
+abbrev pub Adds : Actor → Bool → List Event → List Event → Type 0
+Adds a true K H = (what : What) × (H ≡ ev a what ∷ K)
+Adds a false K H = H ≡ K
+
+-- a task took a step, or nobody did
+abbrev pub AddsTask : List Event → List Event → Type 0
+AddsTask K H = (H ≡ K) ⊎ ((n : Name) × (what : What) × (H ≡ ev (Task n) what ∷ K))

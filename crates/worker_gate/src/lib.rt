@@ -5,7 +5,8 @@
 //! no lock. At the end the listener is closed.
 //!
 //! `serve_hands` lets threads step instead of a schedule (`hands`), each of their turns a step of a worker or of a task
-//! (`serving`). Which task is tried is a hint (`runnable`), and a hand with nothing to do sleeps (`wait_queues`).
+//! (`serving`). Which task is tried is a hint (`runnable`), and a hand with nothing to do sleeps (`wait_queues`). Hands of another
+//! kind take the same steps one by one (`steps`), and sleep in the same queues.
 //!
 //! Its model is the history that `Legal` of `hist_model` plays from a policy and a script; what the state behind the lock keeps of
 //! it is `specs/Keeping.antt`.
@@ -20,6 +21,7 @@ mod schedule;
 mod scheduled;
 mod served;
 mod serving;
+mod steps;
 mod wait_queues;
 
 pub use gate::{Gate, OpenGate, Point};
@@ -27,3 +29,4 @@ pub use hands::serve_hands;
 pub use schedule::{Played, play, schedule_of};
 pub use scheduled::play_schedule;
 pub use served::Served;
+pub use wait_queues::{Awaits, Sleepers, WaitQueues, Work};

@@ -1,9 +1,10 @@
 //! What a hand does in a turn of the listener's lock: one step, of its worker or of a task that is worth a try.
 
-ghost use Rattle.std.specs.Prelude.{◌≡◌, ◌<◌, ◌^◌, IfOk, Some, false, length, true};
+ghost use Rattle.std.specs.Prelude.{◌≡◌, ◌<◌, ◌^◌, IfOk, OnErr, Some, false, length, true};
 ghost use Rattle.hist_model.specs.Legal.{Finished};
+ghost use Rattle.hist_model.specs.declared.event.Actor.TheVariants.{Worker};
 ghost use Rattle.model_kernel.specs.Kernels.{past};
-ghost use Rattle.worker_gate.specs.Keeping.{Continues, IsKept, MayServe};
+ghost use Rattle.worker_gate.specs.Keeping.{Adds, AddsTask, Continues, IsKept, MayServe};
 
 use crate::gate::Point;
 use crate::served::Serving;
@@ -76,11 +77,12 @@ fn reached(step: &What, good_checks: &mut u8) -> Came {
 
 impl Serving {
     /// A worker's step, unless it waits; says whether it made one.
-    fn step_worker(&mut self, alloc: Global, number: u8) -> Result<bool, NoMemory>
+    pub(crate) fn step_worker(&mut self, alloc: Global, number: u8) -> Result<bool, NoMemory>
         requires kept { IsKept self.old.policy self.old.limit self.old.machine }
         requires may { MayServe self.old.limit (Some number) }
         ensures goes_on { Continues self.new.policy self.new.limit self.old.machine self.new.machine }
-        ensures waits { IfOk result (λ stepped. stepped ≡ false → past self.new.machine.kernel ≡ past self.old.machine.kernel) }
+        ensures step { IfOk result (λ stepped. Adds (Worker number) stepped (past self.old.machine.kernel) (past self.new.machine.kernel)) }
+        ensures none { OnErr result (past self.new.machine.kernel ≡ past self.old.machine.kernel) }
         ensures setup { (self.new.policy ≡ self.old.policy) × (self.new.limit ≡ self.old.limit) }
     {
         self.machine.try_worker(alloc, &self.policy, number)
@@ -90,6 +92,7 @@ impl Serving {
     fn step_task(&mut self, alloc: Global, task: u32) -> Result<bool, NoMemory>
         requires kept { IsKept self.old.policy self.old.limit self.old.machine }
         ensures goes_on { Continues self.new.policy self.new.limit self.old.machine self.new.machine }
+        ensures step { AddsTask (past self.old.machine.kernel) (past self.new.machine.kernel) }
         ensures setup { (self.new.policy ≡ self.old.policy) × (self.new.limit ≡ self.old.limit) }
     {
         if self.machine.is_task(task) {
@@ -99,28 +102,54 @@ impl Serving {
         }
     }
 
-    /// A step of the task that is tried next, if it can step. Where no task is worth a try, the hand waits.
-    fn try_next(&mut self, alloc: Global, awaits: Awaits) -> Result<Came, NoMemory>
-        requires kept { IsKept self.old.policy self.old.limit self.old.machine }
-        ensures goes_on { Continues self.new.policy self.new.limit self.old.machine self.new.machine }
-        ensures setup { (self.new.policy ≡ self.old.policy) × (self.new.limit ≡ self.old.limit) }
-    {
-        match self.runnable.take() {
-            Some(task) => self.try_task(alloc, task),
-            None => Ok(Came::Waits(awaits)),
-        }
-    }
-
     /// A step of a task, if it can step, which is then tried again after the others.
-    fn try_task(&mut self, alloc: Global, task: u32) -> Result<Came, NoMemory>
+    fn try_task(&mut self, alloc: Global, task: u32) -> Result<(), NoMemory>
         requires kept { IsKept self.old.policy self.old.limit self.old.machine }
         ensures goes_on { Continues self.new.policy self.new.limit self.old.machine self.new.machine }
+        ensures step { AddsTask (past self.old.machine.kernel) (past self.new.machine.kernel) }
         ensures setup { (self.new.policy ≡ self.old.policy) × (self.new.limit ≡ self.old.limit) }
     {
         if self.step_task(alloc, task)? {
             self.runnable.put(task)?;
         }
-        Ok(Came::Stepped)
+        Ok(())
+    }
+
+    /// A step of the task that is tried next, if it can step; says whether a task was worth a try.
+    pub(crate) fn try_next(&mut self, alloc: Global) -> Result<bool, NoMemory>
+        requires kept { IsKept self.old.policy self.old.limit self.old.machine }
+        ensures goes_on { Continues self.new.policy self.new.limit self.old.machine self.new.machine }
+        ensures step { AddsTask (past self.old.machine.kernel) (past self.new.machine.kernel) }
+        ensures setup { (self.new.policy ≡ self.old.policy) × (self.new.limit ≡ self.old.limit) }
+    {
+        match self.runnable.take() {
+            Some(task) => {
+                self.try_task(alloc, task)?;
+                Ok(true)
+            }
+            None => Ok(false),
+        }
+    }
+
+    /// A step of the task that is tried next, if it can step. Where no task is worth a try, the hand waits.
+    fn try_or_wait(&mut self, alloc: Global, awaits: Awaits) -> Result<Came, NoMemory>
+        requires kept { IsKept self.old.policy self.old.limit self.old.machine }
+        ensures goes_on { Continues self.new.policy self.new.limit self.old.machine self.new.machine }
+        ensures setup { (self.new.policy ≡ self.old.policy) × (self.new.limit ≡ self.old.limit) }
+    {
+        if self.try_next(alloc)? {
+            Ok(Came::Stepped)
+        } else {
+            Ok(Came::Waits(awaits))
+        }
+    }
+
+    /// Reads the history's new events, and tells whether a worker's request may have come to something by them.
+    pub(crate) fn catch_up(&mut self) -> Result<bool, NoMemory>
+        ensures machine { self.new.machine ≡ self.old.machine }
+        ensures setup { (self.new.policy ≡ self.old.policy) × (self.new.limit ≡ self.old.limit) }
+    {
+        self.runnable.catch_up(self.machine.kernel())
     }
 
     /// What a worker came to by the newest event.
@@ -143,8 +172,8 @@ impl Serving {
             self.runnable.note_no_call();
         }
         match (role.steps_tasks, has_request) {
-            (true, true) => self.try_next(alloc, Awaits::RequestOrTask),
-            (true, false) => self.try_next(alloc, Awaits::CallOrTask),
+            (true, true) => self.try_or_wait(alloc, Awaits::RequestOrTask),
+            (true, false) => self.try_or_wait(alloc, Awaits::CallOrTask),
             (false, true) => Ok(Came::Waits(Awaits::Request)),
             (false, false) => Ok(Came::Waits(Awaits::Call)),
         }
@@ -184,7 +213,7 @@ impl Serving {
     {
         match role.worker {
             Some(number) => self.work(alloc, role, number, good_checks),
-            None => self.try_next(alloc, Awaits::Task),
+            None => self.try_or_wait(alloc, Awaits::Task),
         }
     }
 
@@ -212,9 +241,9 @@ impl Serving {
         ensures setup { (self.new.policy ≡ self.old.policy) × (self.new.limit ≡ self.old.limit) }
     {
         // The script's start makes the first task, before any hand's turn.
-        let _ = self.runnable.catch_up(self.machine.kernel())?;
+        let _ = self.catch_up()?;
         let came = self.take_step(alloc, role, good_checks)?;
-        let settled = self.runnable.catch_up(self.machine.kernel())?;
+        let settled = self.catch_up()?;
         Ok(Turned {
             came,
             settled,
@@ -224,7 +253,7 @@ impl Serving {
     }
 
     /// Whether hands are done: nothing is left to do, or one of them found no memory.
-    fn is_over(&self) -> bool
+    pub(crate) fn is_over(&self) -> bool
         requires { IsKept self.now.policy self.now.limit self.now.machine }
     {
         self.lacks_memory || self.machine.finished()

@@ -11,7 +11,7 @@ use std::sync::{Condvar, Mutex, MutexGuard, Wait};
 
 /// What a hand waits for.
 #[derive(Clone, Copy, PartialEq, Eq, Debug)]
-pub(crate) enum Awaits {
+pub enum Awaits {
     /// A call to receive.
     Call,
     /// The outcome of its worker's request for a descriptor.
@@ -26,16 +26,16 @@ pub(crate) enum Awaits {
 
 /// Which kinds of work there are, or which a hand seeks.
 #[derive(Clone, Copy, PartialEq, Eq, Debug)]
-pub(crate) struct Work {
+pub struct Work {
     /// Calls to receive.
-    pub(crate) calls: bool,
+    pub calls: bool,
     /// Tasks that may step.
-    pub(crate) tasks: bool,
+    pub tasks: bool,
 }
 
 impl Work {
     /// No work.
-    pub(crate) const NONE: Work = Work {
+    pub const NONE: Work = Work {
         calls: false,
         tasks: false,
     };
@@ -117,7 +117,7 @@ impl Waiting {
 
 /// Who waits for what.
 #[derive(Clone, Copy, Debug)]
-pub(crate) struct Sleepers {
+pub struct Sleepers {
     call: Waiting,
     request: Waiting,
     task: Waiting,
@@ -140,7 +140,7 @@ impl Sleepers {
 
 /// The door behind which hands take their turns, and where they sleep.
 #[derive(Drop)]
-pub(crate) struct WaitQueues {
+pub struct WaitQueues {
     door: Mutex<Sleepers>,
     seekers: Seekers,
     call: Condvar,
@@ -152,7 +152,7 @@ pub(crate) struct WaitQueues {
 
 impl WaitQueues {
     /// The queues with all hands awake.
-    pub(crate) fn new() -> WaitQueues {
+    pub fn new() -> WaitQueues {
         WaitQueues {
             door: Mutex::new(Sleepers {
                 call: Waiting::NONE,
@@ -174,17 +174,17 @@ impl WaitQueues {
     }
 
     /// Waits for the door.
-    pub(crate) fn enter<R: Wait>(&self, rt: &R) -> MutexGuard<'_, Sleepers> {
+    pub fn enter<R: Wait>(&self, rt: &R) -> MutexGuard<'_, Sleepers> {
         self.door.lock(rt)
     }
 
     /// A hand begins to seek this work.
-    pub(crate) fn seek(&self, sought: Work) {
+    pub fn seek(&self, sought: Work) {
         self.seekers.add(sought);
     }
 
     /// A hand seeks no longer what it sought.
-    pub(crate) fn found(&self, sought: Work) {
+    pub fn found(&self, sought: Work) {
         self.seekers.remove(sought);
     }
 
@@ -200,7 +200,7 @@ impl WaitQueues {
     }
 
     /// Leaves the door, and sleeps until it is woken. It tells what the hand then seeks.
-    pub(crate) fn sleep<R: Wait>(
+    pub fn sleep<R: Wait>(
         &self,
         rt: &R,
         mut door: MutexGuard<'_, Sleepers>,
@@ -217,7 +217,7 @@ impl WaitQueues {
     }
 
     /// Wakes one that waits for this, if one does. From now on it seeks what it waited for.
-    fn wake_one(&self, sleepers: &mut Sleepers, awaits: Awaits) -> bool {
+    pub fn wake_one(&self, sleepers: &mut Sleepers, awaits: Awaits) -> bool {
         let waiting = sleepers.waiting(awaits);
         if waiting.asleep == 0 {
             return false;
@@ -237,7 +237,7 @@ impl WaitQueues {
     }
 
     /// Wakes one for each kind of the work that is left and that nobody seeks who is awake.
-    pub(crate) fn wake_for(&self, sleepers: &mut Sleepers, left: Work) {
+    pub fn wake_for(&self, sleepers: &mut Sleepers, left: Work) {
         if self.seekers.unsought(left).calls && !self.wake_one(sleepers, Awaits::Call) {
             let _ = self.wake_one(sleepers, Awaits::CallOrTask);
         }
@@ -250,13 +250,13 @@ impl WaitQueues {
     }
 
     /// Wakes all whose worker's request may have come to something.
-    pub(crate) fn wake_takers(&self, sleepers: &mut Sleepers) {
+    pub fn wake_takers(&self, sleepers: &mut Sleepers) {
         self.wake_each(sleepers, Awaits::Request);
         self.wake_each(sleepers, Awaits::RequestOrTask);
     }
 
     /// Wakes all, since nothing is left to do.
-    pub(crate) fn wake_all(&self, sleepers: &mut Sleepers) {
+    pub fn wake_all(&self, sleepers: &mut Sleepers) {
         self.wake_takers(sleepers);
         self.wake_each(sleepers, Awaits::Call);
         self.wake_each(sleepers, Awaits::Task);
