@@ -123,7 +123,7 @@ module _ (S : Script) (K : List Event) (w : ℕ) where
   answers Deed.LetGo l = record { fits = tt; step = refl }
 
 -- a worker's own event is remembered as its step, unless it is a skip
-own-step : (K : List Event) (w : ℕ) (what : What) → session (ev (WorkerActor w) what ∷ K) w ≡ with_step what (session K w)
+pub own-step : (K : List Event) (w : ℕ) (what : What) → session (ev (WorkerActor w) what ∷ K) w ≡ with_step what (session K w)
 own-step K w what = elim (cases_Bool (skips what)) [
   | inl h ↦ session-skip (ev (WorkerActor w) what) K w h ∙ sym (rw h refl)
   | inr h ↦ session-own (ev (WorkerActor w) what) K w (eq-eqb w w refl) h ∙ sym (rw h refl)
@@ -144,11 +144,11 @@ module _ (P : Policy) (S : Script) (K : List Event) (n : ℕ) where
   pub fits_due : (x : Worker) (a : Answer) → a ≡ answer_of next_step → due x ≡ shown next_deed → Fits (due x) a
   fits_due x a q d = rw (d, q) answered.fits
 
-  -- and what is remembered then is the session after the event
+  -- and what is remembered then is the session with that step
   pub remembers_turn : (x y : Worker) (a : Answer) → x.figures ≡ S.figures → a ≡ answer_of next_step → Remembers P (session K n) x
       → ((Q : Policy) (own : List What) → Remembers Q own x → Remembers Q (with_step (step_of (deed (rules_of Q x.figures) own) a) own) y)
-      → Remembers P (session (ev (WorkerActor n) next_step ∷ K) n) y
+      → Remembers P (with_step next_step (session K n)) y
   remembers_turn x y a f q r h =
       let taken = λ (G : Figures) (b : Answer). Remembers P (with_step (step_of (deed (rules_of P G) (session K n)) b) (session K n)) y in
       let u : taken S.figures (answer_of next_step) = subst (λ b. taken S.figures b) q (subst (λ G. taken G a) f (h P (session K n) r)) in
-      subst (λ own. Remembers P own y) (sym (own-step K n next_step)) (subst (λ v. Remembers P (with_step v (session K n)) y) answered.step u)
+      subst (λ v. Remembers P (with_step v (session K n)) y) answered.step u

@@ -3,8 +3,7 @@ pub mod Sessions
 pub mod Fitting
 pub mod Rooms
 pub mod Allowed
-pub mod Done
+pub mod Answered
 pub mod Remembering
 pub mod Turns
 pub mod Tasks
-pub mod Tried

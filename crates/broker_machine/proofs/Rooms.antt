@@ -23,6 +23,10 @@ readied old new k events same =
 pub supplied : (old new : Kernel) → IsKernel new → new ≡ record old { resources = new.resources } → IsSame old new
 supplied old new k same = record { kernel = k; script = ap (λ (x : Kernel). x.script) same; past_is = ap (λ (x : Kernel). past x) same }
 
+-- a kernel that stayed the same twice
+pub same-still : (old mid new : Kernel) → IsSame old mid → IsSame mid new → IsSame old new
+same-still old mid new a b = record { kernel = b.kernel; script = b.script ∙ a.script; past_is = b.past_is ∙ a.past_is }
+
 -- an event that follows on room follows on what was before
 pub after-same : (old mid new : Kernel) (e : Event) → IsSame old mid → IsAfter mid e new → IsAfter old e new
 after-same old mid new e s after = record { kernel = after.kernel; script = after.script ∙ s.script; events = after.events ∙ ap (λ K. e ∷ K) s.past_is }

@@ -1,6 +1,6 @@
 -- The turns of the kernel's and the broker's actors.
 -- By the kernel after the actor's step, and what each worker remembers then.
-use Rattle.std.proofs.Common.{◌≡◌, ℕ, ◌≤◌, Bool, List, [], ◌∷◌, length, true, false, ◌∙◌, refl}
+use Rattle.std.proofs.Common.{◌≡◌, ℕ, ◌≤◌, Bool, List, [], length, true, false, ◌∙◌, refl}
 use Rattle.std.specs.Prelude.{slice_set}
 use Rattle.std.proofs.lemmas.List.{length-set}
 use Rattle.hist_model.specs.Kinds.{skips}

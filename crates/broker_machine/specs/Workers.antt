@@ -1,5 +1,5 @@
 -- What the workers of a broker remember, and what the kernel knows of a worker before a deed and after it.
-use Rattle.std.specs.Prelude.{◌≡◌, ◌<◌, ℕ, Bool, true, false, List, ◌∷◌, length, get_or, None, ⊤}
+use Rattle.std.specs.Prelude.{◌≡◌, ◌<◌, ℕ, Bool, true, false, not, List, length, get_or, Option, Some, None, ⊤}
 use Rattle.addfd.specs.Puts.{is_known}
 use Rattle.hist_model.specs.Legal.{rules_of}
 use Rattle.hist_model.specs.Sessions.{deed, session}
@@ -13,25 +13,21 @@ use Rattle.hist_model.specs.declared.event.What.{What}
 use Rattle.hist_model.specs.declared.event.What.TheVariants.{Skip}
 use Rattle.hist_model.specs.declared.policy.Policy.{Policy}
 use Rattle.hist_model.specs.declared.script.Figures.{Figures}
-use Rattle.broker_core.specs.Answers.{shown}
+use Rattle.broker_core.specs.Answers.{Answer, Bytes, answer_of, is_not_yet, shown, told}
 use Rattle.broker_core.specs.Deeds.{due}
 use Rattle.broker_core.specs.Remembered.{IsReady, Remembers}
 use Rattle.broker_core.specs.declared.deed.Deed.{Deed}
+use Rattle.broker_core.specs.declared.deed.Got.{Got}
 use Rattle.broker_core.specs.declared.deed.Deed.TheVariants.{Act, AddfdPut, AddfdTake, OpenMem, Plant, Read, Recv}
 use Rattle.broker_core.specs.declared.worker.Worker.{Worker}
 use Rattle.model_kernel.specs.Kernels.{DoesDeed, IsAfter, past, system}
+use Rattle.model_kernel.specs.Reads.{last_read}
 use Rattle.model_kernel.specs.Ready.{IsSame}
 use Rattle.model_kernel.specs.declared.kernel.Kernel.{Kernel}
 
 -- each worker remembers its session, and knows the container's figures
 abbrev pub AllRemember : Policy → Figures → List Event → List Worker → Type 0
 AllRemember P F K workers = (w : ℕ) (d : Worker) → w < length workers → Remembers P (session K w) (get_or workers w d) × ((get_or workers w d).figures ≡ F)
-
--- the deed never waits
-abbrev pub IsSteady : Deed → Type 0
-IsSteady Recv = ⊥
-IsSteady AddfdTake = ⊥
-IsSteady _ = ⊤
 
 -- the deed never waits, and takes no memory but for its event
 abbrev pub IsPlain : Deed → Type 0
@@ -57,26 +53,31 @@ pub record KeepsOn (old new : Worker) : Type 0 where
   pub same : due new ≡ due old
   pub figures : new.figures ≡ old.figures
 
--- the kernel did what was due for the worker, which still remembers its session, and has not taken the answer
-pub record HasDone (P : Policy) (old : Kernel) (n : ℕ) (new : Kernel) (worker : Worker) : Type 0 where
-  pub does : DoesDeed old n (deed (rules_of P old.script.figures) (session (past old) n)) new
-  pub remembers : Remembers P (session (past old) n) worker
-  pub figures : worker.figures ≡ old.script.figures
-  pub due : due worker ≡ shown (deed (rules_of P old.script.figures) (session (past old) n))
+-- the deed that a worker has next, by the definitions
+abbrev pub next_of : Policy → Kernel → ℕ → definition.Deed
+next_of P k n = deed (rules_of P k.script.figures) (session (past k) n)
 
 -- the deed was done, which was a step; or it waits, and nothing has changed
 abbrev pub TriesDeed : Kernel → ℕ → definition.Deed → Bool → Kernel → Type 0
 TriesDeed old n d true new = DoesDeed old n d new × (skips (deed_step (system old) (past old) n d) ≡ false)
 TriesDeed old n d false new = IsSame old new × (deed_step (system old) (past old) n d ≡ Skip)
 
--- the deed that a worker has next, by the definitions
-abbrev pub next_of : Policy → Kernel → ℕ → definition.Deed
-next_of P k n = deed (rules_of P k.script.figures) (session (past k) n)
+-- this is the kernel's answer to a deed, which was done, unless there is none yet
+pub record IsAnswered (old : Kernel) (n : ℕ) (d : definition.Deed) (a : Answer) (new : Kernel) : Type 0 where
+  pub answer : a ≡ answer_of (deed_step (system old) (past old) n d)
+  pub tries : TriesDeed old n d (not (is_not_yet a)) new
 
--- what was due for the worker was done, which was a step, and it has not taken the answer; or it waits, and nothing has changed
-abbrev pub HasTried : Policy → Kernel → ℕ → Bool → Kernel → Worker → Type 0
-HasTried P old n true new worker = HasDone P old n new worker × (skips (deed_step (system old) (past old) n (next_of P old n)) ≡ false)
-HasTried P old n false new worker = IsSame old new × (deed_step (system old) (past old) n (next_of P old n) ≡ Skip)
+-- what a worker is told by a kernel: this answer, or else the bytes that it read last
+abbrev pub told_by : Kernel → ℕ → Option Got → Answer
+told_by k n (Some got) = told got
+told_by k n None = Bytes (last_read n (past k))
+
+-- the kernel answered what was due for the worker, which still remembers its session, and has not taken the answer
+pub record HasAnswer (P : Policy) (old : Kernel) (n : ℕ) (a : Answer) (new : Kernel) (worker : Worker) : Type 0 where
+  pub answered : IsAnswered old n (next_of P old n) a new
+  pub remembers : Remembers P (session (past old) n) worker
+  pub figures : worker.figures ≡ old.script.figures
+  pub due : due worker ≡ shown (next_of P old n)
 
 -- the step that a worker has next, by the definitions
 abbrev pub step_due : Policy → Kernel → ℕ → What

@@ -1,7 +1,7 @@
-//! A worker's turn: the deed that is due, on the kernel.
+//! A worker's turn: the deed that is due, on the kernel, and the kernel's answer to it.
 
-ghost use Rattle.std.specs.Prelude.{◌≡◌, ℕ, ◌<◌, ◌≤◌, List, ◌∷◌, length, Option, None, OnOk, OnErr, IfOk};
-ghost use Rattle.broker_core.specs.Answers.{answer_of, deed_of, shown, told};
+ghost use Rattle.std.specs.Prelude.{◌≡◌, ◌<◌, ◌≤◌, List, Option, Some, None, not, OnOk, OnErr, IfOk};
+ghost use Rattle.broker_core.specs.Answers.{deed_of, done_or_failed, is_not_yet, shown, told};
 ghost use Rattle.broker_core.specs.Deeds.{due};
 ghost use Rattle.broker_core.specs.Remembered.{HasEffect, Remembers};
 ghost use Rattle.broker_core.specs.declared.deed.Deed.TheVariants.{Act};
@@ -9,219 +9,174 @@ ghost use Rattle.hist_model.specs.Deeds as definition;
 ghost use Rattle.hist_model.specs.Legal.{rules_of};
 ghost use Rattle.hist_model.specs.Sessions.{deed, session};
 ghost use Rattle.hist_model.specs.Steps.{IsLegal, mem, request_of};
-ghost use Rattle.hist_model.specs.declared.event.Event.{Event};
 ghost use Rattle.hist_model.specs.declared.event.What.{What};
 ghost use Rattle.hist_model.specs.declared.policy.Cap.{Cap as CapValue};
 ghost use Rattle.hist_model.specs.declared.policy.Policy.{Policy as PolicyValue};
-ghost use Rattle.hist_model.specs.declared.request.Request.{Request};
-ghost use Rattle.model_kernel.specs.Kernels.{DoesDeed, IsKernel, past, system};
+ghost use Rattle.hist_model.specs.declared.request.Request.{Request as Asked};
+ghost use Rattle.model_kernel.specs.Kernels.{IsKernel, past, system};
 ghost use Rattle.model_kernel.specs.Ready.{IsSame};
-ghost use Rattle.broker_machine.specs.Workers.{Allows, HasTried, IsPlain, IsSteady, KeepsOn, TriesDeed, TriesStep};
+ghost use Rattle.broker_machine.specs.Workers.{Allows, IsAnswered, IsPlain, KeepsOn, TriesStep, told_by};
 
 use addfd::TakeError;
-use broker_core::deed::{Deed, Got, answer_of};
+use broker_core::deed::{Deed, Got};
 use broker_core::worker::Worker;
-use hist_model::history::History;
 use hist_model::policy::{Cap, Policy};
+use hist_model::request::Request;
 use model_kernel::Kernel;
 use notif_queue::FetchError;
 use std::alloc::Global;
+use sys_abi::errno::Errno;
 use sys_abi::memory::NoMemory;
 
-/// A worker receives a notification, or finds its call gone. It waits where no call is there to receive; says whether it stepped.
-fn receive(kernel: &mut Kernel, number: u8) -> bool
+/// The answer to a deed of which nothing comes but that it was done.
+fn done<'a>(answer: Result<(), Errno>) -> Got<'a>
+    ensures { told result ≡ done_or_failed answer }
+{
+    match answer {
+        Ok(()) => Got::Ok,
+        Err(errno) => Got::Fault(errno),
+    }
+}
+
+/// A worker receives a notification, or finds its call gone. There is no answer yet while no call is there to receive.
+fn receive<'a>(kernel: &mut Kernel, number: u8) -> Got<'a>
     requires kernel { IsKernel kernel.old }
     requires number { number ≤ 16 }
     requires room { 0 < kernel.old.history.spare }
-    ensures { TriesDeed kernel.old number definition.Recv result kernel.new }
+    ensures { IsAnswered kernel.old number definition.Recv (told result) kernel.new }
 {
     match kernel.receive(number) {
-        Err(FetchError::Empty) => false,
-        Ok(_) | Err(FetchError::Gone) => true,
+        Ok(notif) => Got::Notif(notif),
+        Err(FetchError::Gone) => Got::Fault(Errno::ENOENT),
+        Err(FetchError::Empty) => Got::NotYet,
     }
 }
 
-/// A worker takes what came of its request, which it has. It waits where nothing has come yet; says whether it stepped.
-fn take(kernel: &mut Kernel, number: u8) -> bool
+/// A worker takes what came of its request, which it has. There is no answer yet while nothing has come.
+fn take<'a>(kernel: &mut Kernel, number: u8) -> Got<'a>
     requires kernel { IsKernel kernel.old }
     requires asked { request_of (past kernel.old) number ≡ None → ⊥ }
     requires room { 0 < kernel.old.history.spare }
-    ensures { TriesDeed kernel.old number definition.AddfdTake result kernel.new }
+    ensures { IsAnswered kernel.old number definition.AddfdTake (told result) kernel.new }
 {
-    match kernel.take(number) {
-        Err(TakeError::Pending) => false,
-        Ok(_) | Err(TakeError::Fault(_)) => true,
+    match &kernel.take(number) {
+        Ok(descriptor) => Got::Number(*descriptor),
+        Err(TakeError::Fault(errno)) => Got::Fault(*errno),
+        Err(TakeError::Pending) => Got::NotYet,
     }
 }
 
-/// A worker reads the memory that it has open.
-fn read(alloc: Global, kernel: &mut Kernel, number: u8, addr: u64, len: u16) -> Result<(), NoMemory>
+/// A worker reads the memory that it has open. There is no answer beside the bytes that it reads, which the kernel keeps.
+fn read<'a>(
+    alloc: Global,
+    kernel: &mut Kernel,
+    number: u8,
+    addr: u64,
+    len: u16,
+) -> Result<Option<Got<'a>>, NoMemory>
     requires kernel { IsKernel kernel.old }
     requires room { 0 < kernel.old.history.spare }
-    ensures done { OnOk result (DoesDeed kernel.old number (definition.Read addr len) kernel.new) }
+    ensures done { IfOk result (λ answer. IsAnswered kernel.old number (definition.Read addr len) (told_by kernel.new number answer) kernel.new) }
     ensures same { OnErr result (IsSame kernel.old kernel.new) }
 {
     let room = Vec::with_capacity(alloc, usize::from(len))?;
-    let _ = kernel.read(number, addr, len, room);
-    Ok(())
+    match kernel.read(number, addr, len, room) {
+        Ok(()) => Ok(None),
+        Err(errno) => Ok(Some(Got::Fault(errno))),
+    }
 }
 
 /// A worker stores the answer of sysinfo in the memory that it has open.
-fn plant(
+fn plant<'a>(
     kernel: &mut Kernel,
     number: u8,
     addr: u64,
     bytes: &[u8; 112],
     cap: Option<Cap>,
-) -> Result<(), NoMemory>
+) -> Result<Option<Got<'a>>, NoMemory>
     requires kernel { IsKernel kernel.old }
     requires memory { mem (past kernel.old) number ≡ None → ⊥ }
     requires room { 0 < kernel.old.history.spare }
-    ensures done { OnOk result (DoesDeed kernel.old number (definition.Plant addr bytes.now cap) kernel.new) }
+    ensures done { IfOk result (λ answer. IsAnswered kernel.old number (definition.Plant addr bytes.now cap) (told_by kernel.new number answer) kernel.new) }
     ensures same { OnErr result (IsSame kernel.old kernel.new) }
 {
     kernel.ready_plant(number, cap)?;
-    let _ = kernel.plant(number, addr, bytes, cap);
-    Ok(())
+    Ok(Some(done(kernel.plant(number, addr, bytes, cap))))
 }
 
-/// A worker does what is due, with the request that it has for the event.
-fn act(
+/// A worker does what a request asks for.
+fn act<'a>(
     kernel: &mut Kernel,
     number: u8,
-    worker: &mut Worker,
+    request: Request,
     cap: Option<Cap>,
-) -> Result<(), NoMemory>
+) -> Result<Option<Got<'a>>, NoMemory>
     requires kernel { IsKernel kernel.old }
     requires room { 0 < kernel.old.history.spare }
-    requires effect { HasEffect worker.old }
-    ensures done { (P : PolicyValue) (own : List What) → Remembers P own worker.old → Act cap ≡ shown (deed (rules_of P worker.old.figures) own) → OnOk result (DoesDeed kernel.old number (deed (rules_of P worker.old.figures) own) kernel.new) }
+    ensures done { IfOk result (λ answer. IsAnswered kernel.old number (definition.Act request cap) (told_by kernel.new number answer) kernel.new) }
     ensures same { OnErr result (IsSame kernel.old kernel.new) }
-    ensures keeps { KeepsOn worker.old worker.new }
 {
-    let request = worker.take_effect();
     kernel.ready_act(&request, cap)?;
-    let _ = kernel.act(number, request, cap);
-    Ok(())
+    Ok(Some(done(kernel.act(number, request, cap))))
 }
 
 /// A worker does a deed that doesn't wait, and takes no memory but for its event.
-fn do_plain(kernel: &mut Kernel, number: u8, deed: &Deed)
+fn do_plain<'a>(kernel: &mut Kernel, number: u8, deed: &Deed) -> Got<'a>
     requires kernel { IsKernel kernel.old }
     requires number { number ≤ 16 }
     requires plain { IsPlain deed.now }
     requires allows { Allows (past kernel.old) number deed.now }
     requires room { 0 < kernel.old.history.spare }
-    ensures { (q : Request) → DoesDeed kernel.old number (deed_of q deed.now) kernel.new }
+    ensures { (q : Asked) → IsAnswered kernel.old number (deed_of q deed.now) (told result) kernel.new }
 {
     match deed {
-        Deed::OpenMem { pid } => {
-            let _ = kernel.open_mem(number, *pid);
+        Deed::OpenMem { pid } => done(kernel.open_mem(number, *pid)),
+        Deed::OpenBase { pid, dirfd } => done(kernel.open_base(number, *pid, *dirfd)),
+        Deed::Check { id } => done(kernel.check(number, *id)),
+        Deed::AddfdPut(asked) => done(kernel.put(number, *asked)),
+        Deed::Send { id, back } => done(kernel.send(number, *id, back)),
+        Deed::LetGo => {
+            kernel.let_go(number);
+            Got::Ok
         }
-        Deed::OpenBase { pid, dirfd } => {
-            let _ = kernel.open_base(number, *pid, *dirfd);
-        }
-        Deed::Check { id } => {
-            let _ = kernel.check(number, *id);
-        }
-        Deed::AddfdPut(asked) => {
-            let _ = kernel.put(number, *asked);
-        }
-        Deed::Send { id, back } => {
-            let _ = kernel.send(number, *id, back);
-        }
-        Deed::LetGo => kernel.let_go(number),
         Deed::Recv | Deed::AddfdTake => unreachable!(),
         Deed::Read { .. } | Deed::Act { .. } | Deed::Plant { .. } => unreachable!(),
     }
 }
 
-/// A worker does a deed that doesn't wait, for whose event there is room.
-fn do_steady(
+/// A worker does this deed, for whose event there is room, unless it waits. There is no answer beside bytes that it reads, which
+/// the kernel keeps.
+fn do_deed<'a>(
     alloc: Global,
     kernel: &mut Kernel,
     number: u8,
     worker: &mut Worker,
     next: Deed,
-) -> Result<(), NoMemory>
+) -> Result<Option<Got<'a>>, NoMemory>
     requires kernel { IsKernel kernel.old }
     requires number { number ≤ 16 }
     requires room { 0 < kernel.old.history.spare }
     requires allows { Allows (past kernel.old) number next }
     requires effect { (cap : Option CapValue) → next ≡ Act cap → HasEffect worker.old }
-    requires steady { IsSteady next }
-    ensures done { (P : PolicyValue) (own : List What) → Remembers P own worker.old → next ≡ shown (deed (rules_of P worker.old.figures) own) → OnOk result (DoesDeed kernel.old number (deed (rules_of P worker.old.figures) own) kernel.new) }
+    ensures done { (P : PolicyValue) (own : List What) → Remembers P own worker.old → next ≡ shown (deed (rules_of P worker.old.figures) own) → IfOk result (λ answer. IsAnswered kernel.old number (deed (rules_of P worker.old.figures) own) (told_by kernel.new number answer) kernel.new) }
     ensures same { OnErr result (IsSame kernel.old kernel.new) }
     ensures keeps { KeepsOn worker.old worker.new }
 {
     match next {
+        Deed::Recv => Ok(Some(receive(kernel, number))),
+        Deed::AddfdTake => Ok(Some(take(kernel, number))),
         Deed::Read { addr, len } => read(alloc, kernel, number, addr, len),
         Deed::Plant { addr, bytes, cap } => plant(kernel, number, addr, &bytes, cap),
-        Deed::Act { cap } => act(kernel, number, worker, cap),
-        _ => {
-            do_plain(kernel, number, &next);
-            Ok(())
-        }
+        Deed::Act { cap } => act(kernel, number, worker.take_effect(), cap),
+        _ => Ok(Some(do_plain(kernel, number, &next))),
     }
 }
 
-/// A worker does this deed, for whose event there is room, unless it waits; says whether it stepped.
-fn do_deed(
-    alloc: Global,
-    kernel: &mut Kernel,
-    number: u8,
-    worker: &mut Worker,
-    next: Deed,
-) -> Result<bool, NoMemory>
-    requires kernel { IsKernel kernel.old }
-    requires number { number ≤ 16 }
-    requires room { 0 < kernel.old.history.spare }
-    requires allows { Allows (past kernel.old) number next }
-    requires effect { (cap : Option CapValue) → next ≡ Act cap → HasEffect worker.old }
-    ensures done { (P : PolicyValue) (own : List What) → Remembers P own worker.old → next ≡ shown (deed (rules_of P worker.old.figures) own) → IfOk result (λ stepped. TriesDeed kernel.old number (deed (rules_of P worker.old.figures) own) stepped kernel.new) }
-    ensures same { OnErr result (IsSame kernel.old kernel.new) }
-    ensures keeps { KeepsOn worker.old worker.new }
+/// Whether there is an answer.
+fn has_come(got: &Got<'_>) -> bool
+    ensures { result ≡ not (is_not_yet (told got.now)) }
 {
-    match next {
-        Deed::Recv => Ok(receive(kernel, number)),
-        Deed::AddfdTake => Ok(take(kernel, number)),
-        _ => {
-            do_steady(alloc, kernel, number, worker, next)?;
-            Ok(true)
-        }
-    }
-}
-
-/// A worker does what is due for it, once there is room for its event, unless it waits; says whether it stepped.
-fn do_next(
-    alloc: Global,
-    kernel: &mut Kernel,
-    number: u8,
-    worker: &mut Worker,
-    next: Deed,
-) -> Result<bool, NoMemory>
-    requires kernel { IsKernel kernel.old }
-    requires number { number ≤ 16 }
-    requires allows { Allows (past kernel.old) number next }
-    requires effect { (cap : Option CapValue) → next ≡ Act cap → HasEffect worker.old }
-    requires due { next ≡ due worker.old }
-    ensures done { (P : PolicyValue) → Remembers P (session (past kernel.old) number) worker.old → worker.old.figures ≡ kernel.old.script.figures → next ≡ shown (deed (rules_of P worker.old.figures) (session (past kernel.old) number)) → IfOk result (λ stepped. HasTried P kernel.old number stepped kernel.new worker.new) }
-    ensures same { OnErr result (IsSame kernel.old kernel.new) }
-    ensures keeps { KeepsOn worker.old worker.new }
-{
-    kernel.ready_event()?;
-    do_deed(alloc, kernel, number, worker, next)
-}
-
-/// The answer that the newest event tells.
-fn newest_answer(history: &History) -> Got<'_>
-    requires { 0 < length history.now.events }
-    ensures { (e : Event) (K : List Event) → history.now.events ≡ e ∷ K → told result ≡ answer_of e.what }
-{
-    match history.get(history.len() - 1) {
-        Some(event) => answer_of(&event.what),
-        None => unreachable!(),
-    }
+    !matches!(got, Got::NotYet)
 }
 
 /// A worker's turn: what it does next, with the kernel's answer, which it takes, unless it waits; says whether it stepped.
@@ -246,10 +201,16 @@ pub(crate) fn worker_turn(
     kernel.has_few_events();
     worker.ready(policy)?;
     let next = worker.next();
-    if do_next(alloc, kernel, number, worker, next)? {
-        worker.took(&newest_answer(kernel.history()));
-        Ok(true)
-    } else {
-        Ok(false)
+    kernel.ready_event()?;
+    match do_deed(alloc, kernel, number, worker, next) {
+        Ok(Some(got)) => {
+            worker.took(&got);
+            Ok(has_come(&got))
+        }
+        Ok(None) => {
+            worker.took(&Got::Bytes(kernel.last_read(number)));
+            Ok(true)
+        }
+        Err(NoMemory) => Err(NoMemory),
     }
 }
