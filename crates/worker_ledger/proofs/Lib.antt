@@ -1,0 +1,4 @@
+pub mod Cutting
+pub mod Parts
+pub mod Noting
+pub mod Texts

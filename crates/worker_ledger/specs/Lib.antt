@@ -1,0 +1,4 @@
+pub mod Heard
+pub mod Cuts
+pub mod Ledgers
+pub mod Notes

@@ -1,0 +1,17 @@
+//! The ledger of a worker: what a broker writes down so that a worker can be replaced while its call waits.
+//!
+//! A ledger has a worker's number, how many answers the worker has taken, and what it was told in its session. It is kept
+//! beside the worker, so that a worker that nobody replaces pays nothing for it: `Ledger::note` takes each answer that the
+//! worker took, `Ledger::text` writes one line of JSON, and `Ledger::read` gives the ledger back exactly where the bytes are
+//! the text of one of this worker; one byte more, or a number written otherwise, is no ledger.
+//!
+//! Its model is the number, the count and the list of the answers (`specs/Ledgers.antt`, which has the text too). What is read
+//! is compared with the text that is written of it, so a reader has to be right on the texts of ledgers alone.
+//!
+//! Below stands the worker's machine (`broker_core`), which names deeds and answers. Above stands whoever replaces workers.
+#![tactic(auto)]
+
+mod cuts;
+pub mod heard;
+pub mod ledger;
+mod reading;
