@@ -2,3 +2,4 @@ pub mod Cutting
 pub mod Parts
 pub mod Noting
 pub mod Texts
+pub mod Fitting
