@@ -1,0 +1,5 @@
+pub mod Cutting
+pub mod Parts
+pub mod Noting
+pub mod Texts
+pub mod Fitting

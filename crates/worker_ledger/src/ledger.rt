@@ -1,0 +1,221 @@
+//! The ledger of a worker: what it was told, kept outside of it.
+
+ghost use Rattle.std.specs.Prelude.{◌≡◌, ◌<◌, ◌^◌, ◌↔◌, ◌++◌, ◌∷◌, [], OnOk, OnErr, IfOk, IsTrue, codes, decimal};
+ghost use Rattle.std.specs.List.{flat_map};
+ghost use Rattle.broker_core.specs.Answers.{told};
+ghost use Rattle.worker_ledger.specs.Heard.{all_heard, heard as kept};
+ghost use Rattle.worker_ledger.specs.Ledgers.{AreAnswers, IsAnswer, answer_text, answers_text, ledger_text};
+ghost use Rattle.worker_ledger.specs.Notes.{IsReadAs, IsUnchanged, Notes, next_count, noted, told_more};
+
+use crate::heard::{Heard, heard_of};
+use crate::reading::read_ledger;
+use broker_core::deed::Got;
+use itoa::Buffer;
+use std::alloc::Global;
+use sys_abi::memory::NoMemory;
+
+/// The ledger of a worker: its number, how many answers it has taken, and what it was told in its session.
+#[derive(Drop)]
+pub struct Ledger {
+    pub(crate) no: u8,
+    pub(crate) count: u64,
+    pub(crate) own: Vec<Heard>,
+}
+
+/// Adds an answer behind a comma.
+fn push_one(alloc: Global, text: &mut Vec<u8>, heard: &Heard) -> Result<(), NoMemory>
+    ensures text { OnOk result (text.new.items ≡ text.old.items ++ (codes "," ++ answer_text (kept heard.now))) }
+    ensures answer { OnOk result (IsAnswer (kept heard.now)) }
+{
+    text.push(b',')?;
+    heard.push(alloc, text)
+}
+
+/// Adds answers, with a comma before each.
+fn push_more(alloc: Global, text: &mut Vec<u8>, more: &[Heard]) -> Result<(), NoMemory>
+    ensures text { OnOk result (text.new.items ≡ text.old.items ++ flat_map (λ a. codes "," ++ answer_text a) (all_heard more.now)) }
+    ensures answers { OnOk result (AreAnswers (all_heard more.now)) }
+{
+    let mut left = more;
+    while let Some((heard, rest)) = left.split_first() {
+        push_one(alloc, text, heard)?;
+        left = rest;
+    }
+    Ok(())
+}
+
+/// Adds answers, with commas between them.
+#[tactic(auto, using(crate::proofs::Texts::joined_answers))]
+fn push_answers(alloc: Global, text: &mut Vec<u8>, own: &[Heard]) -> Result<(), NoMemory>
+    ensures text { OnOk result (text.new.items ≡ text.old.items ++ answers_text (all_heard own.now)) }
+    ensures answers { OnOk result (AreAnswers (all_heard own.now)) }
+{
+    if let Some((first, more)) = own.split_first() {
+        first.push(alloc, text)?;
+        push_more(alloc, text, more)?;
+    }
+    Ok(())
+}
+
+/// Adds a number.
+fn push_number(text: &mut Vec<u8>, number: u64) -> Result<(), NoMemory>
+    ensures { OnOk result (text.new.items ≡ text.old.items ++ decimal number) }
+{
+    let mut buffer = Buffer::new();
+    text.extend_from_slice(buffer.format(number).as_bytes())?;
+    Ok(())
+}
+
+/// Whether these are the same bytes.
+fn are_same(text: &[u8], other: &[u8]) -> bool
+    ensures { IsTrue result ↔ (text.now ≡ other.now) }
+{
+    text == other
+}
+
+/// The count after one more answer.
+fn next_count(count: u64) -> u64
+    ensures { result ≡ next_count count }
+{
+    if count < u64::MAX { count + 1 } else { count }
+}
+
+impl Ledger {
+    /// The ledger of a worker that has taken no answer.
+    pub fn new(alloc: Global, no: u8) -> Ledger
+        ensures no { result.no ≡ no }
+        ensures count { result.count ≡ 0 }
+        ensures own { result.own.items ≡ [] }
+    {
+        Ledger {
+            no,
+            count: 0,
+            own: Vec::new(alloc),
+        }
+    }
+
+    /// A ledger with these parts.
+    fn of(no: u8, count: u64, own: Vec<Heard>) -> Ledger
+        ensures parts { result ≡ record { no = no; count = count; own = own } }
+        ensures small { count < 2 ^ 64 }
+    {
+        Ledger { no, count, own }
+    }
+
+    /// The worker's number.
+    pub fn no(&self) -> u8
+        ensures { result ≡ self.now.no }
+    {
+        self.no
+    }
+
+    /// How many answers the worker has taken. A count of 2^64 - 1 stays there.
+    pub fn count(&self) -> u64
+        ensures { result ≡ self.now.count }
+    {
+        self.count
+    }
+
+    /// Sets the count, from which it goes on, and nothing else.
+    pub fn set_count(&mut self, count: u64)
+        ensures { self.new ≡ record self.old { count = count } }
+    {
+        self.count = count;
+    }
+
+    /// What the worker was told in its session, the oldest answer first.
+    pub fn answers(&self) -> &[Heard]
+        ensures { result.now ≡ self.now.own.items }
+    {
+        self.own.as_slice()
+    }
+
+    /// Begins a session with its first answer.
+    fn begin(&mut self, alloc: Global, heard: Heard) -> Result<(), NoMemory>
+        ensures told { OnOk result (all_heard self.new.own.items ≡ kept heard ∷ []) }
+        ensures same { OnErr result (self.new ≡ self.old) }
+        ensures no { self.new.no ≡ self.old.no }
+        ensures count { self.new.count ≡ self.old.count }
+    {
+        let mut own = Vec::new(alloc);
+        own.push(heard)?;
+        self.own = own;
+        Ok(())
+    }
+
+    /// Adds an answer to those of a session; without a session it is left out.
+    #[tactic(auto, using(crate::proofs::Parts::heard_more, crate::proofs::Noting::joined_some, crate::proofs::Noting::joined_none))]
+    fn join(&mut self, heard: Heard) -> Result<(), NoMemory>
+        ensures told { OnOk result (all_heard self.new.own.items ≡ told_more (kept heard) (all_heard self.old.own.items)) }
+        ensures same { OnErr result (all_heard self.new.own.items ≡ all_heard self.old.own.items) }
+        ensures no { self.new.no ≡ self.old.no }
+        ensures count { self.new.count ≡ self.old.count }
+    {
+        if !self.own.is_empty() {
+            self.own.push(heard)?;
+        }
+        Ok(())
+    }
+
+    /// Notes an answer among those of the session.
+    fn note_told(&mut self, alloc: Global, lets_go: bool, heard: Heard) -> Result<(), NoMemory>
+        ensures told { OnOk result (all_heard self.new.own.items ≡ noted lets_go (kept heard) (all_heard self.old.own.items)) }
+        ensures same { OnErr result (all_heard self.new.own.items ≡ all_heard self.old.own.items) }
+        ensures no { self.new.no ≡ self.old.no }
+        ensures count { self.new.count ≡ self.old.count }
+    {
+        if heard.is_notif() {
+            self.begin(alloc, heard)
+        } else if lets_go {
+            self.own.clear();
+            Ok(())
+        } else {
+            self.join(heard)
+        }
+    }
+
+    /// Notes an answer that the worker took, which let go by it or not; nothing where there is no answer yet. After want of
+    /// memory the ledger says what it said.
+    pub fn note(&mut self, alloc: Global, lets_go: bool, got: &Got<'_>) -> Result<(), NoMemory>
+        ensures noted { OnOk result (Notes lets_go (told got.now) self.old self.new) }
+        ensures same { OnErr result (IsUnchanged self.old self.new) }
+        ensures no { self.new.no ≡ self.old.no }
+    {
+        if let Some(heard) = heard_of(alloc, got)? {
+            self.note_told(alloc, lets_go, heard)?;
+            self.count = next_count(self.count);
+        }
+        Ok(())
+    }
+
+    /// The ledger's text: one line of JSON, without the byte that ends a line.
+    #[tactic(auto, using(crate::proofs::Texts::text_parts))]
+    pub fn text(&self, alloc: Global) -> Result<Vec<u8>, NoMemory>
+        ensures text { IfOk result (λ text. text.items ≡ ledger_text self.now.no self.now.count (all_heard self.now.own.items)) }
+        ensures answers { OnOk result (AreAnswers (all_heard self.now.own.items)) }
+    {
+        let mut text = Vec::from_slice(alloc, b"{\"count\":")?;
+        push_number(&mut text, self.count)?;
+        text.extend_from_slice(b",\"own\":[")?;
+        push_answers(alloc, &mut text, self.own.as_slice())?;
+        text.extend_from_slice(b"],\"worker\":")?;
+        push_number(&mut text, u64::from(self.no))?;
+        text.extend_from_slice(b"}")?;
+        Ok(text)
+    }
+
+    /// The ledger of a worker, where these bytes are its text.
+    pub fn read(alloc: Global, bytes: &[u8], no: u8) -> Result<Option<Ledger>, NoMemory>
+        ensures { IfOk result (λ o. IsReadAs bytes.now no o) }
+    {
+        let Some((count, own)) = read_ledger(alloc, bytes)? else {
+            return Ok(None);
+        };
+        let ledger = Ledger::of(no, count, own);
+        let text = ledger.text(alloc)?;
+        if !are_same(text.as_slice(), bytes) {
+            return Ok(None);
+        }
+        Ok(Some(ledger))
+    }
+}
