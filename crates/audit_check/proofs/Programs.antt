@@ -21,6 +21,7 @@ use Rattle.hist_model.specs.declared.event.What.{What}
 use Rattle.hist_model.specs.declared.event.What.TheVariants.{Act}
 use Rattle.hist_model.specs.declared.policy.Cap.{Cap}
 use Rattle.hist_model.specs.declared.policy.Policy.{Policy}
+use Rattle.hist_model.specs.declared.policy.Profile.{Profile}
 use Rattle.hist_model.specs.declared.policy.Rule.{Rule}
 use Rattle.hist_model.specs.declared.policy.Verdict.{Verdict}
 use Rattle.hist_model.specs.declared.policy.Verdict.TheVariants.{Grant, Deny, Pass, Inject}
@@ -70,26 +71,26 @@ program-plain name h =
     let p = and_parts (is_filled name) _ h in
     short-plain name (and_parts _ (list_all is_short_name_byte name) p.1).1
 
-fuse-plain : (shift : Bool) (fuse : List (List ℕ × List ℕ)) → list_all (λ pair. is_short_name pair.0 && is_short_name pair.1) fuse ≡ true → plain-rules (map (λ p. lxd_fuse_rule shift p) fuse)
+fuse-plain : (profile : Profile) (shift : Bool) (fuse : List (List ℕ × List ℕ)) → list_all (λ pair. is_short_name pair.0 && is_short_name pair.1) fuse ≡ true → plain-rules (map (λ p. lxd_fuse_rule profile shift p) fuse)
 unfolding plain-rules has-plain
-fuse-plain shift [] h = refl
-fuse-plain shift (pair ∷ fuse) h =
+fuse-plain profile shift [] h = refl
+fuse-plain profile shift (pair ∷ fuse) h =
     let p = and_parts (is_short_name pair.0 && is_short_name pair.1) _ h in
     let q = and_parts (is_short_name pair.0) (is_short_name pair.1) p.0 in
-    and_from (is_plain pair.1) (list_all has-plain (map (λ p. lxd_fuse_rule shift p) fuse)) (program-plain pair.1 q.1) (fuse-plain shift fuse p.1)
+    and_from (is_plain pair.1) (list_all has-plain (map (λ p. lxd_fuse_rule profile shift p) fuse)) (program-plain pair.1 q.1) (fuse-plain profile shift fuse p.1)
 
-mount-plain : (shift : Bool) (allowed : List (List ℕ)) → plain-rules (map (λ t. lxd_mount_rule shift t) allowed)
+mount-plain : (profile : Profile) (shift : Bool) (allowed : List (List ℕ)) → plain-rules (map (λ t. lxd_mount_rule profile shift t) allowed)
 unfolding plain-rules has-plain
-mount-plain shift [] = refl
-mount-plain shift (t ∷ allowed) = mount-plain shift allowed
+mount-plain profile shift [] = refl
+mount-plain profile shift (t ∷ allowed) = mount-plain profile shift allowed
 
 switched-plain : (s : Switches) → AreSwitches s → plain-rules (lxd_rules s)
 unfolding plain-rules has-plain
 switched-plain s h =
-    let mounts = both (map (λ p. lxd_fuse_rule s.shift p) s.fuse) (map (λ t. lxd_mount_rule s.shift t) s.allowed) (fuse-plain s.shift s.fuse h.fuse) (mount-plain s.shift s.allowed) in
-    both (where_on s.mknod lxd_mknod_rules) _ (where-on s.mknod lxd_mknod_rules refl) (
+    let mounts = both (map (λ p. lxd_fuse_rule s.profile s.shift p) s.fuse) (map (λ t. lxd_mount_rule s.profile s.shift t) s.allowed) (fuse-plain s.profile s.shift s.fuse h.fuse) (mount-plain s.profile s.shift s.allowed) in
+    both (where_on s.mknod (lxd_mknod_rules s.profile)) _ (where-on s.mknod (lxd_mknod_rules s.profile) refl) (
     both (where_on s.mount (lxd_mount_rules s)) _ (where-on s.mount (lxd_mount_rules s) mounts) (
-    both (where_on s.setxattr (lxd_setxattr_rule ∷ [])) _ (where-on s.setxattr (lxd_setxattr_rule ∷ []) refl) (where-on s.sysinfo (lxd_sysinfo_rule ∷ []) refl)))
+    both (where_on s.setxattr (lxd_setxattr_rule s.profile ∷ [])) _ (where-on s.setxattr (lxd_setxattr_rule s.profile ∷ []) refl) (where-on s.sysinfo (lxd_sysinfo_rule ∷ []) refl)))
 
 policy-plain : (P : Policy) → IsPolicy P → plain-rules P.rules
 unfolding plain-rules has-plain

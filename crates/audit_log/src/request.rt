@@ -7,7 +7,7 @@ ghost use Rattle.sys_abi.specs.Devices.{major_of, minor_of};
 
 use crate::line::Line;
 use crate::words::{push_call, push_hex_or_dash, push_or_dash};
-use hist_model::request::{Kind, Request};
+use hist_model::request::{Kind, Request, node_device};
 use hist_model::text::Text;
 use sys_abi::device::split_dev;
 use sys_abi::memory::NoMemory;
@@ -53,14 +53,14 @@ fn push_mknod(
     dirfd: Option<i32>,
     path: &Text,
     mode: u16,
-    dev: u32,
+    dev: u64,
 ) -> Result<(), NoMemory>
     ensures { OnOk result (line.new ≡ line.old ++ request_text (Request.Mknod dirfd path.now mode dev)) }
 {
     push_maker(line, dirfd)?;
     line.push_quoted(path.items())?;
     line.push(" ")?;
-    push_node(line, Kind::of_mode(mode), dev)
+    push_node(line, Kind::of_mode(mode), node_device(dev))
 }
 
 /// Adds the call that makes a node, with the number from which its path goes.

@@ -12,7 +12,7 @@ module _ (args : List ℕ) (texts : List (List ℕ)) where
   unfolding request
   of_sysinfo nr e = rw e
 
-  pub of_mknod : (nr : ℤ) → nr ≡ pos nr_mknod → request nr args texts ≡ Mknod None (get_or texts 0 []) (low_16 (get_or args 1 0)) (low_32 (get_or args 2 0))
+  pub of_mknod : (nr : ℤ) → nr ≡ pos nr_mknod → request nr args texts ≡ Mknod None (get_or texts 0 []) (low_16 (get_or args 1 0)) (get_or args 2 0)
   unfolding request
   of_mknod nr e = rw e
 
@@ -28,7 +28,7 @@ module _ (args : List ℕ) (texts : List (List ℕ)) where
   unfolding request
   of_openat nr e = rw e
 
-  pub of_mknodat : (nr : ℤ) → nr ≡ pos nr_mknodat → request nr args texts ≡ Mknod (Some (signed_32 (get_or args 0 0))) (get_or texts 0 []) (low_16 (get_or args 2 0)) (low_32 (get_or args 3 0))
+  pub of_mknodat : (nr : ℤ) → nr ≡ pos nr_mknodat → request nr args texts ≡ Mknod (Some (signed_32 (get_or args 0 0))) (get_or texts 0 []) (low_16 (get_or args 2 0)) (get_or args 3 0)
   unfolding request
   of_mknodat nr e = rw e
 

@@ -33,7 +33,7 @@ pub fn request(nr: i32, args: &[u64; 6], copy: ArgCopy) -> Request
             dirfd: None,
             path: next_text(alloc, &mut texts),
             mode: low_16(args[1]),
-            dev: low_32(args[2]),
+            dev: args[2],
         },
         calls::MOUNT => Request::Mount {
             source: next_text(alloc, &mut texts),
@@ -59,7 +59,7 @@ pub fn request(nr: i32, args: &[u64; 6], copy: ArgCopy) -> Request
             dirfd: Some(signed_32(args[0])),
             path: next_text(alloc, &mut texts),
             mode: low_16(args[2]),
-            dev: low_32(args[3]),
+            dev: args[3],
         },
         _ => Request::Other { nr },
     }

@@ -4,6 +4,7 @@ use Rattle.hist_model.specs.Decisions.{Switches, all_rules, plain_rule}
 use Rattle.hist_model.specs.Records.{PolicyRecord}
 use Rattle.hist_model.specs.declared.policy.Calls.TheVariants.{Named}
 use Rattle.hist_model.specs.declared.policy.Cond.TheVariants.{Dev}
+use Rattle.hist_model.specs.declared.policy.Profile.TheVariants.{Plain}
 use Rattle.hist_model.specs.declared.policy.Rule.{Rule}
 use Rattle.hist_model.specs.declared.policy.Verdict.TheVariants.{Deny}
 use Rattle.sys_abi.specs.Calls.{nr_mknod}
@@ -15,7 +16,7 @@ policy_text = codes "{\"config\":{\"security.syscalls.intercept.mknod\":\"true\"
 
 -- the rules of mknod and sysinfo are made
 abbrev pub generated_switches : Switches
-generated_switches = record { mknod = true; mount = false; shift = false; setxattr = false; sysinfo = true; fuse = []; allowed = [] }
+generated_switches = record { profile = Plain; mknod = true; mount = false; shift = false; setxattr = false; sysinfo = true; fuse = []; allowed = [] }
 
 -- the rule that denies mknod of 1:1, the memory (mem(4))
 abbrev pub memory_rule : Rule

@@ -1,7 +1,7 @@
 -- Worked examples of requests, decisions and the figures of sysinfo, computed by the definitions.
 -- By `refl`: both sides of each equation compute to the same value.
 use Rattle.std.proofs.Common.{◌≡◌, ℕ, true, false, List, [], ◌∷◌, ◌++◌, Some, None, refl}
-use Rattle.std.specs.Prelude.{pos, negsuc, codes, replicate, map}
+use Rattle.std.specs.Prelude.{ℤ, pos, negsuc, codes, replicate, map}
 use Rattle.std.specs.Fmt.{digits}
 use Rattle.sys_abi.specs.Wire.{sysinfo_bytes}
 use Rattle.hist_model.specs.Requests.{request, base_dirfd, kind_of, major_of, minor_of, granted}
@@ -9,6 +9,7 @@ use Rattle.hist_model.specs.Decisions.{Switches, fits, decide, decide_from, rule
 use Rattle.hist_model.specs.Sysinfo.{container_sysinfo, host_sysinfo}
 use Rattle.hist_model.specs.declared.policy.Calls.TheVariants.{Named}
 use Rattle.hist_model.specs.declared.policy.Cond.TheVariants.{Dev}
+use Rattle.hist_model.specs.declared.policy.Profile.TheVariants.{Plain, Lxd}
 use Rattle.hist_model.specs.declared.policy.Rule.{Rule}
 use Rattle.hist_model.specs.declared.policy.Verdict.TheVariants.{Grant, Deny, Pass}
 use Rattle.hist_model.specs.declared.request.Kind.TheVariants.{Reg, Chr, Blk, Fifo, Sock, Dir, Bad}
@@ -26,8 +27,8 @@ mknod_null : request (pos 133) null_args (codes "/null" ∷ []) ≡ Mknod None (
 unfolding request null_args
 mknod_null = refl
 
--- the bits above the low 16 of the mode and the low 32 of the device are dropped
-mknod_low : request (pos 133) (65536 ∷ 74166 ∷ 4294967555 ∷ 0 ∷ 0 ∷ 0 ∷ []) (codes "/null" ∷ []) ≡ Mknod None (codes "/null") 8630 259
+-- the bits above the low 16 of the mode are dropped; those of the device stay in the request
+mknod_low : request (pos 133) (65536 ∷ 74166 ∷ 4294967555 ∷ 0 ∷ 0 ∷ 0 ∷ []) (codes "/null" ∷ []) ≡ Mknod None (codes "/null") 8630 4294967555
 unfolding request
 mknod_low = refl
 
@@ -86,7 +87,7 @@ minors = refl
 -- ---- Decisions
 
 mknod_policy : List Rule
-mknod_policy = lxd_mknod_rules ++ default_rules
+mknod_policy = lxd_mknod_rules Plain ++ default_rules
 
 mknod : ℕ → ℕ → Request
 mknod mode dev = Mknod None (codes "/d") mode dev
@@ -126,7 +127,7 @@ below : map (λ p. lies_under (Some p) (codes "/dev")) (codes "/dev/null" ∷ co
 below = refl
 
 boot : Switches
-boot = record { mknod = true; mount = true; shift = true; setxattr = true; sysinfo = true; fuse = (codes "ext4", codes "fuse2fs") ∷ []; allowed = codes "ext4" ∷ codes "xfs" ∷ [] }
+boot = record { profile = Plain; mknod = true; mount = true; shift = true; setxattr = true; sysinfo = true; fuse = (codes "ext4", codes "fuse2fs") ∷ []; allowed = codes "ext4" ∷ codes "xfs" ∷ [] }
 
 -- an own rule comes first, then those of the switches; of a type in both lists the program's rule comes first
 deny_memory : Rule
@@ -146,6 +147,34 @@ boot_decides = refl
 boot_names : map (rule_name boot_policy) (0 ∷ 9 ∷ 10 ∷ 11 ∷ 12 ∷ 13 ∷ []) ≡ codes "no-mem" ∷ codes "lxd.mount.fuse.ext4" ∷ codes "lxd.mount.ext4" ∷ codes "lxd.mount.xfs" ∷ codes "lxd.setxattr.opaque" ∷ codes "lxd.sysinfo" ∷ []
 unfolding boot boot_policy deny_memory
 boot_names = refl
+
+-- LXD grants no node from the directory of a descriptor, and none whose device number has a bit above the 32nd; the flag PRIVATE
+-- mounts nothing, and the value n isn't the mark; the magic number of old programs is no flag
+private : Request
+private = ext4 262144
+
+opaque : List ℕ → Request
+opaque value = SetXattr (codes "/d") (codes "trusted.overlay.opaque") value 0
+
+null_from : ℤ → Request
+null_from fd = Mknod (Some fd) (codes "/d") 8630 259
+
+differing : List Request
+differing = null_from (pos 3) ∷ mknod 8630 4294967555 ∷ private ∷ opaque (codes "n") ∷ []
+
+alike : List Request
+alike = null_from (negsuc 99) ∷ mknod 8630 259 ∷ ext4 1 ∷ ext4 3236757505 ∷ opaque (codes "y") ∷ Sysinfo 0 ∷ []
+
+boot_grants : map (decide boot_policy) (differing ++ alike) ≡ (4, Grant) ∷ (4, Grant) ∷ (9, Grant) ∷ (12, Grant) ∷ (4, Grant) ∷ (4, Grant) ∷ (9, Grant) ∷ (9, Grant) ∷ (12, Grant) ∷ (13, Grant) ∷ []
+unfolding decide decide_from fits boot boot_policy deny_memory mknod ext4 private opaque null_from differing alike
+boot_grants = refl
+
+lxd_policy : List Rule
+lxd_policy = all_rules (deny_memory ∷ []) (record boot { profile = Lxd })
+
+lxd_grants : map (decide lxd_policy) (differing ++ alike) ≡ (21, Pass) ∷ (17, Pass) ∷ (18, Pass) ∷ (19, Pass) ∷ (4, Grant) ∷ (4, Grant) ∷ (9, Grant) ∷ (9, Grant) ∷ (12, Grant) ∷ (13, Grant) ∷ []
+unfolding decide decide_from fits boot lxd_policy deny_memory mknod ext4 private opaque null_from differing alike
+lxd_grants = refl
 
 once : Rule
 once = record { name = codes "one"; calls = Named (pos 133 ∷ []); conds = Dev 1 3 ∷ []; verdict = Grant; via = codes "fuse2fs"; shift = true; times = Some 1 }

@@ -1,15 +1,19 @@
 -- Which rule of a policy decides a request, and the rules that the interception switches make
 -- (seccomp_unotify(2); LXD's "System call interception"). Conditions see the copied arguments alone, and follow no links.
-use Rattle.std.specs.Prelude.{ℕ, ◌+◌, Bool, true, false, ◌&&◌, not, if◌then◌else◌, ◌==◌, List, [], ◌∷◌, ◌++◌, map, Option, Some, None, option_map, slice_get, ℤ, pos, bit_and, bytes_eq, nat_eq, codes, decimal}
+use Rattle.std.specs.Prelude.{ℕ, ◌+◌, ◌%◌, Bool, true, false, ◌&&◌, not, if◌then◌else◌, ◌==◌, List, [], ◌∷◌, ◌++◌, map, Option, Some, None, option_map, slice_get, ℤ, pos, negsuc, bit_and, bytes_eq, nat_eq, nat_lt, codes, decimal}
 use Rattle.std.specs.Ordering.{int_eq}
 use Rattle.std.specs.List.{list_any, list_all, slice_split, starts_with}
 use Rattle.hist_model.specs.Paths.{is_dot_dot}
-use Rattle.hist_model.specs.Requests.{call_of_request, granted, kind_of, major_of, minor_of}
+use Rattle.hist_model.specs.Requests.{call_of_request, granted, kind_of, low_32, major_of, minor_of}
 use Rattle.hist_model.specs.declared.policy.Calls.{Calls}
 use Rattle.hist_model.specs.declared.policy.Calls.TheVariants.{Named, Other as OtherCalls}
 use Rattle.hist_model.specs.declared.policy.Cap.{Cap}
 use Rattle.hist_model.specs.declared.policy.Cond.{Cond}
-use Rattle.hist_model.specs.declared.policy.Cond.TheVariants.{Path, Under, Kind as OfKind, Dev, Fstype, Source, Name, PlainFlags}
+use Rattle.hist_model.specs.declared.policy.Cond.TheVariants.{Path, Under, Kind as OfKind, Dev, Fstype, Source, Name, Value, Dirfd, Flags, ShortDevice, PlainFlags}
+use Rattle.hist_model.specs.declared.policy.Flag.{Flag}
+use Rattle.hist_model.specs.declared.policy.Flag.TheVariants as flag
+use Rattle.hist_model.specs.declared.policy.Profile.{Profile}
+use Rattle.hist_model.specs.declared.policy.Profile.TheVariants.{Plain, Lxd}
 use Rattle.hist_model.specs.declared.policy.Rule.{Rule}
 use Rattle.hist_model.specs.declared.policy.Verdict.{Verdict}
 use Rattle.hist_model.specs.declared.policy.Verdict.TheVariants.{Grant, Pass}
@@ -65,9 +69,9 @@ is_device Chr = true
 is_device Blk = true
 is_device _ = false
 
--- the device that is asked for, character or block, has these numbers
+-- the device that is asked for, character or block, has these numbers in the 32 bits of its argument that mknod takes
 abbrev pub asks_device : Request → ℕ → ℕ → Bool
-asks_device (Mknod dirfd path mode dev) major minor = is_device (kind_of mode) && ((major_of dev == major) && (minor_of dev == minor))
+asks_device (Mknod dirfd path mode dev) major minor = is_device (kind_of mode) && ((major_of (low_32 dev) == major) && (minor_of (low_32 dev) == minor))
 asks_device _ major minor = false
 
 -- the type of file system of a mount, and its source
@@ -79,10 +83,49 @@ abbrev pub source_of : Request → Option (List ℕ)
 source_of (Mount source target fstype options via flags shift) = Some source
 source_of _ = None
 
--- the name of the attribute that is set
+-- the name of the attribute that is set, and its value
 abbrev pub attribute_of : Request → Option (List ℕ)
 attribute_of (SetXattr path name value flags) = Some name
 attribute_of _ = None
+
+abbrev pub value_of : Request → Option (List ℕ)
+value_of (SetXattr path name value flags) = Some value
+value_of _ = None
+
+-- the descriptor of a mknod: without one it is AT_FDCWD
+abbrev pub dirfd_or_cwd : Option ℤ → ℤ
+dirfd_or_cwd (Some fd) = fd
+dirfd_or_cwd None = negsuc 99
+
+-- the descriptor of the directory from which the path of a node or a file goes, where it is relative
+abbrev pub dirfd_of : Request → Option ℤ
+dirfd_of (Mknod dirfd path mode dev) = Some (dirfd_or_cwd dirfd)
+dirfd_of (OpenAt dirfd path flags) = Some dirfd
+dirfd_of _ = None
+
+-- a descriptor that may be absent is this one
+abbrev pub is_descriptor : Option ℤ → ℤ → Bool
+is_descriptor (Some fd) number = int_eq fd number
+is_descriptor None number = false
+
+-- the flags of a mount: where bits 16 to 31 are the magic number of old programs, only those below them are flags (mount(2))
+abbrev pub mount_flags : ℕ → ℕ
+mount_flags flags = if bit_and flags 4294901760 == 3236757504 then flags % 65536 else flags
+
+-- the flag is one of the request's call, and is set
+abbrev pub has_flag : Request → Flag → Bool
+has_flag (Mount source target fstype options via flags shift) (flag.Mount bit) = not (bit_and (mount_flags flags) bit == 0)
+has_flag (SetXattr path name value flags) (flag.Attribute bit) = not (bit_and flags bit == 0)
+has_flag _ _ = false
+
+-- each of the first flags is set, and none of the others
+abbrev pub has_flags : Request → List Flag → List Flag → Bool
+has_flags q all none = list_all (λ f. has_flag q f) all && not (list_any (λ f. has_flag q f) none)
+
+-- the request isn't a node whose device number has a bit above the 32nd
+abbrev pub has_short_device : Request → Bool
+has_short_device (Mknod dirfd path mode dev) = nat_lt dev 4294967296
+has_short_device _ = true
 
 -- the request isn't a mount that remounts (32), binds (4096) or moves (8192)
 abbrev pub has_plain_flags : Request → Bool
@@ -98,6 +141,10 @@ meets (Dev major minor) q = asks_device q major minor
 meets (Fstype text) q = is_text (fstype_of q) text
 meets (Source text) q = is_text (source_of q) text
 meets (Name text) q = is_text (attribute_of q) text
+meets (Value text) q = is_text (value_of q) text
+meets (Dirfd number) q = is_descriptor (dirfd_of q) number
+meets (Flags all none) q = has_flags q all none
+meets ShortDevice q = has_short_device q
 meets PlainFlags q = has_plain_flags q
 
 -- ---- Rules
@@ -163,31 +210,54 @@ plain_rule name calls conds verdict = record { name = name; calls = calls; conds
 abbrev pub safe_devices : List (ℕ × ℕ)
 safe_devices = (0, 0) ∷ (5, 1) ∷ (1, 7) ∷ (1, 3) ∷ (1, 8) ∷ (5, 0) ∷ (1, 9) ∷ (1, 5) ∷ []
 
--- the rule that grants one of them, a character device, named lxd.mknod.MAJOR:MINOR
-abbrev pub lxd_mknod_rule : ℕ × ℕ → Rule
-lxd_mknod_rule (major, minor) = plain_rule (codes "lxd.mknod." ++ decimal major ++ codes ":" ++ decimal minor) (Named (pos nr_mknod ∷ pos nr_mknodat ∷ [])) (OfKind Chr ∷ Dev major minor ∷ []) Grant
+-- the conditions that a rule has under LXD's profile alone
+abbrev pub in_profile : Profile → List Cond → List Cond
+in_profile Plain conds = []
+in_profile Lxd conds = conds
 
-abbrev pub lxd_mknod_rules : List Rule
-lxd_mknod_rules = map lxd_mknod_rule safe_devices
+-- the conditions of one of them, a character device; LXD grants none from the directory of a descriptor, and reads 64 bits of
+-- the device number
+abbrev pub device_conditions : Profile → ℕ → ℕ → List Cond
+device_conditions profile major minor = OfKind Chr ∷ Dev major minor ∷ in_profile profile (Dirfd (negsuc 99) ∷ ShortDevice ∷ [])
+
+-- the rule that grants one of them, named lxd.mknod.MAJOR:MINOR
+abbrev pub lxd_mknod_rule : Profile → ℕ × ℕ → Rule
+lxd_mknod_rule profile (major, minor) = plain_rule (codes "lxd.mknod." ++ decimal major ++ codes ":" ++ decimal minor) (Named (pos nr_mknod ∷ pos nr_mknodat ∷ [])) (device_conditions profile major minor) Grant
+
+abbrev pub lxd_mknod_rules : Profile → List Rule
+lxd_mknod_rules profile = map (λ p. lxd_mknod_rule profile p) safe_devices
+
+-- the flags by which mount(2) changes how an existing mount propagates: UNBINDABLE, PRIVATE, SLAVE and SHARED
+abbrev pub propagation_flags : List Flag
+propagation_flags = flag.Mount 131072 ∷ flag.Mount 262144 ∷ flag.Mount 524288 ∷ flag.Mount 1048576 ∷ []
+
+-- the conditions of a mount of one type of file system; with those flags LXD mounts nothing
+abbrev pub mount_conditions : Profile → List ℕ → List Cond
+mount_conditions profile fstype = Fstype fstype ∷ PlainFlags ∷ in_profile profile (Flags [] propagation_flags ∷ [])
 
 -- the rule that grants a mount of one type of file system by a program, named lxd.mount.fuse.TYPE
-abbrev pub lxd_fuse_rule : Bool → List ℕ × List ℕ → Rule
-lxd_fuse_rule shift (fstype, program) = record { name = codes "lxd.mount.fuse." ++ fstype; calls = Named (pos nr_mount ∷ []); conds = Fstype fstype ∷ PlainFlags ∷ []; verdict = Grant; via = program; shift = shift; times = None }
+abbrev pub lxd_fuse_rule : Profile → Bool → List ℕ × List ℕ → Rule
+lxd_fuse_rule profile shift (fstype, program) = record { name = codes "lxd.mount.fuse." ++ fstype; calls = Named (pos nr_mount ∷ []); conds = mount_conditions profile fstype; verdict = Grant; via = program; shift = shift; times = None }
 
 -- the rule that grants a mount of one type of file system, named lxd.mount.TYPE
-abbrev pub lxd_mount_rule : Bool → List ℕ → Rule
-lxd_mount_rule shift fstype = record { name = codes "lxd.mount." ++ fstype; calls = Named (pos nr_mount ∷ []); conds = Fstype fstype ∷ PlainFlags ∷ []; verdict = Grant; via = []; shift = shift; times = None }
+abbrev pub lxd_mount_rule : Profile → Bool → List ℕ → Rule
+lxd_mount_rule profile shift fstype = record { name = codes "lxd.mount." ++ fstype; calls = Named (pos nr_mount ∷ []); conds = mount_conditions profile fstype; verdict = Grant; via = []; shift = shift; times = None }
 
--- the rule that grants the mark of an opaque directory of an overlay
-abbrev pub lxd_setxattr_rule : Rule
-lxd_setxattr_rule = plain_rule (codes "lxd.setxattr.opaque") (Named (pos nr_setxattr ∷ [])) (Name (codes "trusted.overlay.opaque") ∷ []) Grant
+-- the conditions of the mark of an opaque directory of an overlay; LXD sets it to the value y alone
+abbrev pub opaque_conditions : Profile → List Cond
+opaque_conditions profile = Name (codes "trusted.overlay.opaque") ∷ in_profile profile (Value (codes "y") ∷ [])
+
+-- the rule that grants it
+abbrev pub lxd_setxattr_rule : Profile → Rule
+lxd_setxattr_rule profile = plain_rule (codes "lxd.setxattr.opaque") (Named (pos nr_setxattr ∷ [])) (opaque_conditions profile) Grant
 
 -- the rule that grants sysinfo
 abbrev pub lxd_sysinfo_rule : Rule
 lxd_sysinfo_rule = plain_rule (codes "lxd.sysinfo") (Named (pos nr_sysinfo ∷ [])) [] Grant
 
--- the switches, and the two lists of file systems, of which the first has a program with each
+-- by whose rules the keys are read, the switches, and the two lists of file systems, of which the first has a program with each
 pub record Switches : Type 0 where
+  pub profile : Profile
   pub mknod : Bool
   pub mount : Bool
   pub shift : Bool
@@ -202,11 +272,11 @@ where_on true rules = rules
 where_on false rules = []
 
 abbrev pub lxd_mount_rules : Switches → List Rule
-lxd_mount_rules s = map (λ p. lxd_fuse_rule s.shift p) s.fuse ++ map (λ t. lxd_mount_rule s.shift t) s.allowed
+lxd_mount_rules s = map (λ p. lxd_fuse_rule s.profile s.shift p) s.fuse ++ map (λ t. lxd_mount_rule s.profile s.shift t) s.allowed
 
 -- the rules that the switches make, in the order in which they are tried
 abbrev pub lxd_rules : Switches → List Rule
-lxd_rules s = where_on s.mknod lxd_mknod_rules ++ (where_on s.mount (lxd_mount_rules s) ++ (where_on s.setxattr (lxd_setxattr_rule ∷ []) ++ where_on s.sysinfo (lxd_sysinfo_rule ∷ [])))
+lxd_rules s = where_on s.mknod (lxd_mknod_rules s.profile) ++ (where_on s.mount (lxd_mount_rules s) ++ (where_on s.setxattr (lxd_setxattr_rule s.profile ∷ []) ++ where_on s.sysinfo (lxd_sysinfo_rule ∷ [])))
 
 -- the rule that passes one call, named default.CALL
 abbrev pub default_rule : List ℕ → ℤ → Rule

@@ -8,7 +8,7 @@ use Rattle.hist_model.specs.declared.request.Request.{Request}
 use Rattle.hist_model.specs.declared.request.Request.TheVariants as request
 use Rattle.hist_model.specs.declared.request.MountRow.{MountRow}
 use Rattle.hist_model.specs.TreeOps.{TreeOp, Fail, Make, Mount, SetAttr, Open}
-use Rattle.hist_model.specs.Requests.{kind_of, major_of, minor_of}
+use Rattle.hist_model.specs.Requests.{kind_of, low_32, major_of, minor_of}
 use Rattle.hist_model.specs.Trees.{Tree, is_dir_at, entry, attr, with_node, with_mount, with_attr, are_attr_flags, creates_attr, replaces_attr}
 use Rattle.hist_model.specs.Paths.{Follow, Create, Place, At, New, Refused, reaches}
 use Rattle.sys_abi.specs.Errnos.{eperm, enoent, eexist, enotdir, einval, enosys, enodata}
@@ -34,7 +34,7 @@ is_cloexec flags = (flags / 524288) % 2 == 1
 
 -- what a request does to the tree
 abbrev pub effect : Request → TreeOp
-effect (request.Mknod dirfd path mode dev) = making path dev (kind_of mode)
+effect (request.Mknod dirfd path mode dev) = making path (low_32 dev) (kind_of mode)
 effect (request.Mount source target fstype options via flags shift) =
     mounting target (record { source = source; fstype = fstype; flags = flags; options = options; via = via; shift = shift }) fstype
 effect (request.SetXattr path name value flags) = if are_attr_flags flags then SetAttr path name value flags else Fail einval

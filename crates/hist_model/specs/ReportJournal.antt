@@ -6,7 +6,7 @@ use Rattle.sys_abi.specs.Devices.{major_of, minor_of}
 use Rattle.sys_abi.specs.declared.wire.Notif.{Notif}
 use Rattle.sys_abi.specs.declared.wire.Addfd.{Addfd}
 use Rattle.hist_model.specs.Look.{Name}
-use Rattle.hist_model.specs.Requests.{kind_of}
+use Rattle.hist_model.specs.Requests.{kind_of, low_32}
 use Rattle.hist_model.specs.ReportWords.{hex, hex_or_dash, trimmed, quoted, or_dash, name_text, errno_text, call_text, result_text, number_text, back_text, actor_text}
 use Rattle.hist_model.specs.declared.event.Event.{Event}
 use Rattle.hist_model.specs.declared.event.What.{What}
@@ -93,7 +93,7 @@ shift_text false = codes "0"
 
 -- what a worker does for a call; of a call that it never does anything for, the name alone
 abbrev pub request_text : Request → List ℕ
-request_text (Mknod dirfd path mode dev) = maker_text dirfd ++ quoted path ++ codes " " ++ node_text (kind_of mode) dev
+request_text (Mknod dirfd path mode dev) = maker_text dirfd ++ quoted path ++ codes " " ++ node_text (kind_of mode) (low_32 dev)
 request_text (Mount source target fstype options via flags shift) =
     codes "mount " ++ quoted source ++ codes " " ++ quoted target ++ codes " " ++ quoted fstype
     ++ codes " flags=" ++ decimal flags ++ codes " data=" ++ quoted options ++ codes " via=" ++ or_dash via ++ codes " shift=" ++ shift_text shift

@@ -34,11 +34,11 @@ text_at texts i = get_or texts i []
 abbrev pub request_numbered : ℕ → List ℕ → List (List ℕ) → Request
 request_numbered nr args texts =
     if nr == nr_sysinfo then Sysinfo (argument args 0)
-    else if nr == nr_mknod then Mknod None (text_at texts 0) (low_16 (argument args 1)) (low_32 (argument args 2))
+    else if nr == nr_mknod then Mknod None (text_at texts 0) (low_16 (argument args 1)) (argument args 2)
     else if nr == nr_mount then Mount (text_at texts 0) (text_at texts 1) (text_at texts 2) (text_at texts 3) [] (argument args 3) false
     else if nr == nr_setxattr then SetXattr (text_at texts 0) (text_at texts 1) (text_at texts 2) (low_32 (argument args 4))
     else if nr == nr_openat then OpenAt (signed_32 (argument args 0)) (text_at texts 0) (low_32 (argument args 2))
-    else if nr == nr_mknodat then Mknod (Some (signed_32 (argument args 0))) (text_at texts 0) (low_16 (argument args 2)) (low_32 (argument args 3))
+    else if nr == nr_mknodat then Mknod (Some (signed_32 (argument args 0))) (text_at texts 0) (low_16 (argument args 2)) (argument args 3)
     else Other (pos nr)
 
 -- the request of a call: its number, its arguments and its texts

@@ -1,12 +1,15 @@
 -- What the parts of a policy's rules may be: names, calls, conditions, answers, and how often a rule grants. Each test computes.
 use Rattle.std.specs.Prelude.{ℕ, ◌-◌, ◌^◌, Bool, true, false, ◌&&◌, ◌||◌, not, nat_le, nat_eq, List, [], ◌∷◌, length, Option, Some, None, is_some, ℤ, pos, bytes_eq, codes}
 use Rattle.std.specs.List.{list_any, list_all, starts_with, ends_with}
+use Rattle.std.specs.Ordering.{int_eq}
 use Rattle.hist_model.specs.Decisions.{is_among, named_calls}
 use Rattle.hist_model.specs.Words.{is_digit}
 use Rattle.hist_model.specs.declared.policy.Calls.{Calls}
 use Rattle.hist_model.specs.declared.policy.Calls.TheVariants.{Named, Other}
 use Rattle.hist_model.specs.declared.policy.Cond.{Cond}
-use Rattle.hist_model.specs.declared.policy.Cond.TheVariants.{Path, Under, Kind as OfKind, Dev, Fstype, Source, Name, PlainFlags}
+use Rattle.hist_model.specs.declared.policy.Cond.TheVariants.{Path, Under, Kind as OfKind, Dev, Fstype, Source, Name, Value, Dirfd, Flags, ShortDevice, PlainFlags}
+use Rattle.hist_model.specs.declared.policy.Flag.{Flag}
+use Rattle.hist_model.specs.declared.policy.Flag.TheVariants as flag
 use Rattle.hist_model.specs.declared.policy.Verdict.{Verdict}
 use Rattle.hist_model.specs.declared.policy.Verdict.TheVariants.{Grant, Deny, Pass, Inject}
 use Rattle.hist_model.specs.declared.request.Kind.{Kind}
@@ -101,7 +104,7 @@ is_node_kind Sock = true
 is_node_kind Dir = false
 is_node_kind Bad = false
 
--- the condition has a kind, numbers or a directory that may stand in it
+-- the condition has a kind, numbers or a directory that may stand in it; one on all bits of a device number is stated by none
 abbrev pub is_condition : Cond → Bool
 is_condition (Under dir) = is_directory dir
 is_condition (OfKind kind) = is_node_kind kind
@@ -110,6 +113,10 @@ is_condition (Path text) = true
 is_condition (Fstype text) = true
 is_condition (Source text) = true
 is_condition (Name text) = true
+is_condition (Value text) = true
+is_condition (Dirfd number) = true
+is_condition (Flags all none) = true
+is_condition ShortDevice = false
 is_condition PlainFlags = true
 
 -- the calls with a path, or a target
@@ -120,6 +127,23 @@ path_calls = pos nr_mknod ∷ pos nr_mknodat ∷ pos nr_openat ∷ pos nr_setxat
 abbrev pub node_calls : List ℤ
 node_calls = pos nr_mknod ∷ pos nr_mknodat ∷ []
 
+-- the calls with the descriptor of a directory; mknod's is always AT_FDCWD
+abbrev pub dirfd_calls : List ℤ
+dirfd_calls = pos nr_mknod ∷ pos nr_mknodat ∷ pos nr_openat ∷ []
+
+-- the calls with flags that conditions name
+abbrev pub flag_calls : List ℤ
+flag_calls = pos nr_mount ∷ pos nr_setxattr ∷ []
+
+-- the call that a flag is of
+abbrev pub call_of_flag : Flag → ℤ
+call_of_flag (flag.Mount bit) = pos nr_mount
+call_of_flag (flag.Attribute bit) = pos nr_setxattr
+
+-- the flags are of this call
+abbrev pub are_flags_of : ℤ → List Flag → Bool
+are_flags_of nr flags = list_all (λ f. int_eq (call_of_flag f) nr) flags
+
 -- a condition is for this call
 abbrev pub is_for : Cond → ℤ → Bool
 is_for (Path text) nr = is_among path_calls nr
@@ -129,6 +153,10 @@ is_for (Dev major minor) nr = is_among node_calls nr
 is_for (Fstype text) nr = is_among (pos nr_mount ∷ []) nr
 is_for (Source text) nr = is_among (pos nr_mount ∷ []) nr
 is_for (Name text) nr = is_among (pos nr_setxattr ∷ []) nr
+is_for (Value text) nr = is_among (pos nr_setxattr ∷ []) nr
+is_for (Dirfd number) nr = is_among dirfd_calls nr
+is_for (Flags all none) nr = is_among flag_calls nr && (are_flags_of nr all && are_flags_of nr none)
+is_for ShortDevice nr = is_among node_calls nr
 is_for PlainFlags nr = true
 
 abbrev pub is_plain_flags : Cond → Bool

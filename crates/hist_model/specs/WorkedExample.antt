@@ -5,6 +5,7 @@ use Rattle.hist_model.specs.Filters.{notify_filter}
 use Rattle.hist_model.specs.Sysinfo.{no_figures}
 use Rattle.hist_model.specs.declared.event.Actor.TheVariants.{Task, Worker}
 use Rattle.hist_model.specs.declared.policy.Policy.{Policy}
+use Rattle.hist_model.specs.declared.policy.Profile.TheVariants.{Plain}
 use Rattle.hist_model.specs.declared.script.Instr.TheVariants.{Poke, Call}
 use Rattle.hist_model.specs.declared.script.Script.{Script}
 use Rattle.hist_model.specs.declared.script.Step.{Step}
@@ -12,7 +13,7 @@ use Rattle.sys_abi.specs.Calls.{nr_mknod}
 
 -- the policy whose one switch is mknod: the devices that a container may make, and the defaults
 abbrev pub mknod_policy : Policy
-mknod_policy = record { rules = lxd_mknod_rules ++ default_rules }
+mknod_policy = record { rules = lxd_mknod_rules Plain ++ default_rules }
 
 -- the arguments of the call: where the path stands, the mode of a character device with 0666, and the device
 abbrev pub mknod_args : ℕ → List ℕ

@@ -27,6 +27,24 @@ pub enum Calls {
     Other,
 }
 
+/// By whose rules the interception keys of a policy are read.
+#[derive(Clone, Copy, PartialEq, Eq, Debug)]
+pub enum Profile {
+    /// This program's own.
+    Plain,
+    /// Those of LXD 5.0.2 and Incus 6.0.4, which grant less.
+    Lxd,
+}
+
+/// A flag of a call, by its bit.
+#[derive(Clone, Copy, PartialEq, Eq, Debug)]
+pub enum Flag {
+    /// Of mount(2).
+    Mount(u64),
+    /// Of setxattr(2).
+    Attribute(u32),
+}
+
 /// A condition on a request.
 #[derive(Debug, Drop)]
 pub enum Cond {
@@ -41,6 +59,17 @@ pub enum Cond {
     Source(Text),
     /// The attribute's name.
     Name(Text),
+    /// The attribute's value, whole.
+    Value(Text),
+    /// The descriptor of the directory from which a relative path goes; -100 (AT_FDCWD) for mknod(2), which has none.
+    Dirfd(i32),
+    /// Each of the first flags is set, and none of the others. Only the flags of the request's own call are ever set.
+    Flags {
+        all: Sequence<Flag>,
+        none: Sequence<Flag>,
+    },
+    /// A node whose device number has no bit above the 32 that mknod(2) takes; every other request meets it.
+    ShortDevice,
     /// A mount that neither remounts, binds nor moves; every other request meets it.
     PlainFlags,
 }

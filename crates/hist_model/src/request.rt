@@ -1,6 +1,7 @@
 //! What a call asks for, and what the tree and the tables are made of.
 
 ghost use Rattle.std.specs.Prelude.{◌≡◌, IfOk};
+ghost use Rattle.hist_model.specs.Requests.{low_32};
 
 use crate::text::{Sequence, Text};
 use std::alloc::Global;
@@ -55,6 +56,13 @@ impl Kind {
     }
 }
 
+/// The device number that a node gets of a call's argument: the 32 bits that mknod(2) takes.
+pub fn node_device(dev: u64) -> u32
+    ensures { result ≡ low_32 dev }
+{
+    (dev % 0x1_0000_0000) as u32
+}
+
 /// A node of the tree. The devices have their major and minor numbers.
 #[derive(Debug, Drop)]
 pub enum Node {
@@ -94,12 +102,12 @@ pub enum Obj {
 /// What a call asks for, with its arguments read.
 #[derive(Debug, Drop)]
 pub enum Request {
-    /// mknod(2), and mknodat(2) where there is a descriptor.
+    /// mknod(2), and mknodat(2) where there is a descriptor. The device is the whole argument: a node gets its low 32 bits.
     Mknod {
         dirfd: Option<i32>,
         path: Text,
         mode: u16,
-        dev: u32,
+        dev: u64,
     },
     /// mount(2).
     Mount {

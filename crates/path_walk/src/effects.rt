@@ -11,7 +11,7 @@ ghost use Rattle.path_walk.specs.Performed.{IsPerformed, IsNotFollowed, making_o
 
 use crate::places::{Last, Place};
 use crate::resolution::{Walk, resolve};
-use hist_model::request::{Kind, Node, NodeRef, Request};
+use hist_model::request::{Kind, Node, NodeRef, Request, node_device};
 use mount_tree::errors::AttrError;
 use mount_tree::mounts::NewMount;
 use mount_tree::tree::Tree;
@@ -217,7 +217,7 @@ pub fn perform_request(
             root,
             base,
             path.items(),
-            asked_node(*mode, *dev),
+            asked_node(*mode, node_device(*dev)),
             walk,
         ),
         Request::Mount {

@@ -1,15 +1,16 @@
 //! Whether a rule fits a request.
 
-ghost use Rattle.std.specs.Prelude.{◌≡◌, ◌==◌, ◌&&◌, ◌++◌, ◌∷◌, [], nat_eq, bytes_eq};
+ghost use Rattle.std.specs.Prelude.{◌≡◌, ◌==◌, ◌&&◌, ◌++◌, ◌∷◌, [], nat_eq, bytes_eq, not, bit_and};
 ghost use Rattle.std.specs.Option.{option_copied};
-ghost use Rattle.std.specs.List.{starts_with, list_all};
-ghost use Rattle.hist_model.specs.Requests.{major_of, minor_of};
-ghost use Rattle.hist_model.specs.Decisions.{fits, covers, meets, is_text, path_of, fstype_of, source_of, attribute_of, lies_under, has_dot_dot, asks_kind, asks_device, is_device, has_plain_flags};
+ghost use Rattle.std.specs.List.{starts_with, list_all, list_any};
+ghost use Rattle.hist_model.specs.Requests.{low_32, major_of, minor_of};
+ghost use Rattle.hist_model.specs.Decisions.{fits, covers, meets, is_text, path_of, fstype_of, source_of, attribute_of, value_of, dirfd_of, dirfd_or_cwd, is_descriptor, has_flag, has_flags, mount_flags, has_short_device, lies_under, has_dot_dot, asks_kind, asks_device, is_device, has_plain_flags};
 
-use hist_model::policy::{Calls, Cond, Rule};
-use hist_model::request::{Kind, Request};
+use hist_model::policy::{Calls, Cond, Flag, Rule};
+use hist_model::request::{Kind, Request, node_device};
 use sys_abi::calls;
 use sys_abi::device::split_dev;
+use sys_abi::wire::AT_FDCWD;
 
 /// The flags of mount(2) that make it another operation than a plain mount.
 const MS_REMOUNT: u64 = 32;
@@ -17,6 +18,11 @@ const MS_REMOUNT: u64 = 32;
 const MS_BIND: u64 = 4096;
 
 const MS_MOVE: u64 = 8192;
+
+/// The magic number that old programs set in bits 16 to 31 of the flags, and the mask of these (mount(2)).
+const MS_MGC_VAL: u64 = 0xc0ed_0000;
+
+const MS_MGC_MSK: u64 = 0xffff_0000;
 
 /// How many bytes at the end of a text are compared before those in front of them.
 const END: usize = 16;
@@ -70,6 +76,10 @@ fn meets(cond: &Cond, request: &Request) -> bool
         Cond::Fstype(text) => is_text(fstype_of(request), text.items()),
         Cond::Source(text) => is_text(source_of(request), text.items()),
         Cond::Name(text) => is_text(attribute_of(request), text.items()),
+        Cond::Value(text) => is_text(value_of(request), text.items()),
+        Cond::Dirfd(number) => is_descriptor(dirfd_of(request), *number),
+        Cond::Flags { all, none } => has_flags(request, all.items(), none.items()),
+        Cond::ShortDevice => has_short_device(request),
         Cond::PlainFlags => has_plain_flags(request),
     }
 }
@@ -141,6 +151,100 @@ fn attribute_of(request: &Request) -> Option<&[u8]>
     }
 }
 
+/// The value of the attribute that is to be set.
+fn value_of(request: &Request) -> Option<&[u8]>
+    ensures { option_copied result ≡ value_of request.now }
+{
+    match request {
+        Request::SetXattr { value, .. } => Some(value.items()),
+        _ => None,
+    }
+}
+
+/// The descriptor of a mknod: without one it is AT_FDCWD.
+fn dirfd_or_cwd(dirfd: Option<i32>) -> i32
+    ensures { result ≡ dirfd_or_cwd dirfd }
+{
+    match dirfd {
+        Some(fd) => fd,
+        None => AT_FDCWD,
+    }
+}
+
+/// The descriptor of the directory from which the path of a node or a file goes, where it is relative.
+fn dirfd_of(request: &Request) -> Option<i32>
+    ensures { result ≡ dirfd_of request.now }
+{
+    match request {
+        Request::Mknod { dirfd, .. } => Some(dirfd_or_cwd(*dirfd)),
+        Request::OpenAt { dirfd, .. } => Some(*dirfd),
+        _ => None,
+    }
+}
+
+/// Whether there is a descriptor, and it is this one.
+fn is_descriptor(found: Option<i32>, number: i32) -> bool
+    ensures { result ≡ is_descriptor found number }
+{
+    match found {
+        Some(fd) => fd == number,
+        None => false,
+    }
+}
+
+/// The flags of a mount: where bits 16 to 31 are the magic number of old programs, only those below them are flags.
+fn mount_flags(flags: u64) -> u64
+    ensures { result ≡ mount_flags flags }
+{
+    if flags & MS_MGC_MSK == MS_MGC_VAL {
+        flags % 0x1_0000
+    } else {
+        flags
+    }
+}
+
+/// Whether the flag is one of the request's call, and is set.
+fn has_flag(request: &Request, flag: Flag) -> bool
+    ensures { result ≡ has_flag request.now flag }
+{
+    match (request, flag) {
+        (Request::Mount { flags, .. }, Flag::Mount(bit)) => mount_flags(*flags) & bit != 0,
+        (Request::SetXattr { flags, .. }, Flag::Attribute(bit)) => flags & bit != 0,
+        _ => false,
+    }
+}
+
+/// Whether each of these flags is set.
+fn has_all(request: &Request, flags: &[Flag]) -> bool
+    ensures { result ≡ list_all (λ f. has_flag request.now f) flags.now }
+{
+    flags.iter().all(|flag| has_flag(request, *flag))
+}
+
+/// Whether one of these flags is set.
+fn has_any(request: &Request, flags: &[Flag]) -> bool
+    ensures { result ≡ list_any (λ f. has_flag request.now f) flags.now }
+{
+    flags.iter().any(|flag| has_flag(request, *flag))
+}
+
+/// Whether each of the first flags is set, and none of the others.
+fn has_flags(request: &Request, all: &[Flag], none: &[Flag]) -> bool
+    ensures { result ≡ has_flags request.now all.now none.now }
+{
+    has_all(request, all) && !has_any(request, none)
+}
+
+/// Whether the request isn't a node whose device number has a bit above the 32nd.
+fn has_short_device(request: &Request) -> bool
+    ensures { result ≡ has_short_device request.now }
+{
+    match request {
+        Request::Mknod { dev, .. } => *dev < 0x1_0000_0000,
+        _ => true,
+    }
+}
+
 /// Whether there is a path, and it begins with the directory and a slash and has no component `..`.
 fn lies_under(found: Option<&[u8]>, dir: &[u8]) -> bool
     ensures { result ≡ lies_under (option_copied found.entry) dir.now }
@@ -198,11 +302,11 @@ fn is_device(kind: Kind) -> bool
     }
 }
 
-/// Whether the device argument stands for these numbers (makedev(3)).
-fn is_numbered(dev: u32, major: u32, minor: u32) -> bool
-    ensures { result ≡ ((major_of dev == major) && (minor_of dev == minor)) }
+/// Whether the 32 bits of the device argument that mknod(2) takes stand for these numbers (makedev(3)).
+fn is_numbered(dev: u64, major: u32, minor: u32) -> bool
+    ensures { result ≡ ((major_of (low_32 dev) == major) && (minor_of (low_32 dev) == minor)) }
 {
-    split_dev(dev) == (major, minor)
+    split_dev(node_device(dev)) == (major, minor)
 }
 
 /// Whether the request isn't a mount that remounts, binds or moves.

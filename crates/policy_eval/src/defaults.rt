@@ -1,14 +1,15 @@
 //! The rules of the devices that LXD's switch lets a container make, and the defaults behind all rules.
 
 ghost use Rattle.std.specs.Prelude.{◌≡◌, ◌++◌, ◌∷◌, [], codes, string_bytes, IfOk, OnOk};
-ghost use Rattle.hist_model.specs.Decisions.{lxd_mknod_rules, lxd_mknod_rule, default_rule, default_rules, plain_rule};
+ghost use Rattle.hist_model.specs.Decisions.{device_conditions, lxd_mknod_rules, lxd_mknod_rule, default_rule, default_rules, plain_rule};
 
-use hist_model::policy::{Calls, Cond, Rule, Verdict};
+use hist_model::policy::{Calls, Cond, Profile, Rule, Verdict};
 use hist_model::request::Kind;
 use hist_model::text::{Sequence, Text};
 use std::alloc::Global;
 use sys_abi::calls;
 use sys_abi::memory::NoMemory;
+use sys_abi::wire::AT_FDCWD;
 
 /// The devices that a container may make, by major and minor number. 0:0 is the whiteout of an overlay.
 const SAFE_DEVICES: [(u32, u32); 8] = [
@@ -35,23 +36,40 @@ const CALLS: &[(&str, i32)] = &[
 ];
 
 /// Adds the rules of the safe devices.
-pub fn push_mknod_rules(rules: &mut Vec<Rule>) -> Result<(), NoMemory>
-    ensures { OnOk result (rules.new.items ≡ rules.old.items ++ lxd_mknod_rules) }
+pub fn push_mknod_rules(rules: &mut Vec<Rule>, profile: Profile) -> Result<(), NoMemory>
+    ensures { OnOk result (rules.new.items ≡ rules.old.items ++ lxd_mknod_rules profile) }
 {
     let alloc = *rules.allocator();
     for (major, minor) in SAFE_DEVICES {
-        rules.push(mknod_rule(alloc, major, minor)?)?;
+        rules.push(mknod_rule(alloc, profile, major, minor)?)?;
     }
     Ok(())
 }
 
+/// The conditions of a character device. LXD grants none from the directory of a descriptor, and reads 64 bits of its number.
+fn device_conditions(
+    alloc: Global,
+    profile: Profile,
+    major: u32,
+    minor: u32,
+) -> Result<Vec<Cond>, NoMemory>
+    ensures { IfOk result (λ conds. conds.items ≡ device_conditions profile major minor) }
+{
+    let kind = Cond::Kind(Kind::Chr);
+    let dev = Cond::Dev(major, minor);
+    Ok(match profile {
+        Profile::Plain => vec![in alloc; kind, dev]?,
+        Profile::Lxd => vec![in alloc; kind, dev, Cond::Dirfd(AT_FDCWD), Cond::ShortDevice]?,
+    })
+}
+
 /// The rule that grants a character device, by mknod and mknodat.
-fn mknod_rule(alloc: Global, major: u32, minor: u32) -> Result<Rule, NoMemory>
-    ensures { IfOk result (λ r. r ≡ lxd_mknod_rule (major, minor)) }
+fn mknod_rule(alloc: Global, profile: Profile, major: u32, minor: u32) -> Result<Rule, NoMemory>
+    ensures { IfOk result (λ r. r ≡ lxd_mknod_rule profile (major, minor)) }
 {
     let name = format!(in alloc; "lxd.mknod.{major}:{minor}")?;
     let calls = vec![in alloc; calls::MKNOD, calls::MKNODAT]?;
-    let conds = vec![in alloc; Cond::Kind(Kind::Chr), Cond::Dev(major, minor)]?;
+    let conds = device_conditions(alloc, profile, major, minor)?;
     Ok(plain_rule(
         name,
         Calls::Named(Sequence::new(calls)),

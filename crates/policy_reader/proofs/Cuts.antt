@@ -1,6 +1,6 @@
 -- A text is cut at the first byte of a kind, and at each of them; the spaces at its ends are dropped. What a cut gives is found
 -- by the place of the first such byte, and the rest by induction on the text.
-use Rattle.std.proofs.Common.{◌≡◌, ℕ, suc, ◌+◌, ◌-◌, ◌<◌, ◌≤◌, true, false, cond, List, [], ◌∷◌, length, take, drop, map, filter, Option, Some, None, ◌==◌, refl, ap, sym, ◌∙◌, inl, inr, arith, take_all, length-drop}
+use Rattle.std.proofs.Common.{◌≡◌, ℕ, suc, ◌+◌, ◌-◌, ◌<◌, ◌≤◌, true, false, cond, List, [], ◌∷◌, length, Bor, take, drop, map, filter, ◌++◌, Option, Some, None, ◌==◌, refl, ap, sym, ◌∙◌, inl, inr, arith, take_all, length-drop}
 use Rattle.std.specs.Prelude.{not, nat_lt, position}
 use Rattle.std.specs.List.{prefix_len, slice_split}
 use Rattle.std.proofs.lemmas.Bool.{cases_Bool}
@@ -98,21 +98,26 @@ rest_missing mark text e = sym (ap (λ c. c.1) (cut_missing mark text e))
 
 -- ---- items
 
+-- an item that is taken from what is left stands behind those before it
+pub one_item : (items : List (Bor (List ℕ))) (item : Bor (List ℕ)) (more left all : List (List ℕ)) → map (λ i. i.now) items ++ left ≡ all → left ≡ item.now ∷ more → map (λ i. i.now) (items ++ item ∷ []) ++ more ≡ all
+one_item [] item more left all h e = sym e ∙ h
+one_item (i ∷ items) item more left all h e = ap (λ rest. i.now ∷ rest) (one_item items item more left (map (λ j. j.now) items ++ left) refl e) ∙ h
+
 -- the items of what is left of a list, where anything is
 abbrev pub items_left : Option (List ℕ) → List (List ℕ)
 items_left None = []
 items_left (Some text) = items_of text
 
 -- the pieces of what is left
-abbrev pieces_left : Option (List ℕ) → List (List ℕ)
+abbrev pub pieces_left : Option (List ℕ) → List (List ℕ)
 pieces_left None = []
 pieces_left (Some text) = slice_split (λ b. b == 44) text
 
-split-first : (text : List ℕ) → slice_split (λ b. b == 44) text ≡ (cut_at 44 text).0 ∷ pieces_left (cut_at 44 text).1
-split-first [] = refl
-split-first (b ∷ bs) = elim (cases_Bool (b == 44)) [
+pub split_first : (text : List ℕ) → slice_split (λ b. b == 44) text ≡ (cut_at 44 text).0 ∷ pieces_left (cut_at 44 text).1
+split_first [] = refl
+split_first (b ∷ bs) = elim (cases_Bool (b == 44)) [
   | inl h ↦ rw h refl
-  | inr h ↦ rw (h, split-first bs) refl
+  | inr h ↦ rw (h, split_first bs) refl
 ]
 
 of-pieces : (rest : Option (List ℕ)) → filter is_filled (map trimmed (pieces_left rest)) ≡ items_left rest
@@ -120,7 +125,7 @@ of-pieces None = refl
 of-pieces (Some text) = refl
 
 items-first : (text : List ℕ) → items_of text ≡ cond (is_filled (trimmed (cut_at 44 text).0)) (trimmed (cut_at 44 text).0 ∷ items_left (cut_at 44 text).1) (items_left (cut_at 44 text).1)
-items-first text = ap (λ pieces. filter is_filled (map trimmed pieces)) (split-first text) ∙ rw (of-pieces (cut_at 44 text).1) refl
+items-first text = ap (λ pieces. filter is_filled (map trimmed pieces)) (split_first text) ∙ rw (of-pieces (cut_at 44 text).1) refl
 
 filled : (bytes : List ℕ) → (length bytes ≡ 0 → ⊥) → is_filled bytes ≡ true
 filled [] h = absurd (h refl)

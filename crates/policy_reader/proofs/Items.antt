@@ -14,7 +14,7 @@ use Rattle.policy_reader.specs.Readings.{Reading, walk_items}
 use Rattle.policy_reader.specs.Rules.{listed_call, listed_calls, rule_at, rule_of, rules_in}
 use Rattle.policy_reader.specs.declared.error.PolicyError.TheVariants.{TooMany}
 use Rattle.policy_reader.specs.declared.names.Names.{Names}
-use Rattle.policy_reader.specs.declared.rules.Version.{Version}
+use Rattle.policy_reader.specs.declared.rules.Format.{Format}
 
 -- an item that was read stands behind those before it
 pub one_read : {A : Type 0} (read : List A → Data → Reading A) (found : List A) (xs : List Value) (i : ℕ) (d : Value) (x : A) → i < length xs → read found (view (get_or xs i d)) ≡ Ok x
@@ -26,16 +26,16 @@ pub calls_begin : (n : ℕ) (xs : List Value) → (length xs == 0) ≡ false →
 calls_begin n xs h = let e : (items_len (items_view xs) == 0) ≡ false = rw (items_len-items_view xs) h in rw e refl
 
 -- an array of few rules is read from its first one
-pub rules_begin : (version : Version) (xs : List Value) → length xs ≤ 1024 → rules_in version (items_view xs) ≡ walk_items (rule_of version) [] (items_view xs)
-rules_begin version xs h = let e : nat_lt 1024 (items_len (items_view xs)) ≡ false = rw (items_len-items_view xs) (grind (arith, nat_tests)) in rw e refl
+pub rules_begin : (format : Format) (xs : List Value) → length xs ≤ 1024 → rules_in format (items_view xs) ≡ walk_items (rule_of format) [] (items_view xs)
+rules_begin format xs h = let e : nat_lt 1024 (items_len (items_view xs)) ≡ false = rw (items_len-items_view xs) (grind (arith, nat_tests)) in rw e refl
 
 -- an array of more is refused
-pub too_many_rules : (version : Version) (xs : List Value) → 1024 < length xs → rules_in version (items_view xs) ≡ Err TooMany
-too_many_rules version xs h = let e : nat_lt 1024 (items_len (items_view xs)) ≡ true = rw (items_len-items_view xs) (grind (arith, nat_tests)) in rw e refl
+pub too_many_rules : (format : Format) (xs : List Value) → 1024 < length xs → rules_in format (items_view xs) ≡ Err TooMany
+too_many_rules format xs h = let e : nat_lt 1024 (items_len (items_view xs)) ≡ true = rw (items_len-items_view xs) (grind (arith, nat_tests)) in rw e refl
 
 -- the rule is read by the names of the earlier ones
-pub rule_by_names : (version : Version) (names : Names) (earlier : List Rule) (d : Data) → HoldsNames (λ rule. rule.name) names earlier → rule_at version (length earlier) (holds names) d ≡ rule_of version earlier d
-rule_by_names version names earlier d h = ap (λ used. rule_at version (length earlier) used d) (λ i q. h q i)
+pub rule_by_names : (format : Format) (names : Names) (earlier : List Rule) (d : Data) → HoldsNames (λ rule. rule.name) names earlier → rule_at format (length earlier) (holds names) d ≡ rule_of format earlier d
+rule_by_names format names earlier d h = ap (λ used. rule_at format (length earlier) used d) (λ i q. h q i)
 
 or-comm : (a b : Bool) → (a || b) ≡ (b || a)
 or-comm a b = grind arith

@@ -13,7 +13,8 @@ use Rattle.hist_model.specs.RuleParts.{are_named, grants_mount, is_answer, is_co
 use Rattle.hist_model.specs.Words.{number_after, is_number}
 use Rattle.hist_model.specs.declared.policy.Calls.TheVariants.{Named}
 use Rattle.hist_model.specs.declared.policy.Cond.{Cond}
-use Rattle.hist_model.specs.declared.policy.Cond.TheVariants.{Under, Kind as OfKind, PlainFlags}
+use Rattle.hist_model.specs.declared.policy.Cond.TheVariants.{Under, Kind as OfKind, Dirfd, Flags, PlainFlags}
+use Rattle.hist_model.specs.declared.policy.Profile.{Profile}
 use Rattle.hist_model.specs.declared.policy.Rule.{Rule}
 use Rattle.hist_model.specs.declared.policy.Verdict.{Verdict}
 use Rattle.hist_model.specs.declared.policy.Verdict.TheVariants.{Grant, Deny, Pass, Inject}
@@ -24,14 +25,17 @@ use Rattle.sys_abi.specs.Calls.{calls, call_number_of, nr_mount}
 use Rattle.sys_abi.specs.Errnos.{errnos, errno_name, errno_of_name}
 use Rattle.policy_reader.specs.declared.conditions.CondKey.{CondKey}
 use Rattle.policy_reader.specs.declared.conditions.CondKey.TheVariants as cond_key
+use Rattle.policy_reader.specs.declared.conditions.TextKey.{TextKey}
+use Rattle.policy_reader.specs.declared.conditions.TextKey.TheVariants as text_key
 use Rattle.policy_reader.specs.declared.rules.RuleKey.{RuleKey}
 use Rattle.policy_reader.specs.declared.rules.RuleKey.TheVariants as rule_key
 use Rattle.policy_reader.specs.declared.rules.Stated.{Stated}
-use Rattle.policy_reader.specs.declared.rules.Version.{Version}
+use Rattle.policy_reader.specs.declared.rules.Format.{Format}
 use Rattle.policy_reader.specs.declared.verdicts.Answer.{Answer}
 use Rattle.policy_reader.specs.declared.verdicts.AnswerKey.{AnswerKey}
 use Rattle.policy_reader.specs.declared.verdicts.AnswerKey.TheVariants as answer_key
-use Rattle.policy_reader.specs.Conditions.{condition, condition_at, condition_keys, condition_member, condition_of, conditions_of, device_condition, device_parts, kinds, misfit}
+use Rattle.policy_reader.specs.Conditions.{condition, condition_at, condition_key, condition_member, condition_of, conditions_of, descriptor_of, device_condition, device_parts, kinds, misfit}
+use Rattle.policy_reader.specs.Flags.{flags_member, flags_of, no_flags}
 use Rattle.policy_reader.specs.Readings.{Reading, and_then, good, named, rule_place, walk, walk_items, call_place}
 use Rattle.policy_reader.specs.Rules.{call_of, calls_of, condition_fault, fault_of, in_version, is_used, listed_call, listed_calls, nothing_stated, own_conditions, own_rule, rule_at, rule_from, rule_keys, rule_member, rule_of, rules_in, rules_of, state, unless_faulty}
 use Rattle.policy_reader.specs.Texts.{cut_at, decimal_up_to, in_range, leads_with_zero, rule_name, whole_from}
@@ -114,24 +118,33 @@ parts_kept : (parts : List ℕ × Option (List ℕ)) → IfSome (device_parts pa
 parts_kept (major, None) = tt
 parts_kept (major, Some minor) = device_kept (decimal_up_to major_max major) (decimal_up_to minor_max minor) (decimal_kept major_max major) (decimal_kept minor_max minor)
 
-text_kept : (key : CondKey) (text : List ℕ) → IfSome (condition_of key text) (λ c. is_stated c ≡ true)
+text_kept : (key : TextKey) (text : List ℕ) → IfSome (condition_of key text) (λ c. is_stated c ≡ true)
 unfolding is_stated
-text_kept cond_key.Dev text = parts_kept (cut_at 58 text)
-text_kept cond_key.Fstype text = refl
-text_kept cond_key.Kind text = found_mapped (λ kind. is_node_kind kind ≡ true) (λ c. is_stated c ≡ true) OfKind (named kinds text) (named_passes is_node_kind kinds text refl) (λ kind h. rw h refl)
-text_kept cond_key.Name text = refl
-text_kept cond_key.Path text = refl
-text_kept cond_key.Source text = refl
-text_kept cond_key.Under text = found_if (λ c. is_stated c ≡ true) (is_condition (Under text)) (Under text) (λ h. rw h refl)
+text_kept text_key.Dev text = parts_kept (cut_at 58 text)
+text_kept text_key.Fstype text = refl
+text_kept text_key.Kind text = found_mapped (λ kind. is_node_kind kind ≡ true) (λ c. is_stated c ≡ true) OfKind (named kinds text) (named_passes is_node_kind kinds text refl) (λ kind h. rw h refl)
+text_kept text_key.Name text = refl
+text_kept text_key.Path text = refl
+text_kept text_key.Source text = refl
+text_kept text_key.Under text = found_if (λ c. is_stated c ≡ true) (is_condition (Under text)) (Under text) (λ h. rw h refl)
+text_kept text_key.Value text = refl
+
+flags_kept : (n : ℕ) (d : Data) → IfOk (flags_of n d) (λ c. is_stated c ≡ true)
+unfolding is_stated
+flags_kept n d = next_keeps (λ _. ⊤) (λ c. is_stated c ≡ true) (good (rule_place n (codes ".when.flags")) (as_object d)) (λ ms. and_then (walk (flags_member n) ms no_flags) (λ s. Ok (Flags s.all s.none))) (anything (good (rule_place n (codes ".when.flags")) (as_object d)))
+    (λ ms _. next_keeps (λ _. ⊤) (λ c. is_stated c ≡ true) (walk (flags_member n) ms no_flags) (λ s. Ok (Flags s.all s.none)) (anything (walk (flags_member n) ms no_flags)) (λ s _. refl))
 
 key_kept : (n : ℕ) (key : Option CondKey) (name : List ℕ) (d : Data) → IfOk (condition_at n key name d) (λ c. is_stated c ≡ true)
+unfolding is_stated
 key_kept n None name d = tt
-key_kept n (Some key) name d = good_keeps (λ c. is_stated c ≡ true) (rule_place n (codes ".when." ++ name)) (option_and_then (condition_of key) (as_str d)) (found_next (λ _. ⊤) (λ c. is_stated c ≡ true) (condition_of key) (as_str d) (any_found (as_str d)) (λ text _. text_kept key text))
+key_kept n (Some (cond_key.Text key)) name d = good_keeps (λ c. is_stated c ≡ true) (rule_place n (codes ".when." ++ name)) (option_and_then (condition_of key) (as_str d)) (found_next (λ _. ⊤) (λ c. is_stated c ≡ true) (condition_of key) (as_str d) (any_found (as_str d)) (λ text _. text_kept key text))
+key_kept n (Some cond_key.Dirfd) name d = good_keeps (λ c. is_stated c ≡ true) (rule_place n (codes ".when." ++ name)) (option_map Dirfd (descriptor_of d)) (found_mapped (λ _. ⊤) (λ c. is_stated c ≡ true) Dirfd (descriptor_of d) (any_found (descriptor_of d)) (λ number _. refl))
+key_kept n (Some cond_key.Flags) name d = flags_kept n d
 
-conditions_kept : (n : ℕ) (d : Data) → IfOk (conditions_of n d) (λ conds. list_all is_stated conds ≡ true)
-conditions_kept n d = next_keeps (λ _. ⊤) (λ conds. list_all is_stated conds ≡ true) (good (rule_place n (codes ".when")) (as_object d)) (λ ms. walk (condition_member n) ms []) (anything (good (rule_place n (codes ".when")) (as_object d)))
-    (λ ms _. walk_keeps (λ conds. list_all is_stated conds ≡ true) (condition_member n)
-    (λ name d conds h. next_keeps (λ c. is_stated c ≡ true) (λ conds. list_all is_stated conds ≡ true) (condition n name d) (λ c. Ok (conds ++ c ∷ [])) (key_kept n (named condition_keys name) name d) (λ c k. all_push is_stated conds c h k))
+conditions_kept : (profile : Profile) (n : ℕ) (d : Data) → IfOk (conditions_of profile n d) (λ conds. list_all is_stated conds ≡ true)
+conditions_kept profile n d = next_keeps (λ _. ⊤) (λ conds. list_all is_stated conds ≡ true) (good (rule_place n (codes ".when")) (as_object d)) (λ ms. walk (condition_member profile n) ms []) (anything (good (rule_place n (codes ".when")) (as_object d)))
+    (λ ms _. walk_keeps (λ conds. list_all is_stated conds ≡ true) (condition_member profile n)
+    (λ name d conds h. next_keeps (λ c. is_stated c ≡ true) (λ conds. list_all is_stated conds ≡ true) (condition profile n name d) (λ c. Ok (conds ++ c ∷ [])) (key_kept n (condition_key profile name) name d) (λ c k. all_push is_stated conds c h k))
     ms [] refl)
 
 -- ---- Answers
@@ -179,13 +192,13 @@ record AreKeys (s : Stated) : Type 0 where
   verdict : IfSome s.verdict (λ v. is_answer v ≡ true)
   times : IfSome s.times (λ n. is_from 1 n ≡ true)
 
-state_kept : (n : ℕ) (key : Option RuleKey) (name : List ℕ) (d : Data) (s : Stated) → AreKeys s → IfOk (state n key name d s) AreKeys
-state_kept n None name d s h = tt
-state_kept n (Some rule_key.Call) name d s h = next_keeps (λ nrs. are_named nrs ≡ true) AreKeys (calls_of n d) (λ nrs. Ok (record s { calls = Some nrs })) (calls_kept n d) (λ nrs k. record { name = h.name; calls = k; conds = h.conds; verdict = h.verdict; times = h.times })
-state_kept n (Some rule_key.Name) name d s h = next_keeps (λ text. is_rule_name text ≡ true) AreKeys (good (rule_place n (codes ".name")) (option_and_then rule_name (as_str d))) (λ text. Ok (record s { name = Some text })) (good_keeps (λ text. is_rule_name text ≡ true) (rule_place n (codes ".name")) (option_and_then rule_name (as_str d)) (name_kept d)) (λ text k. record { name = k; calls = h.calls; conds = h.conds; verdict = h.verdict; times = h.times })
-state_kept n (Some rule_key.Then) name d s h = next_keeps (λ v. is_answer v ≡ true) AreKeys (verdict_of n d) (λ v. Ok (record s { verdict = Some v })) (verdict_kept n d) (λ v k. record { name = h.name; calls = h.calls; conds = h.conds; verdict = k; times = h.times })
-state_kept n (Some rule_key.Times) name d s h = next_keeps (λ m. is_from 1 m ≡ true) AreKeys (good (rule_place n (codes ".times")) (whole_from 1 d)) (λ m. Ok (record s { times = Some m })) (good_keeps (λ m. is_from 1 m ≡ true) (rule_place n (codes ".times")) (whole_from 1 d) (whole_kept 1 d)) (λ m k. record { name = h.name; calls = h.calls; conds = h.conds; verdict = h.verdict; times = k })
-state_kept n (Some rule_key.When) name d s h = next_keeps (λ conds. list_all is_stated conds ≡ true) AreKeys (conditions_of n d) (λ conds. Ok (record s { conds = conds })) (conditions_kept n d) (λ conds k. record { name = h.name; calls = h.calls; conds = k; verdict = h.verdict; times = h.times })
+state_kept : (profile : Profile) (n : ℕ) (key : Option RuleKey) (name : List ℕ) (d : Data) (s : Stated) → AreKeys s → IfOk (state profile n key name d s) AreKeys
+state_kept profile n None name d s h = tt
+state_kept profile n (Some rule_key.Call) name d s h = next_keeps (λ nrs. are_named nrs ≡ true) AreKeys (calls_of n d) (λ nrs. Ok (record s { calls = Some nrs })) (calls_kept n d) (λ nrs k. record { name = h.name; calls = k; conds = h.conds; verdict = h.verdict; times = h.times })
+state_kept profile n (Some rule_key.Name) name d s h = next_keeps (λ text. is_rule_name text ≡ true) AreKeys (good (rule_place n (codes ".name")) (option_and_then rule_name (as_str d))) (λ text. Ok (record s { name = Some text })) (good_keeps (λ text. is_rule_name text ≡ true) (rule_place n (codes ".name")) (option_and_then rule_name (as_str d)) (name_kept d)) (λ text k. record { name = k; calls = h.calls; conds = h.conds; verdict = h.verdict; times = h.times })
+state_kept profile n (Some rule_key.Then) name d s h = next_keeps (λ v. is_answer v ≡ true) AreKeys (verdict_of n d) (λ v. Ok (record s { verdict = Some v })) (verdict_kept n d) (λ v k. record { name = h.name; calls = h.calls; conds = h.conds; verdict = k; times = h.times })
+state_kept profile n (Some rule_key.Times) name d s h = next_keeps (λ m. is_from 1 m ≡ true) AreKeys (good (rule_place n (codes ".times")) (whole_from 1 d)) (λ m. Ok (record s { times = Some m })) (good_keeps (λ m. is_from 1 m ≡ true) (rule_place n (codes ".times")) (whole_from 1 d) (whole_kept 1 d)) (λ m k. record { name = h.name; calls = h.calls; conds = h.conds; verdict = h.verdict; times = k })
+state_kept profile n (Some rule_key.When) name d s h = next_keeps (λ conds. list_all is_stated conds ≡ true) AreKeys (conditions_of profile n d) (λ conds. Ok (record s { conds = conds })) (conditions_kept profile n d) (λ conds k. record { name = h.name; calls = h.calls; conds = k; verdict = h.verdict; times = h.times })
 
 -- ---- A rule
 
@@ -282,10 +295,10 @@ from_keys n used s h =
     next_keeps (λ v. is_answer v ≡ true) (IsNew used) (good (rule_place n (codes ".then")) s.verdict) _ (good_keeps (λ v. is_answer v ≡ true) (rule_place n (codes ".then")) s.verdict h.verdict) (λ v c.
     unless_kept n (fault_of nrs v s.times s.conds (used name)) (own_rule name nrs s.conds v s.times) (IsNew used) (λ e. made_kept name nrs s.conds v s.times used a b h.conds c h.times (faultless nrs v s.times s.conds (used name) e)))))
 
-rule_kept : (version : Version) (n : ℕ) (used : List ℕ → Bool) (d : Data) → IfOk (rule_at version n used d) (IsNew used)
-rule_kept version n used d = next_keeps (λ _. ⊤) (IsNew used) (good (rule_place n []) (as_object d)) (λ ms. and_then (walk (rule_member version n) ms nothing_stated) (rule_from n used)) (anything (good (rule_place n []) (as_object d)))
-    (λ ms _. next_keeps AreKeys (IsNew used) (walk (rule_member version n) ms nothing_stated) (rule_from n used)
-    (walk_keeps AreKeys (rule_member version n) (λ name d s h. state_kept n (in_version version (named rule_keys name)) name d s h) ms nothing_stated (record { name = tt; calls = tt; conds = refl; verdict = tt; times = tt }))
+rule_kept : (format : Format) (n : ℕ) (used : List ℕ → Bool) (d : Data) → IfOk (rule_at format n used d) (IsNew used)
+rule_kept format n used d = next_keeps (λ _. ⊤) (IsNew used) (good (rule_place n []) (as_object d)) (λ ms. and_then (walk (rule_member format n) ms nothing_stated) (rule_from n used)) (anything (good (rule_place n []) (as_object d)))
+    (λ ms _. next_keeps AreKeys (IsNew used) (walk (rule_member format n) ms nothing_stated) (rule_from n used)
+    (walk_keeps AreKeys (rule_member format n) (λ name d s h. state_kept format.profile n (in_version format.version (named rule_keys name)) name d s h) ms nothing_stated (record { name = tt; calls = tt; conds = refl; verdict = tt; times = tt }))
     (λ s h. from_keys n used s h))
 
 -- ---- The rules of an array
@@ -316,18 +329,18 @@ counted read no_items found = omega arith
 counted read (item d ds) found = next_keeps (λ _. ⊤) (λ xs. length xs ≡ length found + suc (items_len ds)) (read found d) (λ x. walk_items read (found ++ x ∷ []) ds) (anything (read found d))
     (λ x _. weaker (λ xs. length xs ≡ length (found ++ x ∷ []) + items_len ds) (λ xs. length xs ≡ length found + suc (items_len ds)) (walk_items read (found ++ x ∷ []) ds) (counted read ds (found ++ x ∷ [])) (λ xs e. one_more found x (items_len ds) (length xs) e))
 
-few_rules : (version : Version) (ds : Items) → items_len ds ≤ 1024 → IfOk (walk_items (rule_of version) [] ds) AreOwnRules
-few_rules version ds few = weaker (λ xs. AreNewRules xs × (length xs ≡ 0 + items_len ds)) AreOwnRules (walk_items (rule_of version) [] ds)
-    (both AreNewRules (λ xs. length xs ≡ 0 + items_len ds) (walk_items (rule_of version) [] ds)
-    (items_keep AreNewRules (rule_of version) (λ found d h. pushed found (rule_of version found d) h (rule_kept version (length found) (is_used found) d)) ds [] (record { rules = All-nil IsOwnRule; names = refl }))
-    (counted (rule_of version) ds []))
+few_rules : (format : Format) (ds : Items) → items_len ds ≤ 1024 → IfOk (walk_items (rule_of format) [] ds) AreOwnRules
+few_rules format ds few = weaker (λ xs. AreNewRules xs × (length xs ≡ 0 + items_len ds)) AreOwnRules (walk_items (rule_of format) [] ds)
+    (both AreNewRules (λ xs. length xs ≡ 0 + items_len ds) (walk_items (rule_of format) [] ds)
+    (items_keep AreNewRules (rule_of format) (λ found d h. pushed found (rule_of format found d) h (rule_kept format (length found) (is_used found) d)) ds [] (record { rules = All-nil IsOwnRule; names = refl }))
+    (counted (rule_of format) ds []))
     (λ xs h. record { number = omega (arith, h.1); rules = h.0.rules; names = h.0.names })
 
-in_kept : (version : Version) (ds : Items) → IfOk (rules_in version ds) AreOwnRules
-in_kept version ds = elim (cases_Bool (nat_lt 1024 (items_len ds))) [
+in_kept : (format : Format) (ds : Items) → IfOk (rules_in format ds) AreOwnRules
+in_kept format ds = elim (cases_Bool (nat_lt 1024 (items_len ds))) [
   | inl t ↦ rw t tt
-  | inr f ↦ rw f (few_rules version ds (grind (arith, nat_tests)))
+  | inr f ↦ rw f (few_rules format ds (grind (arith, nat_tests)))
 ]
 
-pub rules_kept : (version : Version) (d : Data) → IfOk (rules_of version d) AreOwnRules
-rules_kept version d = next_keeps (λ _. ⊤) AreOwnRules (good (codes "rules") (as_array d)) (rules_in version) (anything (good (codes "rules") (as_array d))) (λ ds _. in_kept version ds)
+pub rules_kept : (format : Format) (d : Data) → IfOk (rules_of format d) AreOwnRules
+rules_kept format d = next_keeps (λ _. ⊤) AreOwnRules (good (codes "rules") (as_array d)) (rules_in format) (anything (good (codes "rules") (as_array d))) (λ ds _. in_kept format ds)

@@ -1,21 +1,25 @@
 -- Switches that are read keep what those of every policy keep.
 -- By cases on settings and texts, with the facts that each step of a reading keeps.
-use Rattle.std.proofs.Common.{◌≡◌, ℕ, Bool, true, ◌&&◌, List, [], ◌∷◌, ◌++◌, Option, Some, None, option_map, Ok, IfOk, IfSome, codes, refl, inl, inr}
+use Rattle.std.proofs.Common.{◌≡◌, ℕ, Bool, true, ◌&&◌, List, [], ◌∷◌, ◌++◌, Option, Some, None, option_and_then, option_map, if◌then◌else◌, false, Ok, IfOk, IfSome, codes, refl, inl, inr}
 use Rattle.std.specs.Prelude.{⊤}
 use Rattle.std.specs.List.{list_all}
 use Rattle.std.proofs.lemmas.Bool.{and_from, and_parts, cases_Bool}
 use Rattle.hist_model.specs.Decisions.{Switches}
 use Rattle.hist_model.specs.PolicyRules.{AreSwitches}
 use Rattle.hist_model.specs.RuleParts.{has_named, is_short_name, named_once}
+use Rattle.hist_model.specs.declared.policy.Profile.{Profile}
+use Rattle.hist_model.specs.declared.policy.Profile.TheVariants.{Plain, Lxd}
 use Rattle.serde_json.specs.Data.{Data}
 use Rattle.serde_json.specs.Find.{as_str, as_object}
 use Rattle.policy_reader.specs.declared.settings.ConfigKey.{ConfigKey}
-use Rattle.policy_reader.specs.declared.settings.ConfigKey.TheVariants.{Ignored, Unknown, Known}
+use Rattle.policy_reader.specs.declared.settings.ConfigKey.TheVariants.{Ignored, Judged, Unknown, Known}
+use Rattle.policy_reader.specs.declared.lxd_lists.ListOf.TheVariants.{Names, Pairs}
 use Rattle.policy_reader.specs.declared.settings.Setting.{Setting}
 use Rattle.policy_reader.specs.declared.settings.Setting.TheVariants.{Mknod, Mount, Shift, Allowed, Fuse, SetXattr, Sysinfo}
 use Rattle.policy_reader.specs.Readings.{and_then, config_place, good, walk}
-use Rattle.policy_reader.specs.Settings.{all_off, config_key, config_member, config_member_of, config_of, each, file_system, file_systems, fuse_pair, fuse_pairs, kept, pair_of, set, switch_of}
-use Rattle.policy_reader.specs.Texts.{cut_at, items_of}
+use Rattle.policy_reader.specs.Settings.{all_off, config_key, config_member, config_member_of, config_of, each, file_system, file_systems, fuse_pair, fuse_pairs, items_in, kept, pair_of, pairs_beside, set, switch_of}
+use Rattle.policy_reader.specs.LxdLists.{shares, unless_shared}
+use Rattle.policy_reader.specs.Texts.{cut_at}
 use Rattle.policy_reader.proofs.Keeping.{all_push, anything, found_if, found_mapped, found_next, good_keeps, next_keeps, once_push, walk_keeps}
 
 -- ---- Lists of file systems
@@ -39,9 +43,9 @@ kept_once p name before (x ∷ xs) h k =
       | inr n ↦ rw n (kept_once p name (before ++ x ∷ []) xs (record { pass = all_push p before x h.pass parts.0; once = once_push name before x h.once n }) parts.1)
     ]
 
-names_kept : (text : List ℕ) → IfSome (file_systems text) (AreItems is_short_name (λ name. name))
-names_kept text = found_mapped (λ xs. list_all is_short_name xs ≡ true) (AreItems is_short_name (λ name. name)) (kept (λ name. name) []) (each file_system (items_of text))
-    (each_kept is_short_name file_system (λ item. found_if (λ x. is_short_name x ≡ true) (is_short_name item) item (λ h. h)) (items_of text))
+names_kept : (profile : Profile) (text : List ℕ) → IfSome (file_systems profile text) (AreItems is_short_name (λ name. name))
+names_kept profile text = found_mapped (λ xs. list_all is_short_name xs ≡ true) (AreItems is_short_name (λ name. name)) (kept (λ name. name) []) (each file_system (items_in profile Names text))
+    (each_kept is_short_name file_system (λ item. found_if (λ x. is_short_name x ≡ true) (is_short_name item) item (λ h. h)) (items_in profile Names text))
     (λ xs h. kept_once is_short_name (λ name. name) [] xs (record { pass = refl; once = refl }) h)
 
 is_pair : List ℕ × List ℕ → Bool
@@ -55,10 +59,18 @@ pair_kept (name, Some program) = elim (cases_Bool (is_short_name name)) [
   | inr n ↦ rw n tt
 ]
 
-pairs_kept : (text : List ℕ) → IfSome (fuse_pairs text) (AreItems is_pair (λ pair. pair.0))
-pairs_kept text = found_mapped (λ xs. list_all is_pair xs ≡ true) (AreItems is_pair (λ pair. pair.0)) (kept (λ pair. pair.0) []) (each fuse_pair (items_of text))
-    (each_kept is_pair fuse_pair (λ item. pair_kept (cut_at 61 item)) (items_of text))
+pairs_kept : (profile : Profile) (text : List ℕ) → IfSome (fuse_pairs profile text) (AreItems is_pair (λ pair. pair.0))
+pairs_kept profile text = found_mapped (λ xs. list_all is_pair xs ≡ true) (AreItems is_pair (λ pair. pair.0)) (kept (λ pair. pair.0) []) (each fuse_pair (items_in profile Pairs text))
+    (each_kept is_pair fuse_pair (λ item. pair_kept (cut_at 61 item)) (items_in profile Pairs text))
     (λ xs h. kept_once is_pair (λ pair. pair.0) [] xs (record { pass = refl; once = refl }) h)
+
+beside_kept : (profile : Profile) (allowed : List (List ℕ)) (text : List ℕ) → IfSome (pairs_beside profile allowed text) (AreItems is_pair (λ pair. pair.0))
+beside_kept Plain allowed text = pairs_kept Plain text
+beside_kept Lxd allowed text = found_next (AreItems is_pair (λ pair. pair.0)) (AreItems is_pair (λ pair. pair.0)) (unless_shared allowed) (fuse_pairs Lxd text) (pairs_kept Lxd text) (λ pairs h. apart pairs h (shares allowed pairs))
+  where
+    apart : (pairs : List (List ℕ × List ℕ)) → AreItems is_pair (λ pair. pair.0) pairs → (shared : Bool) → IfSome (if shared then None else Some pairs) (AreItems is_pair (λ pair. pair.0))
+    apart pairs h true = tt
+    apart pairs h false = h
 
 -- ---- Settings
 
@@ -73,16 +85,17 @@ set_kept key Mount text s h = switch_kept key text s (λ on. record s { mount = 
 set_kept key Shift text s h = switch_kept key text s (λ on. record s { shift = on }) (λ on. record { allowed = h.allowed; allowed_once = h.allowed_once; fuse = h.fuse; fuse_once = h.fuse_once })
 set_kept key SetXattr text s h = switch_kept key text s (λ on. record s { setxattr = on }) (λ on. record { allowed = h.allowed; allowed_once = h.allowed_once; fuse = h.fuse; fuse_once = h.fuse_once })
 set_kept key Sysinfo text s h = switch_kept key text s (λ on. record s { sysinfo = on }) (λ on. record { allowed = h.allowed; allowed_once = h.allowed_once; fuse = h.fuse; fuse_once = h.fuse_once })
-set_kept key Allowed text s h = next_keeps (AreItems is_short_name (λ name. name)) AreSwitches (good (config_place key) (file_systems text)) (λ names. Ok (record s { allowed = names })) (good_keeps (AreItems is_short_name (λ name. name)) (config_place key) (file_systems text) (names_kept text))
+set_kept key Allowed text s h = next_keeps (AreItems is_short_name (λ name. name)) AreSwitches (good (config_place key) (file_systems s.profile text)) (λ names. Ok (record s { allowed = names })) (good_keeps (AreItems is_short_name (λ name. name)) (config_place key) (file_systems s.profile text) (names_kept s.profile text))
     (λ names k. record { allowed = k.pass; allowed_once = k.once; fuse = h.fuse; fuse_once = h.fuse_once })
-set_kept key Fuse text s h = next_keeps (AreItems is_pair (λ pair. pair.0)) AreSwitches (good (config_place key) (fuse_pairs text)) (λ pairs. Ok (record s { fuse = pairs })) (good_keeps (AreItems is_pair (λ pair. pair.0)) (config_place key) (fuse_pairs text) (pairs_kept text))
+set_kept key Fuse text s h = next_keeps (AreItems is_pair (λ pair. pair.0)) AreSwitches (good (config_place key) (pairs_beside s.profile s.allowed text)) (λ pairs. Ok (record s { fuse = pairs })) (good_keeps (AreItems is_pair (λ pair. pair.0)) (config_place key) (pairs_beside s.profile s.allowed text) (beside_kept s.profile s.allowed text))
     (λ pairs k. record { allowed = h.allowed; allowed_once = h.allowed_once; fuse = k.pass; fuse_once = k.once })
 
 member_kept : (kind : ConfigKey) (key : List ℕ) (d : Data) (s : Switches) → AreSwitches s → IfOk (config_member_of kind key d s) AreSwitches
 member_kept Ignored key d s h = h
+member_kept Judged key d s h = next_keeps (λ _. ⊤) AreSwitches (good (config_place key) (option_and_then switch_of (as_str d))) (λ on. Ok s) (anything (good (config_place key) (option_and_then switch_of (as_str d)))) (λ on _. h)
 member_kept Unknown key d s h = tt
 member_kept (Known setting) key d s h = next_keeps (λ _. ⊤) AreSwitches (good (config_place key) (as_str d)) (λ text. set key setting text s) (anything (good (config_place key) (as_str d))) (λ text _. set_kept key setting text s h)
 
-pub config_kept : (d : Data) → IfOk (config_of d) AreSwitches
-config_kept d = next_keeps (λ _. ⊤) AreSwitches (good (codes "config") (as_object d)) (λ ms. walk config_member ms all_off) (anything (good (codes "config") (as_object d)))
-    (λ ms _. walk_keeps AreSwitches config_member (λ key d s h. member_kept (config_key key) key d s h) ms all_off (record { allowed = refl; allowed_once = refl; fuse = refl; fuse_once = refl }))
+pub config_kept : (profile : Profile) (d : Data) → IfOk (config_of profile d) AreSwitches
+config_kept profile d = next_keeps (λ _. ⊤) AreSwitches (good (codes "config") (as_object d)) (λ ms. walk config_member ms (all_off profile)) (anything (good (codes "config") (as_object d)))
+    (λ ms _. walk_keeps AreSwitches config_member (λ key d s h. member_kept (config_key s.profile key) key d s h) ms (all_off profile) (record { allowed = refl; allowed_once = refl; fuse = refl; fuse_once = refl }))

@@ -4,6 +4,7 @@ pub mod Keeping
 pub mod KeptPolicies
 pub mod KeptRules
 pub mod KeptSettings
+pub mod LxdLists
 pub mod NameSets
 pub mod Tables
 pub mod Wholes

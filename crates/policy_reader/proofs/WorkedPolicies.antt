@@ -8,6 +8,7 @@ use Rattle.hist_model.specs.Decisions.{all_rules, default_rules, lxd_mknod_rules
 use Rattle.hist_model.specs.Words.{number_after}
 use Rattle.hist_model.specs.declared.policy.Calls.TheVariants.{Named}
 use Rattle.hist_model.specs.declared.policy.Cond.TheVariants.{Under, Kind as OfKind, Dev, PlainFlags}
+use Rattle.hist_model.specs.declared.policy.Profile.TheVariants.{Plain, Lxd}
 use Rattle.hist_model.specs.declared.policy.Verdict.TheVariants.{Grant, Deny, Inject}
 use Rattle.hist_model.specs.declared.request.Kind.TheVariants.{Chr}
 use Rattle.serde_json.proofs.OnLiterals.{serde_json_on_literals}
@@ -29,12 +30,12 @@ unfolding read_whole
 reads_nothing = refl
 
 -- a key of LXD
-reads_switch : policy (codes "{\"config\":{\"security.syscalls.intercept.mknod\":\"true\"}}") ≡ Ok (record { rules = lxd_mknod_rules ++ default_rules })
+reads_switch : policy (codes "{\"config\":{\"security.syscalls.intercept.mknod\":\"true\"}}") ≡ Ok (record { rules = lxd_mknod_rules Plain ++ default_rules })
 unfolding read_whole
 reads_switch = refl
 
 -- lists of file systems, with spaces, an empty item and a repetition; other keys are ignored, whatever their value
-reads_lists : policy (codes "{\"config\":{\"limits.cpu\":2,\"security.syscalls.intercept.bpf\":null,\"security.syscalls.intercept.mount\":\"Yes\",\"security.syscalls.intercept.mount.allowed\":\" ext4,, xfs ,ext4\",\"security.syscalls.intercept.mount.fuse\":\"ext4=fuse2fs\",\"security.syscalls.intercept.mount.shift\":\"1\",\"security.syscalls.intercept.setxattr\":\"off\"}}") ≡ Ok (record { rules = all_rules [] (record { mknod = false; mount = true; shift = true; setxattr = false; sysinfo = false; fuse = (codes "ext4", codes "fuse2fs") ∷ []; allowed = codes "ext4" ∷ codes "xfs" ∷ [] }) })
+reads_lists : policy (codes "{\"config\":{\"limits.cpu\":2,\"security.syscalls.intercept.bpf\":null,\"security.syscalls.intercept.mount\":\"Yes\",\"security.syscalls.intercept.mount.allowed\":\" ext4,, xfs ,ext4\",\"security.syscalls.intercept.mount.fuse\":\"ext4=fuse2fs\",\"security.syscalls.intercept.mount.shift\":\"1\",\"security.syscalls.intercept.setxattr\":\"off\"}}") ≡ Ok (record { rules = all_rules [] (record { profile = Plain; mknod = false; mount = true; shift = true; setxattr = false; sysinfo = false; fuse = (codes "ext4", codes "fuse2fs") ∷ []; allowed = codes "ext4" ∷ codes "xfs" ∷ [] }) })
 unfolding read_whole
 reads_lists = refl
 

@@ -1,8 +1,10 @@
 pub mod Readings
 pub mod Tables
 pub mod Texts
+pub mod LxdLists
 pub mod Settings
 pub mod NameSets
+pub mod Flags
 pub mod Conditions
 pub mod Verdicts
 pub mod Rules

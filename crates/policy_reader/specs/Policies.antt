@@ -1,16 +1,20 @@
--- The policy that a file's bytes are, or their first refusal.
+-- The policy that a file's bytes are, or their first refusal. A policy names the rules by which its keys are read, its profile; where
+-- it names none, the equations of `Plain` alone say what it is.
 use Rattle.std.specs.Prelude.{ℕ, if◌then◌else◌, ◌==◌, List, [], ◌∷◌, Option, Some, None, option_and_then, Ok, Err, codes}
 use Rattle.std.specs.Str.{is_utf8}
 use Rattle.hist_model.specs.Decisions.{all_rules}
 use Rattle.hist_model.specs.ReportWords.{quoted}
 use Rattle.hist_model.specs.Records.{PolicyRecord}
+use Rattle.hist_model.specs.declared.policy.Profile.{Profile}
+use Rattle.hist_model.specs.declared.policy.Profile.TheVariants.{Plain, Lxd}
 use Rattle.serde_json.specs.Data.{Data, Members}
-use Rattle.serde_json.specs.Find.{get, as_object, as_number, as_u64}
+use Rattle.serde_json.specs.Find.{get, as_object, as_number, as_str, as_u64}
 use Rattle.serde_json.specs.Read.{read}
 use Rattle.policy_reader.specs.declared.error.PolicyError.TheVariants.{NotJson, BadKey}
 use Rattle.policy_reader.specs.declared.policies.Parts.{Parts}
 use Rattle.policy_reader.specs.declared.policies.TopKey.{TopKey}
 use Rattle.policy_reader.specs.declared.policies.TopKey.TheVariants as key
+use Rattle.policy_reader.specs.declared.rules.Format.{Format}
 use Rattle.policy_reader.specs.declared.rules.Version.{Version}
 use Rattle.policy_reader.specs.declared.rules.Version.TheVariants.{First, Second}
 use Rattle.policy_reader.specs.Readings.{Reading, and_then, good, walk, named, top_place}
@@ -27,30 +31,49 @@ abbrev pub version_at : Option Data → Reading Version
 version_at None = Ok First
 version_at (Some d) = good (codes "version") (option_and_then version_numbered (option_and_then as_u64 (as_number d)))
 
+-- ---- The profile
+
+abbrev pub profile_names : List (List ℕ × Profile)
+profile_names = (codes "lxd", Lxd) ∷ []
+
+-- this program's own rules, where none is named
+abbrev pub profile_at : Option Data → Reading Profile
+profile_at None = Ok Plain
+profile_at (Some d) = good (codes "profile") (option_and_then (named profile_names) (as_str d))
+
 -- ---- The top object
 
 abbrev pub top_keys : List (List ℕ × TopKey)
-top_keys = (codes "config", key.Config) ∷ (codes "rules", key.Rules) ∷ (codes "version", key.Version) ∷ []
+top_keys = (codes "config", key.Config) ∷ (codes "profile", key.Profile) ∷ (codes "rules", key.Rules) ∷ (codes "version", key.Version) ∷ []
 
 -- no switch is on, and there is no rule
-abbrev pub no_parts : Parts
-no_parts = record { settings = all_off; own = [] }
+abbrev pub no_parts : Profile → Parts
+no_parts profile = record { settings = all_off profile; own = [] }
 
-abbrev pub part_at : Version → Option TopKey → List ℕ → Data → Parts → Reading Parts
-part_at version None name d p = Err (BadKey (quoted name))
-part_at version (Some key.Config) name d p = and_then (config_of d) (λ settings. Ok (record p { settings = settings }))
-part_at version (Some key.Rules) name d p = and_then (rules_of version d) (λ own. Ok (record p { own = own }))
-part_at version (Some key.Version) name d p = Ok p
+abbrev pub part_at : Format → Option TopKey → List ℕ → Data → Parts → Reading Parts
+part_at format None name d p = Err (BadKey (quoted name))
+part_at format (Some key.Config) name d p = and_then (config_of format.profile d) (λ settings. Ok (record p { settings = settings }))
+part_at format (Some key.Profile) name d p = Ok p
+part_at format (Some key.Rules) name d p = and_then (rules_of format d) (λ own. Ok (record p { own = own }))
+part_at format (Some key.Version) name d p = Ok p
 
--- what one member of the top object says, where the version is tested already
-abbrev pub top_member : Version → List ℕ → Data → Parts → Reading Parts
-top_member version name d p = part_at version (named top_keys name) name d p
+-- what one member of the top object says, where the version and the profile are tested already
+abbrev pub top_member : Format → List ℕ → Data → Parts → Reading Parts
+top_member format name d p = part_at format (named top_keys name) name d p
 
--- the policy of a top object with these members: its version is tested before anything else in it
-abbrev pub policy_in : Data → Members → Reading PolicyRecord
-policy_in d ms =
+-- the policy of members in this format
+abbrev pub policy_as : Format → Members → Reading PolicyRecord
+policy_as format ms = and_then (walk (top_member format) ms (no_parts format.profile)) (λ parts. Ok (record { rules = all_rules parts.own parts.settings }))
+
+-- the version of a top object and then its profile, which are tested before anything else in it
+abbrev pub format_of : Data → Reading Format
+format_of d =
     and_then (version_at (get (codes "version") d)) (λ version.
-    and_then (walk (top_member version) ms no_parts) (λ parts. Ok (record { rules = all_rules parts.own parts.settings })))
+    and_then (profile_at (get (codes "profile") d)) (λ profile. Ok (record { version = version; profile = profile })))
+
+-- the policy of a top object with these members
+abbrev pub policy_in : Data → Members → Reading PolicyRecord
+policy_in d ms = and_then (format_of d) (λ format. policy_as format ms)
 
 -- ---- Files
 

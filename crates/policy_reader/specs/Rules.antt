@@ -7,6 +7,7 @@ use Rattle.hist_model.specs.RuleParts.{has_named, is_grant, may_answer}
 use Rattle.hist_model.specs.declared.policy.Calls.TheVariants.{Named}
 use Rattle.hist_model.specs.declared.policy.Cond.{Cond}
 use Rattle.hist_model.specs.declared.policy.Cond.TheVariants.{PlainFlags}
+use Rattle.hist_model.specs.declared.policy.Profile.{Profile}
 use Rattle.hist_model.specs.declared.policy.Rule.{Rule}
 use Rattle.hist_model.specs.declared.policy.Verdict.{Verdict}
 use Rattle.hist_model.specs.declared.policy.Verdict.TheVariants.{Grant, Deny, Pass, Inject}
@@ -18,6 +19,7 @@ use Rattle.policy_reader.specs.declared.error.PolicyError.TheVariants.{BadKey, B
 use Rattle.policy_reader.specs.declared.rules.RuleKey.{RuleKey}
 use Rattle.policy_reader.specs.declared.rules.RuleKey.TheVariants as key
 use Rattle.policy_reader.specs.declared.rules.Stated.{Stated}
+use Rattle.policy_reader.specs.declared.rules.Format.{Format}
 use Rattle.policy_reader.specs.declared.rules.Version.{Version}
 use Rattle.policy_reader.specs.declared.rules.Version.TheVariants.{First, Second}
 use Rattle.policy_reader.specs.Conditions.{conditions_of, condition_place, misfit}
@@ -67,17 +69,17 @@ in_version Second found = found
 abbrev pub nothing_stated : Stated
 nothing_stated = record { name = None; calls = None; conds = []; verdict = None; times = None }
 
-abbrev pub state : ℕ → Option RuleKey → List ℕ → Data → Stated → Reading Stated
-state n None name d s = Err (BadKey (rule_place n (codes "." ++ quoted name)))
-state n (Some key.Call) name d s = and_then (calls_of n d) (λ calls. Ok (record s { calls = Some calls }))
-state n (Some key.Name) name d s = and_then (good (rule_place n (codes ".name")) (option_and_then rule_name (as_str d))) (λ text. Ok (record s { name = Some text }))
-state n (Some key.Then) name d s = and_then (verdict_of n d) (λ verdict. Ok (record s { verdict = Some verdict }))
-state n (Some key.Times) name d s = and_then (good (rule_place n (codes ".times")) (whole_from 1 d)) (λ times. Ok (record s { times = Some times }))
-state n (Some key.When) name d s = and_then (conditions_of n d) (λ conds. Ok (record s { conds = conds }))
+abbrev pub state : Profile → ℕ → Option RuleKey → List ℕ → Data → Stated → Reading Stated
+state profile n None name d s = Err (BadKey (rule_place n (codes "." ++ quoted name)))
+state profile n (Some key.Call) name d s = and_then (calls_of n d) (λ calls. Ok (record s { calls = Some calls }))
+state profile n (Some key.Name) name d s = and_then (good (rule_place n (codes ".name")) (option_and_then rule_name (as_str d))) (λ text. Ok (record s { name = Some text }))
+state profile n (Some key.Then) name d s = and_then (verdict_of n d) (λ verdict. Ok (record s { verdict = Some verdict }))
+state profile n (Some key.Times) name d s = and_then (good (rule_place n (codes ".times")) (whole_from 1 d)) (λ times. Ok (record s { times = Some times }))
+state profile n (Some key.When) name d s = and_then (conditions_of profile n d) (λ conds. Ok (record s { conds = conds }))
 
 -- what one member of the n-th rule states
-abbrev pub rule_member : Version → ℕ → List ℕ → Data → Stated → Reading Stated
-rule_member version n name d s = state n (in_version version (named rule_keys name)) name d s
+abbrev pub rule_member : Format → ℕ → List ℕ → Data → Stated → Reading Stated
+rule_member format n name d s = state format.profile n (in_version format.version (named rule_keys name)) name d s
 
 -- ---- The tests after the keys
 
@@ -123,17 +125,17 @@ rule_from n used s =
 -- ---- Rules
 
 -- the n-th rule, which is an object, where an earlier one may use its name
-abbrev pub rule_at : Version → ℕ → (List ℕ → Bool) → Data → Reading Rule
-rule_at version n used d = and_then (good (rule_place n []) (as_object d)) (λ ms. and_then (walk (rule_member version n) ms nothing_stated) (rule_from n used))
+abbrev pub rule_at : Format → ℕ → (List ℕ → Bool) → Data → Reading Rule
+rule_at format n used d = and_then (good (rule_place n []) (as_object d)) (λ ms. and_then (walk (rule_member format n) ms nothing_stated) (rule_from n used))
 
 -- a rule after those before it
-abbrev pub rule_of : Version → List Rule → Data → Reading Rule
-rule_of version earlier d = rule_at version (length earlier) (is_used earlier) d
+abbrev pub rule_of : Format → List Rule → Data → Reading Rule
+rule_of format earlier d = rule_at format (length earlier) (is_used earlier) d
 
 -- at most 1,024 rules; more are refused before any is looked at
-abbrev pub rules_in : Version → Items → Reading (List Rule)
-rules_in version ds = if nat_lt 1024 (items_len ds) then Err TooMany else walk_items (rule_of version) [] ds
+abbrev pub rules_in : Format → Items → Reading (List Rule)
+rules_in format ds = if nat_lt 1024 (items_len ds) then Err TooMany else walk_items (rule_of format) [] ds
 
 -- the rules, which are an array
-abbrev pub rules_of : Version → Data → Reading (List Rule)
-rules_of version d = and_then (good (codes "rules") (as_array d)) (rules_in version)
+abbrev pub rules_of : Format → Data → Reading (List Rule)
+rules_of format d = and_then (good (codes "rules") (as_array d)) (rules_in format)

@@ -5,11 +5,16 @@ use Rattle.std.specs.List.{list_any}
 use Rattle.std.specs.Str.{str_eq_ignore_ascii_case}
 use Rattle.hist_model.specs.Decisions.{Switches}
 use Rattle.hist_model.specs.RuleParts.{has_named, is_short_name}
+use Rattle.hist_model.specs.declared.policy.Profile.{Profile}
+use Rattle.hist_model.specs.declared.policy.Profile.TheVariants.{Plain, Lxd}
 use Rattle.serde_json.specs.Data.{Data}
 use Rattle.serde_json.specs.Find.{as_str, as_object}
 use Rattle.policy_reader.specs.declared.error.PolicyError.TheVariants.{BadKey}
+use Rattle.policy_reader.specs.declared.lxd_lists.ListOf.{ListOf}
+use Rattle.policy_reader.specs.declared.lxd_lists.ListOf.TheVariants.{Names, Pairs}
+use Rattle.policy_reader.specs.LxdLists.{lxd_items, unless_shared}
 use Rattle.policy_reader.specs.declared.settings.ConfigKey.{ConfigKey}
-use Rattle.policy_reader.specs.declared.settings.ConfigKey.TheVariants.{Ignored, Unknown, Known}
+use Rattle.policy_reader.specs.declared.settings.ConfigKey.TheVariants.{Ignored, Judged, Unknown, Known}
 use Rattle.policy_reader.specs.declared.settings.Setting.{Setting}
 use Rattle.policy_reader.specs.declared.settings.Setting.TheVariants.{Mknod, Mount, Shift, Allowed, Fuse, SetXattr, Sysinfo}
 use Rattle.policy_reader.specs.Readings.{Reading, and_then, good, walk, named, config_place}
@@ -33,6 +38,11 @@ switch_of text = if is_word_of on_words text then Some true else (if is_word_of 
 
 -- ---- Lists of file systems
 
+-- the items of a list
+abbrev pub items_in : Profile → ListOf → List ℕ → List (List ℕ)
+items_in Plain list text = items_of text
+items_in Lxd list text = lxd_items list text
+
 -- a list of items is all that its parts are, where each is something
 abbrev pub each : {A : Type 0} → (List ℕ → Option A) → List (List ℕ) → Option (List A)
 each read [] = Some []
@@ -48,8 +58,8 @@ abbrev pub file_system : List ℕ → Option (List ℕ)
 file_system item = if is_short_name item then Some item else None
 
 -- file systems between commas, each named once
-abbrev pub file_systems : List ℕ → Option (List (List ℕ))
-file_systems text = option_map (kept (λ name. name) []) (each file_system (items_of text))
+abbrev pub file_systems : Profile → List ℕ → Option (List (List ℕ))
+file_systems profile text = option_map (kept (λ name. name) []) (each file_system (items_in profile Names text))
 
 -- a file system and its program, which stand before and behind the first `=`
 abbrev pub pair_of : List ℕ × Option (List ℕ) → Option (List ℕ × List ℕ)
@@ -60,8 +70,13 @@ abbrev pub fuse_pair : List ℕ → Option (List ℕ × List ℕ)
 fuse_pair item = pair_of (cut_at 61 item)
 
 -- file systems with their programs between commas, each file system once
-abbrev pub fuse_pairs : List ℕ → Option (List (List ℕ × List ℕ))
-fuse_pairs text = option_map (kept (λ pair. pair.0) []) (each fuse_pair (items_of text))
+abbrev pub fuse_pairs : Profile → List ℕ → Option (List (List ℕ × List ℕ))
+fuse_pairs profile text = option_map (kept (λ pair. pair.0) []) (each fuse_pair (items_in profile Pairs text))
+
+-- those beside the file systems that may be mounted without a program, which stand before them; LXD refuses one in both lists
+abbrev pub pairs_beside : Profile → List (List ℕ) → List ℕ → Option (List (List ℕ × List ℕ))
+pairs_beside Plain allowed text = fuse_pairs Plain text
+pairs_beside Lxd allowed text = option_and_then (unless_shared allowed) (fuse_pairs Lxd text)
 
 -- ---- Keys
 
@@ -84,23 +99,34 @@ known_or_not None = Unknown
 abbrev pub is_ignored : List ℕ → Bool
 is_ignored name = is_text_of ignored_names name
 
--- what a name behind the prefix is
-abbrev pub intercept_key : List ℕ → ConfigKey
-intercept_key name = if is_ignored name then Ignored else known_or_not (named setting_names name)
+-- settings that say nothing here, and whose values LXD takes as switches
+abbrev pub judged_names : List (List ℕ)
+judged_names = codes "bpf" ∷ codes "sched_setscheduler" ∷ []
 
-abbrev pub behind_prefix : Option (List ℕ) → ConfigKey
-behind_prefix (Some name) = intercept_key name
-behind_prefix None = Ignored
+abbrev pub is_judged : List ℕ → Bool
+is_judged name = is_text_of judged_names name
+
+-- what a name behind the prefix is
+abbrev pub plain_key : List ℕ → ConfigKey
+plain_key name = if is_ignored name then Ignored else known_or_not (named setting_names name)
+
+abbrev pub intercept_key : Profile → List ℕ → ConfigKey
+intercept_key Plain name = plain_key name
+intercept_key Lxd name = if is_judged name then Judged else plain_key name
+
+abbrev pub behind_prefix : Profile → Option (List ℕ) → ConfigKey
+behind_prefix profile (Some name) = intercept_key profile name
+behind_prefix profile None = Ignored
 
 -- what a key is: those of other matters are ignored
-abbrev pub config_key : List ℕ → ConfigKey
-config_key key = behind_prefix (behind intercept_prefix key)
+abbrev pub config_key : Profile → List ℕ → ConfigKey
+config_key profile key = behind_prefix profile (behind intercept_prefix key)
 
 -- ---- The configuration
 
 -- all switches off, and no file system
-abbrev pub all_off : Switches
-all_off = record { mknod = false; mount = false; shift = false; setxattr = false; sysinfo = false; fuse = []; allowed = [] }
+abbrev pub all_off : Profile → Switches
+all_off profile = record { profile = profile; mknod = false; mount = false; shift = false; setxattr = false; sysinfo = false; fuse = []; allowed = [] }
 
 -- what the text at a key sets
 abbrev pub set : List ℕ → Setting → List ℕ → Switches → Reading Switches
@@ -109,18 +135,19 @@ set key Mount text s = and_then (good (config_place key) (switch_of text)) (λ o
 set key Shift text s = and_then (good (config_place key) (switch_of text)) (λ on. Ok (record s { shift = on }))
 set key SetXattr text s = and_then (good (config_place key) (switch_of text)) (λ on. Ok (record s { setxattr = on }))
 set key Sysinfo text s = and_then (good (config_place key) (switch_of text)) (λ on. Ok (record s { sysinfo = on }))
-set key Allowed text s = and_then (good (config_place key) (file_systems text)) (λ names. Ok (record s { allowed = names }))
-set key Fuse text s = and_then (good (config_place key) (fuse_pairs text)) (λ pairs. Ok (record s { fuse = pairs }))
+set key Allowed text s = and_then (good (config_place key) (file_systems s.profile text)) (λ names. Ok (record s { allowed = names }))
+set key Fuse text s = and_then (good (config_place key) (pairs_beside s.profile s.allowed text)) (λ pairs. Ok (record s { fuse = pairs }))
 
 abbrev pub config_member_of : ConfigKey → List ℕ → Data → Switches → Reading Switches
 config_member_of Ignored key d s = Ok s
+config_member_of Judged key d s = and_then (good (config_place key) (option_and_then switch_of (as_str d))) (λ on. Ok s)
 config_member_of Unknown key d s = Err (BadKey (config_place key))
 config_member_of (Known setting) key d s = and_then (good (config_place key) (as_str d)) (λ text. set key setting text s)
 
 -- what one member of the configuration says: an ignored key says nothing, whatever its value, and the value of another is a text
 abbrev pub config_member : List ℕ → Data → Switches → Reading Switches
-config_member key d s = config_member_of (config_key key) key d s
+config_member key d s = config_member_of (config_key s.profile key) key d s
 
 -- what the configuration switches on; it is an object
-abbrev pub config_of : Data → Reading Switches
-config_of d = and_then (good (codes "config") (as_object d)) (λ ms. walk config_member ms all_off)
+abbrev pub config_of : Profile → Data → Reading Switches
+config_of profile d = and_then (good (codes "config") (as_object d)) (λ ms. walk config_member ms (all_off profile))

@@ -1,28 +1,40 @@
-//! The conditions of a rule: their keys, the texts that they have, and the calls that they are for.
+//! The conditions of a rule: their keys, the values that they have, and the calls that they are for.
 
-ghost use Rattle.std.specs.Prelude.{◌≡◌, ◌++◌, codes, IfOk, option_and_then};
+ghost use Rattle.std.specs.Prelude.{◌≡◌, ◌++◌, codes, IfOk, option_and_then, option_map};
 ghost use Rattle.std.specs.List.{list_all};
 ghost use Rattle.std.specs.Option.{option_copied};
-ghost use Rattle.hist_model.specs.RuleParts.{is_directory, is_for};
+ghost use Rattle.hist_model.specs.RuleParts.{are_flags_of, call_of_flag, is_directory, is_for};
+ghost use Rattle.hist_model.specs.declared.policy.Cond.TheVariants as cond;
 ghost use Rattle.policy_reader.specs.declared.conditions.CondKey.TheVariants as key;
-ghost use Rattle.policy_reader.specs.Conditions.{condition, condition_at, condition_keys, condition_of, condition_place, conditions_of, device_condition, device_parts, kinds, misfit};
+ghost use Rattle.policy_reader.specs.declared.conditions.TextKey.TheVariants as text_key;
+ghost use Rattle.policy_reader.specs.Conditions.{condition, condition_at, condition_key, condition_keys, condition_of, condition_place, conditions_of, descriptor, descriptor_of, device_condition, device_parts, kinds, misfit, profile_keys};
 ghost use Rattle.policy_reader.specs.Readings.{Gives, good, named, rule_place};
 ghost use Rattle.policy_reader.specs.Texts.{cut_at};
 ghost use Rattle.serde_json.specs.View.{view};
 
+use crate::flags::read_flags;
 use crate::readings::{Reading, bad_in_rule, good_in_rule, unknown_in_rule};
 use crate::texts::{cut_at, decimal_up_to, named};
-use hist_model::policy::Cond;
+use hist_model::policy::{Cond, Flag, Profile};
 use hist_model::request::Kind;
 use hist_model::text::{Sequence, Text};
 use serde_json::Value;
 use std::alloc::Global;
 use sys_abi::calls;
 use sys_abi::memory::NoMemory;
+use sys_abi::wire::AT_FDCWD;
 
 /// A key of a condition.
 #[derive(Clone, Copy, PartialEq, Eq, Debug)]
 pub(crate) enum CondKey {
+    Text(TextKey),
+    Dirfd,
+    Flags,
+}
+
+/// A key of a condition whose value is a text.
+#[derive(Clone, Copy, PartialEq, Eq, Debug)]
+pub(crate) enum TextKey {
     Dev,
     Fstype,
     Kind,
@@ -30,17 +42,25 @@ pub(crate) enum CondKey {
     Path,
     Source,
     Under,
+    Value,
 }
 
 /// The keys of conditions.
-const KEYS: [(&'static str, CondKey); 7] = [
-    ("dev", CondKey::Dev),
-    ("fstype", CondKey::Fstype),
-    ("kind", CondKey::Kind),
-    ("name", CondKey::Name),
-    ("path", CondKey::Path),
-    ("source", CondKey::Source),
-    ("under", CondKey::Under),
+const KEYS: [(&'static str, TextKey); 7] = [
+    ("dev", TextKey::Dev),
+    ("fstype", TextKey::Fstype),
+    ("kind", TextKey::Kind),
+    ("name", TextKey::Name),
+    ("path", TextKey::Path),
+    ("source", TextKey::Source),
+    ("under", TextKey::Under),
+];
+
+/// Those that a policy with a profile has besides.
+const PROFILE_KEYS: [(&'static str, CondKey); 3] = [
+    ("dirfd", CondKey::Dirfd),
+    ("flags", CondKey::Flags),
+    ("value", CondKey::Text(TextKey::Value)),
 ];
 
 /// The kinds of nodes that mknod makes.
@@ -66,14 +86,41 @@ const PATH_CALLS: [i32; 5] = [
     calls::MOUNT,
 ];
 
+/// The calls with the descriptor of a directory; mknod's is always AT_FDCWD.
+const DIRFD_CALLS: [i32; 3] = [calls::MKNOD, calls::MKNODAT, calls::OPENAT];
+
+/// The calls with flags that conditions name.
+const FLAG_CALLS: [i32; 2] = [calls::MOUNT, calls::SETXATTR];
+
 /// The calls that make a node.
 const NODE_CALLS: [i32; 2] = [calls::MKNOD, calls::MKNODAT];
 
-/// The key of this name.
-fn key_named(name: &str) -> Option<CondKey>
+/// The key of this name whose value is a text, in every policy.
+fn text_key_named(name: &str) -> Option<TextKey>
     ensures { result ≡ named condition_keys name.now }
 {
     named(&KEYS, name.as_bytes())
+}
+
+/// The key of this name that a policy with a profile has besides.
+fn profile_key_named(name: &str) -> Option<CondKey>
+    ensures { result ≡ named profile_keys name.now }
+{
+    named(&PROFILE_KEYS, name.as_bytes())
+}
+
+/// The key of this name.
+fn key_named(profile: Profile, name: &str) -> Option<CondKey>
+    ensures { result ≡ condition_key profile name.now }
+{
+    let text_key = text_key_named(name).map(CondKey::Text);
+    match profile {
+        Profile::Plain => text_key,
+        Profile::Lxd => match profile_key_named(name) {
+            Some(key) => Some(key),
+            None => text_key,
+        },
+    }
 }
 
 /// The kind of this name.
@@ -110,7 +157,7 @@ fn copied(alloc: Global, text: &str) -> Result<Text, NoMemory>
 
 /// The directory that paths may lie under.
 fn under(alloc: Global, text: &str) -> Result<Option<Cond>, NoMemory>
-    ensures { IfOk result (λ cond. cond ≡ condition_of key.Under text.now) }
+    ensures { IfOk result (λ cond. cond ≡ condition_of text_key.Under text.now) }
 {
     if is_directory(text.as_bytes()) {
         Ok(Some(Cond::Under(copied(alloc, text)?)))
@@ -120,28 +167,57 @@ fn under(alloc: Global, text: &str) -> Result<Option<Cond>, NoMemory>
 }
 
 /// The condition of a key and its text.
-fn condition_of(alloc: Global, key: CondKey, text: &str) -> Result<Option<Cond>, NoMemory>
+fn condition_of(alloc: Global, key: TextKey, text: &str) -> Result<Option<Cond>, NoMemory>
     ensures { IfOk result (λ cond. cond ≡ condition_of key text.now) }
 {
     match key {
-        CondKey::Dev => Ok(device_of(text.as_bytes())),
-        CondKey::Fstype => Ok(Some(Cond::Fstype(copied(alloc, text)?))),
-        CondKey::Kind => Ok(kind_named(text).map(Cond::Kind)),
-        CondKey::Name => Ok(Some(Cond::Name(copied(alloc, text)?))),
-        CondKey::Path => Ok(Some(Cond::Path(copied(alloc, text)?))),
-        CondKey::Source => Ok(Some(Cond::Source(copied(alloc, text)?))),
-        CondKey::Under => under(alloc, text),
+        TextKey::Dev => Ok(device_of(text.as_bytes())),
+        TextKey::Fstype => Ok(Some(Cond::Fstype(copied(alloc, text)?))),
+        TextKey::Kind => Ok(kind_named(text).map(Cond::Kind)),
+        TextKey::Name => Ok(Some(Cond::Name(copied(alloc, text)?))),
+        TextKey::Path => Ok(Some(Cond::Path(copied(alloc, text)?))),
+        TextKey::Source => Ok(Some(Cond::Source(copied(alloc, text)?))),
+        TextKey::Under => under(alloc, text),
+        TextKey::Value => Ok(Some(Cond::Value(copied(alloc, text)?))),
     }
 }
 
 /// The condition of a key and its value, if the value is such a text.
-fn condition_in(alloc: Global, key: CondKey, text: Option<&str>) -> Result<Option<Cond>, NoMemory>
+fn condition_in(alloc: Global, key: TextKey, text: Option<&str>) -> Result<Option<Cond>, NoMemory>
     ensures { IfOk result (λ cond. cond ≡ option_and_then (condition_of key) (option_copied text.entry)) }
 {
     match text {
         Some(text) => condition_of(alloc, key, text),
         None => Ok(None),
     }
+}
+
+/// The number of a descriptor, from 0 to 2^31 - 1, or -100.
+fn descriptor(number: i64) -> Option<i32>
+    ensures { result ≡ descriptor number }
+{
+    if number == i64::from(AT_FDCWD) || (0 <= number && number <= i64::from(i32::MAX)) {
+        Some(number as i32)
+    } else {
+        None
+    }
+}
+
+/// The number of a descriptor that a value is.
+fn descriptor_of(value: &Value) -> Option<i32>
+    ensures { result ≡ descriptor_of (view value.now) }
+{
+    match value.as_i64() {
+        Some(number) => descriptor(number),
+        None => None,
+    }
+}
+
+/// The condition on a descriptor that a value states.
+fn dirfd_of(value: &Value) -> Option<Cond>
+    ensures { result ≡ option_map cond.Dirfd (descriptor_of (view value.now)) }
+{
+    descriptor_of(value).map(Cond::Dirfd)
 }
 
 /// The condition that stands at a key of a rule's conditions, or the refusal of its value.
@@ -168,34 +244,64 @@ fn read_key(
     ensures { Gives result (condition_at rule key name.now (view value.now)) }
 {
     match key {
-        Some(key) => {
+        Some(CondKey::Text(key)) => {
             let found = condition_in(alloc, key, value.as_str())?;
             good_condition(alloc, rule, name, found)
         }
+        Some(CondKey::Dirfd) => good_condition(alloc, rule, name, dirfd_of(value)),
+        Some(CondKey::Flags) => read_flags(alloc, rule, value),
         None => unknown_in_rule(alloc, rule, ".when.", name),
     }
 }
 
 /// The condition of one member of a rule's conditions.
-fn read_condition(alloc: Global, rule: usize, name: &str, value: &Value) -> Reading<Cond>
-    ensures { Gives result (condition rule name.now (view value.now)) }
+fn read_condition(
+    alloc: Global,
+    profile: Profile,
+    rule: usize,
+    name: &str,
+    value: &Value,
+) -> Reading<Cond>
+    ensures { Gives result (condition profile rule name.now (view value.now)) }
 {
-    read_key(alloc, rule, key_named(name), name, value)
+    read_key(alloc, rule, key_named(profile, name), name, value)
 }
 
 /// The conditions of a rule, in the rising order of their keys.
-pub(crate) fn read_conditions(alloc: Global, rule: usize, value: &Value) -> Reading<Sequence<Cond>>
-    ensures { Gives result (conditions_of rule (view value.now)) }
+pub(crate) fn read_conditions(
+    alloc: Global,
+    profile: Profile,
+    rule: usize,
+    value: &Value,
+) -> Reading<Sequence<Cond>>
+    ensures { Gives result (conditions_of profile rule (view value.now)) }
 {
     let Some(members) = value.as_object() else {
         return bad_in_rule(alloc, rule, ".when");
     };
     let mut conds = Vec::new(alloc);
     for (name, member) in members.iter() {
-        let cond = read_condition(alloc, rule, name.as_str(), member)?;
+        let cond = read_condition(alloc, profile, rule, name.as_str(), member)?;
         conds.push(cond)?;
     }
     Ok(Sequence::new(conds))
+}
+
+/// The call that a flag is of.
+fn call_of_flag(flag: Flag) -> i32
+    ensures { result ≡ call_of_flag flag }
+{
+    match flag {
+        Flag::Mount(_) => calls::MOUNT,
+        Flag::Attribute(_) => calls::SETXATTR,
+    }
+}
+
+/// Whether the flags are of this call.
+fn are_flags_of(nr: i32, flags: &[Flag]) -> bool
+    ensures { result ≡ are_flags_of nr flags.now }
+{
+    flags.iter().all(|flag| call_of_flag(*flag) == nr)
 }
 
 /// Whether the condition is for this call.
@@ -204,9 +310,13 @@ fn is_for(cond: &Cond, nr: i32) -> bool
 {
     match cond {
         Cond::Path(_) | Cond::Under(_) => PATH_CALLS.contains(&nr),
-        Cond::Kind(_) | Cond::Dev(_, _) => NODE_CALLS.contains(&nr),
+        Cond::Kind(_) | Cond::Dev(_, _) | Cond::ShortDevice => NODE_CALLS.contains(&nr),
+        Cond::Dirfd(_) => DIRFD_CALLS.contains(&nr),
         Cond::Fstype(_) | Cond::Source(_) => nr == calls::MOUNT,
-        Cond::Name(_) => nr == calls::SETXATTR,
+        Cond::Name(_) | Cond::Value(_) => nr == calls::SETXATTR,
+        Cond::Flags { all, none } => FLAG_CALLS.contains(&nr)
+            && are_flags_of(nr, all.items())
+            && are_flags_of(nr, none.items()),
         Cond::PlainFlags => true,
     }
 }
@@ -237,6 +347,9 @@ pub(crate) fn condition_place(cond: &Cond) -> &'static str
         Cond::Fstype(_) => ".when.fstype",
         Cond::Source(_) => ".when.source",
         Cond::Name(_) => ".when.name",
-        Cond::PlainFlags => ".when",
+        Cond::Value(_) => ".when.value",
+        Cond::Dirfd(_) => ".when.dirfd",
+        Cond::Flags { .. } => ".when.flags",
+        Cond::ShortDevice | Cond::PlainFlags => ".when",
     }
 }

@@ -14,6 +14,8 @@
 
 mod conditions;
 pub mod error;
+mod flags;
+mod lxd_lists;
 mod names;
 mod policies;
 mod readings;

@@ -1,20 +1,20 @@
-//! The whole of a policy: its version, and the members of its top object.
+//! The whole of a policy: its version and its profile, and the members of its top object.
 
 ghost use Rattle.std.specs.Prelude.{◌≡◌, ◌≤◌, ◌^◌, IfErr, IfOk, Ok, Some, codes, length, option_and_then};
 ghost use Rattle.hist_model.specs.Decisions.{all_rules};
 ghost use Rattle.policy_reader.specs.Kept.{AreParts};
-ghost use Rattle.policy_reader.specs.Policies.{no_parts, part_at, policy, policy_in, policy_of, top_keys, top_member, version_at, version_numbered};
+ghost use Rattle.policy_reader.specs.Policies.{format_of, no_parts, part_at, policy, policy_as, policy_in, policy_of, profile_at, profile_names, top_keys, top_member, version_at, version_numbered};
 ghost use Rattle.policy_reader.specs.Readings.{Gives, Refuses, good, named, walk};
-ghost use Rattle.serde_json.specs.Find.{as_number, as_u64, get};
+ghost use Rattle.serde_json.specs.Find.{as_number, as_str, as_u64, get};
 ghost use Rattle.serde_json.specs.View.{members_view, view};
 
 use crate::error::PolicyError;
 use crate::readings::{Reading, bad_value, unknown_at_top};
-use crate::rules::{Version, read_rules};
+use crate::rules::{Format, Version, read_rules};
 use crate::settings::{Settings, read_config};
 use crate::switches::push_switched_rules;
 use crate::texts::named;
-use hist_model::policy::{Policy, Rule};
+use hist_model::policy::{Policy, Profile, Rule};
 use hist_model::text::Sequence;
 use policy_eval::push_default_rules;
 use serde_json::{Map, Value};
@@ -25,6 +25,7 @@ use sys_abi::memory::{NoMemory, OrNoMemory};
 #[derive(Clone, Copy, PartialEq, Eq, Debug)]
 pub(crate) enum TopKey {
     Config,
+    Profile,
     Rules,
     Version,
 }
@@ -37,11 +38,15 @@ pub(crate) struct Parts {
 }
 
 /// The keys of the top object.
-const KEYS: [(&'static str, TopKey); 3] = [
+const KEYS: [(&'static str, TopKey); 4] = [
     ("config", TopKey::Config),
+    ("profile", TopKey::Profile),
     ("rules", TopKey::Rules),
     ("version", TopKey::Version),
 ];
+
+/// The names of profiles.
+const PROFILES: [(&'static str, Profile); 1] = [("lxd", Profile::Lxd)];
 
 /// The key of this name.
 fn key_named(name: &str) -> Option<TopKey>
@@ -91,13 +96,59 @@ fn read_version(alloc: Global, value: &Value) -> Reading<Version>
     }
 }
 
+/// The profile of this name.
+fn profile_named(name: &str) -> Option<Profile>
+    ensures { result ≡ named profile_names name.now }
+{
+    named(&PROFILES, name.as_bytes())
+}
+
+/// The profile that a value names.
+fn profile_of(value: &Value) -> Option<Profile>
+    ensures { result ≡ option_and_then (named profile_names) (as_str (view value.now)) }
+{
+    match value.as_str() {
+        Some(name) => profile_named(name),
+        None => None,
+    }
+}
+
+/// The profile that a value names, or the refusal of it.
+fn good_profile(alloc: Global, found: Option<Profile>) -> Reading<Profile>
+    ensures { Gives result (good (codes "profile") found) }
+{
+    match found {
+        Some(profile) => Ok(profile),
+        None => bad_value(alloc, "profile"),
+    }
+}
+
+/// The profile of a policy; this program's own rules, where none is named.
+fn read_profile(alloc: Global, value: &Value) -> Reading<Profile>
+    ensures { Gives result (profile_at (get (codes "profile") (view value.now))) }
+{
+    match value.get("profile") {
+        Some(named) => good_profile(alloc, profile_of(named)),
+        None => Ok(Profile::Plain),
+    }
+}
+
+/// The version of a policy, and its profile.
+fn read_format(alloc: Global, value: &Value) -> Reading<Format>
+    ensures { Gives result (format_of (view value.now)) }
+{
+    let version = read_version(alloc, value)?;
+    let profile = read_profile(alloc, value)?;
+    Ok(Format { version, profile })
+}
+
 impl Parts {
     /// No switch is on, and there is no rule.
-    fn nothing(alloc: Global) -> Parts
-        ensures { result ≡ no_parts }
+    fn nothing(alloc: Global, profile: Profile) -> Parts
+        ensures { result ≡ no_parts profile }
     {
         Parts {
-            settings: Settings::new(alloc),
+            settings: Settings::new(alloc, profile),
             own: Sequence::new(Vec::new(alloc)),
         }
     }
@@ -106,43 +157,37 @@ impl Parts {
     fn read_key(
         mut self,
         alloc: Global,
-        version: Version,
+        format: Format,
         key: Option<TopKey>,
         name: &str,
         value: &Value,
     ) -> Reading<Parts>
-        ensures { Gives result (part_at version key name.now (view value.now) self) }
+        ensures { Gives result (part_at format key name.now (view value.now) self) }
     {
         match key {
-            Some(TopKey::Config) => self.settings = read_config(alloc, value)?,
-            Some(TopKey::Rules) => self.own = read_rules(alloc, version, value)?,
-            Some(TopKey::Version) => {}
+            Some(TopKey::Config) => self.settings = read_config(alloc, format.profile, value)?,
+            Some(TopKey::Rules) => self.own = read_rules(alloc, format, value)?,
+            Some(TopKey::Profile) | Some(TopKey::Version) => {}
             None => return unknown_at_top(alloc, name),
         }
         Ok(self)
     }
 
     /// Adds what one member of the top object says.
-    fn read_member(
-        self,
-        alloc: Global,
-        version: Version,
-        name: &str,
-        value: &Value,
-    ) -> Reading<Parts>
-        ensures { Gives result (top_member version name.now (view value.now) self) }
+    fn read_member(self, alloc: Global, format: Format, name: &str, value: &Value) -> Reading<Parts>
+        ensures { Gives result (top_member format name.now (view value.now) self) }
     {
-        self.read_key(alloc, version, key_named(name), name, value)
+        self.read_key(alloc, format, key_named(name), name, value)
     }
 }
 
 /// What the members of the top object say.
-fn read_parts(alloc: Global, version: Version, members: &Map<String, Value>) -> Reading<Parts>
-    ensures { Gives result (walk (top_member version) (members_view members.now.entries) no_parts) }
+fn read_parts(alloc: Global, format: Format, members: &Map<String, Value>) -> Reading<Parts>
+    ensures { Gives result (walk (top_member format) (members_view members.now.entries) (no_parts format.profile)) }
 {
-    let mut parts = Parts::nothing(alloc);
+    let mut parts = Parts::nothing(alloc, format.profile);
     for (name, member) in members.iter() {
-        parts = parts.read_member(alloc, version, name.as_str(), member)?;
+        parts = parts.read_member(alloc, format, name.as_str(), member)?;
     }
     Ok(parts)
 }
@@ -177,8 +222,8 @@ fn made_of(parts: Parts) -> Result<Policy, NoMemory>
 fn read_top(alloc: Global, value: &Value, members: &Map<String, Value>) -> Reading<Policy>
     ensures { Gives result (policy_in (view value.now) (members_view members.now.entries)) }
 {
-    let version = read_version(alloc, value)?;
-    let parts = read_parts(alloc, version, members)?;
+    let format = read_format(alloc, value)?;
+    let parts = read_parts(alloc, format, members)?;
     Ok(made_of(parts)?)
 }
 

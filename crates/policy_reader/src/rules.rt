@@ -16,7 +16,7 @@ use crate::names::Names;
 use crate::readings::{Reading, bad_in_rule, bad_value, good_in_rule, unknown_in_rule};
 use crate::texts::{is_rule_name, named, whole_from};
 use crate::verdicts::{may_answer_all, read_verdict};
-use hist_model::policy::{Calls, Cond, Rule, Verdict};
+use hist_model::policy::{Calls, Cond, Profile, Rule, Verdict};
 use hist_model::text::{Sequence, Text};
 use serde_json::{Map, Value};
 use std::alloc::Global;
@@ -29,6 +29,13 @@ use sys_abi::memory::{NoMemory, OrNoMemory};
 pub(crate) enum Version {
     First,
     Second,
+}
+
+/// How a policy is read: the version of its format, and by whose rules its keys are.
+#[derive(Clone, Copy, PartialEq, Eq, Debug)]
+pub(crate) struct Format {
+    pub(crate) version: Version,
+    pub(crate) profile: Profile,
 }
 
 /// A key of a rule.
@@ -171,12 +178,13 @@ impl Stated {
     fn read_key(
         mut self,
         alloc: Global,
+        profile: Profile,
         rule: usize,
         key: Option<RuleKey>,
         name: &str,
         value: &Value,
     ) -> Reading<Stated>
-        ensures { Gives result (state rule key name.now (view value.now) self) }
+        ensures { Gives result (state profile rule key name.now (view value.now) self) }
     {
         match key {
             Some(RuleKey::Call) => self.calls = Some(read_calls(alloc, rule, value)?),
@@ -189,7 +197,7 @@ impl Stated {
                 let found = whole_from(1, value);
                 self.times = Some(good_in_rule(alloc, rule, ".times", found)?);
             }
-            Some(RuleKey::When) => self.conds = read_conditions(alloc, rule, value)?,
+            Some(RuleKey::When) => self.conds = read_conditions(alloc, profile, rule, value)?,
             None => return unknown_in_rule(alloc, rule, ".", name),
         }
         Ok(self)
@@ -199,30 +207,30 @@ impl Stated {
     fn read_member(
         self,
         alloc: Global,
-        version: Version,
+        format: Format,
         rule: usize,
         name: &str,
         value: &Value,
     ) -> Reading<Stated>
-        ensures { Gives result (rule_member version rule name.now (view value.now) self) }
+        ensures { Gives result (rule_member format rule name.now (view value.now) self) }
     {
-        let key = in_version(version, key_named(name));
-        self.read_key(alloc, rule, key, name, value)
+        let key = in_version(format.version, key_named(name));
+        self.read_key(alloc, format.profile, rule, key, name, value)
     }
 }
 
 /// What the members of a rule state.
 fn read_members(
     alloc: Global,
-    version: Version,
+    format: Format,
     rule: usize,
     members: &Map<String, Value>,
 ) -> Reading<Stated>
-    ensures { Gives result (walk (rule_member version rule) (members_view members.now.entries) nothing_stated) }
+    ensures { Gives result (walk (rule_member format rule) (members_view members.now.entries) nothing_stated) }
 {
     let mut stated = Stated::nothing(alloc);
     for (name, member) in members.iter() {
-        stated = stated.read_member(alloc, version, rule, name.as_str(), member)?;
+        stated = stated.read_member(alloc, format, rule, name.as_str(), member)?;
     }
     Ok(stated)
 }
@@ -331,23 +339,23 @@ fn finish_rule(alloc: Global, names: &Names, rule: usize, stated: Stated) -> Rea
 /// A rule, where the earlier ones have these names.
 fn read_rule(
     alloc: Global,
-    version: Version,
+    format: Format,
     names: &Names,
     rule: usize,
     value: &Value,
 ) -> Reading<Rule>
-    ensures { Gives result (rule_at version rule (holds names.now) (view value.now)) }
+    ensures { Gives result (rule_at format rule (holds names.now) (view value.now)) }
 {
     let Some(members) = value.as_object() else {
         return bad_in_rule(alloc, rule, "");
     };
-    let stated = read_members(alloc, version, rule, members)?;
+    let stated = read_members(alloc, format, rule, members)?;
     finish_rule(alloc, names, rule, stated)
 }
 
 /// The rules of an array of at most 1,024.
-fn read_listed_rules(alloc: Global, version: Version, items: &[Value]) -> Reading<Sequence<Rule>>
-    ensures { Gives result (rules_in version (items_view items.now)) }
+fn read_listed_rules(alloc: Global, format: Format, items: &[Value]) -> Reading<Sequence<Rule>>
+    ensures { Gives result (rules_in format (items_view items.now)) }
 {
     if items.len() > RULES_MAX {
         return Err(OrNoMemory::Refused(PolicyError::TooMany));
@@ -355,7 +363,7 @@ fn read_listed_rules(alloc: Global, version: Version, items: &[Value]) -> Readin
     let mut names = Names::new(alloc);
     let mut rules = Vec::new(alloc);
     for item in items {
-        let rule = read_rule(alloc, version, &names, rules.len(), item)?;
+        let rule = read_rule(alloc, format, &names, rules.len(), item)?;
         names.add(alloc, rule.name.items())?;
         rules.push(rule)?;
     }
@@ -363,11 +371,11 @@ fn read_listed_rules(alloc: Global, version: Version, items: &[Value]) -> Readin
 }
 
 /// The rules that a policy states of its own.
-pub(crate) fn read_rules(alloc: Global, version: Version, value: &Value) -> Reading<Sequence<Rule>>
-    ensures { Gives result (rules_of version (view value.now)) }
+pub(crate) fn read_rules(alloc: Global, format: Format, value: &Value) -> Reading<Sequence<Rule>>
+    ensures { Gives result (rules_of format (view value.now)) }
 {
     match value.as_array() {
-        Some(items) => read_listed_rules(alloc, version, items.as_slice()),
+        Some(items) => read_listed_rules(alloc, format, items.as_slice()),
         None => bad_value(alloc, "rules"),
     }
 }

@@ -1,16 +1,19 @@
 //! The configuration: the keys by which LXD intercepts system calls, and what they switch on.
 
-ghost use Rattle.std.specs.Prelude.{◌≡◌, option_map, IfOk, Ok};
+ghost use Rattle.std.specs.Prelude.{◌≡◌, map, option_and_then, option_map, IfOk, Ok};
 ghost use Rattle.std.specs.Str.{str_eq_ignore_ascii_case};
 ghost use Rattle.hist_model.specs.Decisions.{Switches};
 ghost use Rattle.policy_reader.specs.Readings.{named, Gives};
-ghost use Rattle.policy_reader.specs.Settings.{all_off, config_key, config_member, config_member_of, config_of, file_system, file_systems, fuse_pair, fuse_pairs, intercept_key, intercept_prefix, is_ignored, is_word_of, known_or_not, set, setting_names, switch_of};
+ghost use Rattle.policy_reader.specs.Settings.{all_off, config_key, config_member, config_member_of, config_of, file_system, file_systems, fuse_pair, fuse_pairs, intercept_key, intercept_prefix, is_ignored, is_judged, is_word_of, items_in, known_or_not, pairs_beside, plain_key, set, setting_names, switch_of};
+ghost use Rattle.serde_json.specs.Find.{as_str};
 ghost use Rattle.policy_reader.specs.Tables.{texts_of};
 ghost use Rattle.serde_json.specs.View.{view};
 
+use crate::lxd_lists::{ListOf, lxd_items, unless_shared};
 use crate::names::{Names, keep};
 use crate::readings::{Reading, bad_value, good_in_config, unknown_in_config};
 use crate::texts::{behind, cut_at, is_among, is_short_name, items_of, named};
+use hist_model::policy::Profile;
 use hist_model::text::Text;
 use serde_json::Value;
 use std::alloc::Global;
@@ -22,6 +25,8 @@ use sys_abi::memory::NoMemory;
 pub(crate) enum ConfigKey {
     /// Nothing: it is of another matter, or a kind of interception that this program doesn't do.
     Ignored,
+    /// Nothing, but its value is a switch.
+    Judged,
     /// It begins as a key of interception does, and is none.
     Unknown,
     /// This setting.
@@ -60,6 +65,9 @@ const SETTINGS: [(&'static str, Setting); 7] = [
 /// Settings that are known and say nothing here.
 const IGNORED: [&'static str; 3] = ["bpf", "bpf.devices", "sched_setscheduler"];
 
+/// Those whose values LXD takes as switches.
+const JUDGED: [&'static str; 2] = ["bpf", "sched_setscheduler"];
+
 /// The words of a switch that is on, and of one that is off, with letters of either case.
 const ON: [&'static str; 4] = ["true", "1", "yes", "on"];
 
@@ -69,6 +77,8 @@ const OFF: [&'static str; 5] = ["false", "0", "no", "off", ""];
 /// make does.
 #[derive(Drop)]
 pub(crate) struct Settings {
+    /// By whose rules the keys are read.
+    pub(crate) profile: Profile,
     pub(crate) mknod: bool,
     pub(crate) mount: bool,
     pub(crate) shift: bool,
@@ -85,7 +95,7 @@ impl Model for Settings {
 
     ghost Value = { Switches };
 
-    ghost view = { λ s. record { mknod = s.mknod; mount = s.mount; shift = s.shift; setxattr = s.set_xattr; sysinfo = s.sysinfo; fuse = s.fuse.items; allowed = s.allowed.items } };
+    ghost view = { λ s. record { profile = s.profile; mknod = s.mknod; mount = s.mount; shift = s.shift; setxattr = s.set_xattr; sysinfo = s.sysinfo; fuse = s.fuse.items; allowed = s.allowed.items } };
 }
 
 /// Whether a text is this word, with letters of either case.
@@ -115,11 +125,26 @@ fn switch_of(text: &str) -> Option<bool>
     }
 }
 
-/// File systems between commas, each named once.
-fn file_systems(alloc: Global, text: &str) -> Result<Option<Vec<Text>>, NoMemory>
-    ensures { IfOk result (λ found. option_map (λ v. v.items) found ≡ file_systems text.now) }
+/// The items of a list.
+fn items_in(
+    alloc: Global,
+    profile: Profile,
+    list: ListOf,
+    text: &[u8],
+) -> Result<Vec<&[u8]>, NoMemory>
+    ensures { IfOk result (λ items. map (λ item. item.now) items.items ≡ items_in profile list text.now) }
 {
-    let items = items_of(alloc, text.as_bytes())?;
+    match profile {
+        Profile::Plain => items_of(alloc, text),
+        Profile::Lxd => lxd_items(alloc, list, text),
+    }
+}
+
+/// File systems between commas, each named once.
+fn file_systems(alloc: Global, profile: Profile, text: &str) -> Result<Option<Vec<Text>>, NoMemory>
+    ensures { IfOk result (λ found. option_map (λ v. v.items) found ≡ file_systems profile text.now) }
+{
+    let items = items_in(alloc, profile, ListOf::Names, text.as_bytes())?;
     let mut names = Names::new(alloc);
     let mut found = Vec::new(alloc);
     for item in &items {
@@ -145,10 +170,14 @@ fn fuse_pair(item: &[u8]) -> Option<(&[u8], &[u8])>
 }
 
 /// File systems with their programs between commas, each file system once.
-fn fuse_pairs(alloc: Global, text: &str) -> Result<Option<Vec<(Text, Text)>>, NoMemory>
-    ensures { IfOk result (λ found. option_map (λ v. v.items) found ≡ fuse_pairs text.now) }
+fn fuse_pairs(
+    alloc: Global,
+    profile: Profile,
+    text: &str,
+) -> Result<Option<Vec<(Text, Text)>>, NoMemory>
+    ensures { IfOk result (λ found. option_map (λ v. v.items) found ≡ fuse_pairs profile text.now) }
 {
-    let items = items_of(alloc, text.as_bytes())?;
+    let items = items_in(alloc, profile, ListOf::Pairs, text.as_bytes())?;
     let mut names = Names::new(alloc);
     let mut found = Vec::new(alloc);
     for item in &items {
@@ -168,6 +197,29 @@ fn copied_pair(alloc: Global, name: &[u8], program: &[u8]) -> Result<(Text, Text
     let name = Text::new(Vec::from_slice(alloc, name)?);
     let program = Text::new(Vec::from_slice(alloc, program)?);
     Ok((name, program))
+}
+
+/// File systems with their programs, beside those that may be mounted without one.
+fn pairs_beside(
+    alloc: Global,
+    profile: Profile,
+    allowed: &[Text],
+    text: &str,
+) -> Result<Option<Vec<(Text, Text)>>, NoMemory>
+    ensures { IfOk result (λ found. option_map (λ v. v.items) found ≡ pairs_beside profile allowed.now text.now) }
+{
+    let found = fuse_pairs(alloc, profile, text)?;
+    match (profile, found) {
+        (Profile::Lxd, Some(pairs)) => unless_shared(alloc, allowed, pairs),
+        (_, found) => Ok(found),
+    }
+}
+
+/// Whether LXD takes the value of a setting of this name as a switch, which says nothing here.
+fn is_judged(name: &[u8]) -> bool
+    ensures { result ≡ is_judged name.now }
+{
+    is_among(&JUDGED, name)
 }
 
 /// Whether a setting of this name says nothing here.
@@ -194,9 +246,9 @@ fn known_or_not(found: Option<Setting>) -> ConfigKey
     }
 }
 
-/// What a name behind the prefix is.
-fn intercept_key(name: &[u8]) -> ConfigKey
-    ensures { result ≡ intercept_key name.now }
+/// What a name behind the prefix is by this program's own rules.
+fn plain_key(name: &[u8]) -> ConfigKey
+    ensures { result ≡ plain_key name.now }
 {
     if is_ignored(name) {
         ConfigKey::Ignored
@@ -205,22 +257,43 @@ fn intercept_key(name: &[u8]) -> ConfigKey
     }
 }
 
+/// What a name behind the prefix is.
+fn intercept_key(profile: Profile, name: &[u8]) -> ConfigKey
+    ensures { result ≡ intercept_key profile name.now }
+{
+    match profile {
+        Profile::Lxd if is_judged(name) => ConfigKey::Judged,
+        _ => plain_key(name),
+    }
+}
+
 /// What a key is: those of other matters are ignored.
-fn config_key(key: &[u8]) -> ConfigKey
-    ensures { result ≡ config_key key.now }
+fn config_key(profile: Profile, key: &[u8]) -> ConfigKey
+    ensures { result ≡ config_key profile key.now }
 {
     match behind(PREFIX, key) {
-        Some(name) => intercept_key(name),
+        Some(name) => intercept_key(profile, name),
         None => ConfigKey::Ignored,
+    }
+}
+
+/// The switch that a value is.
+fn switch_in(value: &Value) -> Option<bool>
+    ensures { result ≡ option_and_then switch_of (as_str (view value.now)) }
+{
+    match value.as_str() {
+        Some(text) => switch_of(text),
+        None => None,
     }
 }
 
 impl Settings {
     /// All switches off, and no file system.
-    pub(crate) fn new(alloc: Global) -> Settings
-        ensures { result ≡ all_off }
+    pub(crate) fn new(alloc: Global, profile: Profile) -> Settings
+        ensures { result ≡ all_off profile }
     {
         Settings {
+            profile,
             mknod: false,
             mount: false,
             shift: false,
@@ -242,9 +315,13 @@ impl Settings {
             Setting::SetXattr => self.set_xattr = good_in_config(alloc, key, switch_of(text))?,
             Setting::Sysinfo => self.sysinfo = good_in_config(alloc, key, switch_of(text))?,
             Setting::Allowed => {
-                self.allowed = good_in_config(alloc, key, file_systems(alloc, text)?)?;
+                let found = file_systems(alloc, self.profile, text)?;
+                self.allowed = good_in_config(alloc, key, found)?;
             }
-            Setting::Fuse => self.fuse = good_in_config(alloc, key, fuse_pairs(alloc, text)?)?,
+            Setting::Fuse => {
+                let found = pairs_beside(alloc, self.profile, self.allowed.as_slice(), text)?;
+                self.fuse = good_in_config(alloc, key, found)?;
+            }
         }
         Ok(self)
     }
@@ -261,6 +338,10 @@ impl Settings {
     {
         match kind {
             ConfigKey::Ignored => Ok(self),
+            ConfigKey::Judged => {
+                good_in_config(alloc, key, switch_in(value))?;
+                Ok(self)
+            }
             ConfigKey::Unknown => unknown_in_config(alloc, key),
             ConfigKey::Known(setting) => {
                 let text = good_in_config(alloc, key, value.as_str())?;
@@ -273,19 +354,19 @@ impl Settings {
     fn read_member(self, alloc: Global, key: &str, value: &Value) -> Reading<Settings>
         ensures { Gives result (config_member key.now (view value.now) self) }
     {
-        let kind = config_key(key.as_bytes());
+        let kind = config_key(self.profile, key.as_bytes());
         self.read_kind(alloc, kind, key, value)
     }
 }
 
 /// What the configuration switches on.
-pub(crate) fn read_config(alloc: Global, value: &Value) -> Reading<Settings>
-    ensures { Gives result (config_of (view value.now)) }
+pub(crate) fn read_config(alloc: Global, profile: Profile, value: &Value) -> Reading<Settings>
+    ensures { Gives result (config_of profile (view value.now)) }
 {
     let Some(members) = value.as_object() else {
         return bad_value(alloc, "config");
     };
-    let mut settings = Settings::new(alloc);
+    let mut settings = Settings::new(alloc, profile);
     for (key, member) in members.iter() {
         settings = settings.read_member(alloc, key.as_str(), member)?;
     }

@@ -6,4 +6,4 @@ use Rattle.serde_json.specs.View.{members_view}
 use Rattle.policy_reader.proofs.conditions.read_conditions.Given as goal
 
 abbrev pub invariant-loop-name : goal.invariant-loop-name
-invariant-loop-name l = walk (condition_member l.rule) (members_view l.name-iterator) l.conds.items ≡ walk (condition_member l.rule) (members_view l.initial.name-iterator) []
+invariant-loop-name l = walk (condition_member l.profile l.rule) (members_view l.name-iterator) l.conds.items ≡ walk (condition_member l.profile l.rule) (members_view l.initial.name-iterator) []

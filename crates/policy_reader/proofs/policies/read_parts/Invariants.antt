@@ -6,4 +6,4 @@ use Rattle.serde_json.specs.View.{members_view}
 use Rattle.policy_reader.proofs.policies.read_parts.Given as goal
 
 abbrev pub invariant-loop-name : goal.invariant-loop-name
-invariant-loop-name l = walk (top_member l.version) (members_view l.name-iterator) l.parts ≡ walk (top_member l.version) (members_view l.initial.name-iterator) no_parts
+invariant-loop-name l = walk (top_member l.format) (members_view l.name-iterator) l.parts ≡ walk (top_member l.format) (members_view l.initial.name-iterator) (no_parts l.format.profile)

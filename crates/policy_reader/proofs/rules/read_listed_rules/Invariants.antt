@@ -8,6 +8,6 @@ use Rattle.policy_reader.proofs.rules.read_listed_rules.Given as goal
 
 abbrev pub invariant-loop-item : goal.invariant-loop-item
 invariant-loop-item l = record {
-  whole : walk_items (rule_of l.version) l.rules.items (items_view (drop l.item-index l.items)) ≡ rules_in l.version (items_view l.items);
+  whole : walk_items (rule_of l.format) l.rules.items (items_view (drop l.item-index l.items)) ≡ rules_in l.format (items_view l.items);
   held : HoldsNames (λ rule. rule.name) l.names l.rules.items;
 }

@@ -6,4 +6,4 @@ use Rattle.serde_json.specs.View.{members_view}
 use Rattle.policy_reader.proofs.rules.read_members.Given as goal
 
 abbrev pub invariant-loop-name : goal.invariant-loop-name
-invariant-loop-name l = walk (rule_member l.version l.rule) (members_view l.name-iterator) l.stated ≡ walk (rule_member l.version l.rule) (members_view l.initial.name-iterator) nothing_stated
+invariant-loop-name l = walk (rule_member l.format l.rule) (members_view l.name-iterator) l.stated ≡ walk (rule_member l.format l.rule) (members_view l.initial.name-iterator) nothing_stated

@@ -1,0 +1,40 @@
+-- Pieces between commas, and those of them that count from the last one on: what a turn of each loop leaves.
+-- By what a cut at the first comma gives, and by what the reverse of a list with one more is.
+use Rattle.std.proofs.Common.{◌≡◌, ℕ, ◌+◌, ◌<◌, Bool, true, false, List, [], ◌∷◌, ◌++◌, Option, Bor, map, filter, take, length, get_or, refl, sym, ap, ◌∙◌}
+use Rattle.std.specs.Prelude.{reverse, ◌==◌, ◌||◌, bytes_eq}
+use Rattle.std.specs.List.{list_any, slice_split}
+use Rattle.std.proofs.lemmas.List.{map-append, reverse-append, take_more}
+use Rattle.hist_model.specs.RuleParts.{has_named}
+use Rattle.policy_reader.proofs.Cuts.{one_item, pieces_left, split_first}
+use Rattle.policy_reader.proofs.Items.{one_more_held}
+use Rattle.policy_reader.specs.NameSets.{holds, HoldsNames}
+use Rattle.policy_reader.specs.Texts.{cut_at}
+use Rattle.policy_reader.specs.declared.names.Names.{Names}
+
+-- ---- Pieces
+
+pub piece_first : (text front : List ℕ) (more : Option (List ℕ)) → front ≡ (cut_at 44 text).0 → more ≡ (cut_at 44 text).1 → slice_split (λ b. b == 44) text ≡ front ∷ pieces_left more
+piece_first text front more f m = rw (f, m) (split_first text)
+
+last_first : {A B : Type 0} (f : A → B) (xs : List A) (x : A) → reverse (map f (xs ++ x ∷ [])) ≡ f x ∷ reverse (map f xs)
+last_first f xs x = ap reverse (map-append f xs (x ∷ [])) ∙ reverse-append (map f xs) (f x ∷ [])
+
+-- ---- Items that count
+
+pub item_counts : (p : List ℕ → Bool) (items pieces : List (Bor (List ℕ))) (x : Bor (List ℕ)) (all : List (List ℕ)) → map (λ i. i.now) items ++ filter p (reverse (map (λ i. i.now) (pieces ++ x ∷ []))) ≡ all → p x.now ≡ true
+    → map (λ i. i.now) (items ++ x ∷ []) ++ filter p (reverse (map (λ i. i.now) pieces)) ≡ all
+item_counts p items pieces x all h t = one_item items x _ _ all h (rw (last_first (λ (i : Bor (List ℕ)). i.now) pieces x, t) refl)
+
+pub item_passed : (p : List ℕ → Bool) (items pieces : List (Bor (List ℕ))) (x : Bor (List ℕ)) (all : List (List ℕ)) → map (λ i. i.now) items ++ filter p (reverse (map (λ i. i.now) (pieces ++ x ∷ []))) ≡ all → p x.now ≡ false
+    → map (λ i. i.now) items ++ filter p (reverse (map (λ i. i.now) pieces)) ≡ all
+item_passed p items pieces x all h f = ap (λ left. map (λ i. i.now) items ++ left) (sym (rw (last_first (λ (i : Bor (List ℕ)). i.now) pieces x, f) refl)) ∙ h
+
+-- ---- Names
+
+pub name_held : (old new : Names) (xs : List (List ℕ)) (i : ℕ) (x d : List ℕ) → i < length xs → x ≡ get_or xs i d → HoldsNames (λ name. name) old (take i xs) → ((q : List ℕ) → holds new q ≡ (bytes_eq x q || holds old q)) → HoldsNames (λ name. name) new (take (i + 1) xs)
+name_held old new xs i x d l e h added = rw (take_more xs i d l, ← e) (one_more_held (λ name. name) old new (take i xs) x h added)
+
+-- a test that is another one at each item
+pub any_same : {A : Type 0} (p q : A → Bool) (xs : List A) → ((x : A) → p x ≡ q x) → list_any p xs ≡ list_any q xs
+any_same p q [] h = refl
+any_same p q (x ∷ xs) h = rw (h x, any_same p q xs h) refl
