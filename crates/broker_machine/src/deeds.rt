@@ -18,13 +18,12 @@ ghost use Rattle.model_kernel.specs.Kernels.{DoesDeed, IsKernel, past, system};
 ghost use Rattle.model_kernel.specs.Ready.{IsSame};
 ghost use Rattle.broker_machine.specs.Workers.{Allows, HasTried, IsPlain, IsSteady, KeepsOn, TriesDeed, TriesStep};
 
-use addfd::TakeError;
 use broker_core::deed::{Deed, Got, answer_of};
 use broker_core::worker::Worker;
 use hist_model::history::History;
 use hist_model::policy::{Cap, Policy};
+use listener::{FetchError, TakeError};
 use model_kernel::Kernel;
-use notif_queue::FetchError;
 use std::alloc::Global;
 use sys_abi::memory::NoMemory;
 
