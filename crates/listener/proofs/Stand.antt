@@ -133,7 +133,6 @@ over-cases (Some (Err x)) listed h g = cc
 over-cases None true h g = cc
 over-cases None false h g = refl
 
-
 -- what ends its request is a take, and what leaves it is none
 taking : (r : Result ℕ TakeError) → is_over r ≡ true → (a : Result ℕ ℕ) × (take_of r ≡ AddfdTake a)
 taking (Ok n) h = (Ok n, refl)
