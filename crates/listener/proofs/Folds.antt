@@ -23,7 +23,7 @@ use Rattle.listener.specs.State.{State, Row, row_of, queue as asks_for, after, a
 use Rattle.listener.specs.Fold.{places, row_at, rows, ask_at, ask_places, asks, Looks}
 use Rattle.listener.specs.Sound.{IsSound, AreAsked, IsStep, Installs}
 use Rattle.listener.proofs.Lists.{filter-map, filter-same, filter-all}
-use Rattle.listener.proofs.Rows.{places-listed, rows-enter, rows-fetch, rows-close, rows-leave, rows-send, rows-put, rows-install, rows-other}
+use Rattle.listener.proofs.Rows.{one-task, places-listed, rows-enter, rows-fetch, rows-close, rows-leave, rows-send, rows-put, rows-install, rows-other}
 use Rattle.listener.proofs.Asks.{IsIdle, asks-idle, asked-idle, asks-put, asked-put, asks-take, asked-take, asks-install, asked-install}
 use Rattle.listener.proofs.Sounds.{ids-differ, id-fresh, sound-more}
 use Rattle.listener.proofs.Answers.{waits-in}
@@ -35,10 +35,6 @@ sends-by w = refl
 pub sends-in : (o : Option Event) → has_send_in o ≡ has_send_flag (asked_in o)
 sends-in None = refl
 sends-in (Some e) = sends-by e.what
-
-one-task : (a : Actor) (n m : Name) → is_task a n ≡ true → is_task a m ≡ true → n ≡ m
-one-task (Task k) n m h g = sym (name_eq-true k n h) ∙ name_eq-true k m g
-one-task a n m h g = cc
 
 pub call-is : (K : List Event) (n : Name) (c : ℕ) → call_of K n ≡ Some c → (listed K c ≡ true) × (caller K c ≡ n)
 unfolding call_of

@@ -187,7 +187,7 @@ rows-put e K a p q o = elim (cases_Bool (has_send_flag a)) [
 
 -- ---- installations
 
-one-task : (a : Actor) (n m : Name) → is_task a n ≡ true → is_task a m ≡ true → n ≡ m
+pub one-task : (a : Actor) (n m : Name) → is_task a n ≡ true → is_task a m ≡ true → n ≡ m
 one-task (Task k) n m h g = sym (name_eq-true k n h) ∙ name_eq-true k m g
 one-task a n m h g = cc
 

@@ -3,11 +3,11 @@
 use Rattle.std.proofs.Common.{◌≡◌, inl, inr, ℕ, ◌+◌, ◌%◌, ◌^◌, ◌<◌, Bool, true, false, ◌&&◌, not, List, [], ◌∷◌, length, Option, Some, None, refl, sym, ap, ◌∙◌, subst, arith}
 use Rattle.std.specs.Prelude.{Result, Ok, Err, find, map, option_map, is_none, is_some, nat_lt, if◌then◌else◌}
 use Rattle.std.specs.Result.{IfOk}
-use Rattle.std.proofs.lemmas.Bool.{and_parts, cases_Bool, cases_lt, eq-eqb, false_from_ne_true, le-ltb, lt-ltb}
+use Rattle.std.proofs.lemmas.Bool.{cases_Bool, cases_lt, eq-eqb, false_from_ne_true, le-ltb, lt-ltb}
 use Rattle.std.proofs.lemmas.List.Elements.{All-nil}
 use Rattle.hist_model.specs.Look.{Name, event_at, name_eq, task_name}
 use Rattle.hist_model.specs.Kinds.{closes, has_send_flag, leaves, makes}
-use Rattle.hist_model.specs.Calls.{answered, calls, caller, count, fetched, id, is_call, listed, named, queue, recvs, settled, state_at}
+use Rattle.hist_model.specs.Calls.{answered, calls, caller, count, fetched, id, listed, named, queue, recvs, settled, state_at}
 use Rattle.hist_model.specs.Files.{asked_in, request_for}
 use Rattle.hist_model.specs.Signals.{call_of}
 use Rattle.hist_model.specs.Steps.{call_at, call_listed, install_at, install_of, oldest_unfetched, reply, request_listed, request_of, take_step}
@@ -20,10 +20,9 @@ use Rattle.hist_model.specs.declared.event.What.{What}
 use Rattle.hist_model.specs.declared.event.What.TheVariants.{AddfdPut, AddfdTake, Close, Deliver, Enter, Install, Recv, Resume, Send, Skip}
 use Rattle.hist_model.specs.declared.notification.Fetched.{Fetched as FetchedCall}
 use Rattle.hist_model.specs.declared.notification.Reply.{Reply}
-use Rattle.hist_model.specs.declared.notification.State.{State as CallState}
 use Rattle.hist_model.specs.declared.notification.State.TheVariants.{Answered, Fetched, Unfetched}
 use Rattle.hist_model.specs.declared.request.TaskRef.{TaskRef}
-use Rattle.hist_model.proofs.Look.{name_eq-refl, name_eq-true, newest-found}
+use Rattle.hist_model.proofs.Look.{name_eq-refl, newest-found}
 use Rattle.history_frames.specs.Ordinals.{name_at, nth_of, tasks_made, task_name_of}
 use Rattle.history_frames.proofs.Listed.{listed-below, listed-is_call, named-is as place-named, named-listed}
 use Rattle.history_frames.proofs.Ordinals.{made-more, made-place, made-same, name-older, place-below, place-old}
@@ -33,14 +32,14 @@ use Rattle.listener.specs.Listeners.{is_over, put_admission, taken, taken_from, 
 use Rattle.listener.specs.Requests.{has_request, is_of}
 use Rattle.listener.specs.Sound.{AreAsked, IdsDiffer, IsSound, IsStep, Puts}
 use Rattle.listener.specs.Stands.{AreNames, IsEntry, IsInstall, IsLeaving, IsListedAs, IsNext, IsOther, IsOtherStep, IsOutside, IsSettledBy, StandsFor, oldest_in, take_of}
-use Rattle.listener.specs.State.{Row, State, after, after_install, after_leave, after_step, far_in, has_id, lists_none, next_id, no_rows, oldest, queue as asks_for, result_reply, row_named, row_of, with_entered, with_told, without_ask, without_call, without_calls}
+use Rattle.listener.specs.State.{Row, State, after, after_leave, after_step, far_in, has_id, lists_none, no_rows, oldest, queue as asks_for, result_reply, row_named, row_of, with_entered, with_told, without_ask, without_call, without_calls}
 use Rattle.listener.specs.Table.{IsReceived, reply_in}
 use Rattle.listener.specs.declared.listener.Listener.{Listener}
 use Rattle.listener.specs.declared.requests.Request.{Request}
 use Rattle.listener.specs.declared.listener.TakeError.{TakeError}
 use Rattle.listener.specs.declared.listener.TakeError.TheVariants.{Pending, Fault}
 use Rattle.listener.proofs.Answers.{named-is, oldest-is, state-is, waits-in}
-use Rattle.listener.proofs.Folds.{asks-waiting, call-here, call-is, follows}
+use Rattle.listener.proofs.Folds.{asks-waiting, call-here, follows}
 use Rattle.listener.proofs.Sounds.{ids-differ}
 use Rattle.listener.proofs.Told.{asks-is, back-is, request-is, take-is}
 

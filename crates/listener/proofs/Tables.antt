@@ -7,6 +7,7 @@ use Rattle.std.proofs.lemmas.List.Elements.{All-nil, All-cons}
 use Rattle.hist_model.specs.Look.{Name}
 use Rattle.hist_model.specs.declared.notification.Reply.{Reply}
 use Rattle.listener.specs.declared.order.Entry.{Entry}
+use Rattle.listener.specs.declared.queue.Queue.{Queue}
 use Rattle.listener.specs.State.{Row, has_id, fetch, answer}
 use Rattle.listener.specs.Entries.{Rise, AreBelow, has_number, replied}
 use Rattle.listener.specs.Table.{row, number_of}
@@ -30,17 +31,32 @@ module _ (f n s x : ℕ) (names : ℕ → Name) (xs : List Entry) (h : AreEntrie
   has : All (λ e. has_id x (row f s names e) ≡ has_number (number_of f x) e) xs
   has k d m = number-id f _ x h.fits (omega (arith, h.below k d m, h.few)) l
 
-  pub found : find (has_id x) (map (row f s names) xs) ≡ option_map (row f s names) (find (has_number (number_of f x)) xs)
+  found : find (has_id x) (map (row f s names) xs) ≡ option_map (row f s names) (find (has_number (number_of f x)) xs)
   found = find-map (has_id x) (row f s names) xs ∙ ap (option_map (row f s names)) (find-same (λ e. has_id x (row f s names e)) (has_number (number_of f x)) xs has)
 
-  pub left : map (row f s names) (filter (λ e. not (has_number (number_of f x) e)) xs) ≡ filter (λ r. not (has_id x r)) (map (row f s names) xs)
+  left : map (row f s names) (filter (λ e. not (has_number (number_of f x) e)) xs) ≡ filter (λ r. not (has_id x r)) (map (row f s names) xs)
   left = sym (filter-map (λ r. not (has_id x r)) (row f s names) xs ∙ ap (map (row f s names)) (filter-same (λ e. not (has_id x (row f s names e))) (λ e. not (has_number (number_of f x) e)) xs (λ k d m. ap not (has k d m))))
 
-  pub answered : (y : Option Reply) → map (row f s names) (map (replied (number_of f x) y) xs) ≡ map (answer x y) (map (row f s names) xs)
+  answered : (y : Option Reply) → map (row f s names) (map (replied (number_of f x) y) xs) ≡ map (answer x y) (map (row f s names) xs)
   answered y = map-map (row f s names) (replied (number_of f x) y) xs ∙ (map-same _ _ xs (λ k d m. one (slice_index_or xs k d) (has k d m)) ∙ sym (map-map (answer x y) (row f s names) xs))
     where
       one : (e : Entry) → has_id x (row f s names e) ≡ has_number (number_of f x) e → row f s names (replied (number_of f x) y e) ≡ answer x y (row f s names e)
       one e q = elim (cases_Bool (has_number (number_of f x) e)) [ inl b ↦ rw (q, b) | inr b ↦ rw (q, b) ]
+
+-- the same of a queue
+module _ (Q : Queue) where
+  pub entries : AreEntries Q.first Q.order.entered Q.order.entries.items
+  entries = record { fits = Q.fits; few = Q.few; below = Q.order.below }
+
+  module _ (names : ℕ → Name) (x : ℕ) (l : x < 2 ^ 64) where
+    pub found-in : find (has_id x) (map (row Q.first Q.fetched names) Q.order.entries.items) ≡ option_map (row Q.first Q.fetched names) (find (has_number (number_of Q.first x)) Q.order.entries.items)
+    found-in = found Q.first Q.order.entered Q.fetched x names Q.order.entries.items entries l
+
+    pub left-in : map (row Q.first Q.fetched names) (filter (λ e. not (has_number (number_of Q.first x) e)) Q.order.entries.items) ≡ filter (λ r. not (has_id x r)) (map (row Q.first Q.fetched names) Q.order.entries.items)
+    left-in = left Q.first Q.order.entered Q.fetched x names Q.order.entries.items entries l
+
+    pub answered-in : (y : Option Reply) → map (row Q.first Q.fetched names) (map (replied (number_of Q.first x) y) Q.order.entries.items) ≡ map (answer x y) (map (row Q.first Q.fetched names) Q.order.entries.items)
+    answered-in y = answered Q.first Q.order.entered Q.fetched x names Q.order.entries.items entries l y
 
 -- the oldest that wasn't fetched is the first from a number on
 pub oldest-first : (f s : ℕ) (names : ℕ → Name) (xs : List Entry) → find (λ (r : Row). not r.fetched) (map (row f s names) xs) ≡ option_map (row f s names) (find (λ (e : Entry). nat_le s e.number) xs)

@@ -1,15 +1,13 @@
 -- What the requests of ioctl(2) on a listener answer (seccomp_unotify(2)).
-use Rattle.std.specs.Prelude.{◌≡◌, ℕ, ◌≤◌, false, Bool, ◌&&◌, ◌||◌, if◌then◌else◌, ◌==◌, List, Option, Some, None, Result, Ok, Err, ℤ, pos, neg_ℤ, nat_abs, FitsSigned}
+use Rattle.std.specs.Prelude.{◌≡◌, ℕ, ◌≤◌, false, Bool, ◌&&◌, ◌||◌, if◌then◌else◌, ◌==◌, List, Result, Ok, Err, ℤ, pos, neg_ℤ, nat_abs, FitsSigned}
 use Rattle.std.specs.Int.{w64}
 use Rattle.std.specs.Int.Signed.{le_z}
 use Rattle.std.specs.Ordering.{int_eq}
-use Rattle.sys_abi.specs.Errnos.{enoent, einval, einprogress}
+use Rattle.sys_abi.specs.Errnos.{einval}
 use Rattle.sys_abi.specs.Wire.{resp_of}
 use Rattle.sys_abi.specs.declared.wire.Resp.{Resp}
 use Rattle.hist_model.specs.declared.event.Back.{Back}
 use Rattle.hist_model.specs.declared.event.Back.TheVariants.{Value, Fail, Continue}
-use Rattle.hist_model.specs.declared.notification.State.{State}
-use Rattle.hist_model.specs.declared.notification.State.TheVariants.{Fetched}
 
 -- no error, or one from 1 to 4095, negated
 abbrev pub is_error : ℤ → Bool

@@ -5,15 +5,19 @@ use Rattle.hist_model.specs.declared.notification.Reply.{Reply}
 use Rattle.hist_model.specs.declared.request.TaskRef.{TaskRef}
 use Rattle.listener.specs.declared.order.Entry.{Entry}
 
+-- the call has this number
 abbrev pub has_number : ℕ → Entry → Bool
 has_number n e = e.number == n
 
+-- a call that is entered by a task
 abbrev pub new_entry : ℕ → TaskRef → Entry
 new_entry n t = record { number = n; owner = t; reply = None }
 
+-- it will return so
 abbrev pub with_reply : Option Reply → Entry → Entry
 with_reply y e = record e { reply = y }
 
+-- the same of the call with this number
 abbrev pub replied : ℕ → Option Reply → Entry → Entry
 replied n y e = if has_number n e then with_reply y e else e
 
@@ -25,6 +29,7 @@ Rise xs = (i j : ℕ) (d : Entry) → i < j → j < length xs → (slice_index_o
 abbrev pub AreBelow : ℕ → List Entry → Type 0
 AreBelow n xs = (i : ℕ) (d : Entry) → i < length xs → (slice_index_or xs i d).number < n
 
+-- no call is listed
 abbrev pub is_empty : List Entry → Bool
 is_empty [] = true
 is_empty (e ∷ es) = false

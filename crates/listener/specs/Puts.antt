@@ -1,10 +1,8 @@
 -- What a request for a descriptor is answered (seccomp_unotify(2), SECCOMP_IOCTL_NOTIF_ADDFD).
-use Rattle.std.specs.Prelude.{ℕ, Bool, ◌&&◌, ◌||◌, not, if◌then◌else◌, ◌==◌, List, Option, Some, None, Result, Ok, Err, bit_and}
-use Rattle.sys_abi.specs.Errnos.{enoent, ebadf, ebusy, einval, einprogress}
+use Rattle.std.specs.Prelude.{ℕ, Bool, ◌&&◌, ◌||◌, not, if◌then◌else◌, ◌==◌, List, Result, Ok, Err, bit_and}
+use Rattle.sys_abi.specs.Errnos.{ebadf, einval}
 use Rattle.sys_abi.specs.Wire.{addfd_of}
 use Rattle.sys_abi.specs.declared.wire.Addfd.{Addfd}
-use Rattle.hist_model.specs.declared.notification.State.{State}
-use Rattle.hist_model.specs.declared.notification.State.TheVariants.{Fetched}
 
 -- no flag but SECCOMP_ADDFD_FLAG_SETFD, of value 1, and SECCOMP_ADDFD_FLAG_SEND, of value 2
 abbrev pub is_known : Addfd → Bool

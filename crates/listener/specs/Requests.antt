@@ -1,5 +1,5 @@
 -- Requests for descriptors, in the order in which they were put.
-use Rattle.std.specs.Prelude.{◌≡◌, ℕ, ◌≤◌, Bool, true, ◌&&◌, not, ◌==◌, nat_le, List, [], ◌∷◌, filter, find, option_map, Option, Some, None, is_none, Result}
+use Rattle.std.specs.Prelude.{◌≡◌, ℕ, ◌≤◌, Bool, true, ◌&&◌, not, ◌==◌, nat_le, List, [], ◌∷◌, filter, None, is_none}
 use Rattle.std.specs.List.{list_any, list_all}
 use Rattle.sys_abi.specs.declared.wire.Addfd.{Addfd}
 use Rattle.listener.specs.declared.requests.Request.{Request}
@@ -20,6 +20,7 @@ abbrev pub are_apart : List Request → Bool
 are_apart [] = true
 are_apart (q ∷ qs) = not (has_request qs q.worker) && are_apart qs
 
+-- workers are numbered from 0 to 16
 abbrev pub are_workers : List Request → Bool
 are_workers qs = list_all (λ q. nat_le q.worker 16) qs
 
@@ -33,6 +34,7 @@ pub record AreKept (qs : List Request) (capacity : ℕ) : Type 0 where
 abbrev pub waiting : ℕ → List Request → List Request
 waiting x qs = filter (is_waiting x) qs
 
+-- a request that a worker puts
 abbrev pub new_request : ℕ → Addfd → Request
 new_request w asked = record { worker = w; asked = asked; result = None }
 

@@ -1,5 +1,5 @@
 -- Which histories a listener stands for, and which events are its own.
-use Rattle.std.specs.Prelude.{◌≡◌, ℕ, ◌<◌, Bool, true, false, List, [], ◌∷◌, Option, Some, None, Result, Ok, Err, ℤ}
+use Rattle.std.specs.Prelude.{◌≡◌, ℕ, ◌<◌, true, false, List, [], ◌∷◌, Option, Some, None, Result, Ok, Err, ℤ}
 use Rattle.hist_model.specs.Look.{Name, event_at}
 use Rattle.hist_model.specs.Kinds.{leaves}
 use Rattle.hist_model.specs.Calls.{listed, caller, id, settled, queue}

@@ -39,6 +39,7 @@ pub record IsReceived (s : State) (f : Fetched) (names : ℕ → Name) : Type 0 
   pub id_is : f.id ≡ next.id
   pub task_is : names f.owner.ordinal ≡ next.task
 
+-- the reply of a call, if there is one
 abbrev pub reply_in : Option Row → Option Reply
 reply_in (Some r) = r.reply
 reply_in None = None

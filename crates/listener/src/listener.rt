@@ -1,26 +1,25 @@
 //! The listener of a kernel.
 
-ghost use Rattle.std.specs.Prelude.{◌≡◌, ◌↔◌, ◌≤◌, ◌<◌, ◌+◌, ◌%◌, ◌^◌, ◌∷◌, [], ℕ, List, Option, Some, None, Ok, Err, IfOk, OnOk, OnErr, IsOk, is_some, true, false};
+ghost use Rattle.std.specs.Prelude.{◌≡◌, ◌≤◌, ◌<◌, ◌+◌, ◌%◌, ◌^◌, ◌∷◌, [], ℕ, List, Option, Some, None, Ok, Err, IfOk, OnOk, OnErr, IsOk, is_some, true, false};
 ghost use Rattle.hist_model.specs.Calls.{calls, count, fetched, listed, named, queue};
 ghost use Rattle.hist_model.specs.Kinds.{closes};
+ghost use Rattle.hist_model.specs.Look.{Name};
 ghost use Rattle.hist_model.specs.Steps.{check_answer, install_at, oldest_unfetched, put_answer, request_listed, request_of, send_answer, take_step};
 ghost use Rattle.hist_model.specs.Systems.{System};
 ghost use Rattle.hist_model.specs.declared.event.Actor.TheVariants.{Worker};
 ghost use Rattle.hist_model.specs.declared.event.Event.{Event};
 ghost use Rattle.hist_model.specs.declared.event.What.TheVariants.{AddfdPut, Recv, Send};
+ghost use Rattle.hist_model.specs.declared.notification.Reply.TheVariants.{Installing};
 ghost use Rattle.sys_abi.specs.Errnos.{enoent};
-ghost use Rattle.listener.specs.Listeners.{validity, send_admission, put_admission, taken, is_over, back_of, was_fetched};
+ghost use Rattle.listener.specs.Listeners.{validity, send_admission, put_admission, taken, is_over, back_of, was_fetched, with_sent};
 ghost use Rattle.listener.specs.Requests.{has_request};
 ghost use Rattle.listener.specs.Stands.{StandsFor, IsEntry, IsInstall, IsLeaving, IsListedAs, IsNext, IsReceipt, IsSettledBy, oldest_in, take_of};
 ghost use Rattle.listener.specs.State as state;
+ghost use Rattle.listener.specs.State.{result_reply};
+ghost use Rattle.listener.specs.Table as table;
 ghost use Rattle.listener.specs.Table.{HasRoom};
 ghost use Rattle.listener.specs.declared.listener.TakeError.TheVariants.{Pending};
 ghost use Rattle.listener.specs.declared.queue.FetchError.TheVariants.{Empty, Gone};
-ghost use Rattle.hist_model.specs.Look.{Name};
-ghost use Rattle.hist_model.specs.declared.notification.Reply.TheVariants.{Installing};
-ghost use Rattle.listener.specs.Listeners.{with_sent};
-ghost use Rattle.listener.specs.State.{result_reply};
-ghost use Rattle.listener.specs.Table as table;
 ghost use Rattle.listener.specs.declared.requests.Request.{Request};
 
 use crate::queue::{FetchError, Queue};

@@ -1,6 +1,6 @@
 //! The listed calls in the order of entry, which are found by halves.
 
-ghost use Rattle.std.specs.Prelude.{◌≡◌, ◌+◌, ◌<◌, ◌≤◌, ◌∷◌, ◌++◌, [], ℕ, Some, IfNone, IfSome, IsOk, OnOk, length, find, filter, map, not, nat_le};
+ghost use Rattle.std.specs.Prelude.{◌≡◌, ◌+◌, ◌<◌, ◌≤◌, ◌∷◌, ◌++◌, [], Some, IfNone, IfSome, IsOk, OnOk, length, find, filter, map, not, nat_le};
 ghost use Rattle.listener.specs.Entries.{Rise, AreBelow, IsStart, IsPlace, IsAbsent, has_number, new_entry, replied, is_empty};
 
 use hist_model::notification::Reply;

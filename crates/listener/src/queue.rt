@@ -1,6 +1,6 @@
 //! The queue of listed calls.
 
-ghost use Rattle.std.specs.Prelude.{◌≡◌, ℕ, ◌+◌, ◌<◌, ◌≤◌, ◌^◌, List, [], Option, Some, None, Err, IfOk, OnOk, OnErr, IfSome, IsOk};
+ghost use Rattle.std.specs.Prelude.{◌≡◌, ℕ, ◌+◌, ◌<◌, ◌≤◌, ◌^◌, List, [], Option, Some, None, Err, IfOk, OnOk, IsOk};
 ghost use Rattle.hist_model.specs.Look.{Name};
 
 use crate::order::Order;
@@ -38,7 +38,7 @@ pub struct Queue {
 
 impl Queue {
     ghost use Rattle.listener.specs.declared.requests.Request.{Request as Ask};
-    ghost use Rattle.listener.specs.State.{State as StateData, far_in, next_id, oldest, row_named, with_entered, with_fetched, with_receive, with_reply, without_call, without_calls, lists_none};
+    ghost use Rattle.listener.specs.State.{far_in, next_id, oldest, row_named, with_entered, with_fetched, with_receive, with_reply, without_call, without_calls, lists_none};
     ghost use Rattle.listener.specs.Table.{HasRoom, IsReceived, view, reply_in};
     ghost use Rattle.listener.specs.declared.queue.FetchError.TheVariants.{Empty, Gone};
 

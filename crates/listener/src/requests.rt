@@ -1,6 +1,6 @@
 //! The requests for descriptors that workers have put and not taken.
 
-ghost use Rattle.std.specs.Prelude.{◌≡◌, ◌≤◌, ◌<◌, ◌++◌, ◌∷◌, [], ℕ, Option, Some, None, IfOk, IfSome, true, false, length, map, filter, find, position, slice_index_or, option_map, not};
+ghost use Rattle.std.specs.Prelude.{◌≡◌, ◌≤◌, ◌<◌, ◌++◌, ◌∷◌, [], Option, Some, None, IfOk, true, false, length, filter, find, position, slice_index_or, option_map};
 ghost use Rattle.std.specs.Option.{option_copied};
 ghost use Rattle.listener.specs.Requests.{is_of, is_waiting, has_request, waiting, without, new_request};
 ghost use Rattle.listener.specs.State.{told};

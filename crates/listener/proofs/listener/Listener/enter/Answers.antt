@@ -1,5 +1,4 @@
-use Rattle.std.proofs.Common.{◌≡◌, ◌+◌, ◌%◌, ◌^◌, ap, subst, ◌∙◌}
-use Rattle.hist_model.specs.Calls.{calls}
+use Rattle.std.proofs.Common.{◌+◌, ◌%◌, ◌^◌, ap, ◌∙◌}
 use Rattle.history_frames.specs.Ordinals.{task_name_of}
 use Rattle.listener.proofs.Stand.{looks, stands-entered}
 use Rattle.listener.proofs.listener.Listener.enter.Goals as goal

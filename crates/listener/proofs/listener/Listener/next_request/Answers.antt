@@ -1,4 +1,4 @@
-use Rattle.std.proofs.Common.{◌≡◌, Option, ap, subst, ◌∙◌}
+use Rattle.std.proofs.Common.{◌≡◌, Option, subst, ◌∙◌}
 use Rattle.std.specs.Prelude.{find, option_map}
 use Rattle.hist_model.specs.Calls.{queue}
 use Rattle.history_frames.specs.Ordinals.{task_name_of}

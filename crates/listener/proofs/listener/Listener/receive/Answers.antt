@@ -1,10 +1,7 @@
-use Rattle.std.proofs.Common.{refl, sym, arith, ◌∙◌}
-use Rattle.std.specs.Prelude.{Ok, Err, Result}
-use Rattle.std.specs.Result.{IfOk}
+use Rattle.std.proofs.Common.{refl, arith, ◌∙◌}
+use Rattle.std.specs.Prelude.{Ok, Err}
 use Rattle.history_frames.specs.Ordinals.{task_name_of}
 use Rattle.hist_model.specs.declared.event.What.TheVariants.{Recv}
-use Rattle.listener.specs.State.{with_fetched}
-use Rattle.listener.specs.Listeners.{view}
 use Rattle.sys_abi.specs.Errnos.{enoent}
 use Rattle.listener.proofs.Stand.{follow, gone-is, if-ok, looks, next-is}
 use Rattle.listener.proofs.listener.Listener.receive.Goals as goal

@@ -1,5 +1,5 @@
-use Rattle.listener.proofs.Tables.{left}
+use Rattle.listener.proofs.Tables.{left-in}
 use Rattle.listener.proofs.queue.Queue.finish.Goals as goal
 
 pub returns : goal.returns
-returns c names asks = rw (c.take.ensures.entries, c.take.ensures.entered, left c.args.self.now.first c.args.self.now.order.entered c.args.self.now.fetched c.args.id names c.args.self.now.order.entries.items (record { fits = c.args.self.now.fits; few = c.args.self.now.few; below = c.args.self.now.order.below }) c.ranges.id.fits)
+returns c names asks = rw (c.take.ensures.entries, c.take.ensures.entered, left-in c.args.self.now names c.args.id c.ranges.id.fits)
