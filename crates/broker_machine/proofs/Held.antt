@@ -4,7 +4,7 @@ use Rattle.mediation.proofs.Common.{[], Addfd, AddfdPut, addfd_of, and_parts, an
 use Rattle.mediation.proofs.Common.{mem, mem_after, None, not, not-true, Notif, Ok, opens, Option, put_in, refl, request_after, request_of, Rules, session, session_call, skips}
 use Rattle.mediation.proofs.Common.{Some, step, System, take_in, true, What, Worker, worker_step, ℕ, ◌&&◌, ◌<◌, ◌^◌, ◌∷◌, ◌≡◌}
 use Rattle.hist_model.specs.declared.policy.Cap.{Cap}
-use Rattle.addfd.specs.Puts.{is_known}
+use Rattle.listener.specs.Puts.{is_known}
 use Rattle.mediation.proofs.Rows.{AtWork, WorkerRow, step-row, by-few-steps}
 use Rattle.mediation.proofs.Hands.{Hand, hand, idle-of, in-hand, worker-row}
 use Rattle.mediation.proofs.Order.{any-number, Checked, Follows, IsInjection, IsOwn, is-own, ordered, put-fixed, take-after_put, Used}

@@ -1,6 +1,6 @@
 -- What the workers of a broker remember, and what the kernel knows of a worker before a deed and after it.
 use Rattle.std.specs.Prelude.{◌≡◌, ◌<◌, ℕ, Bool, true, false, not, List, length, get_or, Option, Some, None, ⊤}
-use Rattle.addfd.specs.Puts.{is_known}
+use Rattle.listener.specs.Puts.{is_known}
 use Rattle.hist_model.specs.Legal.{rules_of}
 use Rattle.hist_model.specs.Sessions.{deed, session}
 use Rattle.hist_model.specs.Deeds as definition

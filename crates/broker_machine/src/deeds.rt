@@ -1,7 +1,7 @@
 //! A worker's turn: the deed that is due, on the kernel, and the kernel's answer to it.
 
 ghost use Rattle.std.specs.Prelude.{◌≡◌, ◌<◌, ◌≤◌, List, Option, Some, None, not, OnOk, OnErr, IfOk};
-ghost use Rattle.broker_core.specs.Answers.{deed_of, done_or_failed, is_not_yet, shown, told};
+ghost use Rattle.broker_core.specs.Answers.{deed_of, is_not_yet, shown, told};
 ghost use Rattle.broker_core.specs.Deeds.{due};
 ghost use Rattle.broker_core.specs.Remembered.{HasEffect, Remembers};
 ghost use Rattle.broker_core.specs.declared.deed.Deed.TheVariants.{Act};
@@ -17,26 +17,15 @@ ghost use Rattle.model_kernel.specs.Kernels.{IsKernel, past, system};
 ghost use Rattle.model_kernel.specs.Ready.{IsSame};
 ghost use Rattle.broker_machine.specs.Workers.{Allows, IsAnswered, IsPlain, KeepsOn, TriesStep, told_by};
 
-use addfd::TakeError;
-use broker_core::deed::{Deed, Got};
+use broker_core::deed::{Deed, Got, done_or_fault};
 use broker_core::worker::Worker;
 use hist_model::policy::{Cap, Policy};
 use hist_model::request::Request;
+use listener::{FetchError, TakeError};
 use model_kernel::Kernel;
-use notif_queue::FetchError;
 use std::alloc::Global;
 use sys_abi::errno::Errno;
 use sys_abi::memory::NoMemory;
-
-/// The answer to a deed of which nothing comes but that it was done.
-fn done<'a>(answer: Result<(), Errno>) -> Got<'a>
-    ensures { told result ≡ done_or_failed answer }
-{
-    match answer {
-        Ok(()) => Got::Ok,
-        Err(errno) => Got::Fault(errno),
-    }
-}
 
 /// A worker receives a notification, or finds its call gone. There is no answer yet while no call is there to receive.
 fn receive<'a>(kernel: &mut Kernel, number: u8) -> Got<'a>
@@ -101,7 +90,7 @@ fn plant<'a>(
     ensures same { OnErr result (IsSame kernel.old kernel.new) }
 {
     kernel.ready_plant(number, cap)?;
-    Ok(Some(done(kernel.plant(number, addr, bytes, cap))))
+    Ok(Some(done_or_fault(kernel.plant(number, addr, bytes, cap))))
 }
 
 /// A worker does what a request asks for.
@@ -117,7 +106,7 @@ fn act<'a>(
     ensures same { OnErr result (IsSame kernel.old kernel.new) }
 {
     kernel.ready_act(&request, cap)?;
-    Ok(Some(done(kernel.act(number, request, cap))))
+    Ok(Some(done_or_fault(kernel.act(number, request, cap))))
 }
 
 /// A worker does a deed that doesn't wait, and takes no memory but for its event.
@@ -130,11 +119,11 @@ fn do_plain<'a>(kernel: &mut Kernel, number: u8, deed: &Deed) -> Got<'a>
     ensures { (q : Asked) → IsAnswered kernel.old number (deed_of q deed.now) (told result) kernel.new }
 {
     match deed {
-        Deed::OpenMem { pid } => done(kernel.open_mem(number, *pid)),
-        Deed::OpenBase { pid, dirfd } => done(kernel.open_base(number, *pid, *dirfd)),
-        Deed::Check { id } => done(kernel.check(number, *id)),
-        Deed::AddfdPut(asked) => done(kernel.put(number, *asked)),
-        Deed::Send { id, back } => done(kernel.send(number, *id, back)),
+        Deed::OpenMem { pid } => done_or_fault(kernel.open_mem(number, *pid)),
+        Deed::OpenBase { pid, dirfd } => done_or_fault(kernel.open_base(number, *pid, *dirfd)),
+        Deed::Check { id } => done_or_fault(kernel.check(number, *id)),
+        Deed::AddfdPut(asked) => done_or_fault(kernel.put(number, *asked)),
+        Deed::Send { id, back } => done_or_fault(kernel.send(number, *id, back)),
         Deed::LetGo => {
             kernel.let_go(number);
             Got::Ok

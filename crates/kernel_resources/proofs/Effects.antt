@@ -16,7 +16,7 @@ use Rattle.hist_model.specs.declared.script.Script.{Script}
 use Rattle.sys_abi.specs.Errnos.{edquot, efault}
 use Rattle.task_groups.specs.Groups as groups
 use Rattle.task_groups.specs.declared.groups.Groups.{Groups}
-use Rattle.listener.proofs.Steps as listening
+use Rattle.listener.proofs.Stand as listening
 use Rattle.mount_tree.specs.Changes.{Seen}
 use Rattle.path_walk.specs.declared.resolution.Walk.{Walk}
 use Rattle.worker_rows.specs.Stands.{StandsForTimes}
@@ -53,18 +53,18 @@ module _ (S : Script) (K : List Event) (living : ℕ → ℕ) (e : Event) (w : �
   -- an effect that was refused changes nothing
   pub refused-plant : StandsFor S K living R → (a : ℕ) (bytes : List ℕ) (cap : Option Cap) (f : ℕ) → e.who ≡ Worker w → e.what ≡ Plant a bytes cap (Err f) → StandsFor S (e ∷ K) living R
   refused-plant T a bytes cap f who what = after-listening S K living e w R R.listener T (record { who = who; memory = rw what refl; tree = rw what refl; workers = rw (who, what) tt; spent = rw what refl })
-      (listening.stands-other S.firstid K e R.listener T.listener (record { calls = rw what tt; requests = rw what tt }))
+      (listening.stands-other S.firstid K R.listener T.listener e (rw what tt))
 
   pub refused-act : StandsFor S K living R → (q : Request) (cap : Option Cap) (f : ℕ) → e.who ≡ Worker w → e.what ≡ Act q cap (Err f) → StandsFor S (e ∷ K) living R
   refused-act T q cap f who what = after-listening S K living e w R R.listener T (record { who = who; memory = rw what refl; tree = rw what refl; workers = rw (who, what) tt; spent = rw what refl })
-      (listening.stands-other S.firstid K e R.listener T.listener (record { calls = rw what tt; requests = rw what tt }))
+      (listening.stands-other S.firstid K R.listener T.listener e (rw what tt))
 
   -- the answer of sysinfo was stored
   pub planted : (G : Groups) (spent : SpentRows) → StandsFor S K living R → (a : ℕ) (bytes : List ℕ) (cap : Option Cap) → e.who ≡ Worker w → e.what ≡ Plant a bytes cap (Ok tt)
       → groups.StandsFor S (e ∷ K) living (memories_in R.workers) G → StandsForTimes (e ∷ K) spent → StandsFor S (e ∷ K) living (record R { groups = G; spent = spent })
   planted G spent T a bytes cap who what g s = record {
     groups = g;
-    listener = listening.stands-other S.firstid K e R.listener T.listener (record { calls = rw what tt; requests = rw what tt });
+    listener = listening.stands-other S.firstid K R.listener T.listener e (rw what tt);
     tree_is = T.tree_is ∙ sym (plant-tree S K e a bytes cap what);
     workers = rows.stands-other S K e R.workers T.workers (rw (who, what) tt);
     spent = s;
@@ -79,7 +79,7 @@ module _ (S : Script) (K : List Event) (living : ℕ → ℕ) (e : Event) (w : �
       let at-root : perform (tree S K) (root S) base (effect q) ≡ Ok U.tree = subst (λ r. perform (tree S K) r base (effect q) ≡ Ok U.tree) T.container.root_is at-tree in
       record {
         groups = groups-kept S K living (memories_in R.workers) e R.groups T.groups (rw what refl);
-        listener = listening.stands-other S.firstid K e R.listener T.listener (record { calls = rw what tt; requests = rw what tt });
+        listener = listening.stands-other S.firstid K R.listener T.listener e (rw what tt);
         tree_is = sym (act-tree S K e w q cap U.tree who what (subst (λ x. perform (tree S K) (root S) x (effect q) ≡ Ok U.tree) (sym b) at-root));
         workers = rows.stands-other S K e R.workers T.workers (rw (who, what) tt);
         spent = s;

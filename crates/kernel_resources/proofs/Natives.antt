@@ -23,7 +23,7 @@ use Rattle.task_groups.proofs.Held.{alike, kept}
 use Rattle.task_groups.proofs.Stored.{holders-stay}
 use Rattle.listener.specs.Stands as listener
 use Rattle.listener.specs.declared.listener.Listener.{Listener}
-use Rattle.listener.proofs.Steps as listening
+use Rattle.listener.proofs.Stand as listening
 use Rattle.mount_tree.specs.Changes.{Seen}
 use Rattle.path_walk.specs.declared.resolution.Walk.{Walk}
 use Rattle.native_calls.specs.Stands.{IsDue, IsEntered, StandFor}
@@ -62,7 +62,7 @@ module _ (S : Script) (K : List Event) (living : ℕ → ℕ) (R : Resources) (T
     groups = kept S K living (memories_in R.workers) R.groups T.groups (ev (Task n) (Native answer) ∷ K) (record R.groups { spaces = held; tables = reached })
         (record { rows = refl; spaces = spaces_held; tables = holders-stay R.groups.tables reached row.table table_held others })
         (made-same makes_group (ev (Task n) (Native answer)) K refl) s.spaces_stand s.tables_stand;
-    listener = listening.stands-other S.firstid K (ev (Task n) (Native answer)) R.listener T.listener (record { calls = tt; requests = tt });
+    listener = listening.stands-other S.firstid K R.listener T.listener (ev (Task n) (Native answer)) (tt);
     tree_is = s.tree_is;
     workers = rows.stands-other S K (ev (Task n) (Native answer)) R.workers T.workers tt;
     spent = times.stands-unspent K (ev (Task n) (Native answer)) R.spent T.spent refl;

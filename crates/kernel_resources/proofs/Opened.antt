@@ -19,7 +19,7 @@ use Rattle.task_groups.specs.Groups as groups
 use Rattle.task_groups.specs.Groups.{HasRow, one_more, one_less}
 use Rattle.task_groups.specs.declared.groups.Groups.{Groups}
 use Rattle.task_groups.proofs.Held.{alike, has-row, living-live, living-made, same-or-other}
-use Rattle.listener.proofs.Steps as listening
+use Rattle.listener.proofs.Stand as listening
 use Rattle.worker_rows.specs.Stands as workers
 use Rattle.worker_rows.specs.Rows.{row_of, idle}
 use Rattle.worker_rows.specs.declared.workers.WorkerRow.{WorkerRow}
@@ -90,7 +90,7 @@ opened S K living e R w g G new T l none o f n ws =
     record {
       groups = alike S (e ∷ K) living living (one_more (memories_in R.workers) g) (memories_in new) G (f (groups-kept S K living (memories_in R.workers) e R.groups T.groups (rw o.what_is refl)))
           (λ x. refl) (λ x. rw n (memories-more R.workers w g _ few none refl x));
-      listener = listening.stands-other S.firstid K e R.listener T.listener (record { calls = rw o.what_is tt; requests = rw o.what_is tt });
+      listener = listening.stands-other S.firstid K R.listener T.listener e (rw o.what_is tt);
       tree_is = T.tree_is ∙ sym (tree-kept S K e (rw o.what_is refl) (rw o.what_is refl));
       workers = ws;
       spent = times.stands-unspent K e R.spent T.spent (rw o.what_is refl);
@@ -104,7 +104,7 @@ based S K living e R w new T l who pid d base what n ws =
     let few : w < length R.workers = omega (arith, l, T.workers.whole) in
     record {
       groups = alike S (e ∷ K) living living (memories_in R.workers) (memories_in new) R.groups (groups-kept S K living (memories_in R.workers) e R.groups T.groups (rw what refl)) (λ x. refl) (λ x. rw n (memories-same R.workers w _ few refl x));
-      listener = listening.stands-other S.firstid K e R.listener T.listener (record { calls = rw what tt; requests = rw what tt });
+      listener = listening.stands-other S.firstid K R.listener T.listener e (rw what tt);
       tree_is = T.tree_is ∙ sym (tree-kept S K e (rw what refl) (rw what refl));
       workers = ws;
       spent = times.stands-unspent K e R.spent T.spent (rw what refl);
@@ -121,7 +121,7 @@ let_go S K living e R w G new o T l q what f n ws =
     record {
       groups = alike S (e ∷ K) living living (without (memories_in R.workers) o) (memories_in new) G
           (f (groups-kept S K living (memories_in R.workers) e R.groups T.groups (rw what refl)) (one-of few o q)) (λ x. refl) (λ x. rw n (less few o q x));
-      listener = listening.stands-other S.firstid K e R.listener T.listener (record { calls = rw what tt; requests = rw what tt });
+      listener = listening.stands-other S.firstid K R.listener T.listener e (rw what tt);
       tree_is = T.tree_is ∙ sym (tree-kept S K e (rw what refl) (rw what refl));
       workers = ws;
       spent = times.stands-unspent K e R.spent T.spent (rw what refl);

@@ -5,10 +5,10 @@ use Rattle.std.specs.Prelude.{Ok, Err, Result, replicate, set, slice_get, if◌t
 use Rattle.std.specs.List.{count_by}
 use Rattle.std.proofs.lemmas.Option.{slice_get-get_or, slice_get_within, get_or_from_slice_get}
 use Rattle.std.proofs.lemmas.List.Sums.{sum_by-set}
-use Rattle.addfd.specs.Stands.{take_of}
-use Rattle.addfd.specs.declared.requests.TakeError.{TakeError}
-use Rattle.addfd.specs.declared.requests.TakeError.TheVariants.{Pending, Fault}
-use Rattle.notif_queue.specs.Stands.{IsReceipt}
+use Rattle.listener.specs.Stands.{take_of}
+use Rattle.listener.specs.declared.listener.TakeError.{TakeError}
+use Rattle.listener.specs.declared.listener.TakeError.TheVariants.{Pending, Fault}
+use Rattle.listener.specs.Stands.{IsReceipt}
 use Rattle.hist_model.specs.Look.{is_place}
 use Rattle.hist_model.specs.Files.{files, files_after}
 use Rattle.hist_model.specs.Natives.{Files}

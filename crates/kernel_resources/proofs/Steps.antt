@@ -17,7 +17,7 @@ use Rattle.task_groups.specs.Groups as groups
 use Rattle.task_groups.specs.declared.groups.Groups.{Groups}
 use Rattle.listener.specs.Stands as listener
 use Rattle.listener.specs.declared.listener.Listener.{Listener}
-use Rattle.listener.proofs.Steps as listening
+use Rattle.listener.proofs.Stand as listening
 use Rattle.worker_rows.specs.Stands as workers
 use Rattle.worker_rows.specs.Stands.{cap_spent}
 use Rattle.worker_rows.proofs.Kept as rows
@@ -130,7 +130,7 @@ module _ (S : Script) (K : List Event) (living : ℕ → ℕ) (e : Event) (R : R
   -- the groups alone changed
   pub after-groups : (living' : ℕ → ℕ) (G : Groups) → keeps_the_rest e.what ≡ true → listener.IsOther K e → groups.StandsFor S (e ∷ K) living' (memories_in R.workers) G
       → StandsFor S (e ∷ K) living' (record R { groups = G })
-  after-groups living' G h o g = after living' G R.listener h g (listening.stands-other S.firstid K e R.listener T.listener o)
+  after-groups living' G h o g = after living' G R.listener h g (listening.stands-other S.firstid K R.listener T.listener e o)
 
   -- nothing changed
   pub after-other : keeps_groups e.what ≡ true → listener.IsOther K e → StandsFor S (e ∷ K) living R

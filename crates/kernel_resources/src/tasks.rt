@@ -1,8 +1,6 @@
 //! What tasks use.
 
 ghost use Rattle.std.specs.Prelude.{◌≡◌, ℕ, ◌+◌, ◌^◌, ◌%◌, List, ◌∷◌, length, Option, Some, None, Ok, Err, IfOk, IfSome, OnOk, OnErr, true, false, is_err, not};
-ghost use Rattle.addfd.specs.Requests.{has_request};
-ghost use Rattle.addfd.specs.Stands.{oldest_in};
 ghost use Rattle.hist_model.specs.Calls.{calls, fetched, listed, queue};
 ghost use Rattle.hist_model.specs.Files.{files, slot_in};
 ghost use Rattle.hist_model.specs.Kinds.{closes};
@@ -15,11 +13,10 @@ ghost use Rattle.hist_model.specs.declared.event.Event.{Event};
 ghost use Rattle.hist_model.specs.declared.event.What.TheVariants.{Native};
 ghost use Rattle.hist_model.specs.declared.script.Script.{Script};
 ghost use Rattle.history_frames.specs.Ordinals.{group_of, groups_made};
-ghost use Rattle.listener.specs.Stands.{IsInstall, IsListedAs, IsSettledBy};
+ghost use Rattle.listener.specs.Stands.{IsEntry, IsInstall, IsLeaving, IsListedAs, IsSettledBy, oldest_in};
 ghost use Rattle.native_calls.specs.Prepared.{IsPrepared};
 ghost use Rattle.native_calls.specs.Stands.{IsEntered};
-ghost use Rattle.notif_queue.specs.Stands.{IsEntry, IsLeaving};
-ghost use Rattle.notif_queue.specs.Table.{HasRoom as HasCallRoom};
+ghost use Rattle.listener.specs.Table.{HasRoom as HasCallRoom};
 ghost use Rattle.task_groups.specs.Groups.{HasRoom as HasGroupRoom, HasRoomFor, IsCopyOf, IsInstall as IsGroupInstall, IsLive, IsPoke, one_less, one_more};
 ghost use Rattle.kernel_resources.specs.Stands.{HasNativeRoom, IsThread, StandsFor};
 
@@ -115,30 +112,28 @@ impl Resources {
         self.listener.was_received(id)
     }
 
-    /// The oldest request of the listed call with this id that isn't installed, with its worker.
-    pub fn next_request(&self, id: u64) -> Option<(u8, Addfd)>
-        ensures stands { (S : Script) (K : List Event) (living : ℕ → ℕ) (c : ℕ) → StandsFor S K living self.now → IsListedAs K c id → result ≡ oldest_in K (queue K c) }
-        ensures known { IfSome result (λ r. has_request self.now.listener.requests r.0 ≡ true) }
+    /// What the oldest request of the listed call with this id asks for that isn't installed.
+    pub fn next_request(&self, id: u64) -> Option<Addfd>
+        ensures { (S : Script) (K : List Event) (living : ℕ → ℕ) (c : ℕ) → StandsFor S K living self.now → IsListedAs K c id → result ≡ oldest_in K (queue K c) }
     {
         self.listener.next_request(id)
     }
 
-    /// A task installs what a worker asked for in its group, for which there is room: the oldest request of the call with
-    /// this id, in which it waits. The errors are those of `Groups::install`.
-    pub fn install(&mut self, group: u32, id: u64, worker: u8, asked: &Addfd) -> Result<u32, Errno>
+    /// A task installs what was asked for in its group, for which there is room: the oldest request of the call with this
+    /// id, in which it waits. The errors are those of `Groups::install`.
+    pub fn install(&mut self, group: u32, id: u64, asked: &Addfd) -> Result<u32, Errno>
         requires live { IsLive self.old.groups group }
         requires room { HasRoomFor self.old.groups group 0 }
-        requires asked { has_request self.old.listener.requests worker ≡ true }
         ensures answer { (S : Script) (K : List Event) (living : ℕ → ℕ) (g : ℕ) → StandsFor S K living self.old → group_of K group ≡ Some g → result ≡ slot_answer (slot_in S.rlimit (files S K) g asked.now) }
-        ensures step { (S : Script) (K : List Event) (living : ℕ → ℕ) (e : Event) (c g : ℕ) → StandsFor S K living self.old → group_of K group ≡ Some g → IsListedAs K c id → IsInstall K e c worker asked.now result → IsGroupInstall K e g asked.now result → StandsFor S (e ∷ K) living self.new }
+        ensures step { (S : Script) (K : List Event) (living : ℕ → ℕ) (e : Event) (c g : ℕ) → StandsFor S K living self.old → group_of K group ≡ Some g → IsListedAs K c id → IsInstall K e c asked.now result → IsGroupInstall K e g asked.now result → StandsFor S (e ∷ K) living self.new }
     {
         match self.groups.install(group, asked) {
             Ok(number) => {
-                self.listener.installed(id, worker, asked, Ok(number));
+                self.listener.installed(id, asked, Ok(number));
                 Ok(number)
             }
             Err(errno) => {
-                self.listener.installed(id, worker, asked, Err(errno));
+                self.listener.installed(id, asked, Err(errno));
                 Err(errno)
             }
         }

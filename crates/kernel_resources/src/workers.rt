@@ -9,12 +9,10 @@ ghost use Rattle.hist_model.specs.declared.event.Actor.TheVariants.{Worker};
 ghost use Rattle.hist_model.specs.declared.event.Event.{Event};
 ghost use Rattle.hist_model.specs.declared.event.What.TheVariants.{Act, AddfdPut, LetGo, OpenBase, Plant, Recv, Send};
 ghost use Rattle.hist_model.specs.declared.script.Script.{Script};
-ghost use Rattle.notif_queue.specs.Stands.{IsNext, IsReceipt};
-ghost use Rattle.notif_queue.specs.declared.queue.FetchError.TheVariants.{Empty, Gone};
-ghost use Rattle.addfd.specs.Puts.{is_known};
-ghost use Rattle.addfd.specs.Requests.{has_request};
-ghost use Rattle.addfd.specs.Stands.{take_of};
-ghost use Rattle.addfd.specs.declared.requests.TakeError.TheVariants.{Pending};
+ghost use Rattle.listener.specs.Stands.{IsNext, IsReceipt, take_of};
+ghost use Rattle.listener.specs.declared.queue.FetchError.TheVariants.{Empty, Gone};
+ghost use Rattle.listener.specs.Requests.{has_request};
+ghost use Rattle.listener.specs.declared.listener.TakeError.TheVariants.{Pending};
 ghost use Rattle.sys_abi.specs.Errnos.{enoent};
 ghost use Rattle.hist_model.specs.Files.{files};
 ghost use Rattle.hist_model.specs.Legal.{is_open_session, outcome, system_of};
@@ -35,13 +33,12 @@ ghost use Rattle.hist_model.specs.Effects.{effect};
 ghost use Rattle.sys_abi.specs.Errnos.{edquot, efault};
 
 use crate::resources::Resources;
-use addfd::TakeError;
 use hist_model::event::Back;
 use hist_model::notification::Fetched;
 use hist_model::policy::Cap;
 use hist_model::request::{Fault, NodeRef, Request};
+use listener::{FetchError, TakeError};
 use native_calls::base_of;
-use notif_queue::FetchError;
 use path_walk::effects::perform_request;
 use sys_abi::errno::Errno;
 use sys_abi::memory::OrNoMemory;
@@ -95,11 +92,10 @@ impl Resources {
 
     /// A worker, which has no request, asks for a descriptor in the caller of a call (SECCOMP_IOCTL_NOTIF_ADDFD): ENOENT
     /// exactly where its id names no listed call, EINPROGRESS where that wasn't received, or was answered, and EBUSY for
-    /// SECCOMP_ADDFD_FLAG_SEND where another request of the call isn't installed yet. The flags are known.
+    /// SECCOMP_ADDFD_FLAG_SEND where another request of the call isn't installed yet.
     pub fn put(&mut self, worker: u8, asked: Addfd) -> Result<(), Errno>
         requires worker { worker ≤ 16 }
         requires free { has_request self.old.listener.requests worker ≡ false }
-        requires known { is_known asked ≡ true }
         ensures answer { (T : System) (S : Script) (K : List Event) (living : ℕ → ℕ) → StandsFor S K living self.old → result ≡ put_answer T K asked (named K asked.id) }
         ensures step { (S : Script) (K : List Event) (living : ℕ → ℕ) (e : Event) → StandsFor S K living self.old → e.who ≡ Worker worker → e.what ≡ AddfdPut asked result → StandsFor S (e ∷ K) living self.new }
     {

@@ -1,2 +1,14 @@
-pub mod Listed
-pub mod Steps
+pub mod Lists
+pub mod Rows
+pub mod Halves
+pub mod Tables
+pub mod Answers
+pub mod Asks
+pub mod Sounds
+pub mod Folds
+pub mod Requesting
+pub mod KeptLemmas
+pub mod Told
+pub mod Stand
+pub mod Sent
+pub mod Backs

@@ -1,2 +1,10 @@
-pub mod Replies
+pub mod State
+pub mod Fold
+pub mod Entries
+pub mod Table
+pub mod Sound
+pub mod Requests
+pub mod Listeners
+pub mod Answers
+pub mod Puts
 pub mod Stands

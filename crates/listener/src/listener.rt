@@ -1,36 +1,48 @@
 //! The listener of a kernel.
 
-ghost use Rattle.std.specs.Prelude.{◌≡◌, ◌↔◌, ℕ, ◌+◌, ◌%◌, ◌^◌, ◌<◌, ◌≤◌, List, [], ◌∷◌, Option, Some, None, Ok, Err, Result, IfOk, OnOk, OnErr, IfSome, IsOk, true, false};
-ghost use Rattle.hist_model.specs.Calls.{calls, count, fetched, is_call, id as id_at, listed, named, queue, state_at};
-ghost use Rattle.hist_model.specs.Steps.{check_answer, oldest_unfetched, put_answer, request_of, send_answer, take_step, install_at, request_listed};
-ghost use Rattle.hist_model.specs.Systems.{System};
-ghost use Rattle.hist_model.specs.declared.event.Event.{Event};
-ghost use Rattle.hist_model.specs.declared.event.Actor.TheVariants.{Worker};
-ghost use Rattle.hist_model.specs.declared.notification.State.TheVariants.{Fetched as FetchedState};
-ghost use Rattle.hist_model.specs.declared.event.What.TheVariants.{AddfdPut, Recv, Send};
-ghost use Rattle.addfd.specs.Puts.{is_known};
-ghost use Rattle.addfd.specs.Requests.{has_request};
-ghost use Rattle.addfd.specs.Stands.{is_asking, oldest_in, take_of};
-ghost use Rattle.notif_queue.specs.Stands.{IsEntry, IsLeaving, IsNext, IsReceipt};
-ghost use Rattle.notif_queue.specs.Stands as calls_stand;
-ghost use Rattle.notif_queue.specs.Table as rooms;
-ghost use Rattle.notif_queue.specs.declared.queue.FetchError.TheVariants.{Empty, Gone};
-ghost use Rattle.addfd.specs.declared.requests.TakeError.TheVariants.{Pending};
-ghost use Rattle.sys_abi.specs.Errnos.{enoent};
+ghost use Rattle.std.specs.Prelude.{◌≡◌, ◌≤◌, ◌<◌, ◌+◌, ◌%◌, ◌^◌, ◌∷◌, [], ℕ, List, Option, Some, None, Ok, Err, IfOk, OnOk, OnErr, IsOk, is_some, true, false};
+ghost use Rattle.hist_model.specs.Calls.{calls, count, fetched, listed, named, queue};
 ghost use Rattle.hist_model.specs.Kinds.{closes};
-ghost use Rattle.listener.specs.Replies.{reply_of, back_of, is_answered, was_fetched};
-ghost use Rattle.listener.specs.Stands.{StandsFor, IsListedAs, IsSettledBy, IsInstall};
+ghost use Rattle.hist_model.specs.Look.{Name};
+ghost use Rattle.hist_model.specs.Steps.{check_answer, install_at, oldest_unfetched, put_answer, request_listed, request_of, send_answer, take_step};
+ghost use Rattle.hist_model.specs.Systems.{System};
+ghost use Rattle.hist_model.specs.declared.event.Actor.TheVariants.{Worker};
+ghost use Rattle.hist_model.specs.declared.event.Event.{Event};
+ghost use Rattle.hist_model.specs.declared.event.What.TheVariants.{AddfdPut, Recv, Send};
+ghost use Rattle.hist_model.specs.declared.notification.Reply.TheVariants.{Installing};
+ghost use Rattle.sys_abi.specs.Errnos.{enoent};
+ghost use Rattle.listener.specs.Listeners.{validity, send_admission, put_admission, taken, is_over, back_of, was_fetched, with_sent};
+ghost use Rattle.listener.specs.Requests.{has_request};
+ghost use Rattle.listener.specs.Stands.{StandsFor, IsEntry, IsInstall, IsLeaving, IsListedAs, IsNext, IsReceipt, IsSettledBy, oldest_in, take_of};
+ghost use Rattle.listener.specs.State as state;
+ghost use Rattle.listener.specs.State.{result_reply};
+ghost use Rattle.listener.specs.Table as table;
+ghost use Rattle.listener.specs.Table.{HasRoom};
+ghost use Rattle.listener.specs.declared.listener.TakeError.TheVariants.{Pending};
+ghost use Rattle.listener.specs.declared.queue.FetchError.TheVariants.{Empty, Gone};
+ghost use Rattle.listener.specs.declared.requests.Request.{Request};
 
-use addfd::{Requests, TakeError, admit_put};
+use crate::queue::{FetchError, Queue};
+use crate::requests::Requests;
 use hist_model::event::Back;
 use hist_model::notification::{Fetched, Reply, State};
 use hist_model::request::TaskRef;
-use notif_ioctl::{admit_send, check_valid};
-use notif_queue::{FetchError, Queue};
 use std::alloc::Global;
 use sys_abi::errno::Errno;
 use sys_abi::memory::NoMemory;
 use sys_abi::wire::{Addfd, SECCOMP_ADDFD_FLAG_SEND};
+use thiserror::Error;
+
+/// Why a worker didn't get a descriptor's number.
+#[derive(Clone, Copy, PartialEq, Eq, Debug, Error)]
+pub enum TakeError {
+    /// The call's task has not installed the descriptor yet.
+    #[error("not installed yet")]
+    Pending,
+    /// The installation failed, or it never comes, since the call is gone.
+    #[error("not installed")]
+    Fault(Errno),
+}
 
 /// The listed calls of a listener, and the requests for descriptors of workers 0 to 16.
 pub struct Listener {
@@ -50,7 +62,7 @@ impl Drop for Listener {
 
 /// The reply of a call that is answered so.
 fn reply_of(back: Back) -> Reply
-    ensures { result ≡ reply_of back }
+    ensures { result ≡ state.reply_of back }
 {
     match back {
         Back::Value(value) => Reply::Value(value),
@@ -61,7 +73,7 @@ fn reply_of(back: Back) -> Reply
 
 /// How a call with this reply returns; none where its descriptor isn't installed yet.
 fn back_of(reply: Reply) -> Option<Back>
-    ensures { result ≡ back_of reply }
+    ensures { result ≡ back_of (Some reply) }
 {
     match reply {
         Reply::Value(value) => Some(Back::Value(value)),
@@ -71,11 +83,14 @@ fn back_of(reply: Reply) -> Option<Back>
     }
 }
 
-/// A call of this state was answered.
-fn is_answered(state: Option<State>) -> bool
-    ensures { result ≡ is_answered state }
+/// The reply of a call whose descriptor was installed with this answer.
+fn installed_reply(answer: &Result<u32, Errno>) -> Option<Reply>
+    ensures { result ≡ state.result_reply answer.now }
 {
-    matches!(state, Some(State::Answered))
+    match answer {
+        Ok(number) => Some(Reply::Value(i64::from(*number))),
+        Err(_) => None,
+    }
 }
 
 /// The notification of a call of this state was received.
@@ -85,32 +100,78 @@ fn was_fetched(state: Option<State>) -> bool
     matches!(state, Some(State::Fetched | State::Answered))
 }
 
+/// Whether an id is valid that names a listed call of this state, or none.
+fn check_valid(state: Option<State>) -> Result<(), Errno>
+    ensures { result ≡ validity state }
+{
+    match state {
+        Some(State::Fetched) => Ok(()),
+        _ => Err(Errno::ENOENT),
+    }
+}
+
+/// Whether an answer is taken of the listed call that its id names, if it names one.
+fn admit_send(state: Option<State>) -> Result<(), Errno>
+    ensures { result ≡ send_admission state }
+{
+    match state {
+        None => Err(Errno::ENOENT),
+        Some(State::Fetched) => Ok(()),
+        Some(State::Unfetched | State::Answered) => Err(Errno::EINPROGRESS),
+    }
+}
+
+/// Whether a request for the listed call that its id names, if it names one, is taken.
+fn admit_put(a: &Addfd, state: Option<State>, queued: u32) -> Result<(), Errno>
+    ensures { result ≡ put_admission a.now state queued }
+{
+    match state {
+        None => Err(Errno::ENOENT),
+        Some(State::Unfetched | State::Answered) => Err(Errno::EINPROGRESS),
+        Some(State::Fetched) => {
+            if a.flags >= SECCOMP_ADDFD_FLAG_SEND && queued != 0 {
+                Err(Errno::EBUSY)
+            } else {
+                Ok(())
+            }
+        }
+    }
+}
+
+/// What a worker is told whose request has this result, and whose call is listed or not.
+fn told(found: Option<Result<u32, Errno>>, listed: bool) -> Result<u32, TakeError>
+    ensures { result ≡ taken found listed }
+{
+    match found {
+        Some(Ok(number)) => Ok(number),
+        Some(Err(errno)) => Err(TakeError::Fault(errno)),
+        None if listed => Err(TakeError::Pending),
+        None => Err(TakeError::Fault(Errno::ENOENT)),
+    }
+}
+
+/// A worker that is told this has no request any more.
+fn is_over(answer: &Result<u32, TakeError>) -> bool
+    ensures { result ≡ is_over answer.now }
+{
+    !matches!(answer, Err(TakeError::Pending))
+}
+
 /// Notes a request, which was taken: one with SECCOMP_ADDFD_FLAG_SEND answers its call.
 fn note_put(queue: &mut Queue, asked: &Addfd)
-    requires { rooms.state_found queue.old asked.now.id ≡ Some FetchedState }
-    ensures { (first : ℕ) (K : List Event) (e : Event) → calls_stand.StandsFor first K queue.old → state_at K (named K asked.now.id) ≡ Some FetchedState → e.what ≡ AddfdPut asked.now (Ok tt) → calls_stand.StandsFor first (e ∷ K) queue.new }
+    ensures { (names : ℕ → Name) (asks : List Request) → table.view queue.new names asks ≡ with_sent asked.now (Some Installing) asked.now.id (table.view queue.old names asks) }
 {
     if asked.flags >= SECCOMP_ADDFD_FLAG_SEND {
-        queue.answer(asked.id, Reply::Installing);
+        queue.set_reply(asked.id, Some(Reply::Installing));
     }
 }
 
-/// Notes what the installation of a request, the oldest one of the listed call with this id, answered.
+/// Notes what the installation of a request for the call with this id answered.
 fn note_installation(queue: &mut Queue, id: u64, asked: &Addfd, answer: &Result<u32, Errno>)
-    ensures { (first : ℕ) (K : List Event) (e : Event) (c w : ℕ) → calls_stand.StandsFor first K queue.old → IsListedAs K c id → IsInstall K e c w asked.now answer.now → calls_stand.StandsFor first (e ∷ K) queue.new }
+    ensures { (names : ℕ → Name) (asks : List Request) → table.view queue.new names asks ≡ with_sent asked.now (result_reply answer.now) id (table.view queue.old names asks) }
 {
     if asked.flags >= SECCOMP_ADDFD_FLAG_SEND {
-        note_answer(queue, id, answer);
-    }
-}
-
-/// Notes what the installation answered of the descriptor that is to answer the call with this id.
-fn note_answer(queue: &mut Queue, id: u64, answer: &Result<u32, Errno>)
-    ensures { (first : ℕ) (K : List Event) (e : Event) → calls_stand.StandsFor first K queue.old → calls_stand.IsInstall K e id answer.now → calls_stand.StandsFor first (e ∷ K) queue.new }
-{
-    match answer {
-        Ok(number) => queue.installed(id, *number),
-        Err(_) => queue.reopen(id),
+        queue.set_reply(id, installed_reply(answer));
     }
 }
 
@@ -143,7 +204,7 @@ impl Listener {
         ensures gone_step { result ≡ Err Gone → (first : ℕ) (K : List Event) (e : Event) → StandsFor first K self.old → e.what ≡ Recv (Err enoent) → StandsFor first (e ∷ K) self.new }
         ensures empty { result ≡ Err Empty → (first : ℕ) (K : List Event) → StandsFor first K self.old → count K ≡ 0 }
         ensures same { result ≡ Err Empty → self.new ≡ self.old }
-        ensures room { rooms.HasRoom self.old.queue → rooms.HasRoom self.new.queue }
+        ensures room { HasRoom self.old.queue → HasRoom self.new.queue }
     {
         self.queue.fetch()
     }
@@ -157,7 +218,7 @@ impl Listener {
     {
         match admit_send(self.queue.state_of(id)) {
             Ok(()) => {
-                self.queue.answer(id, reply_of(back));
+                self.queue.set_reply(id, Some(reply_of(back)));
                 Ok(())
             }
             Err(error) => Err(error),
@@ -167,19 +228,18 @@ impl Listener {
     /// Whether a worker has a request for a descriptor.
     pub fn has_request(&self, worker: u8) -> bool
         ensures has { result ≡ has_request self.now.requests worker }
-        ensures stands { (first : ℕ) (K : List Event) → StandsFor first K self.now → result ≡ is_asking (request_of K worker) }
+        ensures stands { (first : ℕ) (K : List Event) → StandsFor first K self.now → result ≡ is_some (request_of K worker) }
     {
         self.requests.has_request(worker)
     }
 
     /// Asks for a descriptor in the caller of the call that the request's id names (SECCOMP_IOCTL_NOTIF_ADDFD): ENOENT exactly
     /// where there is none, EINPROGRESS where its notification wasn't received, or it was answered, and EBUSY for a request
-    /// with SECCOMP_ADDFD_FLAG_SEND where another of the call's isn't installed yet. The worker has no request, and the flags
-    /// are known. A request that isn't taken leaves all as it was.
+    /// with SECCOMP_ADDFD_FLAG_SEND where another of the call's isn't installed yet. The worker has no request. A request that
+    /// isn't taken leaves all as it was.
     pub fn put(&mut self, worker: u8, asked: Addfd) -> Result<(), Errno>
         requires worker { worker ≤ 16 }
         requires free { has_request self.old.requests worker ≡ false }
-        requires known { is_known asked ≡ true }
         ensures answer { (S : System) (first : ℕ) (K : List Event) → StandsFor first K self.old → result ≡ put_answer S K asked (named K asked.id) }
         ensures step { (first : ℕ) (K : List Event) (e : Event) → StandsFor first K self.old → e.who ≡ Worker worker → e.what ≡ AddfdPut asked result → StandsFor first (e ∷ K) self.new }
         ensures refused { OnErr result (self.new ≡ self.old) }
@@ -202,45 +262,35 @@ impl Listener {
         requires { has_request self.old.requests worker ≡ true }
         ensures answer { (first : ℕ) (K : List Event) → StandsFor first K self.old → take_of result ≡ take_step (install_at K (request_of K worker)) (request_listed K (request_of K worker)) }
         ensures step { (first : ℕ) (K : List Event) (e : Event) → StandsFor first K self.old → e.who ≡ Worker worker → e.what ≡ take_of result → StandsFor first (e ∷ K) self.new }
-        ensures queue { self.new.queue ≡ self.old.queue }
         ensures pending { result ≡ Err Pending → self.new ≡ self.old }
     {
-        let listed = self.is_asked_call_listed(worker);
-        self.requests.take(worker, listed)
-    }
-
-    /// Whether the call is listed for which a worker, which has a request, asked for a descriptor.
-    fn is_asked_call_listed(&self, worker: u8) -> bool
-        requires { has_request self.now.requests worker ≡ true }
-        ensures { (first : ℕ) (K : List Event) → StandsFor first K self.now → result ≡ request_listed K (request_of K worker) }
-    {
-        let Some(asked) = self.requests.asked_by(worker) else {
+        let Some(request) = self.requests.of(worker) else {
             unreachable!()
         };
-        self.queue.state_of(asked.id).is_some()
+        let listed = self.queue.state_of(request.asked.id).is_some();
+        let answer = told(request.result, listed);
+        if is_over(&answer) {
+            self.requests.remove(worker);
+        }
+        answer
     }
 
     /// Makes room for one `enter`. There is none for the 2^64-th call.
     pub fn ready(&mut self) -> Result<(), NoMemory>
-        ensures room { OnOk result (rooms.HasRoom self.new.queue) }
-        ensures had_room { rooms.HasRoom self.old.queue → IsOk result }
-        ensures calls { rooms.SameCalls self.old.queue self.new.queue }
-        ensures requests { self.new.requests ≡ self.old.requests }
-        ensures stands { (first : ℕ) (K : List Event) → StandsFor first K self.old ↔ StandsFor first K self.new }
+        ensures room { OnOk result (HasRoom self.new.queue) }
+        ensures had_room { HasRoom self.old.queue → IsOk result }
+        ensures stands { (first : ℕ) (K : List Event) → StandsFor first K self.old → StandsFor first K self.new }
     {
         self.queue.ready()
     }
 
     /// Lists a call of this task, for which there is room, and gives its id: the ids count from the first one on.
     pub fn enter(&mut self, owner: TaskRef) -> u64
-        requires { rooms.HasRoom self.old.queue }
+        requires { HasRoom self.old.queue }
         ensures id { (first : ℕ) (K : List Event) → StandsFor first K self.old → result ≡ (first + calls K) % 2 ^ 64 }
         ensures step { (first : ℕ) (K : List Event) (e : Event) → StandsFor first K self.old → IsEntry K e owner result → StandsFor first (e ∷ K) self.new }
     {
-        let Ok(id) = self.queue.enter(owner) else {
-            unreachable!()
-        };
-        id
+        self.queue.enter(owner)
     }
 
     /// How the listed call with this id returns, where it was settled: answered, and with its descriptor installed where it
@@ -248,10 +298,9 @@ impl Listener {
     pub fn settled_back(&self, id: u64) -> Option<Back>
         ensures { (first : ℕ) (K : List Event) (c : ℕ) → StandsFor first K self.now → IsListedAs K c id → IsSettledBy K c result }
     {
-        if is_answered(self.queue.state_of(id)) {
-            back_of(self.queue.reply_of(id))
-        } else {
-            None
+        match self.queue.reply_of(id) {
+            Some(reply) => back_of(reply),
+            None => None,
         }
     }
 
@@ -262,33 +311,29 @@ impl Listener {
         was_fetched(self.queue.state_of(id))
     }
 
-    /// The oldest request for the listed call with this id that isn't installed, with its worker: None exactly where there is
+    /// What the oldest request for the listed call with this id asks for that isn't installed: None exactly where there is
     /// none.
-    pub fn next_request(&self, id: u64) -> Option<(u8, Addfd)>
-        ensures stands { (first : ℕ) (K : List Event) (c : ℕ) → StandsFor first K self.now → IsListedAs K c id → result ≡ oldest_in K (queue K c) }
-        ensures known { IfSome result (λ r. has_request self.now.requests r.0 ≡ true) }
+    pub fn next_request(&self, id: u64) -> Option<Addfd>
+        ensures { (first : ℕ) (K : List Event) (c : ℕ) → StandsFor first K self.now → IsListedAs K c id → result ≡ oldest_in K (queue K c) }
     {
         self.requests.oldest(id)
     }
 
-    /// Notes what the installation of a worker's request, the oldest one of the listed call with this id, answered. Where the
-    /// request has SECCOMP_ADDFD_FLAG_SEND the number is what the call returns, and after a failed one the call waits for an
-    /// answer again.
-    pub fn installed(&mut self, id: u64, worker: u8, asked: &Addfd, answer: Result<u32, Errno>)
-        requires { has_request self.old.requests worker ≡ true }
-        ensures { (first : ℕ) (K : List Event) (e : Event) (c : ℕ) → StandsFor first K self.old → IsListedAs K c id → IsInstall K e c worker asked.now answer → StandsFor first (e ∷ K) self.new }
+    /// Notes what the installation of the oldest request of the listed call with this id, which asks for this, answered. Where
+    /// the request has SECCOMP_ADDFD_FLAG_SEND the number is what the call returns, and after a failed one the call waits for
+    /// an answer again.
+    pub fn installed(&mut self, id: u64, asked: &Addfd, answer: Result<u32, Errno>)
+        ensures { (first : ℕ) (K : List Event) (e : Event) (c : ℕ) → StandsFor first K self.old → IsListedAs K c id → IsInstall K e c asked.now answer → StandsFor first (e ∷ K) self.new }
     {
         note_installation(&mut self.queue, id, asked, &answer);
-        self.requests.done(worker, answer);
+        self.requests.done(id, answer);
     }
 
     /// Takes the listed call with this id off the list, since its task resumes or has a delivery in it.
     pub fn leave(&mut self, id: u64)
         ensures { (first : ℕ) (K : List Event) (e : Event) → StandsFor first K self.old → IsLeaving K e id → StandsFor first (e ∷ K) self.new }
     {
-        if self.queue.state_of(id).is_some() {
-            self.queue.finish(id);
-        }
+        self.queue.finish(id);
     }
 
     /// Takes all calls off the list, since the listener closes.

@@ -14,13 +14,10 @@ use Rattle.hist_model.specs.declared.event.Event.{Event}
 use Rattle.hist_model.specs.declared.event.What.TheVariants.{Recv, Skip}
 use Rattle.hist_model.specs.declared.notification.Fetched.{Fetched}
 use Rattle.hist_model.proofs.Look.{oldest-some}
-use Rattle.history_frames.specs.Ordinals.{place_of, tasks_made}
-use Rattle.history_frames.proofs.Ordinals.{place-below}
-use Rattle.hist_model.specs.Kinds.{makes}
 use Rattle.sys_abi.specs.Errnos.{ebadf}
 use Rattle.sys_abi.specs.declared.wire.Notif.{Notif}
-use Rattle.notif_queue.specs.Stands.{IsNext}
-use Rattle.notif_queue.proofs.Waiting.{waits-here}
+use Rattle.listener.specs.Stands.{IsNext}
+use Rattle.listener.proofs.Stand.{waits-here}
 use Rattle.model_kernel.specs.Kernels.{IsKernel, past}
 use Rattle.model_kernel.specs.declared.kernel.Kernel.{Kernel}
 
@@ -29,7 +26,7 @@ pub next-waits : (k : Kernel) (call : Fetched) → IsKernel k → (next : IsNext
 unfolding oldest_unfetched
 next-waits k call s next =
     let found = (oldest-some _ _ next.place next.oldest).0 in
-    waits-here k.script.firstid (past k) k.resources.listener.queue next.place s.resources.listener.calls (and_parts (listed (past k) next.place) _ found).0
+    waits-here k.script.firstid (past k) k.resources.listener s.resources.listener next.place (and_parts (listed (past k) next.place) _ found).0
 
 -- a receive while requests are counted is an event
 pub receive-step : (S : System) (K : List Event) (w : ℕ) (answer : Result Notif ℕ) → 0 < count K → recv_answer K (oldest_unfetched K) ≡ answer → Recv answer ≡ deed_step S K w deed.Recv
@@ -45,10 +42,6 @@ told K call next n is = ap (recv_answer K) next.oldest ∙ ap Ok (sym is)
 pub notif-is : (K : List Event) (c x pid : ℕ) (nr : ℤ) (args : List ℕ) → x ≡ id K c → pid ≡ pid_named K (caller K c) → nr ≡ nr_in (event_at K c) → args ≡ args_in (event_at K c)
     → ◌≡◌ {A = Notif} (record { id = x; pid = pid; flags = 0; call = record { nr = nr; arch = 0xc000003e; ip = 0; args = args } }) (notif K c)
 notif-is K c x pid nr args is number entered given = rw (is, number, entered, given) refl
-
--- a task that has a place was made
-pub place-made : (K : List Event) (o t : ℕ) → place_of K o ≡ Some t → o < tasks_made K
-place-made K o t at = (place-below makes K o t at).0
 
 -- what is answered of a request whose source is open
 pub asked-open : (found : Bool) (answer : Result (Unit {0}) ℕ) → found ≡ true → (if not found then Err ebadf else answer) ≡ answer

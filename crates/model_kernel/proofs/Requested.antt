@@ -1,30 +1,30 @@
 -- The table of requests has one of a worker exactly where the history has one that was put and not taken.
--- By the lemma of `addfd` on a table that stands for its history.
+-- By the lemma of `listener` on the requests of one that stands for its history.
 use Rattle.std.proofs.Common.{◌≡◌, ℕ, Bool, true, false, Option, Some, None, refl, sym, ap, ◌∙◌}
-use Rattle.addfd.specs.Requests.{has_request}
-use Rattle.addfd.specs.Stands.{is_asking}
-use Rattle.addfd.proofs.Taken.{asks}
+use Rattle.listener.specs.Requests.{has_request}
+use Rattle.listener.proofs.Stand.{asks}
+use Rattle.std.specs.Prelude.{is_some}
 use Rattle.hist_model.specs.Steps.{request_of}
 use Rattle.model_kernel.specs.Kernels.{IsKernel, past}
 use Rattle.model_kernel.specs.declared.kernel.Kernel.{Kernel}
 
-is-asking : (o : Option ℕ) → (o ≡ None → ⊥) → is_asking o ≡ true
+is-asking : (o : Option ℕ) → (o ≡ None → ⊥) → is_some o ≡ true
 is-asking None some = absurd (some refl)
 is-asking (Some r) some = refl
 
-asks-nothing : (o : Option ℕ) → is_asking o ≡ false → o ≡ None
+asks-nothing : (o : Option ℕ) → is_some o ≡ false → o ≡ None
 asks-nothing None h = refl
 asks-nothing (Some r) h = cc
 
 module _ (k : Kernel) (w : ℕ) (i : IsKernel k) where
-  same : has_request k.resources.listener.requests w ≡ is_asking (request_of (past k) w)
-  same = asks (past k) k.resources.listener.requests w i.resources.listener.requests
+  same : has_request k.resources.listener.requests w ≡ is_some (request_of (past k) w)
+  same = asks k.script.firstid (past k) k.resources.listener i.resources.listener w
 
   pub has-one : (request_of (past k) w ≡ None → ⊥) → has_request k.resources.listener.requests w ≡ true
   has-one some = same ∙ is-asking (request_of (past k) w) some
 
   pub has-none : request_of (past k) w ≡ None → has_request k.resources.listener.requests w ≡ false
-  has-none none = same ∙ ap is_asking none
+  has-none none = same ∙ ap is_some none
 
   pub asked-one : has_request k.resources.listener.requests w ≡ true → request_of (past k) w ≡ None → ⊥
   asked-one h none = let no = has-none none in cc

@@ -27,13 +27,11 @@ use Rattle.kernel_resources.proofs.Natives.{counted-alike}
 use Rattle.kernel_resources.proofs.Opened.{live}
 use Rattle.kernel_resources.proofs.Steps.{after-other}
 use Rattle.listener.specs.Stands as listener
-use Rattle.listener.specs.Stands.{IsListedAs}
 use Rattle.hist_model.specs.Signals.{call_of, held, is_fetched_call}
 use Rattle.hist_model.proofs.Look.{name_eq-true}
 use Rattle.kernel_tasks.specs.declared.tasks.Tasks.{Tasks}
-use Rattle.notif_queue.specs.Stands.{IsEntry, IsLeaving, IsOutside}
-use Rattle.notif_queue.proofs.Named.{named-by}
-use Rattle.notif_queue.proofs.Waiting.{waits-in, waits-nowhere}
+use Rattle.listener.specs.Stands.{IsEntry, IsLeaving, IsListedAs}
+use Rattle.listener.proofs.Folds.{call-is}
 use Rattle.task_groups.specs.Groups.{IsLive, IsSpawn, one_less, one_more}
 use Rattle.task_progress.specs.Rows.{living_in, ended_at, group_at, one_ended}
 use Rattle.task_progress.specs.Stands.{IsStepOf}
@@ -64,14 +62,7 @@ noted old mid new o name w name_is a events same =
 
 -- the call in which a task waits is taken off the list by its step
 pub leaving : (k : Kernel) (o c x : ℕ) (what : What) → MayStep k o → WaitsIn k o c x → leaves what ≡ true → IsLeaving (past k) (step_by k o what) x
-leaving k o c x what m w l =
-    let there = waits-in (past k) (named k o) c w.call_is in
-    record {
-      place = c;
-      at = subst (λ y. named_call (past k) y ≡ Some c) w.id_is (named-by k.script.firstid (past k) k.resources.listener.queue c m.kernel.resources.listener.calls there.0);
-      who = ap Task (sym there.1);
-      is = l;
-    }
+leaving k o c x what m w l = record { name = named k o; who = refl; place = c; call_is = w.call_is; id_is = w.id_is; is = l }
 
 -- a step that makes no task leaves their number small
 pub few-stay : (k : Kernel) (e : Event) → IsKernel k → makes e.what ≡ false → tasks_made (e ∷ past k) < 2 ^ 32
@@ -156,17 +147,9 @@ none-due k o in_call q = by (signal_due k o) q
     by (Some sig) q = cc
     by None q = refl
 
--- a task that waits in no listed call is nobody's caller
-pub outside : (k : Kernel) (o : ℕ) (w : What) → call_of (past k) (named k o) ≡ None → IsOutside (past k) (step_by k o w)
-outside k o w none c on = by (name_eq (named k o) (caller (past k) c)) refl
-  where
-    by : (b : Bool) → name_eq (named k o) (caller (past k) c) ≡ b → name_eq (named k o) (caller (past k) c) ≡ false
-    by true q = absurd (waits-nowhere (past k) (named k o) c none on (sym (name_eq-true (named k o) (caller (past k) c) q)))
-    by false q = q
-
 -- a delivery elsewhere than in a listed call is other for the listener
 pub delivery-other : (k : Kernel) (o : ℕ) (w : What) → call_of (past k) (named k o) ≡ None → IsDelivery w → listener.IsOther (past k) (step_by k o w)
-delivery-other k o w none d = subst (λ x. listener.IsOther (past k) (step_by k o x)) (sym d.is) (record { calls = outside k o (Deliver d.sig d.effect) none; requests = tt })
+delivery-other k o w none d = subst (λ x. listener.IsOther (past k) (step_by k o x)) (sym d.is) (record { name = named k o; who = refl; none = none })
 
 -- no signal is held back outside of a listed call; in one, they are where its listener is killable and it was received
 pub not-held : (killable : Bool) (K : List Event) (n : Name) → call_of K n ≡ None → false ≡ held killable K n
@@ -178,7 +161,7 @@ held-in killable K n c h = ap (λ x. killable && is_fetched_call K x) (sym h)
 
 -- the call in which a task waits is listed under its id
 pub listed-as : (k : Kernel) (o c x : ℕ) → WaitsIn k o c x → IsListedAs (past k) c x
-listed-as k o c x w = record { on = (waits-in (past k) (named k o) c w.call_is).0; id_is = w.id_is }
+listed-as k o c x w = record { on = (call-is (past k) (named k o) c w.call_is).0; id_is = w.id_is }
 
 -- ---- ends and entries
 
@@ -190,8 +173,8 @@ pub record IsPlain (K : List Event) (a : Actor) (w : What) : Type 0 where
   pub is_step : skips w ≡ false
 
 pub exit-plain : (K : List Event) (a : Actor) (w : What) → exits w ≡ true → IsPlain K a w
-exit-plain K a Exit h = record { keeps = refl; other = record { calls = tt; requests = tt }; makes_none = refl; is_step = refl }
-exit-plain K a (Enter nr args Kill) h = record { keeps = refl; other = record { calls = tt; requests = tt }; makes_none = refl; is_step = refl }
+exit-plain K a Exit h = record { keeps = refl; other = tt; makes_none = refl; is_step = refl }
+exit-plain K a (Enter nr args Kill) h = record { keeps = refl; other = tt; makes_none = refl; is_step = refl }
 exit-plain K a _ h = cc
 
 -- entering a call that isn't listed is such a step, keeps the tasks, and ends none
@@ -203,25 +186,14 @@ pub record IsPlainEntry (K : List Event) (a : Actor) (w : What) : Type 0 where
 pub entry-plain : (K : List Event) (a : Actor) (nr : ℤ) (args : List ℕ) (v : Entered) → is_unlisted v ≡ true → IsPlainEntry K a (Enter nr args v)
 entry-plain K a nr args (Notify id) h = cc
 entry-plain K a nr args Kill h = cc
-entry-plain K a nr args Allow h = record { plain = record { keeps = refl; other = record { calls = tt; requests = tt }; makes_none = refl; is_step = refl }; keeps = refl; ends_none = refl }
-entry-plain K a nr args Log h = record { plain = record { keeps = refl; other = record { calls = tt; requests = tt }; makes_none = refl; is_step = refl }; keeps = refl; ends_none = refl }
-entry-plain K a nr args (Fails e) h = record { plain = record { keeps = refl; other = record { calls = tt; requests = tt }; makes_none = refl; is_step = refl }; keeps = refl; ends_none = refl }
-entry-plain K a nr args NoSys h = record { plain = record { keeps = refl; other = record { calls = tt; requests = tt }; makes_none = refl; is_step = refl }; keeps = refl; ends_none = refl }
+entry-plain K a nr args Allow h = record { plain = record { keeps = refl; other = tt; makes_none = refl; is_step = refl }; keeps = refl; ends_none = refl }
+entry-plain K a nr args Log h = record { plain = record { keeps = refl; other = tt; makes_none = refl; is_step = refl }; keeps = refl; ends_none = refl }
+entry-plain K a nr args (Fails e) h = record { plain = record { keeps = refl; other = tt; makes_none = refl; is_step = refl }; keeps = refl; ends_none = refl }
+entry-plain K a nr args NoSys h = record { plain = record { keeps = refl; other = tt; makes_none = refl; is_step = refl }; keeps = refl; ends_none = refl }
 
 -- the task, which waits in no listed call, enters one
 pub entering : (k : Kernel) (o slot x : ℕ) (nr : ℤ) (args : List ℕ) → MayStep k o → call_of (past k) (named k o) ≡ None → IsEntry (past k) (step_by k o (Enter nr args (Notify x))) (record { slot = slot; ordinal = o }) x
-entering k o slot x nr args m none =
-    let (t, at) = made-place makes (past k) o m.made in
-    let name_is : named k o ≡ name_of (past k) t = ap (name_at (past k)) at in
-    record {
-      place = t;
-      at = at;
-      who = ap Task name_is;
-      nr = nr;
-      args = args;
-      is = refl;
-      free = λ c on is. waits-nowhere (past k) (named k o) c none on (is ∙ sym name_is);
-    }
+entering k o slot x nr args m none = record { made = m.made; who = refl; nr = nr; args = args; is = refl; free = none }
 
 -- ---- threads
 
@@ -247,14 +219,14 @@ spawned k e T R group child None kind i is h made refused =
     rw (refused (ap makes is)) (kept k e T i (ap keeps_groups is) (other is) (λ g. h g ∙ (ap (λ w. living_in k.tasks.progress g + one_made w group g) is ∙ add-zero (living_in k.tasks.progress g))))
   where
     other : e.what ≡ Spawn child (spawn_answer None kind) → listener.IsOther (past k) e
-    other q = record { calls = rw q tt; requests = rw q tt }
+    other q = rw q tt
 
     add-zero : (n : ℕ) → n + 0 ≡ n
     add-zero n = omega arith
 
 -- a wait that answers is plain
 pub reap-plain : (K : List Event) (a : Actor) (w : What) → IsReap w → IsPlain K a w
-reap-plain K a (Reap answer) h = record { keeps = refl; other = record { calls = tt; requests = tt }; makes_none = refl; is_step = refl }
+reap-plain K a (Reap answer) h = record { keeps = refl; other = tt; makes_none = refl; is_step = refl }
 reap-plain K a _ h = absurd h
 
 -- a step is what it is equal to

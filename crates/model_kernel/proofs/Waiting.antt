@@ -8,12 +8,11 @@ use Rattle.hist_model.specs.Memory.{group_named}
 use Rattle.hist_model.specs.Steps.{deliver_or, install_step, living_step, place_or, slot_answer}
 use Rattle.hist_model.specs.declared.event.Back.{Back}
 use Rattle.hist_model.specs.declared.event.What.TheVariants.{Install, Resume, Skip}
-use Rattle.hist_model.proofs.Look.{name_eq-refl}
-use Rattle.addfd.proofs.Oldest.{oldest-first, oldest-none}
-use Rattle.addfd.specs.Stands.{IsOldest, oldest_in}
+use Rattle.hist_model.specs.declared.event.Actor.TheVariants.{Task}
+use Rattle.listener.proofs.Stand.{IsOldest, oldest-first, oldest-none}
 use Rattle.kernel_tasks.proofs.Refs.{steps-living}
-use Rattle.listener.specs.Stands.{IsInstall, IsSettledBy}
-use Rattle.notif_queue.proofs.Waiting.{waits-in}
+use Rattle.listener.specs.Stands.{IsInstall, IsSettledBy, oldest_in}
+use Rattle.listener.proofs.Folds.{call-is}
 use Rattle.sys_abi.specs.declared.wire.Addfd.{Addfd}
 use Rattle.task_groups.specs.Groups.{IsInstall as IsGroupInstall}
 use Rattle.task_names.proofs.Named.{name-made}
@@ -22,27 +21,27 @@ use Rattle.model_kernel.specs.Steps.{IsDeliveredFirst, IsInstallDue, MayStep, Wa
 use Rattle.model_kernel.specs.declared.kernel.Kernel.{Kernel}
 
 -- the installation that is due, with its answer
-pub install-due : (k : Kernel) (o c x w g : ℕ) (asked : Addfd) → IsInstallDue k o c x w asked → group_named (past k) (named k o) ≡ Some g
+pub install-due : (k : Kernel) (o c x g : ℕ) (asked : Addfd) → IsInstallDue k o c x asked → group_named (past k) (named k o) ≡ Some g
     → due_step k o ≡ Install (slot_answer (slot_in k.script.rlimit (files k.script (past k)) g asked))
-install-due k o c x w g asked i own =
+install-due k o c x g asked i own =
     let K = past k in
     let S = k.script in
-    let there = waits-in K (named k o) c i.waits.call_is in
-    let f : IsOldest K c w asked = oldest-first K c w asked i.oldest in
+    let there = call-is K (named k o) c i.waits.call_is in
+    let f : IsOldest K c asked = oldest-first K c asked i.oldest in
     let asked_is : asked_in (event_at K f.first) ≡ asked = sym (ap (first_request K) f.queue_is) ∙ f.asked_is in
     let slot = ap (λ n. slot_in S.rlimit (files S K) (place_or (group_named K n)) (asked_in (event_at K f.first))) there.1
     ∙ (ap (λ h. slot_in S.rlimit (files S K) (place_or h) (asked_in (event_at K f.first))) own ∙ ap (slot_in S.rlimit (files S K) g) asked_is) in
     i.due ∙ (ap (install_step (system k) K c) f.queue_is ∙ ap (λ s. Install (slot_answer s)) slot)
 
 -- the event of that installation, for the listener and for the group
-pub installs : (k : Kernel) (o c x w : ℕ) (asked : Addfd) (answer : Result ℕ ℕ) → IsInstallDue k o c x w asked → IsInstall (past k) (step_by k o (Install answer)) c w asked answer
-installs k o c x w asked answer i =
-    let there = waits-in (past k) (named k o) c i.waits.call_is in
-    record { by_caller = rw there.1 (name_eq-refl (named k o)); what_is = refl; oldest_is = i.oldest }
+pub installs : (k : Kernel) (o c x : ℕ) (asked : Addfd) (answer : Result ℕ ℕ) → IsInstallDue k o c x asked → IsInstall (past k) (step_by k o (Install answer)) c asked answer
+installs k o c x asked answer i =
+    let there = call-is (past k) (named k o) c i.waits.call_is in
+    record { who = ap Task (sym there.1); what_is = refl; unsettled = i.unsettled; oldest_is = i.oldest }
 
-pub group-installs : (k : Kernel) (o c x w g : ℕ) (asked : Addfd) (answer : Result ℕ ℕ) → IsInstallDue k o c x w asked → group_named (past k) (named k o) ≡ Some g → IsGroupInstall (past k) (step_by k o (Install answer)) g asked answer
-group-installs k o c x w g asked answer i own =
-    let f : IsOldest (past k) c w asked = oldest-first (past k) c w asked i.oldest in
+pub group-installs : (k : Kernel) (o c x g : ℕ) (asked : Addfd) (answer : Result ℕ ℕ) → IsInstallDue k o c x asked → group_named (past k) (named k o) ≡ Some g → IsGroupInstall (past k) (step_by k o (Install answer)) g asked answer
+group-installs k o c x g asked answer i own =
+    let f : IsOldest (past k) c asked = oldest-first (past k) c asked i.oldest in
     record { what = refl; own = ap place_or own; source = ap (λ (a : Addfd). a.srcfd) (ap (request_for (past k)) i.waits.call_is ∙ f.asked_is) }
 
 -- the step of a task that waits in a call

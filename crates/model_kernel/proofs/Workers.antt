@@ -14,7 +14,7 @@ use Rattle.kernel_resources.proofs.Others.{after-listening}
 use Rattle.kernel_tasks.specs.Stands as tasks
 use Rattle.kernel_tasks.proofs.Steps as tasking
 use Rattle.listener.specs.Stands as listener
-use Rattle.listener.proofs.Steps.{stands-other}
+use Rattle.listener.proofs.Stand.{stands-other}
 use Rattle.kernel_resources.proofs.Steps.{after-other}
 use Rattle.task_progress.proofs.Frames.{never}
 use Rattle.task_progress.specs.Rows.{living_in}
@@ -60,7 +60,7 @@ pub idle : (k : Kernel) (w : ℕ) (what : What) → IsKernel k → resources.IsL
     → resources.StandsFor k.script (ev (Worker w) what ∷ past k) (living_in k.tasks.progress) k.resources
 idle k w what s i o =
     after-listening k.script (past k) (living_in k.tasks.progress) (ev (Worker w) what) w k.resources k.resources.listener s.resources i
-    (stands-other k.script.firstid (past k) (ev (Worker w) what) k.resources.listener s.resources.listener o)
+    (stands-other k.script.firstid (past k) k.resources.listener s.resources.listener (ev (Worker w) what) o)
 
 -- the kernel after such a step, which was noted with the answer that is expected
 pub noted : (old new : Kernel) (w : ℕ) (expected what : What) (R : Resources) → IsKernel old → is_worker_step what ≡ true → what ≡ expected → past new ≡ ev (Worker w) what ∷ past old → new ≡ record old { resources = R; history = new.history }
@@ -89,7 +89,7 @@ skipped old new n k events same =
     record {
       kernel = record {
         tasks = rw (script, tasks, events) (tasking.stands-other old.script (past old) e old.tasks k.tasks (record { no_step = λ m. never (is_task (Task n) m); keeps = refl; no_call = refl; no_close = refl }));
-        resources = rw (script, tasks, resources, events) (after-other old.script (past old) (living_in old.tasks.progress) e old.resources k.resources refl (record { calls = tt; requests = tt }));
+        resources = rw (script, tasks, resources, events) (after-other old.script (past old) (living_in old.tasks.progress) e old.resources k.resources refl (tt));
         few = rw (events, same-number e (past old) refl) k.few;
       };
       script = script;

@@ -13,7 +13,7 @@ use Rattle.kernel_resources.specs.Stands.{HasNativeRoom}
 use Rattle.kernel_tasks.specs.Rows.{HasRoom as HasTaskRoom}
 use Rattle.native_calls.specs.Stands.{IsEntered}
 use Rattle.native_calls.specs.declared.call.NativeCall.{NativeCall}
-use Rattle.notif_queue.specs.Table.{HasRoom as HasCallRoom}
+use Rattle.listener.specs.Table.{HasRoom as HasCallRoom}
 use Rattle.task_groups.specs.Groups.{HasRoomFor}
 use Rattle.task_names.specs.Rows.{name_at}
 use Rattle.task_progress.specs.Rows.{group_at}

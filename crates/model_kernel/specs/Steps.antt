@@ -3,7 +3,7 @@ use Rattle.std.specs.Prelude.{◌≡◌, ℕ, ◌<◌, ◌^◌, ◌∷◌, true,
 use Rattle.hist_model.specs.Kinds.{ends, skips}
 use Rattle.hist_model.specs.Look.{Name, ev}
 use Rattle.hist_model.specs.Signals.{call_of, next_signal}
-use Rattle.hist_model.specs.Calls.{id, queue}
+use Rattle.hist_model.specs.Calls.{id, queue, settled}
 use Rattle.hist_model.specs.Steps.{deliver_or, install_step, task_step}
 use Rattle.hist_model.specs.Tasks.{ended, mode}
 use Rattle.hist_model.specs.declared.event.Actor.TheVariants.{Task}
@@ -14,7 +14,7 @@ use Rattle.hist_model.specs.declared.event.Event.{Event}
 use Rattle.hist_model.specs.declared.event.What.{What}
 use Rattle.hist_model.specs.declared.event.What.TheVariants.{Skip}
 use Rattle.history_frames.specs.Ordinals.{tasks_made, task_name_of}
-use Rattle.addfd.specs.Stands.{oldest_in}
+use Rattle.listener.specs.Stands.{oldest_in}
 use Rattle.sys_abi.specs.declared.wire.Addfd.{Addfd}
 use Rattle.kernel_resources.specs.Stands as resources
 use Rattle.kernel_tasks.specs.Rows.{effect_of}
@@ -89,8 +89,9 @@ is_unlisted (Notify id) = false
 is_unlisted Kill = false
 is_unlisted verdict = true
 
--- the task waits in the listed call at a place, whose oldest request is this worker's and is to be installed
-pub record IsInstallDue (k : Kernel) (o c x w : ℕ) (asked : Addfd) : Type 0 where
+-- the task waits in the listed call at a place, which isn't settled, and what its oldest request asks for is to be installed
+pub record IsInstallDue (k : Kernel) (o c x : ℕ) (asked : Addfd) : Type 0 where
   pub waits : WaitsIn k o c x
-  pub oldest : oldest_in (past k) (queue (past k) c) ≡ Some (w, asked)
+  pub unsettled : settled (past k) c ≡ false
+  pub oldest : oldest_in (past k) (queue (past k) c) ≡ Some asked
   pub due : due_step k o ≡ install_step (system k) (past k) c (queue (past k) c)

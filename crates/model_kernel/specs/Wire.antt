@@ -1,14 +1,14 @@
 -- What the listener answers to the structures that are handed to it, after a history (seccomp_unotify(2)).
 use Rattle.std.specs.Prelude.{ℕ, Bool, ◌&&◌, not, if◌then◌else◌, ◌==◌, List, Result, Ok, Err}
 use Rattle.std.specs.List.{list_all}
-use Rattle.addfd.specs.Puts.{may_be_put}
+use Rattle.listener.specs.Puts.{may_be_put}
 use Rattle.hist_model.specs.Calls.{count, named}
 use Rattle.hist_model.specs.Deeds.{Deed}
 use Rattle.hist_model.specs.Deeds as deed
 use Rattle.hist_model.specs.Steps.{oldest_unfetched, put_answer, recv_answer, send_answer}
 use Rattle.hist_model.specs.Systems.{System}
 use Rattle.hist_model.specs.declared.event.Event.{Event}
-use Rattle.notif_ioctl.specs.Answers.{back_of, may_be_sent}
+use Rattle.listener.specs.Answers.{back_of, may_be_sent}
 use Rattle.sys_abi.specs.Errnos.{ebadf, einval}
 use Rattle.sys_abi.specs.Wire.{notif_bytes}
 use Rattle.sys_abi.specs.declared.wire.Addfd.{Addfd}

@@ -1,10 +1,9 @@
 //! What workers ask of the listener (seccomp_unotify(2)).
 
 ghost use Rattle.std.specs.Prelude.{◌≡◌, ℕ, ◌<◌, ◌≤◌, List, ◌∷◌, Option, Some, None, Ok, Err, IfOk, false, true};
-ghost use Rattle.addfd.specs.Puts.{is_known};
-ghost use Rattle.addfd.specs.Requests.{has_request};
-ghost use Rattle.addfd.specs.Stands.{take_of};
-ghost use Rattle.addfd.specs.declared.requests.TakeError.TheVariants.{Pending};
+ghost use Rattle.listener.specs.Puts.{is_known};
+ghost use Rattle.listener.specs.Requests.{has_request};
+ghost use Rattle.listener.specs.declared.listener.TakeError.TheVariants.{Pending};
 ghost use Rattle.hist_model.specs.Calls.{caller, count, named};
 ghost use Rattle.hist_model.specs.Deeds as deed;
 ghost use Rattle.hist_model.specs.Look.{ev, event_at};
@@ -17,16 +16,15 @@ ghost use Rattle.hist_model.specs.declared.script.Script.{Script};
 ghost use Rattle.history_frames.specs.Ordinals.{task_name_of, tasks_made};
 ghost use Rattle.kernel_resources.specs.Stands.{StandsFor as ResourcesStandFor};
 ghost use Rattle.kernel_tasks.specs.Stands.{StandsFor as TasksStandFor};
-ghost use Rattle.notif_queue.specs.Stands.{IsNext};
-ghost use Rattle.notif_queue.specs.declared.queue.FetchError.TheVariants.{Empty, Gone};
+ghost use Rattle.listener.specs.Stands.{IsNext, take_of};
+ghost use Rattle.listener.specs.declared.queue.FetchError.TheVariants.{Empty, Gone};
 ghost use Rattle.task_progress.specs.Rows.{living_in};
 ghost use Rattle.model_kernel.specs.Kernels.{DoesDeed, IsKernel, past, system, taken_step};
 
 use crate::kernel::{Kernel, same};
-use addfd::TakeError;
 use hist_model::event::{Back, What};
 use hist_model::notification::Fetched;
-use notif_queue::FetchError;
+use listener::{FetchError, TakeError};
 use sys_abi::errno::Errno;
 use sys_abi::wire::{AUDIT_ARCH_X86_64, Addfd, Notif, SeccompData};
 
@@ -146,7 +144,6 @@ impl Kernel {
         requires kernel { IsKernel self.old }
         requires worker { worker ≤ 16 }
         requires free { has_request self.old.resources.listener.requests worker ≡ false }
-        requires known { is_known asked ≡ true }
         ensures answer { AddfdPut asked result ≡ deed_step (system self.old) (past self.old) worker (deed.AddfdPut asked) }
         ensures step { ResourcesStandFor self.old.script (ev (Worker worker) (AddfdPut asked result) ∷ past self.old) (living_in self.old.tasks.progress) self.new.resources }
         ensures same { self.new ≡ record self.old { resources = self.new.resources } }

@@ -19,14 +19,13 @@ ghost use Rattle.task_groups.specs.Groups.{HasRoomFor, IsCopyOf, IsLive, one_mor
 ghost use Rattle.listener.specs.Stands.{IsListedAs};
 ghost use Rattle.hist_model.specs.Calls.{calls, fetched};
 ghost use Rattle.hist_model.specs.declared.event.Entered.TheVariants.{Notify};
-ghost use Rattle.notif_queue.specs.Table.{HasRoom as HasCallRoom};
+ghost use Rattle.listener.specs.Table.{HasRoom as HasCallRoom};
 ghost use Rattle.hist_model.specs.Memory.{all_mapped, group_named};
 ghost use Rattle.native_calls.specs.Stands.{IsEntered};
 ghost use Rattle.hist_model.specs.declared.event.SpawnKind.TheVariants.{Copied, Shared};
 ghost use Rattle.hist_model.specs.declared.script.Instr.TheVariants.{Spawn as InstrSpawn, Thread};
 ghost use Rattle.kernel_tasks.specs.Rows.{HasRoom as HasTaskRoom};
 ghost use Rattle.task_names.specs.Rows.{name_at};
-ghost use Rattle.addfd.specs.Requests.{has_request};
 ghost use Rattle.task_progress.specs.Rows.{group_at};
 ghost use Rattle.kernel_resources.specs.Stands.{HasNativeRoom, IsThread};
 ghost use Rattle.kernel_resources.specs.Stands as resources_stand;
@@ -144,15 +143,14 @@ impl Kernel {
 
     /// A task, which waits in the listed call with this id, installs the call's oldest request, for which there is room in its
     /// group. The errors are those of `Resources::install`.
-    fn install(&mut self, task: u32, id: u64, worker: u8, asked: &Addfd) -> What
+    fn install(&mut self, task: u32, id: u64, asked: &Addfd) -> What
         requires ready { MayStep self.old task }
         requires room { HasRoomFor self.old.resources.groups (group_at self.old.tasks.progress task) 0 }
-        requires asked { has_request self.old.resources.listener.requests worker ≡ true }
-        requires due { (c : ℕ) × IsInstallDue self.old task c id worker asked.now }
+        requires due { (c : ℕ) × IsInstallDue self.old task c id asked.now }
         ensures { Acts self.old task result self.new }
     {
         let group = self.tasks.group(task);
-        let answer = self.resources.install(group, id, worker, asked);
+        let answer = self.resources.install(group, id, asked);
         let what = What::Install { answer };
         self.tasks.stepped(task, &what);
         what
@@ -174,8 +172,8 @@ impl Kernel {
         if let Some(what) = self.deliver_inside(task, id) {
             return Some(what);
         }
-        let (worker, asked) = self.resources.next_request(id)?;
-        Some(self.install(task, id, worker, &asked))
+        let asked = self.resources.next_request(id)?;
+        Some(self.install(task, id, &asked))
     }
 
     /// A task runs the native call that it owes, for which there is room. The answers are those of `Resources::run`.

@@ -1,18 +1,16 @@
 //! What workers ask of the listener by the structures that they hand over (seccomp_unotify(2)).
 
 ghost use Rattle.std.specs.Prelude.{◌≡◌, ◌<◌, ◌≤◌, true, false, None};
-ghost use Rattle.addfd.specs.Puts.{may_be_put};
+ghost use Rattle.listener.specs.Puts.{may_be_put};
 ghost use Rattle.hist_model.specs.Deeds as deed;
 ghost use Rattle.hist_model.specs.Steps.{request_of};
-ghost use Rattle.notif_ioctl.specs.Answers.{may_be_sent};
+ghost use Rattle.listener.specs.Answers.{may_be_sent};
 ghost use Rattle.sys_abi.specs.Wire.{addfd_of, resp_of};
 ghost use Rattle.model_kernel.specs.Kernels.{DoesDeed, IsKernel, past, system};
 ghost use Rattle.model_kernel.specs.Wire.{buffer_after, is_answered, put_result, recv_result, send_of, send_result};
 
 use crate::kernel::Kernel;
-use addfd::parse_put;
-use notif_ioctl::{back_of, check_recv, parse_send};
-use notif_queue::FetchError;
+use listener::{FetchError, back_of, check_recv, parse_put, parse_send};
 use sys_abi::errno::Errno;
 use thiserror::Error;
 

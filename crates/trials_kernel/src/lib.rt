@@ -7,7 +7,7 @@
 //! `model_kernel`.
 //!
 //! Below stand the kernel (`model_kernel`), the reader of scripts (`script_reader`) and the structures (`sys_abi`,
-//! `notif_ioctl`); nothing stands above.
+//! `listener`); nothing stands above.
 #![tactic(auto)]
 
 #[cfg(test)]

@@ -1,8 +1,8 @@
 //! Trials as data: the steps that tasks and workers take, and beside each what is told of it.
 
 use crate::container::Container;
-use addfd::TakeError;
 use hist_model::event::{Back, Event, What};
+use listener::TakeError;
 use model_kernel::RecvError;
 use std::alloc::Global;
 use std::process::Abort;

@@ -1,8 +1,7 @@
 //! The structures that a broker hands over, beside bytes by the kernel's header: an answer, and a request for a descriptor.
 
-use addfd::parse_put;
 use hist_model::event::Back;
-use notif_ioctl::{parse_send, response};
+use listener::{parse_put, parse_send, response};
 use std::test::Fail;
 use sys_abi::errno::Errno;
 use sys_abi::wire::{Addfd, O_CLOEXEC, Resp};

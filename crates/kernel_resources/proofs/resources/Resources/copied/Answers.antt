@@ -8,5 +8,5 @@ returns-clause-ordinal c S K living T = c.copied.ensures.ordinal S K living (mem
 
 pub returns-clause-step : goal.returns-clause-step
 returns-clause-step c S K living e T i =
-    after-groups S K living e c.args.self.now T _ c.copied.new.self (rw i.spawn.is refl) (record { calls = rw i.spawn.is tt; requests = rw i.spawn.is tt })
+    after-groups S K living e c.args.self.now T _ c.copied.new.self (rw i.spawn.is refl) (rw i.spawn.is tt)
     (c.copied.ensures.step S K living (memories_in c.args.self.now.workers) e T.groups i)

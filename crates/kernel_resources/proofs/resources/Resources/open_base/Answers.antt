@@ -3,7 +3,7 @@ use Rattle.hist_model.specs.Files.{files}
 use Rattle.hist_model.specs.Natives.{base_of}
 use Rattle.hist_model.specs.Steps.{place_or}
 use Rattle.hist_model.specs.Trees.{ordinal_of}
-use Rattle.listener.proofs.Steps.{stands-other}
+use Rattle.listener.proofs.Stand.{stands-other}
 use Rattle.kernel_resources.specs.Stands.{base_found}
 use Rattle.kernel_resources.proofs.Opened.{based, found}
 use Rattle.kernel_resources.proofs.Others.{after-listening}
@@ -34,4 +34,4 @@ returns-in-None-clause-answer c S K living g T a =
 pub returns-in-None-clause-step : goal.returns-in-None-clause-step
 returns-in-None-clause-step c S K living e g pid T a o who what =
     after-listening S K living e c.args.worker c.args.self.now c.args.self.now.listener T (record { who = who; memory = rw what refl; tree = rw what refl; workers = rw (who, what) tt; spent = rw what refl })
-    (stands-other S.firstid K e c.args.self.now.listener T.listener (record { calls = rw what tt; requests = rw what tt }))
+    (stands-other S.firstid K c.args.self.now.listener T.listener e (rw what tt))

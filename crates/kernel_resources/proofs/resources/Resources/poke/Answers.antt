@@ -10,5 +10,5 @@ pub returns-clause-step : goal.returns-clause-step
 returns-clause-step c =
     if-stored c.poke.result
     (λ stored S K living e T i.
-    after-groups S K living e c.args.self.now T _ c.poke.new.self (rw i.what refl) (record { calls = rw i.what tt; requests = rw i.what tt }) (stored S K living (memories_in c.args.self.now.workers) e T.groups i))
+    after-groups S K living e c.args.self.now T _ c.poke.new.self (rw i.what refl) (rw i.what tt) (stored S K living (memories_in c.args.self.now.workers) e T.groups i))
     c.poke.ensures.step

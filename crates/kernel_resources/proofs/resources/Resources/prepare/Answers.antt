@@ -1,7 +1,7 @@
 use Rattle.std.proofs.Common.{◌≡◌, rules, of_z, to_z, w32, ap, subst, ◌∙◌}
 use Rattle.history_frames.specs.Ordinals.{group_of}
 use Rattle.native_calls.specs.Prepared.{IsPrepared}
-use Rattle.listener.proofs.Steps.{if-ok}
+use Rattle.listener.proofs.Stand.{if-ok}
 use Rattle.task_groups.proofs.Held.{space-held}
 use Rattle.kernel_resources.proofs.resources.Resources.prepare.Goals as goal
 

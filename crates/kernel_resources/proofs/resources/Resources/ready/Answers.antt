@@ -12,4 +12,4 @@ returns-in_err-ready-clause-stands c S K living T =
 pub returns-clause-stands : goal.returns-clause-stands
 returns-clause-stands c S K living T =
     regrouped S K living c.args.self.now T _ c.ready.new.self c.ready-2.new.self c.args.self.now.tree
-    ((stands-room S K living (memories_in c.args.self.now.workers) _ _ c.ready.ensures.same).0 T.groups) ((c.ready-2.ensures.stands S.firstid K).0 T.listener) refl
+    ((stands-room S K living (memories_in c.args.self.now.workers) _ _ c.ready.ensures.same).0 T.groups) (c.ready-2.ensures.stands S.firstid K T.listener) refl

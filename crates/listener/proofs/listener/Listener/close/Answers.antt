@@ -1,6 +1,5 @@
-use Rattle.addfd.proofs.Other.{stands-other}
-use Rattle.listener.proofs.Steps.{closes-others}
+use Rattle.listener.proofs.Stand.{stands-closed}
 use Rattle.listener.proofs.listener.Listener.close.Goals as goal
 
 pub returns : goal.returns
-returns c first K e S h = record { calls = c.close.ensures first K e S.calls h; requests = stands-other K e c.args.self.now.requests S.requests (closes-others K e e.what h) }
+returns c first K e S h = stands-closed first K c.args.self.now S e _ h (λ names. c.close.ensures names c.args.self.now.requests)

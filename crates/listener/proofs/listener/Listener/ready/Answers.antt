@@ -1,7 +1,10 @@
+use Rattle.std.proofs.Common.{sym, subst}
+use Rattle.listener.specs.Fold.{Looks}
 use Rattle.listener.proofs.listener.Listener.ready.Goals as goal
 
 pub returns-clause-stands : goal.returns-clause-stands
-returns-clause-stands c first K = let h = c.ready.ensures.stands first K in (
-  λ S. record { calls = h.0 S.calls; requests = S.requests },
-  λ S. record { calls = h.1 S.calls; requests = S.requests },
-)
+returns-clause-stands c first K S = record {
+  looks = λ names n. subst (Looks first K) (sym (c.ready.ensures.same names c.args.self.now.requests)) (S.looks names n);
+  sound = S.sound;
+  asked = S.asked;
+}

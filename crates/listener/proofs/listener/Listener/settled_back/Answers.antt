@@ -1,15 +1,11 @@
-use Rattle.std.proofs.Common.{sym, ◌∙◌}
-use Rattle.listener.proofs.Listed.{answered-state, listed-named, settled-by, unanswered-state, unsettled}
+use Rattle.std.proofs.Common.{ap, ◌∙◌}
+use Rattle.history_frames.specs.Ordinals.{task_name_of}
+use Rattle.listener.specs.Listeners.{back_of}
+use Rattle.listener.proofs.Stand.{settled-is}
 use Rattle.listener.proofs.listener.Listener.settled_back.Goals as goal
 
-pub reply_of-requires : goal.reply_of-requires
-reply_of-requires c = sym c.state_of.ensures.found ∙ answered-state c.state_of.result (sym c.is_answered.ensures ∙ c.if-is_answered.true)
+pub returns-in-Some : goal.returns-in-Some
+returns-in-Some c first K place S l = settled-is first K c.args.self.now S place c.args.id _ l (c.back_of.ensures ∙ ap back_of (c.in-Some.ensures (task_name_of K) c.args.self.now.requests))
 
-pub returns-then-is_answered : goal.returns-then-is_answered
-returns-then-is_answered c first K d S l =
-    rw c.back_of.ensures (settled-by K d c.reply_of.result (c.reply_of.ensures first K d S.calls (listed-named first K c.args.self.now.queue S.calls d c.args.id l)))
-
-pub returns-else-is_answered : goal.returns-else-is_answered
-returns-else-is_answered c first K d S l =
-    unsettled first K c.args.self.now.queue S.calls d c.args.id c.state_of.result l (c.state_of.ensures.state first K S.calls)
-    (unanswered-state c.state_of.result (sym c.is_answered.ensures ∙ c.if-is_answered.false))
+pub returns-in-None : goal.returns-in-None
+returns-in-None c first K place S l = settled-is first K c.args.self.now S place c.args.id _ l (ap back_of (c.in-None.ensures (task_name_of K) c.args.self.now.requests))

@@ -1,6 +1,5 @@
 use Rattle.std.proofs.Common.{refl, sym, ap, ◌∙◌}
 use Rattle.hist_model.specs.declared.event.What.TheVariants.{AddfdPut}
-use Rattle.listener.proofs.Steps.{put-refused}
 use Rattle.model_kernel.specs.Kernels.{past, system}
 use Rattle.model_kernel.proofs.Received.{asked-open}
 use Rattle.model_kernel.proofs.Workers.{idle}
@@ -16,4 +15,4 @@ pub returns-then-is_source-clause-step : goal.returns-then-is_source-clause-step
 returns-then-is_source-clause-step c = c.put.ensures.step c.args.self.now.script (past c.args.self.now) _ _ c.requires.kernel.resources refl refl
 
 pub returns-else-is_source-clause-step : goal.returns-else-is_source-clause-step
-returns-else-is_source-clause-step c = idle c.args.self.now c.args.worker _ c.requires.kernel (record { who = refl; memory = refl; tree = refl; workers = tt; spent = refl }) (put-refused (past c.args.self.now) _ c.args.asked _ refl)
+returns-else-is_source-clause-step c = idle c.args.self.now c.args.worker _ c.requires.kernel (record { who = refl; memory = refl; tree = refl; workers = tt; spent = refl }) tt

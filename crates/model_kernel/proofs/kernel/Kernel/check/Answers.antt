@@ -12,4 +12,4 @@ returns-clause-done c =
     let old = c.args.self.now in
     let k = c.requires.kernel in
     idled old c.note.new.self c.args.worker _ _ k refl (ap (λ a. Check c.args.id a) (c.same-told.ensures ∙ c.check-answer.ensures old.script (past old) _ k.resources)) c.note.ensures.events c.note.ensures.same
-    (record { who = refl; memory = refl; tree = refl; workers = tt; spent = refl }) (record { calls = tt; requests = tt })
+    (record { who = refl; memory = refl; tree = refl; workers = tt; spent = refl }) (tt)

@@ -16,6 +16,6 @@ returns c =
       steps = refl;
       rest = refl;
       tasks = c.handler.ensures.stands k.script (past k) e m.kernel.tasks (own k c.args.task w m c.requires.due) refl;
-      resources = kept k e c.handler.new.self m.kernel refl (record { calls = tt; requests = tt }) c.handler.ensures.count;
+      resources = kept k e c.handler.new.self m.kernel refl (tt) c.handler.ensures.count;
       number = few-stay k e m.kernel refl;
     }

@@ -27,7 +27,7 @@ returns c =
     let place = c.requires.due.0 in
     let i = c.requires.due.1 in
     let (g, at, own_is) = c.group-group.ensures.group k.script (past k) m.kernel.tasks m.made in
-    let due = install-due k o place x c.args.worker g asked i own_is ∙ ap Install (sym (c.install-answer.ensures.answer k.script (past k) (living_in k.tasks.progress) g m.kernel.resources at)) in
+    let due = install-due k o place x g asked i own_is ∙ ap Install (sym (c.install-answer.ensures.answer k.script (past k) (living_in k.tasks.progress) g m.kernel.resources at)) in
     record {
       due = due;
       steps = refl;
@@ -35,7 +35,7 @@ returns c =
       tasks = c.stepped.ensures.stands k.script (past k) e m.kernel.tasks (own k o w m due) refl refl;
       resources = counted-alike k.script (e ∷ past k) (living_in k.tasks.progress) (living_in c.stepped.new.self.progress) c.install-answer.new.self
           (c.install-answer.ensures.step k.script (past k) (living_in k.tasks.progress) e place g m.kernel.resources at (listed-as k o place x i.waits)
-          (installs k o place x c.args.worker asked answer i) (group-installs k o place x c.args.worker g asked answer i own_is))
+          (installs k o place x asked answer i) (group-installs k o place x g asked answer i own_is))
           (same-counts k.tasks.progress c.stepped.new.self.progress o w refl c.stepped.ensures.count);
       number = few-stay k e m.kernel refl;
     }

@@ -41,4 +41,4 @@ returns-in_default-clause-deed c =
     let same : passed c.args.dirfd ≡ c.args.dirfd = search rules in
     subst (λ d. IsAfter old (ev (Worker c.args.worker) (OpenBase c.args.pid d (base_answer (system old) (past old) (holder (past old) c.args.pid) d))) c.note.new.self) same
     (idled old c.note.new.self c.args.worker _ _ c.requires.kernel refl (ap (λ a. OpenBase c.args.pid (passed c.args.dirfd) a) (base-refused old.script (past old) (holder (past old) c.args.pid) (passed c.args.dirfd) c.in_default.ensures.none))
-    c.note.ensures.events c.note.ensures.same (record { who = refl; memory = refl; tree = refl; workers = tt; spent = refl }) (record { calls = tt; requests = tt }))
+    c.note.ensures.events c.note.ensures.same (record { who = refl; memory = refl; tree = refl; workers = tt; spent = refl }) (tt))

@@ -10,7 +10,7 @@ pub returns-in_default-clause-deed : goal.returns-in_default-clause-deed
 returns-in_default-clause-deed c =
     let dead = c.in_default.ensures.none in
     idled c.args.self.now c.note.new.self c.args.worker _ _ c.requires.kernel refl (ap (λ b. OpenMem c.args.pid (if b then Ok tt else Err esrch)) (sym dead)) c.note.ensures.events c.note.ensures.same
-    (record { who = refl; memory = refl; tree = refl; workers = tt; spent = refl }) (record { calls = tt; requests = tt })
+    (record { who = refl; memory = refl; tree = refl; workers = tt; spent = refl }) (tt)
 
 pub returns-clause-deed : goal.returns-clause-deed
 returns-clause-deed c =

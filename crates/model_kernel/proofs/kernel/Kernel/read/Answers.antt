@@ -13,7 +13,7 @@ told c = c.text_read-answer.ensures _ (c.read-found.ensures.answer c.args.self.n
 pub returns-clause-deed : goal.returns-clause-deed
 returns-clause-deed c =
     idled c.args.self.now c.note.new.self c.args.worker _ _ c.requires.kernel refl (ap (λ a. Read c.args.addr c.args.len a) (told c)) c.note.ensures.events c.note.ensures.same
-    (record { who = refl; memory = refl; tree = refl; workers = tt; spent = refl }) (record { calls = tt; requests = tt })
+    (record { who = refl; memory = refl; tree = refl; workers = tt; spent = refl }) (tt)
 
 pub returns-clause-answer : goal.returns-clause-answer
 returns-clause-answer c = c.without_bytes-outcome.ensures ∙ ap (λ a. result_and a (Ok tt)) (told c)

@@ -19,6 +19,6 @@ returns c =
       steps = refl;
       rest = refl;
       tasks = c.signal.ensures.stands k.script (past k) e m.kernel.tasks (own k c.args.task w m c.requires.due) (sym answer);
-      resources = kept k e c.signal.new.self m.kernel refl (record { calls = tt; requests = tt }) c.signal.ensures.count;
+      resources = kept k e c.signal.new.self m.kernel refl (tt) c.signal.ensures.count;
       number = few-stay k e m.kernel refl;
     })

@@ -1,5 +1,5 @@
 use Rattle.std.proofs.Common.{◌≡◌, refl, sym, ap, ◌∙◌}
-use Rattle.addfd.specs.Stands.{take_of}
+use Rattle.listener.specs.Stands.{take_of}
 use Rattle.hist_model.specs.declared.event.What.TheVariants.{AddfdTake}
 use Rattle.kernel_resources.specs.declared.resources.Resources.{Resources}
 use Rattle.model_kernel.specs.Kernels.{past, taken_step}

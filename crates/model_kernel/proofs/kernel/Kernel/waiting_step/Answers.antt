@@ -22,8 +22,8 @@ deliver_inside-requires-clause-due c =
     let (place, waits) = c.requires.waits in
     due-later k c.args.task place c.args.id m waits (c.in_default.ensures k.script (past k) (living_in k.tasks.progress) place m.kernel.resources (listed-as k c.args.task place c.args.id waits))
 
-pub returns-in_err-worker-clause-none : goal.returns-in_err-worker-clause-none
-returns-in_err-worker-clause-none c =
+pub returns-in_err-asked-clause-none : goal.returns-in_err-asked-clause-none
+returns-in_err-asked-clause-none c =
     let k = c.args.self.now in
     let m = c.requires.ready in
     let (place, waits) = c.requires.waits in
@@ -31,7 +31,7 @@ returns-in_err-worker-clause-none c =
     let unsettled = c.in_default.ensures k.script (past k) (living_in k.tasks.progress) place m.kernel.resources listed in
     let none = c.in_default-deliver_inside.ensures.none in
     let stand = subst (λ (x : Kernel). StandsFor k.script (past k) (living_in k.tasks.progress) x.resources) (sym none.0) m.kernel.resources in
-    rw c.from_residual.ensures (none.0, due-none k c.args.task place c.args.id m waits unsettled none.1 (sym (c.in_err-worker.ensures.stands k.script (past k) (living_in k.tasks.progress) place stand listed)))
+    rw c.from_residual.ensures (none.0, due-none k c.args.task place c.args.id m waits unsettled none.1 (sym (c.in_err-asked.ensures k.script (past k) (living_in k.tasks.progress) place stand listed)))
 
 pub install-requires-clause-due : goal.install-requires-clause-due
 install-requires-clause-due c =
@@ -42,9 +42,10 @@ install-requires-clause-due c =
     let unsettled = c.in_default.ensures k.script (past k) (living_in k.tasks.progress) place m.kernel.resources listed in
     let none = c.in_default-deliver_inside.ensures.none in
     let stand = subst (λ (x : Kernel). StandsFor k.script (past k) (living_in k.tasks.progress) x.resources) (sym none.0) m.kernel.resources in
-    let here : IsInstallDue k c.args.task place c.args.id c.in_ok-worker.worker c.in_ok-worker.asked = record {
+    let here : IsInstallDue k c.args.task place c.args.id c.in_ok-asked.asked = record {
       waits = waits;
-      oldest = sym (c.in_ok-worker.ensures.stands k.script (past k) (living_in k.tasks.progress) place stand listed);
+      unsettled = unsettled;
+      oldest = sym (c.in_ok-asked.ensures k.script (past k) (living_in k.tasks.progress) place stand listed);
       due = due-install k c.args.task place c.args.id m waits unsettled none.1;
     } in
-    (place, subst (λ (x : Kernel). IsInstallDue x c.args.task place c.args.id c.in_ok-worker.worker c.in_ok-worker.asked) (sym none.0) here)
+    (place, subst (λ (x : Kernel). IsInstallDue x c.args.task place c.args.id c.in_ok-asked.asked) (sym none.0) here)

@@ -1,5 +1,0 @@
-use Rattle.notif_ioctl.proofs.Sent.{parsed-back}
-use Rattle.notif_ioctl.proofs.laws.a_response_is_parsed.Goals as goal
-
-pub returns : goal.returns
-returns c id back l h = parsed-back id back l h
