@@ -5,7 +5,7 @@ use Rattle.std.specs.Prelude.{◌==◌, ◌%◌, Result, Ok, Err, ℤ, decimal}
 use Rattle.sys_abi.specs.declared.wire.Addfd.{Addfd}
 use Rattle.sys_abi.specs.declared.wire.Notif.{Notif}
 use Rattle.hist_model.specs.Look.{Name}
-use Rattle.hist_model.specs.Requests.{kind_of}
+use Rattle.hist_model.specs.Requests.{kind_of, low_32}
 use Rattle.hist_model.specs.ReportWords.{or_dash, trimmed}
 use Rattle.hist_model.specs.ReportJournal.{args_text, asked_text, delivered_text, entered_text, maker_text, mode_text, node_text, read_text, reaped_text, received_text, request_text, shift_text, spawn_kind_text, spawned_text, target_text, what_text}
 use Rattle.hist_model.specs.declared.event.What.{What}
@@ -103,7 +103,7 @@ or_dash-plain [] h = refl
 or_dash-plain (b ∷ text) h = h
 
 request-plain : (q : Request) → is_plain (via_of q) ≡ true → is_plain (request_text q) ≡ true
-request-plain (Mknod dirfd path mode dev) h = search (texts, maker-plain dirfd, node-plain (kind_of mode) dev)
+request-plain (Mknod dirfd path mode dev) h = search (texts, maker-plain dirfd, node-plain (kind_of mode) (low_32 dev))
 request-plain (Mount source target fstype options via flags shift) h = let v = or_dash-plain via h in search (texts, v, shift-plain shift) depth 20
 request-plain (SetXattr path name value flags) h = search texts depth 12
 request-plain (OpenAt dirfd path flags) h = refl
