@@ -1,13 +1,12 @@
 -- Lemmas on the runs of instructions.
 -- By induction on the instructions, with `drop_more` and `drop-drop`, and by the laws of powers.
 use Rattle.std.proofs.Common.{◌≡◌, ℕ, zero, suc, ◌+◌, ◌-◌, ◌*◌, ◌/◌, ◌%◌, ◌^◌, ◌<◌, ◌≤◌, List, [], ◌∷◌, length, get_or, drop, refl, ap, sym, ◌∙◌, arith}
-use Rattle.std.specs.Prelude.{slice_index_or}
 use Rattle.std.proofs.Math.Nat.{mul-mod_left, mul_assoc, div-eq_of_lt, pow-le-pow_right}
 use Rattle.std.proofs.Math.Seq.{drop-nil}
 use Rattle.std.proofs.Math.ListN.{drop_of_length-le}
 use Rattle.std.proofs.lemmas.Nat.{pow-add}
 use Rattle.std.proofs.lemmas.List.{drop_more, drop-drop}
-use Rattle.hist_model.specs.Filters.{run_from, after, halves, step}
+use Rattle.hist_model.specs.Filters.{run_from, after, step}
 use Rattle.hist_model.specs.declared.script.Insn.{Insn}
 use Rattle.hist_model.specs.declared.filter.Effect.TheVariants.{Answers, Goes}
 
@@ -39,10 +38,10 @@ unfolding run_from
 run-at input i insns a = refl
 
 -- the instruction at a place goes on behind those that it skips
-pub run_skips : (input : List ℕ) (insns : List Insn) (place a n b : ℕ) (d : Insn) → place < length insns
+pub run_jumps : (input : List ℕ) (insns : List Insn) (place a n b : ℕ) (d : Insn) → place < length insns
     → step input (get_or insns place d) a ≡ Goes n b
     → run_from input (drop place insns) 0 a ≡ run_from input (drop (place + 1 + n) insns) 0 b
-run_skips input insns place a n b d l e =
+run_jumps input insns place a n b d l e =
     ap (λ more. run_from input more 0 a) (drop_more insns place d l)
     ∙ run-at input (get_or insns place d) (drop (place + 1) insns) a
     ∙ ap (λ s. after s (run_from input (drop (place + 1) insns))) e
@@ -53,7 +52,7 @@ run_skips input insns place a n b d l e =
 pub run_next : (input : List ℕ) (insns : List Insn) (place a b : ℕ) (d : Insn) → place < length insns
     → step input (get_or insns place d) a ≡ Goes 0 b
     → run_from input (drop place insns) 0 a ≡ run_from input (drop (place + 1) insns) 0 b
-run_next input insns place a b d l e = run_skips input insns place a 0 b d l e ∙ ap (λ m. run_from input (drop m insns) 0 b) (omega arith)
+run_next input insns place a b d l e = run_jumps input insns place a 0 b d l e ∙ ap (λ m. run_from input (drop m insns) 0 b) (omega arith)
 
 -- the instruction at a place answers
 pub run_ends : (input : List ℕ) (insns : List Insn) (place a value : ℕ) (d : Insn) → place < length insns

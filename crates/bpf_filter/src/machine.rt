@@ -49,7 +49,7 @@ fn high(number: u64) -> u32
     (number >> 32) as u32
 }
 
-/// The words of a call's data.
+/// The words of a call's data, of four bytes each.
 pub type Words = [u32; 16];
 
 /// The sixteen little-endian words of a call's data (seccomp(2), struct seccomp_data).
@@ -135,7 +135,7 @@ fn step(words: &Words, insn: &Insn, a: u32) -> Outcome
 }
 
 /// The answer of some instructions, where these are the words of the call's data; where they end without one it is 0.
-#[tactic(auto, using(crate::proofs::Runs::run_next, crate::proofs::Runs::run_skips, crate::proofs::Runs::run_ends, crate::proofs::Runs::run_past))]
+#[tactic(auto, using(crate::proofs::Runs::run_next, crate::proofs::Runs::run_jumps, crate::proofs::Runs::run_ends, crate::proofs::Runs::run_past))]
 pub fn run_insns(insns: &[Insn], words: &Words) -> u32
     ensures { result ≡ run_from words.now insns.now 0 0 }
 {

@@ -28,9 +28,7 @@ pub returns : goal.returns
 returns c =
     let call = c.seccomp_data.result in
     let fits : SFits w32 c.args.nr = search rules in
-    let all =
-    c.loop-filter.invariant
-    ∙ ap (chosen (reverse (take c.loop-filter.filter-index c.args.filters.now))) (sym c.seccomp_data.ensures)
-    ∙ chosen_all c.args.filters.now c.loop-filter.filter-index call c.loop-filter-test.false c.loop-filter.auto.filter-index-end in
     let same = rw to_z-of_z at c.seccomp_data.ensures in
+    let older = c.loop-filter.invariant ∙ ap (chosen (reverse (take c.loop-filter.filter-index c.args.filters.now))) (sym c.seccomp_data.ensures) in
+    let all = older ∙ chosen_all c.args.filters.now c.loop-filter.filter-index call c.loop-filter-test.false c.loop-filter.auto.filter-index-end in
     c.entered.ensures ∙ ap (λ (b : ℕ × Bool). entered b.0 b.1) (all ∙ ap (chosen (reverse c.args.filters.now)) same)
