@@ -1,21 +1,19 @@
 -- What a table of seats finds in each history that it stands for, and what one more event changes of it.
 -- By cases on a seat's entry, and on what the event makes of its worker's seat: no other seat changes.
-use Rattle.std.proofs.Common.{◌≡◌, ◌≢◌, ℕ, ◌<◌, ◌≤◌, ◌==◌, ◌&&◌, ◌⊎◌, inl, inr, not, nat_lt, Bool, true, false, List, [], ◌∷◌, length, set, get_or, get_or-set_other, get_or-set_same, Option, Some, None, Ok, refl, sym, ap, ◌∙◌, subst, arith, eq-eqb, eqb}
+use Rattle.std.proofs.Common.{◌≡◌, ◌≢◌, ℕ, ◌<◌, ◌≤◌, ◌==◌, ◌⊎◌, inl, inr, nat_lt, true, false, List, [], ◌∷◌, length, set, get_or, get_or-set_other, get_or-set_same, Option, Some, None, Ok, refl, sym, ap, ◌∙◌, subst, arith, eq-eqb, eqb}
 use Rattle.std.proofs.lemmas.Bool.{and_parts, cases_lt, eqb-true, ltb-true, ne_eqb}
 use Rattle.std.proofs.lemmas.Bool.Decides.{eqb_tells}
 use Rattle.std.proofs.lemmas.List.{get_or_past, length-set}
-use Rattle.hist_model.specs.Kinds.{is_letgo, skips, starts}
+use Rattle.hist_model.specs.Kinds.{is_letgo, starts}
 use Rattle.hist_model.specs.Legal.{is_open_session}
 use Rattle.hist_model.specs.Look.{ev, is_worker}
-use Rattle.hist_model.specs.Sessions.{any_of, fetched_by, joined, notif_of, session}
-use Rattle.hist_model.specs.declared.event.Actor.{Actor}
+use Rattle.hist_model.specs.Sessions.{fetched_by, joined, notif_of, session}
 use Rattle.hist_model.specs.declared.event.Actor.TheVariants.{Worker}
 use Rattle.hist_model.specs.declared.event.Event.{Event}
 use Rattle.hist_model.specs.declared.event.What.{What}
 use Rattle.hist_model.specs.declared.event.What.TheVariants.{LetGo, Recv}
-use Rattle.lane_seats.specs.Lanes.{IsLowestFree, IsNext, is_taken, lane, lane_of_call, lane_of_notif, taken_at}
+use Rattle.lane_seats.specs.Lanes.{IsNext, is_taken, lane, lane_of_call, lane_of_notif, taken_at}
 use Rattle.lane_seats.specs.Sittings.{FindsFree, FindsNext, Sits, StandsFor, change_of, comes_before}
-use Rattle.lane_seats.specs.declared.seats.Change.{Change}
 use Rattle.lane_seats.specs.declared.seats.Change.TheVariants.{Leaves, Stays, Takes}
 use Rattle.lane_seats.specs.declared.seats.Sitting.{Sitting}
 use Rattle.sys_abi.specs.declared.wire.Notif.{Notif}
