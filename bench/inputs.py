@@ -117,6 +117,36 @@ def devices(calls):
     return made
 
 
+# ---- five kinds of calls
+
+FIVE_KINDS = {
+    "config": {"security.syscalls.intercept.mknod": "true", "security.syscalls.intercept.sysinfo": "true"},
+    "rules": [
+        {"name": "mark", "call": "setxattr", "when": {"name": "user.mark"}, "then": "grant"},
+        {"name": "no-mounts", "call": "mount", "when": {"path": "/m"}, "then": {"deny": "EPERM"}},
+        {"name": "files", "call": "openat", "when": {"path": "/m"}, "then": "pass"},
+    ],
+}
+
+
+def kinds(tasks, calls):
+    """So many tasks at once, each of which makes so many calls of five kinds by turns. There is no schedule: threads choose the order."""
+    made = Input(FIVE_KINDS, 'dir "/m"', "notify mknod mount setxattr sysinfo openat")
+    for task in range(tasks):
+        lines = ['poke 0x10100 "/m\\0"', 'poke 0x10200 "ext4\\0"', 'poke 0x10300 "user.mark\\0"', 'poke 0x10400 "1"']
+        for call in range(calls):
+            lines += [
+                [f'poke 0x10000 "/{task}.{call}\\0"', "call mknod 0x10000 0o020666 259"],
+                ["call mount 0 0x10100 0x10200 0 0"],
+                ["call setxattr 0x10100 0x10300 0x10400 1 0"],
+                ["call sysinfo 0x11000"],
+                ["call openat -100 0x10100 0"],
+            ][call % 5]
+        made.program(f"p{task}", *lines)
+    made.program("main", *[f"spawn p{task}" for task in range(tasks)], *["wait"] * tasks)
+    return made
+
+
 # ---- the greatest inputs: each takes a number that divides its size, 1 for the greatest
 
 

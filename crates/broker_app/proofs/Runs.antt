@@ -14,13 +14,15 @@ use Rattle.hist_model.specs.declared.policy.Policy.{Policy}
 use Rattle.hist_model.specs.declared.script.Script.{Script}
 use Rattle.io_edge.specs.FileState.{FileState}
 use Rattle.io_edge.specs.SinkState.{SinkState}
+use Rattle.lane_gate.specs.Keeping.{IsServedInLanes}
+use Rattle.lane_seats.specs.Lanes.{Laned}
 use Rattle.mediation.proofs.Mediation.{mediated}
 use Rattle.mediation.specs.Scheduled.{IsUnclosed}
 use Rattle.worker_gate.specs.Hands.{IsServedWhole}
 use Rattle.broker_app.specs.Answers.{Printed, status_of}
 use Rattle.broker_app.specs.Inputs.{PolicyIs, ScriptIs}
 use Rattle.broker_app.specs.Refusals.{InputRefused}
-use Rattle.broker_app.specs.Runs.{AreRun, ClosesBehind, HasEnded, RunEnds}
+use Rattle.broker_app.specs.Runs.{AreRun, ByLanes, ClosesBehind, Ending, HasEnded, RunEnds}
 use Rattle.broker_app.specs.declared.status.Status.{Status}
 use Rattle.broker_app.specs.declared.status.Status.TheVariants.{Done, NoMemory, WriteFault}
 
@@ -50,31 +52,36 @@ has_ended P S made workers seen K H m whole k c =
           mediated = mediated P S (ev Listener Close ∷ K) legal room;
         }
 
+-- and so does that of lanes' hands
+pub lanes_have_ended : (P : Policy) (S : Script) (made : Setup) (seen K H : List Event) → made ≡ record { policy = P; script = S; limit = Some 15 } → IsServedInLanes made seen → K ≡ seen → ClosesBehind K H → ByLanes P S H
+lanes_have_ended P S made seen K H m served k c =
+    (has_ended P S made 15 seen K H m served.whole k c, subst (λ (L : List Event). Laned L) (sym c.closed) (tt, subst (λ (L : List Event). Laned L) (sym k) served.laned))
+
 -- ---- How it ended
 
 -- nothing was served, since the policy or the script wasn't taken
-pub run_stops : (files after : FileState) (sink : SinkState) (policy script : List ℕ) (workers : ℕ) (status : Status) → InputRefused files after policy script status
-    → RunEnds files after sink sink policy script workers status
-run_stops files after sink policy script workers NoMemory h = inl (λ t. refl)
-run_stops files after sink policy script workers Done h = absurd h
-run_stops files after sink policy script workers WriteFault h = absurd h
-run_stops files after sink policy script workers status h = (h, λ t. refl)
+pub run_stops : (files after : FileState) (sink : SinkState) (policy script : List ℕ) (Ended : Ending) (status : Status) → InputRefused files after policy script status
+    → RunEnds files after sink sink policy script Ended status
+run_stops files after sink policy script Ended NoMemory h = inl (λ t. refl)
+run_stops files after sink policy script Ended Done h = absurd h
+run_stops files after sink policy script Ended WriteFault h = absurd h
+run_stops files after sink policy script Ended status h = (h, λ t. refl)
 
 -- or nothing was printed, for want of memory
-pub run_unserved : (files after : FileState) (sink : SinkState) (policy script : List ℕ) (workers : ℕ) → RunEnds files after sink sink policy script workers NoMemory
-run_unserved files after sink policy script workers = inl (λ t. refl)
+pub run_unserved : (files after : FileState) (sink : SinkState) (policy script : List ℕ) (Ended : Ending) → RunEnds files after sink sink policy script Ended NoMemory
+run_unserved files after sink policy script Ended = inl (λ t. refl)
 
 -- the report of the history was printed, or a part of it
-pub run_ends : (files after : FileState) (old new : SinkState) (policy script : List ℕ) (workers : ℕ) (Q P : Policy) (S : Script) (H : List Event) (r : Result (Unit {0}) Status) → Q ≡ P
-    → PolicyIs files policy (Ok P) → ScriptIs files script (Ok S) → HasEnded P S workers H → Printed (report (judging_by Q.rules) H) old new r
-    → RunEnds files after old new policy script workers (status_of r)
-run_ends files after old new policy script workers Q P S H r q policy_is script_is ended printed =
+pub run_ends : (files after : FileState) (old new : SinkState) (policy script : List ℕ) (Ended : Ending) (Q P : Policy) (S : Script) (H : List Event) (r : Result (Unit {0}) Status) → Q ≡ P
+    → PolicyIs files policy (Ok P) → ScriptIs files script (Ok S) → Ended P S H → Printed (report (judging_by Q.rules) H) old new r
+    → RunEnds files after old new policy script Ended (status_of r)
+run_ends files after old new policy script Ended Q P S H r q policy_is script_is ended printed =
     by r (subst (λ (X : Policy). Printed (report (judging_by X.rules) H) old new r) q printed)
   where
-    are : AreRun files policy script workers P S H
+    are : AreRun files policy script Ended P S H
     are = record { policy_is = policy_is; script_is = script_is; ended = ended }
 
-    by : (r : Result (Unit {0}) Status) → Printed (report (judging_by P.rules) H) old new r → RunEnds files after old new policy script workers (status_of r)
+    by : (r : Result (Unit {0}) Status) → Printed (report (judging_by P.rules) H) old new r → RunEnds files after old new policy script Ended (status_of r)
     by (Ok u) p = ((P, S, H, are, p.0), p.1)
     by (Err WriteFault) p = (p.0, (P, S, H, are, p.1))
     by (Err NoMemory) p = inr (P, S, H, are, p)

@@ -4,7 +4,6 @@ use Rattle.hist_model.specs.Legal.{played}
 use Rattle.hist_model.specs.Mediated.{Mediated}
 use Rattle.hist_model.specs.Report.{report, summary}
 use Rattle.hist_model.specs.ReportAudit.{Judging, judging_by}
-use Rattle.hist_model.specs.Words.{Form, AuditCheck, Play, Run, Stress}
 use Rattle.hist_model.specs.declared.event.Event.{Event}
 use Rattle.hist_model.specs.declared.policy.Policy.{Policy}
 use Rattle.hist_model.specs.declared.script.Script.{Script}
@@ -17,7 +16,8 @@ use Rattle.broker_app.specs.Checks.{CheckEnds}
 use Rattle.broker_app.specs.Findings.{findings}
 use Rattle.broker_app.specs.Inputs.{PolicyIs, ScriptIs}
 use Rattle.broker_app.specs.Refusals.{InputRefused, Stands, TookNothing}
-use Rattle.broker_app.specs.Runs.{RunEnds}
+use Rattle.broker_app.specs.Runs.{ByLanes, ByWorkers, RunEnds}
+use Rattle.broker_app.specs.Words.{Form, AuditCheck, Lanes, Play, Run, Stress}
 use Rattle.broker_app.specs.declared.printing.Printout.{Printout}
 use Rattle.broker_app.specs.declared.printing.Printout.TheVariants.{Report, Summary, Findings}
 use Rattle.broker_app.specs.declared.status.Status.{Status}
@@ -104,7 +104,8 @@ abbrev pub Answers : Option Form → FileState → FileState → SinkState → S
 Answers None files after old new status = IsUsage status × TookNothing old new
 Answers (Some (Play policy script)) files after old new status = PlayEnds files after old new policy script status
 Answers (Some (Stress from count)) files after old new status = StressEnds from count old new status
-Answers (Some (Run policy script workers cpus)) files after old new status = RunEnds files after old new policy script workers status
+Answers (Some (Run policy script workers cpus)) files after old new status = RunEnds files after old new policy script (ByWorkers workers) status
+Answers (Some (Lanes policy script cpus)) files after old new status = RunEnds files after old new policy script ByLanes status
 Answers (Some (AuditCheck policy script report)) files after old new status = CheckEnds files after old new policy script report status
 
 -- the status that an outcome is

@@ -2,9 +2,9 @@
 use Rattle.std.specs.Prelude.{ℕ, ◌≤◌, List, map, String}
 use Rattle.std.specs.String.{string_bytes}
 use Rattle.std.specs.declared.alloc.Global.{Global}
-use Rattle.hist_model.specs.Words.{Form as Meaning, AuditCheck as Checks, Play as Plays, Run as Runs, Stress as Stresses}
+use Rattle.broker_app.specs.Words.{Form as Meaning, AuditCheck as Checks, Lanes as RunsByLanes, Play as Plays, Run as Runs, Stress as Stresses}
 use Rattle.broker_app.specs.declared.words.Form.{Form}
-use Rattle.broker_app.specs.declared.words.Form.TheVariants.{Job as IsJob, Run}
+use Rattle.broker_app.specs.declared.words.Form.TheVariants.{Job as IsJob, Lanes, Run}
 use Rattle.broker_app.specs.declared.words.Job.{Job}
 use Rattle.broker_app.specs.declared.words.Job.TheVariants.{AuditCheck, Play, Stress}
 
@@ -22,6 +22,7 @@ job_of (AuditCheck policy script report) = Checks policy.now script.now report.n
 abbrev pub form_of : Form → Meaning
 form_of (IsJob job) = job_of job
 form_of (Run policy script workers cpus) = Runs policy.now script.now workers cpus
+form_of (Lanes policy script cpus) = RunsByLanes policy.now script.now cpus
 
 -- generated input has at most 4000 calls
 abbrev pub HasFewCalls : Job → Type 0
@@ -32,3 +33,4 @@ HasFewCalls _ = Unit {0}
 abbrev pub IsInRange : Form → Type 0
 IsInRange (IsJob job) = HasFewCalls job
 IsInRange (Run policy script workers cpus) = (workers ≤ 16) × (cpus ≤ 16)
+IsInRange (Lanes policy script cpus) = cpus ≤ 16

@@ -1,4 +1,4 @@
--- What the answer of a run with threads means: which history is printed, and why it stopped.
+-- What the answer of a run with threads means, with workers or by lanes: which history is printed, and why it stopped.
 use Rattle.std.specs.Prelude.{◌≡◌, ℕ, ◌<◌, ◌^◌, ◌++◌, ◌∷◌, ◌⊎◌, true, List, length, Ok}
 use Rattle.hist_model.specs.Legal.{Finished, Legal, NoSkip, NoWorkerAbove}
 use Rattle.hist_model.specs.Look.{ev}
@@ -13,6 +13,7 @@ use Rattle.hist_model.specs.declared.script.Script.{Script}
 use Rattle.io_edge.specs.Faults.{Rose}
 use Rattle.io_edge.specs.FileState.{FileState}
 use Rattle.io_edge.specs.SinkState.{SinkState, AddsPrefix}
+use Rattle.lane_seats.specs.Lanes.{Laned}
 use Rattle.mediation.specs.Scheduled.{IsUnclosed}
 use Rattle.broker_app.specs.Inputs.{PolicyIs, ScriptIs}
 use Rattle.broker_app.specs.Refusals.{InputRefused, Stands, TookNothing}
@@ -39,29 +40,41 @@ pub record HasEnded (P : Policy) (S : Script) (workers : ℕ) (H : List Event) :
   pub ends : ClosesFinished H
   pub mediated : Mediated P S H
 
+-- it was served by workers up to this one
+abbrev pub ByWorkers : ℕ → Policy → Script → List Event → Type 0
+ByWorkers workers P S H = HasEnded P S workers H
+
+-- it was served by lanes: the history is laned, and its workers are 0 to 15
+abbrev pub ByLanes : Policy → Script → List Event → Type 0
+ByLanes P S H = HasEnded P S 15 H × Laned H
+
 -- ---- What was printed
 
+-- how the history of a policy's and a script's container ended
+abbrev pub Ending : Type 1
+Ending = Policy → Script → List Event → Type 0
+
 -- these are the policy and the script of the named files, and so ended the history of their container
-pub record AreRun (files : FileState) (policy script : List ℕ) (workers : ℕ) (P : Policy) (S : Script) (H : List Event) : Type 0 where
+pub record AreRun (files : FileState) (policy script : List ℕ) (Ended : Ending) (P : Policy) (S : Script) (H : List Event) : Type 0 where
   pub policy_is : PolicyIs files policy (Ok P)
   pub script_is : ScriptIs files script (Ok S)
-  pub ended : HasEnded P S workers H
+  pub ended : Ended P S H
 
 -- the sink took a prefix of the report of one such history
-abbrev pub TookRunPrefix : FileState → List ℕ → List ℕ → ℕ → SinkState → SinkState → Type 0
-TookRunPrefix files policy script workers old new =
-    (P : Policy) × (S : Script) × (H : List Event) × AreRun files policy script workers P S H × (old.tells ≡ true → AddsPrefix old.taken (report (judging_by P.rules) H) new.taken)
+abbrev pub TookRunPrefix : FileState → List ℕ → List ℕ → Ending → SinkState → SinkState → Type 0
+TookRunPrefix files policy script Ended old new =
+    (P : Policy) × (S : Script) × (H : List Event) × AreRun files policy script Ended P S H × (old.tells ≡ true → AddsPrefix old.taken (report (judging_by P.rules) H) new.taken)
 
 -- the sink took the whole report of one
-abbrev pub TookRun : FileState → List ℕ → List ℕ → ℕ → SinkState → SinkState → Type 0
-TookRun files policy script workers old new =
-    (P : Policy) × (S : Script) × (H : List Event) × AreRun files policy script workers P S H × (old.tells ≡ true → new.taken ≡ old.taken ++ report (judging_by P.rules) H)
+abbrev pub TookRun : FileState → List ℕ → List ℕ → Ending → SinkState → SinkState → Type 0
+TookRun files policy script Ended old new =
+    (P : Policy) × (S : Script) × (H : List Event) × AreRun files policy script Ended P S H × (old.tells ≡ true → new.taken ≡ old.taken ++ report (judging_by P.rules) H)
 
 -- ---- How it ended
 
--- how the run of a policy's and a script's files ended, with workers up to this number
-abbrev pub RunEnds : FileState → FileState → SinkState → SinkState → List ℕ → List ℕ → ℕ → Status → Type 0
-RunEnds files after old new policy script workers Done = TookRun files policy script workers old new × Stands new
-RunEnds files after old new policy script workers WriteFault = Rose old.faults new.faults × TookRunPrefix files policy script workers old new
-RunEnds files after old new policy script workers NoMemory = TookNothing old new ⊎ TookRunPrefix files policy script workers old new
-RunEnds files after old new policy script workers status = InputRefused files after policy script status × TookNothing old new
+-- how the run of a policy's and a script's files ended
+abbrev pub RunEnds : FileState → FileState → SinkState → SinkState → List ℕ → List ℕ → Ending → Status → Type 0
+RunEnds files after old new policy script Ended Done = TookRun files policy script Ended old new × Stands new
+RunEnds files after old new policy script Ended WriteFault = Rose old.faults new.faults × TookRunPrefix files policy script Ended old new
+RunEnds files after old new policy script Ended NoMemory = TookNothing old new ⊎ TookRunPrefix files policy script Ended old new
+RunEnds files after old new policy script Ended status = InputRefused files after policy script status × TookNothing old new

@@ -5,20 +5,20 @@ ghost use Rattle.audit_check.specs.Reported.{IsUnique};
 ghost use Rattle.hist_model.specs.Legal.{played};
 ghost use Rattle.hist_model.specs.Mediated.{Mediated};
 ghost use Rattle.hist_model.specs.ReportAudit.{judging_by};
-ghost use Rattle.hist_model.specs.Words.{form};
+ghost use Rattle.broker_app.specs.Words.{form};
 ghost use Rattle.hist_model.specs.declared.script.Script.{Script};
 ghost use Rattle.std.specs.Option.{option_map};
 ghost use Rattle.broker_app.specs.Forms.{HasFewCalls, IsInRange, form_of, job_of, texts};
 ghost use Rattle.broker_app.specs.Answers.{Answers, GeneratedIsMediated, PlayEnds, Printed, Said, StressEnds, generated_summary, printout_of, status_of, text_of};
 ghost use Rattle.broker_app.specs.Checks.{BytesCheckEnds, CheckEnds};
 ghost use Rattle.broker_app.specs.Lines.{line_of};
-ghost use Rattle.broker_app.specs.Runs.{RunEnds};
+ghost use Rattle.broker_app.specs.Runs.{ByLanes, ByWorkers, RunEnds};
 ghost use Rattle.broker_app.specs.declared.status.InputFile.TheVariants.{Policy as PolicyFile};
 ghost use Rattle.broker_app.specs.declared.status.Status.TheVariants.{ReadFault};
 
 use crate::inputs::{read_inputs, read_report};
 use crate::lines::say;
-use crate::players::{Player, TurnTaker, run_container};
+use crate::players::{Player, TurnTaker, run_container, run_container_by_lanes};
 use crate::printing::{Printout, print_history};
 use crate::status::Status;
 use crate::words::{Form, Job, read_form};
@@ -218,10 +218,29 @@ fn run_files<R: Threads + Wait + Sync, F: Files, O: Sink, G: Gate + Sync>(
     gate: &G,
 ) -> Result<(), Status>
     requires { (workers ≤ 16) × (cpus ≤ 16) }
-    ensures { RunEnds (F.state files.old) (F.state files.new) (O.state out.old) (O.state out.new) policy.now script.now workers (status_of result) }
+    ensures { RunEnds (F.state files.old) (F.state files.new) (O.state out.old) (O.state out.new) policy.now script.now (ByWorkers workers) (status_of result) }
 {
     let (policy, script) = read_inputs(alloc, files, policy, script)?;
     let ended = run_container(rt, alloc, policy, script, workers, cpus, gate)?;
+    print_text(alloc, Printout::Report, &ended.policy, &ended.history, out)
+}
+
+/// Runs the script of a file by lanes under the policy of another, and writes the report.
+#[tactic(auto, using(crate::proofs::Runs::run_stops, crate::proofs::Runs::run_unserved))]
+fn run_files_by_lanes<R: Threads + Wait + Sync, F: Files, O: Sink>(
+    rt: &R,
+    alloc: Global,
+    files: &mut F,
+    policy: &str,
+    script: &str,
+    cpus: u8,
+    out: &mut O,
+) -> Result<(), Status>
+    requires { cpus ≤ 16 }
+    ensures { RunEnds (F.state files.old) (F.state files.new) (O.state out.old) (O.state out.new) policy.now script.now ByLanes (status_of result) }
+{
+    let (policy, script) = read_inputs(alloc, files, policy, script)?;
+    let ended = run_container_by_lanes(rt, alloc, policy, script, cpus)?;
     print_text(alloc, Printout::Report, &ended.policy, &ended.history, out)
 }
 
@@ -249,6 +268,13 @@ fn answer_form<R: Threads + Wait + Sync, F: Files, O: Sink, G: Gate + Sync>(
                 cpus,
             },
         ) => run_files(rt, alloc, files, policy, script, workers, cpus, out, gate),
+        Some(
+            Form::Lanes {
+                policy,
+                script,
+                cpus,
+            },
+        ) => run_files_by_lanes(rt, alloc, files, policy, script, cpus, out),
     }
 }
 

@@ -3,10 +3,11 @@
 ghost use Rattle.std.specs.Prelude.{◌≡◌, ◌≤◌, IfOk};
 ghost use Rattle.hist_model.specs.Legal.{played};
 ghost use Rattle.mediation.specs.Scheduled.{IsUnclosed};
-ghost use Rattle.broker_app.specs.Runs.{ClosesBehind, HasEnded};
+ghost use Rattle.broker_app.specs.Runs.{ByLanes, ClosesBehind, HasEnded};
 
 use hist_model::policy::Policy;
 use hist_model::script::Script;
+use lane_gate::{LaneServed, OpenLanes, serve_lanes};
 use std::alloc::Global;
 use std::sync::Wait;
 use std::thread::Threads;
@@ -99,4 +100,25 @@ pub(crate) fn run_container<R: Threads + Wait + Sync, G: Gate + Sync>(
     };
     serve_hands(rt, alloc, &lock, &mut pass, workers, cpus, gate)?;
     close_listener(lock.close(pass))
+}
+
+/// Serves the container of a script by lanes until nothing is left to do, and closes the listener.
+pub(crate) fn run_container_by_lanes<R: Threads + Wait + Sync>(
+    rt: &R,
+    alloc: Global,
+    policy: Policy,
+    script: Script,
+    cpus: u8,
+) -> Result<Played, NoMemory>
+    requires number { cpus ≤ 16 }
+    ensures ended { IfOk result (λ p. ByLanes policy script p.history.events) }
+    ensures policy { IfOk result (λ p. p.policy ≡ policy) }
+    ensures script { IfOk result (λ p. p.script ≡ script) }
+{
+    let served = LaneServed::new(alloc, policy, script)?;
+    let Ok((lock, mut pass)) = TurnLock::new(alloc, served) else {
+        return Err(NoMemory);
+    };
+    serve_lanes(rt, alloc, &lock, &mut pass, cpus, &OpenLanes)?;
+    close_listener(lock.close(pass).into_served())
 }

@@ -2,7 +2,8 @@
 
 ghost use Rattle.std.specs.Prelude.{◌≡◌, ◌^◌, ◌-◌, map, IfSome};
 ghost use Rattle.std.specs.Option.{option_map};
-ghost use Rattle.hist_model.specs.Words.{number_between, run_form, stress_form, three_words, four_words, five_words, form};
+ghost use Rattle.broker_app.specs.Words.{run_form, lanes_form, stress_form, three_words, four_words, five_words, form};
+ghost use Rattle.hist_model.specs.Words.{number_between};
 ghost use Rattle.broker_app.specs.Forms.{IsInRange, form_of, texts};
 
 use plain_words::number_between;
@@ -40,6 +41,13 @@ pub enum Form<'a> {
         workers: u8,
         cpus: u8,
     },
+    /// Run a script by lanes: the names of the policy's and the script's files, and a number from 0 to 16, of the hands that step
+    /// tasks.
+    Lanes {
+        policy: &'a str,
+        script: &'a str,
+        cpus: u8,
+    },
 }
 
 fn run_form<'a>(policy: &'a str, script: &'a str, workers: &str, cpus: &str) -> Option<Form<'a>>
@@ -52,6 +60,18 @@ fn run_form<'a>(policy: &'a str, script: &'a str, workers: &str, cpus: &str) -> 
         policy,
         script,
         workers: workers as u8,
+        cpus: cpus as u8,
+    })
+}
+
+fn lanes_form<'a>(policy: &'a str, script: &'a str, cpus: &str) -> Option<Form<'a>>
+    ensures meant { option_map form_of result ≡ lanes_form policy.now script.now (number_between 0 16 cpus.now) }
+    ensures range { IfSome result (λ f. IsInRange f) }
+{
+    let cpus = number_between(cpus.as_bytes(), 0, 16)?;
+    Some(Form::Lanes {
+        policy,
+        script,
         cpus: cpus as u8,
     })
 }
@@ -94,6 +114,8 @@ fn four_words<'a>(command: &str, a: &'a str, b: &'a str, c: &'a str) -> Option<F
             script: b,
             report: c,
         }))
+    } else if command.as_bytes() == b"lanes".as_slice() {
+        lanes_form(a, b, c)
     } else {
         None
     }

@@ -2,7 +2,7 @@
 
 ghost use Rattle.std.specs.Prelude.{◌≡◌, ◌^◌, ◌<◌, ◌&&◌, length, nat_le, nat_lt, Some, None, if◌then◌else◌};
 ghost use Rattle.std.specs.Option.{ForSome, option_map};
-ghost use Rattle.hist_model.specs.Words.{Stress};
+ghost use Rattle.broker_app.specs.Words.{Stress};
 ghost use Rattle.broker_app.specs.Answers.{Said};
 ghost use Rattle.broker_app.specs.Forms.{HasFewCalls, job_of};
 ghost use Rattle.broker_app.specs.Lines.{line_of};

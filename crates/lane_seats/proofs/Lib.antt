@@ -1,2 +1,4 @@
 pub mod Sittings
-pub mod Worked
+mod Turns
+mod Pairs
+mod Worked

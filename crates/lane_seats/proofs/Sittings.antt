@@ -1,21 +1,19 @@
 -- What a table of seats finds in each history that it stands for, and what one more event changes of it.
 -- By cases on a seat's entry, and on what the event makes of its worker's seat: no other seat changes.
-use Rattle.std.proofs.Common.{◌≡◌, ◌≢◌, ℕ, ◌<◌, ◌≤◌, ◌==◌, ◌&&◌, ◌⊎◌, inl, inr, not, nat_lt, Bool, true, false, List, [], ◌∷◌, length, set, get_or, get_or-set_other, get_or-set_same, Option, Some, None, Ok, refl, sym, ap, ◌∙◌, subst, arith, eq-eqb, eqb}
+use Rattle.std.proofs.Common.{◌≡◌, ◌≢◌, ℕ, ◌<◌, ◌≤◌, ◌==◌, ◌⊎◌, inl, inr, nat_lt, true, false, List, [], ◌∷◌, length, set, get_or, get_or-set_other, get_or-set_same, Option, Some, None, Ok, refl, sym, ap, ◌∙◌, subst, arith, eq-eqb, eqb}
 use Rattle.std.proofs.lemmas.Bool.{and_parts, cases_lt, eqb-true, ltb-true, ne_eqb}
 use Rattle.std.proofs.lemmas.Bool.Decides.{eqb_tells}
 use Rattle.std.proofs.lemmas.List.{get_or_past, length-set}
-use Rattle.hist_model.specs.Kinds.{is_letgo, skips, starts}
+use Rattle.hist_model.specs.Kinds.{is_letgo, starts}
 use Rattle.hist_model.specs.Legal.{is_open_session}
 use Rattle.hist_model.specs.Look.{ev, is_worker}
-use Rattle.hist_model.specs.Sessions.{any_of, fetched_by, joined, notif_of, session}
-use Rattle.hist_model.specs.declared.event.Actor.{Actor}
+use Rattle.hist_model.specs.Sessions.{fetched_by, joined, notif_of, session}
 use Rattle.hist_model.specs.declared.event.Actor.TheVariants.{Worker}
 use Rattle.hist_model.specs.declared.event.Event.{Event}
 use Rattle.hist_model.specs.declared.event.What.{What}
 use Rattle.hist_model.specs.declared.event.What.TheVariants.{LetGo, Recv}
-use Rattle.lane_seats.specs.Lanes.{IsLowestFree, IsNext, is_taken, lane, lane_of_call, lane_of_notif, taken_at}
+use Rattle.lane_seats.specs.Lanes.{IsNext, is_taken, lane, lane_of_call, lane_of_notif, taken_at}
 use Rattle.lane_seats.specs.Sittings.{FindsFree, FindsNext, Sits, StandsFor, change_of, comes_before}
-use Rattle.lane_seats.specs.declared.seats.Change.{Change}
 use Rattle.lane_seats.specs.declared.seats.Change.TheVariants.{Leaves, Stays, Takes}
 use Rattle.lane_seats.specs.declared.seats.Sitting.{Sitting}
 use Rattle.sys_abi.specs.declared.wire.Notif.{Notif}
@@ -77,16 +75,16 @@ finds_nobody seats seat none K st taken next = let free = free_seat K seat (get_
 
 -- seats are as they were where no worker there took a step
 module _ (e : Event) (K : List Event) (seat : ℕ) (other : is_worker e.who seat ≡ false) where
-  same_session : session (e ∷ K) seat ≡ session K seat
+  pub same_session : session (e ∷ K) seat ≡ session K seat
   unfolding session
   same_session = grind arith
 
-  same_start : taken_at (e ∷ K) seat ≡ taken_at K seat
+  pub same_start : taken_at (e ∷ K) seat ≡ taken_at K seat
   unfolding taken_at
   same_start = grind arith
 
 -- an entry says as much of two histories in which the seat's session is the same
-sits_still : (K H : List Event) (seat : ℕ) (o : Option Sitting) → session H seat ≡ session K seat → taken_at H seat ≡ taken_at K seat → Sits K seat o → Sits H seat o
+pub sits_still : (K H : List Event) (seat : ℕ) (o : Option Sitting) → session H seat ≡ session K seat → taken_at H seat ≡ taken_at K seat → Sits K seat o → Sits H seat o
 sits_still K H seat None s t sits = ap is_open_session s ∙ sits
 sits_still K H seat (Some x) s t sits = (ap is_open_session s ∙ sits.0, ap (λ own. lane_of_notif (notif_of own)) s ∙ sits.1, t ∙ sits.2)
 
@@ -105,12 +103,12 @@ began : (n : Notif) (K : List Event) (seat : ℕ) → session (ev (Worker seat) 
 unfolding session
 began n K seat = let own = mine (Recv (Ok n)) K seat in grind arith
 
-begun_at : (n : Notif) (K : List Event) (seat : ℕ) → taken_at (ev (Worker seat) (Recv (Ok n)) ∷ K) seat ≡ length K
+pub begun_at : (n : Notif) (K : List Event) (seat : ℕ) → taken_at (ev (Worker seat) (Recv (Ok n)) ∷ K) seat ≡ length K
 unfolding taken_at
 begun_at n K seat = let own = mine (Recv (Ok n)) K seat in rw own refl
 
 -- a receive of a notification takes the seat
-takes : (n : Notif) (K : List Event) (seat : ℕ) → Sits (ev (Worker seat) (Recv (Ok n)) ∷ K) seat (Some (record { lane = lane_of_call n.call.nr; since = length K }))
+pub takes : (n : Notif) (K : List Event) (seat : ℕ) → Sits (ev (Worker seat) (Recv (Ok n)) ∷ K) seat (Some (record { lane = lane_of_call n.call.nr; since = length K }))
 takes n K seat = let own = began n K seat in (ap is_open_session own, ap (λ s. lane_of_notif (notif_of s)) own, begun_at n K seat)
 
 joined_to : (K : List Event) (seat : ℕ) → session (ev (Worker seat) LetGo ∷ K) seat ≡ joined LetGo (session K seat)
@@ -122,7 +120,7 @@ left [] = refl
 left (a ∷ own) = refl
 
 -- a let-go frees it
-leaves : (K : List Event) (seat : ℕ) → is_taken (ev (Worker seat) LetGo ∷ K) seat ≡ false
+pub leaves : (K : List Event) (seat : ℕ) → is_taken (ev (Worker seat) LetGo ∷ K) seat ≡ false
 leaves K seat = ap is_open_session (joined_to K seat) ∙ left (session K seat)
 
 -- any other step leaves it as it is
@@ -131,30 +129,30 @@ module _ (what : What) (K : List Event) (seat : ℕ) (kind : (starts what ≡ fa
   stayed [] = (rw kind.0 refl, rw kind.0 refl)
   stayed (a ∷ own) = (rw (kind.0, kind.1) refl, rw (kind.0, kind.2) refl)
 
-  stays_open : (is_taken (ev (Worker seat) what ∷ K) seat ≡ is_taken K seat) × (notif_of (session (ev (Worker seat) what ∷ K) seat) ≡ notif_of (session K seat))
+  pub stays_open : (is_taken (ev (Worker seat) what ∷ K) seat ≡ is_taken K seat) × (notif_of (session (ev (Worker seat) what ∷ K) seat) ≡ notif_of (session K seat))
   unfolding session
   stays_open = let s = stayed (session K seat) in let own = mine what K seat in grind arith
 
-  stays_since : taken_at (ev (Worker seat) what ∷ K) seat ≡ taken_at K seat
+  pub stays_since : taken_at (ev (Worker seat) what ∷ K) seat ≡ taken_at K seat
   unfolding taken_at
   stays_since = let k = kind.0 in grind arith
 
-  stays : (o : Option Sitting) → Sits K seat o → Sits (ev (Worker seat) what ∷ K) seat o
+  pub stays : (o : Option Sitting) → Sits K seat o → Sits (ev (Worker seat) what ∷ K) seat o
   stays None s = stays_open.0 ∙ s
   stays (Some x) s = (stays_open.0 ∙ s.0, ap lane_of_notif stays_open.1 ∙ s.1, stays_since ∙ s.2)
 
 -- what each change tells of its step
-stays_for : (what : What) (place : ℕ) → change_of what place ≡ Stays → (starts what ≡ false) × (is_letgo what ≡ false) × (fetched_by what ≡ None)
+pub stays_for : (what : What) (place : ℕ) → change_of what place ≡ Stays → (starts what ≡ false) × (is_letgo what ≡ false) × (fetched_by what ≡ None)
 stays_for (Recv (Ok n)) place e = absurd cc
 stays_for LetGo place e = absurd cc
 stays_for _ place e = (refl, refl, refl)
 
-leaves_for : (what : What) (place : ℕ) → change_of what place ≡ Leaves → what ≡ LetGo
+pub leaves_for : (what : What) (place : ℕ) → change_of what place ≡ Leaves → what ≡ LetGo
 leaves_for (Recv (Ok n)) place e = absurd cc
 leaves_for LetGo place e = refl
 leaves_for _ place e = absurd cc
 
-takes_for : (what : What) (place : ℕ) (s : Sitting) → change_of what place ≡ Takes s → (n : Notif) × (what ≡ Recv (Ok n)) × (s ≡ record { lane = lane_of_call n.call.nr; since = place })
+pub takes_for : (what : What) (place : ℕ) (s : Sitting) → change_of what place ≡ Takes s → (n : Notif) × (what ≡ Recv (Ok n)) × (s ≡ record { lane = lane_of_call n.call.nr; since = place })
 takes_for (Recv (Ok n)) place s e = (n, refl, cc)
 takes_for LetGo place s e = absurd cc
 takes_for _ place s e = absurd cc

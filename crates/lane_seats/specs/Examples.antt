@@ -3,12 +3,10 @@ use Rattle.std.specs.Prelude.{ℕ, List, [], ◌∷◌, Ok, pos}
 use Rattle.hist_model.specs.Look.{ev}
 use Rattle.hist_model.specs.declared.event.Actor.TheVariants.{Worker}
 use Rattle.hist_model.specs.declared.event.Event.{Event}
-use Rattle.hist_model.specs.declared.event.What.{What}
 use Rattle.hist_model.specs.declared.event.What.TheVariants.{LetGo, OpenMem, Recv}
 use Rattle.lane_seats.specs.Lanes.{Laned}
 use Rattle.sys_abi.specs.Calls.{nr_mknod, nr_mount}
 use Rattle.sys_abi.specs.declared.wire.Notif.{Notif}
-use Rattle.sys_abi.specs.declared.wire.SeccompData.{SeccompData}
 
 -- the notification with an id, of a call with a number
 abbrev pub notif : ℕ → ℕ → Notif

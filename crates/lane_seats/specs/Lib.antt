@@ -1,3 +1,4 @@
 pub mod Lanes
 pub mod Sittings
+pub mod Pairs
 pub mod Examples

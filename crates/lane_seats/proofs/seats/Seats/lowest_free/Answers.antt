@@ -1,4 +1,4 @@
-use Rattle.std.proofs.Common.{◌≡◌, arith, below_more, None, Some, get_or}
+use Rattle.std.proofs.Common.{◌≡◌, arith, below_more}
 use Rattle.lane_seats.proofs.Sittings.{finds_free, finds_none, no_entry}
 use Rattle.lane_seats.proofs.seats.Seats.lowest_free.Goals as goal
 

@@ -1,0 +1,138 @@
+//! Containers that are served by lanes, under a gate that holds one lane until others came to a point.
+
+use hist_model::history::History;
+use lane_gate::{LaneGate, LaneServed, OpenLanes, serve_lanes};
+use policy_reader::read_policy;
+use script_reader::read_script;
+use std::alloc::Global;
+use std::process::Abort;
+use std::sync::Wait;
+use std::sync::atomic::{AtomicU64, Ordering};
+use std::test::Fail;
+use std::thread;
+use std::thread::Threads;
+use turn_lock::TurnLock;
+
+/// A task that makes a node, and one that asks for figures.
+const TWO_KINDS: &str =
+    "notify mknod sysinfo\nprog a\npoke 0x10000 \"/null\\0\"\ncall mknod 0x10000 0o020666 259\nend\nprog b\ncall sysinfo 0x11000\nend\nprog main\nspawn a\nspawn b\nwait\nwait\nend\n";
+
+/// A task that mounts, and the beginning of one that makes nodes.
+const MOUNT_AND_NODES: &str =
+    "notify mknod mount\nprog a\ncall mount 0 0x10000 0 0 0\nend\nprog b\npoke 0x10000 \"/null\\0\"\n";
+
+/// What follows the calls of the second task.
+const THEIR_PARENT: &str = "end\nprog main\nspawn a\nspawn b\nwait\nwait\nend\n";
+
+/// How often a held lane looks whether it may go on, before it gives up.
+const LOOKS: u64 = 20_000_000;
+
+/// Holds a lane's hand where the second check found a notification valid, until as many answers were sent in another lane.
+#[derive(Drop)]
+struct HoldLane {
+    held: u8,
+    other: u8,
+    until: u64,
+    /// How many answers were sent in the other lane.
+    sent: AtomicU64,
+    /// How often the lane was held to no end.
+    gave_up: AtomicU64,
+}
+
+impl HoldLane {
+    fn new(held: u8, other: u8, until: u64) -> HoldLane {
+        HoldLane {
+            held,
+            other,
+            until,
+            sent: AtomicU64::new(0),
+            gave_up: AtomicU64::new(0),
+        }
+    }
+
+    /// Waits until the other lane has sent its answers.
+    fn hold(&self) {
+        for _ in 0..LOOKS {
+            if self.sent.load(Ordering::SeqCst) >= self.until {
+                return;
+            }
+            thread::yield_now();
+        }
+        self.gave_up.fetch_add(1, Ordering::SeqCst);
+    }
+}
+
+impl LaneGate for HoldLane {
+    fn checked(&self, lane: u8, _id: u64) {
+        if lane == self.held {
+            self.hold();
+        }
+    }
+
+    fn sent(&self, lane: u8, _id: u64) {
+        if lane == self.other {
+            self.sent.fetch_add(1, Ordering::SeqCst);
+        }
+    }
+}
+
+/// The history of a script's container that was served by lanes, with one hand beside that steps tasks.
+fn served<R: Abort + Threads + Wait + Sync, G: LaneGate + Sync>(
+    rt: &R,
+    alloc: Global,
+    script: &str,
+    gate: &G,
+) -> History {
+    // Mknods and sysinfos are granted, and mounts are passed.
+    let policy = read_policy(
+        alloc,
+        b"{\"config\":{\"security.syscalls.intercept.mknod\":\"true\",\"security.syscalls.intercept.sysinfo\":\"true\"}}",
+    )
+    .expect(rt, "policy");
+    if script.len() > 8_388_608 {
+        panic!(rt; "the script is too long");
+    }
+    let script = read_script(alloc, script.as_bytes()).expect(rt, "script");
+    let served = LaneServed::new(alloc, policy, script).expect(rt, "memory");
+    let Ok((lock, mut pass)) = TurnLock::new(alloc, served) else {
+        panic!(rt; "memory");
+    };
+    serve_lanes(rt, alloc, &lock, &mut pass, 1, gate).expect(rt, "memory");
+    let played = lock.close(pass).into_served().finish().expect(rt, "memory");
+    played.history
+}
+
+/// The script of a task that mounts, and one that makes so many nodes.
+fn mount_and_nodes(alloc: Global, nodes: u32) -> Result<String, Fail> {
+    let mut script = String::new(alloc);
+    script.push_str(MOUNT_AND_NODES)?;
+    for _ in 0..nodes {
+        script.push_str("call mknod 0x10000 0o020666 259\n")?;
+    }
+    script.push_str(THEIR_PARENT)?;
+    Ok(script)
+}
+
+#[test]
+fn serves_one_lane_while_another_is_held(rt: HostRuntime) {
+    let gate = HoldLane::new(0, 3, 1);
+    let history = served(&rt, rt.alloc(), TWO_KINDS, &gate);
+    assert_eq!(&rt; history.len(), 30);
+    assert_eq!(&rt; gate.gave_up.load(Ordering::SeqCst), 0);
+}
+
+#[test]
+fn a_mount_holds_up_no_mknod(rt: HostRuntime) -> Result<(), Fail> {
+    let gate = HoldLane::new(1, 0, 50);
+    let script = mount_and_nodes(rt.alloc(), 50)?;
+    let _ = served(&rt, rt.alloc(), script.as_str(), &gate);
+    assert_eq!(rt; gate.sent.load(Ordering::SeqCst), 50);
+    assert_eq!(rt; gate.gave_up.load(Ordering::SeqCst), 0);
+    Ok(())
+}
+
+#[test]
+fn serves_with_a_gate_that_is_open(rt: HostRuntime) {
+    let history = served(&rt, rt.alloc(), TWO_KINDS, &OpenLanes);
+    assert_eq!(&rt; history.len(), 30);
+}
