@@ -1,10 +1,10 @@
 -- A worker's ledger in a legal history is one, and its successor goes on as the worker.
 -- By what the answers of its session tell, and by induction over the history to its last step.
 use Rattle.std.proofs.Common.{◌≡◌, ℕ, suc, ◌+◌, ◌<◌, ◌≤◌, ◌^◌, Bool, true, false, List, [], ◌∷◌, length, refl, sym, ap, subst, ◌∙◌, Option, Some, None, Result, Ok, Err, inl, inr, arith}
-use Rattle.std.specs.Prelude.{if◌then◌else◌, ◌==◌, ◌||◌, ◌⊎◌}
+use Rattle.std.specs.Prelude.{if◌then◌else◌, ◌==◌}
 use Rattle.std.proofs.lemmas.Bool.{cases_Bool, eq-eqb, ne_eqb, or_right}
 use Rattle.hist_model.specs.Deeds.{Deed}
-use Rattle.hist_model.specs.Kinds.{is_letgo, skips, starts}
+use Rattle.hist_model.specs.Kinds.{is_letgo, starts}
 use Rattle.hist_model.specs.Legal.{Legal, rules_of, system_of}
 use Rattle.hist_model.specs.Sessions.{Rules, any_of, deed, deed_for, joined, notif_of, session}
 use Rattle.hist_model.specs.Steps.{IsLegal}
@@ -16,7 +16,7 @@ use Rattle.sys_abi.specs.declared.wire.Notif.{Notif}
 use Rattle.broker_core.specs.Answers.{Answer, answer_of, is_let_go, shown, step_of, with_step}
 use Rattle.broker_core.specs.Remembered.{Idle}
 use Rattle.broker_machine.proofs.Fitting.{Answers}
-use Rattle.worker_ledger.specs.Ledgers.{AreAnswers, answers_in, own_answers}
+use Rattle.worker_ledger.specs.Ledgers.{AreAnswers, own_answers}
 use Rattle.worker_ledger.specs.Notes.{noted}
 use Rattle.worker_ledger.specs.Successors.{AllStand, IsLedger, Resumed, after_answer, after_answers, caught, is_answer_to, resumed, with_last}
 use Rattle.worker_ledger.specs.declared.successor.LedgerError.{LedgerError}

@@ -1,6 +1,6 @@
 -- The turns of a schedule, one after another, with the ledgers of each history on the way.
 -- By the definition of what is played, from the turns and the lines that are left.
-use Rattle.std.proofs.Common.{◌≡◌, ℕ, suc, ◌+◌, ◌-◌, ◌<◌, ◌≤◌, List, [], ◌∷◌, length, drop, get_or, refl, sym, ap, add-one, drop-cons, ◌∙◌, arith}
+use Rattle.std.proofs.Common.{◌≡◌, ℕ, suc, ◌+◌, ◌-◌, ◌<◌, ◌≤◌, List, ◌∷◌, length, drop, get_or, sym, ap, add-one, drop-cons, ◌∙◌, arith}
 use Rattle.std.proofs.lemmas.List.{drop_all}
 use Rattle.hist_model.specs.Legal.{played, started, with_schedule, with_step, with_steps}
 use Rattle.hist_model.specs.Look.{ev}

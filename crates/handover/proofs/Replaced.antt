@@ -1,9 +1,9 @@
 -- A worker that took the newest step is replaced by one that goes on from its ledger.
 -- By the law that a legal history's ledgers hand over, in both its forms, and by cases on what the successor came to.
-use Rattle.std.proofs.Common.{◌≡◌, ℕ, ◌+◌, ◌<◌, ◌^◌, Bool, true, false, List, [], ◌∷◌, length, refl, sym, ap, subst, ◌∙◌, Option, Some, None, Result, Ok, Err, inl, inr, arith}
-use Rattle.std.specs.Prelude.{IfOk, OnOk, ◌⊎◌}
+use Rattle.std.proofs.Common.{◌≡◌, ℕ, ◌<◌, ◌^◌, Bool, true, false, List, [], ◌∷◌, length, sym, ap, subst, ◌∙◌, Option, Some, None, Result, Ok, Err, inl, inr, arith}
+use Rattle.std.specs.Prelude.{OnOk}
 use Rattle.hist_model.specs.Kinds.{is_letgo}
-use Rattle.hist_model.specs.Legal.{Legal, rules_of, system_of}
+use Rattle.hist_model.specs.Legal.{rules_of, system_of}
 use Rattle.hist_model.specs.Sessions.{Rules, any_of, notif_of, session}
 use Rattle.hist_model.specs.Steps.{IsLegal}
 use Rattle.hist_model.specs.declared.event.Event.{Event}
@@ -21,7 +21,7 @@ use Rattle.broker_core.specs.declared.worker.Worker.{Worker}
 use Rattle.worker_ledger.specs.Heard.{all_heard}
 use Rattle.worker_ledger.specs.Ledgers.{AreAnswers, ledger_text}
 use Rattle.worker_ledger.specs.Notes.{Notes}
-use Rattle.worker_ledger.specs.Successors.{Comes, IsLedger, IsSuccessor, Resumed, resumed}
+use Rattle.worker_ledger.specs.Successors.{Comes, IsLedger, Resumed, resumed}
 use Rattle.worker_ledger.specs.declared.ledger.Ledger.{Ledger}
 use Rattle.worker_ledger.specs.declared.successor.LedgerError.{LedgerError}
 use Rattle.worker_ledger.specs.declared.successor.Successor.{Successor}

@@ -1,5 +1,5 @@
 -- The ledger of each worker of a history, and the successor that goes on from it.
-use Rattle.std.specs.Prelude.{◌≡◌, ℕ, ◌+◌, ◌<◌, ◌^◌, Bool, false, ◌&&◌, not, if◌then◌else◌, List, [], ◌∷◌, Option, Some, None, Result, Ok, ◌⊎◌}
+use Rattle.std.specs.Prelude.{◌≡◌, ℕ, ◌+◌, Bool, ◌&&◌, not, if◌then◌else◌, List, [], ◌∷◌, Option, Some, None, Result, Ok, ◌⊎◌}
 use Rattle.hist_model.specs.Kinds.{skips}
 use Rattle.hist_model.specs.Legal.{Legal, rules_of}
 use Rattle.hist_model.specs.Look.{is_worker}

@@ -1,5 +1,5 @@
 -- Each line is one of those that are left.
-use Rattle.std.proofs.Common.{◌≡◌, ◌∙◌, arith}
+use Rattle.std.proofs.Common.{◌∙◌, arith}
 use Rattle.model_kernel.specs.Kernels.{past}
 use Rattle.broker_machine.proofs.Turns.{reached_last, reached_more}
 use Rattle.handover.proofs.Played.{more_lines, no_lines}
