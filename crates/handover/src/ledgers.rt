@@ -34,7 +34,7 @@ pub struct Handover {
 
 /// The ledger of each worker of a history, and those from which workers were replaced.
 #[derive(Drop)]
-pub(crate) struct Ledgers {
+pub struct Ledgers {
     pub(crate) ledgers: Vec<Ledger>,
     /// After how many steps of workers the one that took the last is replaced.
     pub(crate) every: u32,
@@ -68,7 +68,7 @@ fn worker_number(who: &Actor) -> Option<u8>
 impl Ledgers {
     /// The ledgers of the history of a script's start, whose workers are replaced after each so many of their steps.
     #[tactic(auto, using(crate::proofs::Kept::started_ledgers))]
-    pub(crate) fn new(alloc: Global, every: u32) -> Result<Ledgers, NoMemory>
+    pub fn new(alloc: Global, every: u32) -> Result<Ledgers, NoMemory>
         requires { 0 < every }
         ensures ledgers { IfOk result (λ l. (S : ScriptValue) → AreLedgers (started S) l) }
         ensures every { IfOk result (λ l. l.every ≡ every) }
@@ -82,7 +82,7 @@ impl Ledgers {
     }
 
     /// The ledgers from which workers were replaced.
-    pub(crate) fn into_handed(self) -> Vec<Handover>
+    pub fn into_handed(self) -> Vec<Handover>
         ensures { result ≡ self.handed }
     {
         let Ledgers { handed, .. } = self;
@@ -149,7 +149,7 @@ impl Ledgers {
     /// number of the workers' steps is a multiple: by turns from the ledger before its step and from the one after it.
     ///
     /// Want of memory may leave a machine without the worker that was to be replaced, which takes no more turns.
-    pub(crate) fn turn<T: Heir>(
+    pub fn turn<T: Heir>(
         &mut self,
         alloc: Global,
         policy: &Policy,

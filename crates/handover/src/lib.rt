@@ -15,5 +15,5 @@ mod ledgers;
 mod play;
 mod replacing;
 
-pub use ledgers::Handover;
+pub use ledgers::{Handover, Ledgers};
 pub use play::{HandedPlay, play_handing};
