@@ -1,4 +1,6 @@
 use Rattle.broker_app.proofs.broker.answer_form.Goals as goal
 
 pub returns-in-Some-Lanes : goal.returns-in-Some-Lanes
-returns-in-Some-Lanes g c = rw (c.in-Some-Lanes.is, c.in-Some-Lanes.field-0-is) c.run_files_by_lanes.ensures
+returns-in-Some-Lanes g c =
+    let of = rw c.in-Some-Lanes.is at c.in-Some-Lanes.field-0-is in
+    rw (c.in-Some-Lanes.is, of) c.run_files_by_lanes.ensures
