@@ -1,5 +1,6 @@
 //! Containers that are served by lanes, under a gate that holds one lane until others came to a point.
 
+use hist_model::event::What;
 use hist_model::history::History;
 use lane_gate::{LaneGate, LaneServed, OpenLanes, serve_lanes};
 use policy_reader::read_policy;
@@ -24,18 +25,21 @@ const MOUNT_AND_NODES: &str =
 /// What follows the calls of the second task.
 const THEIR_PARENT: &str = "end\nprog main\nspawn a\nspawn b\nwait\nwait\nend\n";
 
-/// How often a held lane looks whether it may go on, before it gives up.
+/// How often a held hand looks whether it may go on, before it gives up.
 const LOOKS: u64 = 20_000_000;
 
-/// Holds a lane's hand where the second check found a notification valid, until as many answers were sent in another lane.
+/// Holds a lane's hand where the second check found a notification valid, until as many answers were sent in another lane. The hand of
+/// that one goes on from there once the first is held.
 #[derive(Drop)]
 struct HoldLane {
     held: u8,
     other: u8,
     until: u64,
+    /// How often the lane came to be held.
+    came: AtomicU64,
     /// How many answers were sent in the other lane.
     sent: AtomicU64,
-    /// How often the lane was held to no end.
+    /// How often a hand waited to no end.
     gave_up: AtomicU64,
 }
 
@@ -45,15 +49,16 @@ impl HoldLane {
             held,
             other,
             until,
+            came: AtomicU64::new(0),
             sent: AtomicU64::new(0),
             gave_up: AtomicU64::new(0),
         }
     }
 
-    /// Waits until the other lane has sent its answers.
-    fn hold(&self) {
+    /// Waits until a count has come this far.
+    fn wait_for(&self, count: &AtomicU64, least: u64) {
         for _ in 0..LOOKS {
-            if self.sent.load(Ordering::SeqCst) >= self.until {
+            if count.load(Ordering::SeqCst) >= least {
                 return;
             }
             thread::yield_now();
@@ -65,7 +70,10 @@ impl HoldLane {
 impl LaneGate for HoldLane {
     fn checked(&self, lane: u8, _id: u64) {
         if lane == self.held {
-            self.hold();
+            self.came.fetch_add(1, Ordering::SeqCst);
+            self.wait_for(&self.sent, self.until);
+        } else if lane == self.other {
+            self.wait_for(&self.came, 1);
         }
     }
 
@@ -102,6 +110,22 @@ fn served<R: Abort + Threads + Wait + Sync, G: LaneGate + Sync>(
     played.history
 }
 
+/// How many steps of a history answered a call, and how many had the effect that was asked for.
+fn answers_and_effects(history: &History) -> (usize, usize) {
+    let mut answers = 0usize;
+    let mut effects = 0usize;
+    for event in history.events() {
+        match event.what {
+            What::Send { answer: Ok(()), .. } => answers = answers.saturating_add(1),
+            What::Act { answer: Ok(()), .. } | What::Plant { answer: Ok(()), .. } => {
+                effects = effects.saturating_add(1);
+            }
+            _ => {}
+        }
+    }
+    (answers, effects)
+}
+
 /// The script of a task that mounts, and one that makes so many nodes.
 fn mount_and_nodes(alloc: Global, nodes: u32) -> Result<String, Fail> {
     let mut script = String::new(alloc);
@@ -118,6 +142,7 @@ fn serves_one_lane_while_another_is_held(rt: HostRuntime) {
     let gate = HoldLane::new(0, 3, 1);
     let history = served(&rt, rt.alloc(), TWO_KINDS, &gate);
     assert_eq!(&rt; history.len(), 30);
+    assert!(&rt; answers_and_effects(&history) == (2, 2));
     assert_eq!(&rt; gate.gave_up.load(Ordering::SeqCst), 0);
 }
 
@@ -125,7 +150,8 @@ fn serves_one_lane_while_another_is_held(rt: HostRuntime) {
 fn a_mount_holds_up_no_mknod(rt: HostRuntime) -> Result<(), Fail> {
     let gate = HoldLane::new(1, 0, 50);
     let script = mount_and_nodes(rt.alloc(), 50)?;
-    let _ = served(&rt, rt.alloc(), script.as_str(), &gate);
+    let history = served(&rt, rt.alloc(), script.as_str(), &gate);
+    assert!(rt; answers_and_effects(&history).0 == 51);
     assert_eq!(rt; gate.sent.load(Ordering::SeqCst), 50);
     assert_eq!(rt; gate.gave_up.load(Ordering::SeqCst), 0);
     Ok(())
