@@ -8,6 +8,7 @@ pub mod Opened
 pub mod Past
 pub mod ReceivedCalls
 pub mod Recorded
+pub mod Room
 pub mod SessionEvents
 pub mod SessionFound
 pub mod SessionReads

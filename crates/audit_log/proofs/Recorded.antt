@@ -17,7 +17,7 @@ use Rattle.hist_model.specs.declared.event.Event.{Event}
 use Rattle.hist_model.specs.declared.event.What.{What}
 use Rattle.hist_model.specs.declared.event.What.TheVariants.{Enter}
 use Rattle.hist_model.proofs.Look.{name_eq-true, name_eq-refl}
-use Rattle.audit_log.specs.Tasks.{Knows, call_of, facts_in, task_facts, task_after}
+use Rattle.audit_log.specs.Tasks.{Knows, call_of, facts_in, facts_of, task_facts, task_after}
 use Rattle.audit_log.specs.Records.{Tells, advanced, first_record, no_record, record_after, record_of, recorded, recorded_by, recorded_line}
 use Rattle.audit_log.specs.declared.records.CallRecord.{CallRecord}
 use Rattle.audit_log.specs.declared.tasks.Tasks.{Tasks}
@@ -95,7 +95,7 @@ no_number n c [] l = refl
 no_number n c (e ∷ K) l = rw (not_yet n c K (omega arith), and_false (is_task e.who n), no_number n c K (omega arith)) refl
 
 -- the record of the newest event
-here : (e : Event) (K : List Event) → first_record e (task_facts K) ≡ record_of (e ∷ K) K e
+here : (e : Event) (K : List Event) → first_record e.what (facts_of e.who (task_facts K)) ≡ record_of (e ∷ K) K e
 unfolding outcome installed
 here e K =
     let n = task_name e.who in
@@ -117,12 +117,12 @@ earlier later K f e =
     let own = in_call e.who (task_name f.who) (length K) H (λ q. task_of f.who (task_name e.who) (newest_own (task_name e.who) later K f q)) in
     rw (ne_eqb (length H) (length K) n, own) (stepped (is_place (call_of e.who (task_facts H)) (length K)) (record_of H K f) e.what)
 
-pub tells_more : (K : List Event) (e : Event) (records : List CallRecord) → length records ≡ length K → Tells K records → Tells (e ∷ K) (recorded e (task_facts K) records)
+pub tells_more : (K : List Event) (e : Event) (records : List CallRecord) → length records ≡ length K → Tells K records → Tells (e ∷ K) (recorded e.what (facts_of e.who (task_facts K)) records)
 tells_more K e records l t [] M f h =
     let p : f ≡ e = cc in
     let q : M ≡ K = cc in
     rw (p, q)
-    (get_or_at (advanced (call_of e.who (task_facts K)) e.what records) (first_record e (task_facts K)) [] no_record (length K) (length-advanced (call_of e.who (task_facts K)) e.what records ∙ l) ∙ here e K)
+    (get_or_at (advanced (call_of e.who (task_facts K)) e.what records) (first_record e.what (facts_of e.who (task_facts K))) [] no_record (length K) (length-advanced (call_of e.who (task_facts K)) e.what records ∙ l) ∙ here e K)
 tells_more K e records l t (x ∷ later) M f h =
     let q : K ≡ later ++ f ∷ M = cc in
     let o = call_of e.who (task_facts K) in
@@ -130,7 +130,7 @@ tells_more K e records l t (x ∷ later) M f h =
     let n : length K ≡ length (later ++ f ∷ M) = ap length q in
     let b : length M < length records = omega arith in
     let a : length M < length (advanced o e.what records) = omega (arith, length-advanced o e.what records) in
-    get_or_append_left (advanced o e.what records) (first_record e (task_facts K) ∷ []) no_record (length M) a
+    get_or_append_left (advanced o e.what records) (first_record e.what (facts_of e.who (task_facts K)) ∷ []) no_record (length M) a
     ∙ advanced_at o e.what records (length M) b
     ∙ ap (with_step (is_place o (length M)) e.what) (t later M f q)
     ∙ subst (λ H. with_step (is_place (call_of e.who (task_facts H)) (length M)) e.what (record_of H M f) ≡ record_of (e ∷ H) M f) (sym q) (earlier later M f e)
@@ -157,13 +157,13 @@ none_told records H q (x ∷ later) K e h = let n : [] ≡ x ∷ (later ++ e ∷
 
 -- with one more event, which has this place
 pub pass_more : (K : List Event) (e : Event) (place : ℕ) (old new : Tasks) (before after : List CallRecord) → length K ≡ place → length before ≡ place
-    → Tells K before → Knows K old → after ≡ recorded e (facts_in old) before → ((n : Name) → facts_in new n ≡ task_after place e n (facts_in old n))
+    → Tells K before → Knows K old → after ≡ recorded e.what (facts_of e.who (facts_in old)) before → ((n : Name) → facts_in new n ≡ task_after place e n (facts_in old n))
     → (length after ≡ place + 1) × Tells (e ∷ K) after × Knows (e ∷ K) new
 pass_more K e place old new before after l m t k q h =
     let f : facts_in old ≡ task_facts K = λ i. λ n. k n i in
-    let r : after ≡ recorded e (task_facts K) before = q ∙ ap (λ facts. recorded e facts before) f in
+    let r : after ≡ recorded e.what (facts_of e.who (task_facts K)) before = q ∙ ap (λ facts. recorded e.what (facts_of e.who facts) before) f in
     let o = call_of e.who (task_facts K) in
-    let first = first_record e (task_facts K) in
+    let first = first_record e.what (facts_of e.who (task_facts K)) in
     let a : length (advanced o e.what before ++ first ∷ []) ≡ length (advanced o e.what before) + length (first ∷ []) = length-append (advanced o e.what before) (first ∷ []) in
     let b = length-advanced o e.what before in
     let c : length after ≡ length (advanced o e.what before ++ first ∷ []) = ap length r in (

@@ -18,11 +18,12 @@ use Rattle.hist_model.specs.declared.event.What.TheVariants.{Recv}
 use Rattle.hist_model.specs.declared.policy.Rule.{Rule}
 use Rattle.sys_abi.specs.declared.memory.NoMemory.{NoMemory}
 use Rattle.sys_abi.specs.declared.wire.Notif.{Notif}
-use Rattle.arg_capture.specs.Captures.{Follows}
+use Rattle.arg_capture.specs.Captures.{Captured, Follows}
 use Rattle.audit_log.specs.Begun.{Begun, IsRead, told, with_step}
 use Rattle.audit_log.specs.SessionStages.{no_stages}
 use Rattle.audit_log.specs.Sessions.{after_event, begun, started, with_event}
 use Rattle.audit_log.specs.SessionTable.{AllShut, IsRowStepped, IsStepped, StandsFor, current, no_row, no_session, nobody, session_in}
+use Rattle.audit_log.specs.declared.session.Session.{Session}
 use Rattle.audit_log.specs.declared.session_table.Current.{Current}
 use Rattle.audit_log.specs.declared.session_table.SessionTable.{SessionTable}
 use Rattle.audit_log.proofs.SessionEvents.{begun_none, nothing_received, own_step, other_stays, over_stays, receive_ends, stays_open, was_received}
@@ -223,6 +224,15 @@ any_default : {A : Type 0} (xs : List A) (i : ℕ) (d e : A) → i < length xs �
 any_default [] i d e l = absurd (omega arith)
 any_default (x ∷ xs) zero d e l = refl
 any_default (x ∷ xs) (suc i) d e l = any_default xs i d e (omega arith)
+
+-- one more step of the session in a row, where there was memory for it
+pub row_ok : (r : Result (Unit {0}) NoMemory) (rules : List Rule) (rows : List Session) (i place : ℕ) (a : What) (c after : Captured) (old new d : Session) → old ≡ get_or rows i d
+    → OnOk r ((s : Begun) → old ≡ told (judging_by rules) s → IsRead s c → (new ≡ told (judging_by rules) (with_step place a s)) × IsRead (with_step place a s) after)
+    → OnOk r (IsRowStepped rules place a c after rows (set rows i new) (Some i))
+row_ok (Err e) rules rows i place a c after old new d is g = tt
+row_ok (Ok v) rules rows i place a c after old new d is g = λ l s p q.
+    let st = g s (is ∙ any_default rows i d no_row l ∙ p) q in
+    (ap (set rows i) st.0, st.1)
 
 -- the table with one more step of a worker, where there was memory for it
 pub advanced_ok : (r : Result (Unit {0}) NoMemory) (rules : List Rule) (S : List Begun) (t u : SessionTable) (place w number : ℕ) (a : What) (old x d : Current)

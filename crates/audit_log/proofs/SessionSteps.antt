@@ -14,7 +14,7 @@ use Rattle.hist_model.specs.declared.report.Finding.{Finding}
 use Rattle.hist_model.specs.declared.report.Finding.TheVariants.{Open}
 use Rattle.sys_abi.specs.declared.wire.Notif.{Notif}
 use Rattle.arg_capture.specs.Captures.{Captured, Follows}
-use Rattle.audit_log.specs.Begun.{Begun, IsRead, found_so_far, told, with_parts, with_step}
+use Rattle.audit_log.specs.Begun.{Begun, IsRead, found_so_far, told, with_step}
 use Rattle.audit_log.specs.SessionFacts.{facts_of, facts_with}
 use Rattle.audit_log.specs.SessionStages.{is_done, place_if, stages_joined, with_stage}
 use Rattle.audit_log.specs.declared.session_facts.Facts.{Facts}
@@ -78,10 +78,10 @@ back-cons own a h = ap sent_back (sym (open_joined own a h))
 
 -- of a session that is over
 pub after_shut : (rules : List Rule) (s : Begun) (x : Session) (place : ℕ) (a : What) (c : Captured) → x ≡ told (judging_by rules) s → x.facts.shut ≡ true → IsRead s c
-    → (with_parts x x.facts x.back x.found x.stages ≡ told (judging_by rules) (with_step place a s)) × IsRead (with_step place a s) c
+    → (x ≡ told (judging_by rules) (with_step place a s)) × IsRead (with_step place a s) c
 after_shut rules s x place a c p over r =
     let shut : is_shut s.steps ≡ true = sym (ap (λ (r : Session). r.facts.shut) p) ∙ over in
-    rw (shut_joined s.steps a shut, stages-shut place s.steps a s.stages shut) (ap (λ (r : Session). with_parts r r.facts r.back r.found r.stages) p, r)
+    rw (shut_joined s.steps a shut, stages-shut place s.steps a s.stages shut) (p, r)
 
 module _ (rules : List Rule) (s : Begun) (x : Session) (place : ℕ) (a : What) (f : Facts) (back : Option Back) (t : Stages) (p : x ≡ told (judging_by rules) s) (stays : x.facts.shut ≡ false)
     (fe : f ≡ facts_with x.facts a) (be : back ≡ or_back (back_in a) x.back) (ve : t.valid ≡ or_else x.stages.valid (place_if f.checked_twice place))

@@ -1,15 +1,13 @@
 -- A session with its own steps, and what is kept of it.
-use Rattle.std.specs.Prelude.{◌≡◌, ℕ, false, if◌then◌else◌, List, [], Option}
+use Rattle.std.specs.Prelude.{◌≡◌, ℕ, false, if◌then◌else◌, List, []}
 use Rattle.hist_model.specs.Copies.{heard, plan}
 use Rattle.hist_model.specs.ReportAudit.{Judging, checked_twice, finding_of, joined, reads, sent_back}
-use Rattle.hist_model.specs.declared.event.Back.{Back}
 use Rattle.hist_model.specs.declared.event.What.{What}
 use Rattle.hist_model.specs.declared.report.Finding.{Finding}
 use Rattle.hist_model.specs.declared.report.Finding.TheVariants.{Gone, Open, Spent, Granted, Denied, Passed, Injected}
 use Rattle.arg_capture.specs.Captures.{Captured, Follows}
 use Rattle.sys_abi.specs.declared.wire.Notif.{Notif}
 use Rattle.audit_log.specs.SessionFacts.{facts_of}
-use Rattle.audit_log.specs.declared.session_facts.Facts.{Facts}
 use Rattle.audit_log.specs.SessionStages.{stages_joined}
 use Rattle.audit_log.specs.declared.session.Session.{Session}
 use Rattle.audit_log.specs.declared.session_stages.Stages.{Stages}
@@ -47,10 +45,6 @@ finding_in x = if x.facts.gone then Gone else (if x.facts.spent then spent x.fou
 -- what is kept of a session with these steps
 abbrev pub told : Judging → Begun → Session
 told J s = record { place = s.place; worker = s.worker; notif = s.notif; facts = facts_of s.steps; back = sent_back s.steps; found = found_so_far J s.notif s.steps; stages = s.stages }
-
--- with these in the place of what its steps tell
-abbrev pub with_parts : Session → Facts → Option Back → Finding → Stages → Session
-with_parts x f back found stages = record { place = x.place; worker = x.worker; notif = x.notif; facts = f; back = back; found = found; stages = stages }
 
 -- up to its second good check, a capture follows what it reads
 abbrev pub IsRead : Begun → Captured → Type 0

@@ -9,16 +9,15 @@ use Rattle.hist_model.specs.declared.event.Event.{Event}
 use Rattle.hist_model.specs.declared.event.What.{What}
 use Rattle.hist_model.specs.declared.event.What.TheVariants.{Enter}
 use Rattle.hist_model.specs.declared.report.Outcome.TheVariants.{Open}
-use Rattle.audit_log.specs.Tasks.{call_of}
 use Rattle.audit_log.specs.declared.records.CallRecord.{CallRecord}
 use Rattle.audit_log.specs.declared.tasks.TaskFacts.{TaskFacts}
 
 abbrev pub no_record : CallRecord
-no_record = record { pid = 0; outcome = Open; number = None }
+no_record = record { pid = None; outcome = Open; number = None }
 
 -- in the history H, of the event that comes after K
 abbrev pub record_of : List Event → List Event → Event → CallRecord
-record_of H K e = record { pid = or_zero (first_pid (task_name e.who) K); outcome = outcome (task_name e.who) (length K) H; number = installed (task_name e.who) (length K) H }
+record_of H K e = record { pid = first_pid (task_name e.who) K; outcome = outcome (task_name e.who) (length K) H; number = installed (task_name e.who) (length K) H }
 
 -- the records tell of each event of the history, by its place
 abbrev pub Tells : List Event → List CallRecord → Type 0
@@ -38,17 +37,17 @@ abbrev pub advanced : Option ℕ → What → List CallRecord → List CallRecor
 advanced None a records = records
 advanced (Some c) a records = set records c (record_after a (get_or records c no_record))
 
--- of an event as it happens, by what is kept of the tasks
-abbrev pub first_record : Event → (List ℕ → TaskFacts) → CallRecord
-first_record e facts = record { pid = or_zero (facts (task_name e.who)).pid; outcome = outcome_at_entry e.what; number = None }
+-- of a step as it happens, by what is kept of its actor
+abbrev pub first_record : What → TaskFacts → CallRecord
+first_record a facts = record { pid = facts.pid; outcome = outcome_at_entry a; number = None }
 
--- with one more event
-abbrev pub recorded : Event → (List ℕ → TaskFacts) → List CallRecord → List CallRecord
-recorded e facts records = advanced (call_of e.who facts) e.what records ++ first_record e facts ∷ []
+-- with one more step, by what is kept of its actor
+abbrev pub recorded : What → TaskFacts → List CallRecord → List CallRecord
+recorded a facts records = advanced facts.newest a records ++ first_record a facts ∷ []
 
 -- the line of an event that enters a call, by its record
 abbrev pub recorded_by : CallRecord → ℕ → Actor → What → List ℕ
-recorded_by r place who (Enter nr args verdict) = call_line_of place who r.pid nr r.outcome
+recorded_by r place who (Enter nr args verdict) = call_line_of place who (or_zero r.pid) nr r.outcome
 recorded_by r place who _ = []
 
 abbrev pub recorded_line : List CallRecord → List Event → Event → List ℕ

@@ -1,7 +1,7 @@
 -- What is kept of each task while the events are gone through: the first process number that it was given, and its newest call.
 use Rattle.std.specs.Prelude.{◌≡◌, ℕ, ◌&&◌, if◌then◌else◌, List, Option, Some, None}
 use Rattle.std.specs.HashMap.{get_by}
-use Rattle.hist_model.specs.Look.{Name, is_task, name_eq, or_else}
+use Rattle.hist_model.specs.Look.{Name, is_task, name_eq, or_else, task_name}
 use Rattle.hist_model.specs.Kinds.{enters}
 use Rattle.hist_model.specs.ReportCalls.{newest_call, first_pid, pid_given}
 use Rattle.hist_model.specs.declared.event.Actor.{Actor}
@@ -42,3 +42,7 @@ Knows K t = (n : Name) → facts_in t n ≡ task_facts K n
 abbrev pub call_of : Actor → (Name → TaskFacts) → Option ℕ
 call_of (Task n) facts = (facts n).newest
 call_of who facts = None
+
+-- what is kept of the task that an actor is; of another actor what is kept under its name, which has no number, and no newest call
+abbrev pub facts_of : Actor → (Name → TaskFacts) → TaskFacts
+facts_of who facts = record { pid = (facts (task_name who)).pid; newest = call_of who facts }

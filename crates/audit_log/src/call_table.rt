@@ -33,16 +33,17 @@ impl CallTable {
         let mut tasks = Tasks::new(alloc);
         let mut ids = Ids::new(alloc);
         let mut requests = Requests::new(alloc);
-        let mut records = Vec::new(alloc);
-        let mut received = Vec::new(alloc);
-        let mut answered = Vec::new(alloc);
+        let mut records = Vec::with_capacity(alloc, events.len())?;
+        let mut received = Vec::with_capacity(alloc, events.len())?;
+        let mut answered = Vec::with_capacity(alloc, events.len())?;
         for place in 0..events.len() {
             let event = &events[place];
-            let call = pending_call(records.as_slice(), tasks.call_of(&event.who));
+            let facts = tasks.of_actor(&event.who);
+            let call = pending_call(records.as_slice(), facts.newest);
             answered.push(answered_call(&requests, call, &event.what))?;
             received.push(ids.received(&event.what))?;
             requests.note(call, &ids, &event.what)?;
-            record(&mut records, &tasks, event)?;
+            record(&mut records, facts, &event.what)?;
             tasks.note(place, event)?;
             ids.note(place, &event.what)?;
         }

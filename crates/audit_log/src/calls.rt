@@ -49,7 +49,8 @@ impl Part for Calls<'_> {
         match &event.what {
             What::Enter { nr, .. } => {
                 let record = record_at(self.records, place);
-                push_call_line(line, place, &event.who, record.pid, *nr, record.outcome)
+                let pid = record.pid.unwrap_or(0);
+                push_call_line(line, place, &event.who, pid, *nr, record.outcome)
             }
             _ => Ok(()),
         }

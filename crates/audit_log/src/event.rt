@@ -1,6 +1,6 @@
 //! What happened in an event, in words.
 
-ghost use Rattle.std.specs.Prelude.{◌≡◌, ◌++◌, OnOk, codes, decimal, take, length, ◌≤◌};
+ghost use Rattle.std.specs.Prelude.{◌≡◌, ◌++◌, ◌==◌, ◌%◌, OnOk, codes, decimal, take, length, ◌≤◌};
 ghost use Rattle.hist_model.specs.ReportWords.{number_text, result_text, trimmed};
 ghost use Rattle.hist_model.specs.ReportJournal.{request_text, spawn_kind_text, spawned_text, mode_text, entered_text, args_text, delivered_text, reaped_text, received_text, read_text, asked_text, what_text};
 
@@ -15,7 +15,7 @@ use hist_model::request::Request;
 use hist_model::text::{TaskName, Text};
 use sys_abi::errno::Errno;
 use sys_abi::memory::NoMemory;
-use sys_abi::wire::{Addfd, Notif};
+use sys_abi::wire::{Addfd, Notif, SECCOMP_ADDFD_FLAG_SETFD};
 
 /// Adds what happened, in words.
 pub(crate) fn push_what(line: &mut Line, what: &What) -> Result<(), NoMemory>
@@ -330,6 +330,13 @@ fn push_put(line: &mut Line, asked: &Addfd, answer: &Result<(), Errno>) -> Resul
     push_result(line, answer)
 }
 
+/// Whether a request names the number that the descriptor gets in the task.
+fn names_number(asked: &Addfd) -> bool
+    ensures { result ≡ (asked.now.flags % 2 == 1) }
+{
+    asked.flags & SECCOMP_ADDFD_FLAG_SETFD == SECCOMP_ADDFD_FLAG_SETFD
+}
+
 /// Adds what is asked when a descriptor is put into a task.
 fn push_asked(line: &mut Line, asked: &Addfd) -> Result<(), NoMemory>
     ensures { OnOk result (line.new ≡ line.old ++ asked_text asked.now) }
@@ -338,7 +345,7 @@ fn push_asked(line: &mut Line, asked: &Addfd) -> Result<(), NoMemory>
     line.push(" src=")?;
     line.push_number(u64::from(asked.srcfd))?;
     line.push(" at=")?;
-    if asked.flags % 2 == 1 {
+    if names_number(asked) {
         line.push_number(u64::from(asked.newfd))
     } else {
         line.push("-")

@@ -1,27 +1,94 @@
 //! A line of a report, as it is put together.
 
-ghost use Rattle.std.specs.Prelude.{◌≡◌, ◌++◌, [], OnOk, decimal};
+ghost use Rattle.std.specs.Prelude.{◌≡◌, ℕ, ◌+◌, ◌≤◌, ◌++◌, [], OnOk, decimal, length, take};
 ghost use Rattle.std.specs.Fmt.{signed_decimal};
 ghost use Rattle.hist_model.specs.ReportWords.{hex, quoted};
 
-use itoa::Buffer;
-use plain_words::{push_hex, push_quoted};
+use itoa::{Buffer, write_digits};
+use plain_words::{hex_byte, push_quoted};
 use std::alloc::Global;
 use std::marker::Model;
 use sys_abi::memory::NoMemory;
 
+/// How many digits a number may have.
+const DIGITS: usize = 20;
+
+/// How much room is made beyond what is wanted.
+const SPARE: usize = 64;
+
 /// The bytes of a line so far. After want of memory they say nothing.
+///
+/// Most pieces are a few bytes, whose number the compiler knows where they are added. So they are stored into room that is there
+/// already, without a call.
 #[derive(Drop)]
 pub struct Line {
-    bytes: Vec<u8>,
+    /// The bytes of the line, and room for more behind them.
+    room: Vec<u8>,
+    /// How many of them are the line's.
+    len: usize,
 }
 
 impl Model for Line {
-    ghost use Rattle.std.specs.Prelude.{List, ℕ};
+    ghost use Rattle.std.specs.Prelude.{List, ℕ, ◌≤◌, length, take};
 
     ghost Value = { List ℕ };
 
-    ghost view = { λ l. l.bytes.items };
+    ghost view = { λ l. take l.len l.room.items };
+
+    ghost invariant = { λ l. l.len ≤ length l.room.items };
+}
+
+/// Makes a room longer, by these bytes at least; what stands there stays.
+#[cold]
+#[inline(never)]
+#[tactic(auto, using(crate::proofs::Room::kept_front))]
+fn lengthen(room: &mut Vec<u8>, bytes: &[u8]) -> Result<(), NoMemory>
+    ensures kept { (n : ℕ) → n ≤ length room.old.items → take n room.new.items ≡ take n room.old.items }
+    ensures longer { length room.old.items ≤ length room.new.items }
+    ensures long { OnOk result (length room.old.items + length bytes.now ≤ length room.new.items) }
+{
+    room.extend_from_slice(bytes)?;
+    room.extend_from_slice(&[0; SPARE])?;
+    Ok(())
+}
+
+/// Makes room for these bytes behind the first `len` bytes of a room, which stay.
+#[inline(always)]
+fn make_room(room: &mut Vec<u8>, len: usize, bytes: &[u8]) -> Result<(), NoMemory>
+    requires { len ≤ length room.old.items }
+    ensures kept { take len room.new.items ≡ take len room.old.items }
+    ensures within { len ≤ length room.new.items }
+    ensures fits { OnOk result (len + length bytes.now ≤ length room.new.items) }
+{
+    if bytes.len() <= room.len() - len {
+        return Ok(());
+    }
+    lengthen(room, bytes)
+}
+
+/// Stores bytes at a place in a room, and returns where they end.
+#[inline(always)]
+fn place(room: &mut [u8], at: usize, bytes: &[u8]) -> usize
+    requires { at + length bytes.now ≤ length room.old }
+    ensures moved { result ≡ at + length bytes.now }
+    ensures len { length room.new ≡ length room.old }
+    ensures front { take result room.new ≡ take at room.old ++ bytes.now }
+{
+    let end = at + bytes.len();
+    room[at..end].copy_from_slice(bytes);
+    end
+}
+
+/// The same, but it returns where the first `count` of them end.
+#[inline(always)]
+fn place_first(room: &mut [u8], at: usize, bytes: &[u8], count: usize) -> usize
+    requires fits { at + length bytes.now ≤ length room.old }
+    requires few { count ≤ length bytes.now }
+    ensures within { result ≤ length room.new }
+    ensures front { take result room.new ≡ take at room.old ++ take count bytes.now }
+{
+    place(room, at, bytes);
+    at + count
 }
 
 impl Line {
@@ -30,7 +97,8 @@ impl Line {
         ensures { result ≡ [] }
     {
         Line {
-            bytes: Vec::new(alloc),
+            room: Vec::new(alloc),
+            len: 0,
         }
     }
 
@@ -38,25 +106,37 @@ impl Line {
     pub fn bytes(&self) -> &[u8]
         ensures { result.now ≡ self.now }
     {
-        self.bytes.as_slice()
+        &self.room[..self.len]
     }
 
     /// Makes it empty, and keeps its room.
     pub fn clear(&mut self)
         ensures { self.new ≡ [] }
     {
-        self.bytes.clear();
+        self.len = 0;
     }
 
-    /// Adds bytes as they are.
-    pub fn push_bytes(&mut self, bytes: &[u8]) -> Result<(), NoMemory>
-        ensures { OnOk result (self.new ≡ self.old ++ bytes.now) }
+    /// Adds the first of some bytes, as many as are told.
+    #[inline(always)]
+    fn push_first(&mut self, bytes: &[u8], count: usize) -> Result<(), NoMemory>
+        requires { count ≤ length bytes.now }
+        ensures { OnOk result (self.new ≡ self.old ++ take count bytes.now) }
     {
-        self.bytes.extend_from_slice(bytes)?;
+        make_room(&mut self.room, self.len, bytes)?;
+        self.len = place_first(self.room.as_mut_slice(), self.len, bytes, count);
         Ok(())
     }
 
+    /// Adds bytes as they are.
+    #[inline(always)]
+    pub fn push_bytes(&mut self, bytes: &[u8]) -> Result<(), NoMemory>
+        ensures { OnOk result (self.new ≡ self.old ++ bytes.now) }
+    {
+        self.push_first(bytes, bytes.len())
+    }
+
     /// Adds a text.
+    #[inline(always)]
     pub fn push(&mut self, text: &str) -> Result<(), NoMemory>
         ensures { OnOk result (self.new ≡ self.old ++ text.now) }
     {
@@ -67,22 +147,32 @@ impl Line {
     pub(crate) fn push_hex(&mut self, bytes: &[u8]) -> Result<(), NoMemory>
         ensures { OnOk result (self.new ≡ self.old ++ hex bytes.now) }
     {
-        push_hex(&mut self.bytes, bytes)
+        for byte in bytes {
+            self.push_bytes(&hex_byte(*byte))?;
+        }
+        Ok(())
     }
 
     /// Adds a text between quotes.
     pub(crate) fn push_quoted(&mut self, text: &[u8]) -> Result<(), NoMemory>
         ensures { OnOk result (self.new ≡ self.old ++ quoted text.now) }
     {
-        push_quoted(&mut self.bytes, text)
+        let len = self.len;
+        self.len = 0;
+        self.room.truncate(len);
+        push_quoted(&mut self.room, text)?;
+        self.len = self.room.len();
+        Ok(())
     }
 
-    /// Adds a number.
+    /// Adds a number. As many bytes are stored as it may have digits, and those that it has count.
+    #[tactic(auto, using(crate::proofs::Room::window_shows))]
     pub fn push_number(&mut self, n: u64) -> Result<(), NoMemory>
         ensures { OnOk result (self.new ≡ self.old ++ decimal n) }
     {
-        let mut buffer = Buffer::new();
-        self.push(buffer.format(n))
+        let mut digits = [b'0'; 2 * DIGITS];
+        let start = write_digits(n, &mut digits, DIGITS);
+        self.push_first(&digits[start..start + DIGITS], DIGITS - start)
     }
 
     /// Adds a number that may be negative.

@@ -7,12 +7,15 @@ use hist_model::event::{Back, Delivered, Entered, What};
 use hist_model::report::Outcome;
 use sys_abi::errno::Errno;
 
+/// The greatest number of an error.
+const MAX_ERRNO: u16 = 4095;
+
 /// What the filters alone make of a call.
 fn outcome_of_verdict(verdict: Entered) -> Outcome
     ensures { result ≡ outcome_of_verdict verdict }
 {
     match verdict {
-        Entered::Fails(number) => match Errno::of(number.min(4095)) {
+        Entered::Fails(number) => match Errno::of(number.min(MAX_ERRNO)) {
             Some(error) => Outcome::Failed(error),
             None => Outcome::Returned(0),
         },

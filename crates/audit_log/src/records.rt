@@ -3,20 +3,19 @@
 ghost use Rattle.std.specs.Prelude.{◌≡◌, OnOk, get_or};
 ghost use Rattle.hist_model.specs.declared.report.Outcome.{Outcome};
 ghost use Rattle.audit_log.specs.Records.{advanced, no_record, record_after, recorded};
-ghost use Rattle.audit_log.specs.Tasks.{facts_in};
 
 use crate::outcome::{is_pending, outcome_at_entry, outcome_next};
 use crate::step::number_given;
-use crate::tasks::Tasks;
-use hist_model::event::{Event, What};
+use crate::tasks::TaskFacts;
+use hist_model::event::What;
 use hist_model::report::Outcome;
 use sys_abi::memory::NoMemory;
 
 /// What is kept of an event, as if it entered a call.
 #[derive(Clone, Copy, PartialEq, Eq, Debug)]
 pub(crate) struct CallRecord {
-    /// The process number that its task was given first, before it; 0 if there is none.
-    pub(crate) pid: u32,
+    /// The process number that its task was given first, before it.
+    pub(crate) pid: Option<u32>,
     /// The outcome of the call.
     pub(crate) outcome: Outcome,
     /// The number of the descriptor that was installed for it.
@@ -26,7 +25,7 @@ pub(crate) struct CallRecord {
 impl CallRecord {
     /// The record where there is no event.
     pub(crate) const NONE: CallRecord = CallRecord {
-        pid: 0,
+        pid: None,
         outcome: Outcome::Open,
         number: None,
     };
@@ -66,19 +65,18 @@ pub(crate) fn record_at(records: &[CallRecord], place: usize) -> CallRecord
     }
 }
 
-/// Adds the record of one more event.
+/// Adds the record of one more step, by what is kept of its actor.
 pub(crate) fn record(
     records: &mut Vec<CallRecord>,
-    tasks: &Tasks,
-    event: &Event,
+    facts: TaskFacts,
+    what: &What,
 ) -> Result<(), NoMemory>
-    ensures { OnOk result (records.new.items ≡ recorded event.now (facts_in tasks.now) records.old.items) }
+    ensures { OnOk result (records.new.items ≡ recorded what.now facts records.old.items) }
 {
-    let facts = tasks.of_actor(&event.who);
-    let outcome: Outcome = outcome_at_entry(&event.what);
-    advance(records, facts.newest, &event.what);
+    let outcome: Outcome = outcome_at_entry(what);
+    advance(records, facts.newest, what);
     records.push(CallRecord {
-        pid: facts.pid.unwrap_or(0),
+        pid: facts.pid,
         outcome,
         number: None,
     })?;

@@ -1,11 +1,11 @@
 //! What is kept of a session.
 
-ghost use Rattle.std.specs.Prelude.{◌≡◌, [], false, List, ℕ, Result, IfOk, if◌then◌else◌};
+ghost use Rattle.std.specs.Prelude.{◌≡◌, [], false, List, ℕ, Result, OnOk, if◌then◌else◌};
 ghost use Rattle.hist_model.specs.Copies.{plan, progress};
 ghost use Rattle.hist_model.specs.ReportAudit.{finding_of, finding_of_verdict, judged_by, judging_by};
 ghost use Rattle.hist_model.specs.declared.report.Finding.TheVariants.{Open};
 ghost use Rattle.arg_capture.specs.Captures.{Follows};
-ghost use Rattle.audit_log.specs.Begun.{Begun, IsRead, finding_in, spent, told, with_parts, with_step};
+ghost use Rattle.audit_log.specs.Begun.{Begun, IsRead, finding_in, spent, told, with_step};
 
 use crate::session_facts::{Facts, back_after};
 use crate::session_judgement::{hear, judged};
@@ -85,29 +85,33 @@ fn found_where(due: bool, policy: &Policy, notif: &Notif, capture: &mut Capture)
 }
 
 impl Session {
-    /// What its steps tell, what was sent last, what the policy makes of it, and where its steps stand, with one more step of
-    /// its worker, which has this place, and which the capture of its reads takes too.
-    pub fn after(
-        &self,
+    /// One more step of its worker, which has this place, and which the capture of its reads takes too.
+    pub(crate) fn step(
+        &mut self,
         policy: &Policy,
         place: usize,
         capture: &mut Capture,
         what: &What,
-    ) -> Result<(Facts, Option<Back>, Finding, Stages), NoMemory>
-        ensures { IfOk result (λ after. (s : Begun) → self.now ≡ told (judging_by policy.now.rules) s → IsRead s capture.old → (with_parts self.now after.0 after.1 after.2 after.3 ≡ told (judging_by policy.now.rules) (with_step place what.now s)) × IsRead (with_step place what.now s) capture.new) }
+    ) -> Result<(), NoMemory>
+        ensures { OnOk result ((s : Begun) → self.old ≡ told (judging_by policy.now.rules) s → IsRead s capture.old → (self.new ≡ told (judging_by policy.now.rules) (with_step place what.now s)) × IsRead (with_step place what.now s) capture.new) }
     {
         if self.facts.shut {
-            return Ok((self.facts, self.back, self.found, self.stages));
+            return Ok(());
         }
+        let judged = self.facts.checked_twice;
         let facts = self.facts.with(what);
-        let back = back_after(self.back, what);
         let stages = self.stages.with(place, &facts, what);
-        if self.facts.checked_twice {
-            return Ok((facts, back, self.found, stages));
+        let back = back_after(self.back, what);
+        self.facts = facts;
+        self.stages = stages;
+        self.back = back;
+        if judged {
+            return Ok(());
         }
         hear(capture, what)?;
         let found = found_where(facts.checked_twice, policy, &self.notif, capture);
-        Ok((facts, back, found, stages))
+        self.found = found;
+        Ok(())
     }
 
     /// What the session came to.

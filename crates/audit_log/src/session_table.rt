@@ -74,20 +74,11 @@ fn advance_row(
 ) -> Result<(), NoMemory>
     ensures { OnOk result (IsRowStepped policy.now.rules place what.now capture.old capture.new rows.old.items rows.new.items (Some row)) }
 {
-    if row < rows.len() {
-        let before = rows[row];
-        let (facts, back, found, stages): (Facts, Option<Back>, Finding, Stages) = before.after(
-            policy, place, capture, what,
-        )?;
-        rows[row] = Session {
-            facts,
-            back,
-            found,
-            stages,
-            ..before
-        };
+    if row >= rows.len() {
+        return Ok(());
     }
-    Ok(())
+    let session = &mut rows[row];
+    session.step(policy, place, capture, what)
 }
 
 impl Current {

@@ -1,8 +1,8 @@
 //! What is kept of each task while the events are gone through.
 
 ghost use Rattle.std.specs.Prelude.{◌≡◌, ℕ, List, OnOk, Some, if◌then◌else◌};
-ghost use Rattle.hist_model.specs.Look.{is_task, name_eq, or_else, task_name};
-ghost use Rattle.audit_log.specs.Tasks.{call_of, facts_in, no_task, task_after};
+ghost use Rattle.hist_model.specs.Look.{is_task, name_eq, or_else};
+ghost use Rattle.audit_log.specs.Tasks.{facts_in, facts_of, no_task, task_after};
 
 use hist_model::event::{Actor, Event, What};
 use std::alloc::Global;
@@ -56,7 +56,7 @@ impl Tasks {
 
     /// Of the task that an actor is; of another actor without a newest call.
     pub(crate) fn of_actor(&self, who: &Actor) -> TaskFacts
-        ensures { result ≡ record { pid = (facts_in self.now (task_name who.now)).pid; newest = call_of who.now (facts_in self.now) } }
+        ensures { result ≡ facts_of who.now (facts_in self.now) }
     {
         match who {
             Actor::Task(name) => self.get(name.items()),
@@ -64,16 +64,6 @@ impl Tasks {
                 newest: None,
                 ..self.get(&[])
             },
-        }
-    }
-
-    /// The place of the newest call of an actor, where it is a task.
-    pub(crate) fn call_of(&self, who: &Actor) -> Option<usize>
-        ensures { result ≡ call_of who.now (facts_in self.now) }
-    {
-        match who {
-            Actor::Task(name) => self.get(name.items()).newest,
-            _ => None,
         }
     }
 

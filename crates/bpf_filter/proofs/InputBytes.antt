@@ -1,6 +1,6 @@
 -- The words of a call's data, and its bytes.
 -- By induction on the numbers, and by arithmetic on the bytes of each half.
-use Rattle.std.proofs.Common.{◌≡◌, ℕ, ◌%◌, ◌/◌, ◌^◌, List, [], ◌∷◌, ◌++◌, refl, arith}
+use Rattle.std.proofs.Common.{◌≡◌, ℕ, ◌%◌, ◌/◌, ◌^◌, List, [], ◌∷◌, refl, arith}
 use Rattle.std.specs.List.{flat_map}
 use Rattle.hist_model.specs.Filters.{words, halves}
 use Rattle.sys_abi.specs.Wire.{u32_bytes, u64_bytes, seccomp_data_bytes}

@@ -8,7 +8,7 @@ use Rattle.std.proofs.lemmas.Bool.{cases_Bool}
 use Rattle.std.specs.Prelude.{false, nat_lt}
 use Rattle.sys_abi.specs.declared.wire.SeccompData.{SeccompData}
 use Rattle.hist_model.specs.declared.script.FilterLine.{FilterLine}
-use Rattle.hist_model.specs.Filters.{combine, with_newer, chosen, answers, rank, run}
+use Rattle.hist_model.specs.Filters.{combine, with_newer, chosen, answers, rank, run, words}
 use Rattle.hist_model.proofs.Scans.{past_more}
 use Rattle.bpf_filter.specs.Choices.{newer_filter}
 
@@ -28,7 +28,7 @@ combine-none = refl
 pub combine_past : (values : List ℕ) (place : ℕ) → length values ≤ place → combine (drop place values) ≡ (0x7fff0000, 0)
 combine_past values place l = ap combine (drop_of_length-le values l) ∙ combine-none
 
-chosen-at : (f : FilterLine) (older : List FilterLine) (call : SeccompData) → chosen (f ∷ older) call ≡ newer_filter f call (chosen older call)
+chosen-at : (f : FilterLine) (older : List FilterLine) (call : SeccompData) → chosen (f ∷ older) call ≡ newer_filter f (words call) (chosen older call)
 chosen-at f older call =
     rw combine-at (
     elim (cases_Bool (nat_lt (rank (combine (answers older call)).0) (rank (run f.insns call)))) [
@@ -38,7 +38,7 @@ chosen-at f older call =
 
 -- one more filter
 pub chosen_more : (filters : List FilterLine) (i : ℕ) (f : FilterLine) (call : SeccompData) → i < length filters → f ≡ get_or filters i f
-    → chosen (reverse (take (i + 1) filters)) call ≡ newer_filter f call (chosen (reverse (take i filters)) call)
+    → chosen (reverse (take (i + 1) filters)) call ≡ newer_filter f (words call) (chosen (reverse (take i filters)) call)
 chosen_more filters i f call l e =
     ap (λ fs. chosen fs call) (past_more filters i f l)
     ∙ ap (λ g. chosen (g ∷ reverse (take i filters)) call) (sym e)

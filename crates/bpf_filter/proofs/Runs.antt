@@ -1,13 +1,12 @@
 -- Lemmas on the runs of instructions.
--- By induction on the instructions or on the numbers, with `drop_more` and `drop-drop`, and by the laws of powers.
+-- By induction on the instructions, with `drop_more` and `drop-drop`, and by the laws of powers.
 use Rattle.std.proofs.Common.{◌≡◌, ℕ, zero, suc, ◌+◌, ◌-◌, ◌*◌, ◌/◌, ◌%◌, ◌^◌, ◌<◌, ◌≤◌, List, [], ◌∷◌, length, get_or, drop, refl, ap, sym, ◌∙◌, arith}
-use Rattle.std.specs.Prelude.{slice_index_or}
 use Rattle.std.proofs.Math.Nat.{mul-mod_left, mul_assoc, div-eq_of_lt, pow-le-pow_right}
 use Rattle.std.proofs.Math.Seq.{drop-nil}
 use Rattle.std.proofs.Math.ListN.{drop_of_length-le}
 use Rattle.std.proofs.lemmas.Nat.{pow-add}
 use Rattle.std.proofs.lemmas.List.{drop_more, drop-drop}
-use Rattle.hist_model.specs.Filters.{run_from, after, halves, step}
+use Rattle.hist_model.specs.Filters.{run_from, after, step}
 use Rattle.hist_model.specs.declared.script.Insn.{Insn}
 use Rattle.hist_model.specs.declared.filter.Effect.TheVariants.{Answers, Goes}
 
@@ -22,22 +21,6 @@ pub wide_shift_right : (a k : ℕ) → 32 ≤ k → a < 2 ^ 32 → a / 2 ^ k ≡
 wide_shift_right a k h l =
     let p : 2 ^ 32 ≤ 2 ^ k = pow-le-pow_right (omega arith) h in
     div-eq_of_lt (omega arith)
-
-pub low_half : (ns : List ℕ) (i j : ℕ) → i ≡ 2 * j → slice_index_or (halves ns) i 0 ≡ slice_index_or ns j 0 % 2 ^ 32
-low_half [] i j e = refl
-low_half (n ∷ ns) zero zero e = refl
-low_half (n ∷ ns) zero (suc j) e = absurd (omega arith)
-low_half (n ∷ ns) (suc zero) j e = absurd (omega arith)
-low_half (n ∷ ns) (suc (suc i)) zero e = absurd (omega arith)
-low_half (n ∷ ns) (suc (suc i)) (suc j) e = low_half ns i j (omega arith)
-
-pub high_half : (ns : List ℕ) (i j : ℕ) → i ≡ 2 * j + 1 → slice_index_or (halves ns) i 0 ≡ slice_index_or ns j 0 / 2 ^ 32
-high_half [] i j e = refl
-high_half (n ∷ ns) zero j e = absurd (omega arith)
-high_half (n ∷ ns) (suc zero) zero e = refl
-high_half (n ∷ ns) (suc zero) (suc j) e = absurd (omega arith)
-high_half (n ∷ ns) (suc (suc i)) zero e = absurd (omega arith)
-high_half (n ∷ ns) (suc (suc i)) (suc j) e = high_half ns i j (omega arith)
 
 run-none : (input : List ℕ) (n a : ℕ) → run_from input [] n a ≡ 0
 unfolding run_from
@@ -55,15 +38,21 @@ unfolding run_from
 run-at input i insns a = refl
 
 -- the instruction at a place goes on behind those that it skips
-pub run_more : (input : List ℕ) (insns : List Insn) (place a n b : ℕ) (d : Insn) → place < length insns
+pub run_jumps : (input : List ℕ) (insns : List Insn) (place a n b : ℕ) (d : Insn) → place < length insns
     → step input (get_or insns place d) a ≡ Goes n b
-    → run_from input (drop place insns) 0 a ≡ run_from input (drop (place + (1 + n)) insns) 0 b
-run_more input insns place a n b d l e =
+    → run_from input (drop place insns) 0 a ≡ run_from input (drop (place + 1 + n) insns) 0 b
+run_jumps input insns place a n b d l e =
     ap (λ more. run_from input more 0 a) (drop_more insns place d l)
     ∙ run-at input (get_or insns place d) (drop (place + 1) insns) a
     ∙ ap (λ s. after s (run_from input (drop (place + 1) insns))) e
     ∙ run-skips input (drop (place + 1) insns) n b
     ∙ ap (λ more. run_from input more 0 b) (drop-drop n (place + 1) insns ∙ ap (λ m. drop m insns) (omega arith))
+
+-- the instruction at a place goes on with the next one
+pub run_next : (input : List ℕ) (insns : List Insn) (place a b : ℕ) (d : Insn) → place < length insns
+    → step input (get_or insns place d) a ≡ Goes 0 b
+    → run_from input (drop place insns) 0 a ≡ run_from input (drop (place + 1) insns) 0 b
+run_next input insns place a b d l e = run_jumps input insns place a 0 b d l e ∙ ap (λ m. run_from input (drop m insns) 0 b) (omega arith)
 
 -- the instruction at a place answers
 pub run_ends : (input : List ℕ) (insns : List Insn) (place a value : ℕ) (d : Insn) → place < length insns

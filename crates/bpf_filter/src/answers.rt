@@ -5,7 +5,7 @@ ghost use Rattle.hist_model.specs.Filters as definitions;
 ghost use Rattle.bpf_filter.specs.Choices.{newer_filter};
 ghost use Rattle.bpf_filter.specs.Precedence.{IsHighest};
 
-use crate::machine::run_insns;
+use crate::machine::{Words, run_insns, words};
 use crate::numbers::{ACTION, ALLOW, ARCH, DATA, ERRNO, LOG, TRACE, USER_NOTIF};
 use hist_model::event::Entered;
 use hist_model::script::FilterLine;
@@ -71,11 +71,11 @@ fn entered(value: u32, listener: bool) -> Entered
 /// The answer that counts, and whether its filter has the listener.
 type Choice = (u32, bool);
 
-/// The answer of a newer filter beside the one that counts among the older ones.
-fn newer_filter(filter: &FilterLine, call: &SeccompData, older: Choice) -> Choice
-    ensures { result ≡ newer_filter filter.now call.now older }
+/// The answer of a newer filter, to a call whose data are these words, beside the one that counts among the older filters.
+fn newer_filter(filter: &FilterLine, words: &Words, older: Choice) -> Choice
+    ensures { result ≡ newer_filter filter.now words.now older }
 {
-    let value = run_insns(filter.insns.items(), call);
+    let value = run_insns(filter.insns.items(), words);
     if counts_before(older.0, value) {
         older
     } else {
@@ -100,10 +100,10 @@ fn seccomp_data(nr: i32, args: &[u64; 6]) -> SeccompData
 pub fn verdict(filters: &[FilterLine], nr: i32, args: &[u64; 6]) -> Entered
     ensures { result ≡ definitions.verdict filters.now nr args.now }
 {
-    let call = seccomp_data(nr, args);
+    let words = words(&seccomp_data(nr, args));
     let mut chosen = (ALLOW, false);
     for filter in filters {
-        chosen = newer_filter(filter, &call, chosen);
+        chosen = newer_filter(filter, &words, chosen);
     }
     entered(chosen.0, chosen.1)
 }

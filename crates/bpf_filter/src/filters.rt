@@ -5,7 +5,7 @@ ghost use Rattle.hist_model.specs.Filters as definitions;
 ghost use Rattle.bpf_filter.specs.Accepted.{IsAccepted, IsFirstFault, has_return};
 
 use crate::checks::first_fault;
-use crate::machine::run_insns;
+use crate::machine::{run_insns, words};
 use crate::numbers::{ALLOW, ARCH, JUMP_EQUAL, KILL_PROCESS, LOAD, RETURN, USER_NOTIF};
 use hist_model::filter::BadFilter;
 use hist_model::script::Insn;
@@ -63,7 +63,7 @@ pub fn run(filter: &Filter, call: &SeccompData) -> u32
     ensures returned { has_return filter.now result ≡ true }
     ensures never_traps { (definitions.action result == 0x00030000) ≡ false }
 {
-    run_insns(&filter.insns, call)
+    run_insns(&filter.insns, &words(call))
 }
 
 fn insn(code: u16, k: u32, jt: u8) -> Insn

@@ -52,9 +52,9 @@ unfolding worker_step
 step_of_deed P S K w = refl
 
 -- what the kernel answers a deed
-record Answers (d : Deed) (what : What) : Type 0 where
-  fits : Fits (shown d) (answer_of what)
-  step : step_of d (answer_of what) ≡ what
+pub record Answers (d : Deed) (what : What) : Type 0 where
+  pub fits : Fits (shown d) (answer_of what)
+  pub step : step_of d (answer_of what) ≡ what
 
 module _ (S : Script) (K : List Event) (w : ℕ) where
   received : (o : Option ℕ) → Answers Deed.Recv (Recv (recv_answer K o))
@@ -109,7 +109,7 @@ module _ (S : Script) (K : List Event) (w : ℕ) where
   sent id back (Ok u) = record { fits = tt; step = refl }
   sent id back (Err e) = record { fits = tt; step = refl }
 
-  answers : (d : Deed) → IsSized d → Answers d (deed_step (system_of S) K w d)
+  pub answers : (d : Deed) → IsSized d → Answers d (deed_step (system_of S) K w d)
   answers Deed.Recv l = received-if (count K == 0)
   answers (Deed.OpenMem pid) l = opened pid _
   answers (Deed.OpenBase pid dirfd) l = based pid dirfd _
@@ -137,7 +137,7 @@ module _ (P : Policy) (S : Script) (K : List Event) (n : ℕ) where
   abbrev pub next_step : What
   next_step = deed_step (system_of S) K n next_deed
 
-  answered : Answers next_deed next_step
+  pub answered : Answers next_deed next_step
   answered = answers S K n next_deed (deed_sized P S.figures (session K n))
 
   -- the kernel's answer is one that the deed can have

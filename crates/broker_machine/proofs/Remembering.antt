@@ -16,7 +16,7 @@ use Rattle.hist_model.specs.declared.script.Figures.{Figures}
 use Rattle.broker_core.specs.Remembered.{Remembers}
 use Rattle.broker_core.specs.declared.worker.Worker.{Worker}
 use Rattle.broker_machine.proofs.Sessions.{session-other, session-skip}
-use Rattle.broker_machine.specs.Workers.{AllRemember}
+use Rattle.broker_machine.specs.Workers.{AllRemember, OthersRemember}
 
 module _ (P : Policy) (F : Figures) where
   -- an event of no worker leaves what all remember
@@ -28,7 +28,7 @@ module _ (P : Policy) (F : Figures) where
   all_skipped K e ws h a = λ w d l. (rw (session-skip e K w h) (a w d l).0, (a w d l).1)
 
   -- all remember where one does and the others do
-  all-set : (K : List Event) (v : ℕ) (ws : List Worker) (x : Worker) → ((w : ℕ) (d : Worker) → w < length ws → (w ≡ v → ⊥) → Remembers P (session K w) (get_or ws w d) × ((get_or ws w d).figures ≡ F))
+  pub all-set : (K : List Event) (v : ℕ) (ws : List Worker) (x : Worker) → ((w : ℕ) (d : Worker) → w < length ws → (w ≡ v → ⊥) → Remembers P (session K w) (get_or ws w d) × ((get_or ws w d).figures ≡ F))
       → Remembers P (session K v) x → x.figures ≡ F → AllRemember P F K (slice_set ws v x)
   all-set K v ws x others r f = λ w d l.
       let l' : w < length ws = rw length-set at l in
@@ -52,6 +52,10 @@ module _ (P : Policy) (F : Figures) where
   -- no event, and one worker that still remembers
   pub all_still : (K : List Event) (v : ℕ) (ws : List Worker) (x : Worker) → AllRemember P F K ws → Remembers P (session K v) x → x.figures ≡ F → AllRemember P F K (slice_set ws v x)
   all_still K v ws x a = all-set K v ws x (λ w d l h. a w d l)
+
+  -- the others remember whatever stands in a worker's place
+  pub others-set : (K : List Event) (v : ℕ) (ws : List Worker) (x : Worker) → AllRemember P F K ws → OthersRemember P F K v (slice_set ws v x)
+  others-set K v ws x a = λ w d l h. rw (get_or-set_other ws v w x d h) (a w d (rw length-set at l))
 
   -- one more worker without a session
   pub all_push : (ws : List Worker) (x : Worker) → AllRemember P F [] ws → Remembers P [] x → x.figures ≡ F → AllRemember P F [] (ws ++ x ∷ [])

@@ -21,8 +21,8 @@ use Rattle.broker_core.specs.Remembered.{Remembers}
 use Rattle.broker_core.specs.declared.worker.Worker.{Worker}
 use Rattle.model_kernel.specs.Kernels.{IsAfter, IsBegun, IsKernel, past}
 use Rattle.model_kernel.specs.Ready.{IsSame}
-use Rattle.broker_machine.proofs.Remembering.{all_after, all_other, all_skipped, all_still}
-use Rattle.broker_machine.specs.Serving.{IsAt, IsServed, Reaches, Tries, after_step, step_of}
+use Rattle.broker_machine.proofs.Remembering.{all-set, all_after, all_other, all_skipped, all_still, others-set}
+use Rattle.broker_machine.specs.Serving.{IsAt, IsServed, IsStopped, Reaches, Tries, after_step, step_of}
 use Rattle.broker_machine.specs.Workers.{AllRemember, TriesStep}
 use Rattle.broker_machine.specs.declared.machine.Machine.{Machine}
 
@@ -134,3 +134,28 @@ module _ (P : Policy) (old mid new : Machine) (r : Reaches P old (past mid.kerne
 -- the history that it stands at is known by another name
 pub reached_last : (P : Policy) (old new : Machine) (K : List Event) → Reaches P old (past new.kernel) new → past new.kernel ≡ K → Reaches P old K new
 reached_last P old new K r is = record { served = r.served; script = r.script; events = is }
+
+-- ---- A worker that another one replaces
+
+-- another worker stands in its place
+pub worker_stopped : (P : Policy) (old new : Machine) (v : ℕ) (x : Worker) → new.kernel ≡ old.kernel → new.workers.items ≡ slice_set old.workers.items v x → IsServed P old → IsStopped P v new
+worker_stopped P old new v x k items s = record {
+  kernel = rw k s.kernel;
+  goes_on = rw k s.goes_on;
+  number = rw (items, length-set) s.number;
+  others = rw (k, items) (others-set P old.kernel.script.figures (past old.kernel) v old.workers.items x s.workers);
+}
+
+-- and one that remembers the session
+pub worker_seated : (P : Policy) (old new : Machine) (v : ℕ) (x : Worker) → new.kernel ≡ old.kernel → new.workers.items ≡ slice_set old.workers.items v x → IsStopped P v old
+    → Remembers P (session (past old.kernel) v) x → x.figures ≡ old.kernel.script.figures → Reaches P old (past old.kernel) new
+worker_seated P old new v x k items s r f = record {
+  served = record {
+    kernel = rw k s.kernel;
+    goes_on = rw k s.goes_on;
+    number = rw (items, length-set) s.number;
+    workers = rw (k, items) (all-set P old.kernel.script.figures (past old.kernel) v old.workers.items x s.others r f);
+  };
+  script = rw k refl;
+  events = rw k refl;
+}

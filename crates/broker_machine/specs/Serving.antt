@@ -14,7 +14,7 @@ use Rattle.hist_model.specs.declared.script.Script.{Script}
 use Rattle.history_frames.specs.Ordinals.{task_name_of, tasks_made}
 use Rattle.mediation.specs.Scheduled.{GoesOn}
 use Rattle.model_kernel.specs.Kernels.{IsKernel, past}
-use Rattle.broker_machine.specs.Workers.{AllRemember}
+use Rattle.broker_machine.specs.Workers.{AllRemember, OthersRemember}
 use Rattle.broker_machine.specs.declared.machine.Machine.{Machine}
 
 -- under the policy the history is legal and goes on, and each of the workers 0 to 16 remembers its session of it
@@ -23,6 +23,13 @@ pub record IsServed (P : Policy) (m : Machine) : Type 0 where
   pub goes_on : GoesOn P m.kernel.script (past m.kernel)
   pub number : length m.workers.items ≡ 17
   pub workers : AllRemember P m.kernel.script.figures (past m.kernel) m.workers.items
+
+-- the same but for one worker, which was stopped: the others remember their sessions
+pub record IsStopped (P : Policy) (n : ℕ) (m : Machine) : Type 0 where
+  pub kernel : IsKernel m.kernel
+  pub goes_on : GoesOn P m.kernel.script (past m.kernel)
+  pub number : length m.workers.items ≡ 17
+  pub others : OthersRemember P m.kernel.script.figures (past m.kernel) n m.workers.items
 
 -- the machine has come to this history of a policy and a script
 pub record IsAt (P : Policy) (S : Script) (K : List Event) (m : Machine) : Type 0 where

@@ -29,6 +29,10 @@ use Rattle.model_kernel.specs.declared.kernel.Kernel.{Kernel}
 abbrev pub AllRemember : Policy → Figures → List Event → List Worker → Type 0
 AllRemember P F K workers = (w : ℕ) (d : Worker) → w < length workers → Remembers P (session K w) (get_or workers w d) × ((get_or workers w d).figures ≡ F)
 
+-- each worker but this one does, and knows them
+abbrev pub OthersRemember : Policy → Figures → List Event → ℕ → List Worker → Type 0
+OthersRemember P F K n workers = (w : ℕ) (d : Worker) → w < length workers → (w ≡ n → ⊥) → Remembers P (session K w) (get_or workers w d) × ((get_or workers w d).figures ≡ F)
+
 -- the deed never waits, and takes no memory but for its event
 abbrev pub IsPlain : Deed → Type 0
 IsPlain Recv = ⊥

@@ -58,7 +58,9 @@ fn idle_workers(alloc: Global, figures: Figures) -> Result<Vec<Worker>, NoMemory
 }
 
 impl Machine {
-    ghost use Rattle.broker_machine.specs.Serving.{IsAt, IsFound, IsServed, Reaches, Tries, after_step, step_of};
+    ghost use Rattle.broker_core.specs.Remembered.{Remembers};
+    ghost use Rattle.broker_machine.specs.Serving.{IsAt, IsFound, IsServed, IsStopped, Reaches, Tries, after_step, step_of};
+    ghost use Rattle.hist_model.specs.Sessions.{session};
 
     /// The kernel of a script after its start, and workers without a session, for whichever policy.
     pub fn new(alloc: Global, script: Script) -> Result<Machine, NoMemory>
@@ -234,6 +236,31 @@ impl Machine {
     {
         let task = self.task_of(who);
         self.found_turn(alloc, policy, who, task)
+    }
+
+    /// Stops a worker, which is let go of with all that it remembers. One without a session stands in its place until
+    /// another one is seated, and no turn is taken before that.
+    #[tactic(auto, using(crate::proofs::Turns::worker_stopped))]
+    pub fn stop_worker(&mut self, alloc: Global, number: u8)
+        requires number { number ≤ 16 }
+        requires workers { length self.old.workers.items ≡ 17 }
+        ensures stopped { (P : PolicyValue) → IsServed P self.old → IsStopped P number self.new }
+        ensures workers { length self.new.workers.items ≡ 17 }
+        ensures kernel { self.new.kernel ≡ self.old.kernel }
+    {
+        let figures = self.kernel.script().figures;
+        self.workers[number as usize] = Worker::new(alloc, figures);
+    }
+
+    /// Seats a worker in place of the one that was stopped: it goes on from what it remembers, which is that one's session.
+    #[tactic(auto, using(crate::proofs::Turns::worker_seated))]
+    pub fn seat_worker(&mut self, number: u8, worker: Worker)
+        requires number { number ≤ 16 }
+        requires workers { length self.old.workers.items ≡ 17 }
+        ensures kernel { self.new.kernel ≡ self.old.kernel }
+        ensures seated { (P : PolicyValue) → IsStopped P number self.old → Remembers P (session (past self.old.kernel) number) worker → worker.figures ≡ self.old.kernel.script.figures → Reaches P self.old (past self.old.kernel) self.new }
+    {
+        self.workers[number as usize] = worker;
     }
 
     /// The kernel.

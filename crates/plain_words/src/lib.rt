@@ -9,4 +9,4 @@ mod numbers;
 mod quoted;
 
 pub use numbers::{is_digit, number_between};
-pub use quoted::{push_hex, push_quoted};
+pub use quoted::{hex_byte, push_quoted};

@@ -2,7 +2,7 @@
 
 ghost use Rattle.std.specs.Prelude.{◌≡◌, ◌++◌, ◌<◌, OnOk};
 ghost use Rattle.std.specs.List.{flat_map};
-ghost use Rattle.hist_model.specs.ReportWords.{hex_digit, hex_byte, hex, quoted_byte, quoted};
+ghost use Rattle.hist_model.specs.ReportWords.{hex_digit, hex_byte, quoted_byte, quoted};
 
 use sys_abi::memory::NoMemory;
 
@@ -14,22 +14,11 @@ fn hex_digit(d: u8) -> u8
     if d < 10 { b'0' + d } else { b'a' - 10 + d }
 }
 
-/// Adds a byte as two digits of base 16.
-fn push_hex_byte(out: &mut Vec<u8>, byte: u8) -> Result<(), NoMemory>
-    ensures { OnOk result (out.new.items ≡ out.old.items ++ hex_byte byte) }
+/// A byte as two digits of base 16.
+pub fn hex_byte(byte: u8) -> [u8; 2]
+    ensures { result ≡ hex_byte byte }
 {
-    out.extend_from_slice(&[hex_digit(byte / 16), hex_digit(byte % 16)])?;
-    Ok(())
-}
-
-/// Adds bytes as digits of base 16.
-pub fn push_hex(out: &mut Vec<u8>, bytes: &[u8]) -> Result<(), NoMemory>
-    ensures { OnOk result (out.new.items ≡ out.old.items ++ hex bytes.now) }
-{
-    for byte in bytes {
-        push_hex_byte(out, *byte)?;
-    }
-    Ok(())
+    [hex_digit(byte / 16), hex_digit(byte % 16)]
 }
 
 /// Adds a byte of a quoted text.
@@ -44,7 +33,8 @@ fn push_quoted_byte(out: &mut Vec<u8>, byte: u8) -> Result<(), NoMemory>
         Ok(())
     } else {
         out.extend_from_slice(b"\\x")?;
-        push_hex_byte(out, byte)
+        out.extend_from_slice(&hex_byte(byte))?;
+        Ok(())
     }
 }
 

@@ -1,9 +1,10 @@
 -- One more event is past: by `pass_more` and `received_more`, by `asked_more` of the requests, and by `installed_more` of what is answered.
 use Rattle.std.proofs.Common.{◌≡◌, ◌+◌, [], ◌∷◌, ◌++◌, reverse, take, sym, ap, subst, ◌∙◌, arith}
 use Rattle.audit_log.specs.Received.{Names, TellsReceived}
-use Rattle.audit_log.specs.Records.{Tells}
+use Rattle.audit_log.specs.Records.{Tells, recorded}
 use Rattle.audit_log.specs.Requests.{TellsInstalled, TellsRequests, pending_call, queue_in}
 use Rattle.audit_log.specs.Tasks.{Knows, call_of, facts_in}
+use Rattle.audit_log.specs.declared.tasks.TaskFacts.{TaskFacts}
 use Rattle.audit_log.proofs.Answered.{asked_more, installed_more}
 use Rattle.audit_log.proofs.Past.{past_more, length_taken}
 use Rattle.audit_log.proofs.ReceivedCalls.{received_more}
@@ -22,9 +23,9 @@ loop-place-preserved c =
     let m : reverse (take (i + 1) xs) ≡ e ∷ K = past_more xs i e (omega arith) ∙ ap (λ x. x ∷ K) (sym c.index-events-place.is) in
     let l = length_taken xs i (omega arith) in
     let p =
-    pass_more K e i c.loop-place.tasks c.note-in-loop-place.new.self records c.record.new.records.items l now.len now.tells now.knows c.in_ok-record.ensures
+    pass_more K e i c.loop-place.tasks c.note-in-loop-place.new.self records c.record.new.records.items l now.len now.tells now.knows (c.in_ok-record.ensures ∙ ap (λ (f : TaskFacts). recorded e.what f records) c.of_actor-facts.ensures)
     c.in_ok-note-2.ensures in
-    let q : call ≡ pending_call (call_of e.who (facts_in c.loop-place.tasks)) records = c.pending_call-call.ensures ∙ ap (pending_call c.call_of.result) c.as_slice.ensures.value ∙ ap (λ o. pending_call o records) c.call_of.ensures in
+    let q : call ≡ pending_call (call_of e.who (facts_in c.loop-place.tasks)) records = c.pending_call-call.ensures ∙ ap (pending_call c.of_actor-facts.result.newest) c.as_slice.ensures.value ∙ ap (λ (f : TaskFacts). pending_call f.newest records) c.of_actor-facts.ensures in
     let asked = asked_more K e c.loop-place.tasks c.loop-place.ids records call (queue_in c.loop-place.requests) (queue_in c.note.new.self) now.tells now.knows now.names now.asked q c.in_ok-note.ensures in
     let received =
     received_more K e i c.loop-place.ids c.note-in-loop-place-2.new.self c.loop-place.received.items c.push-in-loop-place.new.self.items l now.count now.received now.names

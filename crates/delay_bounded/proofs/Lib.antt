@@ -1,0 +1,7 @@
+mod Complete
+mod LegalWalks
+pub mod Rounds
+mod Schedules
+mod Turns
+pub mod Walks
+mod WorkedWalks

@@ -1,0 +1,42 @@
+//! What the explored histories are, whichever they are.
+
+ghost use Rattle.delay_bounded.specs.Examples.{WithOneDelay, WithoutDelays};
+ghost use Rattle.delay_bounded.specs.Laws.{AreLegal, Begins, HasNoGap, IsAll, IsComplete, IsOneAlone};
+
+/// The list for a bound begins the list for the next one.
+pub fn bounds_begin()
+    ensures { Begins }
+{}
+
+/// Without delays there is one history.
+pub fn without_delays_one()
+    ensures { IsOneAlone }
+{}
+
+/// Where no history has so many delays, none has one more.
+pub fn no_gap()
+    ensures { HasNoGap }
+{}
+
+/// Where no history has one delay more than a bound, a greater bound adds nothing.
+pub fn is_all()
+    ensures { IsAll }
+{}
+
+/// Each explored history that can be counted is legal, and so mediated; none of its events is a `Skip`, and none is a step of a
+/// worker above the limit; its schedule plays it.
+pub fn explored_are_legal()
+    ensures { AreLegal }
+{}
+
+/// Without a bound, each legal history without a `Skip` is explored that has no step of a worker above the limit, in which of the
+/// workers without a notification in hand the lowest alone steps, and at whose end nobody is able to step.
+pub fn all_is_complete()
+    ensures { IsComplete }
+{}
+
+/// The explored histories of two tasks with one call each and one worker, without delays and with one at most.
+pub fn small_lists()
+    ensures without_delays { WithoutDelays }
+    ensures with_one_delay { WithOneDelay }
+{}

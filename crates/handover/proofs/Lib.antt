@@ -1,0 +1,8 @@
+pub mod Fitting
+pub mod Told
+pub mod Handed
+pub mod Newest
+pub mod Kept
+pub mod Replaced
+pub mod Turned
+pub mod Played

@@ -1,0 +1,4 @@
+pub mod Ledgers
+pub mod Handing
+pub mod Keeping
+pub mod Replacing
