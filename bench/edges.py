@@ -71,7 +71,7 @@ SCRIPTS = [
     ("an argument", "out of range", 2, lambda n: main(f"call 1 {n}"), 2**64 - 1),
     ("arguments", "wrong count", 2, lambda n: main("call 1" + " 0" * n), 6),
     ("the number of a child", "out of range", 2, lambda n: main(f"kill child {n} 9"), 100_000),
-    ("a process number", "out of range", 2, lambda n: main(f"kill pid {n} 9"), 2**32 - 1),
+    ("a PID", "out of range", 2, lambda n: main(f"kill pid {n} 9"), 2**32 - 1),
     ("bytes of a path", "bad path", 1, reg, 4_095),
     ("bytes of a name", "bad path", 1, lambda n: f'reg "/{"n" * n}"\n', 255),
     ("bytes of a link's target", "out of range", 1, lambda n: f'link "/l" "{"t" * n}"\n', 4_095),

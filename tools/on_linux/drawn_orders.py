@@ -77,7 +77,7 @@ def race_rules(chance):
 
 
 def races(chance, _):
-    """Tasks, process numbers, kill, wait, native calls, and any order of steps."""
+    """Tasks, PIDs, kill, wait, native calls, and any order of steps."""
     settings = [f"pidmax {chance.choice([1, 2, 2, 3, 4])}"] if chance.random() < 0.4 else []
     settings += [f"firstid {chance.choice([1, 0, 5, 2**64 - 2])}"] if chance.random() < 0.2 else []
     settings += [f"rlimit {chance.choice([1024, 3, 4, 5, 6, 1024])}"] if chance.random() < 0.5 else []

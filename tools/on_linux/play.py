@@ -23,7 +23,7 @@ class Play:
         self.places = self.index(events)
         self.differences, self.compared = [], 0
         self.first_id = None  # of the machine's notifications; a script's begin with `firstid`
-        self.entered = {}  # what each notification has to tell: number, arguments, process number
+        self.entered = {}  # what each notification has to tell: number, arguments, PID
         self.mounted = False
         self.torn = False  # a native sysinfo wrote a part of its answer
         self.doubt = ""  # why a difference may come of the comparison itself
@@ -83,7 +83,7 @@ class Play:
             if refused.end != known.END_OF_ADDRESSES:
                 raise
             self.differs("map", machine.error_name(refused.error), "mapped", known.Known("last-page", True))
-        self.same("process number of the first task", f"pid={task.pid}", self.event.fields[1])
+        self.same("PID of the first task", f"pid={task.pid}", self.event.fields[1])
 
     def end(self):
         """Calls that were allowed, and whose answer no event tells, are made: no filter may stop them."""

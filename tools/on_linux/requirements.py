@@ -6,7 +6,7 @@ import shutil
 
 from on_linux import apart, machine
 
-# From this version on each process namespace has a limit on process numbers of its own.
+# From this version on each process namespace has a limit on PIDs of its own.
 OWN_LIMIT = (6, 14)
 
 
@@ -45,7 +45,7 @@ def missing(processor):
         return [f"it needs Linux on x86-64, and this is {platform.system()} on {platform.machine()}"]
     found = []
     if version() < OWN_LIMIT:
-        found.append(f"it needs Linux {OWN_LIMIT[0]}.{OWN_LIMIT[1]}: before that a limit on process numbers is the whole machine's, and this is {platform.release()}")
+        found.append(f"it needs Linux {OWN_LIMIT[0]}.{OWN_LIMIT[1]}: before that a limit on PIDs is the whole machine's, and this is {platform.release()}")
     if os.geteuid() != 0:
         found.append("it needs root: it makes namespaces, mounts, devices and tasks with priority")
     if shutil.which("cc") is None:

@@ -3,7 +3,7 @@ from dataclasses import dataclass, field
 
 from on_linux.machine import ALLOW, CALLS, KILL_PROCESS, NOTIFY, X86_64
 
-# Above this number Linux gives process numbers cyclically, as a script's kernel does.
+# Above this number Linux gives PIDs cyclically, as a script's kernel does.
 FIRST_FREE_PID = 300
 ESCAPES = {b"0": b"\0", b"n": b"\n", b"\\": b"\\", b'"': b'"'}
 WORDS = {
@@ -136,7 +136,7 @@ def settings(script):
 
 
 def with_high_pids(script):
-    """The script with process numbers from 300 on, where it states none: both kernels can give these."""
+    """The script with PIDs from 300 on, where it states none: both kernels can give these."""
     if settings(script).pidbase:
         return script
     lines = script.split(b"\n")

@@ -185,5 +185,5 @@ class Worker(StandIn):
     def __init__(self, boxes, address, number):
         super().__init__(boxes, address, FIRST_WORKER + number, f"w{number}")
         self.memory = self.base = None  # its descriptors of the caller's memory and of a directory
-        self.caller = None  # the process number of the notification
-        self.requested = None  # the process number and the id of a request for a descriptor that isn't taken
+        self.caller = None  # the PID of the notification
+        self.requested = None  # the PID and the id of a request for a descriptor that isn't taken

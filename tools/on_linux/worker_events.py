@@ -75,7 +75,7 @@ class WorkerEvents:
         if self.play.first_id is None:
             self.play.first_id = (got_id - (stated - self.settings.firstid)) % 2**64
         self.same("id", got_id, self.play.real_id(stated))
-        self.same("process number", f"pid={got_pid}", pid)
+        self.same("PID", f"pid={got_pid}", pid)
         entered = self.play.entered[stated]
         self.same("call of the notification", (number, arguments, got_pid, architecture, flags), (*entered, X86_64, 0))
         worker.caller = got_pid

@@ -26,7 +26,7 @@ const LEGEND = [
   ["addfd-put", false, "worker", "It puts a descriptor into the caller."],
   ["send", false, "worker", "It answers the call."],
   ["kill", false, "task", "A signal is sent, or arrives."],
-  ["exit", false, "task", "A task ends. The dotted line shows that its process number is still held."],
+  ["exit", false, "task", "A task ends. The dotted line shows that its PID is still held."],
   ["check", true, "worker", "Hollow with a cross: this failed."],
 ];
 
@@ -134,7 +134,7 @@ class Details {
         make("li", {}, bracketAlone(true), make("span", {}, "The bracket joins the two checks. What is read between them is the copy that the policy judges: the call waited all the time.")),
         make("li", {}, bracketAlone(false), make("span", {}, "A broken bracket: the second check failed or never came, and the copy counts for nothing.")),
         make("li", {}, arrowAlone({ kind: "send", lost: true }), make("span", {}, "An answer that finds nobody. The call it was for is over.")),
-        make("li", {}, arrowAlone({ kind: "other" }), make("span", {}, "The process number belongs to another task by now."))),
+        make("li", {}, arrowAlone({ kind: "other" }), make("span", {}, "The PID belongs to another task by now."))),
       make("h3", {}, "Keys"),
       make("table", { class: "keys" }, ...KEYS.map(([keys, text]) => make("tr", {}, make("th", { scope: "row" }, ...keys.flatMap((key) => [make("kbd", {}, key), " "])), make("td", {}, text)))),
     ];

@@ -1,7 +1,7 @@
 "use strict";
 
 const NOTES = {
-  other: "another task is opened", reused: "process number reused", gone: "caller or call gone", lost: "answer lost", restarted: "call made again",
+  other: "another task is opened", reused: "PID reused", gone: "caller or call gone", lost: "answer lost", restarted: "call made again",
   fault: "arguments unreadable", deny: "call denied", spent: "grant spent", open: "call comes to nothing",
 };
 const LEAST_WITH_WORDS = 14;

@@ -109,6 +109,6 @@ def kind_found(call, arguments):
 
 
 def process_number(argument):
-    """A process number as strace has it, also where the call's is one of another namespace."""
+    """A PID as strace has it, also where the call's is one of another namespace."""
     translated = IN_STRACES_NAMES.search(argument)
     return int(translated[1]) if translated else number(argument)

@@ -7,7 +7,7 @@ from dataclasses import dataclass
 from functools import lru_cache
 from typing import NamedTuple
 
-# a process number, with the program's name where it was asked for, and a time, where one was
+# a PID, with the program's name where it was asked for, and a time, where one was
 PREFIX = re.compile(r"(?:\[pid +(\d+)(?:<[^>]*>)?\] +|(\d+)(?:<[^>]*>)? +)?(?:(?:\d\d:\d\d:\d\d(?:\.\d+)?|\d+\.\d{6}|\+? *\d+\.\d{6}) +)?")
 WHOLE = re.compile(r"([a-z_][a-z_0-9]*)\((.*)\)\s+= (.*)", re.S)
 UNFINISHED_ENDS = (" ...>", " ...>) = ?")

@@ -7,13 +7,13 @@ use Rattle.sys_abi.specs.declared.wire.Notif.{Notif}
 use Rattle.hist_model.specs.Look.{Name}
 use Rattle.hist_model.specs.Requests.{kind_of, low_32}
 use Rattle.hist_model.specs.ReportWords.{or_dash, trimmed}
-use Rattle.hist_model.specs.ReportJournal.{args_text, asked_text, delivered_text, entered_text, maker_text, mode_text, node_text, read_text, reaped_text, received_text, request_text, shift_text, spawn_kind_text, spawned_text, target_text, what_text}
+use Rattle.hist_model.specs.ReportJournal.{args_text, asked_text, delivered_text, entered_text, maker_text, disposition_text, node_text, read_text, reaped_text, received_text, request_text, shift_text, spawn_kind_text, spawned_text, target_text, what_text}
 use Rattle.hist_model.specs.declared.event.What.{What}
 use Rattle.hist_model.specs.declared.event.What.TheVariants.{Spawn, Poke, Handler, Enter, Native, Install, Resume, Signal, Deliver, Reap, Exit, Recv, OpenMem, OpenBase, Check, Read, Act, Plant, AddfdPut, AddfdTake, Send, LetGo, Skip, Close}
 use Rattle.hist_model.specs.declared.event.SpawnKind.{SpawnKind}
 use Rattle.hist_model.specs.declared.event.SpawnKind.TheVariants.{New, Copied, Shared}
-use Rattle.hist_model.specs.declared.event.Mode.{Mode}
-use Rattle.hist_model.specs.declared.event.Mode.TheVariants.{Default, Restart as RestartMode, Plain}
+use Rattle.hist_model.specs.declared.event.Disposition.{Disposition}
+use Rattle.hist_model.specs.declared.event.Disposition.TheVariants.{Default, Restart as RestartDisposition, Plain}
 use Rattle.hist_model.specs.declared.event.Entered.{Entered}
 use Rattle.hist_model.specs.declared.event.Entered.TheVariants.{Notify, Allow, Log, Fails, NoSys, Kill}
 use Rattle.hist_model.specs.declared.event.Delivered.{Delivered}
@@ -47,10 +47,10 @@ spawned-plain : (a : Result (ℕ × SpawnKind) ℕ) → is_plain (spawned_text a
 spawned-plain (Ok a) = lacks_append 10 (decimal a.0 ++ 32 ∷ []) (spawn_kind_text a.1) (search texts) (spawn_kind-plain a.1)
 spawned-plain (Err e) = plain_errno e
 
-mode-plain : (m : Mode) → is_plain (mode_text m) ≡ true
-mode-plain Default = refl
-mode-plain RestartMode = refl
-mode-plain Plain = refl
+disposition-plain : (m : Disposition) → is_plain (disposition_text m) ≡ true
+disposition-plain Default = refl
+disposition-plain RestartDisposition = refl
+disposition-plain Plain = refl
 
 entered-plain : (v : Entered) → is_plain (entered_text v) ≡ true
 entered-plain (Notify id) = plain_decimal id
@@ -122,7 +122,7 @@ asked-plain a = search (texts, target-plain (a.flags % 2 == 1) a.newfd)
 pub plain_what : (a : What) → is_plain (via_in a) ≡ true → is_plain (what_text a) ≡ true
 plain_what (Spawn child answer) h = search (texts, spawned-plain answer)
 plain_what (Poke addr bytes) h = search texts
-plain_what (Handler sig mode) h = search (texts, mode-plain mode)
+plain_what (Handler sig disposition) h = search (texts, disposition-plain disposition)
 plain_what (Enter nr args verdict) h = search (texts, args-plain args, entered-plain verdict)
 plain_what (Native answer) h = plain_number answer
 plain_what (Install answer) h = plain_number answer

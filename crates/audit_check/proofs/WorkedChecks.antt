@@ -4,7 +4,7 @@ use Rattle.std.proofs.Common.{◌≡◌, ℕ, ◌+◌, Bool, true, false, List, 
 use Rattle.std.specs.Prelude.{codes}
 use Rattle.std.specs.Fmt.{digits}
 use Rattle.hist_model.specs.Look.{event_at, newest, oldest}
-use Rattle.hist_model.specs.Tasks.{ended, was_waited_for, reaped, holder, free_from, last_pid, next_pid, is_made, mode, pending}
+use Rattle.hist_model.specs.Tasks.{ended, was_waited_for, reaped, holder, free_from, last_pid, next_pid, is_made, disposition, pending}
 use Rattle.hist_model.specs.Signals.{call_of, next_signal}
 use Rattle.hist_model.specs.Calls.{listed, fetched, named, settled, queue, calls, recvs}
 use Rattle.hist_model.specs.Sessions.{session, deed}
@@ -73,30 +73,30 @@ fails_behind n text = is_fault (reached mknod_policy mknod_script (take n (lines
 
 -- the report of the history that the script plays
 is_checked : reached mknod_policy mknod_script (lines whole) ≡ Rest (played mknod_policy mknod_script) []
-unfolding before effect behind last whole combine run_from step task_step worker_step event_at newest oldest ended was_waited_for reaped holder free_from last_pid next_pid is_made mode pending next_signal listed fetched named settled queue calls recvs session deed program call_of steps_of reply oldest_unfetched task_place group mem base session_call install_of call_at request_of owes_native times_spent last_call byte mapped_bytes files row_in entry_in mount_on top_through target_of up_through attr_replaced with_tree pieces walk_parts walk text_from value_from copy_of heard read_text read_value progress request base_dirfd fits decide_from decide with_steps with_schedule lines with_lines actor_in number_after digits lines_of newest_call outcome first_pid session_at call_with_id installed requests answer_count audits counts_text findings_text
+unfolding before effect behind last whole combine run_from step task_step worker_step event_at newest oldest ended was_waited_for reaped holder free_from last_pid next_pid is_made disposition pending next_signal listed fetched named settled queue calls recvs session deed program call_of steps_of reply oldest_unfetched task_place group mem base session_call install_of call_at request_of owes_native times_spent last_call byte mapped_bytes files row_in entry_in mount_on top_through target_of up_through attr_replaced with_tree pieces walk_parts walk text_from value_from copy_of heard read_text read_value progress request base_dirfd fits decide_from decide with_steps with_schedule lines with_lines actor_in number_after digits lines_of newest_call outcome first_pid session_at call_with_id installed requests answer_count audits counts_text findings_text
 is_checked = refl
 
 -- another path in the line of the effect, the 11th
 is_changed : fails_behind 10 (before ++ effect (codes "/zero") ++ behind ++ last) ≡ false ∷ true ∷ []
-unfolding fails_behind before effect behind last whole combine run_from step task_step worker_step event_at newest oldest ended was_waited_for reaped holder free_from last_pid next_pid is_made mode pending next_signal listed fetched named settled queue calls recvs session deed program call_of steps_of reply oldest_unfetched task_place group mem base session_call install_of call_at request_of owes_native times_spent last_call byte mapped_bytes files row_in entry_in mount_on top_through target_of up_through attr_replaced with_tree pieces walk_parts walk text_from value_from copy_of heard read_text read_value progress request base_dirfd fits decide_from decide with_steps with_schedule lines with_lines actor_in number_after digits lines_of newest_call outcome first_pid session_at call_with_id installed requests answer_count audits counts_text findings_text
+unfolding fails_behind before effect behind last whole combine run_from step task_step worker_step event_at newest oldest ended was_waited_for reaped holder free_from last_pid next_pid is_made disposition pending next_signal listed fetched named settled queue calls recvs session deed program call_of steps_of reply oldest_unfetched task_place group mem base session_call install_of call_at request_of owes_native times_spent last_call byte mapped_bytes files row_in entry_in mount_on top_through target_of up_through attr_replaced with_tree pieces walk_parts walk text_from value_from copy_of heard read_text read_value progress request base_dirfd fits decide_from decide with_steps with_schedule lines with_lines actor_in number_after digits lines_of newest_call outcome first_pid session_at call_with_id installed requests answer_count audits counts_text findings_text
 is_changed = refl
 
 -- without its last line, the 21st
 is_cut : reached mknod_policy mknod_script (lines (before ++ effect (codes "/null") ++ behind)) ≡ Rest (played mknod_policy mknod_script) (last ∷ [])
-unfolding before effect behind last whole combine run_from step task_step worker_step event_at newest oldest ended was_waited_for reaped holder free_from last_pid next_pid is_made mode pending next_signal listed fetched named settled queue calls recvs session deed program call_of steps_of reply oldest_unfetched task_place group mem base session_call install_of call_at request_of owes_native times_spent last_call byte mapped_bytes files row_in entry_in mount_on top_through target_of up_through attr_replaced with_tree pieces walk_parts walk text_from value_from copy_of heard read_text read_value progress request base_dirfd fits decide_from decide with_steps with_schedule lines with_lines actor_in number_after digits lines_of newest_call outcome first_pid session_at call_with_id installed requests answer_count audits counts_text findings_text
+unfolding before effect behind last whole combine run_from step task_step worker_step event_at newest oldest ended was_waited_for reaped holder free_from last_pid next_pid is_made disposition pending next_signal listed fetched named settled queue calls recvs session deed program call_of steps_of reply oldest_unfetched task_place group mem base session_call install_of call_at request_of owes_native times_spent last_call byte mapped_bytes files row_in entry_in mount_on top_through target_of up_through attr_replaced with_tree pieces walk_parts walk text_from value_from copy_of heard read_text read_value progress request base_dirfd fits decide_from decide with_steps with_schedule lines with_lines actor_in number_after digits lines_of newest_call outcome first_pid session_at call_with_id installed requests answer_count audits counts_text findings_text
 is_cut = refl
 
 -- with a piece of a line more, the 22nd
 is_longer : fails_behind 21 (whole ++ codes "0") ≡ false ∷ true ∷ []
-unfolding fails_behind before effect behind last whole combine run_from step task_step worker_step event_at newest oldest ended was_waited_for reaped holder free_from last_pid next_pid is_made mode pending next_signal listed fetched named settled queue calls recvs session deed program call_of steps_of reply oldest_unfetched task_place group mem base session_call install_of call_at request_of owes_native times_spent last_call byte mapped_bytes files row_in entry_in mount_on top_through target_of up_through attr_replaced with_tree pieces walk_parts walk text_from value_from copy_of heard read_text read_value progress request base_dirfd fits decide_from decide with_steps with_schedule lines with_lines actor_in number_after digits lines_of newest_call outcome first_pid session_at call_with_id installed requests answer_count audits counts_text findings_text
+unfolding fails_behind before effect behind last whole combine run_from step task_step worker_step event_at newest oldest ended was_waited_for reaped holder free_from last_pid next_pid is_made disposition pending next_signal listed fetched named settled queue calls recvs session deed program call_of steps_of reply oldest_unfetched task_place group mem base session_call install_of call_at request_of owes_native times_spent last_call byte mapped_bytes files row_in entry_in mount_on top_through target_of up_through attr_replaced with_tree pieces walk_parts walk text_from value_from copy_of heard read_text read_value progress request base_dirfd fits decide_from decide with_steps with_schedule lines with_lines actor_in number_after digits lines_of newest_call outcome first_pid session_at call_with_id installed requests answer_count audits counts_text findings_text
 is_longer = refl
 
 -- with a title that tells of one event more: no event follows the close, in the 16th line
 is_closed : fails_behind 15 (codes "journal 16\n" ++ drop 11 whole) ≡ false ∷ true ∷ []
-unfolding fails_behind before effect behind last whole combine run_from step task_step worker_step event_at newest oldest ended was_waited_for reaped holder free_from last_pid next_pid is_made mode pending next_signal listed fetched named settled queue calls recvs session deed program call_of steps_of reply oldest_unfetched task_place group mem base session_call install_of call_at request_of owes_native times_spent last_call byte mapped_bytes files row_in entry_in mount_on top_through target_of up_through attr_replaced with_tree pieces walk_parts walk text_from value_from copy_of heard read_text read_value progress request base_dirfd fits decide_from decide with_steps with_schedule lines with_lines actor_in number_after digits lines_of newest_call outcome first_pid session_at call_with_id installed requests answer_count audits counts_text findings_text
+unfolding fails_behind before effect behind last whole combine run_from step task_step worker_step event_at newest oldest ended was_waited_for reaped holder free_from last_pid next_pid is_made disposition pending next_signal listed fetched named settled queue calls recvs session deed program call_of steps_of reply oldest_unfetched task_place group mem base session_call install_of call_at request_of owes_native times_spent last_call byte mapped_bytes files row_in entry_in mount_on top_through target_of up_through attr_replaced with_tree pieces walk_parts walk text_from value_from copy_of heard read_text read_value progress request base_dirfd fits decide_from decide with_steps with_schedule lines with_lines actor_in number_after digits lines_of newest_call outcome first_pid session_at call_with_id installed requests answer_count audits counts_text findings_text
 is_closed = refl
 
 -- the trail
 is_traced : trail (judging_by mknod_policy.rules) (played mknod_policy mknod_script) ≡ codes "trail 2 recv=3 valid=8 effect=9 answer=10 rule=lxd.mknod.1:3\n"
-unfolding stages_at session_for installation combine run_from step task_step worker_step event_at newest oldest ended was_waited_for reaped holder free_from last_pid next_pid is_made mode pending next_signal listed fetched named settled queue calls recvs session deed program call_of steps_of reply oldest_unfetched task_place group mem base session_call install_of call_at request_of owes_native times_spent last_call byte mapped_bytes files row_in entry_in mount_on top_through target_of up_through attr_replaced with_tree pieces walk_parts walk text_from value_from copy_of heard read_text read_value progress request base_dirfd fits decide_from decide with_steps with_schedule lines with_lines actor_in number_after digits lines_of newest_call outcome first_pid session_at call_with_id installed requests answer_count audits counts_text findings_text
+unfolding stages_at session_for installation combine run_from step task_step worker_step event_at newest oldest ended was_waited_for reaped holder free_from last_pid next_pid is_made disposition pending next_signal listed fetched named settled queue calls recvs session deed program call_of steps_of reply oldest_unfetched task_place group mem base session_call install_of call_at request_of owes_native times_spent last_call byte mapped_bytes files row_in entry_in mount_on top_through target_of up_through attr_replaced with_tree pieces walk_parts walk text_from value_from copy_of heard read_text read_value progress request base_dirfd fits decide_from decide with_steps with_schedule lines with_lines actor_in number_after digits lines_of newest_call outcome first_pid session_at call_with_id installed requests answer_count audits counts_text findings_text
 is_traced = refl

@@ -1,4 +1,4 @@
--- What is kept of each event while the events are gone through, as if each entered a call: its task's process number, what came of it, and
+-- What is kept of each event while the events are gone through, as if each entered a call: its task's PID, what came of it, and
 -- the number of the descriptor that was installed for it.
 use Rattle.std.specs.Prelude.{◌≡◌, ℕ, List, ◌∷◌, ◌++◌, [], length, get_or, set, Option, Some, None}
 use Rattle.hist_model.specs.Look.{task_name}

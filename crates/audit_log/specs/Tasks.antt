@@ -1,4 +1,4 @@
--- What is kept of each task while the events are gone through: the first process number that it was given, and its newest call.
+-- What is kept of each task while the events are gone through: the first PID that it was given, and its newest call.
 use Rattle.std.specs.Prelude.{◌≡◌, ℕ, ◌&&◌, if◌then◌else◌, List, Option, Some, None}
 use Rattle.std.specs.HashMap.{get_by}
 use Rattle.hist_model.specs.Look.{Name, is_task, name_eq, or_else, task_name}

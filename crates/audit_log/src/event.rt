@@ -2,7 +2,7 @@
 
 ghost use Rattle.std.specs.Prelude.{◌≡◌, ◌++◌, ◌==◌, ◌%◌, OnOk, codes, decimal, take, length, ◌≤◌};
 ghost use Rattle.hist_model.specs.ReportWords.{number_text, result_text, trimmed};
-ghost use Rattle.hist_model.specs.ReportJournal.{request_text, spawn_kind_text, spawned_text, mode_text, entered_text, args_text, delivered_text, reaped_text, received_text, read_text, asked_text, what_text};
+ghost use Rattle.hist_model.specs.ReportJournal.{request_text, spawn_kind_text, spawned_text, disposition_text, entered_text, args_text, delivered_text, reaped_text, received_text, read_text, asked_text, what_text};
 
 use crate::line::Line;
 use crate::request::push_request;
@@ -10,7 +10,7 @@ use crate::words::{
     push_back, push_call, push_errno, push_hex_or_dash, push_name, push_number_or_errno,
     push_result,
 };
-use hist_model::event::{Back, Delivered, Entered, Mode, SpawnKind, What};
+use hist_model::event::{Back, Delivered, Disposition, Entered, SpawnKind, What};
 use hist_model::request::Request;
 use hist_model::text::{TaskName, Text};
 use sys_abi::errno::Errno;
@@ -24,7 +24,12 @@ pub(crate) fn push_what(line: &mut Line, what: &What) -> Result<(), NoMemory>
     match what {
         What::Spawn { child, answer } => push_spawn(line, child, answer),
         What::Poke { addr, bytes } => push_poke(line, *addr, bytes),
-        What::Handler { sig, mode } => push_signal_word(line, "handler ", *sig, mode_word(*mode)),
+        What::Handler { sig, disposition } => push_signal_word(
+            line,
+            "handler ",
+            *sig,
+            disposition_word(*disposition),
+        ),
         What::Enter { nr, args, verdict } => push_enter(line, *nr, args, *verdict),
         What::Native { answer } => push_answered(line, "native ", answer),
         What::Install { answer } => push_answered(line, "install ", answer),
@@ -44,7 +49,7 @@ pub(crate) fn push_what(line: &mut Line, what: &What) -> Result<(), NoMemory>
             request,
             answer,
             ..
-        } => push_act(line, request, answer),
+        } => push_act(line, request.get(), answer),
         What::Plant { addr, answer, .. } => push_numbered(line, "plant ", *addr, answer),
         What::AddfdPut { asked, answer } => push_put(line, asked, answer),
         What::AddfdTake { answer } => push_answered(line, "addfd-take ", answer),
@@ -67,13 +72,13 @@ fn spawn_kind_word(kind: SpawnKind) -> &'static str
 }
 
 /// The word for what a task does at a signal.
-fn mode_word(mode: Mode) -> &'static str
-    ensures { result.now ≡ mode_text mode }
+fn disposition_word(disposition: Disposition) -> &'static str
+    ensures { result.now ≡ disposition_text disposition }
 {
-    match mode {
-        Mode::Default => "default",
-        Mode::Restart => "restart",
-        Mode::Plain => "plain",
+    match disposition {
+        Disposition::Default => "default",
+        Disposition::Restart => "restart",
+        Disposition::Plain => "plain",
     }
 }
 

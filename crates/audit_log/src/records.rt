@@ -14,7 +14,7 @@ use sys_abi::memory::NoMemory;
 /// What is kept of an event, as if it entered a call.
 #[derive(Clone, Copy, PartialEq, Eq, Debug)]
 pub(crate) struct CallRecord {
-    /// The process number that its task was given first, before it.
+    /// The PID that its task was given first, before it.
     pub(crate) pid: Option<u32>,
     /// The outcome of the call.
     pub(crate) outcome: Outcome,

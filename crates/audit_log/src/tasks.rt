@@ -12,7 +12,7 @@ use sys_abi::memory::NoMemory;
 /// What is kept of a task.
 #[derive(Clone, Copy, PartialEq, Eq, Debug)]
 pub(crate) struct TaskFacts {
-    /// The first process number that it was given.
+    /// The first PID that it was given.
     pub(crate) pid: Option<u32>,
     /// The place of its newest call.
     pub(crate) newest: Option<usize>,
@@ -76,7 +76,7 @@ impl Tasks {
         Ok(())
     }
 
-    /// A task was given a process number.
+    /// A task was given a PID.
     fn put_pid(&mut self, name: &[u32], pid: u32) -> Result<(), NoMemory>
         ensures { OnOk result ((n : List ℕ) → facts_in self.new n ≡ (if name_eq name.now n then record { pid = or_else (facts_in self.old name.now).pid (Some pid); newest = (facts_in self.old name.now).newest } else facts_in self.old n)) }
     {

@@ -13,7 +13,7 @@ use sys_abi::wire::{Addfd, Notif};
 pub enum Deed {
     /// It receives a notification: SECCOMP_IOCTL_NOTIF_RECV.
     Recv,
-    /// It opens the memory of the task that holds a process number.
+    /// It opens the memory of the task that holds a PID.
     OpenMem {
         pid: u32,
     },

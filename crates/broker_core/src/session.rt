@@ -15,6 +15,7 @@ use crate::judgement::Judgement;
 use arg_capture::Capture;
 use emu_request::base_dirfd;
 use emu_sysinfo::container;
+use hist_model::boxed::Boxed;
 use hist_model::event::Back;
 use hist_model::policy::Verdict;
 use hist_model::request::Request;
@@ -49,7 +50,7 @@ pub struct Session {
     /// The request was made the one that the deciding rule grants.
     pub(crate) granted: bool,
     /// Another of the granted request, which the event of the act keeps.
-    pub(crate) effect: Option<Request>,
+    pub(crate) effect: Option<Boxed<Request>>,
     /// The outcome of the effect.
     pub(crate) outcome: Option<Result<(), Errno>>,
     /// What came of the request for a descriptor, and of taking its number.

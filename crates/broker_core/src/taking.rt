@@ -18,6 +18,7 @@ use crate::judgement::{Judgement, judge};
 use crate::session::{Session, Stage};
 use crate::steps::{gives_up, opens, opens_base, outcome_in, put_in, take_in};
 use arg_capture::{Capture, Fault};
+use hist_model::boxed::Boxed;
 use hist_model::policy::{Policy, Verdict};
 use hist_model::request::Request;
 use policy_eval::grant;
@@ -57,7 +58,7 @@ fn prepare_effect(
     policy: &Policy,
     judgement: &mut Judgement,
     granted: &mut bool,
-    effect: &mut Option<Request>,
+    effect: &mut Option<Boxed<Request>>,
 ) -> Result<(), NoMemory>
     ensures judged { (q : Request) → judgement.old ≡ judgement_as granted.old policy.now.rules q → judgement.new ≡ judgement_as granted.new policy.now.rules q }
     ensures granted { OnOk result (granted.new ≡ true) }
@@ -69,7 +70,7 @@ fn prepare_effect(
         grant_request(alloc, policy, judgement)?;
         *granted = true;
     }
-    *effect = Some(judgement.request.copied(alloc)?);
+    *effect = Some(Boxed::new(alloc, judgement.request.copied(alloc)?)?);
     Ok(())
 }
 

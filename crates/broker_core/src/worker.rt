@@ -20,6 +20,7 @@ ghost use Rattle.broker_core.specs.declared.deed.Deed.TheVariants.{Act};
 use crate::deed::{Deed, Got};
 use crate::session::Session;
 use arg_capture::{Capture, Plan};
+use hist_model::boxed::Boxed;
 use hist_model::policy::Policy;
 use hist_model::request::Request;
 use hist_model::script::Figures;
@@ -103,7 +104,7 @@ impl Worker {
     }
 
     /// The granted request of the act that is due, which the event of the act keeps. The worker keeps its own.
-    pub fn take_effect(&mut self) -> Request
+    pub fn take_effect(&mut self) -> Boxed<Request>
         requires { HasEffect self.old }
         ensures request { (P : Policy) (own : List What) (q : Asked) (cap : Option Cap) → Remembers P own self.old → deed (rules_of P self.old.figures) own ≡ definition.Act q cap → result ≡ q }
         ensures known { (P : Policy) (own : List What) → Remembers P own self.old → Remembers P own self.new }

@@ -19,6 +19,7 @@ ghost use Rattle.broker_machine.specs.Workers.{Allows, IsAnswered, IsPlain, Keep
 
 use broker_core::deed::{Deed, Got, done_or_fault};
 use broker_core::worker::Worker;
+use hist_model::boxed::Boxed;
 use hist_model::policy::{Cap, Policy};
 use hist_model::request::Request;
 use listener::{FetchError, TakeError};
@@ -77,6 +78,7 @@ fn read<'a>(
 
 /// A worker stores the answer of sysinfo in the memory that it has open.
 fn plant<'a>(
+    alloc: Global,
     kernel: &mut Kernel,
     number: u8,
     addr: u64,
@@ -89,6 +91,7 @@ fn plant<'a>(
     ensures done { IfOk result (λ answer. IsAnswered kernel.old number (definition.Plant addr bytes.now cap) (told_by kernel.new number answer) kernel.new) }
     ensures same { OnErr result (IsSame kernel.old kernel.new) }
 {
+    let bytes = Boxed::new(alloc, *bytes)?;
     kernel.ready_plant(number, cap)?;
     Ok(Some(done_or_fault(kernel.plant(number, addr, bytes, cap))))
 }
@@ -97,7 +100,7 @@ fn plant<'a>(
 fn act<'a>(
     kernel: &mut Kernel,
     number: u8,
-    request: Request,
+    request: Boxed<Request>,
     cap: Option<Cap>,
 ) -> Result<Option<Got<'a>>, NoMemory>
     requires kernel { IsKernel kernel.old }
@@ -105,7 +108,7 @@ fn act<'a>(
     ensures done { IfOk result (λ answer. IsAnswered kernel.old number (definition.Act request cap) (told_by kernel.new number answer) kernel.new) }
     ensures same { OnErr result (IsSame kernel.old kernel.new) }
 {
-    kernel.ready_act(&request, cap)?;
+    kernel.ready_act(request.get(), cap)?;
     Ok(Some(done_or_fault(kernel.act(number, request, cap))))
 }
 
@@ -155,7 +158,7 @@ fn do_deed<'a>(
         Deed::Recv => Ok(Some(receive(kernel, number))),
         Deed::AddfdTake => Ok(Some(take(kernel, number))),
         Deed::Read { addr, len } => read(alloc, kernel, number, addr, len),
-        Deed::Plant { addr, bytes, cap } => plant(kernel, number, addr, &bytes, cap),
+        Deed::Plant { addr, bytes, cap } => plant(alloc, kernel, number, addr, &bytes, cap),
         Deed::Act { cap } => act(kernel, number, worker.take_effect(), cap),
         _ => Ok(Some(do_plain(kernel, number, &next))),
     }

@@ -16,7 +16,7 @@ ghost use Rattle.broker_machine.specs.Workers.{AllRemember};
 use crate::deeds::worker_turn;
 use crate::names::is_task_name;
 use broker_core::worker::Worker;
-use hist_model::event::Actor;
+use hist_model::event::{Actor, WORKERS};
 use hist_model::history::History;
 use hist_model::policy::Policy;
 use hist_model::script::{Figures, Script};
@@ -24,9 +24,6 @@ use hist_model::text::TaskName;
 use model_kernel::{CannotStep, Kernel};
 use std::alloc::Global;
 use sys_abi::memory::NoMemory;
-
-/// How many workers a history may have: those that a schedule names, 0 to 15, and one more.
-const WORKERS: u8 = 17;
 
 /// A kernel and its broker's workers 0 to 16, each with what it remembers of its session. The policy by which they serve is given
 /// to each turn, and is the same in all.

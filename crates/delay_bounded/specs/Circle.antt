@@ -13,7 +13,7 @@ use Rattle.hist_model.specs.declared.policy.Policy.{Policy}
 use Rattle.hist_model.specs.declared.script.Script.{Script}
 use Rattle.history_frames.specs.Ordinals.{task_name_of, tasks_made}
 
--- how many actors stand in the circle: the tasks that got a process number, and the workers 0 to W
+-- how many actors stand in the circle: the tasks that got a PID, and the workers 0 to W
 abbrev pub places : ℕ → List Event → ℕ
 places W K = tasks_made K + (W + 1)
 

@@ -12,7 +12,7 @@ use Rattle.sys_abi.specs.Calls.{nr_getpid}
 use Rattle.delay_bounded.specs.Explored.{explored}
 use Rattle.delay_bounded.specs.Schedules.{schedule_of}
 
--- a policy that passes each call, and a script of two tasks, each of which asks for its process number, which is notified
+-- a policy that passes each call, and a script of two tasks, each of which asks for its PID, which is notified
 unfoldable pub passing : Policy
 passing = record { rules = default_rules }
 

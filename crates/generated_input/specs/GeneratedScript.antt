@@ -1,5 +1,5 @@
 -- The script of generated input: calls of the numbers from 0 on, each made by a task of its own, which the first task starts
--- and waits for. There are two process numbers, so each call's task has the number that the one before it had.
+-- and waits for. There are two PIDs, so each call's task has the number that the one before it had.
 use Rattle.std.specs.Prelude.{ℕ, ℤ, zero, suc, ◌+◌, ◌%◌, false, if◌then◌else◌, ◌==◌, List, [], ◌∷◌, ◌++◌, pos, codes, decimal, true}
 use Rattle.hist_model.specs.Filters.{notify_filter}
 use Rattle.hist_model.specs.Records.{ScriptRecord}
@@ -144,7 +144,7 @@ listener_filter = record { insns = notify_filter (pos nr_mknod ∷ pos nr_sysinf
 abbrev pub default_map : List MapRange
 default_map = record { start = 65536; pages = 16 } ∷ []
 
--- all settings but the process numbers and the filter are the defaults
+-- all settings but the PIDs and the filter are the defaults
 abbrev pub generated_script : ℕ → ℕ → ScriptRecord
 generated_script from count = record {
   pidbase = 0;

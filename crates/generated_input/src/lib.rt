@@ -2,7 +2,7 @@
 //!
 //! The script's first task starts one task after another, each of which makes one call, and a worker answers them. Calls
 //! come with five fates in turn (`fate`): granted, denied, passed, granted in the caller's memory, and cut short by a signal.
-//! There are two process numbers, so all calls' tasks have the same one, each after the other.
+//! There are two PIDs, so all calls' tasks have the same one, each after the other.
 //!
 //! `specs/GeneratedPolicy.antt` and `specs/GeneratedScript.antt` say which policy and which script it is; the layer has no
 //! state. Making them takes time and memory in the order of the number of calls.

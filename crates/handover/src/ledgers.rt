@@ -11,15 +11,12 @@ ghost use Rattle.handover.specs.Keeping.{AllKeep, AreBehind, AreLedgers, IsLeft}
 
 use crate::replacing::{hand_over, is_skip, note};
 use broker_machine::Machine;
-use hist_model::event::Actor;
+use hist_model::event::{Actor, WORKERS};
 use hist_model::policy::Policy;
 use std::alloc::Global;
 use sys_abi::memory::NoMemory;
 use worker_ledger::ledger::Ledger;
 use worker_ledger::successor::Heir;
-
-/// How many workers a history may have.
-const WORKERS: u8 = 17;
 
 /// A ledger from which a worker was replaced.
 #[derive(Drop)]

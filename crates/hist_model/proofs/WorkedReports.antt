@@ -14,7 +14,7 @@ use Rattle.hist_model.specs.declared.event.Actor.TheVariants.{Start, Task, Worke
 use Rattle.hist_model.specs.declared.event.What.{What}
 use Rattle.hist_model.specs.declared.event.What.TheVariants.{Spawn, Poke, Handler, Enter, Native, Install, Resume, Signal, Deliver, Reap, Exit, Recv, OpenMem, OpenBase, Check, Read, Act, Plant, AddfdPut, AddfdTake, Send, LetGo, Skip, Close}
 use Rattle.hist_model.specs.declared.event.SpawnKind.TheVariants.{New, Copied, Shared}
-use Rattle.hist_model.specs.declared.event.Mode.TheVariants.{Restart as RestartMode, Plain}
+use Rattle.hist_model.specs.declared.event.Disposition.TheVariants.{Restart as RestartDisposition, Plain}
 use Rattle.hist_model.specs.declared.event.Entered.{Entered}
 use Rattle.hist_model.specs.declared.event.Entered.TheVariants.{Notify, Allow, Log, Fails, NoSys, Kill}
 use Rattle.hist_model.specs.declared.event.Back.TheVariants.{Value, Fail, Continue}
@@ -272,7 +272,7 @@ each_line (a ∷ more) = what_text a ∷ each_line more
 
 -- the words of each kind of event, beside those above
 words : each_line (
-    Spawn (0 ∷ 2 ∷ []) (Ok (4, Shared)) ∷ Spawn (0 ∷ 3 ∷ 11 ∷ []) (Err 11) ∷ Handler 10 RestartMode ∷ Handler 15 Plain
+    Spawn (0 ∷ 2 ∷ []) (Ok (4, Shared)) ∷ Spawn (0 ∷ 3 ∷ 11 ∷ []) (Err 11) ∷ Handler 10 RestartDisposition ∷ Handler 15 Plain
     ∷ Enter (pos 1000) (1 ∷ 2 ∷ 3 ∷ 4 ∷ 5 ∷ 18446744073709551615 ∷ []) Allow ∷ Enter (pos 39) [] (Fails 13) ∷ Native (Ok 3) ∷ Native (Err 38) ∷ Install (Ok 5) ∷ Install (Err 9)
     ∷ Resume (Fail 200) ∷ Resume (Value (negsuc 1)) ∷ Signal 7 15 (Err 3) ∷ Deliver 12 Run ∷ Reap (Ok (0 ∷ 1 ∷ [])) ∷ Reap (Err 10) ∷ Recv (Err 2) ∷ OpenMem 9 (Err 3)
     ∷ Read 0 4 (Ok (0 ∷ 255 ∷ 0 ∷ [])) ∷ Read 0 4 (Ok (0 ∷ 0 ∷ [])) ∷ Read 0 4 (Err 14)

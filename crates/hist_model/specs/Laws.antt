@@ -1,4 +1,4 @@
--- What holds of every legal history: ids, callers, process numbers, answers and the request count.
+-- What holds of every legal history: ids, callers, PIDs, answers and the request count.
 use Rattle.std.specs.Prelude.{◌≡◌, ℕ, zero, suc, ◌+◌, ◌≤◌, Bool, true, ◌&&◌, not, if◌then◌else◌, List, [], ◌∷◌, length, Option, Some, None}
 use Rattle.hist_model.specs.Kinds.{is_passive, gets_nothing}
 use Rattle.hist_model.specs.Look.{Name, is_task}

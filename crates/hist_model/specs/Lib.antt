@@ -8,6 +8,7 @@ pub mod ScriptRules
 pub mod Kinds
 pub mod Look
 pub mod Names
+pub mod Numbers
 pub mod Histories
 pub mod Tasks
 pub mod Calls

@@ -55,7 +55,7 @@ abbrev pub takes : Actor → What → Bool
 takes Start (Spawn n a) = true
 takes (Task m) (Spawn n a) = true
 takes (Task m) (Poke x b) = true
-takes (Task m) (Handler s mode) = true
+takes (Task m) (Handler s disposition) = true
 takes (Task m) (Enter nr args v) = true
 takes (Task m) (Native a) = true
 takes (Task m) (Install a) = true

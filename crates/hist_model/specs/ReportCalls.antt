@@ -81,12 +81,12 @@ outcome_text (Failed e) = errno_text e
 outcome_text Restarted = codes "restarted"
 outcome_text Ended = codes "ended"
 
--- the process number that the step gave to task n
+-- the PID that the step gave to task n
 abbrev pub pid_given : What → Name → Option ℕ
 pid_given (Spawn m (Ok a)) n = if name_eq m n then Some a.0 else None
 pid_given _ n = None
 
--- the first process number that task n was given
+-- the first PID that task n was given
 unfoldable pub first_pid : Name → List Event → Option ℕ
 first_pid n [] = None
 first_pid n (e ∷ K) = or_else (first_pid n K) (pid_given e.what n)
@@ -96,7 +96,7 @@ abbrev pub or_zero : Option ℕ → ℕ
 or_zero (Some p) = p
 or_zero None = 0
 
--- the line of a call with this number, of which this came: its place, its task, and the task's process number
+-- the line of a call with this number, of which this came: its place, its task, and the task's PID
 abbrev pub call_line_of : ℕ → Actor → ℕ → ℤ → Outcome → List ℕ
 call_line_of c who pid nr out =
     decimal c ++ codes " " ++ actor_text who ++ codes " pid=" ++ decimal pid ++ codes " " ++ call_text nr ++ codes " " ++ outcome_text out ++ codes "\n"

@@ -13,8 +13,8 @@ use Rattle.hist_model.specs.declared.event.What.{What}
 use Rattle.hist_model.specs.declared.event.What.TheVariants.{Spawn, Poke, Handler, Enter, Native, Install, Resume, Signal, Deliver, Reap, Exit, Recv, OpenMem, OpenBase, Check, Read, Act, Plant, AddfdPut, AddfdTake, Send, LetGo, Skip, Close}
 use Rattle.hist_model.specs.declared.event.SpawnKind.{SpawnKind}
 use Rattle.hist_model.specs.declared.event.SpawnKind.TheVariants.{New, Copied, Shared}
-use Rattle.hist_model.specs.declared.event.Mode.{Mode}
-use Rattle.hist_model.specs.declared.event.Mode.TheVariants.{Default, Restart as RestartMode, Plain}
+use Rattle.hist_model.specs.declared.event.Disposition.{Disposition}
+use Rattle.hist_model.specs.declared.event.Disposition.TheVariants.{Default, Restart as RestartDisposition, Plain}
 use Rattle.hist_model.specs.declared.event.Entered.{Entered}
 use Rattle.hist_model.specs.declared.event.Entered.TheVariants.{Notify, Allow, Log, Fails, NoSys, Kill}
 use Rattle.hist_model.specs.declared.event.Delivered.{Delivered}
@@ -34,10 +34,10 @@ abbrev pub spawned_text : Result (ℕ × SpawnKind) ℕ → List ℕ
 spawned_text (Ok a) = codes "pid=" ++ decimal a.0 ++ codes " " ++ spawn_kind_text a.1
 spawned_text (Err e) = errno_text e
 
-abbrev pub mode_text : Mode → List ℕ
-mode_text Default = codes "default"
-mode_text RestartMode = codes "restart"
-mode_text Plain = codes "plain"
+abbrev pub disposition_text : Disposition → List ℕ
+disposition_text Default = codes "default"
+disposition_text RestartDisposition = codes "restart"
+disposition_text Plain = codes "plain"
 
 -- what the filters say
 abbrev pub entered_text : Entered → List ℕ
@@ -115,7 +115,7 @@ asked_text asked = decimal asked.id ++ codes " src=" ++ decimal asked.srcfd ++ c
 abbrev pub what_text : What → List ℕ
 what_text (Spawn child answer) = codes "spawn " ++ name_text child ++ codes " " ++ spawned_text answer
 what_text (Poke addr bytes) = codes "poke " ++ decimal addr ++ codes " " ++ hex bytes
-what_text (Handler sig mode) = codes "handler " ++ decimal sig ++ codes " " ++ mode_text mode
+what_text (Handler sig disposition) = codes "handler " ++ decimal sig ++ codes " " ++ disposition_text disposition
 what_text (Enter nr args verdict) = codes "call " ++ call_text nr ++ args_text args ++ codes " " ++ entered_text verdict
 what_text (Native answer) = codes "native " ++ number_text answer
 what_text (Install answer) = codes "install " ++ number_text answer

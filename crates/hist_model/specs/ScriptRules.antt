@@ -61,7 +61,7 @@ is_instruction (Poke addr bytes) = nat_le 1 (length bytes) && nat_le (length byt
 is_instruction (Fill addr len byte) = nat_le 1 len && nat_le len 65536
 is_instruction (Call nr args) = is_call_number nr
 is_instruction (Kill whom sig) = may_be_signalled whom && may_be_sent sig
-is_instruction (Handler sig mode) = may_be_handled sig
+is_instruction (Handler sig disposition) = may_be_handled sig
 is_instruction _ = true
 
 -- every byte that the instruction stores is mapped
@@ -105,9 +105,9 @@ steps_of schedule = sum_by (λ (s : Step). s.count) schedule
 -- ---- the rules
 
 pub record IsScript (S : ScriptRecord) : Type 0 where
-  -- there is a process number
+  -- there is a PID
   pub numbers : 1 ≤ S.pidmax
-  -- process numbers are at most 4194304
+  -- PIDs are at most 4194304
   pub pids : S.pidbase + S.pidmax ≤ 4194304
   -- descriptors are installed below a number that is at most 4096
   pub rlimit : S.rlimit ≤ 4096

@@ -2,13 +2,13 @@
 use Rattle.std.specs.Prelude.{ℕ, Bool, true, false, ◌&&◌, ◌||◌, not, if◌then◌else◌, ◌==◌, List, length, Option, Some, None}
 use Rattle.sys_abi.specs.Signals.{sigkill, sigusr1, sigusr2, sigterm}
 use Rattle.hist_model.specs.Look.{Name, name_eq, newest}
-use Rattle.hist_model.specs.Tasks.{pending, mode}
+use Rattle.hist_model.specs.Tasks.{pending, disposition}
 use Rattle.hist_model.specs.Calls.{listed, caller, fetched}
 use Rattle.hist_model.specs.declared.event.Event.{Event}
 use Rattle.hist_model.specs.declared.event.Delivered.{Delivered}
 use Rattle.hist_model.specs.declared.event.Delivered.TheVariants.{End, Run, Restart, Eintr}
-use Rattle.hist_model.specs.declared.event.Mode.{Mode}
-use Rattle.hist_model.specs.declared.event.Mode.TheVariants.{Default, Restart as RestartMode, Plain}
+use Rattle.hist_model.specs.declared.event.Disposition.{Disposition}
+use Rattle.hist_model.specs.declared.event.Disposition.TheVariants.{Default, Restart as RestartDisposition, Plain}
 
 -- the call in which a task waits
 unfoldable pub call_of : List Event → Name → Option ℕ
@@ -22,13 +22,13 @@ is_fetched_call K None = false
 abbrev pub held : Bool → List Event → Name → Bool
 held killable K n = killable && is_fetched_call K (call_of K n)
 
-abbrev pub is_default : Mode → Bool
+abbrev pub is_default : Disposition → Bool
 is_default Default = true
 is_default _ = false
 
 -- the signal ends the task: SIGKILL, or one without a handler
 abbrev pub is_fatal : List Event → Name → ℕ → Bool
-is_fatal K n sig = (sig == sigkill) || is_default (mode K n sig)
+is_fatal K n sig = (sig == sigkill) || is_default (disposition K n sig)
 
 -- the signal is pending, and may be delivered now
 abbrev pub due : Bool → List Event → Name → ℕ → Bool
@@ -43,13 +43,13 @@ next_signal killable K n =
     if due killable K n sigterm then Some sigterm else None)))
 
 -- what a signal does to a task that waits in a listed call
-abbrev pub effect_in_call : ℕ → Mode → Delivered
+abbrev pub effect_in_call : ℕ → Disposition → Delivered
 effect_in_call sig Default = End
-effect_in_call sig RestartMode = if sig == sigkill then End else Restart
+effect_in_call sig RestartDisposition = if sig == sigkill then End else Restart
 effect_in_call sig Plain = if sig == sigkill then End else Eintr
 
 -- and elsewhere
-abbrev pub effect_outside : ℕ → Mode → Delivered
+abbrev pub effect_outside : ℕ → Disposition → Delivered
 effect_outside sig Default = End
-effect_outside sig RestartMode = if sig == sigkill then End else Run
+effect_outside sig RestartDisposition = if sig == sigkill then End else Run
 effect_outside sig Plain = if sig == sigkill then End else Run

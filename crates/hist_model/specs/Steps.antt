@@ -3,7 +3,7 @@ use Rattle.std.specs.Prelude.{◌≡◌, ℕ, ◌+◌, ◌-◌, ◌%◌, ◌^◌
 use Rattle.hist_model.specs.Look.{Name, ev, name_eq, is_task, is_worker, task_name, oldest, event_at}
 use Rattle.hist_model.specs.Names.{is_task_name}
 use Rattle.hist_model.specs.Kinds.{makes, closes, has_send_flag, skips, owes, shares_now}
-use Rattle.hist_model.specs.Tasks.{ended, reaped, holder, next_pid, alive, mode, name_of, has_parent, parent, pid_of}
+use Rattle.hist_model.specs.Tasks.{ended, reaped, holder, next_pid, alive, disposition, name_of, has_parent, parent, pid_of}
 use Rattle.hist_model.specs.Signals.{call_of, next_signal, effect_in_call, effect_outside}
 use Rattle.hist_model.specs.Calls.{listed, caller, id, named, fetched, settled, settles, waiting, calls, count, queue, installs_for}
 use Rattle.hist_model.specs.Deeds.{Deed}
@@ -107,11 +107,11 @@ abbrev pub pid_at : List Event → Option ℕ → ℕ
 pid_at K (Some t) = pid_or (pid_of K t)
 pid_at K None = 0
 
--- the process number that the task of this name was given; 0, which nobody holds, where there is none
+-- the PID that the task of this name was given; 0, which nobody holds, where there is none
 abbrev pub pid_named : List Event → Name → ℕ
 pid_named K n = pid_at K (task_place K n)
 
--- the process number for which a signal is meant
+-- the PID for which a signal is meant
 abbrev pub signalled : List Event → Name → Whom → ℕ
 signalled K n Own = pid_named K n
 signalled K n Parent = pid_named K (parent n)
@@ -166,10 +166,10 @@ install_step S K c (r ∷ rs) = Install (slot_answer (S.slot K c r))
 
 -- a living task's step, in a call and outside
 abbrev pub living_step : System → List Event → Name → Option ℕ → What
-living_step S K n (Some c) = if settled K c then Resume (reply K c) else deliver_or (next_signal S.killable K n) (λ s. effect_in_call s (mode K n s)) (install_step S K c (queue K c))
+living_step S K n (Some c) = if settled K c then Resume (reply K c) else deliver_or (next_signal S.killable K n) (λ s. effect_in_call s (disposition K n s)) (install_step S K c (queue K c))
 living_step S K n None =
     if owes_native K n then Native (S.native K n)
-    else deliver_or (next_signal S.killable K n) (λ s. effect_outside s (mode K n s)) (instr_step S K n (next_instr S K n))
+    else deliver_or (next_signal S.killable K n) (λ s. effect_outside s (disposition K n s)) (instr_step S K n (next_instr S K n))
 
 unfoldable pub task_step : System → List Event → Name → What
 task_step S K n = if alive K n then living_step S K n (call_of K n) else Skip

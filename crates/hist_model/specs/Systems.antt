@@ -13,7 +13,7 @@ pub data Slot : Type 0 where
   Over : Slot
 
 pub record System : Type 0 where
-  -- process numbers go from pidbase + 1 to pidbase + pidmax
+  -- PIDs go from pidbase + 1 to pidbase + pidmax
   pub pidbase : ℕ
   pub pidmax : ℕ
   pub firstid : ℕ

@@ -1,12 +1,12 @@
--- Tasks, process numbers and signals (clone(2), wait(2), kill(2), signal(7)).
+-- Tasks, PIDs and signals (clone(2), wait(2), kill(2), signal(7)).
 use Rattle.std.specs.Prelude.{ℕ, zero, suc, ◌+◌, ◌-◌, Bool, true, false, ◌&&◌, ◌||◌, not, if◌then◌else◌, ◌==◌, List, [], ◌∷◌, length, take, Option, Some, None, Ok, nat_le}
 use Rattle.hist_model.specs.Kinds.{ends, makes}
 use Rattle.hist_model.specs.Look.{Name, name_eq, is_task, event_at, newest, or_else}
 use Rattle.hist_model.specs.declared.event.Event.{Event}
 use Rattle.hist_model.specs.declared.event.What.{What}
 use Rattle.hist_model.specs.declared.event.What.TheVariants.{Spawn, Deliver, Reap, Signal, Handler}
-use Rattle.hist_model.specs.declared.event.Mode.{Mode}
-use Rattle.hist_model.specs.declared.event.Mode.TheVariants.{Default}
+use Rattle.hist_model.specs.declared.event.Disposition.{Disposition}
+use Rattle.hist_model.specs.declared.event.Disposition.TheVariants.{Default}
 
 unfoldable pub ended : List Event → Name → Bool
 ended [] n = false
@@ -48,7 +48,7 @@ abbrev pub given_in : Option Event → Option ℕ
 given_in (Some e) = given e.what
 given_in None = None
 
--- the name of the task at place t, and its process number
+-- the name of the task at place t, and its PID
 abbrev pub name_of : List Event → ℕ → Name
 name_of K t = name_in (event_at K t)
 
@@ -96,18 +96,18 @@ is_made (e ∷ K) n = (makes e.what && name_eq (child_of e.what) n) || is_made K
 abbrev pub alive : List Event → Name → Bool
 alive K n = is_made K n && not (ended K n)
 
-abbrev pub handles : What → ℕ → Option Mode
+abbrev pub handles : What → ℕ → Option Disposition
 handles (Handler s m) sig = if s == sig then Some m else None
 handles _ sig = None
 
-abbrev pub mode_or : Option Mode → Mode → Mode
-mode_or (Some m) d = m
-mode_or None d = d
+abbrev pub disposition_or : Option Disposition → Disposition → Disposition
+disposition_or (Some m) d = m
+disposition_or None d = d
 
 -- what the task does at a signal
-unfoldable pub mode : List Event → Name → ℕ → Mode
-mode [] n sig = Default
-mode (e ∷ K) n sig = mode_or (if is_task e.who n then handles e.what sig else None) (if name_eq (child_of e.what) n then mode K (parent n) sig else mode K n sig)
+unfoldable pub disposition : List Event → Name → ℕ → Disposition
+disposition [] n sig = Default
+disposition (e ∷ K) n sig = disposition_or (if is_task e.who n then handles e.what sig else None) (if name_eq (child_of e.what) n then disposition K (parent n) sig else disposition K n sig)
 
 -- the task at this place, if there is one, has this name
 abbrev pub is_named : List Event → Option ℕ → Name → Bool

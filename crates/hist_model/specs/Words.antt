@@ -1,13 +1,6 @@
--- The words with which the program is called, and the forms that they may have.
-use Rattle.std.specs.Prelude.{ℕ, ◌+◌, ◌-◌, ◌*◌, ◌^◌, Bool, ◌&&◌, if◌then◌else◌, nat_le, List, [], ◌∷◌, length, Option, Some, None, bytes_eq, codes}
+-- Words that are decimal numbers, as scripts, policies and the program's own words have them.
+use Rattle.std.specs.Prelude.{ℕ, ◌+◌, ◌-◌, ◌*◌, Bool, ◌&&◌, if◌then◌else◌, nat_le, List, [], ◌∷◌, length, Option, Some, None}
 use Rattle.std.specs.List.{list_all}
-
--- play a script, run it with threads, play generated input, or check a report
-pub data Form : Type 0 where
-  Play : List ℕ → List ℕ → Form
-  Run : List ℕ → List ℕ → ℕ → ℕ → Form
-  Stress : ℕ → ℕ → Form
-  AuditCheck : List ℕ → List ℕ → List ℕ → Form
 
 abbrev pub is_digit : ℕ → Bool
 is_digit b = nat_le 48 b && nat_le b 57
@@ -24,29 +17,3 @@ is_number word = nat_le 1 (length word) && (nat_le (length word) 20 && list_all 
 -- the number that a word is, where it is one from low to high
 abbrev pub number_between : ℕ → ℕ → List ℕ → Option ℕ
 number_between low high word = if is_number word && (nat_le low (number_after 0 word) && nat_le (number_after 0 word) high) then Some (number_after 0 word) else None
-
-abbrev pub run_form : List ℕ → List ℕ → Option ℕ → Option ℕ → Option Form
-run_form policy script (Some workers) (Some cpus) = Some (Run policy script workers cpus)
-run_form policy script _ _ = None
-
-abbrev pub stress_form : Option ℕ → Option ℕ → Option Form
-stress_form (Some from) (Some count) = Some (Stress from count)
-stress_form _ _ = None
-
-abbrev pub three_words : List ℕ → List ℕ → List ℕ → Option Form
-three_words command a b =
-    if bytes_eq command (codes "play") then Some (Play a b)
-    else (if bytes_eq command (codes "stress") then stress_form (number_between 0 (2 ^ 64 - 1) a) (number_between 1 4000 b) else None)
-
-abbrev pub four_words : List ℕ → List ℕ → List ℕ → List ℕ → Option Form
-four_words command a b c = if bytes_eq command (codes "audit-check") then Some (AuditCheck a b c) else None
-
-abbrev pub five_words : List ℕ → List ℕ → List ℕ → List ℕ → List ℕ → Option Form
-five_words command a b c d = if bytes_eq command (codes "run") then run_form a b (number_between 0 16 c) (number_between 0 16 d) else None
-
--- the form of the words: play POLICY SCRIPT, stress FROM COUNT, audit-check POLICY SCRIPT REPORT, or run POLICY SCRIPT WORKERS CPUS
-abbrev pub form : List (List ℕ) → Option Form
-form (command ∷ a ∷ b ∷ []) = three_words command a b
-form (command ∷ a ∷ b ∷ c ∷ []) = four_words command a b c
-form (command ∷ a ∷ b ∷ c ∷ d ∷ []) = five_words command a b c d
-form _ = None

@@ -1,10 +1,14 @@
 //! Events, as a history lists them.
 
+use crate::boxed::Boxed;
 use crate::policy::Cap;
 use crate::request::Request;
 use crate::text::{TaskName, Text};
 use sys_abi::errno::Errno;
 use sys_abi::wire::{Addfd, Notif};
+
+/// How many workers a history may have: 0 to 15, which a schedule names, and 16.
+pub const WORKERS: u8 = 17;
 
 /// Who takes a step.
 #[derive(Debug, Drop)]
@@ -29,7 +33,7 @@ pub enum SpawnKind {
 
 /// What a task does at a signal (sigaction(2)).
 #[derive(Clone, Copy, PartialEq, Eq, Debug)]
-pub enum Mode {
+pub enum Disposition {
     /// It ends.
     Default,
     /// It runs a handler with SA_RESTART.
@@ -73,7 +77,7 @@ pub enum Delivered {
 /// What happens in one event, with its answer.
 #[derive(Debug, Drop)]
 pub enum What {
-    /// A task is made: its process number and how it came by its memory.
+    /// A task is made: its PID and how it came by its memory.
     Spawn {
         child: TaskName,
         answer: Result<(u32, SpawnKind), Errno>,
@@ -83,10 +87,10 @@ pub enum What {
         addr: u64,
         bytes: Text,
     },
-    /// A task sets its mode for a signal.
+    /// A task sets its disposition for a signal.
     Handler {
         sig: u8,
-        mode: Mode,
+        disposition: Disposition,
     },
     /// A task enters a call.
     Enter {
@@ -127,7 +131,7 @@ pub enum What {
     Recv {
         answer: Result<Notif, Errno>,
     },
-    /// A worker opens the memory of the task that holds a process number.
+    /// A worker opens the memory of the task that holds a PID.
     OpenMem {
         pid: u32,
         answer: Result<(), Errno>,
@@ -151,14 +155,14 @@ pub enum What {
     },
     /// A worker does what the policy grants. The cap is the granting rule's limit, and isn't printed.
     Act {
-        request: Request,
+        request: Boxed<Request>,
         cap: Option<Cap>,
         answer: Result<(), Errno>,
     },
     /// A worker writes the answer of sysinfo into the caller's memory.
     Plant {
         addr: u64,
-        bytes: [u8; 112],
+        bytes: Boxed<[u8; 112]>,
         cap: Option<Cap>,
         answer: Result<(), Errno>,
     },

@@ -10,6 +10,7 @@
 //! Below stand the numbers and structures of system calls (`sys_abi`). Every other crate but `io_edge` stands on this one.
 #![tactic(auto)]
 
+pub mod boxed;
 pub mod copy;
 pub mod event;
 pub mod filter;

@@ -2,7 +2,7 @@
 
 ghost use Rattle.std.specs.Prelude.{◌≡◌, []};
 
-use crate::event::{Actor, Mode};
+use crate::event::{Actor, Disposition};
 use crate::request::{Node, NodeRef};
 use crate::text::{Sequence, Text};
 use std::marker::Model;
@@ -67,7 +67,7 @@ pub enum Instr {
     Spawn { program: u32 },
     Thread { program: u32 },
     Kill { whom: Whom, sig: u8 },
-    Handler { sig: u8, mode: Mode },
+    Handler { sig: u8, disposition: Disposition },
     Wait,
     Exit,
 }
@@ -130,7 +130,7 @@ pub struct Totals {
 /// of which none stands twice in a directory.
 #[derive(Debug)]
 pub struct Script {
-    /// Process numbers go from `pidbase + 1` to `pidbase + pidmax`.
+    /// PIDs go from `pidbase + 1` to `pidbase + pidmax`.
     pub pidbase: u32,
     pub pidmax: u32,
     /// The id of the first notification.

@@ -1,6 +1,6 @@
 //! Small lists, which contracts see as lists.
 
-ghost use Rattle.std.specs.Prelude.{◌≡◌, ◌↔◌, IsTrue, [], IfOk};
+ghost use Rattle.std.specs.Prelude.{◌≡◌, ◌↔◌, IsTrue, [], IfOk, IfSome};
 
 use std::alloc::Global;
 use std::marker::Model;
@@ -65,11 +65,65 @@ impl Eq for Text {
     ghost laws = { Prim.search (comparing, rules) };
 }
 
+/// How many numbers a name has at most that takes no memory of its own. Few tasks have a longer one: it would be the name of a
+/// task's child's child's child's child's child.
+const MOST_FEW: usize = 5;
+
+/// At most five numbers, which stand in the value itself.
+#[derive(Debug, Drop)]
+struct FewNumbers {
+    len: u8,
+    /// The numbers, and then any.
+    numbers: [u32; MOST_FEW],
+}
+
+impl Model for FewNumbers {
+    ghost use Rattle.std.specs.Prelude.{ℕ, List, take, ◌≤◌};
+
+    ghost Value = { List ℕ };
+
+    ghost view = { λ f. take f.len f.numbers };
+
+    ghost invariant = { λ f. f.len ≤ 5 };
+}
+
+impl FewNumbers {
+    /// These numbers; none exactly where there are more than five.
+    fn of(items: &[u32]) -> Option<FewNumbers>
+        ensures { IfSome result (λ few. few ≡ items.now) }
+    {
+        let len = items.len();
+        if len > MOST_FEW {
+            return None;
+        }
+        let mut numbers = [0; MOST_FEW];
+        numbers[..len].copy_from_slice(items);
+        Some(FewNumbers {
+            len: len as u8,
+            numbers,
+        })
+    }
+
+    /// The numbers.
+    fn items(&self) -> &[u32]
+        ensures { result.now ≡ self.now }
+    {
+        &self.numbers[..self.len as usize]
+    }
+}
+
+/// The numbers of a name.
+#[derive(Debug, Drop)]
+enum Numbers {
+    Few(FewNumbers),
+    Many(Vec<u32>),
+}
+
 /// The name of a task: `0` for the first one, and for a child its parent's numbers and then its own
-/// among its parent's children, counted from 1.
+/// among its parent's children, counted from 1. A name of few numbers takes no memory of its own.
 #[derive(Debug, Drop)]
 pub struct TaskName {
-    numbers: Vec<u32>,
+    numbers: Numbers,
 }
 
 impl Model for TaskName {
@@ -77,7 +131,9 @@ impl Model for TaskName {
 
     ghost Value = { List ℕ };
 
-    ghost view = { λ t. t.numbers.items };
+    ghost use Rattle.hist_model.specs.Numbers.{numbers_in};
+
+    ghost view = { λ t. numbers_in t.numbers };
 }
 
 impl TaskName {
@@ -85,21 +141,39 @@ impl TaskName {
     pub fn new(numbers: Vec<u32>) -> TaskName
         ensures { result ≡ numbers.items }
     {
+        let numbers = match FewNumbers::of(numbers.as_slice()) {
+            Some(few) => Numbers::Few(few),
+            None => Numbers::Many(numbers),
+        };
         TaskName { numbers }
+    }
+
+    /// The name of these numbers, which are copied. It takes memory only where there are more than five.
+    pub fn of(alloc: Global, items: &[u32]) -> Result<TaskName, NoMemory>
+        ensures { IfOk result (λ n. n ≡ items.now) }
+    {
+        let numbers = match FewNumbers::of(items) {
+            Some(few) => Numbers::Few(few),
+            None => Numbers::Many(Vec::from_slice(alloc, items)?),
+        };
+        Ok(TaskName { numbers })
     }
 
     /// A copy of this name.
     pub fn copied(&self, alloc: Global) -> Result<TaskName, NoMemory>
         ensures { IfOk result (λ n. n ≡ self.now) }
     {
-        Ok(TaskName::new(Vec::from_slice(alloc, self.items())?))
+        TaskName::of(alloc, self.items())
     }
 
     /// Its numbers.
     pub fn items(&self) -> &[u32]
         ensures { result.now ≡ self.now }
     {
-        self.numbers.as_slice()
+        match &self.numbers {
+            Numbers::Few(few) => few.items(),
+            Numbers::Many(numbers) => numbers.as_slice(),
+        }
     }
 }
 

@@ -1,4 +1,4 @@
--- Who has ended and who is reaped after an event, and who holds a process number.
+-- Who has ended and who is reaped after an event, and who holds a PID.
 -- By the one event that each definition looks at first, and by induction on the search of a free number.
 use Rattle.std.proofs.Common.{◌≡◌, inl, inr, ℕ, zero, suc, ◌+◌, ◌<◌, ◌≤◌, Bool, true, false, ◌&&◌, not, List, [], ◌∷◌, length, Option, Some, None, refl, sym, ap, ◌∙◌, arith}
 use Rattle.std.specs.Prelude.{Ok, ◌-◌, if◌then◌else◌}

@@ -31,7 +31,7 @@ use Rattle.kernel_resources.proofs.Others.{Keeps, groups-stay}
 
 keeps-groups : (S : Script) (K : List Event) (a : Actor) (w : What) → keeps_groups w ≡ true → Keeps S K a w
 keeps-groups S K a (Spawn child (Err e)) h = record { makes_none = refl; stores_none = refl; slots = tt }
-keeps-groups S K a (Handler sig mode) h = record { makes_none = refl; stores_none = refl; slots = tt }
+keeps-groups S K a (Handler sig disposition) h = record { makes_none = refl; stores_none = refl; slots = tt }
 keeps-groups S K a (Enter nr args verdict) h = record { makes_none = refl; stores_none = refl; slots = tt }
 keeps-groups S K a (Resume back) h = record { makes_none = refl; stores_none = refl; slots = tt }
 keeps-groups S K a (Signal pid sig answer) h = record { makes_none = refl; stores_none = refl; slots = tt }
@@ -52,7 +52,7 @@ tree-kept S K e h = by (files S K) e.who e.what h
     by F a (Spawn n (Ok (pid, Shared))) h = refl
     by F a (Spawn n (Err x)) h = refl
     by F a (Poke addr bytes) h = refl
-    by F a (Handler sig mode) h = refl
+    by F a (Handler sig disposition) h = refl
     by F a (Enter nr args verdict) h = refl
     by F a (Install (Ok n)) h = refl
     by F a (Install (Err x)) h = refl
@@ -71,7 +71,7 @@ workers-kept (Task n) w h = tt
 workers-kept ListenerActor w h = tt
 workers-kept (Worker k) (Spawn n answer) h = tt
 workers-kept (Worker k) (Poke addr bytes) h = tt
-workers-kept (Worker k) (Handler sig mode) h = tt
+workers-kept (Worker k) (Handler sig disposition) h = tt
 workers-kept (Worker k) (Enter nr args verdict) h = tt
 workers-kept (Worker k) (Install answer) h = tt
 workers-kept (Worker k) (Resume back) h = tt
@@ -86,7 +86,7 @@ workers-kept (Worker k) _ h = cc
 spends-nothing : (w : What) → keeps_the_rest w ≡ true → cap_spent w ≡ None
 spends-nothing (Spawn n answer) h = refl
 spends-nothing (Poke addr bytes) h = refl
-spends-nothing (Handler sig mode) h = refl
+spends-nothing (Handler sig disposition) h = refl
 spends-nothing (Enter nr args verdict) h = refl
 spends-nothing (Install answer) h = refl
 spends-nothing (Resume back) h = refl

@@ -27,7 +27,7 @@ keeps_tree what = true
 -- the step is a task's, a start's, a close or a skip, and makes no group, stores nothing and changes no slot
 abbrev pub keeps_groups : What → Bool
 keeps_groups (Spawn child (Err e)) = true
-keeps_groups (Handler sig mode) = true
+keeps_groups (Handler sig disposition) = true
 keeps_groups (Enter nr args verdict) = true
 keeps_groups (Resume back) = true
 keeps_groups (Signal pid sig answer) = true

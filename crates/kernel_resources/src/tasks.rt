@@ -184,7 +184,7 @@ impl Resources {
         )
     }
 
-    /// Runs the native call that a task of a group with this process number owes, for which there is room. The answers are
+    /// Runs the native call that a task of a group with this PID owes, for which there is room. The answers are
     /// those of `native_calls::run`.
     pub fn run(&mut self, group: u32, pid: u32, call: NativeCall) -> Result<u32, Errno>
         requires live { IsLive self.old.groups group }

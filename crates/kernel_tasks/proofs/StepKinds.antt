@@ -5,15 +5,15 @@ use Rattle.std.specs.Prelude.{Ok, Err}
 use Rattle.hist_model.specs.Look.{Name}
 use Rattle.hist_model.specs.Kinds.{makes, ends, exits, skips}
 use Rattle.hist_model.specs.Steps.{deliver_or, is_spawn}
-use Rattle.hist_model.specs.Tasks.{mode}
+use Rattle.hist_model.specs.Tasks.{disposition}
 use Rattle.hist_model.specs.declared.event.Actor.{Actor}
 use Rattle.hist_model.specs.declared.event.Delivered.{Delivered}
 use Rattle.hist_model.specs.declared.event.Entered.TheVariants.{Kill}
 use Rattle.hist_model.specs.declared.event.Event.{Event}
-use Rattle.hist_model.specs.declared.event.Mode.{Mode}
+use Rattle.hist_model.specs.declared.event.Disposition.{Disposition}
 use Rattle.hist_model.specs.declared.event.What.{What}
 use Rattle.hist_model.specs.declared.event.What.TheVariants.{Spawn, Enter, Exit, Deliver, Reap, Handler, Signal}
-use Rattle.task_table.specs.Sets.{with_mode}
+use Rattle.task_table.specs.Sets.{with_disposition}
 use Rattle.task_table.specs.Stands as table
 use Rattle.task_names.specs.Stands as names
 use Rattle.kernel_tasks.specs.Rows.{keeps_tasks, effect_of, delivery, IsReap, step_or}
@@ -56,23 +56,23 @@ spawn-names e h = spawn-other e.what e.who h
 
 -- ---- deliveries
 
-pub delivered : (K : List Event) (n : Name) (in_call : Bool) (due : Option ℕ) (sig : ℕ) (m : Mode) (effect : Delivered) → Some (sig, m) ≡ with_mode K n due → effect ≡ effect_of in_call sig m → Some (Deliver sig effect) ≡ delivery K n in_call due
+pub delivered : (K : List Event) (n : Name) (in_call : Bool) (due : Option ℕ) (sig : ℕ) (m : Disposition) (effect : Delivered) → Some (sig, m) ≡ with_disposition K n due → effect ≡ effect_of in_call sig m → Some (Deliver sig effect) ≡ delivery K n in_call due
 delivered K n in_call None sig m effect q f = cc
 delivered K n in_call (Some s) sig m effect q f =
-    let p : (sig, m) ≡ (s, mode K n s) = cc in
-    let a : sig ≡ s = ap (λ (x : ℕ × Mode). x.0) p in
-    let b : m ≡ mode K n s = ap (λ (x : ℕ × Mode). x.1) p in
+    let p : (sig, m) ≡ (s, disposition K n s) = cc in
+    let a : sig ≡ s = ap (λ (x : ℕ × Disposition). x.0) p in
+    let b : m ≡ disposition K n s = ap (λ (x : ℕ × Disposition). x.1) p in
     rw (f, a, b)
 
-pub none-delivered : (K : List Event) (n : Name) (in_call : Bool) (due : Option ℕ) → None ≡ with_mode K n due → None ≡ delivery K n in_call due
+pub none-delivered : (K : List Event) (n : Name) (in_call : Bool) (due : Option ℕ) → None ≡ with_disposition K n due → None ≡ delivery K n in_call due
 none-delivered K n in_call None q = refl
 none-delivered K n in_call (Some s) q = cc
 
-pub is-delivery : (w : What) (in_call : Bool) (sig : ℕ) (m : Mode) → w ≡ Deliver sig (effect_of in_call sig m) → table.IsDelivery w sig m
+pub is-delivery : (w : What) (in_call : Bool) (sig : ℕ) (m : Disposition) → w ≡ Deliver sig (effect_of in_call sig m) → table.IsDelivery w sig m
 is-delivery w true sig m q = inl q
 is-delivery w false sig m q = inr q
 
-pub delivery-first : (K : List Event) (n : Name) (in_call : Bool) (due : Option ℕ) (other : What) → step_or (delivery K n in_call due) other ≡ deliver_or due (λ s. effect_of in_call s (mode K n s)) other
+pub delivery-first : (K : List Event) (n : Name) (in_call : Bool) (due : Option ℕ) (other : What) → step_or (delivery K n in_call due) other ≡ deliver_or due (λ s. effect_of in_call s (disposition K n s)) other
 delivery-first K n in_call None other = refl
 delivery-first K n in_call (Some s) other = refl
 

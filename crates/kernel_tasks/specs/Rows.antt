@@ -3,11 +3,11 @@ use Rattle.std.specs.Prelude.{◌≡◌, ℕ, ◌<◌, Bool, true, false, if◌t
 use Rattle.hist_model.specs.Look.{Name}
 use Rattle.hist_model.specs.Kinds.{makes}
 use Rattle.hist_model.specs.Signals.{effect_in_call, effect_outside}
-use Rattle.hist_model.specs.Tasks.{mode}
+use Rattle.hist_model.specs.Tasks.{disposition}
 use Rattle.hist_model.specs.declared.event.Delivered.{Delivered}
 use Rattle.hist_model.specs.declared.event.Event.{Event}
 use Rattle.hist_model.specs.declared.event.Entered.TheVariants.{Kill}
-use Rattle.hist_model.specs.declared.event.Mode.{Mode}
+use Rattle.hist_model.specs.declared.event.Disposition.{Disposition}
 use Rattle.hist_model.specs.declared.event.What.{What}
 use Rattle.hist_model.specs.declared.event.What.TheVariants.{Spawn, Enter, Exit, Deliver, Reap, Handler, Signal, Skip}
 use Rattle.hist_model.specs.declared.request.TaskRef.{TaskRef}
@@ -47,13 +47,13 @@ keeps_tasks (Signal p sig (Ok u)) = false
 keeps_tasks _ = true
 
 -- what a signal does to a task, in a listed call or elsewhere
-abbrev pub effect_of : Bool → ℕ → Mode → Delivered
+abbrev pub effect_of : Bool → ℕ → Disposition → Delivered
 effect_of true sig m = effect_in_call sig m
 effect_of false sig m = effect_outside sig m
 
 -- the delivery of the signal that is due, if one is
 abbrev pub delivery : List Event → Name → Bool → Option ℕ → Option What
-delivery K n in_call (Some sig) = Some (Deliver sig (effect_of in_call sig (mode K n sig)))
+delivery K n in_call (Some sig) = Some (Deliver sig (effect_of in_call sig (disposition K n sig)))
 delivery K n in_call None = None
 
 -- the step, and another one where there is none

@@ -47,7 +47,7 @@ abbrev pub IsEnteredAt : Option EnteredCall → Option Event → Type 0
 IsEnteredAt (Some x) e = (x.nr ≡ nr_in e) × (x.args ≡ args_in e)
 IsEnteredAt None e = ⊥
 
--- the task of this ordinal holds the process number
+-- the task of this ordinal holds the PID
 abbrev pub IsHolder : List Event → ℕ → ℕ → Type 0
 IsHolder K p o = (o < tasks_made K) × (t : ℕ) × (holder K p ≡ Some t) × (place_of K o ≡ Some t)
 

@@ -7,7 +7,7 @@ ghost use Rattle.hist_model.specs.Look.{Name};
 ghost use Rattle.hist_model.specs.Signals.{call_of};
 ghost use Rattle.hist_model.specs.Steps.{deliver_or, living_step, opened, task_place, task_step};
 ghost use Rattle.hist_model.specs.Systems.{System};
-ghost use Rattle.hist_model.specs.Tasks.{alive, ended, is_made, mode};
+ghost use Rattle.hist_model.specs.Tasks.{alive, ended, is_made, disposition};
 ghost use Rattle.hist_model.specs.declared.event.Event.{Event};
 ghost use Rattle.hist_model.specs.declared.event.What.{What};
 ghost use Rattle.hist_model.specs.declared.event.What.TheVariants.{Skip};
@@ -48,5 +48,5 @@ pub fn tasks_live_until_they_end()
 
 /// A delivery comes before what else its task would do.
 pub fn deliveries_come_first()
-    ensures { (K : List Event) (n : Name) (in_call : Bool) (due : Option ℕ) (other : What) → step_or (delivery K n in_call due) other ≡ deliver_or due (λ s. effect_of in_call s (mode K n s)) other }
+    ensures { (K : List Event) (n : Name) (in_call : Bool) (due : Option ℕ) (other : What) → step_or (delivery K n in_call due) other ≡ deliver_or due (λ s. effect_of in_call s (disposition K n s)) other }
 {}

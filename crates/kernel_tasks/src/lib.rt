@@ -1,4 +1,4 @@
-//! The tasks of a kernel: their names, process numbers, signals, children and programs, in one object.
+//! The tasks of a kernel: their names, PIDs, signals, children and programs, in one object.
 //!
 //! A `Tasks` keeps three tables by the ordinals of the tasks: `task_table` has the state of those that aren't reaped,
 //! `task_names` what each is called, and `task_progress` how far each is; and the references of the first. Its model is a

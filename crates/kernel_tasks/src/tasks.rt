@@ -23,7 +23,7 @@ ghost use Rattle.kernel_tasks.specs.Stands.{StandsFor, IsEnteredAt, IsHolder, Is
 ghost use Rattle.task_names.specs.Stands as names_stand;
 ghost use Rattle.task_table.specs.Stands.{reap_step};
 
-use hist_model::event::{Delivered, Mode, SpawnKind, What};
+use hist_model::event::{Delivered, Disposition, SpawnKind, What};
 use hist_model::request::TaskRef;
 use hist_model::script::{Instr, Script, Whom};
 use hist_model::text::TaskName;
@@ -56,17 +56,17 @@ impl Drop for Tasks {
     }
 }
 
-/// What a signal does to a task with this mode for it, which waits in a listed call or doesn't (signal(7)).
-fn effect_of(in_call: bool, sig: u8, mode: Mode) -> Delivered
-    ensures { result ≡ effect_of in_call sig mode }
+/// What a signal does to a task with this disposition for it, which waits in a listed call or doesn't (signal(7)).
+fn effect_of(in_call: bool, sig: u8, disposition: Disposition) -> Delivered
+    ensures { result ≡ effect_of in_call sig disposition }
 {
     if sig == SIGKILL {
         return Delivered::End;
     }
-    match mode {
-        Mode::Default => Delivered::End,
-        Mode::Restart if in_call => Delivered::Restart,
-        Mode::Plain if in_call => Delivered::Eintr,
+    match disposition {
+        Disposition::Default => Delivered::End,
+        Disposition::Restart if in_call => Delivered::Restart,
+        Disposition::Plain if in_call => Delivered::Eintr,
         _ => Delivered::Run,
     }
 }
@@ -115,7 +115,7 @@ fn waiting(
 }
 
 impl Tasks {
-    /// No tasks, whose process numbers will be from `base + 1` to `base + pidmax`.
+    /// No tasks, whose PIDs will be from `base + 1` to `base + pidmax`.
     pub fn new(alloc: Global, base: u32, pidmax: u32) -> Result<Tasks, NoMemory>
         requires { base + pidmax < 2 ^ 32 }
         ensures { IfOk result (λ tasks. (S : Script) → S.pidbase ≡ base → S.pidmax ≡ pidmax → StandsFor S [] tasks) }
@@ -129,7 +129,7 @@ impl Tasks {
     }
 
     /// The script's start: the first task, with this program, where there is none yet. It is refused where there are no
-    /// process numbers at all.
+    /// PIDs at all.
     pub fn first(self, program: u32) -> Result<Tasks, OrNoMemory<NoPid>>
         ensures stands { IfOk result (λ tasks. (S : Script) → StandsFor S [] self → program ≡ length S.programs - 1 → StandsFor S (start (system_of S) ∷ []) tasks) }
         ensures count { IfOk result (λ tasks. (g : ℕ) → living_in tasks.progress g ≡ living_in self.progress g + one_if 0 g) }
@@ -184,21 +184,21 @@ impl Tasks {
         self.names.name(o)
     }
 
-    /// The process number that a task was given; 0 where no task has the ordinal.
+    /// The PID that a task was given; 0 where no task has the ordinal.
     pub fn pid(&self, o: u32) -> u32
         ensures { (S : Script) (K : List Event) → StandsFor S K self.now → result ≡ pid_named K (task_name_of K o) }
     {
         self.names.pid(o)
     }
 
-    /// The process number for which a task's signal is meant (kill(2)); 0, which nobody holds, where no such task was made.
+    /// The PID for which a task's signal is meant (kill(2)); 0, which nobody holds, where no such task was made.
     pub fn signalled(&self, o: u32, whom: Whom) -> u32
         ensures { (S : Script) (K : List Event) → StandsFor S K self.now → o < tasks_made K → result ≡ signalled K (task_name_of K o) whom }
     {
         self.names.signalled(o, whom)
     }
 
-    /// The task that holds a process number: none exactly where nobody that isn't reaped was given it.
+    /// The task that holds a PID: none exactly where nobody that isn't reaped was given it.
     pub fn holder(&self, pid: u32) -> Option<u32>
         ensures some { IfSome result (λ o. (S : Script) (K : List Event) → StandsFor S K self.now → IsHolder K pid o) }
         ensures none { IfNone result ((S : Script) (K : List Event) → StandsFor S K self.now → holder K pid ≡ None) }
@@ -301,27 +301,28 @@ impl Tasks {
         ensures none { IfNone result (self.new ≡ self.old) }
     {
         let task = self.task(o)?;
-        let (sig, mode) = self.table.deliver(task, held)?;
+        let (sig, disposition) = self.table.deliver(task, held)?;
         let what = What::Deliver {
             sig,
-            effect: effect_of(in_call, sig, mode),
+            effect: effect_of(in_call, sig, disposition),
         };
         self.progress.stepped(o, &what);
         Some(what)
     }
 
     /// A task sets what it does at a signal (sigaction(2)).
-    pub fn handler(&mut self, o: u32, sig: u8, mode: Mode)
-        ensures stands { (S : Script) (K : List Event) (e : Event) → StandsFor S K self.old → IsStepOf S K e o → e.what ≡ Handler sig mode → StandsFor S (e ∷ K) self.new }
+    pub fn handler(&mut self, o: u32, sig: u8, disposition: Disposition)
+        ensures stands { (S : Script) (K : List Event) (e : Event) → StandsFor S K self.old → IsStepOf S K e o → e.what ≡ Handler sig disposition → StandsFor S (e ∷ K) self.new }
         ensures count { (g : ℕ) → living_in self.new.progress g ≡ living_in self.old.progress g }
     {
-        self.progress.stepped(o, &What::Handler { sig, mode });
+        self.progress
+            .stepped(o, &What::Handler { sig, disposition });
         if let Some(task) = self.task(o) {
-            self.table.set_handler(task, sig, mode);
+            self.table.set_handler(task, sig, disposition);
         }
     }
 
-    /// A task sends a signal to the task that holds a process number, and gives the step; an ended task takes the signal and
+    /// A task sends a signal to the task that holds a PID, and gives the step; an ended task takes the signal and
     /// does nothing. ESRCH comes exactly where nobody holds the number.
     pub fn signal(&mut self, o: u32, pid: u32, sig: u8) -> What
         ensures answer { (S : Script) (K : List Event) → StandsFor S K self.old → result ≡ Signal pid sig (found (holder K pid)) }
@@ -357,7 +358,7 @@ impl Tasks {
     }
 
     /// A task makes its next child, in this group and with this program, and gives the step: the child's name, which is
-    /// written into `room`, has one number more than the task's own; its process number is the first free one after the
+    /// written into `room`, has one number more than the task's own; its PID is the first free one after the
     /// last one given, cyclic. EAGAIN where every number is held, which makes no task. There is room for the child.
     pub fn spawn(
         &mut self,
@@ -390,7 +391,7 @@ impl Tasks {
         }
     }
 
-    /// A task's next child, for which there is room and which has this name, isn't made: every process number is held.
+    /// A task's next child, for which there is room and which has this name, isn't made: every PID is held.
     fn refuse(&mut self, o: u32, child: TaskName) -> What
         requires { HasRoom self.old o }
         ensures answer { result ≡ Spawn child (Err eagain) }

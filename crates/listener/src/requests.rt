@@ -6,14 +6,15 @@ ghost use Rattle.listener.specs.Requests.{is_of, is_waiting, has_request, waitin
 ghost use Rattle.listener.specs.State.{told};
 ghost use Rattle.listener.specs.declared.requests.Request.{Request as RequestData};
 
+use hist_model::event::WORKERS;
 use std::alloc::Global;
 use std::marker::Model;
 use sys_abi::errno::Errno;
 use sys_abi::memory::NoMemory;
 use sys_abi::wire::Addfd;
 
-/// How many workers there are: 0 to 16.
-const WORKERS: usize = 17;
+/// Room for one request of each worker.
+const ROOM: usize = WORKERS as usize;
 
 /// A request for a descriptor.
 #[derive(Clone, Copy, PartialEq, Eq, Debug)]
@@ -49,7 +50,7 @@ impl Requests {
         ensures { IfOk result (λ r. r ≡ []) }
     {
         Ok(Requests {
-            requests: Vec::with_capacity(alloc, WORKERS)?,
+            requests: Vec::with_capacity(alloc, ROOM)?,
         })
     }
 

@@ -43,7 +43,7 @@ pub use Rattle.hist_model.specs.Steps.{is_child, is_ended_child, is_first, is_sp
 pub use Rattle.hist_model.specs.Steps.{opened, pid_at, pid_named, pid_or, place_or, put_answer, read_answer, recv_answer, request_after, request_listed, send_answer, slot_answer, spawn_answer}
 pub use Rattle.hist_model.specs.Steps.{spends, start, take_step, wait_step, with_id}
 pub use Rattle.hist_model.specs.Systems.{System}
-unfoldable pub use Rattle.hist_model.specs.Tasks.{ended, free_from, holder, is_made, last_pid, mode, next_pid, pending, reaped, was_waited_for}
+unfoldable pub use Rattle.hist_model.specs.Tasks.{ended, free_from, holder, is_made, last_pid, disposition, next_pid, pending, reaped, was_waited_for}
 pub use Rattle.hist_model.specs.Tasks.{alive, child_of, given, given_in, holds, name_of, pid_of, reaps}
 pub use Rattle.hist_model.specs.declared.event.Actor.{Actor}
 pub use Rattle.hist_model.specs.declared.event.Actor.TheVariants.{Listener, Start, Task, Worker}

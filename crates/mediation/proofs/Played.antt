@@ -1,7 +1,7 @@
 -- What schedules play is legal, a finished history stays finished, and small histories that wrong kernels and brokers would make are refused.
 -- By induction on the schedule and on the events (`Rows`, `Calls`, `Replies`), and by unfolding the steps of the small histories.
 use Rattle.mediation.proofs.Common.{[], Actor, any_of, ap, arith, base, Bool, call_at, call_of, calls, closes, deed, ended, Err, Event, event_at, false, fetched, Finished, free_from, group, holder}
-use Rattle.mediation.proofs.Common.{install_of, is_actor, is_letgo, is_made, is_open_session, is_start, IsLegal, last_pid, length, List, listed, Listener, mem, mode, named, newest, next_pid}
+use Rattle.mediation.proofs.Common.{install_of, is_actor, is_letgo, is_made, is_open_session, is_start, IsLegal, last_pid, length, List, listed, Listener, mem, disposition, named, newest, next_pid}
 use Rattle.mediation.proofs.Common.{next_signal, None, notif_of, oldest, oldest_unfetched, owes_native, pending, played, Policy, queue, reaped, Recv, recvs, refl, reply, request_of, Rules, rules_of}
 use Rattle.mediation.proofs.Common.{Script, session, session_call, settled, Skip, started, StaysFinished, step, steps_of, suc, System, system_of, takes, task_place, task_step, times_spent, true}
 use Rattle.mediation.proofs.Common.{was_waited_for, What, with_step, Worker, worker_step, zero, ℕ, ◌++◌, ◌<◌, ◌∷◌, ◌≡◌, ◌⊎◌}
@@ -86,6 +86,6 @@ stays_finished S R K (e ∷ L) legal f n =
 -- each by what its actor's step is in truth
 pub refusals : EarlyEffect × LateOpening × SecondReading × SecondAnswer × ValidByNumber × LateInstallation × WithoutSend × NewestFirst × EffectAfterEnd
 refusals =
-    unfold step task_step worker_step event_at newest oldest ended was_waited_for reaped holder free_from last_pid next_pid is_made mode pending next_signal listed fetched named settled in
+    unfold step task_step worker_step event_at newest oldest ended was_waited_for reaped holder free_from last_pid next_pid is_made disposition pending next_signal listed fetched named settled in
     unfold queue calls recvs session deed call_of steps_of reply oldest_unfetched task_place group mem base session_call install_of call_at request_of owes_native times_spent in
     grind arith

@@ -1,4 +1,4 @@
--- Tasks: their process numbers, their calls, their places, and their names.
+-- Tasks: their PIDs, their calls, their places, and their names.
 -- By induction on a legal history, with the row of its newest step.
 use Rattle.mediation.proofs.Common.{[], Actor, alive, and_from, ap, append_cancel_right, arith, below_or_last, call_of, caller, CallsAreLast, cases_Bool, child_of, ended, ends, ev, Event}
 use Rattle.mediation.proofs.Common.{event_at, event_at-here, event_at-older, false, false_from_ne_true, given, given_in, holder, inl, inr, is_made, is_passive, is_spawn, is_task, IsLegal}
@@ -19,7 +19,7 @@ same-name n m = elim (cases_Bool (name_eq n m)) [ inl q ↦ inr (name_eq-true n 
 pub event_at-last : (e : Event) (K : List Event) (c : ℕ) → c ≡ length K → event_at (e ∷ K) c ≡ Some e
 event_at-last e K c q = rw (q, event_at-here)
 
--- ---- unreaped tasks have different process numbers
+-- ---- unreaped tasks have different PIDs
 
 -- a step that gives a number gives a free one
 given-free : (S : System) (R : Rules) (K : List Event) (a : Actor) (w : What) (p : ℕ) → Row S R K a w → given w ≡ Some p → holder K p ≡ None

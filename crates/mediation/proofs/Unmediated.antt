@@ -3,7 +3,7 @@
 use Rattle.std.proofs.Common.{[], ap, arith, Bool, false, subst, true, List, None, Option, refl, Some, ℕ, ◌∷◌, ◌≡◌}
 use Rattle.std.specs.Prelude.{◌&&◌, ◌==◌, Err, Ok, pos}
 use Rattle.hist_model.specs.Look.{ev, event_at, before, newest, oldest}
-use Rattle.hist_model.specs.Tasks.{ended, was_waited_for, reaped, holder, free_from, last_pid, next_pid, is_made, mode, pending}
+use Rattle.hist_model.specs.Tasks.{ended, was_waited_for, reaped, holder, free_from, last_pid, next_pid, is_made, disposition, pending}
 use Rattle.hist_model.specs.Signals.{call_of, next_signal}
 use Rattle.hist_model.specs.Calls.{listed, fetched, named, settled, queue, calls as calls_made, recvs}
 use Rattle.hist_model.specs.Sessions.{session, deed, Decision, Acts, Plants, addfd_of}
@@ -46,7 +46,7 @@ pub breaks : (Clause : List Event → Type 0) (steps : Turns) → (Mediated rule
 breaks Clause steps part refuted = (refuted, λ m. refuted (part m))
 
 pub granted_is_played : GrantedIsPlayed
-unfolding combine run_from step task_step worker_step event_at newest oldest ended was_waited_for reaped holder free_from last_pid next_pid is_made mode pending next_signal listed fetched named settled queue calls_made recvs session deed program call_of steps_of reply oldest_unfetched task_place group mem base session_call install_of call_at request_of owes_native times_spent last_call byte mapped_bytes files row_in entry_in mount_on top_through target_of up_through attr_replaced with_lines pieces walk_parts walk text_from value_from copy_of read_text read_value progress request base_dirfd fits decide_from decide with_steps with_schedule
+unfolding combine run_from step task_step worker_step event_at newest oldest ended was_waited_for reaped holder free_from last_pid next_pid is_made disposition pending next_signal listed fetched named settled queue calls_made recvs session deed program call_of steps_of reply oldest_unfetched task_place group mem base session_call install_of call_at request_of owes_native times_spent last_call byte mapped_bytes files row_in entry_in mount_on top_through target_of up_through attr_replaced with_lines pieces walk_parts walk text_from value_from copy_of read_text read_value progress request base_dirfd fits decide_from decide with_steps with_schedule
 granted_is_played = refl
 
 pub granted_is_mediated : Mediated rules container (history granted)

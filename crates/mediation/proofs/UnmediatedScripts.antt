@@ -18,7 +18,7 @@ use Rattle.hist_model.specs.Requests.{base_dirfd, request}
 use Rattle.hist_model.specs.Sessions.{deed, session}
 use Rattle.hist_model.specs.Signals.{call_of, next_signal}
 use Rattle.hist_model.specs.Steps.{base, call_at, group, install_of, IsLegal, mem, oldest_unfetched, owes_native, reply, request_of, session_call, step, steps_of, task_place, task_step, times_spent, worker_step}
-use Rattle.hist_model.specs.Tasks.{ended, free_from, holder, is_made, last_pid, mode, next_pid, pending, reaped, was_waited_for}
+use Rattle.hist_model.specs.Tasks.{ended, free_from, holder, is_made, last_pid, disposition, next_pid, pending, reaped, was_waited_for}
 use Rattle.hist_model.specs.Trees.{attr_replaced, entry_in, mount_on, row_in, target_of, top_through, up_through, with_lines}
 use Rattle.mediation.proofs.Mediation.{mediated}
 use Rattle.mediation.proofs.Played.{played_is_legal}
@@ -32,7 +32,7 @@ use Rattle.mediation.specs.UnmediatedActs.{AtActs}
 use Rattle.mediation.specs.UnmediatedScripts.{BreaksOf, before_act, before_reused_act, from_directories, HasBase, interrupted, interrupted_turns, InterruptedIsPlayed, interrupting, LastAnswer, node_at_3, opening_root, other_base, own_base, OwnBaseIsPlayed, reused_base, with_directory, without}
 
 pub own_base_is_played : OwnBaseIsPlayed
-unfolding combine run_from step task_step worker_step event_at newest oldest ended was_waited_for reaped holder free_from last_pid next_pid is_made mode pending next_signal listed fetched named settled queue calls recvs session deed program call_of steps_of reply oldest_unfetched task_place group mem base session_call install_of call_at request_of owes_native times_spent last_call byte mapped_bytes files row_in entry_in mount_on top_through target_of up_through attr_replaced with_lines pieces walk_parts walk text_from value_from copy_of read_text read_value progress request base_dirfd fits decide_from decide with_steps with_schedule
+unfolding combine run_from step task_step worker_step event_at newest oldest ended was_waited_for reaped holder free_from last_pid next_pid is_made disposition pending next_signal listed fetched named settled queue calls recvs session deed program call_of steps_of reply oldest_unfetched task_place group mem base session_call install_of call_at request_of owes_native times_spent last_call byte mapped_bytes files row_in entry_in mount_on top_through target_of up_through attr_replaced with_lines pieces walk_parts walk text_from value_from copy_of read_text read_value progress request base_dirfd fits decide_from decide with_steps with_schedule
 own_base_is_played = refl
 
 pub own_base_is_mediated : Mediated from_directories with_directory own_base
@@ -40,7 +40,7 @@ own_base_is_mediated = mediated from_directories with_directory own_base
     (subst (IsLegal (system_of with_directory) (rules_of from_directories with_directory.figures)) own_base_is_played (played_is_legal from_directories with_directory (refl, (omega arith, (refl, tt))))) (omega arith)
 
 pub interrupted_is_played : InterruptedIsPlayed
-unfolding combine run_from step task_step worker_step event_at newest oldest ended was_waited_for reaped holder free_from last_pid next_pid is_made mode pending next_signal listed fetched named settled queue calls recvs session deed program call_of steps_of reply oldest_unfetched task_place group mem base session_call install_of call_at request_of owes_native times_spent last_call byte mapped_bytes files row_in entry_in mount_on top_through target_of up_through attr_replaced with_lines pieces walk_parts walk text_from value_from copy_of read_text read_value progress request base_dirfd fits decide_from decide with_steps with_schedule
+unfolding combine run_from step task_step worker_step event_at newest oldest ended was_waited_for reaped holder free_from last_pid next_pid is_made disposition pending next_signal listed fetched named settled queue calls recvs session deed program call_of steps_of reply oldest_unfetched task_place group mem base session_call install_of call_at request_of owes_native times_spent last_call byte mapped_bytes files row_in entry_in mount_on top_through target_of up_through attr_replaced with_lines pieces walk_parts walk text_from value_from copy_of read_text read_value progress request base_dirfd fits decide_from decide with_steps with_schedule
 interrupted_is_played = refl
 
 -- no such base was opened

@@ -9,7 +9,7 @@ use Rattle.hist_model.specs.declared.event.Actor.TheVariants.{Task, Worker}
 use Rattle.hist_model.specs.declared.event.Delivered.TheVariants.{End}
 use Rattle.hist_model.specs.declared.event.Entered.TheVariants.{Notify}
 use Rattle.hist_model.specs.declared.event.Event.{Event}
-use Rattle.hist_model.specs.declared.event.Mode.TheVariants.{Plain}
+use Rattle.hist_model.specs.declared.event.Disposition.TheVariants.{Plain}
 use Rattle.hist_model.specs.declared.event.What.{What}
 use Rattle.hist_model.specs.declared.event.What.TheVariants.{Recv, OpenMem, Check, Read, Act, Install, AddfdPut, Send, Deliver}
 use Rattle.hist_model.specs.declared.event.Back.TheVariants.{Value}
@@ -29,7 +29,7 @@ after S R (a ∷ more) K = after S R more (ev a (step S R K a) ∷ K)
 abbrev pub Refuses : System → Rules → List Actor → Actor → What → Type 0
 Refuses S R actors a wrong = IsLegal S R (after S R actors (start S ∷ [])) × (IsLegal S R (ev a wrong ∷ after S R actors (start S ∷ [])) → ⊥)
 
--- the first task's program, and its children's; all calls are listed; two process numbers; each descriptor goes to the number 3
+-- the first task's program, and its children's; all calls are listed; two PIDs; each descriptor goes to the number 3
 abbrev pub small : List Instr → List Instr → System
 small own children = record {
   pidbase = 0;
@@ -88,7 +88,7 @@ abbrev pub SecondAnswer : Type 0
 SecondAnswer = Refuses (small calling []) granting (parent ∷ worker ∷ worker ∷ worker ∷ worker ∷ worker ∷ worker ∷ worker ∷ []) worker (Send 1 (Value (pos 0)) (Ok tt))
 
 -- a child calls and is fetched, and its parent kills it, waits for it, and makes another one, which gets its number; the worker opens, and the
--- id is valid while any task holds its caller's process number
+-- id is valid while any task holds its caller's PID
 abbrev pub ValidByNumber : Type 0
 ValidByNumber = Refuses (small (Spawn 0 ∷ Kill (Child 1) 9 ∷ Wait ∷ Spawn 0 ∷ []) calling) granting (parent ∷ child ∷ worker ∷ parent ∷ child ∷ parent ∷ parent ∷ worker ∷ []) worker (Check 1 (Ok tt))
 

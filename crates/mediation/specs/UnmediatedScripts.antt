@@ -14,7 +14,7 @@ use Rattle.hist_model.specs.declared.event.Delivered.TheVariants.{Eintr, End}
 use Rattle.hist_model.specs.declared.event.SpawnKind.TheVariants.{Copied}
 use Rattle.hist_model.specs.declared.event.Entered.TheVariants.{Allow, Notify}
 use Rattle.hist_model.specs.declared.event.Event.{Event}
-use Rattle.hist_model.specs.declared.event.Mode.TheVariants.{Plain}
+use Rattle.hist_model.specs.declared.event.Disposition.TheVariants.{Plain}
 use Rattle.hist_model.specs.declared.event.What.{What}
 use Rattle.hist_model.specs.declared.event.What.TheVariants.{Spawn, Poke, Handler, Enter, Native, Resume, Signal, Deliver, Reap, Exit, Recv, OpenMem, OpenBase, Check, Read, Act, Send, LetGo, Skip, Close}
 use Rattle.hist_model.specs.declared.policy.Calls.TheVariants.{Named}

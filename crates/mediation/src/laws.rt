@@ -48,7 +48,7 @@ pub fn calls_are_last()
     ensures { (S : System) (R : Rules) (K : List Event) → IsLegal S R K → CallsAreLast K }
 {}
 
-/// Two tasks that are not reaped have different process numbers.
+/// Two tasks that are not reaped have different PIDs.
 #[tactic(auto, using(crate::proofs::Tasks::pids_differ))]
 pub fn pids_differ()
     ensures { (S : System) (R : Rules) (K : List Event) → IsLegal S R K → PidsDiffer K }

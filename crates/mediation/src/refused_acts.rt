@@ -13,7 +13,7 @@ ghost use Rattle.hist_model.specs.WorkedExample.{mknod_policy};
 
 /// Acts without a call, for a call of another worker, by a notification that isn't the call's, without a whole copy, on a copy
 /// that couldn't be read, without the second check, for a call that a signal interrupted before that check, and on what another task
-/// stored that got its caller's process number are refused.
+/// stored that got its caller's PID are refused.
 #[tactic(auto, using(crate::proofs::UnmediatedActs::unfounded_acts))]
 pub fn unfounded_acts_are_refused()
     ensures without_call { Breaks (AtActs HasCall) act_without_call }
@@ -45,7 +45,7 @@ pub fn unnamed_uses_are_refused()
 
 /// The history of a script that makes a node from an open directory is what the script's schedule plays, and it is mediated.
 /// Where the worker opens the container's root for that directory, it is refused, and so is one in which another directory has
-/// the same number in the table of another task, which got the caller's process number.
+/// the same number in the table of another task, which got the caller's PID.
 #[tactic(auto, using(crate::proofs::UnmediatedScripts::own_base_is_played, crate::proofs::UnmediatedScripts::own_base_is_mediated, crate::proofs::UnmediatedScripts::other_bases))]
 pub fn other_bases_are_refused()
     ensures is_played { OwnBaseIsPlayed }

@@ -38,7 +38,7 @@ IsInstruction k o (Enter nr args) = own_step k o ≡ step.Enter nr args (with_id
 IsInstruction k o (Fork program) = next_instr (system k) (past k) (named k o) ≡ Some (instr.Spawn program)
 IsInstruction k o (Thread program) = next_instr (system k) (past k) (named k o) ≡ Some (instr.Thread program)
 IsInstruction k o (Signal pid sig) = own_step k o ≡ step.Signal pid sig (found (holder (past k) pid))
-IsInstruction k o (Handler sig mode) = own_step k o ≡ step.Handler sig mode
+IsInstruction k o (Handler sig disposition) = own_step k o ≡ step.Handler sig disposition
 IsInstruction k o Wait = own_step k o ≡ wait_step (past k) (oldest (is_child (past k) (named k o)) (length (past k))) (oldest (is_ended_child (past k) (named k o)) (length (past k)))
 
 -- the task owes this native call, whose arguments were read

@@ -5,7 +5,7 @@ use Rattle.hist_model.specs.Look.{Name, ev}
 use Rattle.hist_model.specs.Signals.{call_of, next_signal}
 use Rattle.hist_model.specs.Calls.{id, queue, settled}
 use Rattle.hist_model.specs.Steps.{deliver_or, install_step, task_step}
-use Rattle.hist_model.specs.Tasks.{ended, mode}
+use Rattle.hist_model.specs.Tasks.{ended, disposition}
 use Rattle.hist_model.specs.declared.event.Actor.TheVariants.{Task}
 use Rattle.hist_model.specs.declared.event.Delivered.{Delivered}
 use Rattle.hist_model.specs.declared.event.Entered.{Entered}
@@ -73,7 +73,7 @@ signal_due k o = next_signal k.script.killable (past k) (named k o)
 
 -- what its delivery does to the task, in a listed call or elsewhere
 abbrev pub delivered : Kernel → ℕ → Bool → ℕ → Delivered
-delivered k o in_call sig = effect_of in_call sig (mode (past k) (named k o) sig)
+delivered k o in_call sig = effect_of in_call sig (disposition (past k) (named k o) sig)
 
 -- the task's next step is the delivery of the signal that is due, if one is
 abbrev pub IsDeliveredFirst : Kernel → ℕ → Bool → Type 0

@@ -17,6 +17,7 @@ ghost use Rattle.worker_rows.specs.Spent.{HasRoom as HasSpentRoom};
 ghost use Rattle.model_kernel.specs.Kernels.{DoesDeed, IsKernel, past, system};
 
 use crate::kernel::{Kernel, same};
+use hist_model::boxed::Boxed;
 use hist_model::event::What;
 use hist_model::policy::Cap;
 use hist_model::request::{Fault, Request};
@@ -48,7 +49,12 @@ impl Kernel {
 
     /// A worker does what a request asks for in the tree, as often as the cap of the granting rule allows: EDQUOT where its
     /// rule has granted as often as it may, else as the tree answers. There is room.
-    pub fn act(&mut self, worker: u8, request: Request, cap: Option<Cap>) -> Result<(), Errno>
+    pub fn act(
+        &mut self,
+        worker: u8,
+        request: Boxed<Request>,
+        cap: Option<Cap>,
+    ) -> Result<(), Errno>
         requires kernel { IsKernel self.old }
         requires room { 0 < self.old.history.spare }
         requires spent { HasSpentRoom self.old.resources.spent cap }
@@ -56,7 +62,7 @@ impl Kernel {
         ensures deed { DoesDeed self.old worker (deed.Act request cap) self.new }
         ensures answer { result ≡ (if is_spent (past self.old) cap then Err edquot else (system self.old).outcome (past self.old) worker request) }
     {
-        let answer = self.resources.act(worker, &request, cap);
+        let answer = self.resources.act(worker, request.get(), cap);
         let told = same(&answer);
         self.note(
             worker,
@@ -75,23 +81,23 @@ impl Kernel {
         &mut self,
         worker: u8,
         addr: u64,
-        bytes: &[u8; 112],
+        bytes: Boxed<[u8; 112]>,
         cap: Option<Cap>,
     ) -> Result<(), Errno>
         requires kernel { IsKernel self.old }
         requires room { 0 < self.old.history.spare }
         requires memory { mem (past self.old) worker ≡ None → ⊥ }
         requires plant { HasPlantRoom self.old.resources worker cap }
-        ensures deed { DoesDeed self.old worker (deed.Plant addr bytes.now cap) self.new }
+        ensures deed { DoesDeed self.old worker (deed.Plant addr bytes cap) self.new }
         ensures answer { result ≡ (if is_spent (past self.old) cap then Err edquot else (if (system self.old).writable addr then Ok tt else Err efault)) }
     {
-        let answer = self.resources.plant(worker, addr, bytes, cap);
+        let answer = self.resources.plant(worker, addr, bytes.get(), cap);
         let told = same(&answer);
         self.note(
             worker,
             What::Plant {
                 addr,
-                bytes: *bytes,
+                bytes,
                 cap,
                 answer: told,
             },
@@ -99,7 +105,7 @@ impl Kernel {
         answer
     }
 
-    /// A worker, which has no memory open, opens that of the task that holds a process number: ESRCH exactly where no living
+    /// A worker, which has no memory open, opens that of the task that holds a PID: ESRCH exactly where no living
     /// task holds it.
     pub fn open_mem(&mut self, worker: u8, pid: u32) -> Result<(), Errno>
         requires kernel { IsKernel self.old }
@@ -130,7 +136,7 @@ impl Kernel {
         Ok(())
     }
 
-    /// A worker opens the directory from which relative paths of the task that holds a process number go: ESRCH exactly where
+    /// A worker opens the directory from which relative paths of the task that holds a PID go: ESRCH exactly where
     /// no living task holds it, else EBADF exactly where the descriptor leads to no directory.
     pub fn open_base(&mut self, worker: u8, pid: u32, dirfd: i32) -> Result<(), Errno>
         requires kernel { IsKernel self.old }
@@ -189,7 +195,7 @@ impl Kernel {
         let _count = events.len();
     }
 
-    /// The group of the living task that holds a process number: none exactly where no living task holds it.
+    /// The group of the living task that holds a PID: none exactly where no living task holds it.
     fn living_group(&self, pid: u32) -> Option<u32>
         requires { IsKernel self.now }
         ensures live { IfSome result (λ o. IsLive self.now.resources.groups o) }

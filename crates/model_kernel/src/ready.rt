@@ -16,7 +16,7 @@ ghost use Rattle.model_kernel.specs.declared.ready.Next.TheVariants.{Runs as Run
 
 use crate::kernel::Kernel;
 use arg_capture::Capture;
-use hist_model::event::Mode;
+use hist_model::event::Disposition;
 use hist_model::script::{Instr, Script};
 use hist_model::text::{TaskName, Text};
 use native_calls::NativeCall;
@@ -32,7 +32,7 @@ pub(crate) enum Instruction {
     Fork { program: u32 },
     Thread { program: u32 },
     Signal { pid: u32, sig: u8 },
-    Handler { sig: u8, mode: Mode },
+    Handler { sig: u8, disposition: Disposition },
     Wait,
 }
 
@@ -111,9 +111,9 @@ impl Kernel {
                 pid: self.tasks.signalled(task, *whom),
                 sig: *sig,
             }),
-            Some(Instr::Handler { sig, mode }) => Ok(Instruction::Handler {
+            Some(Instr::Handler { sig, disposition }) => Ok(Instruction::Handler {
                 sig: *sig,
-                mode: *mode,
+                disposition: *disposition,
             }),
             Some(Instr::Wait) => Ok(Instruction::Wait),
         }
@@ -216,10 +216,10 @@ impl Kernel {
         ensures ready { IfOk result (λ r. IsReadyFor self.new task r) }
     {
         let next = self.ready_tables(alloc, task)?;
-        let name = Vec::from_slice(alloc, self.tasks.name(task))?;
-        let room = Vec::with_capacity(alloc, name.len() + 1)?;
+        let numbers = self.tasks.name(task);
+        let room = Vec::with_capacity(alloc, numbers.len() + 1)?;
         Ok(ReadyTask {
-            name: TaskName::new(name),
+            name: TaskName::of(alloc, numbers)?,
             room,
             next,
         })

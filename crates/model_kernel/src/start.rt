@@ -19,7 +19,7 @@ use kernel_tasks::Tasks;
 use std::alloc::Global;
 use sys_abi::memory::{NoMemory, OrNoMemory};
 
-/// The script's start: the first task gets the first process number, and memory and descriptors of its own.
+/// The script's start: the first task gets the first PID, and memory and descriptors of its own.
 fn first_step(alloc: Global, script: &Script) -> Result<What, NoMemory>
     ensures { IfOk result (λ w. w ≡ Spawn (0 ∷ []) (Ok (script.now.pidbase + 1, New))) }
 {

@@ -33,7 +33,7 @@ ghost use Rattle.kernel_resources.specs.Stands as resources_stand;
 use crate::kernel::Kernel;
 use crate::ready::{Instruction, Next, ReadyTask};
 use bpf_filter::verdict;
-use hist_model::event::{Actor, Back, Delivered, Entered, Event, Mode, SpawnKind, What};
+use hist_model::event::{Actor, Back, Delivered, Disposition, Entered, Event, SpawnKind, What};
 use hist_model::request::TaskRef;
 use hist_model::text::{TaskName, Text};
 use kernel_resources::Resources;
@@ -73,16 +73,16 @@ impl Kernel {
     }
 
     /// A task sets what it does at a signal.
-    fn handle(&mut self, task: u32, sig: u8, mode: Mode) -> What
+    fn handle(&mut self, task: u32, sig: u8, disposition: Disposition) -> What
         requires ready { MayStep self.old task }
-        requires due { due_step self.old task ≡ Handler sig mode }
+        requires due { due_step self.old task ≡ Handler sig disposition }
         ensures { Acts self.old task result self.new }
     {
-        self.tasks.handler(task, sig, mode);
-        What::Handler { sig, mode }
+        self.tasks.handler(task, sig, disposition);
+        What::Handler { sig, disposition }
     }
 
-    /// A task sends a signal to the task that holds a process number.
+    /// A task sends a signal to the task that holds a PID.
     fn send_signal(&mut self, task: u32, pid: u32, sig: u8) -> What
         requires ready { MayStep self.old task }
         requires due { due_step self.old task ≡ Signal pid sig (found (holder (past self.old) pid)) }
@@ -244,7 +244,7 @@ impl Kernel {
         what
     }
 
-    /// A task makes a thread, for which there is room, as its next child. EAGAIN where every process number is held.
+    /// A task makes a thread, for which there is room, as its next child. EAGAIN where every PID is held.
     fn make_thread(&mut self, task: u32, program: u32, room: Vec<u32>) -> What
         requires ready { MayStep self.old task }
         requires tasks { HasTaskRoom self.old.tasks task }
@@ -262,7 +262,7 @@ impl Kernel {
     }
 
     /// A task makes a task with a copy of its group, for which there is room, as its next child (fork(2)). EAGAIN where every
-    /// process number is held.
+    /// PID is held.
     fn make_process(&mut self, task: u32, program: u32, room: Vec<u32>) -> What
         requires ready { MayStep self.old task }
         requires tasks { HasTaskRoom self.old.tasks task }
@@ -341,7 +341,7 @@ impl Kernel {
             Instruction::Fork { program } => Some(self.make_process(task, program, room)),
             Instruction::Thread { program } => Some(self.make_thread(task, program, room)),
             Instruction::Signal { pid, sig } => Some(self.send_signal(task, pid, sig)),
-            Instruction::Handler { sig, mode } => Some(self.handle(task, sig, mode)),
+            Instruction::Handler { sig, disposition } => Some(self.handle(task, sig, disposition)),
             Instruction::Wait => self.wait(task, room),
         }
     }

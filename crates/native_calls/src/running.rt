@@ -35,7 +35,7 @@ pub struct Container {
     pub figures: Figures,
 }
 
-/// The task that makes a call: its space, its table and its process number.
+/// The task that makes a call: its space, its table and its PID.
 #[derive(Clone, Copy, Debug)]
 pub struct Caller {
     pub space: SpaceRef,

@@ -139,7 +139,7 @@ operand-ranked : (kind : Operand) (token : Token) → is_ranked (operand_fault k
 operand-ranked operand.Program (Bare word) = unless-ranked _ reason.OutOfRange refl
 operand-ranked operand.CallName (Bare word) = unless-ranked _ reason.UnknownName refl
 operand-ranked operand.Call (Bare word) = call-ranked (begins_number word) word
-operand-ranked operand.Mode (Bare word) = unless-ranked _ reason.UnknownName refl
+operand-ranked operand.Disposition (Bare word) = unless-ranked _ reason.UnknownName refl
 operand-ranked operand.Listener (Bare word) = unless-ranked _ reason.UnknownName refl
 operand-ranked operand.Whom (Bare word) = unless-ranked _ reason.UnknownName refl
 operand-ranked operand.Task (Bare word) = unless-ranked _ reason.BadNumber refl

@@ -9,7 +9,7 @@ use Rattle.lex_core.specs.declared.reason.Reason.TheVariants.{BadByte, BadQuote,
 use Rattle.hist_model.specs.Filters.{notify_filter, fault_among}
 use Rattle.hist_model.specs.Sysinfo.{no_figures}
 use Rattle.hist_model.specs.declared.event.Actor.TheVariants.{Task, Worker}
-use Rattle.hist_model.specs.declared.event.Mode.TheVariants.{Restart}
+use Rattle.hist_model.specs.declared.event.Disposition.TheVariants.{Restart}
 use Rattle.hist_model.specs.declared.request.Node.TheVariants as node
 use Rattle.hist_model.specs.declared.script.Instr.TheVariants.{Poke, Fill, Call, Spawn, Kill, Handler, Wait, Exit}
 use Rattle.hist_model.specs.declared.script.Script.{Script}

@@ -167,7 +167,7 @@ operand_at word.Call operands place = first_or place operand.Call argument
 operand_at word.Spawn operands place = operand.Program
 operand_at word.Thread operands place = operand.Program
 operand_at word.Kill operands place = kill_operand operands place
-operand_at word.Handler operands place = first_or place operand.Handled operand.Mode
+operand_at word.Handler operands place = first_or place operand.Handled operand.Disposition
 operand_at word.Task operands place = first_or place operand.Task (natural 1 200000)
 operand_at word.Worker operands place = first_or place (natural 0 15) (natural 1 200000)
 operand_at _ operands place = wide
@@ -207,8 +207,8 @@ number_fault kind (Some n) = fault_unless (is_allowed kind n) reason.OutOfRange
 abbrev pub is_call_name : List ℕ → Bool
 is_call_name word = is_some (call_number_of word)
 
-abbrev pub is_mode : List ℕ → Bool
-is_mode word = bytes_eq word (codes "default") || bytes_eq word (codes "restart") || bytes_eq word (codes "plain")
+abbrev pub is_disposition : List ℕ → Bool
+is_disposition word = bytes_eq word (codes "default") || bytes_eq word (codes "restart") || bytes_eq word (codes "plain")
 
 abbrev pub is_addressee : Addressee → Bool
 is_addressee addressee.Unknown = false
@@ -224,7 +224,7 @@ abbrev pub word_fault : Operand → List ℕ → Option Reason
 word_fault operand.Program word = fault_unless (nat_le (length word) 64) reason.OutOfRange
 word_fault operand.CallName word = fault_unless (is_call_name word) reason.UnknownName
 word_fault operand.Call word = call_fault word
-word_fault operand.Mode word = fault_unless (is_mode word) reason.UnknownName
+word_fault operand.Disposition word = fault_unless (is_disposition word) reason.UnknownName
 word_fault operand.Listener word = fault_unless (bytes_eq word (codes "listener")) reason.UnknownName
 word_fault operand.Whom word = fault_unless (is_addressee (addressee_of word)) reason.UnknownName
 word_fault operand.Task word = fault_unless (is_task_text word) reason.BadNumber

@@ -20,11 +20,11 @@ no_settings = record {
   limits = None;
 }
 
--- the process numbers from the base on, where no line states how many: 32768
+-- the PIDs from the base on, where no line states how many: 32768
 abbrev pub pidmax_of : Settings → ℕ
 pidmax_of settings = unwrap_or settings.pidmax 32768
 
--- the numbers from the base on end at most at 4194304, the greatest process number
+-- the numbers from the base on end at most at 4194304, the greatest PID
 abbrev pub pidbase_fault : Settings → ℕ → Option Fault
 pidbase_fault settings n =
     or_else (wrong_if (nat_lt 4194304 (n + pidmax_of settings)) reason.OutOfRange) (duplicate (is_some settings.pidbase))

@@ -5,8 +5,8 @@ use Rattle.lex_core.specs.declared.line.Token.{Token}
 use Rattle.bpf_filter.specs.Text.{below, number_at}
 use Rattle.sys_abi.specs.Calls.{call_number_of}
 use Rattle.hist_model.specs.declared.event.Actor.TheVariants as actor
-use Rattle.hist_model.specs.declared.event.Mode.{Mode}
-use Rattle.hist_model.specs.declared.event.Mode.TheVariants as mode
+use Rattle.hist_model.specs.declared.event.Disposition.{Disposition}
+use Rattle.hist_model.specs.declared.event.Disposition.TheVariants as disposition
 use Rattle.hist_model.specs.declared.request.Node.{Node}
 use Rattle.hist_model.specs.declared.request.Node.TheVariants as node
 use Rattle.hist_model.specs.declared.script.Figures.{Figures}
@@ -69,8 +69,8 @@ abbrev pub count_at : List Token → ℕ → ℕ
 count_at (who ∷ []) place = 1
 count_at operands place = word_at operands place
 
-abbrev pub mode_of : List ℕ → Mode
-mode_of name = if bytes_eq name (codes "restart") then mode.Restart else (if bytes_eq name (codes "plain") then mode.Plain else mode.Default)
+abbrev pub disposition_of : List ℕ → Disposition
+disposition_of name = if bytes_eq name (codes "restart") then disposition.Restart else (if bytes_eq name (codes "plain") then disposition.Plain else disposition.Default)
 
 abbrev pub whom_of : Addressee → ℕ → Whom
 whom_of addressee.Parent n = whom.Parent
@@ -163,7 +163,7 @@ statement word.Call operands = states.Does (call_of operands)
 statement word.Spawn operands = states.Starts false (bytes_at operands 0)
 statement word.Thread operands = states.Starts true (bytes_at operands 0)
 statement word.Kill operands = states.Does (kill_of (addressee_in operands) operands)
-statement word.Handler operands = states.Does (instr.Handler (byte_at operands 0) (mode_of (bytes_at operands 1)))
+statement word.Handler operands = states.Does (instr.Handler (byte_at operands 0) (disposition_of (bytes_at operands 1)))
 statement word.Wait operands = states.Does instr.Wait
 statement word.Exit operands = states.Does instr.Exit
 statement word.Schedule operands = states.Schedule

@@ -42,8 +42,8 @@ pub enum Operand {
     CallName,
     /// The name of a call, or its number.
     Call,
-    /// The mode of a handler.
-    Mode,
+    /// The disposition of a handler.
+    Disposition,
     /// The word `listener`.
     Listener,
     /// Whom a signal is for.
@@ -155,7 +155,7 @@ fn argument() -> Operand
     }
 }
 
-/// What the number behind the word of whom a signal is for has to be: that of a child, a process number, or any number
+/// What the number behind the word of whom a signal is for has to be: that of a child, a PID, or any number
 /// behind another word.
 fn kill_number(whom: Addressee) -> Operand
     ensures { result ≡ definitions.kill_number whom }
@@ -276,7 +276,7 @@ fn operand_at(word: Word, operands: &[Token], place: usize) -> Operand
         Word::Fill => fill_operand(place),
         Word::Call => first_or(place, Operand::Call, argument()),
         Word::Kill => kill_operand(operands, place),
-        Word::Handler => first_or(place, Operand::Handled, Operand::Mode),
+        Word::Handler => first_or(place, Operand::Handled, Operand::Disposition),
         Word::Task => first_or(place, Operand::Task, natural(1, 200_000)),
         Word::Worker => first_or(place, natural(0, 15), natural(1, 200_000)),
         _ => wide(),
@@ -360,9 +360,9 @@ fn is_call_name(word: &[u8]) -> bool
     call_number(word).is_some()
 }
 
-/// Whether a word is the mode of a handler.
-fn is_mode(word: &[u8]) -> bool
-    ensures { result ≡ definitions.is_mode word.now }
+/// Whether a word is the disposition of a handler.
+fn is_disposition(word: &[u8]) -> bool
+    ensures { result ≡ definitions.is_disposition word.now }
 {
     word == b"default".as_slice() || word == b"restart".as_slice() || word == b"plain".as_slice()
 }
@@ -395,7 +395,7 @@ fn word_fault(kind: Operand, word: &[u8], operands: &Operands, place: usize) -> 
         Operand::Program => fault_unless(word.len() <= 64, Reason::OutOfRange),
         Operand::CallName => fault_unless(is_call_name(word), Reason::UnknownName),
         Operand::Call => call_fault(word, operands.number(place), operands.call(place)),
-        Operand::Mode => fault_unless(is_mode(word), Reason::UnknownName),
+        Operand::Disposition => fault_unless(is_disposition(word), Reason::UnknownName),
         Operand::Listener => { fault_unless(word == b"listener".as_slice(), Reason::UnknownName) }
         Operand::Whom => { fault_unless(is_addressee(addressee_of(word)), Reason::UnknownName) }
         Operand::Task => fault_unless(is_task_text(word), Reason::BadNumber),

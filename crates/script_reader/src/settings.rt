@@ -10,10 +10,10 @@ use hist_model::request::NodeRef;
 use hist_model::script::Figures;
 use lex_core::Reason;
 
-/// How many process numbers there are where no line says it.
+/// How many PIDs there are where no line says it.
 const PIDMAX: u32 = 32_768;
 
-/// The greatest process number (PID_MAX_LIMIT).
+/// The greatest PID (PID_MAX_LIMIT).
 const GREATEST_PID: u64 = 4_194_304;
 
 /// The limits of the control groups of a container (cgroups(7)): the smallest of all, and those of the host.
@@ -68,7 +68,7 @@ pub fn refuse_again(again: bool) -> Result<(), Fault>
     wrong_if(again, Reason::Duplicate)
 }
 
-/// How many process numbers there are.
+/// How many PIDs there are.
 pub fn pidmax_of(settings: &Settings) -> u32
     ensures { result ≡ definitions.pidmax_of settings.now }
 {

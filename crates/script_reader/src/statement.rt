@@ -9,7 +9,7 @@ use crate::operand::{Addressee, addressee_in, begins_number};
 use crate::operands::{Operands, token_bytes};
 use crate::paths::task_numbers;
 use crate::word::Word;
-use hist_model::event::{Actor, Mode};
+use hist_model::event::{Actor, Disposition};
 use hist_model::request::Node;
 use hist_model::script::{Figures, Insn, Instr, MapRange, Step, Whom};
 use hist_model::text::{Sequence, TaskName, Text};
@@ -199,15 +199,15 @@ fn count_at(operands: &Operands, place: usize) -> u32
     }
 }
 
-fn mode_of(name: &[u8]) -> Mode
-    ensures { result ≡ definitions.mode_of name.now }
+fn disposition_of(name: &[u8]) -> Disposition
+    ensures { result ≡ definitions.disposition_of name.now }
 {
     if name == b"restart".as_slice() {
-        Mode::Restart
+        Disposition::Restart
     } else if name == b"plain".as_slice() {
-        Mode::Plain
+        Disposition::Plain
     } else {
-        Mode::Default
+        Disposition::Default
     }
 }
 
@@ -397,7 +397,7 @@ pub fn statement_of(alloc: Global, word: Word, operands: Operands) -> Result<Sta
         Word::Kill => Statement::Does(kill(&operands)),
         Word::Handler => Statement::Does(Instr::Handler {
             sig: byte_at(&operands, 0),
-            mode: mode_of(bytes_at(&operands, 1)),
+            disposition: disposition_of(bytes_at(&operands, 1)),
         }),
         Word::Wait => Statement::Does(Instr::Wait),
         Word::Exit => Statement::Does(Instr::Exit),

@@ -1,4 +1,4 @@
--- Names, ordinals and process numbers after one more event, and how often a task has spawned.
+-- Names, ordinals and PIDs after one more event, and how often a task has spawned.
 -- By the lemmas on ordinals, and since a task that was made keeps its place.
 use Rattle.std.proofs.Common.{◌≡◌, ◌⊎◌, inl, inr, ℕ, ◌+◌, ◌<◌, ◌≤◌, true, false, ◌&&◌, List, [], ◌∷◌, length, Option, Some, None, refl, sym, ap, ◌∙◌, arith}
 use Rattle.std.specs.Prelude.{Ok}

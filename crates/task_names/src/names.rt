@@ -33,7 +33,7 @@ pub struct NameRow {
     children: Vec<Option<Child>>,
 }
 
-/// What the tasks of a kernel are called, and which process numbers they were given, by ordinal.
+/// What the tasks of a kernel are called, and which PIDs they were given, by ordinal.
 pub struct TaskNames {
     rows: Vec<NameRow>,
     /// Room for the name of the next task.
@@ -200,7 +200,7 @@ impl TaskNames {
         }
     }
 
-    /// The process number that a task was given; 0 where no task has the ordinal.
+    /// The PID that a task was given; 0 where no task has the ordinal.
     pub fn pid(&self, o: u32) -> u32
         ensures { (K : List Event) → StandsFor K self.now → result ≡ pid_named K (task_name_of K o) }
     {
@@ -210,7 +210,7 @@ impl TaskNames {
         }
     }
 
-    /// The process number that a task's parent was given; 0 for a task without one.
+    /// The PID that a task's parent was given; 0 for a task without one.
     pub fn parent_pid(&self, o: u32) -> u32
         ensures { (K : List Event) → StandsFor K self.now → result ≡ pid_named K (parent_name (task_name_of K o)) }
     {
@@ -232,7 +232,7 @@ impl TaskNames {
         }
     }
 
-    /// The process number that a task's k-th child was given, from 1 on; 0 where that wasn't made.
+    /// The PID that a task's k-th child was given, from 1 on; 0 where that wasn't made.
     pub fn child_pid(&self, o: u32, k: u32) -> u32
         ensures { (K : List Event) → StandsFor K self.now → o < tasks_made K → result ≡ pid_named K (task_name_of K o ++ k ∷ []) }
     {
@@ -242,7 +242,7 @@ impl TaskNames {
         }
     }
 
-    /// The process number for which a task's signal is meant (kill(2)); 0, which nobody holds, where no such task was made.
+    /// The PID for which a task's signal is meant (kill(2)); 0, which nobody holds, where no such task was made.
     pub fn signalled(&self, o: u32, whom: Whom) -> u32
         ensures { (K : List Event) → StandsFor K self.now → o < tasks_made K → result ≡ signalled K (task_name_of K o) whom }
     {

@@ -7,12 +7,12 @@ use Rattle.hist_model.specs.Calls.{settled, queue}
 use Rattle.hist_model.specs.Signals.{call_of, next_signal, effect_in_call, effect_outside}
 use Rattle.hist_model.specs.Steps.{task_step, living_step, instr_step, install_step, next_instr, owes_native, deliver_or, wait_step, reply}
 use Rattle.hist_model.specs.Systems.{System}
-use Rattle.hist_model.specs.Tasks.{alive, mode}
+use Rattle.hist_model.specs.Tasks.{alive, disposition}
 use Rattle.hist_model.specs.declared.event.Event.{Event}
 use Rattle.hist_model.specs.declared.event.Delivered.{Delivered}
 use Rattle.hist_model.specs.declared.event.Delivered.TheVariants.{Restart}
-use Rattle.hist_model.specs.declared.event.Mode.{Mode}
-use Rattle.hist_model.specs.declared.event.Mode.TheVariants.{Default, Restart as RestartMode, Plain}
+use Rattle.hist_model.specs.declared.event.Disposition.{Disposition}
+use Rattle.hist_model.specs.declared.event.Disposition.TheVariants.{Default, Restart as RestartDisposition, Plain}
 use Rattle.hist_model.specs.declared.event.What.{What}
 use Rattle.hist_model.specs.declared.event.What.TheVariants.{Spawn, Enter, Resume, Signal, Deliver, Reap, Exit, Skip, Handler, Poke, Native, Install}
 use Rattle.hist_model.specs.declared.script.Instr.{Instr}
@@ -70,10 +70,10 @@ delivered S K n s Restart h = h
 delivered S K n s effect h = tt
 
 -- outside a call nothing is entered again
-ends-or-runs : (S : System) (K : List Event) (n : Name) (s : ℕ) (m : Mode) (b : Bool) → (s == 9) ≡ b → Facts S K n (Deliver s (effect_outside s m))
+ends-or-runs : (S : System) (K : List Event) (n : Name) (s : ℕ) (m : Disposition) (b : Bool) → (s == 9) ≡ b → Facts S K n (Deliver s (effect_outside s m))
 ends-or-runs S K n s Default b q = tt
-ends-or-runs S K n s RestartMode true q = rw q tt
-ends-or-runs S K n s RestartMode false q = rw q tt
+ends-or-runs S K n s RestartDisposition true q = rw q tt
+ends-or-runs S K n s RestartDisposition false q = rw q tt
 ends-or-runs S K n s Plain true q = rw q tt
 ends-or-runs S K n s Plain false q = rw q tt
 
@@ -81,21 +81,21 @@ installs : (S : System) (K : List Event) (n : Name) (c : ℕ) (rs : List ℕ) �
 installs S K n c [] = tt
 installs S K n c (r ∷ rs) = tt
 
-in-call : (S : System) (K : List Event) (n : Name) (c : ℕ) (sig : Option ℕ) → IsWaiting K n → Facts S K n (deliver_or sig (λ s. effect_in_call s (mode K n s)) (install_step S K c (queue K c)))
+in-call : (S : System) (K : List Event) (n : Name) (c : ℕ) (sig : Option ℕ) → IsWaiting K n → Facts S K n (deliver_or sig (λ s. effect_in_call s (disposition K n s)) (install_step S K c (queue K c)))
 in-call S K n c None h = installs S K n c (queue K c)
-in-call S K n c (Some s) h = delivered S K n s (effect_in_call s (mode K n s)) h
+in-call S K n c (Some s) h = delivered S K n s (effect_in_call s (disposition K n s)) h
 
-outside : (S : System) (K : List Event) (n : Name) (sig : Option ℕ) → call_of K n ≡ None → Facts S K n (deliver_or sig (λ s. effect_outside s (mode K n s)) (instr_step S K n (next_instr S K n)))
+outside : (S : System) (K : List Event) (n : Name) (sig : Option ℕ) → call_of K n ≡ None → Facts S K n (deliver_or sig (λ s. effect_outside s (disposition K n s)) (instr_step S K n (next_instr S K n)))
 outside S K n None h = instr S K n (next_instr S K n) h refl
-outside S K n (Some s) h = ends-or-runs S K n s (mode K n s) (s == 9) refl
+outside S K n (Some s) h = ends-or-runs S K n s (disposition K n s) (s == 9) refl
 
 settled-or : (S : System) (K : List Event) (n : Name) (c : ℕ) (b : Bool) → IsWaiting K n
-    → Facts S K n (if b then Resume (reply K c) else deliver_or (next_signal S.killable K n) (λ s. effect_in_call s (mode K n s)) (install_step S K c (queue K c)))
+    → Facts S K n (if b then Resume (reply K c) else deliver_or (next_signal S.killable K n) (λ s. effect_in_call s (disposition K n s)) (install_step S K c (queue K c)))
 settled-or S K n c true h = h
 settled-or S K n c false h = in-call S K n c (next_signal S.killable K n) h
 
 owing-or : (S : System) (K : List Event) (n : Name) (b : Bool) → call_of K n ≡ None
-    → Facts S K n (if b then Native (S.native K n) else deliver_or (next_signal S.killable K n) (λ s. effect_outside s (mode K n s)) (instr_step S K n (next_instr S K n)))
+    → Facts S K n (if b then Native (S.native K n) else deliver_or (next_signal S.killable K n) (λ s. effect_outside s (disposition K n s)) (instr_step S K n (next_instr S K n)))
 owing-or S K n true h = tt
 owing-or S K n false h = outside S K n (next_signal S.killable K n) h
 

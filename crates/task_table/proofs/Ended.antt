@@ -13,7 +13,7 @@ use Rattle.hist_model.specs.Signals.{is_default}
 use Rattle.hist_model.specs.declared.event.What.{What}
 use Rattle.hist_model.specs.declared.event.What.TheVariants.{Exit, Enter}
 use Rattle.hist_model.specs.declared.event.Entered.TheVariants.{Kill}
-use Rattle.hist_model.specs.declared.event.Mode.{Mode}
+use Rattle.hist_model.specs.declared.event.Disposition.{Disposition}
 use Rattle.hist_model.specs.declared.event.Actor.TheVariants.{Task as TaskActor}
 use Rattle.hist_model.proofs.Look.{name_eq-refl}
 use Rattle.history_frames.specs.Ordinals.{place_of}
@@ -22,12 +22,12 @@ use Rattle.history_frames.proofs.Held.{ended-same, ended-more, waited-same}
 use Rattle.hist_model.specs.declared.request.TaskRef.{TaskRef}
 use Rattle.task_table.specs.declared.table.Task.{Task}
 use Rattle.task_table.specs.declared.table.TaskTable.{TaskTable}
-use Rattle.task_table.specs.Sets.{pending_of, modes_of, with_signal}
+use Rattle.task_table.specs.Sets.{pending_of, dispositions_of, with_signal}
 use Rattle.task_table.specs.Table.{IsRef, SameCounts, IsIndexed, IsPut, IsForgotten, IsOrphaned, IsEnded, IsEndedWith, ended_task, without_parent, orphaned, left, reached}
 use Rattle.task_table.specs.Stands.{StandsFor, IsTask, IsParent, IsOrderly, IsStepOf, IsDelivery}
 use Rattle.task_table.proofs.Found.{reached-some}
-use Rattle.task_table.proofs.Signalled.{own-delivery, delivery-ends, pending-left-by, modes-left-by}
-use Rattle.task_table.proofs.Kept.{task-step, task-left, parent-kept, never, pending-left, pending-same, mode-left, modes-same, names-apart, none-both}
+use Rattle.task_table.proofs.Signalled.{own-delivery, delivery-ends, pending-left-by, dispositions-left-by}
+use Rattle.task_table.proofs.Kept.{task-step, task-left, parent-kept, never, pending-left, pending-same, disposition-left, dispositions-same, names-apart, none-both}
 use Rattle.task_table.proofs.Spawned.{reaped-new}
 use Rattle.task_table.proofs.Changed.{put-indexed, forget-indexed, counts-on}
 use Rattle.task_table.proofs.Stepped.{Own, own-leaves, own-touches, by-name, orderly-more, stands-from, ref-back, other-name, row-made, row-named}
@@ -158,7 +158,7 @@ module _ (base pidmax : ℕ) (K : List Event) (old new : TaskTable) (t : TaskRef
 module _ (base pidmax : ℕ) (K : List Event) (e : Event) (old new : TaskTable) (t : TaskRef) (r q : Task) (S : StandsFor base pidmax K old) (g : get old.tasks t.slot ≡ Some r) (f : r.ordinal ≡ t.ordinal)
     (who : e.who ≡ TaskActor (name_of K (S.tasks t.slot r g).place)) (own : Own e.what) (fatal : ends e.what ≡ true) (lives : ended K (name_of K (S.tasks t.slot r g).place) ≡ false)
     (o : q.ordinal ≡ r.ordinal) (n : q.pid ≡ r.pid) (c : q.parent ≡ r.parent)
-    (pend : q.pending ≡ pending_of (e ∷ K) (name_of K (S.tasks t.slot r g).place)) (mods : q.modes ≡ modes_of (e ∷ K) (name_of K (S.tasks t.slot r g).place)) (d : IsEnded old t r q new) where
+    (pend : q.pending ≡ pending_of (e ∷ K) (name_of K (S.tasks t.slot r g).place)) (mods : q.dispositions ≡ dispositions_of (e ∷ K) (name_of K (S.tasks t.slot r g).place)) (d : IsEnded old t r q new) where
   abbrev row : IsTask K r
   row = S.tasks t.slot r g
 
@@ -201,7 +201,7 @@ module _ (base pidmax : ℕ) (K : List Event) (e : Event) (old new : TaskTable) 
       let k : ended (e ∷ K) (parent m) ≡ true = ap (ended (e ∷ K)) w.1 ∙ here in
       task-step e K x (without_parent x) j refl refl (reaped-new e K m (waited-on m ∙ unwaited K m j.unreaped) (v ∙ (sym j.ended_is ∙ l))) (j.ended_is ∙ sym v)
       (j.pending_is ∙ sym (pending-same (e ∷ K) K m m (λ s. pending-left e K m s (z.not_sent s) (z.not_delivered s))))
-      (j.modes_is ∙ sym (modes-same (e ∷ K) K m m (λ s. mode-left e K m s (z.not_handled s) z.not_named)))
+      (j.dispositions_is ∙ sym (dispositions-same (e ∷ K) K m m (λ s. disposition-left e K m s (z.not_handled s) z.not_named)))
       (rw k (never (has_parent m)))
 
   other-task : (x : Task) → (j : IsTask K x) → (target ≡ name_of K j.place → ⊥) → is_some_of x.parent t.ordinal ≡ false → IsTask (e ∷ K) x
@@ -306,11 +306,11 @@ stands-exit base pidmax K e old new t r S step x h d =
     let k = exit-ends e.what x in
     stands-end base pidmax K e old new t r r S f.0 f.1 w.0 own k.0 w.1 refl refl refl
     (i.pending_is ∙ sym (pending-same (e ∷ K) K n n (λ s. pending-left e K n s (own.not_sent K n s) (let b = (k.1 s).0 in rw b))))
-    (i.modes_is ∙ sym (modes-same (e ∷ K) K n n (λ s. mode-left e K n s (let b = (k.1 s).1 in rw b (none-both (is_task e.who n))) (ap (λ y. name_eq y n) own.child_is ∙ names-apart [] n (λ q. row-named K r S.orderly i (sym q))))))
+    (i.dispositions_is ∙ sym (dispositions-same (e ∷ K) K n n (λ s. disposition-left e K n s (let b = (k.1 s).1 in rw b (none-both (is_task e.who n))) (ap (λ y. name_eq y n) own.child_is ∙ names-apart [] n (λ q. row-named K r S.orderly i (sym q))))))
     (d f.0)
 
 -- after the delivery of a signal that ends the task
-pub stands-deliver-end : (base pidmax : ℕ) (K : List Event) (e : Event) (old new : TaskTable) (t : TaskRef) (r q : Task) (s : ℕ) (m : Mode) → StandsFor base pidmax K old → IsStepOf K e t → IsDelivery e.what s m → ((s == sigkill) || is_default m) ≡ true
+pub stands-deliver-end : (base pidmax : ℕ) (K : List Event) (e : Event) (old new : TaskTable) (t : TaskRef) (r q : Task) (s : ℕ) (m : Disposition) → StandsFor base pidmax K old → IsStepOf K e t → IsDelivery e.what s m → ((s == sigkill) || is_default m) ≡ true
     → reached old.tasks t ≡ Some r → q ≡ record r { pending = with_signal r.pending s false } → (get old.tasks t.slot ≡ Some r → IsEnded old t r q new) → StandsFor base pidmax (e ∷ K) new
 stands-deliver-end base pidmax K e old new t r q s m S step dl fatal h qs d =
     let f = reached-some (get old.tasks t.slot) t.ordinal r h in
@@ -321,7 +321,7 @@ stands-deliver-end base pidmax K e old new t r q s m S step dl fatal h qs d =
     let is : is_task e.who n ≡ true = by-name K e n w.0 own n ∙ name_eq-refl n in
     stands-end base pidmax K e old new t r q S f.0 f.1 w.0 own (delivery-ends e.what s m dl ∙ fatal) w.1 (ap (λ (x : Task). x.ordinal) qs) (ap (λ (x : Task). x.pid) qs) (ap (λ (x : Task). x.parent) qs)
     (ap (λ (x : Task). x.pending) qs ∙ (ap (λ x. with_signal x s false) i.pending_is ∙ pending-left-by e K n s m dl is))
-    (ap (λ (x : Task). x.modes) qs ∙ (i.modes_is ∙ sym (modes-left-by e K n s m dl (row-named K r S.orderly i))))
+    (ap (λ (x : Task). x.dispositions) qs ∙ (i.dispositions_is ∙ sym (dispositions-left-by e K n s m dl (row-named K r S.orderly i))))
     (d f.0)
 
 pub own-put : (p : Option ℕ) (old mid : TaskTable) (t : TaskRef) (r q : Task) → is_some p ≡ true → IsPut old t (ended_task q) mid → IsEndedWith p old t r q mid

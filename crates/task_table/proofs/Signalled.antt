@@ -6,15 +6,15 @@ use Rattle.std.proofs.lemmas.Bool.{both_ways, and_parts}
 use Rattle.slab.specs.Slab.{get}
 use Rattle.hist_model.specs.Look.{Name, name_eq, is_task}
 use Rattle.hist_model.specs.Kinds.{ends, makes}
-use Rattle.hist_model.specs.Tasks.{reaps, name_of, parent, child_of, handles, mode, pending, sends_signal, delivers, is_made, is_named, holder}
+use Rattle.hist_model.specs.Tasks.{reaps, name_of, parent, child_of, handles, disposition, pending, sends_signal, delivers, is_made, is_named, holder}
 use Rattle.hist_model.specs.Signals.{effect_in_call, effect_outside, is_default, due, held, next_signal}
 use Rattle.hist_model.specs.declared.event.Event.{Event}
 use Rattle.hist_model.specs.declared.event.Actor.TheVariants.{Task as TaskActor}
 use Rattle.hist_model.specs.declared.event.What.{What}
 use Rattle.hist_model.specs.declared.event.What.TheVariants.{Signal, Deliver}
 use Rattle.hist_model.specs.declared.event.Delivered.{Delivered}
-use Rattle.hist_model.specs.declared.event.Mode.{Mode}
-use Rattle.hist_model.specs.declared.event.Mode.TheVariants.{Default, Restart, Plain}
+use Rattle.hist_model.specs.declared.event.Disposition.{Disposition}
+use Rattle.hist_model.specs.declared.event.Disposition.TheVariants.{Default, Restart, Plain}
 use Rattle.hist_model.proofs.Look.{name_eq-true, name_eq-refl}
 use Rattle.history_frames.specs.Ordinals.{place_of, task_name_of, name_at}
 use Rattle.history_frames.proofs.Held.{ended-same, waited-same, reaped-same}
@@ -22,11 +22,11 @@ use Rattle.hist_model.specs.declared.request.TaskRef.{TaskRef}
 use Rattle.task_table.specs.declared.table.Task.{Task}
 use Rattle.task_table.specs.declared.table.TaskTable.{TaskTable}
 use Rattle.task_table.specs.declared.signals.BySignal.{BySignal}
-use Rattle.task_table.specs.Sets.{pending_of, modes_of, with_signal, next_of, with_mode}
+use Rattle.task_table.specs.Sets.{pending_of, dispositions_of, with_signal, next_of, with_disposition}
 use Rattle.task_table.specs.Table.{IsPut, reached}
 use Rattle.task_table.specs.Stands.{StandsFor, IsTask, IsParent, IsStepOf, IsDelivery}
 use Rattle.task_table.proofs.Found.{reached-some}
-use Rattle.task_table.proofs.Kept.{task-step, task-left, parent-kept, names-apart, never, none-both, mode-left, modes-same}
+use Rattle.task_table.proofs.Kept.{task-step, task-left, parent-kept, names-apart, never, none-both, disposition-left, dispositions-same}
 use Rattle.task_table.proofs.Stepped.{Touches, Own, orderly-more, stands-put, own-leaves, own-touches, by-name, other-name, row-made, row-named}
 use Rattle.sys_abi.specs.Signals.{sigkill, sigusr1, sigusr2, sigterm}
 
@@ -95,7 +95,7 @@ module _ (base pidmax : ℕ) (K : List Event) (e : Event) (old new : TaskTable) 
       (task-step e K r q row (ap (λ (x : Task). x.ordinal) qs) (ap (λ (x : Task). x.pid) qs) (reaped-same e K n (waited-same e K n (no_reap n)) d a ∙ row.unreaped)
       (ap (λ (x : Task). x.ended) qs ∙ (row.ended_is ∙ sym d))
       (ap (λ (x : Task). x.pending) qs ∙ (ap (λ x. with_signal x sig true) row.pending_is ∙ rw (set sigkill, set sigusr1, set sigusr2, set sigterm)))
-      (ap (λ (x : Task). x.modes) qs ∙ (row.modes_is ∙ sym (modes-same (e ∷ K) K n n (λ s. mode-left e K n s (no_handler n s) (unnamed n (row-named K r S.orderly row))))))
+      (ap (λ (x : Task). x.dispositions) qs ∙ (row.dispositions_is ∙ sym (dispositions-same (e ∷ K) K n n (λ s. disposition-left e K n s (no_handler n s) (unnamed n (row-named K r S.orderly row))))))
       (subst (λ x. IsParent (e ∷ K) n x) (sym (ap (λ (x : Task). x.parent) qs)) (parent-kept e K n r.parent a row.parent_is)))
       (λ s x g c.
       let j = S.tasks s x g in
@@ -111,10 +111,10 @@ module _ (base pidmax : ℕ) (K : List Event) (e : Event) (old new : TaskTable) 
       }) (no_end (parent k)))
 
 -- a delivery ends its task where it is of SIGKILL or of a signal without a handler
-pub delivery-ends : (w : What) (s : ℕ) (m : Mode) → IsDelivery w s m → ends w ≡ ((s == sigkill) || is_default m)
+pub delivery-ends : (w : What) (s : ℕ) (m : Disposition) → IsDelivery w s m → ends w ≡ ((s == sigkill) || is_default m)
 delivery-ends w s m d = elim d [ inl h ↦ ap ends h ∙ in-call m (s == sigkill) refl | inr h ↦ ap ends h ∙ outside m (s == sigkill) refl ]
   where
-    in-call : (m : Mode) (b : Bool) → (s == sigkill) ≡ b → ends (Deliver s (effect_in_call s m)) ≡ ((s == sigkill) || is_default m)
+    in-call : (m : Disposition) (b : Bool) → (s == sigkill) ≡ b → ends (Deliver s (effect_in_call s m)) ≡ ((s == sigkill) || is_default m)
     in-call Default true h = rw h
     in-call Default false h = rw h
     in-call Restart true h = rw h
@@ -122,7 +122,7 @@ delivery-ends w s m d = elim d [ inl h ↦ ap ends h ∙ in-call m (s == sigkill
     in-call Plain true h = rw h
     in-call Plain false h = rw h
 
-    outside : (m : Mode) (b : Bool) → (s == sigkill) ≡ b → ends (Deliver s (effect_outside s m)) ≡ ((s == sigkill) || is_default m)
+    outside : (m : Disposition) (b : Bool) → (s == sigkill) ≡ b → ends (Deliver s (effect_outside s m)) ≡ ((s == sigkill) || is_default m)
     outside Default true h = rw h
     outside Default false h = rw h
     outside Restart true h = rw h
@@ -133,29 +133,29 @@ delivery-ends w s m d = elim d [ inl h ↦ ap ends h ∙ in-call m (s == sigkill
 pub own-deliver : (s : ℕ) (d : Delivered) → Own (Deliver s d)
 own-deliver s d = record { makes_is = refl; child_is = refl; not_reaped = λ x. refl; not_sent = λ K x u. refl }
 
-pub own-delivery : (w : What) (s : ℕ) (m : Mode) → IsDelivery w s m → Own w
+pub own-delivery : (w : What) (s : ℕ) (m : Disposition) → IsDelivery w s m → Own w
 own-delivery w s m d = elim d [ inl h ↦ subst (λ x. Own x) (sym h) (own-deliver s (effect_in_call s m)) | inr h ↦ subst (λ x. Own x) (sym h) (own-deliver s (effect_outside s m)) ]
 
-pub delivers-it : (w : What) (s : ℕ) (m : Mode) → IsDelivery w s m → (u : ℕ) → delivers w u ≡ (s == u)
+pub delivers-it : (w : What) (s : ℕ) (m : Disposition) → IsDelivery w s m → (u : ℕ) → delivers w u ≡ (s == u)
 delivers-it w s m d u = elim d [ inl h ↦ ap (λ x. delivers x u) h | inr h ↦ ap (λ x. delivers x u) h ]
 
-pub delivery-handles : (w : What) (s : ℕ) (m : Mode) → IsDelivery w s m → (u : ℕ) → handles w u ≡ None
+pub delivery-handles : (w : What) (s : ℕ) (m : Disposition) → IsDelivery w s m → (u : ℕ) → handles w u ≡ None
 delivery-handles w s m d u = elim d [ inl h ↦ ap (λ x. handles x u) h | inr h ↦ ap (λ x. handles x u) h ]
 
 -- what a delivery leaves of a task's signals
-pub pending-left-by : (e : Event) (K : List Event) (n : Name) (s : ℕ) (m : Mode) → IsDelivery e.what s m → is_task e.who n ≡ true → with_signal (pending_of K n) s false ≡ pending_of (e ∷ K) n
+pub pending-left-by : (e : Event) (K : List Event) (n : Name) (s : ℕ) (m : Disposition) → IsDelivery e.what s m → is_task e.who n ≡ true → with_signal (pending_of K n) s false ≡ pending_of (e ∷ K) n
 pending-left-by e K n s m d w =
     let own = own-delivery e.what s m d in
     let set = λ (u : ℕ). pending-delivered e K n u (s == u) (own.not_sent K n u) (delivers-it e.what s m d u) w in
     rw (set sigkill, set sigusr1, set sigusr2, set sigterm)
 
-pub modes-left-by : (e : Event) (K : List Event) (n : Name) (s : ℕ) (m : Mode) → IsDelivery e.what s m → (n ≡ [] → ⊥) → modes_of (e ∷ K) n ≡ modes_of K n
-modes-left-by e K n s m d h =
+pub dispositions-left-by : (e : Event) (K : List Event) (n : Name) (s : ℕ) (m : Disposition) → IsDelivery e.what s m → (n ≡ [] → ⊥) → dispositions_of (e ∷ K) n ≡ dispositions_of K n
+dispositions-left-by e K n s m d h =
     let own = own-delivery e.what s m d in
-    modes-same (e ∷ K) K n n (λ u. mode-left e K n u (let b = delivery-handles e.what s m d u in rw b (none-both (is_task e.who n))) (ap (λ x. name_eq x n) own.child_is ∙ names-apart [] n (λ q. h (sym q))))
+    dispositions-same (e ∷ K) K n n (λ u. disposition-left e K n u (let b = delivery-handles e.what s m d u in rw b (none-both (is_task e.who n))) (ap (λ x. name_eq x n) own.child_is ∙ names-apart [] n (λ q. h (sym q))))
 
 -- after the delivery of a signal that a handler catches
-pub stands-deliver : (base pidmax : ℕ) (K : List Event) (e : Event) (old new : TaskTable) (t : TaskRef) (r q : Task) (s : ℕ) (m : Mode) → StandsFor base pidmax K old → IsStepOf K e t → IsDelivery e.what s m → ((s == sigkill) || is_default m) ≡ false
+pub stands-deliver : (base pidmax : ℕ) (K : List Event) (e : Event) (old new : TaskTable) (t : TaskRef) (r q : Task) (s : ℕ) (m : Disposition) → StandsFor base pidmax K old → IsStepOf K e t → IsDelivery e.what s m → ((s == sigkill) || is_default m) ≡ false
     → reached old.tasks t ≡ Some r → q ≡ record r { pending = with_signal r.pending s false } → (get old.tasks t.slot ≡ Some r → IsPut old t q new) → StandsFor base pidmax (e ∷ K) new
 stands-deliver base pidmax K e old new t r q s m S step dl fatal h qs put =
     let f = reached-some (get old.tasks t.slot) t.ordinal r h in
@@ -175,13 +175,13 @@ stands-deliver base pidmax K e old new t r q s m S step dl fatal h qs put =
     (task-step e K r q i (ap (λ (x : Task). x.ordinal) qs) (ap (λ (x : Task). x.pid) qs) (reaped-same e K n (waited-same e K n (own.not_reaped n)) d a ∙ i.unreaped)
     (ap (λ (x : Task). x.ended) qs ∙ (i.ended_is ∙ sym d))
     (ap (λ (x : Task). x.pending) qs ∙ (ap (λ x. with_signal x s false) i.pending_is ∙ pending-left-by e K n s m dl is))
-    (ap (λ (x : Task). x.modes) qs ∙ (i.modes_is ∙ sym (modes-left-by e K n s m dl (row-named K r S.orderly i))))
+    (ap (λ (x : Task). x.dispositions) qs ∙ (i.dispositions_is ∙ sym (dispositions-left-by e K n s m dl (row-named K r S.orderly i))))
     (subst (λ x. IsParent (e ∷ K) n x) (sym (ap (λ (x : Task). x.parent) qs)) (parent-kept e K n r.parent a i.parent_is)))
     (λ u x g' c. let j = S.tasks u x g' in
     task-left e K x j (own-leaves K e n who own (name_of K j.place) (other-name base pidmax K old t.slot u r x S g g' c) (row-named K x S.orderly j)) (no_end (parent (name_of K j.place))))
 
 -- the signal that comes next
-pub next-at : (killable : Bool) (K : List Event) (n : Name) → next_of (pending_of K n) (modes_of K n) (held killable K n) ≡ with_mode K n (next_signal killable K n)
+pub next-at : (killable : Bool) (K : List Event) (n : Name) → next_of (pending_of K n) (dispositions_of K n) (held killable K n) ≡ with_disposition K n (next_signal killable K n)
 unfolding next_signal
 next-at killable K n =
     let k : due killable K n sigkill ≡ pending K n sigkill = always (pending K n sigkill) (not (held killable K n)) in
@@ -190,7 +190,7 @@ next-at killable K n =
     always : (p h : Bool) → (p && (h || true)) ≡ p
     always p h = grind arith
 
-    first : (a b c d : Bool) → (if a then Some (sigkill, mode K n sigkill) else (if b then Some (sigusr1, mode K n sigusr1) else (if c then Some (sigusr2, mode K n sigusr2) else (if d then Some (sigterm, mode K n sigterm) else None)))) ≡ with_mode K n (if a then Some sigkill else (if b then Some sigusr1 else (if c then Some sigusr2 else (if d then Some sigterm else None))))
+    first : (a b c d : Bool) → (if a then Some (sigkill, disposition K n sigkill) else (if b then Some (sigusr1, disposition K n sigusr1) else (if c then Some (sigusr2, disposition K n sigusr2) else (if d then Some (sigterm, disposition K n sigterm) else None)))) ≡ with_disposition K n (if a then Some sigkill else (if b then Some sigusr1 else (if c then Some sigusr2 else (if d then Some sigterm else None))))
     first true b c d = refl
     first false true c d = refl
     first false false true d = refl
@@ -198,14 +198,14 @@ next-at killable K n =
     first false false false false = refl
 
 pub next-found : (base pidmax : ℕ) (killable : Bool) (K : List Event) (T : TaskTable) (t : TaskRef) (r : Task) (h : Bool) → StandsFor base pidmax K T → reached T.tasks t ≡ Some r → h ≡ held killable K (task_name_of K t.ordinal)
-    → next_of r.pending r.modes h ≡ with_mode K (task_name_of K t.ordinal) (next_signal killable K (task_name_of K t.ordinal))
+    → next_of r.pending r.dispositions h ≡ with_disposition K (task_name_of K t.ordinal) (next_signal killable K (task_name_of K t.ordinal))
 next-found base pidmax killable K T t r h S g q =
     let f = reached-some (get T.tasks t.slot) t.ordinal r g in
     let i = S.tasks t.slot r f.0 in
     let n : task_name_of K t.ordinal ≡ name_of K i.place = ap (λ o. name_at K o) (ap (place_of K) (sym f.1) ∙ i.at) in
-    let a : next_of r.pending r.modes h ≡ next_of (pending_of K (task_name_of K t.ordinal)) (modes_of K (task_name_of K t.ordinal)) (held killable K (task_name_of K t.ordinal)) =
-    joined r.pending r.modes h (pending_of K (task_name_of K t.ordinal)) (modes_of K (task_name_of K t.ordinal)) (held killable K (task_name_of K t.ordinal)) (i.pending_is ∙ ap (pending_of K) (sym n)) (i.modes_is ∙ ap (modes_of K) (sym n)) q in
+    let a : next_of r.pending r.dispositions h ≡ next_of (pending_of K (task_name_of K t.ordinal)) (dispositions_of K (task_name_of K t.ordinal)) (held killable K (task_name_of K t.ordinal)) =
+    joined r.pending r.dispositions h (pending_of K (task_name_of K t.ordinal)) (dispositions_of K (task_name_of K t.ordinal)) (held killable K (task_name_of K t.ordinal)) (i.pending_is ∙ ap (pending_of K) (sym n)) (i.dispositions_is ∙ ap (dispositions_of K) (sym n)) q in
     a ∙ next-at killable K (task_name_of K t.ordinal)
   where
-    joined : (p : BySignal Bool) (m : BySignal Mode) (h : Bool) (p' : BySignal Bool) (m' : BySignal Mode) (h' : Bool) → p ≡ p' → m ≡ m' → h ≡ h' → next_of p m h ≡ next_of p' m' h'
+    joined : (p : BySignal Bool) (m : BySignal Disposition) (h : Bool) (p' : BySignal Bool) (m' : BySignal Disposition) (h' : Bool) → p ≡ p' → m ≡ m' → h ≡ h' → next_of p m h ≡ next_of p' m' h'
     joined p m h p' m' h' a b c = ap (λ x. next_of x m h) a ∙ (ap (λ x. next_of p' x h) b ∙ ap (next_of p' m') c)

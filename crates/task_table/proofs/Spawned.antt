@@ -7,11 +7,11 @@ use Rattle.std.proofs.lemmas.List.Elements.{Contains-get_or}
 use Rattle.slab.specs.Slab.{get}
 use Rattle.hist_model.specs.Look.{Name, name_eq, is_task}
 use Rattle.hist_model.specs.Kinds.{ends, makes}
-use Rattle.hist_model.specs.Tasks.{ended, was_waited_for, reaped, reaps, name_of, parent, has_parent, child_of, given, handles, mode, pending, sends_signal, delivers, is_made, is_none, holder, last_pid}
+use Rattle.hist_model.specs.Tasks.{ended, was_waited_for, reaped, reaps, name_of, parent, has_parent, child_of, given, handles, disposition, pending, sends_signal, delivers, is_made, is_none, holder, last_pid}
 use Rattle.hist_model.specs.declared.event.Event.{Event}
 use Rattle.hist_model.specs.declared.event.SpawnKind.{SpawnKind}
 use Rattle.hist_model.specs.declared.event.What.TheVariants.{Spawn}
-use Rattle.hist_model.specs.declared.event.Mode.TheVariants.{Default}
+use Rattle.hist_model.specs.declared.event.Disposition.TheVariants.{Default}
 use Rattle.hist_model.proofs.Look.{event_at-here, name_eq-refl}
 use Rattle.history_frames.specs.Ordinals.{place_of}
 use Rattle.history_frames.proofs.Ordinals.{made-more, place-new, place-cases, place-below, place-makes, name-older}
@@ -21,14 +21,14 @@ use Rattle.task_table.specs.declared.index.Entry.{Entry}
 use Rattle.task_table.specs.declared.table.Task.{Task}
 use Rattle.task_table.specs.declared.table.TaskTable.{TaskTable}
 use Rattle.task_table.specs.Index.{under, by_key, by_key_and_ordinal, has_key, KeysRise, IsOrdered}
-use Rattle.task_table.specs.Sets.{pending_of, modes_of, all_signals}
-use Rattle.task_table.specs.Table.{Mirrors, entry_of, under_key, held_key, waiting_key, inherited, modes_or_default, ordinal_of, IsRef, IsAdded, IsChildPlaced, SameTasks, IsParentRef, new_task}
+use Rattle.task_table.specs.Sets.{pending_of, dispositions_of, all_signals}
+use Rattle.task_table.specs.Table.{Mirrors, entry_of, under_key, held_key, waiting_key, inherited, dispositions_or_default, ordinal_of, IsRef, IsAdded, IsChildPlaced, SameTasks, IsParentRef, new_task}
 use Rattle.task_table.specs.Stands.{StandsFor, IsTask, IsParent, IsOrderly, IsSpawn, IsChildOf}
 use Rattle.task_table.proofs.Ordered.{keys-rise, keys-of-order, has-at}
 use Rattle.task_table.proofs.Mirrors.{mirrors-same, mirrors-insert, ordered-insert, entry-task}
 use Rattle.task_table.proofs.Found.{reached-from, is-held}
 use Rattle.task_table.proofs.Started.{ref-same}
-use Rattle.task_table.proofs.Kept.{Leaves, task-left, names-apart, never, none-both, mode-left, pending-left, modes-same, place-stays}
+use Rattle.task_table.proofs.Kept.{Leaves, task-left, names-apart, never, none-both, disposition-left, pending-left, dispositions-same, place-stays}
 use Rattle.sys_abi.specs.Signals.{sigkill, sigusr1, sigusr2, sigterm}
 
 pub less : (x y : ℕ) → x ≤ y → (x ≡ y → ⊥) → x < y
@@ -71,10 +71,10 @@ leaves-others e K n m pid p d = record {
 apart : (K : List Event) (n m : Name) → is_made K n ≡ false → is_made K m ≡ true → n ≡ m → ⊥
 apart K n m u h q = both_ways (is_made K m) (ap (is_made K) (sym q) ∙ u) h
 
--- the new task has its parent's modes
-mode-child : (e : Event) (K : List Event) (n : Name) (s : ℕ) → (if is_task e.who n then handles e.what s else None) ≡ None → child_of e.what ≡ n → mode (e ∷ K) n s ≡ mode K (parent n) s
-unfolding mode
-mode-child e K n s h c = let q : name_eq (child_of e.what) n ≡ true = ap (λ x. name_eq x n) c ∙ name_eq-refl n in rw (h, q)
+-- the new task has its parent's dispositions
+disposition-child : (e : Event) (K : List Event) (n : Name) (s : ℕ) → (if is_task e.who n then handles e.what s else None) ≡ None → child_of e.what ≡ n → disposition (e ∷ K) n s ≡ disposition K (parent n) s
+unfolding disposition
+disposition-child e K n s h c = let q : name_eq (child_of e.what) n ≡ true = ap (λ x. name_eq x n) c ∙ name_eq-refl n in rw (h, q)
 
 made-less : (e : Event) (K : List Event) (m : Name) → name_eq (child_of e.what) m ≡ false → is_made K m ≡ false → is_made (e ∷ K) m ≡ false
 unfolding is_made
@@ -91,7 +91,7 @@ orderly-spawn e K n pid p u v f o = record {
     λ s. pending-left e K m s (p.not_sent K m s) (p.not_delivered m s) ∙ w.2 s,
   );
   nameless = nameless;
-  defaults = λ s. mode-left e K [] s (p.not_handled [] s) (ap (λ x. name_eq x []) p.child_is ∙ names-apart n [] v) ∙ o.defaults s;
+  defaults = λ s. disposition-left e K [] s (p.not_handled [] s) (ap (λ x. name_eq x []) p.child_is ∙ names-apart n [] v) ∙ o.defaults s;
 }
   where
     nameless : is_made (e ∷ K) [] ≡ false
@@ -112,11 +112,11 @@ unreaped-alive K m d w = either (was_waited_for K m) (ended K m) (not (has_paren
     either : (w d b : Bool) → d ≡ false → (w ≡ true → d ≡ true) → (w || (d && b)) ≡ false
     either w d b f g = grind arith
 
--- the parent's modes, as the table has them
-inherits : (base pidmax : ℕ) (K : List Event) (T : TaskTable) (n : Name) (parent' : Option TaskRef) → StandsFor base pidmax K T → IsParentRef T parent' → IsChildOf K n parent' → inherited T.tasks parent' ≡ modes_of K (parent n)
+-- the parent's dispositions, as the table has them
+inherits : (base pidmax : ℕ) (K : List Event) (T : TaskTable) (n : Name) (parent' : Option TaskRef) → StandsFor base pidmax K T → IsParentRef T parent' → IsChildOf K n parent' → inherited T.tasks parent' ≡ dispositions_of K (parent n)
 inherits base pidmax K T n None S i c = sym (root n c)
   where
-    root : (n : Name) → has_parent n ≡ false → modes_of K (parent n) ≡ all_signals Default
+    root : (n : Name) → has_parent n ≡ false → dispositions_of K (parent n) ≡ all_signals Default
     root [] c = rw (S.orderly.defaults sigkill, S.orderly.defaults sigusr1, S.orderly.defaults sigusr2, S.orderly.defaults sigterm)
     root (x ∷ []) c = rw (S.orderly.defaults sigkill, S.orderly.defaults sigusr1, S.orderly.defaults sigusr2, S.orderly.defaults sigterm)
     root (x ∷ (y ∷ m)) c = absurd (omega (arith, leb-false 2 (length (x ∷ (y ∷ m))) c))
@@ -127,7 +127,7 @@ inherits base pidmax K T n (Some p) S i c =
     let j = S.tasks p.slot x.1 g in
     let z : Some j.place ≡ Some c.1 = sym j.at ∙ (ap (place_of K) x.3 ∙ c.2) in
     let w : j.place ≡ c.1 = cc in
-    ap modes_or_default (reached-from (get T.tasks p.slot) p.ordinal x.1 g x.3) ∙ (j.modes_is ∙ ap (modes_of K) (ap (name_of K) w ∙ c.3))
+    ap dispositions_or_default (reached-from (get T.tasks p.slot) p.ordinal x.1 g x.3) ∙ (j.dispositions_is ∙ ap (dispositions_of K) (ap (name_of K) w ∙ c.3))
 
 last-new : (base : ℕ) (e : Event) (K : List Event) (pid : ℕ) → given e.what ≡ Some pid → last_pid base (e ∷ K) ≡ pid
 unfolding last_pid
@@ -232,7 +232,7 @@ module _ (base pidmax : ℕ) (K : List Event) (e : Event) (old new : TaskTable) 
         unreaped = ap (reaped (e ∷ K)) here ∙ reaped-new e K n (waited-same e K n (facts.not_reaped n) ∙ u.1) d;
         ended_is = sym (ap (ended (e ∷ K)) here ∙ d);
         pending_is = sym (ap (pending_of (e ∷ K)) here ∙ none-pending n u.2);
-        modes_is = inherits base pidmax K old n parent' S i sp.child ∙ (sym (modes-same (e ∷ K) K n (parent n) (λ s. mode-child e K n s (facts.not_handled n s) facts.child_is)) ∙ ap (modes_of (e ∷ K)) (sym here));
+        dispositions_is = inherits base pidmax K old n parent' S i sp.child ∙ (sym (dispositions-same (e ∷ K) K n (parent n) (λ s. disposition-child e K n s (facts.not_handled n s) facts.child_is)) ∙ ap (dispositions_of (e ∷ K)) (sym here));
         parent_is = subst (λ x. IsParent (e ∷ K) x (ordinal_of parent')) (sym here) (parent-new e K n parent' (ended-same e K (parent n) (facts.not_ended (parent n))) sp.child);
       }
     where

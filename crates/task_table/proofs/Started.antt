@@ -3,7 +3,7 @@
 use Rattle.std.proofs.Common.{◌≡◌, ℕ, ◌+◌, Bool, List, [], length, get_or, Option, Some, None, refl, sym, ap, ◌∙◌, arith}
 use Rattle.std.specs.Prelude.{◌↔◌}
 use Rattle.slab.specs.Slab.{Slab, get}
-use Rattle.hist_model.specs.Tasks.{ended, was_waited_for, pending, mode, is_made, last_pid}
+use Rattle.hist_model.specs.Tasks.{ended, was_waited_for, pending, disposition, is_made, last_pid}
 use Rattle.hist_model.specs.declared.event.Event.{Event}
 use Rattle.history_frames.specs.Ordinals.{count_of, nth_of}
 use Rattle.history_frames.proofs.Ordinals.{makes-below}
@@ -18,7 +18,7 @@ use Rattle.task_table.specs.Stands.{StandsFor, IsOrderly}
 use Rattle.task_table.proofs.Mirrors.{mirrors-same}
 
 orderly-nil : IsOrderly []
-unfolding ended was_waited_for pending mode is_made
+unfolding ended was_waited_for pending disposition is_made
 orderly-nil = record {
   pids = λ p t u h g. absurd (omega (arith, holds-below [] p t h));
   names = λ t u h g q. absurd (omega (arith, makes-below [] t h));

@@ -6,12 +6,12 @@ use Rattle.std.proofs.lemmas.Bool.{cases_eq, both_ways, and_parts, or_cases, fal
 use Rattle.slab.specs.Slab.{get}
 use Rattle.hist_model.specs.Look.{Name, name_eq, is_task}
 use Rattle.hist_model.specs.Kinds.{ends, makes}
-use Rattle.hist_model.specs.Tasks.{ended, was_waited_for, reaped, reaps, name_of, parent, child_of, given, handles, mode, mode_or, pending, sends_signal, delivers, is_made, last_pid}
+use Rattle.hist_model.specs.Tasks.{ended, was_waited_for, reaped, reaps, name_of, parent, child_of, given, handles, disposition, disposition_or, pending, sends_signal, delivers, is_made, last_pid}
 use Rattle.hist_model.specs.declared.event.Event.{Event}
 use Rattle.hist_model.specs.declared.event.Actor.TheVariants.{Task as TaskActor}
 use Rattle.hist_model.specs.declared.event.What.{What}
 use Rattle.hist_model.specs.declared.event.What.TheVariants.{Handler}
-use Rattle.hist_model.specs.declared.event.Mode.{Mode}
+use Rattle.hist_model.specs.declared.event.Disposition.{Disposition}
 use Rattle.hist_model.proofs.Look.{name_eq-true, name_eq-refl}
 use Rattle.history_frames.specs.Ordinals.{place_of}
 use Rattle.history_frames.proofs.Ordinals.{made-same, place-same, place-below, place-makes, place-one, name-older}
@@ -42,11 +42,11 @@ pending-none : (e : Event) (K : List Event) (m : Name) (s : ℕ) → sends_signa
 unfolding pending
 pending-none e K m s h p = rw (h, p) (never (not (delivers e.what s && is_task e.who m)))
 
-mode-nameless : (e : Event) (K : List Event) (s : ℕ) → (if is_task e.who [] then handles e.what s else None) ≡ None → mode (e ∷ K) [] s ≡ mode K [] s
-unfolding mode
-mode-nameless e K s h = rw h (same (name_eq (child_of e.what) []) (mode K [] s))
+disposition-nameless : (e : Event) (K : List Event) (s : ℕ) → (if is_task e.who [] then handles e.what s else None) ≡ None → disposition (e ∷ K) [] s ≡ disposition K [] s
+unfolding disposition
+disposition-nameless e K s h = rw h (same (name_eq (child_of e.what) []) (disposition K [] s))
   where
-    same : (b : Bool) (m : Mode) → (if b then m else m) ≡ m
+    same : (b : Bool) (m : Disposition) → (if b then m else m) ≡ m
     same true m = refl
     same false m = refl
 
@@ -67,7 +67,7 @@ orderly-more e K m t o = record {
         λ s. pending-none e K n s (false_from_ne_true (sends_signal K e.what n s) (λ z. both_ways (is_made K n) v (t.sends_made n s z))) (u.2 s),
       );
   nameless = made-unchanged e K [] m ∙ o.nameless;
-  defaults = λ s. mode-nameless e K s (t.nameless s) ∙ o.defaults s;
+  defaults = λ s. disposition-nameless e K s (t.nameless s) ∙ o.defaults s;
 }
 
 last-same : (base : ℕ) (e : Event) (K : List Event) → makes e.what ≡ false → last_pid base (e ∷ K) ≡ last_pid base K
@@ -193,20 +193,20 @@ stands-put base pidmax K e old new t r q S p g o n c m y own others =
     ])
 
 -- what a handler sets
-mode-set : (e : Event) (K : List Event) (n : Name) (sig s : ℕ) (m : Mode) → is_task e.who n ≡ true → handles e.what s ≡ (if sig == s then Some m else None) → name_eq (child_of e.what) n ≡ false
-    → mode (e ∷ K) n s ≡ (if sig == s then m else mode K n s)
-unfolding mode
-mode-set e K n sig s m h w c = rw (h, w, c) (pick (sig == s) m (mode K n s))
+disposition-set : (e : Event) (K : List Event) (n : Name) (sig s : ℕ) (m : Disposition) → is_task e.who n ≡ true → handles e.what s ≡ (if sig == s then Some m else None) → name_eq (child_of e.what) n ≡ false
+    → disposition (e ∷ K) n s ≡ (if sig == s then m else disposition K n s)
+unfolding disposition
+disposition-set e K n sig s m h w c = rw (h, w, c) (pick (sig == s) m (disposition K n s))
   where
-    pick : (b : Bool) (m d : Mode) → mode_or (if b then Some m else None) d ≡ (if b then m else d)
+    pick : (b : Bool) (m d : Disposition) → disposition_or (if b then Some m else None) d ≡ (if b then m else d)
     pick true m d = refl
     pick false m d = refl
 
-own-handler : (sig : ℕ) (m : Mode) → Own (Handler sig m)
+own-handler : (sig : ℕ) (m : Disposition) → Own (Handler sig m)
 own-handler sig m = record { makes_is = refl; child_is = refl; not_reaped = λ x. refl; not_sent = λ K x s. refl }
 
-pub stands-handler : (base pidmax : ℕ) (K : List Event) (e : Event) (old new : TaskTable) (t : TaskRef) (r q : Task) (sig : ℕ) (m : Mode) → StandsFor base pidmax K old → IsStepOf K e t → e.what ≡ Handler sig m
-    → reached old.tasks t ≡ Some r → q ≡ record r { modes = with_signal r.modes sig m } → (get old.tasks t.slot ≡ Some r → IsPut old t q new) → StandsFor base pidmax (e ∷ K) new
+pub stands-handler : (base pidmax : ℕ) (K : List Event) (e : Event) (old new : TaskTable) (t : TaskRef) (r q : Task) (sig : ℕ) (m : Disposition) → StandsFor base pidmax K old → IsStepOf K e t → e.what ≡ Handler sig m
+    → reached old.tasks t ≡ Some r → q ≡ record r { dispositions = with_signal r.dispositions sig m } → (get old.tasks t.slot ≡ Some r → IsPut old t q new) → StandsFor base pidmax (e ∷ K) new
 stands-handler base pidmax K e old new t r q sig m S step w h qs put =
     let f = reached-some (get old.tasks t.slot) t.ordinal r h in
     let g = f.0 in
@@ -222,13 +222,13 @@ stands-handler base pidmax K e old new t r q sig m S step w h qs put =
     let a = ended-same e K (parent n) (no_end (parent n)) in
     let is : is_task e.who n ≡ true = by-name K e n who own n ∙ name_eq-refl n in
     let named = ap (λ x. name_eq x n) own.child_is ∙ names-apart [] n (λ v. row-named K r S.orderly i (sym v)) in
-    let set = λ (s : ℕ). mode-set e K n sig s m is (ap (λ x. handles x s) w) named in
+    let set = λ (s : ℕ). disposition-set e K n sig s m is (ap (λ x. handles x s) w) named in
     stands-put base pidmax K e old new t r q S p g (ap (λ (x : Task). x.ordinal) qs) (ap (λ (x : Task). x.pid) qs) (ap (λ (x : Task). x.parent) qs) own.makes_is
     (orderly-more e K own.makes_is (own-touches K e n who own (row-made K r i) S.orderly.nameless) S.orderly)
     (task-step e K r q i (ap (λ (x : Task). x.ordinal) qs) (ap (λ (x : Task). x.pid) qs) (reaped-same e K n (waited-same e K n (own.not_reaped n)) d a ∙ i.unreaped)
     (ap (λ (x : Task). x.ended) qs ∙ (i.ended_is ∙ sym d))
     (ap (λ (x : Task). x.pending) qs ∙ (i.pending_is ∙ sym (pending-same (e ∷ K) K n n (λ s. pending-left e K n s (own.not_sent K n s) (let b : delivers e.what s ≡ false = ap (λ x. delivers x s) w in rw b)))))
-    (ap (λ (x : Task). x.modes) qs ∙ (ap (λ x. with_signal x sig m) i.modes_is ∙ rw (set sigkill, set sigusr1, set sigusr2, set sigterm)))
+    (ap (λ (x : Task). x.dispositions) qs ∙ (ap (λ x. with_signal x sig m) i.dispositions_is ∙ rw (set sigkill, set sigusr1, set sigusr2, set sigterm)))
     (subst (λ x. IsParent (e ∷ K) n x) (sym (ap (λ (x : Task). x.parent) qs)) (parent-kept e K n r.parent a i.parent_is)))
     (λ s x g' c. let j = S.tasks s x g' in
     task-left e K x j (own-leaves K e n who own (name_of K j.place) (other-name base pidmax K old t.slot s r x S g g' c) (row-named K x S.orderly j)) (no_end (parent (name_of K j.place))))

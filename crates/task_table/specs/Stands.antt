@@ -3,7 +3,7 @@ use Rattle.std.specs.Prelude.{◌≡◌, ◌⊎◌, ℕ, ◌+◌, true, false, �
 use Rattle.slab.specs.Slab.{get}
 use Rattle.sys_abi.specs.Errnos.{echild}
 use Rattle.hist_model.specs.Look.{Name}
-use Rattle.hist_model.specs.Tasks.{ended, was_waited_for, reaped, is_made, parent, has_parent, name_of, pid_of, pending, mode, last_pid}
+use Rattle.hist_model.specs.Tasks.{ended, was_waited_for, reaped, is_made, parent, has_parent, name_of, pid_of, pending, disposition, last_pid}
 use Rattle.hist_model.specs.Laws.{PidsDiffer}
 use Rattle.hist_model.specs.Steps.{makes_in}
 use Rattle.hist_model.specs.Look.{event_at}
@@ -13,9 +13,9 @@ use Rattle.hist_model.specs.declared.event.SpawnKind.{SpawnKind}
 use Rattle.hist_model.specs.declared.event.What.{What}
 use Rattle.hist_model.specs.declared.event.What.TheVariants.{Spawn, Exit, Enter, Deliver, Reap, Skip, Handler, Signal}
 use Rattle.hist_model.specs.declared.event.Entered.TheVariants.{Kill}
-use Rattle.hist_model.specs.declared.event.Mode.{Mode}
+use Rattle.hist_model.specs.declared.event.Disposition.{Disposition}
 use Rattle.hist_model.specs.Signals.{effect_in_call, effect_outside}
-use Rattle.hist_model.specs.declared.event.Mode.TheVariants.{Default}
+use Rattle.hist_model.specs.declared.event.Disposition.TheVariants.{Default}
 use Rattle.history_frames.specs.Ordinals.{tasks_made, place_of, task_name_of}
 use Rattle.hist_model.specs.declared.request.TaskRef.{TaskRef}
 use Rattle.task_table.specs.declared.table.Task.{Task as TaskRow}
@@ -23,7 +23,7 @@ use Rattle.task_table.specs.declared.table.TaskTable.{TaskTable}
 use Rattle.task_table.specs.declared.table.NoTask.{NoTask}
 use Rattle.task_table.specs.declared.table.NoChild.{NoChild}
 use Rattle.task_table.specs.Index.{by_key, by_key_and_ordinal}
-use Rattle.task_table.specs.Sets.{pending_of, modes_of}
+use Rattle.task_table.specs.Sets.{pending_of, dispositions_of}
 use Rattle.task_table.specs.Table.{Mirrors, held_key, waiting_key}
 
 -- a task's parent has this ordinal and lives; or it has none that lives
@@ -39,7 +39,7 @@ pub record IsTask (K : List Event) (r : TaskRow) : Type 0 where
   pub unreaped : reaped K (name_of K place) ≡ false
   pub ended_is : r.ended ≡ ended K (name_of K place)
   pub pending_is : r.pending ≡ pending_of K (name_of K place)
-  pub modes_is : r.modes ≡ modes_of K (name_of K place)
+  pub dispositions_is : r.dispositions ≡ dispositions_of K (name_of K place)
   pub parent_is : IsParent K (name_of K place) r.parent
 
 -- nothing has happened yet to a task of this name
@@ -54,9 +54,9 @@ pub record IsOrderly (K : List Event) : Type 0 where
   pub waited : (n : Name) → was_waited_for K n ≡ true → ended K n ≡ true
   pub unmade : (n : Name) → is_made K n ≡ false → IsUntouched K n
   pub nameless : is_made K [] ≡ false
-  pub defaults : (s : ℕ) → mode K [] s ≡ Default
+  pub defaults : (s : ℕ) → disposition K [] s ≡ Default
 
--- the table stands for the history, with process numbers above the base, pidmax of them
+-- the table stands for the history, with PIDs above the base, pidmax of them
 pub record StandsFor (base pidmax : ℕ) (K : List Event) (T : TaskTable) : Type 0 where
   pub base_is : T.base ≡ base
   pub top_is : T.top ≡ base + pidmax
@@ -102,7 +102,7 @@ abbrev pub IsAlive : List Event → TaskRef → Type 0
 IsAlive K t = ended K (task_name_of K t.ordinal) ≡ false
 
 -- the step delivers this signal, in a listed call or elsewhere
-abbrev pub IsDelivery : What → ℕ → Mode → Type 0
+abbrev pub IsDelivery : What → ℕ → Disposition → Type 0
 IsDelivery w s m = (w ≡ Deliver s (effect_in_call s m)) ⊎ (w ≡ Deliver s (effect_outside s m))
 
 -- the step of a wait that answers this

@@ -2,8 +2,8 @@
 use Rattle.std.specs.Prelude.{◌≡◌, ◌⊎◌, ℕ, ◌+◌, ◌<◌, ◌^◌, Bool, true, false, ◌==◌, if◌then◌else◌, List, Option, Some, None, vec_len, vec_capacity, Contains, length, slice_index_or}
 use Rattle.slab.specs.Slab.{Slab, get, Updates, HasRoomFor}
 use Rattle.hist_model.specs.Tasks.{is_some_of}
-use Rattle.hist_model.specs.declared.event.Mode.{Mode}
-use Rattle.hist_model.specs.declared.event.Mode.TheVariants.{Default}
+use Rattle.hist_model.specs.declared.event.Disposition.{Disposition}
+use Rattle.hist_model.specs.declared.event.Disposition.TheVariants.{Default}
 use Rattle.hist_model.specs.declared.request.TaskRef.{TaskRef}
 use Rattle.task_table.specs.declared.index.Entry.{Entry}
 use Rattle.task_table.specs.declared.signals.BySignal.{BySignal}
@@ -24,12 +24,12 @@ reached tasks t = of_ordinal (get tasks t.slot) t.ordinal
 abbrev pub IsRef : TaskTable → TaskRef → Type 0
 IsRef T t = (t.ordinal < T.made) × ((s : ℕ) (r : Task) → get T.tasks s ≡ Some r → r.ordinal ≡ t.ordinal → s ≡ t.slot)
 
-abbrev pub modes_or_default : Option Task → BySignal Mode
-modes_or_default (Some r) = r.modes
-modes_or_default None = all_signals Default
+abbrev pub dispositions_or_default : Option Task → BySignal Disposition
+dispositions_or_default (Some r) = r.dispositions
+dispositions_or_default None = all_signals Default
 
-abbrev pub inherited : Slab Task → Option TaskRef → BySignal Mode
-inherited tasks (Some p) = modes_or_default (reached tasks p)
+abbrev pub inherited : Slab Task → Option TaskRef → BySignal Disposition
+inherited tasks (Some p) = dispositions_or_default (reached tasks p)
 inherited tasks None = all_signals Default
 
 -- one more task takes no memory
@@ -90,7 +90,7 @@ new_task T parent pid = record {
   parent = ordinal_of parent;
   ended = false;
   pending = all_signals false;
-  modes = inherited T.tasks parent;
+  dispositions = inherited T.tasks parent;
 }
 
 -- the task was added

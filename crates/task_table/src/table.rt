@@ -12,14 +12,14 @@ ghost use Rattle.history_frames.specs.Ordinals.{tasks_made, place_of, task_name_
 ghost use Rattle.task_table.specs.Index.{by_key, IsOrdered, KeysRise, first_free, has_key};
 ghost use Rattle.sys_abi.specs.Memory.{was_refused, lacked_memory};
 ghost use Rattle.task_table.specs.Table.{reached, inherited, HasRoom, IsAdded, SameTasks, IsRef, IsParentRef, IsPut, IsForgotten, IsLeft, IsIndexed, IsOrphaned, IsEnded, IsEndedAt, has_ended};
-ghost use Rattle.task_table.specs.Sets.{next_of, may_come, with_mode};
+ghost use Rattle.task_table.specs.Sets.{next_of, may_come, with_disposition};
 ghost use Rattle.hist_model.specs.Kinds.{exits};
 ghost use Rattle.task_table.specs.Stands.{StandsFor, IsSpawn, IsStepOf, IsAlive, IsDelivery, place_found, reap_step};
 ghost use Rattle.sys_abi.specs.Signals.{sigkill};
 
 use crate::index::{self, Entry};
 use crate::signals::BySignal;
-use hist_model::event::Mode;
+use hist_model::event::Disposition;
 use hist_model::request::TaskRef;
 use slab::Slab;
 use std::alloc::Global;
@@ -27,12 +27,12 @@ use sys_abi::memory::{NoMemory, OrNoMemory};
 use sys_abi::signals::{SIGKILL, SIGTERM, SIGUSR1, SIGUSR2};
 use thiserror::Error;
 
-/// Every process number is held (fork(2), EAGAIN).
+/// Every PID is held (fork(2), EAGAIN).
 #[derive(Clone, Copy, PartialEq, Eq, Debug, Error)]
-#[error("no free process number")]
+#[error("no free PID")]
 pub struct NoPid;
 
-/// No task that isn't reaped holds the process number (kill(2), ESRCH).
+/// No task that isn't reaped holds the PID (kill(2), ESRCH).
 #[derive(Clone, Copy, PartialEq, Eq, Debug, Error)]
 #[error("no such task")]
 pub struct NoTask;
@@ -51,23 +51,23 @@ pub struct Task {
     parent: Option<u32>,
     ended: bool,
     pending: BySignal<bool>,
-    modes: BySignal<Mode>,
+    dispositions: BySignal<Disposition>,
 }
 
-/// The tasks of a kernel that aren't reaped, their process numbers, signals and children.
+/// The tasks of a kernel that aren't reaped, their PIDs, signals and children.
 ///
 /// A `TaskRef` has the slot of its task beside the ordinal, and slots are used again. So whoever goes over the ordinals from
 /// 0 on can't make references of them, and keeps each one that `spawn` gave, under its ordinal.
 pub struct TaskTable {
     tasks: Slab<Task>,
-    /// By process number.
+    /// By PID.
     pids: Vec<Entry>,
     /// By the ordinal of the parent that can still wait for it.
     children: Vec<Entry>,
     base: u32,
-    /// The greatest process number.
+    /// The greatest PID.
     top: u32,
-    /// The process number that was given last.
+    /// The PID that was given last.
     last: u32,
     made: u32,
 }
@@ -88,7 +88,7 @@ impl Drop for TaskTable {
 }
 
 impl TaskTable {
-    /// A table without tasks, whose process numbers will be from `base + 1` to `base + pidmax`.
+    /// A table without tasks, whose PIDs will be from `base + 1` to `base + pidmax`.
     pub fn new(alloc: Global, base: u32, pidmax: u32) -> Result<TaskTable, NoMemory>
         requires { base + pidmax < 2 ^ 32 }
         ensures { IfOk result (λ t. StandsFor base pidmax [] t) }
@@ -141,16 +141,16 @@ impl TaskTable {
         }
     }
 
-    /// The modes with which a task is made: those of its parent.
-    fn inherited(&self, parent: Option<TaskRef>) -> BySignal<Mode>
+    /// The dispositions with which a task is made: those of its parent.
+    fn inherited(&self, parent: Option<TaskRef>) -> BySignal<Disposition>
         ensures { result ≡ inherited self.now.tasks parent }
     {
         let Some(parent) = parent else {
-            return BySignal::all(Mode::Default);
+            return BySignal::all(Disposition::Default);
         };
         match self.find(parent) {
-            Some(task) => task.modes,
-            None => BySignal::all(Mode::Default),
+            Some(task) => task.dispositions,
+            None => BySignal::all(Disposition::Default),
         }
     }
 
@@ -159,7 +159,7 @@ impl TaskTable {
         requires { HasRoom self.old }
         ensures { IsAdded self.old self.new parent pid result }
     {
-        let modes = self.inherited(parent);
+        let dispositions = self.inherited(parent);
         let ordinal = self.made;
         let slot = self.tasks.insert_reserved(Task {
             ordinal,
@@ -167,7 +167,7 @@ impl TaskTable {
             parent: parent.map(|parent| parent.ordinal),
             ended: false,
             pending: BySignal::all(false),
-            modes,
+            dispositions,
         });
         let task = TaskRef { slot, ordinal };
         index::insert(&mut self.pids, Entry { key: pid, task });
@@ -185,8 +185,8 @@ impl TaskTable {
         task
     }
 
-    /// Makes a task, a child of this one, which is alive, and gives its process number: the first free one after the
-    /// last one given, cyclic. Its modes are its parent's. It is refused where every number is held.
+    /// Makes a task, a child of this one, which is alive, and gives its PID: the first free one after the
+    /// last one given, cyclic. Its dispositions are its parent's. It is refused where every number is held.
     pub fn spawn(&mut self, parent: Option<TaskRef>) -> Result<(TaskRef, u32), OrNoMemory<NoPid>>
         ensures pid { IfOk result (λ made. (base pidmax : ℕ) (K : List Event) → StandsFor base pidmax K self.old → next_pid base pidmax K ≡ Some made.1) }
         ensures no_pid { was_refused result ≡ true → (base pidmax : ℕ) (K : List Event) → StandsFor base pidmax K self.old → next_pid base pidmax K ≡ None }
@@ -205,7 +205,7 @@ impl TaskTable {
         Ok((self.add(parent, pid), pid))
     }
 
-    /// The task that holds a process number. There is none exactly where no task that isn't reaped was given it.
+    /// The task that holds a PID. There is none exactly where no task that isn't reaped was given it.
     pub fn by_pid(&self, pid: u32) -> Result<TaskRef, NoTask>
         ensures holder { (base pidmax : ℕ) (K : List Event) → StandsFor base pidmax K self.now → place_found K result ≡ holder K pid }
         ensures task { (base pidmax : ℕ) (K : List Event) → StandsFor base pidmax K self.now → IfOk result (λ t. IsRef self.now t) }
@@ -284,7 +284,7 @@ impl TaskTable {
         self.orphan(t.ordinal);
     }
 
-    /// Sends a signal to the task that holds a process number; an ended task takes it and does nothing. A number that is
+    /// Sends a signal to the task that holds a PID; an ended task takes it and does nothing. A number that is
     /// none of the signals is taken too, and never delivered.
     pub fn signal(&mut self, pid: u32, sig: u8) -> Result<TaskRef, NoTask>
         ensures holder { (base pidmax : ℕ) (K : List Event) → StandsFor base pidmax K self.old → place_found K result ≡ holder K pid }
@@ -304,21 +304,21 @@ impl TaskTable {
     }
 
     /// Sets what a task, which is alive, does at a signal (sigaction(2)).
-    pub fn set_handler(&mut self, t: TaskRef, sig: u8, mode: Mode)
-        ensures step { (base pidmax : ℕ) (K : List Event) (e : Event) → StandsFor base pidmax K self.old → IsRef self.old t → IsStepOf K e t → e.what ≡ Handler sig mode → StandsFor base pidmax (e ∷ K) self.new }
+    pub fn set_handler(&mut self, t: TaskRef, sig: u8, disposition: Disposition)
+        ensures step { (base pidmax : ℕ) (K : List Event) (e : Event) → StandsFor base pidmax K self.old → IsRef self.old t → IsStepOf K e t → e.what ≡ Handler sig disposition → StandsFor base pidmax (e ∷ K) self.new }
         ensures refs { (base pidmax : ℕ) (K : List Event) → StandsFor base pidmax K self.old → (u : TaskRef) → IsRef self.old u → IsRef self.new u }
     {
         if let Some(mut task) = self.find(t) {
-            task.modes.set(sig, mode);
+            task.dispositions.set(sig, disposition);
             self.put(t, task);
         }
     }
 
-    /// Delivers the signal that is due next to a task, which is alive, and gives it with the task's mode for it: SIGKILL
+    /// Delivers the signal that is due next to a task, which is alive, and gives it with the task's disposition for it: SIGKILL
     /// where it is pending, else the smallest. Where `held` is set, only signals that end the task are due. SIGKILL, and a
     /// signal without a handler, end it. None exactly where no signal is due, which leaves all as it was.
-    pub fn deliver(&mut self, t: TaskRef, held: bool) -> Option<(u8, Mode)>
-        ensures next { (base pidmax : ℕ) (K : List Event) (killable : Bool) → StandsFor base pidmax K self.old → IsRef self.old t → IsAlive K t → held ≡ held_back killable K (task_name_of K t.ordinal) → result ≡ with_mode K (task_name_of K t.ordinal) (next_signal killable K (task_name_of K t.ordinal)) }
+    pub fn deliver(&mut self, t: TaskRef, held: bool) -> Option<(u8, Disposition)>
+        ensures next { (base pidmax : ℕ) (K : List Event) (killable : Bool) → StandsFor base pidmax K self.old → IsRef self.old t → IsAlive K t → held ≡ held_back killable K (task_name_of K t.ordinal) → result ≡ with_disposition K (task_name_of K t.ordinal) (next_signal killable K (task_name_of K t.ordinal)) }
         ensures step { IfSome result (λ due. (base pidmax : ℕ) (K : List Event) (e : Event) → StandsFor base pidmax K self.old → IsRef self.old t → IsStepOf K e t → IsDelivery e.what due.0 due.1 → StandsFor base pidmax (e ∷ K) self.new) }
         ensures none { IfNone result (self.new ≡ self.old) }
         ensures refs { (base pidmax : ℕ) (K : List Event) → StandsFor base pidmax K self.old → IsRef self.old t → (u : TaskRef) → IsRef self.old u → IsRef self.new u }
@@ -326,16 +326,16 @@ impl TaskTable {
         let Some(mut task) = self.find(t) else {
             return None;
         };
-        let Some((sig, mode)) = next_due(&task, held) else {
+        let Some((sig, disposition)) = next_due(&task, held) else {
             return None;
         };
         task.pending.set(sig, false);
-        if is_fatal(sig, mode) {
+        if is_fatal(sig, disposition) {
             self.end(t, task);
         } else {
             self.put(t, task);
         }
-        Some((sig, mode))
+        Some((sig, disposition))
     }
 
     /// Ends a task, which is alive, by its own step: it exits, or a filter kills it. Its ended children are reaped by that,
@@ -397,35 +397,39 @@ impl TaskTable {
     }
 }
 
-/// The signal that is delivered next to a task, and its mode: SIGKILL if it is pending, else the smallest one that is
+/// The signal that is delivered next to a task, and its disposition: SIGKILL if it is pending, else the smallest one that is
 /// pending and not held back.
-fn next_due(task: &Task, held: bool) -> Option<(u8, Mode)>
-    ensures { result ≡ next_of task.now.pending task.now.modes held }
+fn next_due(task: &Task, held: bool) -> Option<(u8, Disposition)>
+    ensures { result ≡ next_of task.now.pending task.now.dispositions held }
 {
-    let Task { pending, modes, .. } = task;
+    let Task {
+        pending,
+        dispositions,
+        ..
+    } = task;
     if pending.kill {
-        Some((SIGKILL, modes.kill))
-    } else if pending.usr1 && may_come(modes.usr1, held) {
-        Some((SIGUSR1, modes.usr1))
-    } else if pending.usr2 && may_come(modes.usr2, held) {
-        Some((SIGUSR2, modes.usr2))
-    } else if pending.term && may_come(modes.term, held) {
-        Some((SIGTERM, modes.term))
+        Some((SIGKILL, dispositions.kill))
+    } else if pending.usr1 && may_come(dispositions.usr1, held) {
+        Some((SIGUSR1, dispositions.usr1))
+    } else if pending.usr2 && may_come(dispositions.usr2, held) {
+        Some((SIGUSR2, dispositions.usr2))
+    } else if pending.term && may_come(dispositions.term, held) {
+        Some((SIGTERM, dispositions.term))
     } else {
         None
     }
 }
 
-/// A signal of this mode may be delivered now: no signal is held back, or this one ends the task.
-fn may_come(mode: Mode, held: bool) -> bool
-    ensures { result ≡ may_come mode held }
+/// A signal of this disposition may be delivered now: no signal is held back, or this one ends the task.
+fn may_come(disposition: Disposition, held: bool) -> bool
+    ensures { result ≡ may_come disposition held }
 {
-    !held || mode == Mode::Default
+    !held || disposition == Disposition::Default
 }
 
-/// A signal of this mode ends its task.
-fn is_fatal(sig: u8, mode: Mode) -> bool
-    ensures { result ≡ ((sig == sigkill) || is_default mode) }
+/// A signal of this disposition ends its task.
+fn is_fatal(sig: u8, disposition: Disposition) -> bool
+    ensures { result ≡ ((sig == sigkill) || is_default disposition) }
 {
-    sig == SIGKILL || mode == Mode::Default
+    sig == SIGKILL || disposition == Disposition::Default
 }

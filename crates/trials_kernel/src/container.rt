@@ -4,6 +4,7 @@ ghost use Rattle.std.specs.Prelude.{◌≡◌, ◌<◌, ◌≤◌, OnOk};
 ghost use Rattle.model_kernel.specs.Kernels.{IsKernel};
 
 use crate::steps::{Step, Told};
+use hist_model::boxed::Boxed;
 use hist_model::policy::Cap;
 use hist_model::request::Request;
 use hist_model::text::Text;
@@ -111,7 +112,7 @@ impl Container {
         Ok(Told::of_answer(self.kernel.check(worker, id)))
     }
 
-    /// What a worker, which has no memory open, opens of the task with a process number is opened.
+    /// What a worker, which has no memory open, opens of the task with a PID is opened.
     fn open(&mut self, worker: u8, pid: u32) -> Result<Told, Fail> {
         ready(&mut self.kernel, worker)?;
         if self.kernel.holds_mem(worker) {
@@ -141,20 +142,22 @@ impl Container {
         if !self.kernel.holds_mem(worker) {
             return Err(Fail::new("no memory is open"));
         }
-        Ok(Told::of_answer(self.kernel.plant(worker, addr, &[0; 112], None)))
+        let bytes = Boxed::new(self.alloc, [0; 112])?;
+        Ok(Told::of_answer(self.kernel.plant(worker, addr, bytes, None)))
     }
 
     /// A pipe is made.
     fn act(&mut self, worker: u8) -> Result<Told, Fail> {
-        let request = Request::Mknod {
+        let pipe = Request::Mknod {
             dirfd: None,
             path: Text::new(Vec::from_slice(self.alloc, b"/pipe")?),
             mode: 0o10644,
             dev: 0,
         };
+        let request = Boxed::new(self.alloc, pipe)?;
         let cap = Some(Cap { rule: 0, times: 1 });
         ready(&mut self.kernel, worker)?;
-        self.kernel.ready_act(&request, cap)?;
+        self.kernel.ready_act(request.get(), cap)?;
         Ok(Told::of_answer(self.kernel.act(worker, request, cap)))
     }
 

@@ -23,7 +23,7 @@ pub(crate) enum Step {
     RecvUncleared(u8),
     /// An id is checked.
     Check(u8, u64),
-    /// What a worker opens of the task with a process number is opened: its memory, and where its relative paths go from.
+    /// What a worker opens of the task with a PID is opened: its memory, and where its relative paths go from.
     Open(u8, u32),
     /// So many bytes are read, from an address on.
     Read(u8, u64, u16),
@@ -58,7 +58,7 @@ pub(crate) enum Told {
     Waits,
     /// It fails with this error.
     Fails(Errno),
-    /// The id of the notification that was received, its caller's process number, and the number of the call.
+    /// The id of the notification that was received, its caller's PID, and the number of the call.
     Received(u64, u32, i32),
     /// The task's call returned so.
     Returned(Back),

@@ -4,7 +4,7 @@ use crate::events::{check, open, read, started, task, worker};
 use crate::texts::text;
 use audit_log::journal::write_journal;
 use audit_log::report::write_rest;
-use hist_model::event::{Back, Delivered, Mode, What};
+use hist_model::event::{Back, Delivered, Disposition, What};
 use hist_model::history::History;
 use io_edge::memory::MemSink;
 use policy_reader::read_policy;
@@ -59,8 +59,15 @@ fn add_interrupted(history: &mut History, alloc: Global) -> Result<(), Fail> {
 /// A call that gets a descriptor, one that is interrupted before, and one whose descriptor is installed before the worker took its number.
 fn injected(alloc: Global) -> Result<History, Fail> {
     let mut history = started(alloc)?;
-    let mode = Mode::Plain;
-    task(&mut history, alloc, What::Handler { sig: 10, mode })?;
+    let disposition = Disposition::Plain;
+    task(
+        &mut history,
+        alloc,
+        What::Handler {
+            sig: 10,
+            disposition,
+        },
+    )?;
     add_injected(&mut history, alloc)?;
     add_interrupted(&mut history, alloc)?;
     ask(&mut history, alloc, 3)?;

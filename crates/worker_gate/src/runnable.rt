@@ -22,7 +22,7 @@ pub(crate) struct Runnable {
     is_queued: Vec<bool>,
     /// The tasks in listed calls, by the calls' ids.
     callers: HashMap<u64, u32>,
-    /// The tasks that got a process number last, by that number.
+    /// The tasks that got a PID last, by that number.
     holders: HashMap<u32, u32>,
     /// How many calls were listed, and not received, since a worker last found none to receive: no fewer than there are.
     calls: u64,
@@ -101,7 +101,7 @@ impl Runnable {
         }
     }
 
-    /// A task was made, and got this process number.
+    /// A task was made, and got this PID.
     fn add(&mut self, pid: u32) -> Result<(), NoMemory> {
         let Ok(task) = u32::try_from(self.is_queued.len()) else {
             return Ok(());
@@ -125,7 +125,7 @@ impl Runnable {
         self.callers.get(&id).copied()
     }
 
-    /// The task that holds this process number.
+    /// The task that holds this PID.
     fn holder(&self, pid: u32) -> Option<u32> {
         self.holders.get(&pid).copied()
     }

@@ -15,11 +15,12 @@ ghost use Rattle.hist_model.specs.declared.script.Script.{Script};
 ghost use Rattle.worker_rows.specs.Rows.{idle, row_of, has_session};
 ghost use Rattle.worker_rows.specs.Stands.{StandsFor, IsMemory, IsMemoryOpening, IsBaseOpening};
 
+use hist_model::event::WORKERS;
 use hist_model::request::NodeRef;
 use std::marker::Model;
 
-/// How many workers there are: 0 to 16.
-const WORKERS: usize = 17;
+/// One row for each worker.
+const ROWS: usize = WORKERS as usize;
 
 /// What is kept of one worker.
 #[derive(Clone, Copy, PartialEq, Eq, Debug)]
@@ -43,7 +44,7 @@ impl WorkerRow {
 /// What the workers 0 to 16 have open. Contracts see one row for each of them, in the order of their numbers.
 #[derive(Drop)]
 pub struct WorkerRows {
-    rows: [WorkerRow; WORKERS],
+    rows: [WorkerRow; ROWS],
     /// How many sessions are open.
     sessions: u8,
 }
@@ -68,7 +69,7 @@ impl WorkerRows {
         ensures rows { result ≡ replicate 17 idle }
     {
         WorkerRows {
-            rows: [WorkerRow::IDLE; WORKERS],
+            rows: [WorkerRow::IDLE; ROWS],
             sessions: 0,
         }
     }

@@ -9,7 +9,7 @@ pub returns : goal.returns
 returns c =
     let k = c.args.self.now in
     let m = c.requires.ready in
-    let w = Handler c.args.sig c.args.mode in
+    let w = Handler c.args.sig c.args.disposition in
     let e = step_by k c.args.task w in
     record {
       due = c.requires.due;

@@ -23,12 +23,12 @@ returns-else-is_fatal-clause-next c base pidmax K killable S i a h =
 
 pub returns-then-is_fatal-clause-step : goal.returns-then-is_fatal-clause-step
 returns-then-is_fatal-clause-step c base pidmax K e S i step d =
-    stands-deliver-end base pidmax K e c.args.self.now c.end.new.self c.args.t c.in-Some.task _ c.in-Some-next_due.sig c.in-Some-next_due.mode S step d (sym c.is_fatal.ensures ∙ c.if-is_fatal.true)
+    stands-deliver-end base pidmax K e c.args.self.now c.end.new.self c.args.t c.in-Some.task _ c.in-Some-next_due.sig c.in-Some-next_due.disposition S step d (sym c.is_fatal.ensures ∙ c.if-is_fatal.true)
     (sym c.in-Some.ensures) (ap (λ x. record c.in-Some.task { pending = x }) c.set.ensures) (c.end.ensures c.in-Some.task)
 
 pub returns-else-is_fatal-clause-step : goal.returns-else-is_fatal-clause-step
 returns-else-is_fatal-clause-step c base pidmax K e S i step d =
-    stands-deliver base pidmax K e c.args.self.now c.put.new.self c.args.t c.in-Some.task _ c.in-Some-next_due.sig c.in-Some-next_due.mode S step d (sym c.is_fatal.ensures ∙ c.if-is_fatal.false)
+    stands-deliver base pidmax K e c.args.self.now c.put.new.self c.args.t c.in-Some.task _ c.in-Some-next_due.sig c.in-Some-next_due.disposition S step d (sym c.is_fatal.ensures ∙ c.if-is_fatal.false)
     (sym c.in-Some.ensures) (ap (λ x. record c.in-Some.task { pending = x }) c.set.ensures) (c.put.ensures.put c.in-Some.task)
 
 pub returns-then-is_fatal-clause-refs : goal.returns-then-is_fatal-clause-refs
