@@ -25,7 +25,7 @@ use sys_abi::memory::NoMemory;
 use sys_abi::wire::AT_FDCWD;
 
 /// A key of a condition.
-#[derive(Clone, Copy, PartialEq, Eq, Debug)]
+#[derive(Clone, Copy)]
 pub(crate) enum CondKey {
     Text(TextKey),
     Dirfd,
@@ -33,7 +33,7 @@ pub(crate) enum CondKey {
 }
 
 /// A key of a condition whose value is a text.
-#[derive(Clone, Copy, PartialEq, Eq, Debug)]
+#[derive(Clone, Copy)]
 pub(crate) enum TextKey {
     Dev,
     Fstype,

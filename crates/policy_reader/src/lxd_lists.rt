@@ -13,7 +13,7 @@ use std::alloc::Global;
 use sys_abi::memory::NoMemory;
 
 /// What a list has.
-#[derive(Clone, Copy, PartialEq, Eq, Debug)]
+#[derive(Clone, Copy)]
 pub(crate) enum ListOf {
     /// File systems.
     Names,

@@ -22,7 +22,7 @@ use std::alloc::Global;
 use sys_abi::memory::{NoMemory, OrNoMemory};
 
 /// A key of the top object.
-#[derive(Clone, Copy, PartialEq, Eq, Debug)]
+#[derive(Clone, Copy)]
 pub(crate) enum TopKey {
     Config,
     Profile,

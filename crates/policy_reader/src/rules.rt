@@ -25,21 +25,21 @@ use sys_abi::calls::call_number;
 use sys_abi::memory::{NoMemory, OrNoMemory};
 
 /// The versions of a policy's format. In the second one rules may say how often they grant.
-#[derive(Clone, Copy, PartialEq, Eq, Debug)]
+#[derive(Clone, Copy)]
 pub(crate) enum Version {
     First,
     Second,
 }
 
 /// How a policy is read: the version of its format, and by whose rules its keys are.
-#[derive(Clone, Copy, PartialEq, Eq, Debug)]
+#[derive(Clone, Copy)]
 pub(crate) struct Format {
     pub(crate) version: Version,
     pub(crate) profile: Profile,
 }
 
 /// A key of a rule.
-#[derive(Clone, Copy, PartialEq, Eq, Debug)]
+#[derive(Clone, Copy)]
 pub(crate) enum RuleKey {
     Call,
     Name,

@@ -21,7 +21,7 @@ use std::marker::Model;
 use sys_abi::memory::NoMemory;
 
 /// What a key of the configuration says.
-#[derive(Clone, Copy, PartialEq, Eq, Debug)]
+#[derive(Clone, Copy)]
 pub(crate) enum ConfigKey {
     /// Nothing: it is of another matter, or a kind of interception that this program doesn't do.
     Ignored,
@@ -34,7 +34,7 @@ pub(crate) enum ConfigKey {
 }
 
 /// A setting of the configuration.
-#[derive(Clone, Copy, PartialEq, Eq, Debug)]
+#[derive(Clone, Copy)]
 pub(crate) enum Setting {
     Mknod,
     Mount,

@@ -18,7 +18,7 @@ use sys_abi::calls;
 use sys_abi::errno::Errno;
 
 /// A key of an answer that is an object.
-#[derive(Clone, Copy, PartialEq, Eq, Debug)]
+#[derive(Clone, Copy)]
 pub(crate) enum AnswerKey {
     At,
     Deny,
