@@ -1,13 +1,13 @@
 -- What the tables of the reader stand for.
 use Rattle.script_reader.specs.declared.builder.Builder.{Builder}
 use Rattle.script_reader.specs.declared.programs.Programs.{Programs}
-use Rattle.script_reader.specs.declared.tree.Tree.{Tree}
+use Rattle.script_reader.specs.declared.tree.StatedTree.{StatedTree}
 use Rattle.script_reader.specs.Above.{Above}
 use Rattle.script_reader.specs.Maps.{value_in}
 use Rattle.script_reader.specs.Programs.{ProgramsState}
 use Rattle.script_reader.specs.Tree.{TreeState}
 
-abbrev pub tree_in : Tree → TreeState
+abbrev pub tree_in : StatedTree → TreeState
 tree_in t = record { found = value_in t.paths; nodes = t.nodes; lines = t.lines.items }
 
 abbrev pub programs_in : Programs → ProgramsState

@@ -15,7 +15,7 @@ use crate::settings::{
 };
 use crate::statement::Statement;
 use crate::totals::is_exit;
-use crate::tree::Tree;
+use crate::tree::StatedTree;
 use crate::word::{Part, in_block};
 use hist_model::request::{Node, NodeRef};
 use hist_model::script::{Figures, Insn, Instr, MapRange, Script, Step};
@@ -31,7 +31,7 @@ pub struct Builder {
     part: Part,
     opened: u32,
     settings: Settings,
-    tree: Tree,
+    tree: StatedTree,
     broker: Vec<u32>,
     map: Vec<MapRange>,
     filters: Filters,
@@ -71,7 +71,7 @@ impl Builder {
             part: Part::Settings,
             opened: 0,
             settings: no_settings(),
-            tree: Tree::new(alloc)?,
+            tree: StatedTree::new(alloc)?,
             broker: Vec::new(alloc),
             map: Vec::new(alloc),
             filters: Filters::new(alloc),

@@ -20,7 +20,7 @@ const MOST_LINES: usize = 10_000;
 
 /// The tree that the lines above state: what each path leads to, how many nodes there are, and the lines.
 #[derive(Drop)]
-pub struct Tree {
+pub struct StatedTree {
     paths: BTreeMap<Vec<u8>, Found>,
     nodes: u32,
     lines: Vec<TreeLine>,
@@ -33,14 +33,14 @@ fn is_directory(node: &Node) -> bool
     matches!(node, Node::Dir)
 }
 
-impl Tree {
+impl StatedTree {
     ghost use Rattle.std.specs.Prelude.{length, IfOk, OnOk};
     ghost use Rattle.script_reader.specs.Faults.{Admits, Judges};
     ghost use Rattle.script_reader.specs.Tree as definitions;
     ghost use Rattle.script_reader.specs.Views.{tree_in};
 
     /// `/` alone.
-    pub fn new(alloc: Global) -> Result<Tree, NoMemory>
+    pub fn new(alloc: Global) -> Result<StatedTree, NoMemory>
         ensures { IfOk result (λ t. tree_in t ≡ definitions.bare_tree) }
     {
         let mut paths = BTreeMap::new(alloc);
@@ -49,7 +49,7 @@ impl Tree {
             directory: true,
         };
         paths.insert(Vec::from_slice(alloc, ROOT)?, root)?;
-        Ok(Tree {
+        Ok(StatedTree {
             paths,
             nodes: 1,
             lines: Vec::new(alloc),
@@ -191,7 +191,7 @@ impl Tree {
     pub fn into_lines(self) -> Vec<TreeLine>
         ensures { result.items ≡ (tree_in self).lines }
     {
-        let Tree { lines, .. } = self;
+        let StatedTree { lines, .. } = self;
         lines
     }
 }

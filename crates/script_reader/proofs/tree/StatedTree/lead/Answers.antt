@@ -1,7 +1,7 @@
 -- One more path leads to a node: the map is changed at that path alone.
 use Rattle.std.proofs.Common.{◌≡◌, ◌+◌, rules}
 use Rattle.script_reader.proofs.Tables.{tree_led}
-use Rattle.script_reader.proofs.tree.Tree.lead.Goals as goal
+use Rattle.script_reader.proofs.tree.StatedTree.lead.Goals as goal
 
 pub returns : goal.returns
 returns c =
