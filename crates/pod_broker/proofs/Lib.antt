@@ -1,0 +1,3 @@
+pub mod Isolation
+pub mod Ranges
+pub mod Worked
