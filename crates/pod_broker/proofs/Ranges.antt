@@ -1,4 +1,4 @@
--- Process numbers stay in a script's range, and a signal to a number outside of it finds nobody.
+-- PIDs stay in a script's range, and a signal to a number outside of it finds nobody.
 -- By induction on a legal history: a spawn gives a free number of the range, and who holds a number was given it.
 use Rattle.std.proofs.Common.{◌≡◌, ℕ, zero, suc, ◌+◌, ◌-◌, ◌<◌, ◌≤◌, true, false, List, [], ◌∷◌, length, Option, Some, None, inl, inr, refl, ap, ◌∙◌, arith}
 use Rattle.std.specs.Prelude.{◌==◌, if◌then◌else◌, Err, Result, nat_le, nat_lt}

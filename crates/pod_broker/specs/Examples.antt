@@ -1,4 +1,4 @@
--- Two small containers whose ranges of process numbers lie side by side, and a third whose range overlaps the first.
+-- Two small containers whose ranges of PIDs lie side by side, and a third whose range overlaps the first.
 use Rattle.std.specs.Prelude.{◌≡◌, ℕ, true, false, [], ◌∷◌, Ok, Err}
 use Rattle.hist_model.specs.Decisions.{default_rules}
 use Rattle.hist_model.specs.Legal.{played}
@@ -19,7 +19,7 @@ use Rattle.pod_broker.specs.Pods.{Apart, overlap, own, was_given}
 abbrev pub passing : Policy
 passing = record { rules = default_rules }
 
--- ten process numbers above the base; the one task sends SIGKILL to the number 11, and takes one more step
+-- ten PIDs above the base; the one task sends SIGKILL to the number 11, and takes one more step
 abbrev pub container : ℕ → Script
 container base = record (script_making [] 0 []) {
   pidbase = base;

@@ -1,4 +1,4 @@
--- Containers beside each other: what is a container's own in its history, the process numbers that it gives, and when two share none.
+-- Containers beside each other: what is a container's own in its history, the PIDs that it gives, and when two share none.
 use Rattle.std.specs.Prelude.{◌≡◌, ◌↔◌, ℕ, ◌+◌, Bool, true, false, ◌&&◌, ◌||◌, nat_le, nat_lt, List, [], ◌∷◌, drop, reverse, Result, Err}
 use Rattle.hist_model.specs.Legal.{Legal}
 use Rattle.hist_model.specs.Mediated.{Each}
@@ -21,7 +21,7 @@ own K = drop 1 (reverse (actors K))
 abbrev pub FixedByOwn : Policy → Script → Type 0
 FixedByOwn P S = (K L : List Event) → Legal P S K → Legal P S L → own K ≡ own L → K ≡ L
 
--- ---- process numbers
+-- ---- PIDs
 
 -- a spawn of the history gave this number
 abbrev pub was_given : List Event → ℕ → Bool

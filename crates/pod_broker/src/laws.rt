@@ -14,7 +14,7 @@ pub fn isolation()
     ensures { (P : Policy) (S : Script) → FixedByOwn P S }
 {}
 
-/// Each process number that a container's tasks get lies in its script's range.
+/// Each PID that a container's tasks get lies in its script's range.
 #[tactic(auto, using(crate::proofs::Ranges::gives_in_range))]
 pub fn numbers_keep_their_range()
     ensures { (P : Policy) (S : Script) → IsScript S → GivesInRange P S }
@@ -26,13 +26,13 @@ pub fn overlap_is_a_shared_number()
     ensures { (S T : Script) → IsScript S → IsScript T → OverlapIsShared S T }
 {}
 
-/// Containers whose scripts' ranges don't overlap give no common process number.
+/// Containers whose scripts' ranges don't overlap give no common PID.
 #[tactic(auto, using(crate::proofs::Ranges::ranges_set_apart))]
 pub fn ranges_set_apart()
     ensures { (P Q : Policy) (S T : Script) → IsScript S → IsScript T → RangesSetApart P S Q T }
 {}
 
-/// A signal to a process number outside of the container's own range is answered ESRCH, and so is one to a number in the range of
+/// A signal to a PID outside of the container's own range is answered ESRCH, and so is one to a number in the range of
 /// another container, where the two ranges don't overlap.
 #[tactic(auto, using(crate::proofs::Ranges::kills_inside, crate::proofs::Ranges::kills_none_beside))]
 pub fn signals_stay_inside()
