@@ -4,10 +4,10 @@ use Rattle.std.proofs.Common.{◌≡◌, ℕ, true, List, Some, ap, sym, ◌∙�
 use Rattle.std.proofs.lemmas.List.{length-replicate}
 use Rattle.std.specs.Prelude.{ℤ, Ok, Err, Result, IfOk, replicate, length}
 use Rattle.hist_model.specs.Memory.{all_mapped, group_named, last_call}
-use Rattle.hist_model.specs.Steps.{instr_step, next_instr, owes_native}
+use Rattle.hist_model.specs.Steps.{owes_native}
 use Rattle.hist_model.specs.ScriptRules.{IsScript}
 use Rattle.hist_model.specs.declared.event.Entered.{Entered}
-use Rattle.hist_model.specs.declared.event.What.TheVariants.{Enter, Poke}
+use Rattle.hist_model.specs.declared.event.What.TheVariants.{Enter}
 use Rattle.hist_model.specs.declared.script.Instr.TheVariants as instr
 use Rattle.hist_model.specs.declared.event.Event.{Event}
 use Rattle.hist_model.specs.declared.script.Script.{Script}
@@ -21,7 +21,7 @@ use Rattle.kernel_tasks.specs.Stands as tasks
 use Rattle.kernel_tasks.specs.declared.tasks.Tasks.{Tasks}
 use Rattle.task_progress.specs.Rows.{living_in}
 use Rattle.model_kernel.specs.Kernels.{IsKernel, past, system}
-use Rattle.model_kernel.specs.Ready.{IsOwed, own_step}
+use Rattle.model_kernel.specs.Ready.{IsOwed, own_instr, stored_by}
 use Rattle.model_kernel.specs.Steps.{MayStep, named}
 use Rattle.model_kernel.specs.declared.kernel.Kernel.{Kernel}
 use Rattle.model_kernel.proofs.Stored.{stored-mapped}
@@ -42,11 +42,15 @@ owed-if k o nr args (Ok call) group g may owes at own last read = record {
 owed-if k o nr args (Err e) group g may owes at own last read = tt
 
 -- a poke stores its bytes, and a fill as many of one byte, where each address is mapped
-pub poke-is : (k : Kernel) (o addr : ℕ) (bytes : List ℕ) → IsScript k.script → next_instr (system k) (past k) (named k o) ≡ Some (instr.Poke addr bytes) → (own_step k o ≡ Poke addr bytes) × (all_mapped k.script.map addr (length bytes) ≡ true)
-poke-is k o addr bytes s next = (ap (instr_step (system k) (past k) (named k o)) next, stored-mapped k.script (named k o) _ (instr.Poke addr bytes) s next)
+pub poke-mapped : (k : Kernel) (o addr : ℕ) (own bytes : List ℕ) → IsScript k.script → Some (instr.Poke addr own) ≡ own_instr k o → stored_by (own_instr k o) ≡ bytes → all_mapped k.script.map addr (length bytes) ≡ true
+poke-mapped k o addr own bytes s next are =
+    let same : own ≡ bytes = ap stored_by next ∙ are in
+    subst (λ x. all_mapped k.script.map addr (length x) ≡ true) same (stored-mapped k.script (named k o) _ (instr.Poke addr own) s (sym next))
 
-pub fill-is : (k : Kernel) (o addr len byte : ℕ) → IsScript k.script → next_instr (system k) (past k) (named k o) ≡ Some (instr.Fill addr len byte) → (own_step k o ≡ Poke addr (replicate len byte)) × (all_mapped k.script.map addr (length (replicate len byte)) ≡ true)
-fill-is k o addr len byte s next = (ap (instr_step (system k) (past k) (named k o)) next, rw (length-replicate len byte) (stored-mapped k.script (named k o) _ (instr.Fill addr len byte) s next))
+pub fill-mapped : (k : Kernel) (o addr len byte : ℕ) (bytes : List ℕ) → IsScript k.script → Some (instr.Fill addr len byte) ≡ own_instr k o → stored_by (own_instr k o) ≡ bytes → all_mapped k.script.map addr (length bytes) ≡ true
+fill-mapped k o addr len byte bytes s next are =
+    let same : replicate len byte ≡ bytes = ap stored_by next ∙ are in
+    subst (λ x. all_mapped k.script.map addr (length x) ≡ true) same (rw (length-replicate len byte) (stored-mapped k.script (named k o) _ (instr.Fill addr len byte) s (sym next)))
 
 -- the kernel with more room for tasks
 pub roomier : (k new : Kernel) (T : Tasks) → IsKernel k → tasks.StandsFor k.script (past k) T → ((g : ℕ) → living_in T.progress g ≡ living_in k.tasks.progress g) → past new ≡ past k → new ≡ record k { history = new.history; tasks = T } → IsKernel new

@@ -1,6 +1,6 @@
 //! What a task's next step is, read out of the tables with all that it needs of memory before it is taken.
 
-ghost use Rattle.std.specs.Prelude.{◌≡◌, ◌<◌, ◌^◌, length, true, replicate, IfOk, OnOk};
+ghost use Rattle.std.specs.Prelude.{◌≡◌, ◌<◌, ◌^◌, length, true, replicate, vec_capacity, IfOk, OnOk};
 ghost use Rattle.std.specs.Option.{option_copied};
 ghost use Rattle.hist_model.specs.ScriptRules.{IsScript};
 ghost use Rattle.hist_model.specs.Signals.{call_of};
@@ -10,31 +10,16 @@ ghost use Rattle.history_frames.specs.Ordinals.{tasks_made};
 ghost use Rattle.kernel_tasks.specs.Rows.{HasRoom as HasTaskRoom};
 ghost use Rattle.task_progress.specs.Rows.{ended_at};
 ghost use Rattle.model_kernel.specs.Kernels.{IsKernel, past, system};
-ghost use Rattle.model_kernel.specs.Ready.{HasNextRoom, IsInstruction, IsNext, IsOwed, IsReadyFor, IsSame, stored_bytes};
+ghost use Rattle.model_kernel.specs.Ready.{HasNextRoom, IsNext, IsOwed, IsReadyFor, IsSame, names_child, stored_by};
 ghost use Rattle.model_kernel.specs.Steps.{MayStep, named};
-ghost use Rattle.model_kernel.specs.declared.ready.Next.TheVariants.{Runs as RunsNext};
 
 use crate::kernel::Kernel;
 use arg_capture::Capture;
-use hist_model::event::Disposition;
 use hist_model::script::{Instr, Script};
 use hist_model::text::{TaskName, Text};
 use native_calls::NativeCall;
 use std::alloc::Global;
 use sys_abi::memory::NoMemory;
-
-/// The next instruction of a task's program, with what it stores and whom it signals. Behind the last one stands an exit.
-#[derive(Drop)]
-pub(crate) enum Instruction {
-    Exit,
-    Store { addr: u64, bytes: Text },
-    Enter { nr: i32, args: [u64; 6] },
-    Fork { program: u32 },
-    Thread { program: u32 },
-    Signal { pid: u32, sig: u8 },
-    Handler { sig: u8, disposition: Disposition },
-    Wait,
-}
 
 /// What a task has next.
 #[derive(Drop)]
@@ -46,7 +31,12 @@ pub(crate) enum Next {
     /// It owes this native call, whose arguments were read out of its memory.
     Owed(NativeCall),
     /// Its program goes on.
-    Runs(Instruction),
+    Runs {
+        /// What its next instruction stores, if that stores anything.
+        bytes: Text,
+        /// Room for the name of a child, if its next instruction names one.
+        room: Vec<u32>,
+    },
 }
 
 /// The next step of a task, with all the memory that it takes. It is for the kernel that made it ready, until that has
@@ -54,8 +44,6 @@ pub(crate) enum Next {
 #[derive(Drop)]
 pub struct ReadyTask {
     pub(crate) name: TaskName,
-    /// Room for the name of a child.
-    pub(crate) room: Vec<u32>,
     pub(crate) next: Next,
 }
 
@@ -66,59 +54,53 @@ fn filled(alloc: Global, len: u32, byte: u8) -> Result<Text, NoMemory>
     Ok(Text::new(vec![in alloc; byte; len as usize]?))
 }
 
-/// How many bytes an instruction stores. There is no memory for 2^32 of them.
-fn stored_bytes(instruction: &Instruction) -> Result<u32, NoMemory>
-    ensures { IfOk result (λ n. n ≡ stored_bytes (RunsNext instruction.now)) }
+/// A copy of the bytes that an instruction stores.
+fn stored_by(alloc: Global, instr: Option<&Instr>) -> Result<Text, NoMemory>
+    ensures { IfOk result (λ text. text ≡ stored_by (option_copied instr.entry)) }
 {
-    let Instruction::Store { bytes, .. } = instruction else {
-        return Ok(0);
-    };
+    match instr {
+        Some(Instr::Poke { bytes, .. }) => bytes.copied(alloc),
+        Some(Instr::Fill { len, byte, .. }) => filled(alloc, *len, *byte),
+        _ => Ok(Text::new(Vec::new(alloc))),
+    }
+}
+
+/// Whether an instruction makes a child, or waits for one, so that its step has a child's name.
+fn names_child(instr: Option<&Instr>) -> bool
+    ensures { result ≡ names_child (option_copied instr.entry) }
+{
+    matches!(
+        instr,
+        Some(Instr::Spawn { .. } | Instr::Thread { .. } | Instr::Wait)
+    )
+}
+
+/// Room for the name of a child of the task with this name, if an instruction names one.
+fn child_room(alloc: Global, instr: Option<&Instr>, name: &[u32]) -> Result<Vec<u32>, NoMemory>
+    ensures { IfOk result (λ room. names_child (option_copied instr.entry) ≡ true → length name.now < vec_capacity room) }
+{
+    if names_child(instr) {
+        Ok(Vec::with_capacity(alloc, name.len() + 1)?)
+    } else {
+        Ok(Vec::new(alloc))
+    }
+}
+
+/// How many bytes these are. There is no memory for 2^32 of them.
+fn size(bytes: &Text) -> Result<u32, NoMemory>
+    ensures { IfOk result (λ n. n ≡ length bytes.now) }
+{
     u32::try_from(bytes.items().len()).map_err(|_| NoMemory)
 }
 
 /// A script keeps its rules.
-fn keeps_rules(script: &Script)
+pub(crate) fn keeps_rules(script: &Script)
     ensures { IsScript script.now }
 {
     let _base = script.pidbase;
 }
 
 impl Kernel {
-    /// The next instruction of a task that waits in no listed call and owes no native call.
-    fn next_instruction(&self, alloc: Global, task: u32) -> Result<Instruction, NoMemory>
-        requires kernel { IsKernel self.now }
-        requires made { task < tasks_made (past self.now) }
-        ensures { IfOk result (λ i. IsInstruction self.now task i) }
-    {
-        keeps_rules(&self.script);
-        match self.tasks.next_instr(&self.script, task) {
-            None | Some(Instr::Exit) => Ok(Instruction::Exit),
-            Some(Instr::Poke { addr, bytes }) => Ok(Instruction::Store {
-                addr: *addr,
-                bytes: bytes.copied(alloc)?,
-            }),
-            Some(Instr::Fill { addr, len, byte }) => Ok(Instruction::Store {
-                addr: *addr,
-                bytes: filled(alloc, *len, *byte)?,
-            }),
-            Some(Instr::Call { nr, args }) => Ok(Instruction::Enter {
-                nr: *nr,
-                args: *args,
-            }),
-            Some(Instr::Spawn { program }) => Ok(Instruction::Fork { program: *program }),
-            Some(Instr::Thread { program }) => Ok(Instruction::Thread { program: *program }),
-            Some(Instr::Kill { whom, sig }) => Ok(Instruction::Signal {
-                pid: self.tasks.signalled(task, *whom),
-                sig: *sig,
-            }),
-            Some(Instr::Handler { sig, disposition }) => Ok(Instruction::Handler {
-                sig: *sig,
-                disposition: *disposition,
-            }),
-            Some(Instr::Wait) => Ok(Instruction::Wait),
-        }
-    }
-
     /// The native call that a task owes, with its arguments.
     fn owed_call(&self, alloc: Global, task: u32) -> Result<NativeCall, NoMemory>
         requires may { MayStep self.now task }
@@ -154,7 +136,11 @@ impl Kernel {
         if self.tasks.owes(task) {
             return Ok(Next::Owed(self.owed_call(alloc, task)?));
         }
-        Ok(Next::Runs(self.next_instruction(alloc, task)?))
+        let instr = self.tasks.next_instr(&self.script, task);
+        Ok(Next::Runs {
+            bytes: stored_by(alloc, instr)?,
+            room: child_room(alloc, instr, self.tasks.name(task))?,
+        })
     }
 
     /// Makes room for what a task has next.
@@ -172,7 +158,7 @@ impl Kernel {
             Next::Ended => Ok(()),
             Next::Waiting(_) => self.resources.ready(group, 0),
             Next::Owed(call) => self.resources.ready_native(group, call),
-            Next::Runs(instruction) => self.resources.ready(group, stored_bytes(instruction)?),
+            Next::Runs { bytes, .. } => self.resources.ready(group, size(bytes)?),
         }
     }
 
@@ -216,11 +202,8 @@ impl Kernel {
         ensures ready { IfOk result (λ r. IsReadyFor self.new task r) }
     {
         let next = self.ready_tables(alloc, task)?;
-        let numbers = self.tasks.name(task);
-        let room = Vec::with_capacity(alloc, numbers.len() + 1)?;
         Ok(ReadyTask {
-            name: TaskName::of(alloc, numbers)?,
-            room,
+            name: TaskName::of(alloc, self.tasks.name(task))?,
             next,
         })
     }

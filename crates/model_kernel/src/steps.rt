@@ -8,9 +8,9 @@ ghost use Rattle.hist_model.specs.Tasks.{holder, next_pid};
 ghost use Rattle.hist_model.specs.declared.event.Actor.TheVariants.{Task};
 ghost use Rattle.hist_model.specs.declared.event.What.TheVariants.{Enter, Handler, Native, Poke, Resume, Signal, Skip, Spawn};
 ghost use Rattle.model_kernel.specs.Kernels.{IsAfter, IsKernel, past, system};
-ghost use Rattle.model_kernel.specs.Ready.{HasNextRoom, IsInstruction, IsNext, IsReadyFor, own_step};
+ghost use Rattle.model_kernel.specs.Ready.{HasNextRoom, IsNext, IsReadyFor, IsSupplied, own_step};
 ghost use Rattle.model_kernel.specs.declared.ready.Next.TheVariants.{Runs};
-ghost use Rattle.model_kernel.specs.Steps.{Acts, IsStepped, IsDeliveredFirst, IsInstallDue, MayStep, WaitsIn, due_step, is_unlisted, left_by, named, signal_due};
+ghost use Rattle.model_kernel.specs.Steps.{Acts, IsStepped, IsDeliveredFirst, IsInstallDue, MayStep, TakesStep, WaitsIn, due_step, is_unlisted, left_by, named, signal_due};
 ghost use Rattle.hist_model.specs.Kinds.{ends, exits, makes};
 ghost use Rattle.hist_model.specs.declared.event.Event.{Event};
 ghost use Rattle.hist_model.specs.declared.script.Script.{Script};
@@ -31,10 +31,11 @@ ghost use Rattle.kernel_resources.specs.Stands.{HasNativeRoom, IsThread};
 ghost use Rattle.kernel_resources.specs.Stands as resources_stand;
 
 use crate::kernel::Kernel;
-use crate::ready::{Instruction, Next, ReadyTask};
+use crate::ready::{Next, ReadyTask, keeps_rules};
 use bpf_filter::verdict;
 use hist_model::event::{Actor, Back, Delivered, Disposition, Entered, Event, SpawnKind, What};
 use hist_model::request::TaskRef;
+use hist_model::script::Instr;
 use hist_model::text::{TaskName, Text};
 use kernel_resources::Resources;
 use native_calls::NativeCall;
@@ -321,57 +322,60 @@ impl Kernel {
         Some(what)
     }
 
-    /// Takes the step of a task's next instruction, for which there is room. None exactly where that is a wait for children
-    /// of which none has ended, which leaves all as it was.
-    fn run(&mut self, task: u32, instruction: Instruction, room: Vec<u32>) -> Option<What>
+    /// Takes the step of a task's next instruction, with the bytes that it stores and room for the name of a child. The tables
+    /// have room for it. None exactly where that is a wait for children of which none has ended, which leaves all as it was.
+    fn run(&mut self, task: u32, bytes: Text, room: Vec<u32>) -> Option<What>
         requires ready { MayStep self.old task }
         requires outside { call_of (past self.old) (named self.old task) ≡ None }
-        requires instruction { IsInstruction self.old task instruction }
+        requires supplied { IsSupplied self.old task bytes (vec_capacity room) }
         requires due { due_step self.old task ≡ own_step self.old task }
-        requires room { length (name_at self.old.tasks.names task) < vec_capacity room }
         requires tasks { HasTaskRoom self.old.tasks task }
-        requires resources { HasNextRoom self.old task (Runs instruction) }
+        requires resources { HasNextRoom self.old task (Runs bytes room) }
         ensures step { IfSome result (λ w. Acts self.old task w self.new) }
         ensures none { IfNone result ((self.new ≡ self.old) × (due_step self.old task ≡ Skip)) }
     {
-        match instruction {
-            Instruction::Exit => Some(self.exit(task, What::Exit)),
-            Instruction::Store { addr, bytes } => Some(self.store(task, addr, bytes)),
-            Instruction::Enter { nr, args } => Some(self.enter(task, nr, &args)),
-            Instruction::Fork { program } => Some(self.make_process(task, program, room)),
-            Instruction::Thread { program } => Some(self.make_thread(task, program, room)),
-            Instruction::Signal { pid, sig } => Some(self.send_signal(task, pid, sig)),
-            Instruction::Handler { sig, disposition } => Some(self.handle(task, sig, disposition)),
-            Instruction::Wait => self.wait(task, room),
+        keeps_rules(&self.script);
+        match self.tasks.next_instr(&self.script, task) {
+            None | Some(Instr::Exit) => Some(self.exit(task, What::Exit)),
+            Some(&Instr::Poke { addr, .. }) => Some(self.store(task, addr, bytes)),
+            Some(&Instr::Fill { addr, .. }) => Some(self.store(task, addr, bytes)),
+            Some(&Instr::Call { nr, args }) => Some(self.enter(task, nr, &args)),
+            Some(&Instr::Spawn { program }) => Some(self.make_process(task, program, room)),
+            Some(&Instr::Thread { program }) => Some(self.make_thread(task, program, room)),
+            Some(&Instr::Kill { whom, sig }) => {
+                let pid = self.tasks.signalled(task, whom);
+                Some(self.send_signal(task, pid, sig))
+            }
+            Some(&Instr::Handler { sig, disposition }) => Some(self.handle(task, sig, disposition)),
+            Some(Instr::Wait) => self.wait(task, room),
         }
     }
 
-    /// The step of a task that waits in no listed call and owes no native call, for which there is room: a due signal is
-    /// delivered, else its program goes on. None exactly where it waits for children, which leaves all as it was.
-    fn go_on(&mut self, task: u32, instruction: Instruction, room: Vec<u32>) -> Option<What>
+    /// The step of a task that waits in no listed call and owes no native call, with what its next instruction needs of memory:
+    /// a due signal is delivered, else its program goes on. None exactly where it waits for children, which leaves all as it
+    /// was.
+    fn go_on(&mut self, task: u32, bytes: Text, room: Vec<u32>) -> Option<What>
         requires ready { MayStep self.old task }
         requires outside { call_of (past self.old) (named self.old task) ≡ None }
         requires owes { owes_native (past self.old) (named self.old task) ≡ false }
-        requires instruction { IsInstruction self.old task instruction }
-        requires room { length (name_at self.old.tasks.names task) < vec_capacity room }
+        requires supplied { IsSupplied self.old task bytes (vec_capacity room) }
         requires tasks { HasTaskRoom self.old.tasks task }
-        requires resources { HasNextRoom self.old task (Runs instruction) }
+        requires resources { HasNextRoom self.old task (Runs bytes room) }
         ensures step { IfSome result (λ w. Acts self.old task w self.new) }
         ensures none { IfNone result ((self.new ≡ self.old) × (due_step self.old task ≡ Skip)) }
     {
         if let Some(what) = self.deliver_outside(task) {
             return Some(what);
         }
-        self.run(task, instruction, room)
+        self.run(task, bytes, room)
     }
 
     /// The step that a task has next. None exactly where it can't step, which leaves all as it was.
-    fn next_step(&mut self, task: u32, next: Next, room: Vec<u32>) -> Option<What>
+    fn next_step(&mut self, task: u32, next: Next) -> Option<What>
         requires kernel { IsKernel self.old }
         requires made { task < tasks_made (past self.old) }
         requires few { length (past self.old) < 2 ^ 64 }
         requires next { IsNext self.old task next }
-        requires room { length (name_at self.old.tasks.names task) < vec_capacity room }
         requires tasks { HasTaskRoom self.old.tasks task }
         requires resources { HasNextRoom self.old task next }
         ensures step { IfSome result (λ w. Acts self.old task w self.new) }
@@ -381,7 +385,7 @@ impl Kernel {
             Next::Ended => None,
             Next::Waiting(id) => self.waiting_step(task, id),
             Next::Owed(call) => Some(self.run_native(task, call)),
-            Next::Runs(instruction) => self.go_on(task, instruction, room),
+            Next::Runs { bytes, room } => self.go_on(task, bytes, room),
         }
     }
 
@@ -394,12 +398,26 @@ impl Kernel {
         requires ready { IsReadyFor self.old task ready }
         ensures { IsStepped self.old task result self.new }
     {
-        let ReadyTask { name, room, next } = ready;
-        let Some(what) = self.next_step(task, next, room) else {
+        let ReadyTask { name, next } = ready;
+        let Some(what) = self.next_step(task, next) else {
             return Err(CannotStep);
         };
         self.note_step(name, what);
         Ok(())
+    }
+
+    /// A task's turn: it takes its next step, which was made ready, or gives a `Skip` where it can't step.
+    pub fn task_turn(&mut self, task: u32, ready: ReadyTask)
+        requires kernel { IsKernel self.old }
+        requires made { task < tasks_made (past self.old) }
+        requires ready { IsReadyFor self.old task ready }
+        ensures { TakesStep self.old task self.new }
+    {
+        let ReadyTask { name, next } = ready;
+        match self.next_step(task, next) {
+            Some(what) => self.note_step(name, what),
+            None => self.skip_task(name),
+        }
     }
 
     /// Notes that a scheduled task couldn't step, or that there is none of this name.

@@ -28,7 +28,7 @@ returns-in-Owed-clause-kernel c =
     let k = c.args.self.now in
     record { tasks = c.requires.kernel.tasks; resources = c.ready_native.ensures.stands k.script (past k) (living_in k.tasks.progress) c.requires.kernel.resources; few = c.requires.kernel.few }
 
-pub returns-in_ok-stored_bytes-in-Runs-clause-kernel : goal.returns-in_ok-stored_bytes-in-Runs-clause-kernel
-returns-in_ok-stored_bytes-in-Runs-clause-kernel c =
+pub returns-in_ok-size-in-Runs-clause-kernel : goal.returns-in_ok-size-in-Runs-clause-kernel
+returns-in_ok-size-in-Runs-clause-kernel c =
     let k = c.args.self.now in
     record { tasks = c.requires.kernel.tasks; resources = c.ready-in-Runs.ensures.stands k.script (past k) (living_in k.tasks.progress) c.requires.kernel.resources; few = c.requires.kernel.few }
