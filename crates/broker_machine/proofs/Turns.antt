@@ -109,12 +109,6 @@ at_start P S m k number workers = record {
 
 -- ---- one turn after another
 
--- a task that waits waits still
-pub still_waits : (P : Policy) (old mid : Machine) (n : Name) (b : Bool) → b ≡ false → Tries P old (Task n) b mid → task_step (system_of mid.kernel.script) (past mid.kernel) n ≡ Skip
-unfolding step
-still_waits P old mid n true e t = cc
-still_waits P old mid n false e t = rw (t.0.script, t.0.events) t.1
-
 module _ (P : Policy) (old mid new : Machine) (r : Reaches P old (past mid.kernel) mid) where
   pub reached_more : (K : List Event) → Reaches P mid K new → Reaches P old (past new.kernel) new
   reached_more K s = record { served = s.served; script = s.script ∙ r.script; events = refl }

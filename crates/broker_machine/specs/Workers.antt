@@ -24,6 +24,8 @@ use Rattle.model_kernel.specs.Kernels.{DoesDeed, IsAfter, past, system}
 use Rattle.model_kernel.specs.Reads.{last_read}
 use Rattle.model_kernel.specs.Ready.{IsSame}
 use Rattle.model_kernel.specs.declared.kernel.Kernel.{Kernel}
+use Rattle.broker_machine.specs.declared.deeds.Outcome.{Outcome}
+use Rattle.broker_machine.specs.declared.deeds.Outcome.TheVariants.{Waits}
 
 -- each worker remembers its session, and knows the container's figures
 abbrev pub AllRemember : Policy → Figures → List Event → List Worker → Type 0
@@ -86,6 +88,11 @@ pub record HasAnswer (P : Policy) (old : Kernel) (n : ℕ) (a : Answer) (new : K
 -- the step that a worker has next, by the definitions
 abbrev pub step_due : Policy → Kernel → ℕ → What
 step_due P k n = worker_step (system k) (rules_of P k.script.figures) (past k) n
+
+-- what came of a worker's turn says that it made a step
+abbrev pub is_step : Outcome → Bool
+is_step Waits = false
+is_step came = true
 
 -- the worker made its step; or it waits, and nothing has changed
 abbrev pub TriesStep : Policy → Kernel → ℕ → Bool → Kernel → Type 0

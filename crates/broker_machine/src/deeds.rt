@@ -1,6 +1,6 @@
 //! A worker's turn: the deed that is due, on the kernel, and the kernel's answer to it.
 
-ghost use Rattle.std.specs.Prelude.{◌≡◌, ◌<◌, ◌≤◌, List, Option, Some, None, not, OnOk, OnErr, IfOk};
+ghost use Rattle.std.specs.Prelude.{◌≡◌, ◌<◌, ◌≤◌, List, Option, Some, None, true, not, OnOk, OnErr, IfOk};
 ghost use Rattle.broker_core.specs.Answers.{deed_of, is_not_yet, shown, told};
 ghost use Rattle.broker_core.specs.Deeds.{due};
 ghost use Rattle.broker_core.specs.Remembered.{HasEffect, Remembers};
@@ -15,7 +15,7 @@ ghost use Rattle.hist_model.specs.declared.policy.Policy.{Policy as PolicyValue}
 ghost use Rattle.hist_model.specs.declared.request.Request.{Request as Asked};
 ghost use Rattle.model_kernel.specs.Kernels.{IsKernel, past, system};
 ghost use Rattle.model_kernel.specs.Ready.{IsSame};
-ghost use Rattle.broker_machine.specs.Workers.{Allows, IsAnswered, IsPlain, KeepsOn, TriesStep, told_by};
+ghost use Rattle.broker_machine.specs.Workers.{Allows, IsAnswered, IsPlain, KeepsOn, TriesStep, is_step, told_by};
 
 use broker_core::deed::{Deed, Got, done_or_fault};
 use broker_core::worker::Worker;
@@ -164,27 +164,78 @@ fn do_deed<'a>(
     }
 }
 
-/// Whether there is an answer.
-fn has_come(got: &Got<'_>) -> bool
-    ensures { result ≡ not (is_not_yet (told got.now)) }
-{
-    !matches!(got, Got::NotYet)
+/// What came of a worker's turn.
+#[derive(Clone, Copy, PartialEq, Eq, Debug)]
+pub enum Outcome {
+    /// It waits, and made no step.
+    Waits,
+    /// It received the notification with this id.
+    Received(u64),
+    /// It found this id valid.
+    Valid(u64),
+    /// It sent the answer to the notification with this id, whether or not it was taken.
+    Sent(u64),
+    /// It made another step.
+    Other,
 }
 
-/// A worker's turn: what it does next, with the kernel's answer, which it takes, unless it waits; says whether it stepped.
+impl Outcome {
+    /// Whether it made a step.
+    pub fn is_step(self) -> bool
+        ensures { result ≡ is_step self }
+    {
+        !matches!(self, Outcome::Waits)
+    }
+}
+
+/// What comes of a deed that is done.
+fn done_by(deed: &Deed) -> Outcome
+    ensures { is_step result ≡ true }
+{
+    match deed {
+        Deed::Check { id } => Outcome::Valid(*id),
+        Deed::Send { id, .. } => Outcome::Sent(*id),
+        _ => Outcome::Other,
+    }
+}
+
+/// What comes of a deed that fails, given what would come of it: an id isn't found valid, and an answer was sent all the same.
+fn failed(done: Outcome) -> Outcome
+    ensures { is_step result ≡ is_step done }
+{
+    match done {
+        Outcome::Valid(_) => Outcome::Other,
+        _ => done,
+    }
+}
+
+/// What came of a deed with this answer, given what comes of it when it is done.
+fn outcome_of(done: Outcome, got: &Got<'_>) -> Outcome
+    requires { is_step done ≡ true }
+    ensures { is_step result ≡ not (is_not_yet (told got.now)) }
+{
+    match got {
+        Got::NotYet => Outcome::Waits,
+        Got::Notif(notif) => Outcome::Received(notif.id),
+        Got::Fault(_) => failed(done),
+        _ => done,
+    }
+}
+
+/// A worker's turn: what it does next, with the kernel's answer, which it takes, unless it waits; says what came of it.
 pub(crate) fn worker_turn(
     alloc: Global,
     policy: &Policy,
     kernel: &mut Kernel,
     number: u8,
     worker: &mut Worker,
-) -> Result<bool, NoMemory>
+) -> Result<Outcome, NoMemory>
     requires kernel { IsKernel kernel.old }
     requires legal { IsLegal (system kernel.old) (rules_of policy.now kernel.old.script.figures) (past kernel.old) }
     requires number { number ≤ 16 }
     requires remembers { Remembers policy.now (session (past kernel.old) number) worker.old }
     requires figures { worker.old.figures ≡ kernel.old.script.figures }
-    ensures step { IfOk result (λ stepped. TriesStep policy.now kernel.old number stepped kernel.new) }
+    ensures step { IfOk result (λ came. TriesStep policy.now kernel.old number (is_step came) kernel.new) }
     ensures same { OnErr result (IsSame kernel.old kernel.new) }
     ensures remembers { Remembers policy.now (session (past kernel.new) number) worker.new }
     ensures figures { worker.new.figures ≡ kernel.old.script.figures }
@@ -193,15 +244,16 @@ pub(crate) fn worker_turn(
     kernel.has_few_events();
     worker.ready(policy)?;
     let next = worker.next();
+    let done = done_by(&next);
     kernel.ready_event()?;
     match do_deed(alloc, kernel, number, worker, next) {
         Ok(Some(got)) => {
             worker.took(&got);
-            Ok(has_come(&got))
+            Ok(outcome_of(done, &got))
         }
         Ok(None) => {
             worker.took(&Got::Bytes(kernel.last_read(number)));
-            Ok(true)
+            Ok(Outcome::Other)
         }
         Err(NoMemory) => Err(NoMemory),
     }

@@ -16,5 +16,6 @@ mod deeds;
 mod machine;
 mod names;
 
+pub use deeds::Outcome;
 pub use machine::Machine;
 pub use names::is_task_name;

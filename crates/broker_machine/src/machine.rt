@@ -11,9 +11,9 @@ ghost use Rattle.hist_model.specs.declared.event.What.TheVariants.{Close, Skip};
 ghost use Rattle.hist_model.specs.declared.policy.Policy.{Policy as PolicyValue};
 ghost use Rattle.mediation.specs.Scheduled.{IsScheduled};
 ghost use Rattle.model_kernel.specs.Kernels.{IsKernel, past, system};
-ghost use Rattle.broker_machine.specs.Workers.{AllRemember};
+ghost use Rattle.broker_machine.specs.Workers.{AllRemember, is_step};
 
-use crate::deeds::worker_turn;
+use crate::deeds::{Outcome, worker_turn};
 use crate::names::is_task_name;
 use broker_core::worker::Worker;
 use hist_model::event::{Actor, WORKERS};
@@ -47,9 +47,10 @@ fn idle_workers(alloc: Global, figures: Figures) -> Result<Vec<Worker>, NoMemory
     ensures number { IfOk result (λ v. length v.items ≡ 17) }
     ensures idle { IfOk result (λ v. (P : PolicyValue) → AllRemember P figures [] v.items) }
 {
-    let mut workers = Vec::new(alloc);
+    // (room for all comes first, so that want of memory leaves none to let go)
+    let mut workers = Vec::with_capacity(alloc, usize::from(WORKERS))?;
     for _ in 0..WORKERS {
-        workers.push(Worker::new(alloc, figures))?;
+        workers.push_reserved(Worker::new(alloc, figures));
     }
     Ok(workers)
 }
@@ -70,6 +71,17 @@ impl Machine {
         })
     }
 
+    /// A worker's step, unless it waits; says what came of it.
+    pub fn serve(&mut self, alloc: Global, policy: &Policy, number: u8) -> Result<Outcome, NoMemory>
+        requires served { IsServed policy.now self.old }
+        requires number { number ≤ 16 }
+        ensures done { IfOk result (λ came. Tries policy.now self.old (WorkerActor number) (is_step came) self.new) }
+        ensures same { OnErr result (Reaches policy.now self.old (past self.old.kernel) self.new) }
+    {
+        let worker = &mut self.workers[number as usize];
+        worker_turn(alloc, policy, &mut self.kernel, number, worker)
+    }
+
     /// A worker's step, unless it waits; says whether it made one.
     pub fn try_worker(
         &mut self,
@@ -82,8 +94,7 @@ impl Machine {
         ensures done { IfOk result (λ stepped. Tries policy.now self.old (WorkerActor number) stepped self.new) }
         ensures same { OnErr result (Reaches policy.now self.old (past self.old.kernel) self.new) }
     {
-        let worker = &mut self.workers[number as usize];
-        worker_turn(alloc, policy, &mut self.kernel, number, worker)
+        Ok(self.serve(alloc, policy, number)?.is_step())
     }
 
     /// A turn of a worker that waits.
@@ -113,7 +124,7 @@ impl Machine {
         }
     }
 
-    /// A turn of a task that can't step, or of a name that no task has.
+    /// A turn of a name that no task has.
     fn skip_turn(&mut self, alloc: Global, policy: &Policy, name: &TaskName) -> Result<(), NoMemory>
         requires served { IsServed policy.now self.old }
         requires named { is_task_name name.now ≡ true }
@@ -151,25 +162,17 @@ impl Machine {
         }
     }
 
-    /// A turn of the task of an ordinal, which has this name.
-    fn task_turn(
-        &mut self,
-        alloc: Global,
-        policy: &Policy,
-        task: u32,
-        name: &TaskName,
-    ) -> Result<(), NoMemory>
+    /// A turn of the task of an ordinal: its step, or a `Skip` where it can't step.
+    fn task_turn(&mut self, alloc: Global, policy: &Policy, task: u32) -> Result<(), NoMemory>
         requires served { IsServed policy.now self.old }
-        requires named { is_task_name name.now ≡ true }
-        requires found { IsFound (past self.old.kernel) (Task name.now) (Some task) }
-        ensures done { OnOk result (Reaches policy.now self.old (after_step policy.now self.old (Task name.now)) self.new) }
+        requires made { task < tasks_made (past self.old.kernel) }
+        requires named { is_task_name (task_name_of (past self.old.kernel) task) ≡ true }
+        ensures done { OnOk result (Reaches policy.now self.old (after_step policy.now self.old (Task (task_name_of (past self.old.kernel) task))) self.new) }
         ensures same { OnErr result (Reaches policy.now self.old (past self.old.kernel) self.new) }
     {
-        if self.try_task(alloc, policy, task)? {
-            Ok(())
-        } else {
-            self.skip_turn(alloc, policy, name)
-        }
+        let ready = self.kernel.ready_task(alloc, task)?;
+        self.kernel.task_turn(task, ready);
+        Ok(())
     }
 
     /// A turn of the task of a name, which has this ordinal, if one was made.
@@ -187,7 +190,7 @@ impl Machine {
         ensures same { OnErr result (Reaches policy.now self.old (past self.old.kernel) self.new) }
     {
         match task {
-            Some(task) => self.task_turn(alloc, policy, task, name),
+            Some(task) => self.task_turn(alloc, policy, task),
             None => self.skip_turn(alloc, policy, name),
         }
     }
@@ -289,15 +292,23 @@ impl Machine {
         self.kernel.finished()
     }
 
+    /// The kernel, without the workers.
+    fn into_kernel(self) -> Kernel
+        ensures { result ≡ self.kernel }
+    {
+        let Machine {
+            kernel,
+            workers: _workers,
+        } = self;
+        kernel
+    }
+
     /// Closes the listener, which ends the history, and gives the script back with it.
     pub fn closed(self) -> Result<(Script, History), NoMemory>
         ensures script { IfOk result (λ ended. ended.0 ≡ self.kernel.script) }
         ensures events { IfOk result (λ ended. ended.1.events ≡ ev Listener Close ∷ past self.kernel) }
     {
-        let Machine {
-            mut kernel,
-            workers: _workers,
-        } = self;
+        let mut kernel = self.into_kernel();
         kernel.ready_event()?;
         Ok(kernel.closed())
     }
@@ -306,10 +317,6 @@ impl Machine {
     pub fn into_history(self) -> History
         ensures { result ≡ self.kernel.history }
     {
-        let Machine {
-            kernel,
-            workers: _workers,
-        } = self;
-        kernel.into_history()
+        self.into_kernel().into_history()
     }
 }

@@ -14,6 +14,8 @@ use Rattle.model_kernel.specs.Kernels.{past}
 use Rattle.turn_lock.proofs.Lists.{begins_trans}
 use Rattle.worker_gate.specs.Keeping.{Adds, AddsTask, Continues, IsKept, IsWithinLimit, MayServe}
 use Rattle.broker_machine.specs.Serving.{Reaches, Tries}
+use Rattle.broker_machine.specs.Workers.{is_step}
+use Rattle.broker_machine.specs.declared.deeds.Outcome.{Outcome}
 use Rattle.broker_machine.specs.declared.machine.Machine.{Machine}
 
 -- the actor is no worker above the limit
@@ -59,16 +61,28 @@ module _ (P : Policy) (limit : Option ℕ) (old new : Machine) (kept : IsKept P 
   went_on a may (Ok b) done same = tried_on a may b done
   went_on a may (Err e) done same = stayed_on same
 
+  -- and with a worker's, which tells what came of it
+  pub served_on : {E : Type 0} (a : Actor) → MayAct limit a → (r : Result Outcome E) → IfOk r (λ o. Tries P old a (is_step o) new) → OnErr r (Reaches P old (past old.kernel) new) → Continues P limit old new
+  served_on a may (Ok o) done same = tried_on a may (is_step o) done
+  served_on a may (Err e) done same = stayed_on same
+
 module _ (P : Policy) (old new : Machine) where
   -- what a try adds to the history
+  adds : (a : Actor) (b : Bool) → Tries P old a b new → Adds a b (past old.kernel) (past new.kernel)
+  adds a true t = (_, t.0.events)
+  adds a false t = t.0.events
+
   pub tried : {E : Type 0} (a : Actor) (r : Result Bool E) → IfOk r (λ b. Tries P old a b new) → IfOk r (λ b. Adds a b (past old.kernel) (past new.kernel))
-  tried a (Ok true) t = (_, t.0.events)
-  tried a (Ok false) t = t.0.events
+  tried a (Ok b) t = adds a b t
   tried a (Err e) t = tt
 
+  pub served : {E : Type 0} (a : Actor) (r : Result Outcome E) → IfOk r (λ o. Tries P old a (is_step o) new) → IfOk r (λ o. Adds a (is_step o) (past old.kernel) (past new.kernel))
+  served a (Ok o) t = adds a (is_step o) t
+  served a (Err e) t = tt
+
   -- without memory, nothing
-  pub lacked : {E : Type 0} (r : Result Bool E) → OnErr r (Reaches P old (past old.kernel) new) → OnErr r (past new.kernel ≡ past old.kernel)
-  lacked (Ok b) same = tt
+  pub lacked : {T E : Type 0} (r : Result T E) → OnErr r (Reaches P old (past old.kernel) new) → OnErr r (past new.kernel ≡ past old.kernel)
+  lacked (Ok t) same = tt
   lacked (Err e) same = same.events
 
   -- what a task's try adds, with memory or without

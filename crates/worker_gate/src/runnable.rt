@@ -13,7 +13,6 @@ use sys_abi::memory::NoMemory;
 
 /// The tasks that are worth a try, in the order in which they are tried, what is known of tasks to find others, and whether a
 /// worker is worth a try.
-#[derive(Drop)]
 pub(crate) struct Runnable {
     /// How many of the history's events were read.
     events: usize,
@@ -26,6 +25,20 @@ pub(crate) struct Runnable {
     holders: HashMap<u32, u32>,
     /// How many calls were listed, and not received, since a worker last found none to receive: no fewer than there are.
     calls: u64,
+}
+
+// (written out, so that what letting one go comes to is proved once, and not at each place that lets one go)
+impl Drop for Runnable {
+    fn drop(self) {
+        let Runnable {
+            events: _events,
+            queue: _queue,
+            is_queued: _is_queued,
+            callers: _callers,
+            holders: _holders,
+            calls: _calls,
+        } = self;
+    }
 }
 
 /// The ordinal of the task that took a step, if one did.

@@ -99,15 +99,27 @@ fn play_lines(machine: &mut Machine, alloc: Global, policy: &Policy) -> Result<(
     Ok(())
 }
 
+/// Plays the schedule of a script on a kernel and its workers, closes the listener, and gives the script back with the history.
+fn play_script(
+    alloc: Global,
+    policy: &Policy,
+    script: Script,
+) -> Result<(Script, History), NoMemory>
+    ensures script { IfOk result (λ ended. ended.0 ≡ script) }
+    ensures events { IfOk result (λ ended. ended.1.events ≡ played policy.now script) }
+{
+    let mut machine = Machine::new(alloc, script)?;
+    play_lines(&mut machine, alloc, policy)?;
+    machine.closed()
+}
+
 /// Plays the schedule of a script on a kernel and its workers, and closes the listener.
 pub fn play(alloc: Global, policy: Policy, script: Script) -> Result<Played, NoMemory>
     ensures events { IfOk result (λ p. p.history.events ≡ played policy script) }
     ensures policy { IfOk result (λ p. p.policy ≡ policy) }
     ensures script { IfOk result (λ p. p.script ≡ script) }
 {
-    let mut machine = Machine::new(alloc, script)?;
-    play_lines(&mut machine, alloc, &policy)?;
-    let (script, history) = machine.closed()?;
+    let (script, history) = play_script(alloc, &policy, script)?;
     Ok(Played {
         policy,
         script,

@@ -23,7 +23,6 @@ use std::marker::Model;
 use sys_abi::memory::NoMemory;
 
 /// A machine, the policy by which its workers serve, and the number of the last worker that may, where not all may.
-#[derive(Drop)]
 pub(crate) struct Serving {
     pub(crate) machine: Machine,
     pub(crate) policy: Policy,
@@ -32,6 +31,19 @@ pub(crate) struct Serving {
     pub(crate) runnable: Runnable,
     /// Whether a hand found no memory, so that all of them end.
     pub(crate) lacks_memory: bool,
+}
+
+// (written out, so that what letting one go comes to is proved once, and not at each place that lets one go)
+impl Drop for Serving {
+    fn drop(self) {
+        let Serving {
+            machine: _machine,
+            policy: _policy,
+            limit: _limit,
+            runnable: _runnable,
+            lacks_memory: _lacks_memory,
+        } = self;
+    }
 }
 
 impl Serving {
@@ -67,6 +79,27 @@ impl Serving {
         let task = self.ordinal(who, *known);
         *known = task;
         self.machine.found_turn(alloc, &self.policy, who, task)
+    }
+
+    /// Closes the listener, and gives the history with the policy and the script.
+    fn finish(self) -> Result<Played, NoMemory>
+        ensures policy { IfOk result (λ p. p.policy ≡ self.policy) }
+        ensures script { IfOk result (λ p. p.script ≡ self.machine.kernel.script) }
+        ensures events { IfOk result (λ p. p.history.events ≡ ev Listener Close ∷ past self.machine.kernel) }
+    {
+        let Serving {
+            machine,
+            policy,
+            limit: _limit,
+            runnable: _runnable,
+            lacks_memory: _lacks_memory,
+        } = self;
+        let (script, history) = machine.closed()?;
+        Ok(Played {
+            policy,
+            script,
+            history,
+        })
     }
 }
 
@@ -131,16 +164,6 @@ impl Served {
         ensures script { IfOk result (λ p. p.script ≡ self.setup.script) }
         ensures events { IfOk result (λ p. p.history.events ≡ ev Listener Close ∷ self.history.events) }
     {
-        let Serving {
-            machine,
-            policy,
-            ..
-        } = Box::into_inner(self.serving);
-        let (script, history) = machine.closed()?;
-        Ok(Played {
-            policy,
-            script,
-            history,
-        })
+        Box::into_inner(self.serving).finish()
     }
 }

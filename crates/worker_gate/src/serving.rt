@@ -4,12 +4,13 @@ ghost use Rattle.std.specs.Prelude.{◌≡◌, ◌<◌, ◌^◌, IfOk, OnErr, So
 ghost use Rattle.hist_model.specs.Legal.{Finished};
 ghost use Rattle.hist_model.specs.declared.event.Actor.TheVariants.{Worker};
 ghost use Rattle.model_kernel.specs.Kernels.{past};
+ghost use Rattle.broker_machine.specs.Workers.{is_step};
 ghost use Rattle.worker_gate.specs.Keeping.{Adds, AddsTask, Continues, IsKept, MayServe};
 
 use crate::gate::Point;
 use crate::served::Serving;
 use crate::wait_queues::{Awaits, Work};
-use hist_model::event::What;
+use broker_machine::Outcome;
 use std::alloc::Global;
 use sys_abi::memory::NoMemory;
 
@@ -55,27 +56,39 @@ impl Turned {
     };
 }
 
-/// The point that a worker reached by a step, given how many good checks it had made since it received its notification.
-fn reached(step: &What, good_checks: &mut u8) -> Came {
-    match step {
-        What::Recv { answer: Ok(notif) } => {
+/// What a hand's worker came to by a step, given how many good checks it had made since it received its notification.
+fn reached(outcome: Outcome, good_checks: &mut u8) -> Came {
+    match outcome {
+        Outcome::Received(id) => {
             *good_checks = 0;
-            Came::Reached(Point::Fetched, notif.id)
+            Came::Reached(Point::Fetched, id)
         }
-        What::Check { id, answer: Ok(()) } => {
+        Outcome::Valid(id) => {
             *good_checks = good_checks.saturating_add(1);
             if *good_checks == 2 {
-                Came::Reached(Point::Checked, *id)
+                Came::Reached(Point::Checked, id)
             } else {
                 Came::Stepped
             }
         }
-        What::Send { id, .. } => Came::Reached(Point::Sent, *id),
-        _ => Came::Stepped,
+        Outcome::Sent(id) => Came::Reached(Point::Sent, id),
+        Outcome::Waits | Outcome::Other => Came::Stepped,
     }
 }
 
 impl Serving {
+    /// A worker's step, unless it waits; says what came of it.
+    fn serve_worker(&mut self, alloc: Global, number: u8) -> Result<Outcome, NoMemory>
+        requires kept { IsKept self.old.policy self.old.limit self.old.machine }
+        requires may { MayServe self.old.limit (Some number) }
+        ensures goes_on { Continues self.new.policy self.new.limit self.old.machine self.new.machine }
+        ensures step { IfOk result (λ came. Adds (Worker number) (is_step came) (past self.old.machine.kernel) (past self.new.machine.kernel)) }
+        ensures none { OnErr result (past self.new.machine.kernel ≡ past self.old.machine.kernel) }
+        ensures setup { (self.new.policy ≡ self.old.policy) × (self.new.limit ≡ self.old.limit) }
+    {
+        self.machine.serve(alloc, &self.policy, number)
+    }
+
     /// A worker's step, unless it waits; says whether it made one.
     pub(crate) fn step_worker(&mut self, alloc: Global, number: u8) -> Result<bool, NoMemory>
         requires kept { IsKept self.old.policy self.old.limit self.old.machine }
@@ -152,15 +165,6 @@ impl Serving {
         self.runnable.catch_up(self.machine.kernel())
     }
 
-    /// What a worker came to by the newest event.
-    fn came(&self, good_checks: &mut u8) -> Came {
-        let history = self.machine.history();
-        match history.get(history.len().saturating_sub(1)) {
-            Some(event) => reached(&event.what, good_checks),
-            None => Came::Stepped,
-        }
-    }
-
     /// What a hand does where its worker has nothing to do.
     fn pass_on(&mut self, alloc: Global, role: Role, number: u8) -> Result<Came, NoMemory>
         requires kept { IsKept self.old.policy self.old.limit self.old.machine }
@@ -192,10 +196,9 @@ impl Serving {
         ensures goes_on { Continues self.new.policy self.new.limit self.old.machine self.new.machine }
         ensures setup { (self.new.policy ≡ self.old.policy) × (self.new.limit ≡ self.old.limit) }
     {
-        if self.step_worker(alloc, number)? {
-            Ok(self.came(good_checks))
-        } else {
-            self.pass_on(alloc, role, number)
+        match self.serve_worker(alloc, number)? {
+            Outcome::Waits => self.pass_on(alloc, role, number),
+            outcome => Ok(reached(outcome, good_checks)),
         }
     }
 

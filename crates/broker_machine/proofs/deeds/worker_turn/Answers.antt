@@ -57,7 +57,7 @@ took-requires-in-Ok-None-clause-fits c =
 
 pub returns-in-Ok-Some-clause-step : goal.returns-in-Ok-Some-clause-step
 returns-in-Ok-Some-clause-step c =
-    rw c.has_come.ensures
+    rw c.outcome_of.ensures
     (answer-tries c.args.policy.now c.args.kernel.now c.args.number (told c.in-Ok-Some.got) c.do_deed.new.kernel c.do_deed.new.worker
     (answered (goal.at.returns-in-Ok-Some-clause-step c).After-do_deed c.in-Ok-Some.field-0 (told c.in-Ok-Some.got) (rw c.in-Ok-Some.field-0-is refl) c.in-Ok-Some.ensures.done))
 
