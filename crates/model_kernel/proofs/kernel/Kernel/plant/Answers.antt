@@ -9,6 +9,6 @@ returns-clause-answer c = c.plant-answer.ensures.answer c.args.self.now.script (
 
 pub returns-clause-deed : goal.returns-clause-deed
 returns-clause-deed c =
-    taken c.args.self.now c.note.new.self c.args.worker (λ a. Plant c.args.addr c.args.bytes.now c.args.cap a) _ _ _ c.plant-answer.new.self c.requires.kernel refl c.same-told.ensures (returns-clause-answer c)
+    taken c.args.self.now c.note.new.self c.args.worker (λ a. Plant c.args.addr c.args.bytes c.args.cap a) _ _ _ c.plant-answer.new.self c.requires.kernel refl c.same-told.ensures (returns-clause-answer c)
     c.note.ensures.events c.note.ensures.same
-    (λ e. c.plant-answer.ensures.step c.args.self.now.script (past c.args.self.now) _ e c.requires.kernel.resources)
+    (λ e. rw c.get.ensures at (c.plant-answer.ensures.step c.args.self.now.script (past c.args.self.now) _ e c.requires.kernel.resources))
