@@ -90,7 +90,7 @@ module _ (P : Policy) (S : Script) (W : ℕ) (few : W ≤ 16) where
 
   all_walked : (n : ℕ) (K : List Event) (p d : ℕ) → IsWalked P S W K → All Good (walks P S W n K p d)
   unfolding walks
-  all_walked zero K p d k = All-cons Good (record { left = 0; events = K }) [] k (All-nil Good)
+  all_walked zero K p d k = All-cons Good (record { left = d; events = K }) [] k (All-nil Good)
   all_walked (suc n) K p d k = either K k (λ q r. walks P S W n (with_turn P S K q) q r) (λ q r w. all_walked n (with_turn P S K q) q r w) (able P S W K p) d (able_inside K p) (able_able K p)
 
   -- ---- Their histories

@@ -1,4 +1,5 @@
 mod Complete
+pub mod Left
 mod LegalWalks
 pub mod Rounds
 mod Schedules

@@ -74,7 +74,8 @@ some_walk P S W n K p (H, is) e = let both : filter is_spent (record { left = 0;
 
 pub none_later : (P : Policy) (S : Script) (W n : ℕ) (K : List Event) (p d : ℕ) → filter is_spent (walks P S W n K p d) ≡ [] → filter is_spent (walks P S W n K p (suc d)) ≡ []
 unfolding walks
-none_later P S W zero K p d e = cc
+none_later P S W zero K p zero e = cc
+none_later P S W zero K p (suc d) e = refl
 none_later P S W (suc n) K p d e =
     none_choice (λ q r. walks P S W n (with_turn P S K q) q r) (λ q. none_later P S W n (with_turn P S K q) q) (λ q. some_walk P S W n (with_turn P S K q) q (one_walk P S W n (with_turn P S K q) q)) K (able P S W K p) d e
 

@@ -1,5 +1,5 @@
 -- The histories that are explored: by the sum of their delays, and then by where they delay.
-use Rattle.std.specs.Prelude.{ℕ, zero, suc, ◌-◌, ◌^◌, Bool, true, false, List, [], ◌∷◌, ◌++◌, length, map, filter, Option, Some, None}
+use Rattle.std.specs.Prelude.{ℕ, zero, suc, ◌-◌, ◌^◌, ◌==◌, Bool, true, false, List, [], ◌∷◌, ◌++◌, length, map, filter, Option, Some, None}
 use Rattle.hist_model.specs.Legal.{started, with_step}
 use Rattle.hist_model.specs.declared.event.Actor.TheVariants.{Listener}
 use Rattle.hist_model.specs.declared.event.Event.{Event}
@@ -25,7 +25,7 @@ or_over (p ∷ more) over walks = walks
 
 -- how K goes on with d delays at most, where the actor at place p stepped last; it is cut off after n more steps
 unfoldable pub walks : Policy → Script → ℕ → ℕ → List Event → ℕ → ℕ → List Walk
-walks P S W zero K p d = record { left = 0; events = K } ∷ []
+walks P S W zero K p d = record { left = d; events = K } ∷ []
 walks P S W (suc n) K p d = or_over (able P S W K p) (record { left = d; events = K }) (by_delays (λ q r. walks P S W n (with_turn P S K q) q r) (able P S W K p) d)
 
 -- more events than a machine can count
@@ -60,6 +60,14 @@ closed P S w = with_step P S Listener w.events
 -- the histories with exactly d delays
 unfoldable pub with_delays : Policy → Script → ℕ → ℕ → List (List Event)
 with_delays P S W d = map (closed P S) (filter is_spent (walks_of P S W d))
+
+-- the walk has so many delays left
+abbrev pub has_left : ℕ → Walk → Bool
+has_left k w = w.left == k
+
+-- the histories of those walks that have so many delays left
+abbrev pub with_left : Policy → Script → ℕ → List Walk → List (List Event)
+with_left P S k ws = map (closed P S) (filter (has_left k) ws)
 
 -- the explored histories: those with d delays at most, the fewest delays first
 unfoldable pub explored : Policy → Script → ℕ → ℕ → List (List Event)

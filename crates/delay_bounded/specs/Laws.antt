@@ -9,7 +9,7 @@ use Rattle.mediation.specs.Scheduled.{GoesOn}
 use Rattle.hist_model.specs.declared.policy.Policy.{Policy}
 use Rattle.hist_model.specs.declared.script.Script.{Script}
 use Rattle.delay_bounded.specs.Circle.{all_in_hand, at_place, in_hand, is_able, places, with_turn}
-use Rattle.delay_bounded.specs.Explored.{bound_of, explored, with_delays}
+use Rattle.delay_bounded.specs.Explored.{bound_of, explored, walks_of, with_delays, with_left}
 use Rattle.delay_bounded.specs.Schedules.{schedule_of}
 
 -- the list for a bound begins the list for the next one
@@ -27,6 +27,10 @@ HasNoGap = (P : Policy) (S : Script) (W d : ℕ) → with_delays P S W d ≡ [] 
 -- and so a greater bound adds nothing
 abbrev pub IsAll : Type 0
 IsAll = (P : Policy) (S : Script) (W d k : ℕ) → with_delays P S W (suc d) ≡ [] → explored P S W (d + k) ≡ explored P S W d
+
+-- those with so many delays are, in their order, the walks within any greater bound that have the rest of its delays left
+abbrev pub IsWithinMore : Type 0
+IsWithinMore = (P : Policy) (S : Script) (W d k : ℕ) → with_delays P S W d ≡ with_left P S k (walks_of P S W (d + k))
 
 -- a worker that steps has a notification in hand, or all below it have one
 abbrev pub IsLowest : List Event → Actor → Type 0

@@ -1,7 +1,7 @@
 //! What the explored histories are, whichever they are.
 
 ghost use Rattle.delay_bounded.specs.Examples.{WithOneDelay, WithoutDelays};
-ghost use Rattle.delay_bounded.specs.Laws.{AreLegal, Begins, HasNoGap, IsAll, IsComplete, IsOneAlone};
+ghost use Rattle.delay_bounded.specs.Laws.{AreLegal, Begins, HasNoGap, IsAll, IsComplete, IsOneAlone, IsWithinMore};
 
 /// The list for a bound begins the list for the next one.
 pub fn bounds_begin()
@@ -21,6 +21,11 @@ pub fn no_gap()
 /// Where no history has one delay more than a bound, a greater bound adds nothing.
 pub fn is_all()
     ensures { IsAll }
+{}
+
+/// The histories with so many delays are, in their order, those walks within any greater bound that have the rest of its delays left.
+pub fn within_more()
+    ensures { IsWithinMore }
 {}
 
 /// Each explored history that can be counted is legal, and so mediated; none of its events is a `Skip`, and none is a step of a

@@ -1,0 +1,12 @@
+mod Bounds
+mod ByDelays
+mod InHand
+mod OneWalk
+mod PassByPass
+mod Pending
+mod Rounds
+mod Running
+mod Taking
+mod Tellings
+mod Walked
+mod Walkers

@@ -1,0 +1,90 @@
+-- What a try of an actor comes to for a run: it is able to step, and did, or it isn't.
+-- By what its machine says of the try, and what its step changes of what the workers have in hand.
+use Rattle.std.proofs.Common.{◌≡◌, ℕ, ◌+◌, ◌<◌, ◌≤◌, ◌%◌, arith, Some, None, [], length, Bool, true, false, ◌&&◌, ◌||◌, not, List, ◌∷◌, refl, sym, ◌∙◌, ap}
+use Rattle.broker_machine.specs.Serving as machine
+use Rattle.hist_model.specs.Kinds.{skips}
+use Rattle.hist_model.specs.Legal.{rules_of, system_of, with_step}
+use Rattle.hist_model.specs.Look.{Name, ev}
+use Rattle.hist_model.specs.Names.{is_task_name}
+use Rattle.hist_model.specs.Sessions.{session}
+use Rattle.hist_model.specs.Steps.{step}
+use Rattle.hist_model.specs.declared.event.Actor.{Actor}
+use Rattle.hist_model.specs.declared.event.Actor.TheVariants.{Task, Worker}
+use Rattle.hist_model.specs.declared.event.Event.{Event}
+use Rattle.hist_model.specs.declared.event.What.{What}
+use Rattle.hist_model.specs.declared.policy.Policy.{Policy}
+use Rattle.hist_model.specs.declared.script.Script.{Script}
+use Rattle.history_frames.specs.Ordinals.{task_name_of}
+use Rattle.model_kernel.specs.Kernels.{IsKernel, past}
+use Rattle.model_kernel.specs.declared.kernel.Kernel.{Kernel}
+use Rattle.delay_bounded.specs.Circle.{all_in_hand, at_place, in_hand, is_able, may_step, places}
+use Rattle.explorer.specs.InHand.{Tells}
+use Rattle.explorer.specs.Runs.{Comes, Finds, IsGoing, IsRun, Tries, able_in, script_in, story}
+use Rattle.explorer.proofs.Rounds.{able_there, nobody_there, unable_there}
+use Rattle.explorer.specs.declared.run.Run.{Run}
+
+task_after : (K : List Event) (n : Name) (a : What) (w : ℕ) → in_hand (ev (Task n) a ∷ K) w ≡ in_hand K w
+unfolding session
+task_after K n a w = refl
+
+module _ (P : Policy) (old new : Run) (going : IsGoing P old) where
+  due : Actor → What
+  due a = step (system_of (script_in old)) (rules_of P (script_in old).figures) (story old) a
+
+  -- an actor that may step, and whose step is one
+  able : (a : Actor) → may_step (story old) a ≡ true → skips (step (system_of (script_in old)) (rules_of P (script_in old).figures) (story old) a) ≡ false → is_able P (script_in old) (story old) a ≡ true
+  able a m s = rw (m, s) refl
+
+  unable : (a : Actor) → may_step (story old) a ≡ true → skips (step (system_of (script_in old)) (rules_of P (script_in old).figures) (story old) a) ≡ true → is_able P (script_in old) (story old) a ≡ false
+  unable a m s = rw (m, s) refl
+
+  -- one that may not
+  pub not_its_turn : (a : Actor) → may_step (story old) a ≡ false → is_able P (script_in old) (story old) a ≡ false
+  not_its_turn a m = rw m refl
+
+  -- nothing has changed
+  same_run : new.hands ≡ old.hands → machine.IsAt P (script_in old) (story old) new.machine → Comes P old (story old) new
+  same_run h at = record { at = at; hands = rw h going.hands }
+
+  pub task_tried : (n : Name) → is_task_name n ≡ true → new.hands ≡ old.hands → (b : Bool) → machine.Tries P old.machine (Task n) b new.machine → Tries P old (Task n) b new
+  task_tried n named h true t =
+      (record { at = t.0; hands = λ w l. rw h (going.hands w l) ∙ sym (task_after (story old) n (step (system_of (script_in old)) (rules_of P (script_in old).figures) (story old) (Task n)) w) }, able (Task n) named t.1)
+  task_tried n named h false t = (same_run h t.0, unable (Task n) named (ap skips t.1))
+
+  pub worker_waits : (w : ℕ) → may_step (story old) (Worker w) ≡ true → new.hands ≡ old.hands → machine.Tries P old.machine (Worker w) false new.machine → Tries P old (Worker w) false new
+  worker_waits w m h t = (same_run h t.0, unable (Worker w) m (ap skips t.1))
+
+  pub worker_stepped : (w : ℕ) → may_step (story old) (Worker w) ≡ true → Tells (with_step P (script_in old) (Worker w) (story old)) new.hands → machine.Tries P old.machine (Worker w) true new.machine → Tries P old (Worker w) true new
+  worker_stepped w m h t = (record { at = t.0; hands = h }, able (Worker w) m t.1)
+
+-- a run that has come to a history goes on from it
+pub comes_on : (P : Policy) (old new : Run) (K : List Event) → Comes P old K new → IsGoing P new
+comes_on P old new K c = record { at = record { served = c.at.served; script = refl; events = refl }; hands = rw c.at.events c.hands }
+
+-- where nothing had changed, a try is one of the run before
+pub tried_still : (P : Policy) (old mid new : Run) → Comes P old (story old) mid → (a : Actor) (b : Bool) → Tries P mid a b new → Tries P old a b new
+tried_still P old mid new c a true t = rw (c.at.script, c.at.events) at t
+tried_still P old mid new c a false t = rw (c.at.script, c.at.events) at t
+
+-- the name that was tested is the task's
+pub is_named : (k j : Kernel) → j ≡ k → IsKernel k → (o : ℕ) (text : List ℕ) → (IsKernel j → text ≡ task_name_of (past j) o) → (r : Bool) → r ≡ is_task_name text → r ≡ true → is_task_name (task_name_of (past k) o) ≡ true
+is_named k j e i o text f r g h = let is : text ≡ task_name_of (past k) o = rw e at (f (rw e i)) in rw (← is) (sym g ∙ h)
+
+module _ (P : Policy) (W : ℕ) (old mid new : Run) (p t q n : ℕ) (same : Comes P old (story old) mid) (number : n ≡ places W (story old)) (rest : able_in P W old p t ≡ able_in P W old p q) where
+  -- the next place's actor had its turn
+  pub turn_found : q < n → Tries P mid (at_place (story mid) ((p + q) % n)) true new → Finds P W old p t (Some (record { place = (p + q) % n; next = q + 1 })) new
+  turn_found l tried =
+      let still = tried_still P old mid new same (at_place (story mid) ((p + q) % n)) true tried in
+      let here = rw (same.at.events, number) at still in
+      rw number (here.0, rest ∙ able_there P (script_in old) W (story old) p q (rw number at l) here.1, omega arith, here.1)
+
+  -- or isn't able to step
+  pub none_yet : q < n → Tries P mid (at_place (story mid) ((p + q) % n)) false new → Comes P old (story old) new × (able_in P W old p t ≡ able_in P W old p (q + 1))
+  none_yet l tried =
+      let still = tried_still P old mid new same (at_place (story mid) ((p + q) % n)) false tried in
+      let here = rw (same.at.events, number) at still in
+      (here.0, rest ∙ unable_there P (script_in old) W (story old) p q (rw number at l) here.1)
+
+  -- no place is left
+  pub none_found : n ≤ q → Finds P W old p t None mid
+  none_found l = (same, rest ∙ nobody_there P (script_in old) W (story old) p q (rw number at l))
