@@ -30,7 +30,8 @@ use Rattle.audit_log.specs.SessionStages.{stages_at}
 use Rattle.audit_check.specs.Actors.{actor_in}
 use Rattle.audit_check.specs.Lines.{lines}
 use Rattle.audit_check.specs.Reading.{Rest, is_fault, reached, with_lines}
-use Rattle.audit_check.specs.Trail.{installation, session_for, trail}
+use Rattle.audit_log.specs.Served.{session_for}
+use Rattle.audit_check.specs.Trail.{installation, trail}
 
 -- the lines before the effect, the line of the effect at a path, those behind it, and the last one
 before : List ℕ

@@ -1,32 +1,14 @@
 -- The trail of a history: for each call, the places of the steps that served it, and the rule that decided.
-use Rattle.std.specs.Prelude.{ℕ, if◌then◌else◌, List, [], ◌∷◌, ◌++◌, length, Option, Some, None, Ok, codes, decimal}
+use Rattle.std.specs.Prelude.{ℕ, if◌then◌else◌, List, [], ◌∷◌, ◌++◌, length, Option, Some, None, codes, decimal}
 use Rattle.hist_model.specs.Kinds.{notifies}
 use Rattle.hist_model.specs.Look.{is_place, or_else}
-use Rattle.hist_model.specs.ReportAudit.{Judging, call_with_id, finding, rule_of, rule_text, session_at}
+use Rattle.hist_model.specs.ReportAudit.{Judging, finding, rule_of, rule_text}
 use Rattle.hist_model.specs.ReportJournal.{lines_of}
-use Rattle.hist_model.specs.Sessions.{or_some}
-use Rattle.hist_model.specs.declared.event.Actor.{Actor}
-use Rattle.hist_model.specs.declared.event.Actor.TheVariants.{Worker}
 use Rattle.hist_model.specs.declared.event.Event.{Event}
-use Rattle.hist_model.specs.declared.event.What.{What}
-use Rattle.hist_model.specs.declared.event.What.TheVariants.{Recv}
 use Rattle.audit_log.specs.Begun.{Begun}
-use Rattle.audit_log.specs.SessionStages.{stages_at}
 use Rattle.audit_log.specs.Requests.{installed_for}
+use Rattle.audit_log.specs.Served.{session_for}
 use Rattle.audit_check.specs.declared.trace.Trace.{Trace}
-
--- in the history H, the session that the step after K begins, where the newest call with its notification's id stands at place c
-abbrev pub session_by : List Event → ℕ → List Event → Actor → What → Option Begun
-session_by H c K (Worker w) (Recv (Ok notif)) =
-    if is_place (call_with_id notif.id K) c
-    then Some (record { place = length K; worker = w; notif = notif; steps = session_at w (length K) H; stages = stages_at w (length K) H })
-    else None
-session_by H c K _ _ = None
-
--- in the history H, the newest session that was begun in K for the call at place c
-unfoldable pub session_for : List Event → ℕ → List Event → Option Begun
-session_for H c [] = None
-session_for H c (e ∷ K) = or_some (session_by H c K e.who e.what) (session_for H c K)
 
 -- the place of the newest event that answered the call at place c by an installation
 unfoldable pub installation : ℕ → List Event → Option ℕ

@@ -1,18 +1,20 @@
 //! The trail: a line for each call of a history.
 
-ghost use Rattle.std.specs.Prelude.{◌≡◌, ◌<◌, ℕ, List, IfOk, None, OnOk, get_or, length, option_copied, replicate, reverse};
+ghost use Rattle.std.specs.Prelude.{◌≡◌, ◌<◌, ℕ, List, IfOk, None, OnOk, get_or, length, option_copied, reverse};
 ghost use Rattle.hist_model.specs.ReportAudit.{judging_by};
 ghost use Rattle.hist_model.specs.declared.event.Event.{Event};
 ghost use Rattle.audit_log.specs.Requests.{TellsInstalled};
 ghost use Rattle.audit_log.specs.Written.{Wrote};
 ghost use Rattle.audit_check.specs.Trail.{trail};
-ghost use Rattle.audit_check.specs.Traced.{TellsAnswers, TellsSessions, noted, row_at};
+ghost use Rattle.audit_log.specs.Served.{row_at};
+ghost use Rattle.audit_check.specs.Traced.{TellsAnswers};
 
 use crate::trace::{push_trace, trace_of};
 use audit_log::call_table::CallTable;
 use audit_log::error::ReportError;
 use audit_log::line::Line;
 use audit_log::part::{Part, write_lines};
+use audit_log::served::{none_found, note, place_at, served_calls};
 use audit_log::session::Session;
 use audit_log::session_table::sessions;
 use hist_model::event::{Entered, Event, What};
@@ -49,45 +51,6 @@ pub fn write_trail<O: Sink>(
     write_lines(&part, &mut line, events, out)
 }
 
-/// Notes a number for a call, if it is for one.
-fn note(found: &mut Vec<Option<usize>>, call: Option<usize>, number: usize)
-    ensures { found.new.items ≡ noted call number found.old.items }
-{
-    let Some(place) = call else {
-        return;
-    };
-    if place < found.len() {
-        found[place] = Some(number);
-    }
-}
-
-/// Nothing for so many calls.
-fn none_found(alloc: Global, room: usize) -> Result<Vec<Option<usize>>, NoMemory>
-    ensures { IfOk result (λ found. found.items ≡ replicate room None) }
-{
-    let mut found = Vec::new(alloc);
-    for _ in 0..room {
-        found.push(None)?;
-    }
-    Ok(found)
-}
-
-/// Of each place below `room`, the row of the last session for the call there, by the calls of what was received.
-fn served_calls(
-    alloc: Global,
-    room: usize,
-    received: &[Option<usize>],
-    sessions: &[Session],
-) -> Result<Vec<Option<usize>>, NoMemory>
-    ensures { IfOk result (λ found. TellsSessions received.now sessions.now room found.items) }
-{
-    let mut found = none_found(alloc, room)?;
-    for row in 0..sessions.len() {
-        note(&mut found, place_at(received, sessions[row].place), row);
-    }
-    Ok(found)
-}
-
 /// Of each place below `room`, the newest event that answered the call there by an installation, by the calls that events
 /// answer so.
 fn answered_calls(
@@ -102,16 +65,6 @@ fn answered_calls(
         note(&mut found, place_at(answered, place), place);
     }
     Ok(found)
-}
-
-/// What is kept for a place; none past the end.
-fn place_at(places: &[Option<usize>], place: usize) -> Option<usize>
-    ensures { result ≡ get_or places.now place None }
-{
-    match places.get(place) {
-        Some(found) => *found,
-        None => None,
-    }
 }
 
 /// The trail as a part that has a line for each call.

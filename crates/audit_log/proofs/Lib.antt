@@ -9,6 +9,7 @@ pub mod Past
 pub mod ReceivedCalls
 pub mod Recorded
 pub mod Room
+pub mod ServedCalls
 pub mod SessionEvents
 pub mod SessionFound
 pub mod SessionReads

@@ -7,6 +7,7 @@ pub mod Received
 pub mod Records
 pub mod Requests
 pub mod Rest
+pub mod Served
 pub mod SessionFacts
 pub mod SessionStages
 pub mod SessionTable

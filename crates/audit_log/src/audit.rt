@@ -103,7 +103,7 @@ pub(crate) fn answer(back: Option<Back>, number: Option<u32>) -> Option<Back>
 }
 
 /// Whether the answer arrived: one was sent, or a descriptor was installed.
-pub(crate) fn arrival(facts: &Facts, number: Option<u32>) -> Arrival
+pub fn arrival(facts: &Facts, number: Option<u32>) -> Arrival
     ensures { result ≡ arrival_of (facts.now.sent || is_some number) facts.now.lost }
 {
     if facts.sent || number.is_some() {
@@ -134,7 +134,7 @@ fn push_session(
 }
 
 /// Adds the rule that decided, and the verdict.
-fn push_finding(line: &mut Line, policy: &Policy, finding: Finding) -> Result<(), NoMemory>
+pub fn push_finding(line: &mut Line, policy: &Policy, finding: Finding) -> Result<(), NoMemory>
     ensures { OnOk result (line.new ≡ line.old ++ (codes " rule=" ++ rule_text (judging_by policy.now.rules) (rule_of finding) ++ codes " verdict=" ++ finding_text finding)) }
 {
     line.push(" rule=")?;
@@ -229,7 +229,7 @@ fn push_answer(line: &mut Line, answer: Option<Back>) -> Result<(), NoMemory>
 }
 
 /// The word for whether an answer arrived.
-fn arrival_word(arrival: Arrival) -> &'static str
+pub fn arrival_word(arrival: Arrival) -> &'static str
     ensures { result.now ≡ arrival_text arrival }
 {
     match arrival {

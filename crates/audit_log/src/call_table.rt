@@ -2,14 +2,15 @@
 
 ghost use Rattle.std.specs.Prelude.{◌≡◌, IfOk, get_or, reverse};
 ghost use Rattle.audit_log.specs.CallTable.{TellsCalls, number_in};
-ghost use Rattle.audit_log.specs.Records.{number_at};
+ghost use Rattle.audit_log.specs.Records.{no_record, number_at};
 
 use crate::answer::{answered_call, pending_call};
 use crate::received::Ids;
-use crate::records::{CallRecord, record};
+use crate::records::{CallRecord, record, record_at};
 use crate::requests::Requests;
 use crate::tasks::Tasks;
 use hist_model::event::Event;
+use hist_model::report::Outcome;
 use std::alloc::Global;
 use sys_abi::memory::NoMemory;
 
@@ -66,6 +67,20 @@ impl CallTable {
         ensures { result.now ≡ self.now.answered.items }
     {
         self.answered.as_slice()
+    }
+
+    /// What came of the call that the event at a place enters.
+    pub fn outcome(&self, place: usize) -> Outcome
+        ensures { result ≡ (get_or self.now.records.items place no_record).outcome }
+    {
+        record_at(self.records.as_slice(), place).outcome
+    }
+
+    /// The number that was installed for the call that the event at a place enters.
+    pub fn number(&self, place: usize) -> Option<u32>
+        ensures { result ≡ (get_or self.now.records.items place no_record).number }
+    {
+        record_at(self.records.as_slice(), place).number
     }
 
     /// The number that was installed for the call at a place, if there is one.

@@ -81,7 +81,7 @@ fn push_call_line(
 }
 
 /// Adds the outcome of a call.
-fn push_outcome(line: &mut Line, outcome: Outcome) -> Result<(), NoMemory>
+pub fn push_outcome(line: &mut Line, outcome: Outcome) -> Result<(), NoMemory>
     ensures { OnOk result (line.new ≡ line.old ++ outcome_text outcome) }
 {
     match outcome {

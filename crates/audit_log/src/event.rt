@@ -18,7 +18,7 @@ use sys_abi::memory::NoMemory;
 use sys_abi::wire::{Addfd, Notif, SECCOMP_ADDFD_FLAG_SETFD};
 
 /// Adds what happened, in words.
-pub(crate) fn push_what(line: &mut Line, what: &What) -> Result<(), NoMemory>
+pub fn push_what(line: &mut Line, what: &What) -> Result<(), NoMemory>
     ensures { OnOk result (line.new ≡ line.old ++ what_text what.now) }
 {
     match what {
@@ -166,7 +166,7 @@ fn push_args(line: &mut Line, args: &[u64]) -> Result<(), NoMemory>
 }
 
 /// Adds what the filters say.
-fn push_entered(line: &mut Line, verdict: Entered) -> Result<(), NoMemory>
+pub fn push_entered(line: &mut Line, verdict: Entered) -> Result<(), NoMemory>
     ensures { OnOk result (line.new ≡ line.old ++ entered_text verdict) }
 {
     match verdict {

@@ -3,7 +3,7 @@
 //! The writers' model is the text that `hist_model` defines for any list of events. Each writes its part to a sink, line by
 //! line, one write for each; after any error the sink took a prefix of that part. What the calls, the audit and the summary
 //! have in common is found once (`report`): of the calls in one pass over the events (`call_table`), and of the sessions in
-//! another (`session_table`).
+//! another (`session_table`). Which session a call had is told by both (`served`).
 //!
 //! A worker is in one session at most, so one more event changes what is kept of one session at most (`session`): what its
 //! steps tell (`session_facts`), where they stand (`session_stages`), and what the policy makes of what was read in it
@@ -17,10 +17,10 @@
 mod answer;
 pub mod audit;
 pub mod call_table;
-mod calls;
+pub mod calls;
 mod count;
 pub mod error;
-mod event;
+pub mod event;
 pub mod journal;
 pub mod laws;
 pub mod line;
@@ -29,14 +29,15 @@ pub mod part;
 mod received;
 mod records;
 pub mod report;
-mod request;
+pub mod request;
 mod requests;
+pub mod served;
 pub mod session;
-mod session_facts;
+pub mod session_facts;
 mod session_judgement;
 mod session_stages;
 pub mod session_table;
 mod step;
 mod summary;
 mod tasks;
-mod words;
+pub mod words;

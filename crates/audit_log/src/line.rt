@@ -109,6 +109,15 @@ impl Line {
         &self.room[..self.len]
     }
 
+    /// Its bytes, given up without taking memory.
+    pub fn into_bytes(self) -> Vec<u8>
+        ensures { result.items ≡ self }
+    {
+        let Line { mut room, len } = self;
+        room.truncate(len);
+        room
+    }
+
     /// Makes it empty, and keeps its room.
     pub fn clear(&mut self)
         ensures { self.new ≡ [] }

@@ -13,7 +13,7 @@ use sys_abi::device::split_dev;
 use sys_abi::memory::NoMemory;
 
 /// Adds what a worker does for a call; of a call that it never does anything for, the name alone.
-pub(crate) fn push_request(line: &mut Line, request: &Request) -> Result<(), NoMemory>
+pub fn push_request(line: &mut Line, request: &Request) -> Result<(), NoMemory>
     ensures { OnOk result (line.new ≡ line.old ++ request_text request.now) }
 {
     match request {

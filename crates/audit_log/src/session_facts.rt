@@ -28,14 +28,14 @@ pub struct Facts {
 }
 
 /// Whether the step lets go of what was opened for a notification.
-fn is_letgo(what: &What) -> bool
+pub fn is_letgo(what: &What) -> bool
     ensures { result ≡ is_letgo what.now }
 {
     matches!(what, What::LetGo)
 }
 
 /// Whether the step begins a session.
-fn starts(what: &What) -> bool
+pub fn starts(what: &What) -> bool
     ensures { result ≡ starts what.now }
 {
     matches!(what, What::Recv { answer: Ok(_) })

@@ -34,7 +34,7 @@ pub(crate) fn push_or_dash(line: &mut Line, text: &[u8]) -> Result<(), NoMemory>
 }
 
 /// Adds a task's name: its numbers, with points between them.
-pub(crate) fn push_name(line: &mut Line, name: &TaskName) -> Result<(), NoMemory>
+pub fn push_name(line: &mut Line, name: &TaskName) -> Result<(), NoMemory>
     ensures { OnOk result (line.new ≡ line.old ++ name_text name.now) }
 {
     push_numbers(line, name.items())
@@ -78,7 +78,7 @@ pub(crate) fn push_errno(line: &mut Line, error: Errno) -> Result<(), NoMemory>
 }
 
 /// Adds a call's name, or its number.
-pub(crate) fn push_call(line: &mut Line, nr: i32) -> Result<(), NoMemory>
+pub fn push_call(line: &mut Line, nr: i32) -> Result<(), NoMemory>
     ensures { OnOk result (line.new ≡ line.old ++ call_text nr) }
 {
     match call_name(nr) {
@@ -88,7 +88,7 @@ pub(crate) fn push_call(line: &mut Line, nr: i32) -> Result<(), NoMemory>
 }
 
 /// Adds `ok`, or an error.
-pub(crate) fn push_result(line: &mut Line, answer: &Result<(), Errno>) -> Result<(), NoMemory>
+pub fn push_result(line: &mut Line, answer: &Result<(), Errno>) -> Result<(), NoMemory>
     ensures { OnOk result (line.new ≡ line.old ++ result_text answer.now) }
 {
     match answer {

@@ -1,6 +1,6 @@
 -- One more event is noted: by `answered_more`.
 use Rattle.std.proofs.Common.{◌+◌, sym, ap, subst, ◌∙◌, arith}
-use Rattle.audit_check.specs.Traced.{noted}
+use Rattle.audit_log.specs.Served.{noted}
 use Rattle.audit_check.proofs.Traced.{Answered, all_answered, answered_more, none_answered}
 use Rattle.audit_check.proofs.trail.answered_calls.Goals as goal
 

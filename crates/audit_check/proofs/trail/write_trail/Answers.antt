@@ -5,9 +5,11 @@ use Rattle.hist_model.specs.ReportAudit.{judging_by}
 use Rattle.audit_log.specs.Received.{TellsReceived}
 use Rattle.audit_log.specs.Requests.{TellsInstalled}
 use Rattle.audit_log.specs.Written.{Wrote}
-use Rattle.audit_check.specs.Traced.{TellsAnswers, TellsSessions}
+use Rattle.audit_log.specs.Served.{TellsSessions}
+use Rattle.audit_log.proofs.ServedCalls.{same_sessions}
+use Rattle.audit_check.specs.Traced.{TellsAnswers}
 use Rattle.audit_check.specs.Trail.{trail}
-use Rattle.audit_check.proofs.Traced.{same_answers, same_sessions, trail_same}
+use Rattle.audit_check.proofs.Traced.{same_answers, trail_same}
 use Rattle.audit_check.proofs.trail.write_trail.Goals as goal
 
 pub returns : goal.returns

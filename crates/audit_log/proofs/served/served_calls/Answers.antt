@@ -1,8 +1,8 @@
 -- One more row is noted: by `served_more`.
 use Rattle.std.proofs.Common.{◌+◌, sym, ap, subst, ◌∙◌}
-use Rattle.audit_check.specs.Traced.{noted}
-use Rattle.audit_check.proofs.Traced.{Served, all_served, none_served, served_more}
-use Rattle.audit_check.proofs.trail.served_calls.Goals as goal
+use Rattle.audit_log.specs.Served.{noted}
+use Rattle.audit_log.proofs.ServedCalls.{Served, all_served, none_served, served_more}
+use Rattle.audit_log.proofs.served.served_calls.Goals as goal
 
 pub loop-row-init : goal.loop-row-init
 loop-row-init c = none_served c.args.received.now c.args.sessions.now c.args.room c.in_ok-found.found.items c.in_ok-found.ensures

@@ -1,0 +1,57 @@
+//! The session of each call.
+
+ghost use Rattle.std.specs.Prelude.{◌≡◌, IfOk, None, get_or, replicate};
+ghost use Rattle.audit_log.specs.Served.{TellsSessions, noted};
+
+use crate::session::Session;
+use std::alloc::Global;
+use sys_abi::memory::NoMemory;
+
+/// Notes a number for a call, if it is for one.
+pub fn note(found: &mut Vec<Option<usize>>, call: Option<usize>, number: usize)
+    ensures { found.new.items ≡ noted call number found.old.items }
+{
+    let Some(place) = call else {
+        return;
+    };
+    if place < found.len() {
+        found[place] = Some(number);
+    }
+}
+
+/// Nothing for so many calls.
+pub fn none_found(alloc: Global, room: usize) -> Result<Vec<Option<usize>>, NoMemory>
+    ensures { IfOk result (λ found. found.items ≡ replicate room None) }
+{
+    let mut found = Vec::new(alloc);
+    for _ in 0..room {
+        found.push(None)?;
+    }
+    Ok(found)
+}
+
+/// Of each place below `room`, the row of the last session for the call there, by the calls of what was received.
+pub fn served_calls(
+    alloc: Global,
+    room: usize,
+    received: &[Option<usize>],
+    sessions: &[Session],
+) -> Result<Vec<Option<usize>>, NoMemory>
+    ensures { IfOk result (λ found. TellsSessions received.now sessions.now room found.items) }
+{
+    let mut found = none_found(alloc, room)?;
+    for row in 0..sessions.len() {
+        note(&mut found, place_at(received, sessions[row].place), row);
+    }
+    Ok(found)
+}
+
+/// What is kept for a place; none past the end.
+pub fn place_at(places: &[Option<usize>], place: usize) -> Option<usize>
+    ensures { result ≡ get_or places.now place None }
+{
+    match places.get(place) {
+        Some(found) => *found,
+        None => None,
+    }
+}

@@ -1,0 +1,3 @@
+pub mod SessionDeeds
+pub mod Lines
+pub mod NamePlaces

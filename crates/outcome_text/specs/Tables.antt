@@ -1,0 +1,28 @@
+-- The same lines by what is kept of the calls and of the sessions.
+use Rattle.std.specs.Prelude.{ℕ, ◌+◌, if◌then◌else◌, List, [], ◌++◌, length, get_or, Option, Some, None}
+use Rattle.hist_model.specs.Look.{Name}
+use Rattle.hist_model.specs.ReportAudit.{Judging, session_at}
+use Rattle.hist_model.specs.declared.event.Event.{Event}
+use Rattle.audit_log.specs.Audited.{audited}
+use Rattle.audit_log.specs.Records.{no_record}
+use Rattle.audit_log.specs.Served.{row_at}
+use Rattle.audit_log.specs.declared.call_table.CallTable.{CallTable}
+use Rattle.audit_log.specs.declared.session.Session.{Session}
+use Rattle.outcome_text.specs.Outcomes.{audit_text, calls_of, did, entry_of, is_call_of, session_text}
+
+-- of a session, by what is kept of it
+abbrev pub kept_text : Judging → List Event → Option ℕ → Option Session → List ℕ
+kept_text J H number None = session_text J number None
+kept_text J H number (Some x) = audit_text J (audited number x) ++ did (session_at x.worker x.place H)
+
+-- of an event at a place, behind so many calls of task n
+abbrev pub lines_at : Judging → List Event → CallTable → List Session → List (Option ℕ) → Name → ℕ → ℕ → Event → List ℕ
+lines_at J H calls rows served n place before e =
+    if is_call_of n e
+    then entry_of n (before + 1) e.what (get_or calls.records.items place no_record).outcome
+    ++ kept_text J H (get_or calls.records.items place no_record).number (row_at rows (get_or served place None))
+    else []
+
+-- of the event that comes after K
+abbrev pub lines_by : Judging → List Event → CallTable → List Session → List (Option ℕ) → Name → List Event → Event → List ℕ
+lines_by J H calls rows served n K e = lines_at J H calls rows served n (length K) (calls_of n K) e

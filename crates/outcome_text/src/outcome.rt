@@ -1,0 +1,38 @@
+//! What a history comes to.
+
+ghost use Rattle.std.specs.Prelude.{◌≡◌, IfOk};
+ghost use Rattle.hist_model.specs.ReportAudit.{judging_by};
+ghost use Rattle.outcome_text.specs.Outcomes.{result_of};
+
+use crate::calls::Kept;
+use crate::names::task_names;
+use audit_log::call_table::CallTable;
+use audit_log::line::Line;
+use audit_log::served::served_calls;
+use audit_log::session_table::sessions;
+use hist_model::history::History;
+use hist_model::policy::Policy;
+use std::alloc::Global;
+use sys_abi::memory::NoMemory;
+
+/// What a history comes to by the policy that its workers had: a line for each call of its tasks, which stand in the order of
+/// their names, and of each the calls from the oldest on; behind a call what was done for it. Empty where no call was entered.
+pub fn outcome_of(alloc: Global, policy: &Policy, history: &History) -> Result<Vec<u8>, NoMemory>
+    ensures { IfOk result (λ text. text.items ≡ result_of (judging_by policy.now.rules) history.now.events) }
+{
+    let events = history.events();
+    let calls = CallTable::of(alloc, events)?;
+    let sessions = sessions(alloc, policy, events)?;
+    let served = served_calls(alloc, events.len(), calls.received(), sessions.as_slice())?;
+    let names = task_names(alloc, events)?;
+    let kept = Kept {
+        policy,
+        events,
+        calls: &calls,
+        sessions: sessions.as_slice(),
+        served: served.as_slice(),
+    };
+    let mut line = Line::new(alloc);
+    kept.push_all(&mut line, names.as_slice())?;
+    Ok(line.into_bytes())
+}
