@@ -34,9 +34,9 @@ extern "C" {
 /* How a call ended. 0 to 9 are the program's exit statuses. With each but BROKER_DONE and BROKER_SHORT_BUFFER, `line` has the one
  * line that the program would print on standard error; with these two it is empty. */
 enum broker_status {
-  /* `out` has the whole report, or the whole of what broker_audit_check found. */
+  /* `out` has the whole report, with the ledgers behind it of broker_handover, or the whole of what broker_audit_check found. */
   BROKER_DONE = 0,
-  /* `count` isn't 1 to 4000. */
+  /* `count` isn't 1 to 4000, or `every` isn't 1 to 200000. */
   BROKER_USAGE = 1,
   /* A file couldn't be read. No call of this library answers it. */
   BROKER_READ_FAULT = 2,
@@ -105,6 +105,23 @@ enum broker_status broker_audit_check(const void *policy, size_t policy_length,
                                       size_t room,
                                       void *out, size_t out_size, size_t *out_length,
                                       void *line, size_t line_size, size_t *line_length);
+
+/*
+ * Plays the schedule of a script under a policy with workers that are replaced: after each `every` steps of workers, 1 to 200000, the
+ * worker that took the last one is dropped, and a successor goes on from its ledger. Writes to `out` what
+ * `handover POLICY SCRIPT EVERY` prints: the whole report, which is that of broker_play, then how many workers were replaced, and a line
+ * for each of the ledgers. Here the lengths, `room` and BROKER_SHORT_BUFFER are of that text.
+ *
+ * Answers BROKER_DONE, BROKER_USAGE, BROKER_TOO_LONG, BROKER_BAD_POLICY, BROKER_BAD_SCRIPT, BROKER_WRITE_FAULT, BROKER_NO_MEMORY or
+ * BROKER_SHORT_BUFFER. The policy is looked at first, and a script only where the policy is taken.
+ */
+BROKER_NOT_NULL(9, 12)
+enum broker_status broker_handover(const void *policy, size_t policy_length,
+                                   const void *script, size_t script_length,
+                                   uint32_t every,
+                                   size_t room,
+                                   void *out, size_t out_size, size_t *out_length,
+                                   void *line, size_t line_size, size_t *line_length);
 
 #undef BROKER_NOT_NULL
 

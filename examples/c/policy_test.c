@@ -1,5 +1,5 @@
-/* Tests of a container's policy, over the broker as a library: what is granted, what is left to the kernel, what a race comes to, what
- * is said of a policy with a fault, and whether a report is one. */
+/* Tests of a container's policy, over the broker as a library: what is granted, what is left to the kernel, what a race and a restart of
+ * the broker come to, what is said of a policy with a fault, and whether a report is one. */
 #include <seccomp_broker.h>
 
 #include <stdbool.h>
@@ -73,6 +73,21 @@ static struct play play(const char *policy_text, const char *script_text) {
   return played;
 }
 
+/* Plays it with a worker that is replaced after every so many steps: the report with the ledgers behind it, or a shorter text where
+ * they don't fit. */
+static struct play hand_over(const char *policy_text, const char *script_text, uint32_t every) {
+  enum { SIZE = 65536 };
+  struct play played = {BROKER_NO_MEMORY, malloc(SIZE + 1), ""};
+  size_t length, line_length;
+  if (played.report == NULL)
+    return played;
+  played.status = broker_handover(policy_text, strlen(policy_text), script_text, strlen(script_text), every, BROKER_ROOM_LIMIT,
+                                  played.report, SIZE, &length, played.line, sizeof played.line - 1, &line_length);
+  played.report[length < SIZE ? length : SIZE] = '\0';
+  played.line[line_length < sizeof played.line ? line_length : sizeof played.line - 1] = '\0';
+  return played;
+}
+
 /* What the check of a report came to: what is found, as far as it fits, and the line. */
 struct check {
   enum broker_status status;
@@ -129,6 +144,19 @@ static void check_report(const char *report) {
   free(changed);
 }
 
+/* Restarts the broker after the effect and before its note of it: the report stays the same, and the ledger lacks the effect. */
+static void restart(const char *report) {
+  struct play restarted = hand_over(policy, script, 7);
+  wants_status("the boot is played with a restart", restarted.status, restarted.line, BROKER_DONE);
+  wants("with the same report", restarted.report, report);
+  wants("and a ledger that lacks the effect", restarted.report, "\nledger 13 w0 {\"count\":6,\"own\":[");
+  free(restarted.report);
+
+  struct play never = hand_over(policy, script, 0);
+  wants_status("no worker is replaced after no step", never.status, never.line, BROKER_USAGE);
+  free(never.report);
+}
+
 int main(void) {
   struct play boot = play(policy, script);
   wants_status("the boot is played", boot.status, boot.line, BROKER_DONE);
@@ -136,8 +164,10 @@ int main(void) {
   wants("ext4 is mounted", boot.report, "mount rule=lxd.mount.ext4 verdict=grant answer=0 reply=sent\n");
   wants("xfs is left to the kernel", boot.report, "mount rule=default.mount verdict=pass answer=continue reply=sent\n");
   wants("which refuses it", boot.report, "pid=1 mount EPERM\n");
-  if (boot.report != NULL)
+  if (boot.report != NULL) {
     check_report(boot.report);
+    restart(boot.report);
+  }
   free(boot.report);
 
   struct play raced = play(policy, race);

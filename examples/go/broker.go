@@ -57,6 +57,20 @@ func ReportOf(policy, script string) (string, error) {
 	})
 }
 
+// HandOver plays the schedule of a script with a worker replaced after every so many steps of workers, and gives the text of the report, and
+// a line for each ledger from which a successor went on.
+func HandOver(policy, script string, every uint32) (report string, ledgers []string, err error) {
+	p, s := []byte(policy), []byte(script)
+	text, err := answer(func(out, line []byte, length, said *C.size_t) C.enum_broker_status {
+		return C.broker_handover(at(p), size(p), at(s), size(s), C.uint32_t(every), C.BROKER_ROOM_LIMIT, at(out), size(out), length, at(line), size(line), said)
+	})
+	if err != nil {
+		return "", nil, err
+	}
+	report, rest, _ := strings.Cut(text, "\nhandovers ")
+	return report + "\n", strings.Split(strings.TrimSuffix(rest, "\n"), "\n")[1:], nil
+}
+
 // Check gives what is found of a report under a policy and a script.
 func Check(policy, script, report string) (*Findings, error) {
 	p, s, r := []byte(policy), []byte(script), []byte(report)

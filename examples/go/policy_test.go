@@ -91,6 +91,21 @@ func TestReportIsChecked(t *testing.T) {
 	}
 }
 
+func TestBrokerThatRestartsAfterTheEffect(t *testing.T) {
+	policy, script := config(t, map[string]string{"security.syscalls.intercept.mknod": "true"}), container("ext4")
+	played, err := ReportOf(policy, script)
+	if err != nil {
+		t.Fatal(err)
+	}
+	report, ledgers, err := HandOver(policy, script, 7)
+	if err != nil {
+		t.Fatal(err)
+	}
+	if report != played || strings.Count(report, " act mknod ") != 1 || !strings.Contains(ledgers[0], ` w0 {"count":6,`) {
+		t.Errorf("report %q, ledgers %q", report, ledgers)
+	}
+}
+
 func TestReportOfAnotherPolicy(t *testing.T) {
 	script := container("ext4")
 	report, err := ReportOf(config(t, map[string]string{"security.syscalls.intercept.mknod": "true"}), script)

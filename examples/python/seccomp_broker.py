@@ -1,6 +1,8 @@
 """Plays scripts under policies, and checks reports, by the C library that tools/make-c-library makes: play(policy, script) gives a
-Report, and check(policy, script, report) what is found of one; both raise Refused."""
+Report, hand_over(policy, script, every) its text and the ledgers of workers that were replaced, and check(policy, script, report) what
+is found of a report; all raise Refused."""
 import ctypes
+import json
 import os
 from dataclasses import dataclass
 from pathlib import Path
@@ -10,7 +12,8 @@ LIBRARY = ctypes.CDLL(os.environ.get("SECCOMP_BROKER", str(DIST / "lib/libseccom
 BYTES, SIZE, LENGTH = ctypes.c_char_p, ctypes.c_size_t, ctypes.POINTER(ctypes.c_size_t)
 LIBRARY.broker_play.argtypes = [BYTES, SIZE] * 2 + [SIZE, BYTES, SIZE, LENGTH, BYTES, SIZE, LENGTH]
 LIBRARY.broker_audit_check.argtypes = [BYTES, SIZE] * 3 + [SIZE, BYTES, SIZE, LENGTH, BYTES, SIZE, LENGTH]
-LIBRARY.broker_play.restype = LIBRARY.broker_audit_check.restype = ctypes.c_uint
+LIBRARY.broker_handover.argtypes = [BYTES, SIZE] * 2 + [ctypes.c_uint32, SIZE, BYTES, SIZE, LENGTH, BYTES, SIZE, LENGTH]
+LIBRARY.broker_play.restype = LIBRARY.broker_audit_check.restype = LIBRARY.broker_handover.restype = ctypes.c_uint
 DONE, SHORT_BUFFER, ROOM_LIMIT = 0, 100, 1 << 30
 
 
@@ -41,15 +44,15 @@ class Findings:
     trail: list
 
 
-def answer(call, *texts, size=65536):
-    """What a function of the library gives for these texts, each as bytes or as text."""
+def answer(call, *texts, numbers=(), size=65536):
+    """What a function of the library gives for these texts, each as bytes or as text, and these numbers."""
     texts = [text.encode() if isinstance(text, str) else text for text in texts]
     out, line = ctypes.create_string_buffer(size), ctypes.create_string_buffer(4096)
     length, said = ctypes.c_size_t(), ctypes.c_size_t()
-    status = call(*(part for text in texts for part in (text, len(text))), ROOM_LIMIT,
+    status = call(*(part for text in texts for part in (text, len(text))), *numbers, ROOM_LIMIT,
                   out, size, ctypes.byref(length), line, len(line), ctypes.byref(said))
     if status == SHORT_BUFFER:
-        return answer(call, *texts, size=length.value)
+        return answer(call, *texts, numbers=numbers, size=length.value)
     if status != DONE:
         raise Refused(status, line.raw[:said.value].decode())
     return out.raw[:length.value].decode()
@@ -68,6 +71,15 @@ def play(policy, script, size=65536):
         parts.append(lines[1:end])
         lines = lines[end:]
     return Report(*parts, {name: int(count) for name, count in (field.split("=") for field in lines[0].split()[1:])})
+
+
+def hand_over(policy, script, every):
+    """The text of the report of a script that is played with a worker replaced after every so many steps of workers, and the ledgers
+    from which their successors went on: each with the place in the journal of its worker's last step."""
+    text = answer(LIBRARY.broker_handover, policy, script, numbers=[every])
+    report, _, ledgers = text.partition("\nhandovers ")
+    lines = (line.split(" ", 3) for line in ledgers.splitlines()[1:])
+    return report + "\n", [(int(place), json.loads(ledger)) for _, place, _, ledger in lines]
 
 
 def check(policy, script, report):

@@ -2,7 +2,7 @@
 import json
 import unittest
 
-from seccomp_broker import Refused, check, play, report_of
+from seccomp_broker import Refused, check, hand_over, play, report_of
 
 KEYS = "security.syscalls.intercept."
 SCRIPT = r"""
@@ -64,6 +64,14 @@ class Boot(unittest.TestCase):
         self.assertTrue(found.finished)
         self.assertEqual(f"journal {found.events}", report.splitlines()[0])
         self.assertTrue(found.trail[0].endswith(" rule=lxd.mknod.1:3"))
+
+    def test_a_broker_that_restarts_after_the_effect_does_it_once(self):
+        report, ledgers = hand_over(policy(mknod="true"), SCRIPT, 7)
+        self.assertEqual(report, report_of(policy(mknod="true"), SCRIPT))
+        self.assertEqual(report.count(" act mknod "), 1)
+        place, ledger = ledgers[0]
+        self.assertIn(f'{place} w0 act mknod "/dev/null" chr 1:3 ok', report.splitlines())
+        self.assertEqual(ledger["count"], 6)
 
     def test_a_report_of_another_policy_is_none(self):
         with self.assertRaises(Refused) as refused:

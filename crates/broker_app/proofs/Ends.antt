@@ -1,9 +1,10 @@
 -- What came of the printing of a text, and how a play ends.
 -- By the lemmas of `Writing`, by what `Flushes` says of the sink, by cases on the error, and since equal histories have equal texts.
-use Rattle.std.proofs.Common.{◌≡◌, ℕ, List, ◌++◌, length, ◌∙◌, ap, inl, refl, sym, subst, arith}
+use Rattle.std.proofs.Common.{◌≡◌, ℕ, List, ◌++◌, length, ◌∙◌, ap, inl, inr, refl, sym, subst, arith}
 use Rattle.std.proofs.lemmas.List.{take_all}
 use Rattle.std.specs.Prelude.{Result, Ok, Err}
 use Rattle.hist_model.specs.Legal.{played}
+use Rattle.hist_model.specs.Mediated.{Mediated}
 use Rattle.hist_model.specs.ReportAudit.{judging_by}
 use Rattle.hist_model.specs.declared.event.Event.{Event}
 use Rattle.hist_model.specs.declared.policy.Policy.{Policy}
@@ -17,8 +18,10 @@ use Rattle.audit_log.specs.declared.error.ReportError.{ReportError}
 use Rattle.audit_log.specs.declared.error.ReportError.TheVariants.{WriteFault, NoMemory}
 use Rattle.generated_input.specs.GeneratedPolicy.{generated_policy}
 use Rattle.generated_input.specs.GeneratedScript.{generated_script}
-use Rattle.broker_app.specs.Answers.{GeneratedIsMediated, Printed, PlayEnds, StressEnds, generated_summary, printout_of, status_of, text_of}
+use Rattle.broker_app.specs.Answers.{GeneratedIsMediated, Printed, StressEnds, generated_summary, printout_of, status_of, text_of}
+use Rattle.broker_app.specs.Inputs.{PolicyIs, ScriptIs}
 use Rattle.broker_app.specs.Lines.{status_of_report}
+use Rattle.broker_app.specs.Plays.{AreRead, PlayEnds, Printing}
 use Rattle.broker_app.specs.Refusals.{InputRefused, Stands}
 use Rattle.broker_app.specs.declared.printing.Printout.{Printout}
 use Rattle.broker_app.specs.declared.printing.Printout.TheVariants.{Summary}
@@ -85,9 +88,24 @@ stress_ends from count old new (Err OutOfMemory) m p = (m, p)
 stress_ends from count old new (Err Done) m p = absurd p
 stress_ends from count old new (Err status) m p = p
 
+-- what two files play was printed, or a part of it
+pub play_ends : (files after : FileState) (old new : SinkState) (policy script : List ℕ) (text : Printing) (P : Policy) (S : Script) (r : Result (Unit {0}) Status) → PolicyIs files policy (Ok P)
+    → ScriptIs files script (Ok S) → Mediated P S (played P S) → Printed (text P S) old new r → PlayEnds files after old new policy script text (status_of r)
+play_ends files after old new policy script text P S r policy_is script_is mediated printed = by r printed
+  where
+    are : AreRead files policy script P S
+    are = record { policy_is = policy_is; script_is = script_is; mediated = mediated }
+
+    by : (r : Result (Unit {0}) Status) → Printed (text P S) old new r → PlayEnds files after old new policy script text (status_of r)
+    by (Ok u) p = ((P, S, are, p.0), p.1)
+    by (Err CannotWrite) p = (p.0, (P, S, are, p.1))
+    by (Err OutOfMemory) p = inr (P, S, are, p)
+    by (Err status) p = absurd p
+
 -- nothing was played, since the policy or the script wasn't taken
-pub play_stops : (files after : FileState) (sink : SinkState) (policy script : List ℕ) (status : Status) → InputRefused files after policy script status → PlayEnds files after sink sink policy script status
-play_stops files after sink policy script OutOfMemory h = inl (λ t. refl)
-play_stops files after sink policy script Done h = absurd h
-play_stops files after sink policy script CannotWrite h = absurd h
-play_stops files after sink policy script status h = (h, λ t. refl)
+pub play_stops : (files after : FileState) (sink : SinkState) (policy script : List ℕ) (text : Printing) (status : Status) → InputRefused files after policy script status
+    → PlayEnds files after sink sink policy script text status
+play_stops files after sink policy script text OutOfMemory h = inl (λ t. refl)
+play_stops files after sink policy script text Done h = absurd h
+play_stops files after sink policy script text CannotWrite h = absurd h
+play_stops files after sink policy script text status h = (h, λ t. refl)

@@ -1,5 +1,6 @@
 -- What the program's answer means: what it read, what it wrote, and why it stopped.
 use Rattle.std.specs.Prelude.{◌≡◌, ℕ, ◌≤◌, ◌++◌, true, List, Option, Some, None, Result, Ok, Err, ◌⊎◌}
+use Rattle.handover.specs.Keeping.{all_handed}
 use Rattle.hist_model.specs.Legal.{played}
 use Rattle.hist_model.specs.Mediated.{Mediated}
 use Rattle.hist_model.specs.Report.{report, summary}
@@ -14,44 +15,28 @@ use Rattle.generated_input.specs.GeneratedPolicy.{generated_policy}
 use Rattle.generated_input.specs.GeneratedScript.{generated_script}
 use Rattle.broker_app.specs.Checks.{CheckEnds}
 use Rattle.broker_app.specs.Findings.{findings}
-use Rattle.broker_app.specs.Inputs.{PolicyIs, ScriptIs}
-use Rattle.broker_app.specs.Refusals.{InputRefused, Stands, TookNothing}
+use Rattle.broker_app.specs.Handovers.{handover_report, handovers}
+use Rattle.broker_app.specs.Plays.{PlayEnds, report_of}
+use Rattle.broker_app.specs.Refusals.{Stands, TookNothing}
 use Rattle.broker_app.specs.Runs.{ByLanes, ByWorkers, RunEnds}
-use Rattle.broker_app.specs.Words.{Form, AuditCheck, Lanes, Play, Run, Stress}
+use Rattle.broker_app.specs.Words.{Form, AuditCheck, Handover, Lanes, Play, Run, Stress}
 use Rattle.broker_app.specs.declared.printing.Printout.{Printout}
-use Rattle.broker_app.specs.declared.printing.Printout.TheVariants.{Report, Summary, Findings}
+use Rattle.broker_app.specs.declared.printing.Printout.TheVariants.{Report, Handovers, Summary, Findings}
 use Rattle.broker_app.specs.declared.status.Status.{Status}
 use Rattle.broker_app.specs.declared.status.Status.TheVariants.{Done, Usage, WriteFault, NoMemory}
 
 -- ---- What was printed
 
--- the whole report of a history, its summary alone, or what is found of it where a report tells it
+-- the whole report of a history, that report and the ledgers from which workers were replaced, its summary alone, or what is found of it where a report tells it
 abbrev pub text_of : Printout → Judging → List Event → List ℕ
 text_of Report J H = report J H
+text_of (Handovers handed) J H = report J H ++ handovers (all_handed handed.now)
 text_of Summary J H = summary J H
 text_of (Findings finished) J H = findings J H finished
 
 -- that of the history that a policy and a script play
 abbrev pub printout_of : Printout → Policy → Script → List ℕ
 printout_of printout P S = text_of printout (judging_by P.rules) (played P S)
-
--- the report of the history that they play
-abbrev pub report_of : Policy → Script → List ℕ
-report_of P S = report (judging_by P.rules) (played P S)
-
--- these are the policy and the script of the named files, and what they play is mediated
-pub record AreRead (files : FileState) (policy script : List ℕ) (P : Policy) (S : Script) : Type 0 where
-  pub policy_is : PolicyIs files policy (Ok P)
-  pub script_is : ScriptIs files script (Ok S)
-  pub mediated : Mediated P S (played P S)
-
--- the sink took a prefix of the report of what the two files play
-abbrev pub TookPrefix : FileState → List ℕ → List ℕ → SinkState → SinkState → Type 0
-TookPrefix files policy script old new = (P : Policy) × (S : Script) × AreRead files policy script P S × (old.tells ≡ true → AddsPrefix old.taken (report_of P S) new.taken)
-
--- the sink took the whole report
-abbrev pub TookReport : FileState → List ℕ → List ℕ → SinkState → SinkState → Type 0
-TookReport files policy script old new = (P : Policy) × (S : Script) × AreRead files policy script P S × (old.tells ≡ true → new.taken ≡ old.taken ++ report_of P S)
 
 -- what the printing of a text came to
 abbrev pub Printed : List ℕ → SinkState → SinkState → Result (Unit {0}) Status → Type 0
@@ -80,13 +65,6 @@ TookSummary from count old new = GeneratedIsMediated from count × (old.tells �
 
 -- ---- How it ended
 
--- how the play of a policy's and a script's files ended
-abbrev pub PlayEnds : FileState → FileState → SinkState → SinkState → List ℕ → List ℕ → Status → Type 0
-PlayEnds files after old new policy script Done = TookReport files policy script old new × Stands new
-PlayEnds files after old new policy script WriteFault = Rose old.faults new.faults × TookPrefix files policy script old new
-PlayEnds files after old new policy script NoMemory = TookNothing old new ⊎ TookPrefix files policy script old new
-PlayEnds files after old new policy script status = InputRefused files after policy script status × TookNothing old new
-
 -- how the play of generated input ended
 abbrev pub StressEnds : ℕ → ℕ → SinkState → SinkState → Status → Type 0
 StressEnds from count old new Done = TookSummary from count old new × Stands new
@@ -102,11 +80,12 @@ IsUsage _ = ⊥
 -- what the answer means, by the form of the words: usage exactly where they have none
 abbrev pub Answers : Option Form → FileState → FileState → SinkState → SinkState → Status → Type 0
 Answers None files after old new status = IsUsage status × TookNothing old new
-Answers (Some (Play policy script)) files after old new status = PlayEnds files after old new policy script status
+Answers (Some (Play policy script)) files after old new status = PlayEnds files after old new policy script report_of status
 Answers (Some (Stress from count)) files after old new status = StressEnds from count old new status
 Answers (Some (Run policy script workers cpus)) files after old new status = RunEnds files after old new policy script (ByWorkers workers) status
 Answers (Some (Lanes policy script cpus)) files after old new status = RunEnds files after old new policy script ByLanes status
 Answers (Some (AuditCheck policy script report)) files after old new status = CheckEnds files after old new policy script report status
+Answers (Some (Handover policy script every)) files after old new status = PlayEnds files after old new policy script (handover_report every) status
 
 -- the status that an outcome is
 abbrev pub status_of : Result (Unit {0}) Status → Status

@@ -6,4 +6,6 @@ pub mod Refusals
 pub mod Findings
 pub mod Checks
 pub mod Runs
+pub mod Plays
+pub mod Handovers
 pub mod Answers

@@ -66,7 +66,7 @@ script_line (TooLarge number) = script_line_of number (codes "too large")
 
 abbrev pub line_of : Status → List ℕ
 line_of Done = []
-line_of Usage = codes "usage: play POLICY SCRIPT | run POLICY SCRIPT WORKERS CPUS | stress FROM COUNT | audit-check POLICY SCRIPT REPORT | lanes POLICY SCRIPT CPUS\n"
+line_of Usage = codes "usage: play POLICY SCRIPT | run POLICY SCRIPT WORKERS CPUS | stress FROM COUNT | audit-check POLICY SCRIPT REPORT | lanes POLICY SCRIPT CPUS | handover POLICY SCRIPT EVERY\n"
 line_of (ReadFault file) = codes "read fault: " ++ file_named file
 line_of (TooLong file) = codes "too long: " ++ file_named file
 line_of (BadPolicy error) = policy_line error

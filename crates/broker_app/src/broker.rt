@@ -1,6 +1,6 @@
 //! The top call.
 
-ghost use Rattle.std.specs.Prelude.{◌≡◌, ◌≤◌, ℕ, List, length, true, None, Err, IfSome};
+ghost use Rattle.std.specs.Prelude.{◌≡◌, ◌<◌, ◌≤◌, ℕ, List, length, true, None, Err, IfSome};
 ghost use Rattle.audit_check.specs.Reported.{IsUnique};
 ghost use Rattle.hist_model.specs.Legal.{played};
 ghost use Rattle.hist_model.specs.Mediated.{Mediated};
@@ -8,8 +8,10 @@ ghost use Rattle.hist_model.specs.ReportAudit.{judging_by};
 ghost use Rattle.broker_app.specs.Words.{form};
 ghost use Rattle.hist_model.specs.declared.script.Script.{Script};
 ghost use Rattle.std.specs.Option.{option_map};
-ghost use Rattle.broker_app.specs.Forms.{HasFewCalls, IsInRange, form_of, job_of, texts};
-ghost use Rattle.broker_app.specs.Answers.{Answers, GeneratedIsMediated, PlayEnds, Printed, Said, StressEnds, generated_summary, printout_of, status_of, text_of};
+ghost use Rattle.broker_app.specs.Forms.{IsJobInRange, IsInRange, form_of, job_of, texts};
+ghost use Rattle.broker_app.specs.Answers.{Answers, GeneratedIsMediated, Printed, Said, StressEnds, generated_summary, printout_of, status_of, text_of};
+ghost use Rattle.broker_app.specs.Handovers.{handover_report};
+ghost use Rattle.broker_app.specs.Plays.{PlayEnds, report_of};
 ghost use Rattle.broker_app.specs.Checks.{BytesCheckEnds, CheckEnds};
 ghost use Rattle.broker_app.specs.Lines.{line_of};
 ghost use Rattle.broker_app.specs.Runs.{ByLanes, ByWorkers, RunEnds};
@@ -39,12 +41,12 @@ use worker_gate::Gate;
 #[tactic(auto, using(crate::proofs::Ends::printed_whole, crate::proofs::Ends::printed_part))]
 fn print_text<O: Sink>(
     alloc: Global,
-    printout: Printout,
+    printout: Printout<'_>,
     policy: &Policy,
     history: &History,
     out: &mut O,
 ) -> Result<(), Status>
-    ensures { Printed (text_of printout (judging_by policy.now.rules) history.now.events) (O.state out.old) (O.state out.new) result }
+    ensures { Printed (text_of printout.entry (judging_by policy.now.rules) history.now.events) (O.state out.old) (O.state out.new) result }
 {
     print_history(alloc, printout, policy, history, out)?;
     Ok(())
@@ -55,12 +57,12 @@ fn print_text<O: Sink>(
 fn print_played<P: Player, O: Sink>(
     player: &P,
     alloc: Global,
-    printout: Printout,
+    printout: Printout<'_>,
     policy: Policy,
     script: Script,
     out: &mut O,
 ) -> Result<(), Status>
-    ensures { Printed (printout_of printout policy script) (O.state out.old) (O.state out.new) result }
+    ensures { Printed (printout_of printout.entry policy script) (O.state out.old) (O.state out.new) result }
 {
     let played = player.play(alloc, policy, script)?;
     print_text(alloc, printout, &played.policy, &played.history, out)
@@ -122,12 +124,50 @@ fn play_files<P: Player, F: Files, O: Sink>(
     script: &str,
     out: &mut O,
 ) -> Result<(), Status>
-    ensures ends { PlayEnds (F.state files.old) (F.state files.new) (O.state out.old) (O.state out.new) policy.now script.now (status_of result) }
+    ensures ends { PlayEnds (F.state files.old) (F.state files.new) (O.state out.old) (O.state out.new) policy.now script.now report_of (status_of result) }
     ensures absent { (F.state files.old).sound ≡ true → (F.state files.old).bytes policy.now ≡ None → result ≡ Err (ReadFault PolicyFile) }
 {
     let (policy, script) = read_inputs(alloc, files, policy, script)?;
     is_mediated(&policy, &script);
     print_played(player, alloc, Printout::Report, policy, script, out)
+}
+
+/// Plays a script under a policy with workers that are replaced, and prints the report and the ledgers.
+fn print_handed_play<P: Player, O: Sink>(
+    player: &P,
+    alloc: Global,
+    policy: Policy,
+    script: Script,
+    every: u32,
+    out: &mut O,
+) -> Result<(), Status>
+    requires { 0 < every }
+    ensures { Printed (handover_report every policy script) (O.state out.old) (O.state out.new) result }
+{
+    let played = player.play_handing(alloc, policy, script, every)?;
+    let printout = Printout::Handovers {
+        handed: played.handed.as_slice(),
+    };
+    print_text(alloc, printout, &played.policy, &played.history, out)
+}
+
+/// Plays the script in one file under the policy in another with workers that are replaced, and writes the report and the ledgers.
+#[tactic(auto, using(crate::proofs::Ends::play_stops))]
+fn hand_over_files<P: Player, F: Files, O: Sink>(
+    player: &P,
+    alloc: Global,
+    files: &mut F,
+    policy: &str,
+    script: &str,
+    every: u32,
+    out: &mut O,
+) -> Result<(), Status>
+    requires { 0 < every }
+    ensures { PlayEnds (F.state files.old) (F.state files.new) (O.state out.old) (O.state out.new) policy.now script.now (handover_report every) (status_of result) }
+{
+    let (policy, script) = read_inputs(alloc, files, policy, script)?;
+    is_mediated(&policy, &script);
+    print_handed_play(player, alloc, policy, script, every, out)
 }
 
 /// Bytes are the report of one history under a policy at most, and have one fault line at most, and not both.
@@ -187,7 +227,7 @@ fn answer<P: Player, F: Files, O: Sink>(
     files: &mut F,
     out: &mut O,
 ) -> Result<(), Status>
-    requires { IfSome job (λ j. HasFewCalls j) }
+    requires { IfSome job (λ j. IsJobInRange j) }
     ensures { Answers (option_map job_of job.entry) (F.state files.old) (F.state files.new) (O.state out.old) (O.state out.new) (status_of result) }
 {
     match job {
@@ -201,6 +241,13 @@ fn answer<P: Player, F: Files, O: Sink>(
                 report,
             },
         ) => check_files(alloc, files, policy, script, report, out),
+        Some(
+            Job::Handover {
+                policy,
+                script,
+                every,
+            },
+        ) => hand_over_files(player, alloc, files, policy, script, every, out),
     }
 }
 
@@ -301,7 +348,7 @@ pub fn carry_out<P: Player, F: Files, O: Sink, E: Sink>(
     out: &mut O,
     err: &mut E,
 ) -> Status
-    requires { IfSome job (λ j. HasFewCalls j) }
+    requires { IfSome job (λ j. IsJobInRange j) }
     ensures answers { Answers (option_map job_of job.entry) (F.state files.old) (F.state files.new) (O.state out.old) (O.state out.new) result }
     ensures said { Said (E.state err.old) (line_of result) (E.state err.new) }
 {

@@ -126,7 +126,7 @@ fn write_status<E: Sink>(status: &Status, err: &mut E) -> Result<(), Failed>
     match status {
         Status::Done => err.write(b""),
         Status::Usage => err.write(
-            b"usage: play POLICY SCRIPT | run POLICY SCRIPT WORKERS CPUS | stress FROM COUNT | audit-check POLICY SCRIPT REPORT | lanes POLICY SCRIPT CPUS\n",
+            b"usage: play POLICY SCRIPT | run POLICY SCRIPT WORKERS CPUS | stress FROM COUNT | audit-check POLICY SCRIPT REPORT | lanes POLICY SCRIPT CPUS | handover POLICY SCRIPT EVERY\n",
         ),
         Status::ReadFault(file) => write_two(b"read fault: ", file_named(*file), err),
         Status::TooLong(file) => write_two(b"too long: ", file_named(*file), err),

@@ -1,10 +1,14 @@
 //! How a script is played and run: its schedule in turns of the listener's lock, or without a lock; its container by threads.
 
-ghost use Rattle.std.specs.Prelude.{◌≡◌, ◌≤◌, IfOk};
+ghost use Rattle.std.specs.Prelude.{◌≡◌, ◌<◌, ◌≤◌, IfOk};
 ghost use Rattle.hist_model.specs.Legal.{played};
 ghost use Rattle.mediation.specs.Scheduled.{IsUnclosed};
+ghost use Rattle.handover.specs.Handing.{handed};
+ghost use Rattle.handover.specs.Keeping.{all_handed};
 ghost use Rattle.broker_app.specs.Runs.{ByLanes, ClosesBehind, HasEnded};
 
+use handover::{HandedPlay, play_handing};
+use handover_gate::play_handing_in_turns;
 use hist_model::policy::Policy;
 use hist_model::script::Script;
 use lane_gate::{LaneServed, OpenLanes, serve_lanes};
@@ -14,6 +18,7 @@ use std::thread::Threads;
 use sys_abi::memory::NoMemory;
 use turn_lock::TurnLock;
 use worker_gate::{Gate, Played, Served, play, play_schedule, schedule_of, serve_hands};
+use worker_ledger::successor::Heirs;
 
 /// Who plays the schedule of a script.
 pub trait Player {
@@ -22,6 +27,21 @@ pub trait Player {
         ensures events { IfOk result (λ p. p.history.events ≡ played policy script) }
         ensures policy { IfOk result (λ p. p.policy ≡ policy) }
         ensures script { IfOk result (λ p. p.script ≡ script) };
+
+    /// Plays it with workers that are replaced: after each so many of their steps the one that took the last, by turns from its
+    /// ledger before that step and from the one after it.
+    fn play_handing(
+        &self,
+        alloc: Global,
+        policy: Policy,
+        script: Script,
+        every: u32,
+    ) -> Result<HandedPlay, NoMemory>
+        requires { 0 < every }
+        ensures events { IfOk result (λ p. p.history.events ≡ played policy script) }
+        ensures policy { IfOk result (λ p. p.policy ≡ policy) }
+        ensures script { IfOk result (λ p. p.script ≡ script) }
+        ensures handed { IfOk result (λ p. all_handed p.handed.items ≡ handed every (played policy script)) };
 }
 
 /// Plays with no lock, for a caller that may not wait.
@@ -31,6 +51,24 @@ pub struct LoneThread;
 impl Player for LoneThread {
     fn play(&self, alloc: Global, policy: Policy, script: Script) -> Result<Played, NoMemory> {
         play(alloc, policy, script)
+    }
+
+    fn play_handing(
+        &self,
+        alloc: Global,
+        policy: Policy,
+        script: Script,
+        every: u32,
+    ) -> Result<HandedPlay, NoMemory> {
+        let schedule = schedule_of(alloc, &script)?;
+        play_handing(
+            alloc,
+            policy,
+            script,
+            schedule.as_slice(),
+            every,
+            &mut Heirs,
+        )
     }
 }
 
@@ -43,6 +81,17 @@ pub struct TurnTaker<'a, R: Wait> {
 impl<'a, R: Wait> Player for TurnTaker<'a, R> {
     fn play(&self, alloc: Global, policy: Policy, script: Script) -> Result<Played, NoMemory> {
         play_in_turns(self.rt, alloc, policy, script)
+    }
+
+    fn play_handing(
+        &self,
+        alloc: Global,
+        policy: Policy,
+        script: Script,
+        every: u32,
+    ) -> Result<HandedPlay, NoMemory> {
+        let schedule = schedule_of(alloc, &script)?;
+        play_handing_in_turns(self.rt, alloc, policy, script, schedule.as_slice(), every)
     }
 }
 

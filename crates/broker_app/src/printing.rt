@@ -1,9 +1,12 @@
 //! What is printed of a history.
 
-ghost use Rattle.std.specs.Prelude.{◌≡◌, IfOk, OnOk};
+ghost use Rattle.std.specs.Prelude.{◌≡◌, ◌++◌, IfOk, OnOk};
+ghost use Rattle.std.specs.List.{flat_map};
 ghost use Rattle.hist_model.specs.Report.{report, summary};
 ghost use Rattle.hist_model.specs.ReportAudit.{judging_by};
 ghost use Rattle.audit_log.specs.Written.{Wrote};
+ghost use Rattle.handover.specs.Keeping.{all_handed, handed_as};
+ghost use Rattle.broker_app.specs.Handovers.{handovers, handovers_title, ledger_line};
 ghost use Rattle.broker_app.specs.Answers.{text_of};
 ghost use Rattle.broker_app.specs.Findings.{findings, finished_text, yes_line};
 ghost use Rattle.broker_app.specs.Refusals.{Stands};
@@ -14,6 +17,7 @@ use audit_log::journal::write_journal;
 use audit_log::line::Line;
 use audit_log::part::write_line;
 use audit_log::report::{write_rest, write_summary};
+use handover::Handover;
 use hist_model::history::History;
 use hist_model::policy::Policy;
 use io_edge::sink::Sink;
@@ -21,10 +25,12 @@ use std::alloc::Global;
 use sys_abi::memory::NoMemory;
 
 /// What is printed of a history.
-#[derive(Clone, Copy, PartialEq, Eq, Debug)]
-pub(crate) enum Printout {
+#[derive(Clone, Copy)]
+pub(crate) enum Printout<'a> {
     /// The whole report.
     Report,
+    /// The whole report, and the ledgers from which workers were replaced.
+    Handovers { handed: &'a [Handover] },
     /// Only the last line of the report.
     Summary,
     /// What is found of it where a report tells it: whether it is finished, and the trail of its calls.
@@ -93,18 +99,94 @@ fn write_findings<O: Sink>(
     write_trail(alloc, policy, history, out)
 }
 
+/// The line that says how many workers were replaced.
+fn handovers_title(alloc: Global, count: usize) -> Result<Line, NoMemory>
+    ensures { IfOk result (λ line. line ≡ handovers_title count) }
+{
+    let mut line = Line::new(alloc);
+    line.push("handovers ")?;
+    line.push_number(count as u64)?;
+    line.push("\n")?;
+    Ok(line)
+}
+
+/// The line of a ledger from which a worker was replaced.
+fn ledger_line(alloc: Global, handover: &Handover) -> Result<Line, NoMemory>
+    ensures { IfOk result (λ line. line ≡ ledger_line (handed_as handover.now)) }
+{
+    let mut line = Line::new(alloc);
+    line.push("ledger ")?;
+    line.push_number(handover.place as u64)?;
+    line.push(" w")?;
+    line.push_number(u64::from(handover.worker))?;
+    line.push(" ")?;
+    line.push_bytes(handover.ledger.as_slice())?;
+    line.push("\n")?;
+    Ok(line)
+}
+
+/// Writes the line of a ledger from which a worker was replaced.
+fn write_ledger<O: Sink>(alloc: Global, handover: &Handover, out: &mut O) -> Result<(), ReportError>
+    ensures { Wrote (O.state out.old) (ledger_line (handed_as handover.now)) result (O.state out.new) }
+{
+    let line = ledger_line(alloc, handover)?;
+    write_line(&line, out)
+}
+
+/// Writes the lines of the ledgers from which workers were replaced.
+fn write_ledgers<O: Sink>(
+    alloc: Global,
+    handed: &[Handover],
+    out: &mut O,
+) -> Result<(), ReportError>
+    ensures { Wrote (O.state out.old) (flat_map ledger_line (all_handed handed.now)) result (O.state out.new) }
+{
+    for index in 0..handed.len() {
+        write_ledger(alloc, &handed[index], out)?;
+    }
+    Ok(())
+}
+
+/// Writes how many workers were replaced, and the ledgers.
+fn write_handovers<O: Sink>(
+    alloc: Global,
+    handed: &[Handover],
+    out: &mut O,
+) -> Result<(), ReportError>
+    ensures { Wrote (O.state out.old) (handovers (all_handed handed.now)) result (O.state out.new) }
+{
+    let title = handovers_title(alloc, handed.len())?;
+    write_line(&title, out)?;
+    write_ledgers(alloc, handed, out)
+}
+
+/// Writes the report, and the ledgers from which workers were replaced.
+fn write_handed<O: Sink>(
+    alloc: Global,
+    policy: &Policy,
+    history: &History,
+    handed: &[Handover],
+    out: &mut O,
+) -> Result<(), ReportError>
+    ensures { Wrote (O.state out.old) (report (judging_by policy.now.rules) history.now.events ++ handovers (all_handed handed.now)) result (O.state out.new) }
+{
+    write_report(alloc, policy, history, out)?;
+    write_handovers(alloc, handed, out)
+}
+
 /// Writes what is printed.
 fn write_printout<O: Sink>(
     alloc: Global,
-    printout: Printout,
+    printout: Printout<'_>,
     policy: &Policy,
     history: &History,
     out: &mut O,
 ) -> Result<(), ReportError>
-    ensures { Wrote (O.state out.old) (text_of printout (judging_by policy.now.rules) history.now.events) result (O.state out.new) }
+    ensures { Wrote (O.state out.old) (text_of printout.entry (judging_by policy.now.rules) history.now.events) result (O.state out.new) }
 {
     match printout {
         Printout::Report => write_report(alloc, policy, history, out),
+        Printout::Handovers { handed } => write_handed(alloc, policy, history, handed, out),
         Printout::Summary => write_summary(alloc, policy, history, out),
         Printout::Findings { finished } => write_findings(alloc, policy, history, finished, out),
     }
@@ -114,12 +196,12 @@ fn write_printout<O: Sink>(
 #[tactic(auto, using(crate::proofs::Ends::flushed))]
 pub(crate) fn print_history<O: Sink>(
     alloc: Global,
-    printout: Printout,
+    printout: Printout<'_>,
     policy: &Policy,
     history: &History,
     out: &mut O,
 ) -> Result<(), ReportError>
-    ensures wrote { Wrote (O.state out.old) (text_of printout (judging_by policy.now.rules) history.now.events) result (O.state out.new) }
+    ensures wrote { Wrote (O.state out.old) (text_of printout.entry (judging_by policy.now.rules) history.now.events) result (O.state out.new) }
     ensures stands { OnOk result (Stands (O.state out.new)) }
 {
     write_printout(alloc, printout, policy, history, out)?;

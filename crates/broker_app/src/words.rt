@@ -2,7 +2,7 @@
 
 ghost use Rattle.std.specs.Prelude.{◌≡◌, ◌^◌, ◌-◌, map, IfSome};
 ghost use Rattle.std.specs.Option.{option_map};
-ghost use Rattle.broker_app.specs.Words.{run_form, lanes_form, stress_form, three_words, four_words, five_words, form};
+ghost use Rattle.broker_app.specs.Words.{run_form, lanes_form, handover_form, stress_form, three_words, four_words, five_words, form};
 ghost use Rattle.hist_model.specs.Words.{number_between};
 ghost use Rattle.broker_app.specs.Forms.{IsInRange, form_of, texts};
 
@@ -26,6 +26,13 @@ pub enum Job<'a> {
         policy: &'a str,
         script: &'a str,
         report: &'a str,
+    },
+    /// Play the schedule of a script, and replace the worker that took the last step after each so many steps of workers, 1 to
+    /// 200,000: the names of the policy's and the script's files.
+    Handover {
+        policy: &'a str,
+        script: &'a str,
+        every: u32,
     },
 }
 
@@ -76,6 +83,18 @@ fn lanes_form<'a>(policy: &'a str, script: &'a str, cpus: &str) -> Option<Form<'
     })
 }
 
+fn handover_form<'a>(policy: &'a str, script: &'a str, every: &str) -> Option<Form<'a>>
+    ensures meant { option_map form_of result ≡ handover_form policy.now script.now (number_between 1 200000 every.now) }
+    ensures range { IfSome result (λ f. IsInRange f) }
+{
+    let every = number_between(every.as_bytes(), 1, 200_000)?;
+    Some(Form::Job(Job::Handover {
+        policy,
+        script,
+        every: every as u32,
+    }))
+}
+
 fn stress_form<'a>(from: &str, count: &str) -> Option<Form<'a>>
     ensures meant { option_map form_of result ≡ stress_form (number_between 0 (2 ^ 64 - 1) from.now) (number_between 1 4000 count.now) }
     ensures range { IfSome result (λ f. IsInRange f) }
@@ -116,6 +135,8 @@ fn four_words<'a>(command: &str, a: &'a str, b: &'a str, c: &'a str) -> Option<F
         }))
     } else if command.as_bytes() == b"lanes".as_slice() {
         lanes_form(a, b, c)
+    } else if command.as_bytes() == b"handover".as_slice() {
+        handover_form(a, b, c)
     } else {
         None
     }

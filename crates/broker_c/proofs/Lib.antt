@@ -1,8 +1,10 @@
 pub mod Prefixes
 pub mod Settled
+pub mod Ranges
 pub mod Inputs
 pub mod PlayEnded
 pub mod CheckEnded
 pub mod StressEnded
+pub mod HandoverEnded
 pub mod Lines
 pub mod Told

@@ -2,7 +2,7 @@
 -- By cases on the status.
 use Rattle.std.proofs.Common.{◌≡◌, ℕ, ◌≤◌, Bool, true, false, ◌&&◌, List, [], length, inl, inr, refl, sym, subst, arith, Option, None, Some}
 use Rattle.std.specs.Prelude.{nat_le, nat_lt, if◌then◌else◌}
-use Rattle.std.proofs.lemmas.Bool.{and_parts, leb-true, ltb-true, ltb-false}
+use Rattle.std.proofs.lemmas.Bool.{ltb-true, ltb-false}
 use Rattle.io_edge.specs.FileState.{FileState}
 use Rattle.io_edge.specs.SinkState.{SinkState}
 use Rattle.broker_app.specs.Words.{Form, Stress}
@@ -10,6 +10,7 @@ use Rattle.broker_app.specs.Answers.{Answers, IsUsage, StressEnds}
 use Rattle.broker_app.specs.declared.status.Status.{Status}
 use Rattle.broker_app.specs.declared.status.Status.TheVariants.{Done, Usage, WriteFault, NoMemory}
 use Rattle.broker_c.proofs.Prefixes.{adds_whole}
+use Rattle.broker_c.proofs.Ranges.{in_range, out_of_range}
 use Rattle.broker_c.specs.Held.{empty_sink}
 use Rattle.broker_c.specs.Outcomes.{BeginsSummary, IsCount, StressGives, settled}
 
@@ -47,13 +48,6 @@ uncounted from count room false true new Usage is counts usage nothing = inl not
 uncounted from count room false false new Usage is counts usage nothing = (counts, nothing)
 uncounted from count room over failed new status is counts usage nothing = absurd usage
 
--- the count is in range where its tests say so
-tested : (count : ℕ) → (nat_le 1 count && nat_le count 4000) ≡ true → IsCount count
-tested count is = let both = and_parts (nat_le 1 count) (nat_le count 4000) is in (leb-true 1 count both.0, leb-true count 4000 both.1)
-
-refused : (count : ℕ) → (nat_le 1 count && nat_le count 4000) ≡ false → ¬ (IsCount count)
-refused count is = λ counts. grind arith
-
 -- the form that asks for so many calls, if there can be so many
 abbrev form_of : ℕ → ℕ → Option Form
 form_of from count = if nat_le 1 count && nat_le count 4000 then Some (Stress from count) else None
@@ -65,8 +59,8 @@ by_count from count room failed files after new status answers = by (nat_le 1 co
   where
     by : (within : Bool) → (nat_le 1 count && nat_le count 4000) ≡ within → Answers (if within then Some (Stress from count) else None) files after empty_sink new status
         → StressGives from count room new.taken (settled (nat_lt room (length new.taken)) failed status)
-    by true is e = counted from count room failed new status (tested count is) e
-    by false is e = uncounted from count room (nat_lt room (length new.taken)) failed new status refl (refused count is) e.0 (e.1 refl)
+    by true is e = counted from count room failed new status (in_range 4000 count is) e
+    by false is e = uncounted from count room (nat_lt room (length new.taken)) failed new status refl (out_of_range 4000 count is) e.0 (e.1 refl)
 
 -- what the play of generated input gave
 pub stress_gives : (from count room : ℕ) (printed : List ℕ) (failed : Bool) (form : Option Form) (files after : FileState) (old new : SinkState) (ended status : Status)

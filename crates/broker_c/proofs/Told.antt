@@ -1,14 +1,16 @@
 -- What a caller reads of a buffer where the status is 0.
 -- By the lengths of lists, since the text fits.
-use Rattle.std.proofs.Common.{◌≡◌, ℕ, ◌≤◌, Bool, true, false, List, ◌++◌, length, take, drop, ◌∙◌, refl, sym, subst, arith}
+use Rattle.std.proofs.Common.{◌≡◌, ℕ, ◌≤◌, Bool, true, false, List, ◌++◌, length, take, drop, ◌∙◌, ap, refl, sym, subst, arith}
 use Rattle.std.specs.Prelude.{nat_lt}
 use Rattle.std.proofs.lemmas.Bool.{ltb-false}
 use Rattle.std.proofs.lemmas.List.{take_all}
 use Rattle.std.proofs.lemmas.Grind.{common_steps}
+use Rattle.broker_app.specs.Handovers.{handover_report}
+use Rattle.broker_app.specs.Plays.{Printing}
 use Rattle.broker_app.specs.declared.status.Status.{Status}
 use Rattle.broker_app.specs.declared.status.Status.TheVariants.{Done, ReadFault}
 use Rattle.broker_c.specs.Buffers.{Holds, number_of}
-use Rattle.broker_c.specs.Outcomes.{CheckGives, IsFindings, IsReport, IsSummary, PlayGives, StressGives}
+use Rattle.broker_c.specs.Outcomes.{CheckGives, HandoverGives, IsFindings, IsHandover, IsPlay, IsSummary, PlayGives, StressGives}
 
 -- a text that fits is read back
 read_back : (text old new : List ℕ) (told : ℕ) → length text ≤ length old → Holds text old new told → take told new ≡ text
@@ -27,13 +29,13 @@ number-0 Done text size is = by (nat_lt size text) refl
 number-0 (ReadFault file) text size is = cc
 number-0 status text size is = cc
 
--- a report is read where the number is 0
-pub report_told : (policy script : List ℕ) (room : ℕ) (status : Status) (printed old new : List ℕ) (told number : ℕ) → PlayGives policy script room printed status
-    → number ≡ number_of status (length printed) (length old) → Holds printed old new told → number ≡ 0 → IsReport policy script (take told new)
-report_told policy script room status printed old new told number gives is held zero =
+-- what a play prints is read where the number is 0
+pub play_told : (text : Printing) (policy script : List ℕ) (room : ℕ) (status : Status) (printed old new : List ℕ) (told number : ℕ) → PlayGives text policy script room printed status
+    → number ≡ number_of status (length printed) (length old) → Holds printed old new told → number ≡ 0 → IsPlay text policy script (take told new)
+play_told text policy script room status printed old new told number gives is held zero =
     let fits = number-0 status (length printed) (length old) (sym is ∙ zero) in
-    let whole : PlayGives policy script room printed Done = subst (λ s. PlayGives policy script room printed s) fits.0 gives in
-    subst (λ text. IsReport policy script text) (sym (read_back printed old new told fits.1 held)) whole.0
+    let whole : PlayGives text policy script room printed Done = subst (λ s. PlayGives text policy script room printed s) fits.0 gives in
+    subst (λ bytes. IsPlay text policy script bytes) (sym (read_back printed old new told fits.1 held)) whole.0
 
 -- and what was found of a report
 pub findings_told : (policy script report : List ℕ) (room : ℕ) (status : Status) (printed old new : List ℕ) (told number : ℕ) → CheckGives policy script report room printed status
@@ -50,3 +52,11 @@ summary_told from count room status printed old new told number gives is held ze
     let fits = number-0 status (length printed) (length old) (sym is ∙ zero) in
     let whole : StressGives from count room printed Done = subst (λ s. StressGives from count room printed s) fits.0 gives in
     subst (λ text. IsSummary from count text) (sym (read_back printed old new told fits.1 held)) whole.1
+
+-- and a report with the ledgers behind it
+pub handover_told : (policy script : List ℕ) (every room : ℕ) (status : Status) (printed old new : List ℕ) (told number : ℕ) → HandoverGives policy script every room printed status
+    → number ≡ number_of status (length printed) (length old) → Holds printed old new told → number ≡ 0 → IsHandover policy script every (take told new)
+handover_told policy script every room status printed old new told number gives is held zero =
+    let fits = number-0 status (length printed) (length old) (sym is ∙ zero) in
+    let whole : HandoverGives policy script every room printed Done = subst (λ s. HandoverGives policy script every room printed s) fits.0 gives in
+    play_told (handover_report every) policy script room Done printed old new told 0 whole.1 (sym zero ∙ (is ∙ ap (λ s. number_of s (length printed) (length old)) fits.0)) held refl

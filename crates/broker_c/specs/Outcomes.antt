@@ -11,11 +11,13 @@ use Rattle.policy_reader.specs.Policies.{policy as policy_of}
 use Rattle.policy_reader.specs.declared.error.PolicyError.{PolicyError}
 use Rattle.script_reader.specs.Scripts.{script as script_of}
 use Rattle.script_reader.specs.declared.error.ScriptError.{ScriptError}
-use Rattle.broker_app.specs.Answers.{GeneratedIsMediated, generated_summary, report_of}
+use Rattle.broker_app.specs.Answers.{GeneratedIsMediated, generated_summary}
 use Rattle.broker_app.specs.Checks.{IsFound, IsNotFound}
 use Rattle.broker_app.specs.Findings.{findings}
+use Rattle.broker_app.specs.Handovers.{handover_report}
 use Rattle.broker_app.specs.Inputs.{ReadsAs, policy_limit, report_limit, script_limit}
 use Rattle.broker_app.specs.Lines.{line_of}
+use Rattle.broker_app.specs.Plays.{Printing, report_of}
 use Rattle.broker_app.specs.declared.status.InputFile.TheVariants.{Policy as PolicyFile, Script as ScriptFile, Report as ReportFile}
 use Rattle.broker_app.specs.declared.status.Status.{Status}
 use Rattle.broker_app.specs.declared.status.Status.TheVariants.{Done, Usage, TooLong, BadPolicy, BadScript, WriteFault, NoMemory, NotReport}
@@ -50,13 +52,21 @@ pub record AreGiven (policy script : List ℕ) (P : Policy) (S : Script) : Type 
 
 -- ---- What was printed
 
--- the report of the history that the policy and the script of the bytes play
-abbrev pub IsReport : List ℕ → List ℕ → List ℕ → Type 0
-IsReport policy script printed = (P : Policy) × (S : Script) × AreGiven policy script P S × (printed ≡ report_of P S)
+-- what is printed of what the policy and the script of the bytes play
+abbrev pub IsPlay : Printing → List ℕ → List ℕ → List ℕ → Type 0
+IsPlay text policy script printed = (P : Policy) × (S : Script) × AreGiven policy script P S × (printed ≡ text P S)
 
 -- a prefix of it
-abbrev pub BeginsReport : List ℕ → List ℕ → List ℕ → Type 0
-BeginsReport policy script printed = (P : Policy) × (S : Script) × AreGiven policy script P S × AddsPrefix [] (report_of P S) printed
+abbrev pub BeginsPlay : Printing → List ℕ → List ℕ → List ℕ → Type 0
+BeginsPlay text policy script printed = (P : Policy) × (S : Script) × AreGiven policy script P S × AddsPrefix [] (text P S) printed
+
+-- the report of the history that they play
+abbrev pub IsReport : List ℕ → List ℕ → List ℕ → Type 0
+IsReport policy script printed = IsPlay report_of policy script printed
+
+-- that report, and the ledgers from which workers are replaced after each so many of their steps
+abbrev pub IsHandover : List ℕ → List ℕ → ℕ → List ℕ → Type 0
+IsHandover policy script every printed = IsPlay (handover_report every) policy script printed
 
 -- what is found of the history that the bytes of a report tell
 abbrev pub IsFindings : List ℕ → List ℕ → List ℕ → List ℕ → Type 0
@@ -92,12 +102,22 @@ InputGives policy script printed (BadScript error) = IsPolicy policy × ScriptRe
 InputGives policy script printed NoMemory = printed ≡ []
 InputGives policy script printed _ = ⊥
 
--- how the play of a policy's and a script's bytes ended, with room for so many bytes of a report
-abbrev pub PlayGives : List ℕ → List ℕ → ℕ → List ℕ → Status → Type 0
-PlayGives policy script room printed Done = IsReport policy script printed × (length printed ≤ room)
-PlayGives policy script room printed WriteFault = BeginsReport policy script printed × (room < length printed)
-PlayGives policy script room printed NoMemory = (printed ≡ []) ⊎ BeginsReport policy script printed
-PlayGives policy script room printed status = InputGives policy script printed status
+-- how the play of a policy's and a script's bytes ended, with room for so many bytes of what is printed
+abbrev pub PlayGives : Printing → List ℕ → List ℕ → ℕ → List ℕ → Status → Type 0
+PlayGives text policy script room printed Done = IsPlay text policy script printed × (length printed ≤ room)
+PlayGives text policy script room printed WriteFault = BeginsPlay text policy script printed × (room < length printed)
+PlayGives text policy script room printed NoMemory = (printed ≡ []) ⊎ BeginsPlay text policy script printed
+PlayGives text policy script room printed status = InputGives policy script printed status
+
+-- workers are replaced after 1 to 200000 steps
+abbrev pub IsEvery : ℕ → Type 0
+IsEvery every = (1 ≤ every) × (every ≤ 200000)
+
+-- and how it ended where workers were replaced: usage where they can't be after so many steps
+abbrev pub HandoverGives : List ℕ → List ℕ → ℕ → ℕ → List ℕ → Status → Type 0
+HandoverGives policy script every room printed Usage = ¬ (IsEvery every) × (printed ≡ [])
+HandoverGives policy script every room printed NoMemory = PlayGives (handover_report every) policy script room printed NoMemory
+HandoverGives policy script every room printed status = IsEvery every × PlayGives (handover_report every) policy script room printed status
 
 -- how the check of a report's bytes ended, with room for so many bytes of what is found
 abbrev pub CheckGives : List ℕ → List ℕ → List ℕ → ℕ → List ℕ → Status → Type 0

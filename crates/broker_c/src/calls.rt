@@ -2,10 +2,11 @@
 
 ghost use Rattle.std.specs.Prelude.{◌≡◌, length, min, take};
 ghost use Rattle.broker_app.specs.Lines.{line_of};
+ghost use Rattle.broker_app.specs.Plays.{report_of};
 ghost use Rattle.broker_c.specs.Buffers.{Holds, Tells, number_of};
-ghost use Rattle.broker_c.specs.Outcomes.{CheckGives, IsFindings, IsReport, IsSummary, PlayGives, Says, StressGives};
+ghost use Rattle.broker_c.specs.Outcomes.{CheckGives, HandoverGives, IsFindings, IsHandover, IsReport, IsSummary, PlayGives, Says, StressGives};
 
-use crate::outcome::{Outcome, check, play, stress};
+use crate::outcome::{Outcome, check, play, play_handing, stress};
 use broker_app::status::Status;
 use std::alloc::Global;
 
@@ -78,7 +79,7 @@ pub extern "C" fn broker_play(
     line_length: &mut usize,
 ) -> u32
     ensures done { result ≡ 0 → IsReport policy.now script.now (take out_length.new out.new) }
-    ensures tells { Tells (PlayGives policy.now script.now (min room ROOM_LIMIT)) result out.old out.new out_length.new line.old line.new line_length.new }
+    ensures tells { Tells (PlayGives report_of policy.now script.now (min room ROOM_LIMIT)) result out.old out.new out_length.new line.old line.new line_length.new }
 {
     let outcome = play(alloc, policy, script, room.min(ROOM_LIMIT));
     tell(&outcome, out, out_length, line, line_length)
@@ -121,5 +122,26 @@ pub extern "C" fn broker_audit_check(
     ensures tells { Tells (CheckGives policy.now script.now report.now (min room ROOM_LIMIT)) result out.old out.new out_length.new line.old line.new line_length.new }
 {
     let outcome = check(alloc, policy, script, report, room.min(ROOM_LIMIT));
+    tell(&outcome, out, out_length, line, line_length)
+}
+
+/// Plays a script under a policy with workers that are replaced, as `handover POLICY SCRIPT EVERY` does, and tells the report, the
+/// ledgers and its line.
+#[unsafe(no_mangle)]
+pub extern "C" fn broker_handover(
+    alloc: Global,
+    policy: &[u8],
+    script: &[u8],
+    every: u32,
+    room: usize,
+    out: &mut [u8],
+    out_length: &mut usize,
+    line: &mut [u8],
+    line_length: &mut usize,
+) -> u32
+    ensures done { result ≡ 0 → IsHandover policy.now script.now every (take out_length.new out.new) }
+    ensures tells { Tells (HandoverGives policy.now script.now every (min room ROOM_LIMIT)) result out.old out.new out_length.new line.old line.new line_length.new }
+{
+    let outcome = play_handing(alloc, policy, script, every, room.min(ROOM_LIMIT));
     tell(&outcome, out, out_length, line, line_length)
 }

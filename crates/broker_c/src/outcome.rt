@@ -1,13 +1,14 @@
 //! The outcome of a call of the library.
 
-ghost use Rattle.std.specs.Prelude.{◌≡◌, ◌^◌, ◌<◌, ◌&&◌, length, nat_le, nat_lt, Some, None, if◌then◌else◌};
+ghost use Rattle.std.specs.Prelude.{◌≡◌, ◌^◌, ◌<◌, ◌&&◌, codes, length, nat_le, nat_lt, Some, None, if◌then◌else◌};
 ghost use Rattle.std.specs.Option.{ForSome, option_map};
-ghost use Rattle.broker_app.specs.Words.{Stress};
+ghost use Rattle.broker_app.specs.Words.{Handover, Stress};
 ghost use Rattle.broker_app.specs.Answers.{Said};
-ghost use Rattle.broker_app.specs.Forms.{HasFewCalls, job_of};
+ghost use Rattle.broker_app.specs.Forms.{IsJobInRange, job_of};
 ghost use Rattle.broker_app.specs.Lines.{line_of};
+ghost use Rattle.broker_app.specs.Plays.{report_of};
 ghost use Rattle.broker_c.specs.Held.{empty_sink};
-ghost use Rattle.broker_c.specs.Outcomes.{CheckGives, PlayGives, Says, StressGives, settled};
+ghost use Rattle.broker_c.specs.Outcomes.{CheckGives, HandoverGives, PlayGives, Says, StressGives, settled};
 
 use crate::given::{GivenFiles, POLICY, REPORT, SCRIPT};
 use crate::held::HeldBytes;
@@ -62,7 +63,7 @@ fn outcome_of(status: Status, room: usize, out: HeldBytes, err: HeldBytes) -> Ou
 /// Plays a script under a policy, with room for so many bytes of a report.
 pub(crate) fn play(alloc: Global, policy: &[u8], script: &[u8], room: usize) -> Outcome
     requires { room < 2 ^ 63 }
-    ensures gives { PlayGives policy.now script.now room result.printed.items result.status }
+    ensures gives { PlayGives report_of policy.now script.now room result.printed.items result.status }
     ensures says { Says result.status result.said.items }
 {
     let mut files = GivenFiles::new(policy, script, &[]);
@@ -134,10 +135,52 @@ pub(crate) fn stress(alloc: Global, from: u64, count: u32, room: usize) -> Outco
     outcome_of(status, room, out, err)
 }
 
+/// Plays a script under a policy with workers that are replaced, with room for so many bytes of the report and the ledgers.
+pub(crate) fn play_handing(
+    alloc: Global,
+    policy: &[u8],
+    script: &[u8],
+    every: u32,
+    room: usize,
+) -> Outcome
+    requires { room < 2 ^ 63 }
+    ensures gives { HandoverGives policy.now script.now every room result.printed.items result.status }
+    ensures says { Says result.status result.said.items }
+{
+    let mut files = GivenFiles::new(policy, script, &[]);
+    let mut out = HeldBytes::new(alloc, room + 1);
+    let mut err = HeldBytes::new(alloc, LINE_ROOM);
+    let status = carry_out(
+        &LoneThread,
+        alloc,
+        handover_job(every),
+        &mut files,
+        &mut out,
+        &mut err,
+    );
+    outcome_of(status, room, out, err)
+}
+
+/// The job that asks for workers that are replaced after each so many of their steps, if they can be.
+fn handover_job<'a>(every: u32) -> Option<Job<'a>>
+    ensures meant { option_map job_of result ≡ (if nat_le 1 every && nat_le every 200000 then Some (Handover (codes "policy") (codes "script") every) else None) }
+    ensures few { ForSome result IsJobInRange }
+{
+    if (1..=200_000).contains(&every) {
+        Some(Job::Handover {
+            policy: POLICY,
+            script: SCRIPT,
+            every,
+        })
+    } else {
+        None
+    }
+}
+
 /// The job that asks for generated input of so many calls, if it can have so many.
 fn stress_job<'a>(from: u64, count: u32) -> Option<Job<'a>>
     ensures meant { option_map job_of result ≡ (if nat_le 1 count && nat_le count 4000 then Some (Stress from count) else None) }
-    ensures few { ForSome result HasFewCalls }
+    ensures few { ForSome result IsJobInRange }
 {
     if (1..=4000).contains(&count) {
         Some(Job::Stress { from, count })
