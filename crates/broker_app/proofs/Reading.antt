@@ -1,6 +1,6 @@
 -- What the bytes of a file are read as, where the file told them, and why there are none; the same of files that others were read before.
 -- By the equation that says which bytes they are, since no reading changes files, and by cases on the status.
-use Rattle.std.proofs.Common.{◌≡◌, ℕ, ◌<◌, List, length, Option, Result, Ok, Err, true, ◌∙◌, ap, sym, subst}
+use Rattle.std.proofs.Common.{◌≡◌, ℕ, ◌<◌, List, length, Option, Result, Ok, Err, ◌∙◌, ap, sym, subst}
 use Rattle.std.specs.Prelude.{IsSomeAnd}
 use Rattle.hist_model.specs.declared.policy.Policy.{Policy}
 use Rattle.hist_model.specs.declared.script.Script.{Script}

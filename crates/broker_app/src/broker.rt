@@ -133,7 +133,6 @@ fn play_files<P: Player, F: Files, O: Sink>(
 }
 
 /// Plays a script under a policy with workers that are replaced, and prints the report and the ledgers.
-#[tactic(auto, using(crate::proofs::Ends::ends_unplayed))]
 fn print_handed_play<P: Player, O: Sink>(
     player: &P,
     alloc: Global,

@@ -1,13 +1,20 @@
--- The report and the ledgers are those of the history that is played.
-use Rattle.std.proofs.Common.{List, subst, ◌++◌}
+-- The report and the ledgers are those of the history that is played, or nothing was, for want of memory.
+use Rattle.std.proofs.Common.{rules, ◌≡◌, List, subst, ◌++◌, Err}
 use Rattle.handover.specs.Keeping.{all_handed}
 use Rattle.handover.specs.declared.ledgers.Handover.{Handover}
 use Rattle.hist_model.specs.Report.{report}
 use Rattle.hist_model.specs.ReportAudit.{judging_by}
+use Rattle.broker_app.proofs.Ends.{ends_unplayed}
 use Rattle.broker_app.proofs.Handovers.{ends_handed}
 use Rattle.broker_app.specs.Answers.{Printed}
-use Rattle.broker_app.specs.Handovers.{handovers}
+use Rattle.broker_app.specs.Handovers.{handover_report, handovers}
+use Rattle.broker_app.specs.declared.status.Status.TheVariants.{NoMemory}
 use Rattle.broker_app.proofs.broker.print_handed_play.Goals as goal
+
+pub returns-in_err-played : goal.returns-in_err-played
+returns-in_err-played g c =
+    let unplayed : c.from_residual.result ≡ Err NoMemory = search rules in
+    rw unplayed (ends_unplayed (handover_report c.args.every c.args.policy c.args.script) (g.O.Sink.state c.args.out.now))
 
 pub returns : goal.returns
 returns g c =

@@ -1,6 +1,6 @@
 -- The journal is written, and then what stands behind it: by what is written one text after another, and the grouping of texts.
 use Rattle.std.proofs.Common.{rules, ◌≡◌, ℕ, List, ◌++◌, Err, append_assoc, subst}
-use Rattle.hist_model.specs.Report.{report, summary}
+use Rattle.hist_model.specs.Report.{summary}
 use Rattle.hist_model.specs.ReportAudit.{audit, judging_by}
 use Rattle.hist_model.specs.ReportCalls.{calls}
 use Rattle.hist_model.specs.ReportJournal.{journal}
