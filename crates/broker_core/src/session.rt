@@ -73,7 +73,7 @@ fn cloexec_of(request: &Request) -> u32
     ensures { result ≡ cloexec_of request.now }
 {
     match request {
-        Request::OpenAt { flags, .. } => *flags / O_CLOEXEC % 2 * O_CLOEXEC,
+        Request::OpenAt { flags, .. } => *flags & O_CLOEXEC,
         _ => 0,
     }
 }

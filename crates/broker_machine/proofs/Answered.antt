@@ -1,6 +1,6 @@
 -- What the kernel answers a deed, and what a worker that takes the answer remembers then.
 -- By cases on whether there is an answer yet, and by `Fitting`, since the deed is that of the session which the worker remembers.
-use Rattle.std.proofs.Common.{◌≡◌, ℕ, Bool, true, false, List, ◌∷◌, refl, sym, ◌∙◌}
+use Rattle.std.proofs.Common.{◌≡◌, ℕ, Bool, true, false, List, ◌∷◌, refl, sym, ap, ◌∙◌}
 use Rattle.std.specs.Prelude.{not, Result, Ok, Err}
 use Rattle.std.specs.Result.{result_and}
 use Rattle.std.proofs.lemmas.Bool.{eq-eqb}
@@ -44,6 +44,10 @@ newest-read n addr len bytes K = rw (eq-eqb n n refl) refl
 abbrev read-result : Result (List ℕ) ℕ → Result (Unit {0}) ℕ
 read-result r = result_and r (Ok tt)
 
+-- an error is no success
+error-is-none : (e : ℕ) (r : Result (Unit {0}) ℕ) → r ≡ Err e → r ≡ Ok tt → ⊥
+error-is-none e r failed done = let no = sym failed ∙ done in cc
+
 module _ (old new : Kernel) (n : ℕ) (d : Deed) where
   -- a deed that was done, and has an answer
   pub answered : (a : Answer) → is_not_yet a ≡ false → a ≡ answer_of (deed_step (system old) (past old) n d) → DoesDeed old n d new → IsAnswered old n d a new
@@ -60,9 +64,11 @@ module _ (old new : Kernel) (n : ℕ) (d : Deed) where
     where
       by : (r : Result (List ℕ) ℕ) → read_answer (system old) (past old) (mem (past old) n) addr len ≡ r → IsAnswered old n d (Bytes (last_read n (past new))) new
       by (Ok bytes) q =
-          let read : last_read n (past new) ≡ bytes = rw (does.events, is, q) (newest-read n addr len bytes (past old)) in
-          answered (Bytes _) refl (rw (is, q, read) refl) does
-      by (Err e) q = let no = rw q at ok in cc
+          let step : deed_step (system old) (past old) n d ≡ Read addr len (Ok bytes) = ap (deed_step (system old) (past old) n) is ∙ ap (Read addr len) q in
+          let read : last_read n (past new) ≡ bytes =
+          ap (last_read n) does.events ∙ ap (λ w. last_read n (ev (WorkerActor n) w ∷ past old)) step ∙ newest-read n addr len bytes (past old) in
+          answered (Bytes (last_read n (past new))) refl (ap Bytes read ∙ sym (ap answer_of step)) does
+      by (Err e) q = absurd (error-is-none e _ (ap read-result q) ok)
 
   -- one that waits
   pub not-yet : deed_step (system old) (past old) n d ≡ Skip → IsSame old new → IsAnswered old n d NotYet new

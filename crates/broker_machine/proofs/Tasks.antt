@@ -10,7 +10,7 @@ use Rattle.hist_model.specs.declared.event.Actor.{Actor}
 use Rattle.hist_model.specs.declared.event.Actor.TheVariants.{Task}
 use Rattle.hist_model.specs.declared.event.Event.{Event}
 use Rattle.hist_model.specs.declared.event.What.TheVariants.{Skip}
-use Rattle.task_names.proofs.Named.{made-least, made-same-name, name-kept}
+use Rattle.tasks.proofs.Named.{made-least, made-same-name, name-kept}
 use Rattle.broker_machine.specs.Serving.{IsFound}
 
 -- a task that was not made can't step

@@ -62,6 +62,13 @@ impl Resources {
         })
     }
 
+    /// The listener.
+    pub fn listener(&self) -> &Listener
+        ensures { result.now ≡ self.now.listener }
+    {
+        &self.listener
+    }
+
     /// Makes the group of the first task.
     pub fn first(self) -> Result<Resources, NoMemory>
         ensures { IfOk result (λ r. (S : ScriptData) (K : List Event) (living : ℕ → ℕ) (e : Event) → StandsFor S K living self → IsFresh e → StandsFor S (e ∷ K) (one_more living (groups_made K)) r) }

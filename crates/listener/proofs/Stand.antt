@@ -31,8 +31,8 @@ use Rattle.listener.specs.Fold.{Looks, ask_at, ask_places, asks as asks_of, plac
 use Rattle.listener.specs.Listeners.{is_over, put_admission, taken, taken_from, view, was_fetched, with_sent, back_of}
 use Rattle.listener.specs.Requests.{has_request, is_of}
 use Rattle.listener.specs.Sound.{AreAsked, IdsDiffer, IsSound, IsStep, Puts}
-use Rattle.listener.specs.Stands.{AreNames, IsEntry, IsInstall, IsLeaving, IsListedAs, IsNext, IsOther, IsOtherStep, IsOutside, IsSettledBy, StandsFor, oldest_in, take_of}
-use Rattle.listener.specs.State.{Row, State, after, after_leave, after_step, far_in, has_id, lists_none, no_rows, oldest, queue as asks_for, result_reply, row_named, row_of, with_entered, with_told, without_ask, without_call, without_calls}
+use Rattle.listener.specs.Stands.{AreNames, IsCaller, IsEntry, IsInstall, IsLeaving, IsListedAs, IsNext, IsOther, IsOtherStep, IsOutside, IsSettledBy, StandsFor, oldest_in, take_of}
+use Rattle.listener.specs.State.{Row, State, after, after_leave, after_step, far_in, has_id, lists_none, no_rows, oldest, queue as asks_for, result_reply, row_named, row_of, task_in, with_entered, with_told, without_ask, without_call, without_calls}
 use Rattle.listener.specs.Table.{IsReceived, reply_in}
 use Rattle.listener.specs.declared.listener.Listener.{Listener}
 use Rattle.listener.specs.declared.requests.Request.{Request}
@@ -224,6 +224,26 @@ module _ (first : ℕ) (K : List Event) (L : Listener) (S : StandsFor first K L)
             made = made-by K f.owner.ordinal (caller K c) own;
             owner_is = own (task_name_of K) (λ o l. refl);
           }
+
+  -- the task in the call that an id names, by its name whatever the tasks are called that weren't made
+  call-of : (x : ℕ) (o : Option ℕ) → ((names : ℕ → Name) → option_map names o ≡ task_in (row_named x (view L names))) → (names : ℕ → Name) → AreNames K names → option_map names o ≡ task_in (option_map (row_at K) (named K x))
+  call-of x o h names n = h names ∙ ap task_in (named-is first K (view L names) (S.looks names n) x)
+
+  pub caller-is : (x o : ℕ) → ((names : ℕ → Name) → option_map names (Some o) ≡ task_in (row_named x (view L names))) → IsCaller K x o
+  caller-is x o h = by (named K x) refl
+    where
+      by : (p : Option ℕ) → named K x ≡ p → IsCaller K x o
+      by None q = let z : Some (task_name_of K o) ≡ None = call-of x (Some o) h (task_name_of K) (λ o l. refl) ∙ ap (λ p. task_in (option_map (row_at K) p)) q in cc
+      by (Some c) q =
+          let own : (names : ℕ → Name) → AreNames K names → names o ≡ caller K c = λ names n. let z : Some (names o) ≡ Some (caller K c) = call-of x (Some o) h names n ∙ ap (λ p. task_in (option_map (row_at K) p)) q in cc in
+          record { place = c; named_is = q; made = made-by K o (caller K c) own; name_is = own (task_name_of K) (λ o l. refl) }
+
+  pub no-caller : (x : ℕ) → ((names : ℕ → Name) → option_map names None ≡ task_in (row_named x (view L names))) → named K x ≡ None
+  no-caller x h = by (named K x) (call-of x None h (task_name_of K) (λ o l. refl))
+    where
+      by : (p : Option ℕ) → option_map (task_name_of K) None ≡ task_in (option_map (row_at K) p) → p ≡ None
+      by None q = refl
+      by (Some c) q = cc
 
   pub gone-is : oldest (view L (task_name_of K)) ≡ None → oldest_unfetched K ≡ None
   gone-is h = by (oldest_unfetched K) (sym h ∙ oldest-is first K (view L (task_name_of K)) looks)

@@ -2,7 +2,7 @@
 use Rattle.std.specs.Prelude.{◌≡◌, ℕ, ◌<◌, true, false, List, [], ◌∷◌, Option, Some, None, Result, Ok, Err, ℤ}
 use Rattle.hist_model.specs.Look.{Name, event_at}
 use Rattle.hist_model.specs.Kinds.{leaves}
-use Rattle.hist_model.specs.Calls.{listed, caller, id, settled, queue}
+use Rattle.hist_model.specs.Calls.{listed, caller, id, named, settled, queue}
 use Rattle.hist_model.specs.Files.{asked_in}
 use Rattle.hist_model.specs.Signals.{call_of}
 use Rattle.hist_model.specs.Steps.{reply, oldest_unfetched}
@@ -53,6 +53,13 @@ pub record IsNext (K : List Event) (f : Fetched) : Type 0 where
   pub id_is : f.id ≡ id K place
   pub made : f.owner.ordinal < tasks_made K
   pub owner_is : task_name_of K f.owner.ordinal ≡ caller K place
+
+-- the task of this ordinal, which was made, is in the listed call that the id names
+pub record IsCaller (K : List Event) (x o : ℕ) : Type 0 where
+  pub place : ℕ
+  pub named_is : named K x ≡ Some place
+  pub made : o < tasks_made K
+  pub name_is : task_name_of K o ≡ caller K place
 
 -- what the oldest of these requests asks for
 abbrev pub oldest_in : List Event → List ℕ → Option Addfd

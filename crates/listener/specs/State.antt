@@ -1,5 +1,5 @@
 -- The state of a listener as a value, and what each event makes of it.
-use Rattle.std.specs.Prelude.{ℕ, ◌+◌, ◌%◌, ◌^◌, Bool, true, false, ◌||◌, not, if◌then◌else◌, ◌==◌, List, [], ◌∷◌, ◌++◌, map, filter, find, Option, Some, None, is_none, Result, Ok, Err, pos}
+use Rattle.std.specs.Prelude.{ℕ, ◌+◌, ◌-◌, ◌%◌, ◌^◌, Bool, true, false, ◌||◌, not, if◌then◌else◌, ◌==◌, List, [], ◌∷◌, ◌++◌, map, filter, find, Option, Some, None, is_none, Result, Ok, Err, pos}
 use Rattle.hist_model.specs.Look.{Name, name_eq, task_name}
 use Rattle.hist_model.specs.Kinds.{has_send_flag}
 use Rattle.hist_model.specs.declared.event.Actor.{Actor}
@@ -36,6 +36,10 @@ pub record State : Type 0 where
 
 -- ---- what it answers
 
+-- the count of requests
+abbrev pub counted : State → ℕ
+counted s = s.entered - s.received
+
 -- the call has this id
 abbrev pub has_id : ℕ → Row → Bool
 has_id x r = r.id == x
@@ -47,6 +51,11 @@ of_task n r = name_eq r.task n
 -- the listed call that an id names
 abbrev pub row_named : ℕ → State → Option Row
 row_named x s = find (has_id x) s.calls
+
+-- the task in a call
+abbrev pub task_in : Option Row → Option Name
+task_in (Some r) = Some r.task
+task_in None = None
 
 -- the call in which a task waits
 abbrev pub row_of : Name → State → Option Row

@@ -1,6 +1,6 @@
 //! The listener of a kernel.
 
-ghost use Rattle.std.specs.Prelude.{◌≡◌, ◌≤◌, ◌<◌, ◌+◌, ◌%◌, ◌^◌, ◌∷◌, [], ℕ, List, Option, Some, None, Ok, Err, IfOk, OnOk, OnErr, IsOk, is_some, true, false};
+ghost use Rattle.std.specs.Prelude.{◌≡◌, ◌≤◌, ◌<◌, ◌+◌, ◌%◌, ◌^◌, ◌∷◌, [], ℕ, List, Option, Some, None, Ok, Err, IfOk, IfSome, IfNone, OnOk, OnErr, IsOk, is_some, true, false};
 ghost use Rattle.hist_model.specs.Calls.{calls, count, fetched, listed, named, queue};
 ghost use Rattle.hist_model.specs.Kinds.{closes};
 ghost use Rattle.hist_model.specs.Look.{Name};
@@ -13,7 +13,7 @@ ghost use Rattle.hist_model.specs.declared.notification.Reply.TheVariants.{Insta
 ghost use Rattle.sys_abi.specs.Errnos.{enoent};
 ghost use Rattle.listener.specs.Listeners.{validity, send_admission, put_admission, taken, is_over, back_of, was_fetched, with_sent};
 ghost use Rattle.listener.specs.Requests.{has_request};
-ghost use Rattle.listener.specs.Stands.{StandsFor, IsEntry, IsInstall, IsLeaving, IsListedAs, IsNext, IsReceipt, IsSettledBy, oldest_in, take_of};
+ghost use Rattle.listener.specs.Stands.{StandsFor, IsCaller, IsEntry, IsInstall, IsLeaving, IsListedAs, IsNext, IsReceipt, IsSettledBy, oldest_in, take_of};
 ghost use Rattle.listener.specs.State as state;
 ghost use Rattle.listener.specs.State.{result_reply};
 ghost use Rattle.listener.specs.Table as table;
@@ -30,7 +30,7 @@ use hist_model::request::TaskRef;
 use std::alloc::Global;
 use sys_abi::errno::Errno;
 use sys_abi::memory::NoMemory;
-use sys_abi::wire::{Addfd, SECCOMP_ADDFD_FLAG_SEND};
+use sys_abi::wire::Addfd;
 use thiserror::Error;
 
 /// Why a worker didn't get a descriptor's number.
@@ -129,7 +129,7 @@ fn admit_put(a: &Addfd, state: Option<State>, queued: u32) -> Result<(), Errno>
         None => Err(Errno::ENOENT),
         Some(State::Unfetched | State::Answered) => Err(Errno::EINPROGRESS),
         Some(State::Fetched) => {
-            if a.flags >= SECCOMP_ADDFD_FLAG_SEND && queued != 0 {
+            if a.has_send_flag() && queued != 0 {
                 Err(Errno::EBUSY)
             } else {
                 Ok(())
@@ -161,7 +161,7 @@ fn is_over(answer: &Result<u32, TakeError>) -> bool
 fn note_put(queue: &mut Queue, asked: &Addfd)
     ensures { (names : ℕ → Name) (asks : List Request) → table.view queue.new names asks ≡ with_sent asked.now (Some Installing) asked.now.id (table.view queue.old names asks) }
 {
-    if asked.flags >= SECCOMP_ADDFD_FLAG_SEND {
+    if asked.has_send_flag() {
         queue.set_reply(asked.id, Some(Reply::Installing));
     }
 }
@@ -170,7 +170,7 @@ fn note_put(queue: &mut Queue, asked: &Addfd)
 fn note_installation(queue: &mut Queue, id: u64, asked: &Addfd, answer: &Result<u32, Errno>)
     ensures { (names : ℕ → Name) (asks : List Request) → table.view queue.new names asks ≡ with_sent asked.now (result_reply answer.now) id (table.view queue.old names asks) }
 {
-    if asked.flags >= SECCOMP_ADDFD_FLAG_SEND {
+    if asked.has_send_flag() {
         queue.set_reply(id, installed_reply(answer));
     }
 }
@@ -207,6 +207,22 @@ impl Listener {
         ensures room { HasRoom self.old.queue → HasRoom self.new.queue }
     {
         self.queue.fetch()
+    }
+
+    /// The count of requests: how many more calls were listed than receives were answered. While it isn't 0, no receive is
+    /// `Empty`.
+    pub fn count(&self) -> u64
+        ensures { (first : ℕ) (K : List Event) → StandsFor first K self.now → result ≡ count K }
+    {
+        self.queue.count()
+    }
+
+    /// The ordinal of the task in the listed call with this id. None exactly where no listed call has it.
+    pub fn caller(&self, id: u64) -> Option<u32>
+        ensures some { IfSome result (λ o. (first : ℕ) (K : List Event) → StandsFor first K self.now → IsCaller K id o) }
+        ensures none { IfNone result ((first : ℕ) (K : List Event) → StandsFor first K self.now → named K id ≡ None) }
+    {
+        self.queue.caller(id)
     }
 
     /// Answers the call with this id (SECCOMP_IOCTL_NOTIF_SEND): ENOENT exactly where no listed call has it, EINPROGRESS where

@@ -1,6 +1,6 @@
 //! The queue of listed calls.
 
-ghost use Rattle.std.specs.Prelude.{◌≡◌, ℕ, ◌+◌, ◌<◌, ◌≤◌, ◌^◌, List, [], Option, Some, None, Err, IfOk, OnOk, IsOk};
+ghost use Rattle.std.specs.Prelude.{◌≡◌, ℕ, ◌+◌, ◌<◌, ◌≤◌, ◌^◌, List, [], Option, Some, None, Err, IfOk, OnOk, IsOk, option_map};
 ghost use Rattle.hist_model.specs.Look.{Name};
 
 use crate::order::Order;
@@ -38,7 +38,7 @@ pub struct Queue {
 
 impl Queue {
     ghost use Rattle.listener.specs.declared.requests.Request.{Request as Ask};
-    ghost use Rattle.listener.specs.State.{far_in, next_id, oldest, row_named, with_entered, with_fetched, with_receive, with_reply, without_call, without_calls, lists_none};
+    ghost use Rattle.listener.specs.State.{counted, far_in, next_id, oldest, row_named, task_in, with_entered, with_fetched, with_receive, with_reply, without_call, without_calls, lists_none};
     ghost use Rattle.listener.specs.Table.{HasRoom, IsReceived, view, reply_in};
     ghost use Rattle.listener.specs.declared.queue.FetchError.TheVariants.{Empty, Gone};
 
@@ -102,6 +102,24 @@ impl Queue {
         ensures { (names : ℕ → Name) (asks : List Ask) → result ≡ lists_none (view self.now names asks) }
     {
         self.order.is_empty()
+    }
+
+    /// The count of requests: how many more calls were entered than receives were answered. A receive is `Empty` exactly where
+    /// it is 0.
+    pub fn count(&self) -> u64
+        ensures { (names : ℕ → Name) (asks : List Ask) → result ≡ counted (view self.now names asks) }
+    {
+        self.order.entered().saturating_sub(self.received)
+    }
+
+    /// The ordinal of the task in the listed call with this id. None exactly where no listed call has it.
+    pub fn caller(&self, id: u64) -> Option<u32>
+        ensures { (names : ℕ → Name) (asks : List Ask) → option_map names result ≡ task_in (row_named id (view self.now names asks)) }
+    {
+        match self.order.find(id.wrapping_sub(self.first)) {
+            Some(call) => Some(call.owner.ordinal),
+            None => None,
+        }
     }
 
     /// How far the listed call with this id is. None exactly where no listed call has it.

@@ -17,9 +17,9 @@ use Rattle.native_calls.specs.Prepared.{IsPrepared}
 use Rattle.native_calls.specs.declared.call.NativeCall.{NativeCall}
 use Rattle.sys_abi.specs.declared.memory.NoMemory.{NoMemory}
 use Rattle.kernel_resources.proofs.Natives.{counted-alike}
-use Rattle.kernel_tasks.specs.Stands as tasks
-use Rattle.kernel_tasks.specs.declared.tasks.Tasks.{Tasks}
-use Rattle.task_progress.specs.Rows.{living_in}
+use Rattle.tasks.specs.Stands as tasks
+use Rattle.tasks.specs.declared.table.Tasks.{Tasks}
+use Rattle.tasks.specs.Stands.{living_in}
 use Rattle.model_kernel.specs.Kernels.{IsKernel, past, system}
 use Rattle.model_kernel.specs.Ready.{IsOwed, own_instr, stored_by}
 use Rattle.model_kernel.specs.Steps.{MayStep, named}
@@ -37,7 +37,7 @@ owed-if k o nr args (Ok call) group g may owes at own last read = record {
   owes = owes;
   entered = λ h q.
       let same : g ≡ h = let z : Some g ≡ Some h = sym own ∙ q in cc in
-      record { nr = nr; args = args; verdict = last.0; last = last.1; prepared = subst (λ x. IsPrepared k.script (past k) x nr args call) same (read k.script (past k) (living_in k.tasks.progress) g may.kernel.resources at) };
+      record { nr = nr; args = args; verdict = last.0; last = last.1; prepared = subst (λ x. IsPrepared k.script (past k) x nr args call) same (read k.script (past k) (living_in k.tasks) g may.kernel.resources at) };
 }
 owed-if k o nr args (Err e) group g may owes at own last read = tt
 
@@ -53,13 +53,13 @@ fill-mapped k o addr len byte bytes s next are =
     subst (λ x. all_mapped k.script.map addr (length x) ≡ true) same (rw (length-replicate len byte) (stored-mapped k.script (named k o) _ (instr.Fill addr len byte) s (sym next)))
 
 -- the kernel with more room for tasks
-pub roomier : (k new : Kernel) (T : Tasks) → IsKernel k → tasks.StandsFor k.script (past k) T → ((g : ℕ) → living_in T.progress g ≡ living_in k.tasks.progress g) → past new ≡ past k → new ≡ record k { history = new.history; tasks = T } → IsKernel new
+pub roomier : (k new : Kernel) (T : Tasks) → IsKernel k → tasks.StandsFor k.script (past k) T → ((g : ℕ) → living_in T g ≡ living_in k.tasks g) → past new ≡ past k → new ≡ record k { history = new.history; tasks = T } → IsKernel new
 roomier k new T i stand same events is =
     let script : new.script ≡ k.script = ap (λ (x : Kernel). x.script) is in
     let tables : new.tasks ≡ T = ap (λ (x : Kernel). x.tasks) is in
     let resources : new.resources ≡ k.resources = ap (λ (x : Kernel). x.resources) is in
     record {
       tasks = rw (script, tables, events) stand;
-      resources = rw (script, tables, resources, events) (counted-alike k.script (past k) (living_in k.tasks.progress) (living_in T.progress) k.resources i.resources same);
+      resources = rw (script, tables, resources, events) (counted-alike k.script (past k) (living_in k.tasks) (living_in T) k.resources i.resources same);
       few = rw events i.few;
     }

@@ -2,6 +2,7 @@
 -- By the count of the events that make one.
 use Rattle.std.proofs.Common.{◌≡◌, ◌+◌, ◌<◌, ◌≤◌, ◌^◌, ℕ, Bool, true, false, if◌then◌else◌, List, [], ◌∷◌, ap, arith}
 use Rattle.std.specs.Prelude.{Ok, Err}
+use Rattle.std.proofs.lemmas.List.{length-map}
 use Rattle.hist_model.specs.Kinds.{makes}
 use Rattle.hist_model.specs.Legal.{started}
 use Rattle.hist_model.specs.declared.event.Event.{Event}
@@ -10,6 +11,10 @@ use Rattle.hist_model.specs.declared.event.What.{What}
 use Rattle.hist_model.specs.declared.event.What.TheVariants.{Spawn}
 use Rattle.hist_model.specs.declared.script.Script.{Script}
 use Rattle.history_frames.specs.Ordinals.{count_of, groups_made, makes_group, tasks_made}
+use Rattle.tasks.specs.Stands.{HasRoom, StandsFor}
+use Rattle.tasks.specs.Table.{member}
+use Rattle.tasks.specs.declared.table.Tasks.{Tasks}
+use Rattle.tasks.proofs.Told.{made-is}
 
 -- an event that makes none leaves their number
 pub same-number : (e : Event) (K : List Event) → makes e.what ≡ false → tasks_made (e ∷ K) ≡ tasks_made K
@@ -24,6 +29,10 @@ one-number e K h = by (makes e.what)
     by : (b : Bool) → count_of makes K + (if b then 1 else 0) < 2 ^ 32
     by true = h
     by false = omega (arith, h)
+
+-- a task with room for a child leaves one more number
+pub room-number : (S : Script) (K : List Event) (T : Tasks) (o : ℕ) → StandsFor S K T → HasRoom T o → tasks_made K + 1 < 2 ^ 32
+room-number S K T o s h = omega (arith, made-is S K T s, h.ordinal, length-map T.tasks.items member, T.tasks.ok.0)
 
 -- a script's start makes one
 pub start-number : (S : Script) → tasks_made (started S) < 2 ^ 32

@@ -4,8 +4,8 @@ use Rattle.std.proofs.Common.{◌≡◌, ℕ, true, false, None, refl, ap, ◌�
 use Rattle.hist_model.specs.Signals.{call_of}
 use Rattle.hist_model.specs.Steps.{deliver_or, living_step, owes_native}
 use Rattle.hist_model.specs.declared.event.What.TheVariants.{Native}
-use Rattle.kernel_tasks.proofs.Refs.{steps-living}
-use Rattle.task_names.proofs.Named.{name-made}
+use Rattle.tasks.proofs.Told.{steps-living}
+use Rattle.tasks.proofs.Named.{name-made}
 use Rattle.model_kernel.specs.Kernels.{past, system}
 use Rattle.model_kernel.specs.Ready.{own_step}
 use Rattle.model_kernel.specs.Steps.{IsDeliveredFirst, MayStep, delivered, due_step, named, signal_due}

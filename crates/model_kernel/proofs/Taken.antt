@@ -17,15 +17,14 @@ use Rattle.kernel_resources.specs.Stands as resources
 use Rattle.kernel_resources.specs.Stands.{base_found}
 use Rattle.kernel_resources.specs.declared.resources.Resources.{Resources}
 use Rattle.kernel_resources.proofs.Opened.{live}
-use Rattle.kernel_tasks.specs.Stands as tasks
-use Rattle.kernel_tasks.specs.Stands.{IsHolder}
-use Rattle.kernel_tasks.specs.declared.tasks.Tasks.{Tasks}
-use Rattle.kernel_tasks.proofs.Steps.{place-is}
+use Rattle.tasks.specs.Stands as tasks
+use Rattle.tasks.specs.Stands.{IsHolder, ended_at, group_at, living_in, made}
+use Rattle.tasks.specs.declared.table.Tasks.{Tasks}
+use Rattle.tasks.proofs.Told.{made-is, place-is}
 use Rattle.sys_abi.specs.Errnos.{ebadf, esrch}
 use Rattle.task_groups.specs.Groups.{IsLive}
-use Rattle.task_progress.specs.Rows.{ended_at, group_at, living_in, made}
-use Rattle.task_progress.specs.Stands.{IsGroupOf}
-use Rattle.task_progress.proofs.Counted.{living_in-most, living_in-some}
+use Rattle.tasks.specs.Fold.{IsGroupOf}
+use Rattle.tasks.proofs.Counted.{living_in-most, living_in-some}
 use Rattle.model_kernel.specs.Kernels.{IsAfter, IsKernel, past}
 use Rattle.model_kernel.specs.Kinds.{is_worker_step}
 use Rattle.model_kernel.specs.declared.kernel.Kernel.{Kernel}
@@ -36,7 +35,7 @@ use Rattle.model_kernel.proofs.Workers.{noted}
 -- the kernel after a step that the resources took, which tells the answer that they gave
 pub taken : {A : Type 0} (old new : Kernel) (w : ℕ) (tells : A → What) (expected answer told : A) (R : Resources) → IsKernel old → is_worker_step (tells told) ≡ true → told ≡ answer → answer ≡ expected
     → past new ≡ ev (Worker w) (tells told) ∷ past old → new ≡ record old { resources = R; history = new.history }
-    → ((e : Event) → e.who ≡ Worker w → e.what ≡ tells answer → resources.StandsFor old.script (e ∷ past old) (living_in old.tasks.progress) R)
+    → ((e : Event) → e.who ≡ Worker w → e.what ≡ tells answer → resources.StandsFor old.script (e ∷ past old) (living_in old.tasks) R)
     → IsAfter old (ev (Worker w) (tells expected)) new
 taken old new w tells expected answer told R k is_step t a events same step =
     noted old new w (tells expected) (tells told) R k is_step (ap tells (t ∙ a)) events same (step (ev (Worker w) (tells told)) refl (ap tells t))
@@ -54,18 +53,18 @@ count-most kind (e ∷ K) = one (kind e.what) (count-most kind K)
     one false l = omega arith
 
 -- the group of a task that hasn't ended is live
-pub group-live : (k : Kernel) (o : ℕ) → IsKernel k → ended_at k.tasks.progress o ≡ false → length (past k) < 2 ^ 62 → IsLive k.resources.groups (group_at k.tasks.progress o)
+pub group-live : (k : Kernel) (o : ℕ) → IsKernel k → ended_at k.tasks o ≡ false → length (past k) < 2 ^ 62 → IsLive k.resources.groups (group_at k.tasks o)
 group-live k o i lives few =
-    let some = living_in-some k.tasks.progress o lives in
-    let most = living_in-most k.tasks.progress (group_at k.tasks.progress o) in
-    let made : made k.tasks.progress ≡ tasks_made (past k) = i.tasks.progress.made_is in
+    let some = living_in-some k.tasks o lives in
+    let most = living_in-most k.tasks (group_at k.tasks o) in
+    let made : made k.tasks ≡ tasks_made (past k) = made-is k.script (past k) k.tasks i.tasks in
     let events : tasks_made (past k) ≤ length (past k) = count-most _ (past k) in
-    live k.script (past k) (living_in k.tasks.progress) k.resources (group_at k.tasks.progress o) i.resources some (omega (arith, most, made, events, few))
+    live k.script (past k) (living_in k.tasks) k.resources (group_at k.tasks o) i.resources some (omega (arith, most, made, events, few))
 
 -- it is the group that is opened by the number that the task holds
 pub group-opened : (S : Script) (K : List Event) (T : Tasks) (p o g : ℕ) → tasks.StandsFor S K T → IsHolder K p o → IsGroupOf K (task_name_of K o) g → (m : ℕ) × (opened K (holder K p) ≡ Some m) × (group_of K g ≡ Some m)
 group-opened S K T p o g s h i =
-    let same : opened K (place_of K o) ≡ group_of K g = ap (opened K) (sym (place-is K o s.progress.orderly h.0)) ∙ (i.2 ∙ sym i.1) in
+    let same : opened K (place_of K o) ≡ group_of K g = ap (opened K) (sym (place-is K o s.is_table.sound h.0)) ∙ (i.2 ∙ sym i.1) in
     let q : opened K (place_of K o) ≡ opened K (Some h.1) = ap (opened K) h.3 in
     (_, ap (opened K) h.2, sym same ∙ q)
 

@@ -18,7 +18,8 @@ use Rattle.hist_model.specs.declared.event.Actor.{Actor}
 use Rattle.hist_model.specs.Tasks.{name_of}
 use Rattle.history_frames.proofs.Ordinals.{made-place}
 use Rattle.hist_model.specs.Steps.{deliver_or, spawn_answer}
-use Rattle.kernel_tasks.specs.Rows.{IsReap, delivery, keeps_tasks, one_made}
+use Rattle.tasks.specs.Stands.{IsReap, delivery, one_made, living_in, ended_at, group_at, one_ended}
+use Rattle.tasks.specs.Sound.{keeps_tasks, IsStepOf}
 use Rattle.history_frames.specs.Ordinals.{name_at, tasks_made}
 use Rattle.kernel_resources.specs.Kinds.{keeps_groups}
 use Rattle.kernel_resources.specs.Stands as resources
@@ -29,14 +30,12 @@ use Rattle.kernel_resources.proofs.Steps.{after-other}
 use Rattle.listener.specs.Stands as listener
 use Rattle.hist_model.specs.Signals.{call_of, held, is_fetched_call}
 use Rattle.hist_model.proofs.Look.{name_eq-true}
-use Rattle.kernel_tasks.specs.declared.tasks.Tasks.{Tasks}
+use Rattle.tasks.specs.declared.table.Tasks.{Tasks}
 use Rattle.listener.specs.Stands.{IsEntry, IsLeaving, IsListedAs}
 use Rattle.listener.proofs.Folds.{call-is}
 use Rattle.task_groups.specs.Groups.{IsLive, IsSpawn, one_less, one_more}
-use Rattle.task_progress.specs.Rows.{living_in, ended_at, group_at, one_ended}
-use Rattle.task_progress.specs.Stands.{IsStepOf}
-use Rattle.task_progress.specs.declared.table.TaskProgress.{TaskProgress}
-use Rattle.task_progress.proofs.Counted.{living_in-most, living_in-some, row-of}
+use Rattle.tasks.proofs.Counted.{living_in-most, living_in-some}
+use Rattle.tasks.proofs.Told.{ended-is, made-is}
 use Rattle.model_kernel.proofs.Numbers.{same-number}
 use Rattle.model_kernel.specs.Kernels.{IsKernel, past}
 use Rattle.model_kernel.specs.Steps.{Acts, IsDeliveredFirst, MayStep, TakesStep, WaitsIn, delivered, due_step, is_unlisted, left_by, named, signal_due, step_by}
@@ -69,18 +68,16 @@ pub few-stay : (k : Kernel) (e : Event) → IsKernel k → makes e.what ≡ fals
 few-stay k e i h = rw (same-number e (past k) h) i.few
 
 -- a task that may step hasn't ended
-pub not-ended : (k : Kernel) (o : ℕ) → MayStep k o → ended_at k.tasks.progress o ≡ false
-not-ended k o m =
-    let r = row-of k.script (past k) k.tasks.progress o m.kernel.tasks.progress m.made in
-    rw r.1 ((m.kernel.tasks.progress.tasks o r.0 r.1).ended_is ∙ m.lives)
+pub not-ended : (k : Kernel) (o : ℕ) → MayStep k o → ended_at k.tasks o ≡ false
+not-ended k o m = ended-is k.script (past k) k.tasks o m.kernel.tasks m.made ∙ m.lives
 
 -- a living task counts in its group
-pub counts : (k : Kernel) (o : ℕ) → MayStep k o → IsLive k.resources.groups (group_at k.tasks.progress o)
-counts k o m = live k.script (past k) (living_in k.tasks.progress) k.resources (group_at k.tasks.progress o) m.kernel.resources (living_in-some k.tasks.progress o (not-ended k o m))
-    (let most = living_in-most k.tasks.progress (group_at k.tasks.progress o) in omega (arith, m.kernel.few, m.kernel.tasks.progress.made_is, most))
+pub counts : (k : Kernel) (o : ℕ) → MayStep k o → IsLive k.resources.groups (group_at k.tasks o)
+counts k o m = live k.script (past k) (living_in k.tasks) k.resources (group_at k.tasks o) m.kernel.resources (living_in-some k.tasks o (not-ended k o m))
+    (let most = living_in-most k.tasks (group_at k.tasks o) in omega (arith, m.kernel.few, made-is k.script (past k) k.tasks m.kernel.tasks, most))
 
 -- a step that ends no task leaves all counts
-pub same-counts : (T new : TaskProgress) (o : ℕ) (w : What) → ends w ≡ false → ((g : ℕ) → living_in new g + one_ended T o w g ≡ living_in T g) → (g : ℕ) → living_in new g ≡ living_in T g
+pub same-counts : (T new : Tasks) (o : ℕ) (w : What) → ends w ≡ false → ((g : ℕ) → living_in new g + one_ended T o w g ≡ living_in T g) → (g : ℕ) → living_in new g ≡ living_in T g
 same-counts T new o w e h g =
     let none : one_ended T o w g ≡ 0 = ap (λ b. if b && (not (ended_at T o) && (group_at T o == g)) then 1 else 0) e in
     omega (arith, h g)
@@ -90,7 +87,7 @@ taken : (x y a b : ℕ) → x + (if a == b then 1 else 0) ≡ y → x ≡ (if b 
 taken x y a b h = grind (arith, nat_tests)
 
 -- a step that ends its task takes one from its group
-pub one-fewer : (T new : TaskProgress) (o : ℕ) (w : What) → ends w ≡ true → ended_at T o ≡ false → ((g : ℕ) → living_in new g + one_ended T o w g ≡ living_in T g) → (g : ℕ) → living_in new g ≡ one_less (living_in T) (group_at T o) g
+pub one-fewer : (T new : Tasks) (o : ℕ) (w : What) → ends w ≡ true → ended_at T o ≡ false → ((g : ℕ) → living_in new g + one_ended T o w g ≡ living_in T g) → (g : ℕ) → living_in new g ≡ one_less (living_in T) (group_at T o) g
 one-fewer T new o w e lives h g =
     let one : one_ended T o w g ≡ (if group_at T o == g then 1 else 0) = ap (λ b. if b && (not (ended_at T o) && (group_at T o == g)) then 1 else 0) e ∙ ap (λ b. if not b && (group_at T o == g) then 1 else 0) lives in
     taken (living_in new g) (living_in T g) (group_at T o) g (ap (λ z. living_in new g + z) (sym one) ∙ h g)
@@ -98,13 +95,13 @@ one-fewer T new o w e lives h g =
 -- ---- what such a step leaves of the resources
 
 -- the resources after a step that is other for them, counted anew
-pub kept : (k : Kernel) (e : Event) (T : Tasks) → IsKernel k → keeps_groups e.what ≡ true → listener.IsOther (past k) e → ((g : ℕ) → living_in T.progress g ≡ living_in k.tasks.progress g)
-    → resources.StandsFor k.script (e ∷ past k) (living_in T.progress) k.resources
-kept k e T i keeps other same = counted-alike k.script (e ∷ past k) (living_in k.tasks.progress) (living_in T.progress) k.resources
-    (after-other k.script (past k) (living_in k.tasks.progress) e k.resources i.resources keeps other) same
+pub kept : (k : Kernel) (e : Event) (T : Tasks) → IsKernel k → keeps_groups e.what ≡ true → listener.IsOther (past k) e → ((g : ℕ) → living_in T g ≡ living_in k.tasks g)
+    → resources.StandsFor k.script (e ∷ past k) (living_in T) k.resources
+kept k e T i keeps other same = counted-alike k.script (e ∷ past k) (living_in k.tasks) (living_in T) k.resources
+    (after-other k.script (past k) (living_in k.tasks) e k.resources i.resources keeps other) same
 
 -- a step changes the counts by what it ends
-pub counted : (T new : TaskProgress) (o : ℕ) (w : What) → ended_at T o ≡ false → ((g : ℕ) → living_in new g + one_ended T o w g ≡ living_in T g) → (g : ℕ) → living_in new g ≡ left_by w (living_in T) (group_at T o) g
+pub counted : (T new : Tasks) (o : ℕ) (w : What) → ended_at T o ≡ false → ((g : ℕ) → living_in new g + one_ended T o w g ≡ living_in T g) → (g : ℕ) → living_in new g ≡ left_by w (living_in T) (group_at T o) g
 counted T new o w lives h g = by (ends w) refl
   where
     by : (b : Bool) → ends w ≡ b → living_in new g ≡ left_by w (living_in T) (group_at T o) g
@@ -112,16 +109,16 @@ counted T new o w lives h g = by (ends w) refl
     by false e = rw e (same-counts T new o w e h g)
 
 -- the resources after a step that may end its task, which then has left its group
-pub fewer : (k : Kernel) (e : Event) (T : Tasks) (R : Resources) (o group : ℕ) → MayStep k o → group ≡ group_at k.tasks.progress o
-    → ((g : ℕ) → living_in T.progress g + one_ended k.tasks.progress o e.what g ≡ living_in k.tasks.progress g)
-    → resources.StandsFor k.script (e ∷ past k) (left_by e.what (living_in k.tasks.progress) group) R
-    → resources.StandsFor k.script (e ∷ past k) (living_in T.progress) R
-fewer k e T R o group m is h stand = counted-alike k.script (e ∷ past k) (left_by e.what (living_in k.tasks.progress) group) (living_in T.progress) R stand
-    (rw is (counted k.tasks.progress T.progress o e.what (not-ended k o m) h))
+pub fewer : (k : Kernel) (e : Event) (T : Tasks) (R : Resources) (o group : ℕ) → MayStep k o → group ≡ group_at k.tasks o
+    → ((g : ℕ) → living_in T g + one_ended k.tasks o e.what g ≡ living_in k.tasks g)
+    → resources.StandsFor k.script (e ∷ past k) (left_by e.what (living_in k.tasks) group) R
+    → resources.StandsFor k.script (e ∷ past k) (living_in T) R
+fewer k e T R o group m is h stand = counted-alike k.script (e ∷ past k) (left_by e.what (living_in k.tasks) group) (living_in T) R stand
+    (rw is (counted k.tasks T o e.what (not-ended k o m) h))
 
 -- the resources, as they are, after a step that is other for them
-pub others : (k : Kernel) (e : Event) → IsKernel k → keeps_groups e.what ≡ true → listener.IsOther (past k) e → resources.StandsFor k.script (e ∷ past k) (living_in k.tasks.progress) k.resources
-others k e i keeps other = after-other k.script (past k) (living_in k.tasks.progress) e k.resources i.resources keeps other
+pub others : (k : Kernel) (e : Event) → IsKernel k → keeps_groups e.what ≡ true → listener.IsOther (past k) e → resources.StandsFor k.script (e ∷ past k) (living_in k.tasks) k.resources
+others k e i keeps other = after-other k.script (past k) (living_in k.tasks) e k.resources i.resources keeps other
 
 -- ---- deliveries
 
@@ -208,15 +205,15 @@ spawn-made e child None kind is h = let none : makes e.what ≡ false = ap makes
 
 -- the resources after a step that is to make a task in a group
 pub spawned : (k : Kernel) (e : Event) (T : Tasks) (R : Resources) (group : ℕ) (child : Name) (d : Option ℕ) (kind : SpawnKind) → IsKernel k → e.what ≡ Spawn child (spawn_answer d kind)
-    → ((g : ℕ) → living_in T.progress g ≡ living_in k.tasks.progress g + one_made e.what group g)
-    → (makes e.what ≡ true → resources.StandsFor k.script (e ∷ past k) (one_more (living_in k.tasks.progress) group) R)
+    → ((g : ℕ) → living_in T g ≡ living_in k.tasks g + one_made e.what group g)
+    → (makes e.what ≡ true → resources.StandsFor k.script (e ∷ past k) (one_more (living_in k.tasks) group) R)
     → (makes e.what ≡ false → R ≡ k.resources)
-    → resources.StandsFor k.script (e ∷ past k) (living_in T.progress) R
+    → resources.StandsFor k.script (e ∷ past k) (living_in T) R
 spawned k e T R group child (Some p) kind i is h made refused =
-    counted-alike k.script (e ∷ past k) (one_more (living_in k.tasks.progress) group) (living_in T.progress) R (made (ap makes is))
-    (λ g. added (living_in T.progress g) (living_in k.tasks.progress g) group g (h g ∙ ap (λ w. living_in k.tasks.progress g + one_made w group g) is))
+    counted-alike k.script (e ∷ past k) (one_more (living_in k.tasks) group) (living_in T) R (made (ap makes is))
+    (λ g. added (living_in T g) (living_in k.tasks g) group g (h g ∙ ap (λ w. living_in k.tasks g + one_made w group g) is))
 spawned k e T R group child None kind i is h made refused =
-    rw (refused (ap makes is)) (kept k e T i (ap keeps_groups is) (other is) (λ g. h g ∙ (ap (λ w. living_in k.tasks.progress g + one_made w group g) is ∙ add-zero (living_in k.tasks.progress g))))
+    rw (refused (ap makes is)) (kept k e T i (ap keeps_groups is) (other is) (λ g. h g ∙ (ap (λ w. living_in k.tasks g + one_made w group g) is ∙ add-zero (living_in k.tasks g))))
   where
     other : e.what ≡ Spawn child (spawn_answer None kind) → listener.IsOther (past k) e
     other q = rw q tt

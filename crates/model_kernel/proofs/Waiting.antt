@@ -10,12 +10,12 @@ use Rattle.hist_model.specs.declared.event.Back.{Back}
 use Rattle.hist_model.specs.declared.event.What.TheVariants.{Install, Resume, Skip}
 use Rattle.hist_model.specs.declared.event.Actor.TheVariants.{Task}
 use Rattle.listener.proofs.Stand.{IsOldest, oldest-first, oldest-none}
-use Rattle.kernel_tasks.proofs.Refs.{steps-living}
+use Rattle.tasks.proofs.Told.{steps-living}
 use Rattle.listener.specs.Stands.{IsInstall, IsSettledBy, oldest_in}
 use Rattle.listener.proofs.Folds.{call-is}
 use Rattle.sys_abi.specs.declared.wire.Addfd.{Addfd}
 use Rattle.task_groups.specs.Groups.{IsInstall as IsGroupInstall}
-use Rattle.task_names.proofs.Named.{name-made}
+use Rattle.tasks.proofs.Named.{name-made}
 use Rattle.model_kernel.specs.Kernels.{past, system}
 use Rattle.model_kernel.specs.Steps.{IsDeliveredFirst, IsInstallDue, MayStep, WaitsIn, delivered, due_step, named, signal_due, step_by}
 use Rattle.model_kernel.specs.declared.kernel.Kernel.{Kernel}

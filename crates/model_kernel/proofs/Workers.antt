@@ -11,20 +11,21 @@ use Rattle.hist_model.specs.declared.script.Script.{Script}
 use Rattle.kernel_resources.specs.Stands as resources
 use Rattle.kernel_resources.specs.declared.resources.Resources.{Resources}
 use Rattle.kernel_resources.proofs.Others.{after-listening}
-use Rattle.kernel_tasks.specs.Stands as tasks
-use Rattle.kernel_tasks.proofs.Steps as tasking
+use Rattle.tasks.specs.Sound.{IsOther}
+use Rattle.tasks.specs.Stands as tasks
+use Rattle.tasks.proofs.Told as tasking
 use Rattle.listener.specs.Stands as listener
 use Rattle.listener.proofs.Stand.{stands-other}
 use Rattle.kernel_resources.proofs.Steps.{after-other}
-use Rattle.task_progress.proofs.Frames.{never}
-use Rattle.task_progress.specs.Rows.{living_in}
+use Rattle.tasks.proofs.Frames.{never}
+use Rattle.tasks.specs.Stands.{living_in}
 use Rattle.model_kernel.specs.Kernels.{IsAfter, IsKernel, past}
 use Rattle.model_kernel.proofs.Numbers.{same-number}
 use Rattle.model_kernel.specs.Kinds.{is_worker_step}
 use Rattle.model_kernel.specs.declared.kernel.Kernel.{Kernel}
 
 -- a worker's step is other for the tasks
-other : (w : ℕ) (what : What) → is_worker_step what ≡ true → tasks.IsOther (ev (Worker w) what)
+other : (w : ℕ) (what : What) → is_worker_step what ≡ true → IsOther (ev (Worker w) what)
 other w (Recv answer) h = record { no_step = λ n. refl; keeps = refl; no_call = refl; no_close = refl }
 other w (OpenMem pid answer) h = record { no_step = λ n. refl; keeps = refl; no_call = refl; no_close = refl }
 other w (OpenBase pid dirfd answer) h = record { no_step = λ n. refl; keeps = refl; no_call = refl; no_close = refl }
@@ -57,14 +58,14 @@ makes-none _ h = cc
 
 -- a worker's step that changes no resource
 pub idle : (k : Kernel) (w : ℕ) (what : What) → IsKernel k → resources.IsListening (ev (Worker w) what) w → listener.IsOther (past k) (ev (Worker w) what)
-    → resources.StandsFor k.script (ev (Worker w) what ∷ past k) (living_in k.tasks.progress) k.resources
+    → resources.StandsFor k.script (ev (Worker w) what ∷ past k) (living_in k.tasks) k.resources
 idle k w what s i o =
-    after-listening k.script (past k) (living_in k.tasks.progress) (ev (Worker w) what) w k.resources k.resources.listener s.resources i
+    after-listening k.script (past k) (living_in k.tasks) (ev (Worker w) what) w k.resources k.resources.listener s.resources i
     (stands-other k.script.firstid (past k) k.resources.listener s.resources.listener (ev (Worker w) what) o)
 
 -- the kernel after such a step, which was noted with the answer that is expected
 pub noted : (old new : Kernel) (w : ℕ) (expected what : What) (R : Resources) → IsKernel old → is_worker_step what ≡ true → what ≡ expected → past new ≡ ev (Worker w) what ∷ past old → new ≡ record old { resources = R; history = new.history }
-    → resources.StandsFor old.script (ev (Worker w) what ∷ past old) (living_in old.tasks.progress) R → IsAfter old (ev (Worker w) expected) new
+    → resources.StandsFor old.script (ev (Worker w) what ∷ past old) (living_in old.tasks) R → IsAfter old (ev (Worker w) expected) new
 noted old new w expected what R k is_step answer events same r =
     let script : new.script ≡ old.script = ap (λ (x : Kernel). x.script) same in
     let tasks : new.tasks ≡ old.tasks = ap (λ (x : Kernel). x.tasks) same in
@@ -89,7 +90,7 @@ skipped old new n k events same =
     record {
       kernel = record {
         tasks = rw (script, tasks, events) (tasking.stands-other old.script (past old) e old.tasks k.tasks (record { no_step = λ m. never (is_task (Task n) m); keeps = refl; no_call = refl; no_close = refl }));
-        resources = rw (script, tasks, resources, events) (after-other old.script (past old) (living_in old.tasks.progress) e old.resources k.resources refl (tt));
+        resources = rw (script, tasks, resources, events) (after-other old.script (past old) (living_in old.tasks) e old.resources k.resources refl (tt));
         few = rw (events, same-number e (past old) refl) k.few;
       };
       script = script;
@@ -103,4 +104,4 @@ idled old new w expected what k is_step answer events same i o = noted old new w
 
 -- the kernel with resources that have more room
 pub roomier : (k : Kernel) (R : Resources) → IsKernel k → ((S : Script) (K : List Event) (living : ℕ → ℕ) → resources.StandsFor S K living k.resources → resources.StandsFor S K living R) → IsKernel (record k { resources = R })
-roomier k R i stands = record { tasks = i.tasks; resources = stands k.script (past k) (living_in k.tasks.progress) i.resources; few = i.few }
+roomier k R i stands = record { tasks = i.tasks; resources = stands k.script (past k) (living_in k.tasks) i.resources; few = i.few }

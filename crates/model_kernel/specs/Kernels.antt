@@ -11,10 +11,10 @@ use Rattle.hist_model.specs.declared.event.What.{What}
 use Rattle.hist_model.specs.declared.event.What.TheVariants.{AddfdTake, Skip}
 use Rattle.history_frames.specs.Ordinals.{tasks_made}
 use Rattle.kernel_resources.specs.Stands as resources
-use Rattle.kernel_tasks.specs.Stands as tasks
+use Rattle.tasks.specs.Stands as tasks
 use Rattle.hist_model.specs.declared.script.Script.{Script}
-use Rattle.kernel_tasks.specs.declared.tasks.Tasks.{Tasks}
-use Rattle.task_progress.specs.Rows.{living_in, one_if}
+use Rattle.tasks.specs.declared.table.Tasks.{Tasks}
+use Rattle.tasks.specs.Stands.{living_in, one_if}
 use Rattle.model_kernel.specs.declared.kernel.Kernel.{Kernel}
 
 -- what has happened so far
@@ -28,14 +28,14 @@ system k = system_of k.script
 -- the tasks and the resources stand for the kernel's own history
 pub record IsKernel (k : Kernel) : Type 0 where
   pub tasks : tasks.StandsFor k.script (past k) k.tasks
-  pub resources : resources.StandsFor k.script (past k) (living_in k.tasks.progress) k.resources
+  pub resources : resources.StandsFor k.script (past k) (living_in k.tasks) k.resources
   -- there are fewer than 2 ^ 32 tasks
   pub few : tasks_made (past k) < 2 ^ 32
 
 -- the tasks are those of a script's start: one, which is counted in the group that is the first
 pub record HasFirst (S : Script) (T : Tasks) : Type 0 where
   pub stand : tasks.StandsFor S (started S) T
-  pub counts : (g : ℕ) → living_in T.progress g ≡ one_if 0 g
+  pub counts : (g : ℕ) → living_in T g ≡ one_if 0 g
 
 -- the kernel is that of a script's start
 pub record IsBegun (S : Script) (k : Kernel) : Type 0 where

@@ -8,13 +8,11 @@ use Rattle.hist_model.specs.declared.event.What.{What}
 use Rattle.hist_model.specs.declared.script.Instr.{Instr}
 use Rattle.hist_model.specs.declared.script.Instr.TheVariants as instr
 use Rattle.kernel_resources.specs.Stands.{HasNativeRoom}
-use Rattle.kernel_tasks.specs.Rows.{HasRoom as HasTaskRoom}
+use Rattle.tasks.specs.Stands.{HasRoom as HasTaskRoom, name_at, group_at}
 use Rattle.native_calls.specs.Stands.{IsEntered}
 use Rattle.native_calls.specs.declared.call.NativeCall.{NativeCall}
 use Rattle.listener.specs.Table.{HasRoom as HasCallRoom}
 use Rattle.task_groups.specs.Groups.{HasRoomFor}
-use Rattle.task_names.specs.Rows.{name_at}
-use Rattle.task_progress.specs.Rows.{group_at}
 use Rattle.model_kernel.specs.Kernels.{IsKernel, past, system}
 use Rattle.model_kernel.specs.Steps.{WaitsIn, named}
 use Rattle.model_kernel.specs.declared.kernel.Kernel.{Kernel}
@@ -46,7 +44,7 @@ names_child i = false
 -- the next instruction of the task stores these bytes, and where it names a child, so many numbers are enough for its name
 pub record IsSupplied (k : Kernel) (o : ℕ) (bytes : List ℕ) (numbers : ℕ) : Type 0 where
   pub bytes_are : stored_by (own_instr k o) ≡ bytes
-  pub enough : names_child (own_instr k o) ≡ true → length (name_at k.tasks.names o) < numbers
+  pub enough : names_child (own_instr k o) ≡ true → length (name_at k.tasks o) < numbers
 
 -- the task owes this native call, whose arguments were read
 pub record IsOwed (k : Kernel) (o : ℕ) (call : NativeCall) : Type 0 where
@@ -68,8 +66,8 @@ stored_bytes next = 0
 -- the group, the queue and the tree have room for it
 abbrev pub HasNextRoom : Kernel → ℕ → Next → Type 0
 HasNextRoom k o Ended = Unit {0}
-HasNextRoom k o (Owed call) = HasNativeRoom k.resources (group_at k.tasks.progress o) call
-HasNextRoom k o next = HasRoomFor k.resources.groups (group_at k.tasks.progress o) (stored_bytes next) × HasCallRoom k.resources.listener.queue
+HasNextRoom k o (Owed call) = HasNativeRoom k.resources (group_at k.tasks o) call
+HasNextRoom k o next = HasRoomFor k.resources.groups (group_at k.tasks o) (stored_bytes next) × HasCallRoom k.resources.listener.queue
 
 -- the task's next step was made ready: it takes no memory
 pub record IsReadyFor (k : Kernel) (o : ℕ) (r : ReadyTask) : Type 0 where

@@ -17,10 +17,9 @@ use Rattle.history_frames.specs.Ordinals.{tasks_made, task_name_of}
 use Rattle.listener.specs.Stands.{oldest_in}
 use Rattle.sys_abi.specs.declared.wire.Addfd.{Addfd}
 use Rattle.kernel_resources.specs.Stands as resources
-use Rattle.kernel_tasks.specs.Rows.{effect_of}
-use Rattle.kernel_tasks.specs.Stands as tasks
+use Rattle.tasks.specs.Stands.{effect_of, living_in}
+use Rattle.tasks.specs.Stands as tasks
 use Rattle.task_groups.specs.Groups.{one_less}
-use Rattle.task_progress.specs.Rows.{living_in}
 use Rattle.model_kernel.specs.declared.steps.CannotStep.{CannotStep}
 use Rattle.model_kernel.specs.Kernels.{IsAfter, IsKernel, past, system}
 use Rattle.model_kernel.specs.declared.kernel.Kernel.{Kernel}
@@ -50,7 +49,7 @@ pub record Acts (old : Kernel) (o : ℕ) (w : What) (new : Kernel) : Type 0 wher
   pub steps : skips w ≡ false
   pub rest : new ≡ record old { tasks = new.tasks; resources = new.resources }
   pub tasks : tasks.StandsFor old.script (step_by old o w ∷ past old) new.tasks
-  pub resources : resources.StandsFor old.script (step_by old o w ∷ past old) (living_in new.tasks.progress) new.resources
+  pub resources : resources.StandsFor old.script (step_by old o w ∷ past old) (living_in new.tasks) new.resources
   pub number : tasks_made (step_by old o w ∷ past old) < 2 ^ 32
 
 -- the task waits in the listed call at a place, which has this id

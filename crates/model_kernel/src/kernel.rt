@@ -10,9 +10,9 @@ use hist_model::event::{Actor, Event, What};
 use hist_model::history::History;
 use hist_model::script::{Figures, Script};
 use kernel_resources::Resources;
-use kernel_tasks::Tasks;
 use sys_abi::errno::Errno;
 use sys_abi::memory::NoMemory;
+use tasks::Tasks;
 
 /// A container's kernel.
 pub struct Kernel {

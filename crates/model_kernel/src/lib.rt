@@ -5,7 +5,7 @@
 //! appends none says so. What workers ask of the listener is asked by values (`receive`, `send`, `put`), and by the structures
 //! of seccomp_unotify(2) as they lie in memory (`recv`, `notif_send`, `addfd_put`).
 //!
-//! Below stand `kernel_tasks` and `kernel_resources`, each with its own part of the state.
+//! Below stand `tasks` and `kernel_resources`, each with its own part of the state.
 #![tactic(auto)]
 
 mod deeds;

@@ -15,10 +15,9 @@ ghost use Rattle.hist_model.specs.declared.event.What.TheVariants.{AddfdPut, Ski
 ghost use Rattle.hist_model.specs.declared.script.Script.{Script};
 ghost use Rattle.history_frames.specs.Ordinals.{task_name_of, tasks_made};
 ghost use Rattle.kernel_resources.specs.Stands.{StandsFor as ResourcesStandFor};
-ghost use Rattle.kernel_tasks.specs.Stands.{StandsFor as TasksStandFor};
+ghost use Rattle.tasks.specs.Stands.{StandsFor as TasksStandFor, living_in};
 ghost use Rattle.listener.specs.Stands.{IsNext, take_of};
 ghost use Rattle.listener.specs.declared.queue.FetchError.TheVariants.{Empty, Gone};
-ghost use Rattle.task_progress.specs.Rows.{living_in};
 ghost use Rattle.model_kernel.specs.Kernels.{DoesDeed, IsKernel, past, system, taken_step};
 
 use crate::kernel::{Kernel, same};
@@ -145,7 +144,7 @@ impl Kernel {
         requires worker { worker ≤ 16 }
         requires free { has_request self.old.resources.listener.requests worker ≡ false }
         ensures answer { AddfdPut asked result ≡ deed_step (system self.old) (past self.old) worker (deed.AddfdPut asked) }
-        ensures step { ResourcesStandFor self.old.script (ev (Worker worker) (AddfdPut asked result) ∷ past self.old) (living_in self.old.tasks.progress) self.new.resources }
+        ensures step { ResourcesStandFor self.old.script (ev (Worker worker) (AddfdPut asked result) ∷ past self.old) (living_in self.old.tasks) self.new.resources }
         ensures same { self.new ≡ record self.old { resources = self.new.resources } }
     {
         if self.is_source(asked.srcfd) {

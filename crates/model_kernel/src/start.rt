@@ -3,10 +3,13 @@
 ghost use Rattle.std.specs.Prelude.{◌≡◌, ◌↔◌, ◌+◌, is_some, ℕ, ◌<◌, [], ◌∷◌, length, Ok, IfOk, IfSome, IfNone, None, true, false};
 ghost use Rattle.hist_model.specs.Legal.{started, Finished};
 ghost use Rattle.hist_model.specs.Steps.{mem, request_of};
-ghost use Rattle.hist_model.specs.Tasks.{is_made};
+ghost use Rattle.hist_model.specs.Calls.{count, named};
+ghost use Rattle.hist_model.specs.Tasks.{holder, is_made};
 ghost use Rattle.hist_model.specs.declared.event.What.TheVariants.{Spawn};
 ghost use Rattle.hist_model.specs.declared.event.SpawnKind.TheVariants.{New};
 ghost use Rattle.history_frames.specs.Ordinals.{tasks_made, task_name_of};
+ghost use Rattle.tasks.specs.Stands.{IsHolder};
+ghost use Rattle.listener.specs.Stands.{IsCaller};
 ghost use Rattle.model_kernel.specs.Kernels.{HasFirst, IsBegun, IsKernel, past};
 
 use crate::kernel::Kernel;
@@ -15,9 +18,9 @@ use hist_model::history::History;
 use hist_model::script::Script;
 use hist_model::text::TaskName;
 use kernel_resources::Resources;
-use kernel_tasks::Tasks;
 use std::alloc::Global;
 use sys_abi::memory::{NoMemory, OrNoMemory};
+use tasks::Tasks;
 
 /// The script's start: the first task gets the first PID, and memory and descriptors of its own.
 fn first_step(alloc: Global, script: &Script) -> Result<What, NoMemory>
@@ -50,7 +53,7 @@ fn first_tasks(alloc: Global, script: &Script) -> Result<Tasks, NoMemory>
     ensures { IfOk result (λ tasks. HasFirst script.now tasks) }
 {
     let program = script.programs.items().len() - 1;
-    let tasks = Tasks::new(alloc, script.pidbase, script.pidmax)?;
+    let tasks = Tasks::new(alloc, script.pidbase, script.pidmax);
     match tasks.first(program as u32) {
         Ok(tasks) => Ok(tasks),
         Err(OrNoMemory::NoMemory) => Err(NoMemory),
@@ -87,6 +90,30 @@ impl Kernel {
         ensures none { IfNone result (IsKernel self.now → is_made (past self.now) name.now ≡ false) }
     {
         self.tasks.find(name)
+    }
+
+    /// The task that holds a PID. None exactly where nobody was given it who isn't reaped.
+    pub fn holder(&self, pid: u32) -> Option<u32>
+        ensures some { IfSome result (λ o. IsKernel self.now → IsHolder (past self.now) pid o) }
+        ensures none { IfNone result (IsKernel self.now → holder (past self.now) pid ≡ None) }
+    {
+        self.tasks.holder(pid)
+    }
+
+    /// The task in the listed call that an id names. None exactly where it names no listed call.
+    pub fn caller(&self, id: u64) -> Option<u32>
+        ensures some { IfSome result (λ o. IsKernel self.now → IsCaller (past self.now) id o) }
+        ensures none { IfNone result (IsKernel self.now → named (past self.now) id ≡ None) }
+    {
+        self.resources.listener().caller(id)
+    }
+
+    /// The count of the listener's requests: how many more calls were listed than receives were answered. While it isn't 0, no
+    /// receive waits.
+    pub fn request_count(&self) -> u64
+        ensures { IsKernel self.now → result ≡ count (past self.now) }
+    {
+        self.resources.listener().count()
     }
 
     /// The name of the task of an ordinal; empty where no task has it.

@@ -24,9 +24,7 @@ ghost use Rattle.hist_model.specs.Memory.{all_mapped, group_named};
 ghost use Rattle.native_calls.specs.Stands.{IsEntered};
 ghost use Rattle.hist_model.specs.declared.event.SpawnKind.TheVariants.{Copied, Shared};
 ghost use Rattle.hist_model.specs.declared.script.Instr.TheVariants.{Spawn as InstrSpawn, Thread};
-ghost use Rattle.kernel_tasks.specs.Rows.{HasRoom as HasTaskRoom};
-ghost use Rattle.task_names.specs.Rows.{name_at};
-ghost use Rattle.task_progress.specs.Rows.{group_at};
+ghost use Rattle.tasks.specs.Stands.{HasRoom as HasTaskRoom, name_at, group_at};
 ghost use Rattle.kernel_resources.specs.Stands.{HasNativeRoom, IsThread};
 ghost use Rattle.kernel_resources.specs.Stands as resources_stand;
 
@@ -146,7 +144,7 @@ impl Kernel {
     /// group. The errors are those of `Resources::install`.
     fn install(&mut self, task: u32, id: u64, asked: &Addfd) -> What
         requires ready { MayStep self.old task }
-        requires room { HasRoomFor self.old.resources.groups (group_at self.old.tasks.progress task) 0 }
+        requires room { HasRoomFor self.old.resources.groups (group_at self.old.tasks task) 0 }
         requires due { (c : ℕ) × IsInstallDue self.old task c id asked.now }
         ensures { Acts self.old task result self.new }
     {
@@ -163,7 +161,7 @@ impl Kernel {
     fn waiting_step(&mut self, task: u32, id: u64) -> Option<What>
         requires ready { MayStep self.old task }
         requires waits { (c : ℕ) × WaitsIn self.old task c id }
-        requires room { HasRoomFor self.old.resources.groups (group_at self.old.tasks.progress task) 0 }
+        requires room { HasRoomFor self.old.resources.groups (group_at self.old.tasks task) 0 }
         ensures step { IfSome result (λ w. Acts self.old task w self.new) }
         ensures none { IfNone result ((self.new ≡ self.old) × (due_step self.old task ≡ Skip)) }
     {
@@ -180,7 +178,7 @@ impl Kernel {
     /// A task runs the native call that it owes, for which there is room. The answers are those of `Resources::run`.
     fn run_native(&mut self, task: u32, call: NativeCall) -> What
         requires ready { MayStep self.old task }
-        requires room { HasNativeRoom self.old.resources (group_at self.old.tasks.progress task) call }
+        requires room { HasNativeRoom self.old.resources (group_at self.old.tasks task) call }
         requires entered { (g : ℕ) → group_named (past self.old) (named self.old task) ≡ Some g → IsEntered self.old.script (past self.old) (named self.old task) g call }
         requires due { due_step self.old task ≡ Native ((system self.old).native (past self.old) (named self.old task)) }
         ensures { Acts self.old task result self.new }
@@ -219,7 +217,7 @@ impl Kernel {
     /// leaves all as it was.
     fn wait(&mut self, task: u32, room: Vec<u32>) -> Option<What>
         requires ready { MayStep self.old task }
-        requires room { length (name_at self.old.tasks.names task) < vec_capacity room }
+        requires room { length (name_at self.old.tasks task) < vec_capacity room }
         requires due { due_step self.old task ≡ wait_step (past self.old) (oldest (is_child (past self.old) (named self.old task)) (length (past self.old))) (oldest (is_ended_child (past self.old) (named self.old task)) (length (past self.old))) }
         ensures step { IfSome result (λ w. Acts self.old task w self.new) }
         ensures none { IfNone result ((self.new ≡ self.old) × (due_step self.old task ≡ Skip)) }
@@ -231,7 +229,7 @@ impl Kernel {
     /// A task stores bytes, which are all mapped, in the memory of its group, for which there is room.
     fn store(&mut self, task: u32, addr: u64, bytes: Text) -> What
         requires ready { MayStep self.old task }
-        requires room { HasRoomFor self.old.resources.groups (group_at self.old.tasks.progress task) (length bytes) }
+        requires room { HasRoomFor self.old.resources.groups (group_at self.old.tasks task) (length bytes) }
         requires mapped { all_mapped self.old.script.map addr (length bytes) ≡ true }
         requires due { due_step self.old task ≡ Poke addr bytes }
         ensures { Acts self.old task result self.new }
@@ -249,7 +247,7 @@ impl Kernel {
     fn make_thread(&mut self, task: u32, program: u32, room: Vec<u32>) -> What
         requires ready { MayStep self.old task }
         requires tasks { HasTaskRoom self.old.tasks task }
-        requires room { length (name_at self.old.tasks.names task) < vec_capacity room }
+        requires room { length (name_at self.old.tasks task) < vec_capacity room }
         requires next { next_instr (system self.old) (past self.old) (named self.old task) ≡ Some (Thread program) }
         requires due { due_step self.old task ≡ Spawn (next_child (past self.old) (named self.old task)) (spawn_answer (next_pid self.old.script.pidbase self.old.script.pidmax (past self.old)) Shared) }
         ensures { Acts self.old task result self.new }
@@ -267,8 +265,8 @@ impl Kernel {
     fn make_process(&mut self, task: u32, program: u32, room: Vec<u32>) -> What
         requires ready { MayStep self.old task }
         requires tasks { HasTaskRoom self.old.tasks task }
-        requires groups { HasRoomFor self.old.resources.groups (group_at self.old.tasks.progress task) 0 }
-        requires room { length (name_at self.old.tasks.names task) < vec_capacity room }
+        requires groups { HasRoomFor self.old.resources.groups (group_at self.old.tasks task) 0 }
+        requires room { length (name_at self.old.tasks task) < vec_capacity room }
         requires next { next_instr (system self.old) (past self.old) (named self.old task) ≡ Some (InstrSpawn program) }
         requires due { due_step self.old task ≡ Spawn (next_child (past self.old) (named self.old task)) (spawn_answer (next_pid self.old.script.pidbase self.old.script.pidmax (past self.old)) Copied) }
         ensures { Acts self.old task result self.new }

@@ -6,6 +6,7 @@
 //! Below stand `sys_abi` and `hist_model`; `path_walk` walks paths over this tree, and the kernel keeps one of them.
 #![tactic(auto)]
 
+pub mod attr_flags;
 mod copies;
 pub mod errors;
 mod keys;

@@ -4,6 +4,7 @@ ghost use Rattle.std.specs.Prelude.{◌≡◌, true, false, ◌<◌, ◌≤◌, 
 ghost use Rattle.hist_model.specs.Trees.{bare_tree, stated, with_line, with_node, with_mount, with_attr, ordinal_of, entry, node_at, is_dir_at, attr, up, top, target_of, parent_of, row_in};
 ghost use Rattle.mount_tree.specs.Stacks.{IsApart};
 
+use crate::attr_flags::{are_attr_flags, creates_attr, replaces_attr};
 use crate::copies::copy_node;
 use crate::errors::{AttrError, Exists};
 use crate::mounts::{Mounts, NewMount};
@@ -317,7 +318,7 @@ impl Tree {
         self.attrs.attr(n.ordinal, name).is_some()
     }
 
-    /// Sets an attribute of a node (setxattr(2)): `BadFlags` for a flag bit other than XATTR_CREATE, 1, and XATTR_REPLACE, 2;
+    /// Sets an attribute of a node (setxattr(2)): `BadFlags` for a flag other than XATTR_CREATE and XATTR_REPLACE;
     /// then `Exists` for XATTR_CREATE where the node has the attribute, and `Absent` for XATTR_REPLACE where it doesn't.
     /// All else succeeds where `ready` made room for the name and the value. It takes no memory.
     pub fn set_attr(
@@ -329,14 +330,14 @@ impl Tree {
     ) -> Result<(), AttrError>
         ensures { AttrSet self.old self.new n.ordinal name.now value.now flags result }
     {
-        if flags >= 4 {
+        if !are_attr_flags(flags) {
             return Err(AttrError::BadFlags);
         }
         if self.has_attr(n, name) {
-            if flags % 2 == 1 {
+            if creates_attr(flags) {
                 return Err(AttrError::Exists);
             }
-        } else if (flags / 2) % 2 == 1 {
+        } else if replaces_attr(flags) {
             return Err(AttrError::Absent);
         }
         match self.put_attr(n.ordinal, name, value) {

@@ -13,15 +13,13 @@ ghost use Rattle.path_walk.specs.Performed.{room_wanted};
 ghost use Rattle.native_calls.specs.Done.{TreeRun};
 
 use hist_model::request::{Kind, NodeRef, Request};
+use mount_tree::attr_flags::are_attr_flags;
 use mount_tree::tree::Tree;
 use path_walk::effects::perform_request;
 use path_walk::places::{Last, Place};
 use path_walk::resolution::{Walk, resolve};
 use sys_abi::errno::Errno;
 use sys_abi::memory::{NoMemory, OrNoMemory};
-
-/// The flags that setxattr(2) knows are below this.
-const ATTR_FLAGS: u32 = 4;
 
 /// Does what a request asks for.
 #[tactic(auto, using(crate::proofs::Runs::change_made, crate::proofs::Runs::change_refused))]
@@ -75,5 +73,5 @@ pub(crate) fn device_errno(
 pub(crate) fn may_set(name: &[u8], flags: u32) -> bool
     ensures { (path : List ℕ) (value : List ℕ) → result ≡ (is_refused (effect (Request.SetXattr path name.now value flags)) || starts_with nat_eq name.now (codes "user.")) }
 {
-    flags >= ATTR_FLAGS || name.starts_with(b"user.")
+    !are_attr_flags(flags) || name.starts_with(b"user.")
 }

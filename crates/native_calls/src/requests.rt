@@ -2,7 +2,6 @@
 //! own names alone (mknod(2), mount(2), setxattr(2), openat(2), xattr(7)).
 
 ghost use Rattle.std.specs.Prelude.{◌≡◌, ◌≤◌, ℕ, IfOk, OnErr, IsOk};
-ghost use Rattle.hist_model.specs.Effects.{is_cloexec};
 ghost use Rattle.fd_table.specs.Tables.{IsHeld, HasRoom, SameTables, SameOthers, holders_of};
 ghost use Rattle.native_calls.specs.Done.{RequestRun, RequestMarks, room_natively};
 
@@ -15,14 +14,7 @@ use path_walk::effects::follow;
 use path_walk::resolution::Walk;
 use sys_abi::errno::Errno;
 use sys_abi::memory::NoMemory;
-use sys_abi::wire::O_CLOEXEC;
-
-/// Whether the flags of an openat(2) have O_CLOEXEC.
-fn closes_on_exec(flags: u32) -> bool
-    ensures { result ≡ is_cloexec flags }
-{
-    flags / O_CLOEXEC % 2 == 1
-}
+use sys_abi::wire::is_cloexec;
 
 /// Runs a request with its arguments read, whose relative paths go from a descriptor.
 pub(crate) fn run_request(
@@ -59,7 +51,7 @@ pub(crate) fn run_request(
             change(tree, walk, root, base, request)
         }
         Request::OpenAt { path, flags, .. } => match follow(tree, root, base, path.items(), walk) {
-            Ok(node) => open(tables, table, node, closes_on_exec(*flags)),
+            Ok(node) => open(tables, table, node, is_cloexec(*flags)),
             Err(errno) => Ok(Err(errno)),
         },
         _ => Ok(Err(Errno::EPERM)),

@@ -12,6 +12,7 @@ ghost use Rattle.path_walk.specs.Performed.{IsPerformed, IsNotFollowed, making_o
 use crate::places::{Last, Place};
 use crate::resolution::{Walk, resolve};
 use hist_model::request::{Kind, Node, NodeRef, Request, node_device};
+use mount_tree::attr_flags::are_attr_flags;
 use mount_tree::errors::AttrError;
 use mount_tree::mounts::NewMount;
 use mount_tree::tree::Tree;
@@ -109,7 +110,7 @@ pub fn set_attr(
         (perform tree.old.tree root.ordinal (ordinal_of base)
         (TreeOp.SetAttr path.now change.entry.name.now change.entry.value.now change.entry.flags)) result }
 {
-    if change.flags >= 4 {
+    if !are_attr_flags(change.flags) {
         return Err(OrNoMemory::Refused(Errno::EINVAL));
     }
     let node = match follow(tree, root, base, path, walk) {

@@ -22,7 +22,7 @@ use hist_model::script::Script;
 use std::alloc::Global;
 use sys_abi::errno::Errno;
 use sys_abi::memory::{NoMemory, OrNoMemory};
-use sys_abi::wire::{Addfd, O_CLOEXEC, SECCOMP_ADDFD_FLAG_SETFD};
+use sys_abi::wire::{Addfd, is_cloexec};
 use task_memory::{SpaceRef, Spaces};
 
 /// The address space and the descriptor table of a group.
@@ -256,18 +256,11 @@ fn install_in(tables: &mut Tables, t: TableRef, asked: &Addfd) -> Result<u32, Er
     ensures others { SameOthers tables.old t tables.new }
     ensures refused { OnErr result (tables.new ≡ tables.old) }
 {
-    if asked.flags % 2 == SECCOMP_ADDFD_FLAG_SETFD {
+    if asked.has_setfd() {
         install_at_number(tables, t, asked)
     } else {
         install_lowest(tables, t, asked)
     }
-}
-
-/// Whether the descriptor that was asked for is to be closed by execve(2).
-fn closes_on_exec(asked: &Addfd) -> bool
-    ensures { result ≡ is_cloexec asked.now.newfd_flags }
-{
-    asked.newfd_flags / O_CLOEXEC % 2 == 1
 }
 
 /// Installs what was asked for at the number that it names.
@@ -283,7 +276,7 @@ fn install_at_number(tables: &mut Tables, t: TableRef, asked: &Addfd) -> Result<
     ensures refused { OnErr result (tables.new ≡ tables.old) }
 {
     let file = Obj::Broker(asked.srcfd);
-    match tables.install_at(t, asked.newfd, file, closes_on_exec(asked)) {
+    match tables.install_at(t, asked.newfd, file, is_cloexec(asked.newfd_flags)) {
         Ok(()) => Ok(asked.newfd),
         Err(OrNoMemory::Refused(InstallError::OverLimit)) => Err(Errno::EBADF),
         Err(OrNoMemory::Refused(InstallError::OverNrOpen)) => Err(Errno::EMFILE),
@@ -304,7 +297,7 @@ fn install_lowest(tables: &mut Tables, t: TableRef, asked: &Addfd) -> Result<u32
     ensures refused { OnErr result (tables.new ≡ tables.old) }
 {
     let file = Obj::Broker(asked.srcfd);
-    match tables.install(t, file, closes_on_exec(asked)) {
+    match tables.install(t, file, is_cloexec(asked.newfd_flags)) {
         Ok(number) => Ok(number),
         Err(OrNoMemory::Refused(OverLimit)) => Err(Errno::EBADF),
         Err(OrNoMemory::NoMemory) => unreachable!(),

@@ -1,6 +1,5 @@
-use Rattle.std.proofs.Common.{refl, ◌∙◌}
-use Rattle.std.proofs.lemmas.Bool.{le-leb}
+use Rattle.std.proofs.Common.{refl, sym, ◌∙◌}
 use Rattle.listener.proofs.listener.note_installation.Goals as goal
 
-pub returns-then-asked-ge-SECCOMP_ADDFD_FLAG_SEND : goal.returns-then-asked-ge-SECCOMP_ADDFD_FLAG_SEND
-returns-then-asked-ge-SECCOMP_ADDFD_FLAG_SEND c names asks = c.set_reply.ensures names asks ∙ rw (le-leb 2 _ c.if-asked-ge-SECCOMP_ADDFD_FLAG_SEND.true, ← c.installed_reply.ensures) refl
+pub returns-then-has_send_flag : goal.returns-then-has_send_flag
+returns-then-has_send_flag c names asks = c.set_reply.ensures names asks ∙ rw (sym c.has_send_flag.ensures ∙ c.if-has_send_flag.true, ← c.installed_reply.ensures) refl

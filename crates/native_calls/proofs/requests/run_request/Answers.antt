@@ -13,5 +13,5 @@ returns-else-not-may_set-clause-run c =
 
 pub returns-in-Ok-clause-marks : goal.returns-in-Ok-clause-marks
 returns-in-Ok-clause-marks c =
-    open_marks c.args.table c.args.request.now c.in-OpenAt.dirfd c.in-OpenAt.path c.in-OpenAt.flags c.closes_on_exec.result c.args.tables.now c.open.new.tables c.open.result
-    c.in-OpenAt.is c.closes_on_exec.ensures c.open.ensures.marks
+    open_marks c.args.table c.args.request.now c.in-OpenAt.dirfd c.in-OpenAt.path c.in-OpenAt.flags c.is_cloexec.result c.args.tables.now c.open.new.tables c.open.result
+    c.in-OpenAt.is c.is_cloexec.ensures c.open.ensures.marks

@@ -1,4 +1,4 @@
 use Rattle.task_groups.proofs.groups.install_lowest.Goals as goal
 
 pub returns-in-Ok-clause-mark : goal.returns-in-Ok-clause-mark
-returns-in-Ok-clause-mark c S K T = rw (← c.closes_on_exec.ensures) (c.in-Ok.ensures.marks S K T)
+returns-in-Ok-clause-mark c S K T = rw (← c.is_cloexec.ensures) (c.in-Ok.ensures.marks S K T)

@@ -1,5 +1,5 @@
 use Rattle.std.proofs.Common.{refl, true, ap, ◌∙◌}
-use Rattle.task_progress.specs.Rows.{living_in}
+use Rattle.tasks.specs.Stands.{living_in}
 use Rattle.model_kernel.specs.Kernels.{past}
 use Rattle.model_kernel.specs.Steps.{named, step_by, left_by}
 use Rattle.model_kernel.proofs.TaskSteps.{own, counts, fewer, few-stay, due-delivered, none-due, held-in, listed-as, leaving}
@@ -30,8 +30,8 @@ returns-clause-step c =
       rest = refl;
       tasks = c.in_ok-what.ensures.stands k.script (past k) e m.kernel.tasks (own k c.args.task w m d.0) refl;
       resources = fewer k e c.deliver.new.self c.leave.new.self c.args.task c.group-group.result m c.group-group.ensures.at c.in_ok-what.ensures.count
-          (c.leave.ensures k.script (past k) (left_by w (living_in k.tasks.progress) c.group-group.result) e
-          (c.leave_group.ensures k.script (past k) (living_in k.tasks.progress) m.kernel.resources)
+          (c.leave.ensures k.script (past k) (left_by w (living_in k.tasks) c.group-group.result) e
+          (c.leave_group.ensures k.script (past k) (living_in k.tasks) m.kernel.resources)
           (leaving k c.args.task c.requires.waits.0 c.args.id w m c.requires.waits.1 (rw d.1.is refl)));
       number = few-stay k e m.kernel (rw d.1.is refl);
     }

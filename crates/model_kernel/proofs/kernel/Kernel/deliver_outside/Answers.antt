@@ -1,5 +1,5 @@
 use Rattle.std.proofs.Common.{refl, false, ◌∷◌}
-use Rattle.task_progress.specs.Rows.{living_in}
+use Rattle.tasks.specs.Stands.{living_in}
 use Rattle.model_kernel.specs.Kernels.{past}
 use Rattle.model_kernel.specs.Steps.{named, step_by}
 use Rattle.model_kernel.proofs.TaskSteps.{own, counts, fewer, others, few-stay, due-delivered, delivery-other, not-held}
@@ -22,6 +22,6 @@ returns-clause-step c =
       rest = refl;
       tasks = c.in_ok-what.ensures.stands k.script (past k) e m.kernel.tasks (own k c.args.task w m d.0) refl;
       resources = fewer k e c.deliver.new.self c.leave_group.new.resources c.args.task c.group-group.result m c.group-group.ensures.at c.in_ok-what.ensures.count
-          (c.leave_group.ensures k.script (e ∷ past k) (living_in k.tasks.progress) (others k e m.kernel (rw d.1.is refl) (delivery-other k c.args.task w c.requires.outside d.1)));
+          (c.leave_group.ensures k.script (e ∷ past k) (living_in k.tasks) (others k e m.kernel (rw d.1.is refl) (delivery-other k c.args.task w c.requires.outside d.1)));
       number = few-stay k e m.kernel (rw d.1.is refl);
     }

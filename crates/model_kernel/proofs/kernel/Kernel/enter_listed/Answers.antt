@@ -3,7 +3,7 @@ use Rattle.hist_model.specs.Calls.{calls}
 use Rattle.hist_model.specs.declared.event.Entered.TheVariants.{Notify}
 use Rattle.hist_model.specs.declared.event.What.TheVariants.{Enter}
 use Rattle.kernel_resources.proofs.Natives.{counted-alike}
-use Rattle.task_progress.specs.Rows.{living_in}
+use Rattle.tasks.specs.Stands.{living_in}
 use Rattle.model_kernel.specs.Kernels.{past}
 use Rattle.model_kernel.specs.Steps.{step_by}
 use Rattle.model_kernel.proofs.TaskSteps.{own, entering, same-counts, few-stay}
@@ -17,14 +17,14 @@ returns c =
     let from : nr ≡ c.args.nr = search rules in
     let w = Enter nr c.args.args.now (Notify c.enter-id.result) in
     let e = step_by k c.args.task w in
-    let due = (c.requires.due ∙ ap (λ x. Enter x c.args.args.now (Notify ((k.script.firstid + calls (past k)) % 2 ^ 64))) (sym from)) ∙ ap (λ x. Enter nr c.args.args.now (Notify x)) (sym (c.enter-id.ensures.id k.script (past k) (living_in k.tasks.progress) m.kernel.resources)) in
+    let due = (c.requires.due ∙ ap (λ x. Enter x c.args.args.now (Notify ((k.script.firstid + calls (past k)) % 2 ^ 64))) (sym from)) ∙ ap (λ x. Enter nr c.args.args.now (Notify x)) (sym (c.enter-id.ensures.id k.script (past k) (living_in k.tasks) m.kernel.resources)) in
     record {
       due = due;
       steps = refl;
       rest = refl;
       tasks = c.stepped.ensures.stands k.script (past k) e m.kernel.tasks (own k c.args.task w m due) refl refl;
-      resources = counted-alike k.script (e ∷ past k) (living_in k.tasks.progress) (living_in c.stepped.new.self.progress) c.enter-id.new.self
-          (c.enter-id.ensures.step k.script (past k) (living_in k.tasks.progress) e m.kernel.resources (entering k c.args.task 0 c.enter-id.result nr c.args.args.now m c.requires.outside))
-          (same-counts k.tasks.progress c.stepped.new.self.progress c.args.task w refl c.stepped.ensures.count);
+      resources = counted-alike k.script (e ∷ past k) (living_in k.tasks) (living_in c.stepped.new.self) c.enter-id.new.self
+          (c.enter-id.ensures.step k.script (past k) (living_in k.tasks) e m.kernel.resources (entering k c.args.task 0 c.enter-id.result nr c.args.args.now m c.requires.outside))
+          (same-counts k.tasks c.stepped.new.self c.args.task w refl c.stepped.ensures.count);
       number = few-stay k e m.kernel refl;
     }

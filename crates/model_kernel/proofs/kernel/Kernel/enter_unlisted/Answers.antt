@@ -21,6 +21,6 @@ returns c =
       steps = entry.plain.is_step;
       rest = refl;
       tasks = c.stepped.ensures.stands k.script (past k) e m.kernel.tasks (own k c.args.task w m due) refl entry.keeps;
-      resources = kept k e c.stepped.new.self m.kernel entry.plain.keeps entry.plain.other (same-counts k.tasks.progress c.stepped.new.self.progress c.args.task w entry.ends_none c.stepped.ensures.count);
+      resources = kept k e c.stepped.new.self m.kernel entry.plain.keeps entry.plain.other (same-counts k.tasks c.stepped.new.self c.args.task w entry.ends_none c.stepped.ensures.count);
       number = few-stay k e m.kernel entry.plain.makes_none;
     }

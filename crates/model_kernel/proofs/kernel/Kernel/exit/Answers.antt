@@ -1,6 +1,6 @@
 use Rattle.std.proofs.Common.{refl, ◌∷◌}
 use Rattle.hist_model.specs.declared.event.Actor.TheVariants.{Task}
-use Rattle.task_progress.specs.Rows.{living_in}
+use Rattle.tasks.specs.Stands.{living_in}
 use Rattle.model_kernel.specs.Kernels.{past}
 use Rattle.model_kernel.specs.Steps.{named, step_by}
 use Rattle.model_kernel.proofs.TaskSteps.{own, counts, exit-plain, fewer, others, few-stay}
@@ -22,6 +22,6 @@ returns c =
       rest = refl;
       tasks = c.exit.ensures.stands k.script (past k) e m.kernel.tasks (own k c.args.task w m c.requires.due) refl c.requires.exits;
       resources = fewer k e c.exit.new.self c.leave_group.new.resources c.args.task c.group-group.result m c.group-group.ensures.at c.exit.ensures.count
-          (c.leave_group.ensures k.script (e ∷ past k) (living_in k.tasks.progress) (others k e m.kernel plain.keeps plain.other));
+          (c.leave_group.ensures k.script (e ∷ past k) (living_in k.tasks) (others k e m.kernel plain.keeps plain.other));
       number = few-stay k e m.kernel plain.makes_none;
     }

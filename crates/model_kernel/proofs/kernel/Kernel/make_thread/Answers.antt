@@ -3,10 +3,10 @@ use Rattle.hist_model.specs.Steps.{next_child}
 use Rattle.hist_model.specs.Tasks.{next_pid}
 use Rattle.hist_model.specs.declared.event.SpawnKind.TheVariants.{Shared}
 use Rattle.hist_model.specs.declared.script.Instr.TheVariants.{Thread}
-use Rattle.task_progress.specs.Rows.{living_in}
+use Rattle.tasks.specs.Stands.{living_in}
 use Rattle.model_kernel.specs.Kernels.{past}
 use Rattle.model_kernel.specs.Steps.{named, step_by}
-use Rattle.model_kernel.proofs.Numbers.{one-number}
+use Rattle.model_kernel.proofs.Numbers.{one-number, room-number}
 use Rattle.model_kernel.proofs.TaskSteps.{own, counts, spawn-made, spawned}
 use Rattle.model_kernel.proofs.kernel.Kernel.make_thread.Goals as goal
 
@@ -29,6 +29,6 @@ returns c =
       rest = refl;
       tasks = c.spawn-what.ensures.stands k.script (past k) e m.kernel.tasks (record { own = own k c.args.task w m due; instr = Thread c.args.program; next = c.requires.next; starts_is = refl; group_is = c.group-group.ensures.group k.script (past k) m.kernel.tasks m.made }) refl;
       resources = spawned k e c.spawn-what.new.self c.join_group.new.resources c.group-group.result (next_child (past k) n) d Shared m.kernel answer c.spawn-what.ensures.count
-          (λ h. c.join_group.ensures.made h k.script (past k) (living_in k.tasks.progress) e m.kernel.resources (spawn-made e (next_child (past k) n) d Shared answer h)) c.join_group.ensures.refused;
-      number = one-number e (past k) (rw (sym m.kernel.tasks.table.made_is) c.requires.tasks.table.ordinal);
+          (λ h. c.join_group.ensures.made h k.script (past k) (living_in k.tasks) e m.kernel.resources (spawn-made e (next_child (past k) n) d Shared answer h)) c.join_group.ensures.refused;
+      number = one-number e (past k) (room-number k.script (past k) k.tasks c.args.task m.kernel.tasks c.requires.tasks);
     }

@@ -1,5 +1,5 @@
 use Rattle.std.proofs.Common.{refl}
-use Rattle.kernel_tasks.proofs.Refs.{skips-gone}
+use Rattle.tasks.proofs.Told.{skips-gone}
 use Rattle.model_kernel.specs.Kernels.{past, system}
 use Rattle.model_kernel.specs.Steps.{named}
 use Rattle.model_kernel.proofs.Outside.{due-native}

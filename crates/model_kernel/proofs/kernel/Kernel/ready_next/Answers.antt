@@ -1,4 +1,4 @@
-use Rattle.task_progress.specs.Rows.{living_in}
+use Rattle.tasks.specs.Stands.{living_in}
 use Rattle.model_kernel.specs.Kernels.{past}
 use Rattle.model_kernel.proofs.TaskSteps.{counts}
 use Rattle.model_kernel.proofs.kernel.Kernel.ready_next.Goals as goal
@@ -21,14 +21,14 @@ ready-requires-in-Runs c =
 pub returns-in-Waiting-clause-kernel : goal.returns-in-Waiting-clause-kernel
 returns-in-Waiting-clause-kernel c =
     let k = c.args.self.now in
-    record { tasks = c.requires.kernel.tasks; resources = c.ready.ensures.stands k.script (past k) (living_in k.tasks.progress) c.requires.kernel.resources; few = c.requires.kernel.few }
+    record { tasks = c.requires.kernel.tasks; resources = c.ready.ensures.stands k.script (past k) (living_in k.tasks) c.requires.kernel.resources; few = c.requires.kernel.few }
 
 pub returns-in-Owed-clause-kernel : goal.returns-in-Owed-clause-kernel
 returns-in-Owed-clause-kernel c =
     let k = c.args.self.now in
-    record { tasks = c.requires.kernel.tasks; resources = c.ready_native.ensures.stands k.script (past k) (living_in k.tasks.progress) c.requires.kernel.resources; few = c.requires.kernel.few }
+    record { tasks = c.requires.kernel.tasks; resources = c.ready_native.ensures.stands k.script (past k) (living_in k.tasks) c.requires.kernel.resources; few = c.requires.kernel.few }
 
 pub returns-in_ok-size-in-Runs-clause-kernel : goal.returns-in_ok-size-in-Runs-clause-kernel
 returns-in_ok-size-in-Runs-clause-kernel c =
     let k = c.args.self.now in
-    record { tasks = c.requires.kernel.tasks; resources = c.ready-in-Runs.ensures.stands k.script (past k) (living_in k.tasks.progress) c.requires.kernel.resources; few = c.requires.kernel.few }
+    record { tasks = c.requires.kernel.tasks; resources = c.ready-in-Runs.ensures.stands k.script (past k) (living_in k.tasks) c.requires.kernel.resources; few = c.requires.kernel.few }

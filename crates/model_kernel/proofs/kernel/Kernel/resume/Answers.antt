@@ -1,5 +1,5 @@
 use Rattle.std.proofs.Common.{refl, ◌∷◌}
-use Rattle.task_progress.specs.Rows.{living_in}
+use Rattle.tasks.specs.Stands.{living_in}
 use Rattle.model_kernel.specs.Kernels.{past}
 use Rattle.model_kernel.specs.Steps.{step_by}
 use Rattle.model_kernel.proofs.TaskSteps.{own, leaving, same-counts, few-stay}
@@ -18,8 +18,8 @@ returns c =
       steps = refl;
       rest = refl;
       tasks = c.stepped.ensures.stands k.script (past k) e m.kernel.tasks (own k c.args.task w m c.requires.due) refl refl;
-      resources = counted-alike k.script (e ∷ past k) (living_in k.tasks.progress) (living_in c.stepped.new.self.progress) c.leave.new.self
-          (c.leave.ensures k.script (past k) (living_in k.tasks.progress) e m.kernel.resources (leaving k c.args.task c.requires.waits.0 c.args.id w m c.requires.waits.1 refl))
-          (same-counts k.tasks.progress c.stepped.new.self.progress c.args.task w refl c.stepped.ensures.count);
+      resources = counted-alike k.script (e ∷ past k) (living_in k.tasks) (living_in c.stepped.new.self) c.leave.new.self
+          (c.leave.ensures k.script (past k) (living_in k.tasks) e m.kernel.resources (leaving k c.args.task c.requires.waits.0 c.args.id w m c.requires.waits.1 refl))
+          (same-counts k.tasks c.stepped.new.self c.args.task w refl c.stepped.ensures.count);
       number = few-stay k e m.kernel refl;
     }

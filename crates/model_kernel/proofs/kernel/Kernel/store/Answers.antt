@@ -2,7 +2,7 @@ use Rattle.std.proofs.Common.{◌≡◌, length, true, false, not, refl, sym, ap
 use Rattle.hist_model.specs.Memory.{all_mapped}
 use Rattle.hist_model.specs.declared.event.What.TheVariants.{Poke}
 use Rattle.kernel_resources.proofs.Natives.{counted-alike}
-use Rattle.task_progress.specs.Rows.{living_in}
+use Rattle.tasks.specs.Stands.{living_in}
 use Rattle.model_kernel.specs.Kernels.{past}
 use Rattle.model_kernel.specs.Steps.{named, step_by}
 use Rattle.model_kernel.proofs.TaskSteps.{own, counts, same-counts, few-stay}
@@ -20,7 +20,7 @@ apart q = cc
 pub unreachable-requires : goal.unreachable-requires
 unreachable-requires c =
     let k = c.args.self.now in
-    let fault = c.in_default.ensures.fault k.script (past k) (living_in k.tasks.progress) c.requires.ready.kernel.resources in
+    let fault = c.in_default.ensures.fault k.script (past k) (living_in k.tasks) c.requires.ready.kernel.resources in
     apart (fault ∙ ap not (ap (λ b. all_mapped k.script.map c.args.addr (length b)) c.items.ensures ∙ c.requires.mapped))
 
 pub returns : goal.returns
@@ -35,9 +35,9 @@ returns c =
       steps = refl;
       rest = refl;
       tasks = c.stepped.ensures.stands k.script (past k) e m.kernel.tasks (own k c.args.task w m c.requires.due) refl refl;
-      resources = counted-alike k.script (e ∷ past k) (living_in k.tasks.progress) (living_in c.stepped.new.self.progress) c.poke.new.self
-          (c.in-Ok.ensures.step k.script (past k) (living_in k.tasks.progress) e m.kernel.resources
+      resources = counted-alike k.script (e ∷ past k) (living_in k.tasks) (living_in c.stepped.new.self) c.poke.new.self
+          (c.in-Ok.ensures.step k.script (past k) (living_in k.tasks) e m.kernel.resources
           (record { name = named k c.args.task; who = refl; what = ap (Poke c.args.addr) (sym c.items.ensures); group = g; own = own_is; at = at }))
-          (same-counts k.tasks.progress c.stepped.new.self.progress c.args.task w refl c.stepped.ensures.count);
+          (same-counts k.tasks c.stepped.new.self c.args.task w refl c.stepped.ensures.count);
       number = few-stay k e m.kernel refl;
     }

@@ -1,9 +1,0 @@
-pub mod Frames
-pub mod StepFacts
-pub mod Started
-pub mod Rows
-pub mod Lists
-pub mod Stepped
-pub mod Spawned
-pub mod Counted
-pub mod Acts

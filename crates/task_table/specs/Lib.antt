@@ -1,4 +1,0 @@
-pub mod Index
-pub mod Sets
-pub mod Table
-pub mod Stands

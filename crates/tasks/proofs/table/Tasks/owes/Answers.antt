@@ -1,0 +1,10 @@
+use Rattle.tasks.specs.Table.{member, table_of}
+use Rattle.tasks.proofs.Stood.{row-is}
+use Rattle.tasks.proofs.Asked.{no-task}
+use Rattle.tasks.proofs.table.Tasks.owes.Goals as goal
+
+pub returns-in-Some : goal.returns-in-Some
+returns-in-Some c S K s l = (row-is S K (table_of c.args.self.now) s.is_table c.args.o (member c.in-Some.task.now) c.in-Some.ensures.some).owes_is
+
+pub returns-in-None : goal.returns-in-None
+returns-in-None c S K s l = absurd (no-task S K (table_of c.args.self.now) s.is_table c.args.o l c.in-None.ensures.none)
