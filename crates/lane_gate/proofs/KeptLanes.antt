@@ -10,7 +10,7 @@ use Rattle.hist_model.specs.declared.event.Actor.TheVariants.{Task, Worker}
 use Rattle.hist_model.specs.declared.event.Event.{Event}
 use Rattle.hist_model.specs.declared.event.What.{What}
 use Rattle.hist_model.specs.declared.script.Script.{Script}
-use Rattle.lane_gate.specs.Keeping.{KeepsLanes, TakesTurn}
+use Rattle.lane_gate.specs.Keeping.{KeepsLanes}
 use Rattle.lane_seats.proofs.Sittings.{stands_still}
 use Rattle.lane_seats.specs.Lanes.{IsLowestFree, IsNext, KeepsLanes as MayStep, Laned, MayTurn, is_taken}
 use Rattle.lane_seats.specs.Sittings.{StandsFor}
@@ -49,36 +49,20 @@ noted_event K H seat place true event s p found =
     s.1 ∙ ap (λ (e : Event). ev (Worker seat) e.what ∷ K) (sym newest)
 noted_event K H seat place false event s p found = let late : length K < length K = event_at-below K (length K) event (rw (p, s) at found) in absurd (omega arith)
 
-module _ (old new : ServedFacts) (setup : new.setup ≡ old.setup) where
-  -- no event more
-  pub same_turn : new.history.events ≡ old.history.events → TakesTurn old new
-  same_turn e = record { setup = setup; begins = ([], e); one = rw e (omega arith) }
+module _ (old new : ServedFacts) (setup : new.setup ≡ old.setup) (seats : List (Option Sitting)) (kept : KeepsLanes old seats) where
+  pub keeps_same : new.history.events ≡ old.history.events → KeepsLanes new seats
+  keeps_same e = record { limit = rw setup kept.limit; laned = rw e kept.laned; stands = rw e kept.stands }
 
-  -- one event more
-  pub one_turn : (f : Event) → new.history.events ≡ f ∷ old.history.events → TakesTurn old new
-  one_turn f e = record { setup = setup; begins = (f ∷ [], e); one = rw e (omega arith) }
+  -- after a task's step
+  pub keeps_task : AddsTask old.history.events new.history.events → KeepsLanes new seats
+  keeps_task s = ⊎_elim (λ e. keeps_same e)
+      (λ (x : (n : Name) × (what : What) × (new.history.events ≡ ev (Task n) what ∷ old.history.events)). record {
+        limit = rw setup kept.limit;
+        laned = rw x.2 (tt, kept.laned);
+        stands = rw x.2 (stands_still (ev (Task x.0) x.1) old.history.events seats (λ seat. refl) kept.stands);
+      }) s
 
-  pub step_turn : (a : Actor) (b : Bool) → Adds a b old.history.events new.history.events → TakesTurn old new
-  step_turn a true s = one_turn (ev a s.0) s.1
-  step_turn a false s = same_turn s
-
-  pub task_turn : AddsTask old.history.events new.history.events → TakesTurn old new
-  task_turn s = ⊎_elim (λ e. same_turn e) (λ (x : (n : Name) × (what : What) × (new.history.events ≡ ev (Task n) what ∷ old.history.events)). one_turn (ev (Task x.0) x.1) x.2) s
-
-  module _ (seats : List (Option Sitting)) (kept : KeepsLanes old seats) where
-    pub keeps_same : new.history.events ≡ old.history.events → KeepsLanes new seats
-    keeps_same e = record { limit = rw setup kept.limit; laned = rw e kept.laned; stands = rw e kept.stands }
-
-    -- after a task's step
-    pub keeps_task : AddsTask old.history.events new.history.events → KeepsLanes new seats
-    keeps_task s = ⊎_elim (λ e. keeps_same e)
-        (λ (x : (n : Name) × (what : What) × (new.history.events ≡ ev (Task n) what ∷ old.history.events)). record {
-          limit = rw setup kept.limit;
-          laned = rw x.2 (tt, kept.laned);
-          stands = rw x.2 (stands_still (ev (Task x.0) x.1) old.history.events seats (λ seat. refl) kept.stands);
-        }) s
-
-    -- after a step of a worker that may take it, once it is noted in the table
-    pub keeps_step : (seat : ℕ) (what : What) (noted : List (Option Sitting)) → MayStep old.history.events (Worker seat) → new.history.events ≡ ev (Worker seat) what ∷ old.history.events
-        → StandsFor (ev (Worker seat) what ∷ old.history.events) noted → KeepsLanes new noted
-    keeps_step seat what noted may e st = record { limit = rw setup kept.limit; laned = rw e (may, kept.laned); stands = rw e st }
+  -- after a step of a worker that may take it, once it is noted in the table
+  pub keeps_step : (seat : ℕ) (what : What) (noted : List (Option Sitting)) → MayStep old.history.events (Worker seat) → new.history.events ≡ ev (Worker seat) what ∷ old.history.events
+      → StandsFor (ev (Worker seat) what ∷ old.history.events) noted → KeepsLanes new noted
+  keeps_step seat what noted may e st = record { limit = rw setup kept.limit; laned = rw e (may, kept.laned); stands = rw e st }

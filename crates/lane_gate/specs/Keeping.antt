@@ -1,11 +1,10 @@
--- What the state behind the lock of lanes keeps of its history, and what a turn does to it.
-use Rattle.std.specs.Prelude.{◌≡◌, ◌+◌, ◌≤◌, List, length, Option, Some}
+-- What the state behind the lock of lanes keeps of its history, and what hands leave of it.
+use Rattle.std.specs.Prelude.{◌≡◌, List, Option, Some}
 use Rattle.hist_model.specs.declared.event.Event.{Event}
 use Rattle.hist_model.specs.declared.history.Setup.{Setup}
 use Rattle.lane_seats.specs.Lanes.{Laned}
 use Rattle.lane_seats.specs.Sittings.{StandsFor}
 use Rattle.lane_seats.specs.declared.seats.Sitting.{Sitting}
-use Rattle.turn_lock.specs.Lists.{Begins}
 use Rattle.worker_gate.specs.Hands.{IsServedWhole}
 use Rattle.worker_gate.specs.Keeping.{ServedFacts}
 
@@ -14,12 +13,6 @@ pub record KeepsLanes (s : ServedFacts) (seats : List (Option Sitting)) : Type 0
   pub limit : s.setup.limit ≡ Some 15
   pub laned : Laned s.history.events
   pub stands : StandsFor s.history.events seats
-
--- a turn adds one event at most
-pub record TakesTurn (old new : ServedFacts) : Type 0 where
-  pub setup : new.setup ≡ old.setup
-  pub begins : Begins new.history.events old.history.events
-  pub one : length new.history.events ≤ length old.history.events + 1
 
 -- the history is a legal one of workers 0 to 15, in which every turn is a step, it is finished, and laned
 pub record IsServedInLanes (made : Setup) (K : List Event) : Type 0 where

@@ -110,7 +110,8 @@ impl Journalled for LaneServed {
 }
 
 impl LaneServed {
-    ghost use Rattle.lane_gate.specs.Keeping.{IsServedInLanes, TakesTurn};
+    ghost use Rattle.lane_gate.specs.Keeping.{IsServedInLanes};
+    ghost use Rattle.worker_gate.specs.Keeping.{TakesTurn};
 
     /// The state after a script's start, with all seats free.
     pub fn new(alloc: Global, policy: Policy, script: Script) -> Result<LaneServed, NoMemory>
@@ -154,14 +155,10 @@ impl LaneServed {
     fn receive(&mut self, alloc: Global) -> Result<Came, NoMemory>
         ensures { TakesTurn self.old self.new }
     {
-        let Some(seat) = self.seats.lowest_free() else {
-            return Ok(Came::Idle);
-        };
-        let came = self.step_seat(alloc, seat)?;
-        if let Came::Idle = came {
-            self.served.note_no_call();
+        match self.seats.lowest_free() {
+            Some(seat) => self.step_seat(alloc, seat),
+            None => Ok(Came::Idle),
         }
-        Ok(came)
     }
 
     /// A step of the worker at a seat, if its session is its lane's next.

@@ -3,3 +3,5 @@ pub mod KnownTasks
 pub mod Kept
 pub mod Continuing
 pub mod Whole
+pub mod Turns
+pub mod Endings

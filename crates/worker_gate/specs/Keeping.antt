@@ -50,3 +50,9 @@ Adds a false K H = H ≡ K
 -- a task took a step, or nobody did
 abbrev pub AddsTask : List Event → List Event → Type 0
 AddsTask K H = (H ≡ K) ⊎ ((n : Name) × (what : What) × (H ≡ ev (Task n) what ∷ K))
+
+-- a turn adds one event at most
+pub record TakesTurn (old new : ServedFacts) : Type 0 where
+  pub setup : new.setup ≡ old.setup
+  pub begins : Begins new.history.events old.history.events
+  pub one : length new.history.events ≤ length old.history.events + 1

@@ -1,3 +1,4 @@
 pub mod Keeping
 pub mod Scheduling
 pub mod Hands
+pub mod Endings

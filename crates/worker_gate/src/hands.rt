@@ -262,7 +262,7 @@ fn work_all<R: Threads + Wait + Sync, G: Gate + Sync>(
 }
 
 /// Looks whether nothing is left to do. Where something is, a hand found no memory.
-fn see_end<W: Wait>(rt: &W, lock: &TurnLock<Served>, pass: &mut Pass) -> Result<(), NoMemory>
+pub fn see_end<W: Wait>(rt: &W, lock: &TurnLock<Served>, pass: &mut Pass) -> Result<(), NoMemory>
     requires own { IsPassOf lock.now pass.old × IsAlone pass.old }
     ensures own { IsPassOf lock.now pass.new × IsAlone pass.new }
     ensures begins { Begins pass.new.seen pass.old.seen }

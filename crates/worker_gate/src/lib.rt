@@ -25,7 +25,7 @@ mod steps;
 mod wait_queues;
 
 pub use gate::{Gate, OpenGate, Point};
-pub use hands::serve_hands;
+pub use hands::{see_end, serve_hands};
 pub use schedule::{Played, play, schedule_of};
 pub use scheduled::play_schedule;
 pub use served::Served;

@@ -5,8 +5,9 @@ ghost use Rattle.hist_model.specs.Legal.{started};
 ghost use Rattle.hist_model.specs.Look.{ev};
 ghost use Rattle.hist_model.specs.declared.event.Actor.TheVariants.{Listener};
 ghost use Rattle.hist_model.specs.declared.event.What.TheVariants.{Close};
-ghost use Rattle.mediation.specs.Scheduled.{IsScheduled};
+ghost use Rattle.mediation.specs.Scheduled.{IsScheduled, IsUnclosed};
 ghost use Rattle.model_kernel.specs.Kernels.{IsKernel, past};
+ghost use Rattle.worker_gate.specs.Endings.{ClosesBehind};
 ghost use Rattle.worker_gate.specs.Keeping.{IsKept};
 ghost use Rattle.worker_gate.specs.Scheduling.{IsKnown};
 ghost use Rattle.broker_machine.specs.Serving.{IsFound, Reaches, after_step};
@@ -165,5 +166,18 @@ impl Served {
         ensures events { IfOk result (λ p. p.history.events ≡ ev Listener Close ∷ self.history.events) }
     {
         Box::into_inner(self.serving).finish()
+    }
+
+    /// Closes the listener behind a history that isn't closed, and gives that history with the policy and the script.
+    pub fn close_listener(self) -> Result<Played, NoMemory>
+        requires { IsUnclosed self.history.events }
+        ensures policy { IfOk result (λ p. p.policy ≡ self.setup.policy) }
+        ensures script { IfOk result (λ p. p.script ≡ self.setup.script) }
+        ensures closed { IfOk result (λ p. ClosesBehind self.history.events p.history.events) }
+    {
+        let played = self.finish()?;
+        // There are fewer than 2^64 events, as a legal history has.
+        let _events = played.history.len();
+        Ok(played)
     }
 }

@@ -165,6 +165,14 @@ impl Serving {
         self.runnable.catch_up(self.machine.kernel())
     }
 
+    /// The work that is worth a try: a call can be received exactly where requests are counted.
+    pub(crate) fn left(&self) -> Work {
+        Work {
+            calls: self.machine.kernel().request_count() != 0,
+            tasks: self.runnable.has_tasks(),
+        }
+    }
+
     /// What a hand does where its worker has nothing to do.
     fn pass_on(&mut self, alloc: Global, role: Role, number: u8) -> Result<Came, NoMemory>
         requires kept { IsKept self.old.policy self.old.limit self.old.machine }
@@ -172,9 +180,6 @@ impl Serving {
         ensures setup { (self.new.policy ≡ self.old.policy) × (self.new.limit ≡ self.old.limit) }
     {
         let has_request = self.machine.kernel().has_request(number);
-        if !has_request {
-            self.runnable.note_no_call();
-        }
         match (role.steps_tasks, has_request) {
             (true, true) => self.try_or_wait(alloc, Awaits::RequestOrTask),
             (true, false) => self.try_or_wait(alloc, Awaits::CallOrTask),
@@ -250,7 +255,7 @@ impl Serving {
         Ok(Turned {
             came,
             settled,
-            left: self.runnable.left(),
+            left: self.left(),
             seeks: self.seeks(role),
         })
     }

@@ -38,13 +38,6 @@ impl Served {
         self.serving.catch_up()
     }
 
-    /// A worker found no call to receive.
-    pub fn note_no_call(&mut self)
-        ensures { self.new ≡ self.old }
-    {
-        self.serving.runnable.note_no_call();
-    }
-
     /// A hand found no memory, so that all of them end.
     pub fn give_up(&mut self)
         ensures { self.new ≡ self.old }
@@ -54,7 +47,7 @@ impl Served {
 
     /// The work that is worth a try.
     pub fn left(&self) -> Work {
-        self.serving.runnable.left()
+        self.serving.left()
     }
 
     /// Whether hands are done: nothing is left to do, or one of them found no memory.

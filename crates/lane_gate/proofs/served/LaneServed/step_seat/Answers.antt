@@ -2,8 +2,9 @@ use Rattle.std.proofs.Common.{◌≡◌, ◌∙◌, length, Some, ap, sym, subst
 use Rattle.hist_model.specs.Histories.{Seen}
 use Rattle.hist_model.specs.Look.{event_at}
 use Rattle.hist_model.specs.declared.event.Actor.TheVariants.{Worker}
-use Rattle.lane_gate.proofs.KeptLanes.{keeps_step, noted_event, step_turn}
+use Rattle.lane_gate.proofs.KeptLanes.{keeps_step, noted_event}
 use Rattle.lane_seats.specs.Lanes.{KeepsLanes as MayStep}
+use Rattle.worker_gate.proofs.Turns.{step_turn}
 use Rattle.worker_gate.specs.Keeping.{ServedFacts}
 use Rattle.lane_gate.proofs.served.LaneServed.step_seat.Goals as goal
 

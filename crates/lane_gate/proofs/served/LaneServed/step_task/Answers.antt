@@ -1,4 +1,5 @@
-use Rattle.lane_gate.proofs.KeptLanes.{keeps_task, task_turn}
+use Rattle.lane_gate.proofs.KeptLanes.{keeps_task}
+use Rattle.worker_gate.proofs.Turns.{task_turn}
 use Rattle.lane_gate.proofs.served.LaneServed.step_task.Goals as goal
 
 pub invariant_of-self : goal.invariant_of-self
