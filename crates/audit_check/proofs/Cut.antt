@@ -1,11 +1,13 @@
 -- A text is cut behind its first line, and at its first space.
 -- By where the first such byte stands, and by induction on the text.
-use Rattle.std.proofs.Common.{◌≡◌, ℕ, zero, suc, ◌+◌, ◌-◌, ◌<◌, ◌≤◌, true, false, List, [], ◌∷◌, length, take, drop, get_or, Some, None, refl, sym, ap, ◌∙◌, inl, inr, arith, add-one, take_all, length-drop}
+use Rattle.std.proofs.Common.{◌≡◌, ℕ, zero, suc, ◌+◌, ◌-◌, ◌<◌, ◌≤◌, Bool, true, false, Option, None, List, [], ◌∷◌, length, take, drop, get_or, Some, refl, sym, ap, ◌∙◌, inl, inr, arith, add-one, take_all, length-drop}
 use Rattle.std.specs.Prelude.{not, nat_lt, position, ◌==◌}
-use Rattle.std.specs.List.{onto_first, prefix_len, slice_split}
+use Rattle.std.specs.List.{onto_first, position_or_len, prefix_len, slice_split}
 use Rattle.std.proofs.lemmas.Bool.{cases_Bool, eqb-true}
 use Rattle.std.proofs.lemmas.Bool.Decides.{nat_tests}
 use Rattle.std.proofs.lemmas.List.Quantifiers.{position-Some}
+use Rattle.std.proofs.lemmas.List.Sums.{position_or_len_is}
+use Rattle.memchr.specs.Find.{IsFirstByte, is_byte}
 use Rattle.std.proofs.lemmas.List.Splits.{slice_split-cons_no, slice_split-cons_yes}
 use Rattle.audit_check.specs.Lines.{before_lines, lines}
 
@@ -38,6 +40,26 @@ none-at mark text e = elim (cases_Bool (nat_lt (mark-len mark text) (length text
   | inl h ↦ let no : Some (mark-len mark text) ≡ None = rw h at e in cc
   | inr h ↦ grind (arith, nat_tests)
 ]
+
+-- ---- The first byte of a kind
+
+fails : (b : Bool) → (b ≡ true → ⊥) → b ≡ false
+fails true n = absurd (n refl)
+fails false n = refl
+
+-- it stands at the first place whose byte passes
+pub first_place : (mark : ℕ) (text : List ℕ) (r : Option ℕ) → IsFirstByte (is_byte mark) text r → r ≡ position (λ b. b == mark) text
+first_place mark text None h =
+    let n : position_or_len (λ b. b == mark) text ≡ length text =
+    position_or_len_is (λ b. b == mark) text (length text) 0 (omega arith) (λ k l. fails (get_or text k 0 == mark) (h k (omega arith) l)) (λ l. absurd (omega arith)) in
+    let t : nat_lt (length text) (length text) ≡ false = grind (arith, nat_tests) in
+    rw (n, t) refl
+first_place mark text (Some k) h =
+    let l = h.0.high in
+    let n : position_or_len (λ b. b == mark) text ≡ k =
+    position_or_len_is (λ b. b == mark) text k 0 (omega arith) (λ j m. fails (get_or text j 0 == mark) (h.0.before j (omega arith) m)) (λ m. h.1) in
+    let t : nat_lt k (length text) ≡ true = grind (arith, nat_tests) in
+    rw (n, t) refl
 
 -- what stands behind a front, up to the text's end
 pub rest_whole : (n : ℕ) (text : List ℕ) → take (length text - n) (drop n text) ≡ drop n text

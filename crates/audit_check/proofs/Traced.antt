@@ -9,7 +9,7 @@ use Rattle.hist_model.specs.ReportAudit.{Judging}
 use Rattle.hist_model.specs.ReportJournal.{lines_of}
 use Rattle.hist_model.specs.declared.event.Event.{Event}
 use Rattle.audit_log.specs.Begun.{Begun, told}
-use Rattle.audit_log.specs.declared.session.Session.{Session}
+use Rattle.audit_log.specs.declared.session.SessionRecord.{SessionRecord}
 use Rattle.audit_log.proofs.SessionFound.{finding_told}
 use Rattle.audit_log.specs.Sessions.{begun}
 use Rattle.audit_log.specs.Received.{TellsReceived}
@@ -65,7 +65,7 @@ trace-same : (J : Judging) (s : Option Begun) (n : Option ℕ) → trace_of (opt
 trace-same J None n = refl
 trace-same J (Some s) n = rw (finding_told J s) refl
 
-module _ (J : Judging) (H : List Event) (rows : List Session) (calls served installed : List (Option ℕ)) (kept : rows ≡ map (told J) (begun H H)) (received : TellsReceived H calls)
+module _ (J : Judging) (H : List Event) (rows : List SessionRecord) (calls served installed : List (Option ℕ)) (kept : rows ≡ map (told J) (begun H H)) (received : TellsReceived H calls)
     (sessions : TellsSessions calls rows (length H) served) (answers : TellsAnswers H (length H) installed) where
   line-same : (later K : List Event) (e : Event) → H ≡ later ++ e ∷ K → traced_line J rows served installed K e ≡ trail_line J H K e
   line-same later K e q =

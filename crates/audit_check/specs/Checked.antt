@@ -8,6 +8,7 @@ use Rattle.hist_model.specs.declared.event.Event.{Event}
 use Rattle.hist_model.specs.declared.event.What.TheVariants.{Close}
 use Rattle.hist_model.specs.declared.policy.Policy.{Policy}
 use Rattle.hist_model.specs.declared.script.Script.{Script}
+use Rattle.audit_log.specs.Tables.{TellsTables}
 use Rattle.model_kernel.specs.Kernels.{past}
 use Rattle.broker_machine.specs.Serving.{IsAt, Reaches}
 use Rattle.broker_machine.specs.declared.machine.Machine.{Machine}
@@ -27,9 +28,9 @@ abbrev pub without_close : List Event → List Event
 without_close [] = []
 without_close (e ∷ K) = if closes e.what then K else e ∷ K
 
--- yes: the bytes are the report of this legal history, which is finished or not but for its close; no: this is their fault line
+-- yes: the bytes are the report of this legal history, which is finished or not but for its close, and of which the tables tell; no: this is their fault line
 abbrev pub Tells : Policy → Script → List ℕ → Found → Type 0
-Tells P S bytes (Yes history finished) = IsReported P S bytes history.events × ((finished ≡ true) ↔ Finished (without_close history.events))
+Tells P S bytes (Yes history finished tables) = IsReported P S bytes history.events × ((finished ≡ true) ↔ Finished (without_close history.events)) × TellsTables P.rules history.events tables
 Tells P S bytes (No line) = IsFaultLine P S bytes line
 
 -- with the close of the listener

@@ -26,7 +26,8 @@ use crate::found::Found;
 use crate::line_ends::{count_in, split_line};
 use crate::stages::{Ended, Left, Stepped};
 use audit_log::journal::push_event;
-use audit_log::line::Line;
+use audit_log::line::LineBuffer;
+use audit_log::tables::Tables;
 use broker_machine::Machine;
 use hist_model::event::{Actor, Event, What};
 use hist_model::history::History;
@@ -37,7 +38,7 @@ use sys_abi::memory::NoMemory;
 
 /// Whether a line is that of an event at a place.
 fn is_line_of(
-    scratch: &mut Line,
+    scratch: &mut LineBuffer,
     place: usize,
     event: &Event,
     line: &[u8],
@@ -50,7 +51,7 @@ fn is_line_of(
 }
 
 /// Whether a line is that of the listener's close at a place.
-fn is_close_line(scratch: &mut Line, place: usize, line: &[u8]) -> Result<bool, NoMemory>
+fn is_close_line(scratch: &mut LineBuffer, place: usize, line: &[u8]) -> Result<bool, NoMemory>
     ensures { IfOk result (λ b. b ≡ bytes_eq (event_line place (ev Listener Close)) line.now) }
 {
     let event = Event {
@@ -61,7 +62,11 @@ fn is_close_line(scratch: &mut Line, place: usize, line: &[u8]) -> Result<bool, 
 }
 
 /// Whether a line is that of the newest event.
-fn is_newest_line(history: &History, scratch: &mut Line, line: &[u8]) -> Result<bool, NoMemory>
+fn is_newest_line(
+    history: &History,
+    scratch: &mut LineBuffer,
+    line: &[u8],
+) -> Result<bool, NoMemory>
     requires { 0 < length history.now.events }
     ensures { IfOk result (λ b. (e : EventValue) (K : List EventValue) → history.now.events ≡ e ∷ K → b ≡ bytes_eq (event_line (length K) e) line.now) }
 {
@@ -77,7 +82,7 @@ fn turn(
     alloc: Global,
     policy: &Policy,
     machine: &mut Machine,
-    scratch: &mut Line,
+    scratch: &mut LineBuffer,
     who: &Actor,
     line: &[u8],
 ) -> Result<Stepped, NoMemory>
@@ -95,7 +100,12 @@ fn turn(
 }
 
 /// The line of the listener, which is closed where no more events are to come.
-fn close(machine: &Machine, scratch: &mut Line, line: &[u8], more: u64) -> Result<Stepped, NoMemory>
+fn close(
+    machine: &Machine,
+    scratch: &mut LineBuffer,
+    line: &[u8],
+    more: u64,
+) -> Result<Stepped, NoMemory>
     ensures { IfOk result (λ s. (P : PolicyValue) → IsServed P machine.now → actor_in line.now ≡ Some Listener → HasStepped P machine.now line.now more s machine.now) }
 {
     if more > 0 {
@@ -114,7 +124,7 @@ fn named(
     alloc: Global,
     policy: &Policy,
     machine: &mut Machine,
-    scratch: &mut Line,
+    scratch: &mut LineBuffer,
     who: &Actor,
     line: &[u8],
     more: u64,
@@ -135,7 +145,7 @@ fn step(
     alloc: Global,
     policy: &Policy,
     machine: &mut Machine,
-    scratch: &mut Line,
+    scratch: &mut LineBuffer,
     line: &[u8],
     more: u64,
 ) -> Result<Stepped, NoMemory>
@@ -160,7 +170,7 @@ fn events<'a>(
     alloc: Global,
     policy: &Policy,
     machine: &mut Machine,
-    scratch: &mut Line,
+    scratch: &mut LineBuffer,
     start: Left<'a>,
     count: u64,
 ) -> Result<Ended<'a>, NoMemory>
@@ -204,8 +214,13 @@ fn rest(
     requires finished { (finished ≡ true) ↔ Finished (without_close history.events) }
     ensures { IfOk result (λ found. (S : ScriptValue) (bytes : List ℕ) → HasRead policy.now S bytes left.entry.number (lines left.entry.text.now) (Rest history.events (lines (rest_of policy.now history.events))) → Tells policy.now S bytes found) }
 {
-    match compared(alloc, policy, &history, left.text)? {
-        None => Ok(Found::Yes { history, finished }),
+    let tables = Tables::of(alloc, policy, &history)?;
+    match compared(alloc, policy, &history, &tables, left.text)? {
+        None => Ok(Found::Yes {
+            history,
+            finished,
+            tables,
+        }),
         Some(ends) => Ok(Found::No {
             line: left.number + ends as u32 + 1,
         }),
@@ -256,7 +271,7 @@ fn journal(
     }
     let (line, text) = split_line(left.text);
     let mut machine = Machine::new(alloc, script)?;
-    let mut scratch = Line::new(alloc);
+    let mut scratch = LineBuffer::new(alloc);
     let same = is_newest_line(machine.history(), &mut scratch, line)?;
     if !same {
         return Ok(Found::No { line: number });

@@ -2,12 +2,14 @@
 
 ghost use Rattle.std.specs.Prelude.{◌≡◌, ◌≢◌, ◌<◌, ◌≤◌, ◌↔◌, true, false, IfOk, IfSome, IsTrue, None, Some, length, slice_get, take};
 ghost use Rattle.std.specs.Option.{ForSome};
+ghost use Rattle.audit_log.specs.Tables.{TellsTables};
 ghost use Rattle.io_edge.specs.SinkState.{Writes};
 ghost use Rattle.audit_check.specs.Pass.{Compares, ends, faults_of, parted, told};
 ghost use Rattle.audit_check.specs.Reading.{rest_of};
 
 use audit_log::error::ReportError;
-use audit_log::report::write_rest;
+use audit_log::report::write_rest_by;
+use audit_log::tables::Tables;
 use hist_model::history::History;
 use hist_model::policy::Policy;
 use io_edge::fault::Failed;
@@ -97,13 +99,16 @@ impl Sink for Compare<'_> {
     }
 }
 
-/// Whether a text is what the report of a history has behind its journal, or how many lines end in what they have in common.
+/// Whether a text is what the report of a history has behind its journal, by the history's tables, or how many lines end in what they
+/// have in common.
 pub(crate) fn compared(
     alloc: Global,
     policy: &Policy,
     history: &History,
+    tables: &Tables,
     text: &[u8],
 ) -> Result<Option<usize>, NoMemory>
+    requires { TellsTables policy.now.rules history.now.events tables.now }
     ensures compares { IfOk result (λ parts. Compares (rest_of policy.now history.now.events) text.now parts) }
     ensures few { IfOk result (λ parts. IfSome parts (λ n. n ≤ length text.now)) }
 {
@@ -112,7 +117,7 @@ pub(crate) fn compared(
         same: 0,
         other: None,
     };
-    match write_rest(alloc, policy, history, &mut sink) {
+    match write_rest_by(alloc, policy, history, tables, &mut sink) {
         Err(ReportError::NoMemory) => Err(NoMemory),
         Err(ReportError::WriteFault) => Ok(sink.parted()),
         Ok(()) => Ok(sink.parted()),

@@ -5,16 +5,18 @@ ghost use Rattle.audit_check.specs.Lines.{lines};
 ghost use Rattle.audit_check.specs.Pass.{count_in};
 ghost use Rattle.audit_check.specs.Reading.{title_word};
 
-use audit_log::line::Line;
+use audit_log::line::LineBuffer;
+use memchr::memchr;
 use plain_words::number_between;
 use std::alloc::Global;
 use sys_abi::memory::NoMemory;
 
 /// The place of the byte that ends the first line.
+#[tactic(auto, using(crate::proofs::Cut::first_place))]
 fn line_end(text: &[u8]) -> Option<usize>
     ensures { result ≡ position (λ b. b == 10) text.now }
 {
-    text.iter().position(|byte| *byte == b'\n')
+    memchr(b'\n', text)
 }
 
 /// The first line of a text, with the byte that ends it, and what stands behind it.
@@ -45,7 +47,7 @@ pub(crate) fn count_in(alloc: Global, line: &[u8]) -> Result<Option<u64>, NoMemo
     let Some(count) = number_between(title_word(line), 1, u64::MAX) else {
         return Ok(None);
     };
-    let mut title = Line::new(alloc);
+    let mut title = LineBuffer::new(alloc);
     title.push("journal ")?;
     title.push_number(count)?;
     title.push("\n")?;

@@ -6,8 +6,8 @@ ghost use Rattle.audit_check.specs.Trail.{place_text, trace_text};
 ghost use Rattle.audit_check.specs.Traced.{trace_of};
 
 use audit_log::audit::{push_rule, rule_of};
-use audit_log::line::Line;
-use audit_log::session::Session;
+use audit_log::line::LineBuffer;
+use audit_log::session::SessionRecord;
 use hist_model::policy::Policy;
 use sys_abi::memory::NoMemory;
 
@@ -27,7 +27,7 @@ pub struct Trace {
 }
 
 /// What is told of a call, by its session and the installation that answered it.
-pub(crate) fn trace_of(session: Option<&Session>, installed: Option<usize>) -> Trace
+pub(crate) fn trace_of(session: Option<&SessionRecord>, installed: Option<usize>) -> Trace
     ensures { result ≡ trace_of (option_copied session.entry) installed }
 {
     match session {
@@ -49,7 +49,7 @@ pub(crate) fn trace_of(session: Option<&Session>, installed: Option<usize>) -> T
 }
 
 /// Adds a word, and a place, or `-` where there is none.
-fn push_place(line: &mut Line, word: &str, place: Option<usize>) -> Result<(), NoMemory>
+fn push_place(line: &mut LineBuffer, word: &str, place: Option<usize>) -> Result<(), NoMemory>
     ensures { OnOk result (line.new ≡ line.old ++ (word.now ++ place_text place)) }
 {
     line.push(word)?;
@@ -61,7 +61,7 @@ fn push_place(line: &mut Line, word: &str, place: Option<usize>) -> Result<(), N
 
 /// Adds the line of the call at a place.
 pub(crate) fn push_trace(
-    line: &mut Line,
+    line: &mut LineBuffer,
     policy: &Policy,
     place: usize,
     trace: &Trace,

@@ -4,19 +4,19 @@ ghost use Rattle.std.specs.Prelude.{◌≡◌, ◌<◌, ℕ, List, IfOk, None, O
 ghost use Rattle.hist_model.specs.ReportAudit.{judging_by};
 ghost use Rattle.hist_model.specs.declared.event.Event.{Event};
 ghost use Rattle.audit_log.specs.Requests.{TellsInstalled};
+ghost use Rattle.audit_log.specs.Tables.{TellsTables};
 ghost use Rattle.audit_log.specs.Written.{Wrote};
 ghost use Rattle.audit_check.specs.Trail.{trail};
 ghost use Rattle.audit_log.specs.Served.{row_at};
 ghost use Rattle.audit_check.specs.Traced.{TellsAnswers};
 
 use crate::trace::{push_trace, trace_of};
-use audit_log::call_table::CallTable;
 use audit_log::error::ReportError;
-use audit_log::line::Line;
+use audit_log::line::LineBuffer;
 use audit_log::part::{Part, write_lines};
 use audit_log::served::{none_found, note, place_at, served_calls};
-use audit_log::session::Session;
-use audit_log::session_table::sessions;
+use audit_log::session::SessionRecord;
+use audit_log::tables::Tables;
 use hist_model::event::{Entered, Event, What};
 use hist_model::history::History;
 use hist_model::policy::Policy;
@@ -24,30 +24,31 @@ use io_edge::sink::Sink;
 use std::alloc::Global;
 use sys_abi::memory::NoMemory;
 
-/// Writes the trail of a history: for each call, from the oldest on, the places of its entry, of its session's receive, second
-/// good check and effect that was done, and of the answer, and the rule that decided; `-` for what isn't there.
+/// Writes the trail of a history, by its tables: for each call, from the oldest on, the places of its entry, of its session's receive,
+/// second good check and effect that was done, and of the answer, and the rule that decided; `-` for what isn't there.
 ///
 /// `WriteFault` comes only where the sink's count of faults rose. After an error the sink took a prefix of the trail.
 pub fn write_trail<O: Sink>(
     alloc: Global,
     policy: &Policy,
     history: &History,
+    tables: &Tables,
     out: &mut O,
 ) -> Result<(), ReportError>
+    requires { TellsTables policy.now.rules history.now.events tables.now }
     ensures { Wrote (O.state out.old) (trail (judging_by policy.now.rules) history.now.events) result (O.state out.new) }
 {
     let events = history.events();
-    let sessions = sessions(alloc, policy, events)?;
-    let calls = CallTable::of(alloc, events)?;
-    let served = served_calls(alloc, events.len(), calls.received(), sessions.as_slice())?;
-    let installed = answered_calls(alloc, events.len(), calls.answered())?;
+    let sessions = tables.sessions.as_slice();
+    let served = served_calls(alloc, events.len(), tables.calls.received(), sessions)?;
+    let installed = answered_calls(alloc, events.len(), tables.calls.answered())?;
     let part = Trail {
         policy,
-        sessions: sessions.as_slice(),
+        sessions,
         served: served.as_slice(),
         installed: installed.as_slice(),
     };
-    let mut line = Line::new(alloc);
+    let mut line = LineBuffer::new(alloc);
     write_lines(&part, &mut line, events, out)
 }
 
@@ -72,7 +73,7 @@ fn answered_calls(
 struct Trail<'a> {
     policy: &'a Policy,
     /// What is kept of each session, from the oldest on.
-    sessions: &'a [Session],
+    sessions: &'a [SessionRecord],
     /// Of each call, by its place, the row of its session.
     served: &'a [Option<usize>],
     /// Of each call, by its place, the event that answered it by an installation.
@@ -81,7 +82,7 @@ struct Trail<'a> {
 
 impl Trail<'_> {
     /// What is kept of the session of the call at a place.
-    fn session_of(&self, place: usize) -> Option<&Session>
+    fn session_of(&self, place: usize) -> Option<&SessionRecord>
         ensures { option_copied result ≡ row_at self.now.sessions.now (get_or self.now.served.now place None) }
     {
         self.sessions.get(place_at(self.served, place)?)
@@ -93,7 +94,12 @@ impl Part for Trail<'_> {
 
     ghost text = { λ t. traced_line (judging_by t.policy.now.rules) t.sessions.now t.served.now t.installed.now };
 
-    fn push_line(&self, line: &mut Line, before: &[Event], event: &Event) -> Result<(), NoMemory> {
+    fn push_line(
+        &self,
+        line: &mut LineBuffer,
+        before: &[Event],
+        event: &Event,
+    ) -> Result<(), NoMemory> {
         match &event.what {
             What::Enter {
                 verdict: Entered::Notify { .. },

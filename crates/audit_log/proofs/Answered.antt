@@ -22,7 +22,7 @@ use Rattle.audit_log.specs.Requests.{TellsInstalled, TellsRequests, answered_cal
 use Rattle.audit_log.specs.Tasks.{Knows, call_of, facts_in, task_facts}
 use Rattle.audit_log.specs.declared.received.Ids.{Ids}
 use Rattle.audit_log.specs.declared.records.CallRecord.{CallRecord}
-use Rattle.audit_log.specs.declared.tasks.Tasks.{Tasks}
+use Rattle.audit_log.specs.declared.tasks.TaskRecords.{TaskRecords}
 use Rattle.audit_log.proofs.ByPlace.{by_place_more, none_by_place}
 use Rattle.audit_log.proofs.Newest.{elsewhere, newest_below, newest_not_past, newest_passes}
 use Rattle.audit_log.proofs.ReceivedCalls.{at_place, newest_named}
@@ -58,7 +58,7 @@ named-same x y c K own = elim (cases_Bool (y == x)) [
     other : x ≡ y → (y == x) ≡ false → ⊥
     other same h = let t : (y == x) ≡ true = eq-eqb y x (sym same) in cc (h, t)
 
--- ---- Requests
+-- ---- PendingRequests
 
 -- nothing was asked for a call at a place past the events
 no-requests : (x : ℕ) (n : Name) (c : ℕ) (K : List Event) → length K ≤ c → requests x n c K ≡ []
@@ -235,7 +235,7 @@ answered_told K e records queue t r = by (gave e.what) (call_of e.who (task_fact
     ]
 
 -- the call that an installation is for, by what is kept of the tasks
-call-is : (K : List Event) (e : Event) (tasks : Tasks) (records : List CallRecord) (call : Option ℕ) → Knows K tasks
+call-is : (K : List Event) (e : Event) (tasks : TaskRecords) (records : List CallRecord) (call : Option ℕ) → Knows K tasks
     → call ≡ pending_call (call_of e.who (facts_in tasks)) records → call ≡ pending_call (call_of e.who (task_facts K)) records
 call-is K e tasks records call k q =
     let f : facts_in tasks ≡ task_facts K = λ i. λ n. k n i in
@@ -254,7 +254,7 @@ unfolding answer_count
 none_answered = refl
 
 -- the requests with one more event
-pub asked_more : (K : List Event) (e : Event) (tasks : Tasks) (ids : Ids) (records : List CallRecord) (call : Option ℕ) (before new : ℕ → List Bool)
+pub asked_more : (K : List Event) (e : Event) (tasks : TaskRecords) (ids : Ids) (records : List CallRecord) (call : Option ℕ) (before new : ℕ → List Bool)
     → Tells K records → Knows K tasks → Names K ids → TellsRequests K before → call ≡ pending_call (call_of e.who (facts_in tasks)) records
     → ((c : ℕ) → new c ≡ queued e.what call (place_in ids) c (before c)) → TellsRequests (e ∷ K) new
 asked_more K e tasks ids records call before new t k n r q h =
@@ -267,7 +267,7 @@ asked_more K e tasks ids records call before new t k n r q h =
     ∙ requests_more K e records t c
 
 -- the calls that are answered by installations, with one more event
-pub installed_more : (K : List Event) (e : Event) (place : ℕ) (tasks : Tasks) (records : List CallRecord) (call o : Option ℕ) (queue : ℕ → List Bool) (before after : List (Option ℕ))
+pub installed_more : (K : List Event) (e : Event) (place : ℕ) (tasks : TaskRecords) (records : List CallRecord) (call o : Option ℕ) (queue : ℕ → List Bool) (before after : List (Option ℕ))
     → length K ≡ place → length before ≡ place → TellsInstalled K before → Tells K records → Knows K tasks → TellsRequests K queue
     → call ≡ pending_call (call_of e.who (facts_in tasks)) records → o ≡ answered_call e.what call queue → after ≡ before ++ o ∷ []
     → (length after ≡ place + 1) × TellsInstalled (e ∷ K) after

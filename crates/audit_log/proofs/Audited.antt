@@ -18,7 +18,7 @@ use Rattle.hist_model.specs.declared.report.Audit.{Audit}
 use Rattle.sys_abi.specs.declared.wire.Notif.{Notif}
 use Rattle.audit_log.specs.Begun.{Begun, told}
 use Rattle.audit_log.specs.SessionStages.{stages_at}
-use Rattle.audit_log.specs.declared.session.Session.{Session}
+use Rattle.audit_log.specs.declared.session.SessionRecord.{SessionRecord}
 use Rattle.audit_log.proofs.SessionFound.{finding_told}
 use Rattle.audit_log.specs.Sessions.{begun, begun_by}
 use Rattle.audit_log.specs.Audited.{audited, session_line}
@@ -34,7 +34,7 @@ audited-told J s number = rw (finding_told J s) refl
 
 -- of one event
 audits-by : (J : Judging) (n : CallTable) (H K : List Event) (who : Actor) (a : What) → ((notif : Notif) → a ≡ Recv (Ok notif) → number_in n (length K) ≡ installed_at H K (call_with_id notif.id K))
-    → map (λ (x : Session). audited (number_in n x.place) x) (map (told J) (begun_by H K who a)) ≡ audits_by J H K who a
+    → map (λ (x : SessionRecord). audited (number_in n x.place) x) (map (told J) (begun_by H K who a)) ≡ audits_by J H K who a
 audits-by J n H K (Worker w) (Recv (Ok notif)) q =
     let s : Begun = record { place = length K; worker = w; notif = notif; steps = session_at w (length K) H; stages = stages_at w (length K) H } in
     ap (λ (x : Audit). x ∷ []) (audited-told J s (number_in n (length K)) ∙ ap (audit_by J notif (session_at w (length K) H)) (q notif refl))
@@ -49,12 +49,12 @@ lines-by J n H K (Worker w) (Recv (Ok notif)) q =
 lines-by J n H K _ _ q = refl
 
 audits-from : (J : Judging) (n : CallTable) (H later K : List Event) → TellsNumbers H n → H ≡ later ++ K
-    → map (λ (x : Session). audited (number_in n x.place) x) (map (told J) (begun H K)) ≡ audits J H K
+    → map (λ (x : SessionRecord). audited (number_in n x.place) x) (map (told J) (begun H K)) ≡ audits J H K
 unfolding audits begun
 audits-from J n H later [] t h = refl
 audits-from J n H later (e ∷ K) t h =
     let q : H ≡ (later ++ e ∷ []) ++ K = h ∙ sym (append_assoc later (e ∷ []) K) in
-    let f : Session → Audit = (λ (x : Session). audited (number_in n x.place) x) in
+    let f : SessionRecord → Audit = (λ (x : SessionRecord). audited (number_in n x.place) x) in
     ap (map f) (map-append (told J) (begun H K) (begun_by H K e.who e.what))
     ∙ map-append f (map (told J) (begun H K)) (map (told J) (begun_by H K e.who e.what))
     ∙ ap (λ xs. xs ++ map f (map (told J) (begun_by H K e.who e.what))) (audits-from J n H (later ++ e ∷ []) K t q)
@@ -66,39 +66,39 @@ unfolding lines_of begun
 lines-from J n H later [] t h = refl
 lines-from J n H later (e ∷ K) t h =
     let q : H ≡ (later ++ e ∷ []) ++ K = h ∙ sym (append_assoc later (e ∷ []) K) in
-    let f : Session → List ℕ = session_line J n in
+    let f : SessionRecord → List ℕ = session_line J n in
     ap (flat_map f) (map-append (told J) (begun H K) (begun_by H K e.who e.what))
     ∙ flat_map-append f (map (told J) (begun H K)) (map (told J) (begun_by H K e.who e.what))
     ∙ ap (λ xs. xs ++ flat_map f (map (told J) (begun_by H K e.who e.what))) (lines-from J n H (later ++ e ∷ []) K t q)
     ∙ ap (λ xs. lines_of (audit_line J H) K ++ xs) (lines-by J n H K e.who e.what (λ notif. t later K e notif h))
 
-pub audits_told : (J : Judging) (n : CallTable) (H : List Event) (rows : List Session) → TellsCalls H n → rows ≡ map (told J) (begun H H)
-    → map (λ (x : Session). audited (number_in n x.place) x) rows ≡ audits J H H
-audits_told J n H rows t r = ap (map (λ (x : Session). audited (number_in n x.place) x)) r ∙ audits-from J n H [] H (numbers_told n H t) refl
+pub audits_told : (J : Judging) (n : CallTable) (H : List Event) (rows : List SessionRecord) → TellsCalls H n → rows ≡ map (told J) (begun H H)
+    → map (λ (x : SessionRecord). audited (number_in n x.place) x) rows ≡ audits J H H
+audits_told J n H rows t r = ap (map (λ (x : SessionRecord). audited (number_in n x.place) x)) r ∙ audits-from J n H [] H (numbers_told n H t) refl
 
-audit_told : (J : Judging) (n : CallTable) (H : List Event) (rows : List Session) → TellsNumbers H n → rows ≡ map (told J) (begun H H)
+audit_told : (J : Judging) (n : CallTable) (H : List Event) (rows : List SessionRecord) → TellsNumbers H n → rows ≡ map (told J) (begun H H)
     → flat_map (session_line J n) rows ≡ lines_of (audit_line J H) H
 audit_told J n H rows t r = ap (flat_map (session_line J n)) r ∙ lines-from J n H [] H t refl
 
 -- the title and the lines are the audit
-pub audit_whole : (J : Judging) (n : CallTable) (H events : List Event) (count : ℕ) (slice rows : List Session) → H ≡ reverse events → count ≡ count_by begins (reverse events) → slice ≡ rows
+pub audit_whole : (J : Judging) (n : CallTable) (H events : List Event) (count : ℕ) (slice rows : List SessionRecord) → H ≡ reverse events → count ≡ count_by begins (reverse events) → slice ≡ rows
     → TellsCalls H n → rows ≡ map (told J) (begun H H) → title (codes "audit") count ++ flat_map (session_line J n) slice ≡ audit J H
 audit_whole J n H events count slice rows h c s t r = rw (c, ← h, s) (ap (λ text. title (codes "audit") (count_by begins H) ++ text) (audit_told J n H rows (numbers_told n H t) r))
 
 -- ---- Writing
 
-flat-more : (f : Session → List ℕ) (xs : List Session) (i : ℕ) (x : Session) → i < length xs → x ≡ get_or xs i x → flat_map f (take (i + 1) xs) ≡ flat_map f (take i xs) ++ f x
+flat-more : (f : SessionRecord → List ℕ) (xs : List SessionRecord) (i : ℕ) (x : SessionRecord) → i < length xs → x ≡ get_or xs i x → flat_map f (take (i + 1) xs) ≡ flat_map f (take i xs) ++ f x
 flat-more f xs i x l is =
     let m : take (i + 1) xs ≡ take i xs ++ get_or xs i x ∷ [] = take_more xs i x l in
     ap (flat_map f) m ∙ flat_map-append f (take i xs) (get_or xs i x ∷ []) ∙ ap (λ ys. flat_map f (take i xs) ++ ys) (append-nil (f (get_or xs i x)) ∙ ap f (sym is))
 
 -- one more line was written
-pub session_written : (f : Session → List ℕ) (xs : List Session) (i : ℕ) (x : Session) (old mid new : SinkState) → i < length xs → x ≡ get_or xs i x
+pub session_written : (f : SessionRecord → List ℕ) (xs : List SessionRecord) (i : ℕ) (x : SessionRecord) (old mid new : SinkState) → i < length xs → x ≡ get_or xs i x
     → Wrote old (flat_map f (take i xs)) (Ok tt) mid → Wrote mid (f x) (Ok tt) new → Wrote old (flat_map f (take (i + 1) xs)) (Ok tt) new
 session_written f xs i x old mid new l is before now = rw (flat-more f xs i x l is) (wrote_more old mid new (flat_map f (take i xs)) (f x) (Ok tt) before now)
 
 -- one more line failed
-pub session_failed : (f : Session → List ℕ) (xs : List Session) (i : ℕ) (x : Session) (e : ReportError) (old mid new : SinkState) → i < length xs → x ≡ get_or xs i x
+pub session_failed : (f : SessionRecord → List ℕ) (xs : List SessionRecord) (i : ℕ) (x : SessionRecord) (e : ReportError) (old mid new : SinkState) → i < length xs → x ≡ get_or xs i x
     → Wrote old (flat_map f (take i xs)) (Ok tt) mid → Wrote mid (f x) (Err e) new → Wrote old (flat_map f xs) (Err e) new
 session_failed f xs i x e old mid new l is before now =
     let one = wrote_more old mid new (flat_map f (take i xs)) (f x) (Err e) before now in

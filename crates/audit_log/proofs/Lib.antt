@@ -2,6 +2,7 @@ pub mod Answered
 pub mod Audited
 pub mod ByPlace
 pub mod Counted
+pub mod Hexed
 pub mod Named
 pub mod Newest
 pub mod Opened
@@ -15,5 +16,6 @@ pub mod SessionFound
 pub mod SessionReads
 pub mod SessionRows
 pub mod SessionSteps
+pub mod Summed
 pub mod Trimmed
 pub mod Writing

@@ -20,7 +20,7 @@ use Rattle.hist_model.proofs.Look.{name_eq-true, name_eq-refl}
 use Rattle.audit_log.specs.Tasks.{Knows, call_of, facts_in, facts_of, task_facts, task_after}
 use Rattle.audit_log.specs.Records.{Tells, advanced, first_record, no_record, record_after, record_of, recorded, recorded_by, recorded_line}
 use Rattle.audit_log.specs.declared.records.CallRecord.{CallRecord}
-use Rattle.audit_log.specs.declared.tasks.Tasks.{Tasks}
+use Rattle.audit_log.specs.declared.tasks.TaskRecords.{TaskRecords}
 use Rattle.audit_log.proofs.Newest.{FindsNewest, elsewhere, newest_not_past, newest_passes}
 
 -- what is kept of a task, with one more event
@@ -156,7 +156,7 @@ none_told records H q [] K e h = let n : [] ≡ e ∷ K = sym q ∙ h in cc
 none_told records H q (x ∷ later) K e h = let n : [] ≡ x ∷ (later ++ e ∷ K) = sym q ∙ h in cc
 
 -- with one more event, which has this place
-pub pass_more : (K : List Event) (e : Event) (place : ℕ) (old new : Tasks) (before after : List CallRecord) → length K ≡ place → length before ≡ place
+pub pass_more : (K : List Event) (e : Event) (place : ℕ) (old new : TaskRecords) (before after : List CallRecord) → length K ≡ place → length before ≡ place
     → Tells K before → Knows K old → after ≡ recorded e.what (facts_of e.who (facts_in old)) before → ((n : Name) → facts_in new n ≡ task_after place e n (facts_in old n))
     → (length after ≡ place + 1) × Tells (e ∷ K) after × Knows (e ∷ K) new
 pass_more K e place old new before after l m t k q h =

@@ -17,7 +17,7 @@ use Rattle.hist_model.specs.declared.event.What.TheVariants.{Recv}
 use Rattle.sys_abi.specs.declared.wire.Notif.{Notif}
 use Rattle.audit_log.specs.Begun.{Begun, told}
 use Rattle.audit_log.specs.SessionStages.{stages_at}
-use Rattle.audit_log.specs.declared.session.Session.{Session}
+use Rattle.audit_log.specs.declared.session.SessionRecord.{SessionRecord}
 use Rattle.audit_log.specs.Sessions.{begun, begun_by}
 use Rattle.audit_log.specs.Received.{TellsReceived, received_by}
 use Rattle.audit_log.specs.Served.{TellsSessions, is_for, latest, noted, row_at, session_by, session_for}
@@ -64,14 +64,14 @@ latest-push test xs x = latest-append test xs (x ∷ []) ∙ by (test x)
 -- ---- The loop
 
 -- the rows so far
-pub record Served (calls : List (Option ℕ)) (rows : List Session) (room i : ℕ) (found : List (Option ℕ)) : Type 0 where
+pub record Served (calls : List (Option ℕ)) (rows : List SessionRecord) (room i : ℕ) (found : List (Option ℕ)) : Type 0 where
   pub number : length found ≡ room
   pub tells : (c : ℕ) → c < room → row_at rows (get_or found c None) ≡ latest (is_for calls c) (take i rows)
 
-pub none_served : (calls : List (Option ℕ)) (rows : List Session) (room : ℕ) (found : List (Option ℕ)) → found ≡ replicate room None → Served calls rows room 0 found
+pub none_served : (calls : List (Option ℕ)) (rows : List SessionRecord) (room : ℕ) (found : List (Option ℕ)) → found ≡ replicate room None → Served calls rows room 0 found
 none_served calls rows room found q = record { number = ap length q ∙ length-replicate room None; tells = λ c h. ap (λ xs. row_at rows (get_or xs c None)) q ∙ ap (row_at rows) (none_at room c) }
 
-pub served_more : (calls : List (Option ℕ)) (rows : List Session) (room i : ℕ) (found : List (Option ℕ)) (d : Session) → i < length rows → Served calls rows room i found
+pub served_more : (calls : List (Option ℕ)) (rows : List SessionRecord) (room i : ℕ) (found : List (Option ℕ)) (d : SessionRecord) → i < length rows → Served calls rows room i found
     → Served calls rows room (i + 1) (noted (get_or calls (get_or rows i d).place None) i found)
 served_more calls rows room i found d l h =
     let x = get_or rows i d in
@@ -84,15 +84,15 @@ served_more calls rows room i found d l h =
           ∙ sym (ap (latest (is_for calls c)) (take_more rows i d l) ∙ latest-push (is_for calls c) (take i rows) x));
     }
   where
-    by : (o : Option ℕ) (c : ℕ) (b : Bool) (x : Session) → slice_get rows i ≡ Some x → row_at rows (get_or found c None) ≡ latest (is_for calls c) (take i rows)
+    by : (o : Option ℕ) (c : ℕ) (b : Bool) (x : SessionRecord) → slice_get rows i ≡ Some x → row_at rows (get_or found c None) ≡ latest (is_for calls c) (take i rows)
         → row_at rows (if b then Some i else get_or found c None) ≡ (if b then Some x else latest (is_for calls c) (take i rows))
     by o c true x q old = q
     by o c false x q old = old
 
-pub all_served : (calls : List (Option ℕ)) (rows : List Session) (room i : ℕ) (found : List (Option ℕ)) → length rows ≤ i → Served calls rows room i found → TellsSessions calls rows room found
+pub all_served : (calls : List (Option ℕ)) (rows : List SessionRecord) (room i : ℕ) (found : List (Option ℕ)) → length rows ≤ i → Served calls rows room i found → TellsSessions calls rows room found
 all_served calls rows room i found l h c k = h.tells c k ∙ ap (latest (is_for calls c)) (take_all i rows l)
 
-pub same_sessions : (calls : List (Option ℕ)) (rows others : List Session) (room size : ℕ) (found same : List (Option ℕ)) → rows ≡ others → room ≡ size → found ≡ same
+pub same_sessions : (calls : List (Option ℕ)) (rows others : List SessionRecord) (room size : ℕ) (found same : List (Option ℕ)) → rows ≡ others → room ≡ size → found ≡ same
     → TellsSessions calls rows room found → TellsSessions calls others size same
 same_sessions calls rows others room size found same p q r h = rw (← p, ← q, ← r) h
 
@@ -126,6 +126,6 @@ sessions_are J calls H later (e ∷ K) c q t =
     ∙ (ap₂ or_some here (sessions_are J calls H (later ++ e ∷ []) K c whole t) ∙ or-map (told J) (session_by H c K e.who e.what) (session_for H c K)))
 
 -- by the row that is kept for the call at a place
-pub session_row : (J : Judging) (calls : List (Option ℕ)) (H : List Event) (rows : List Session) (served : List (Option ℕ)) → rows ≡ map (told J) (begun H H) → TellsReceived H calls
+pub session_row : (J : Judging) (calls : List (Option ℕ)) (H : List Event) (rows : List SessionRecord) (served : List (Option ℕ)) → rows ≡ map (told J) (begun H H) → TellsReceived H calls
     → TellsSessions calls rows (length H) served → (c : ℕ) → c < length H → row_at rows (get_or served c None) ≡ option_map (told J) (session_for H c H)
 session_row J calls H rows served kept received sessions c l = sessions c l ∙ (ap (latest (is_for calls c)) kept ∙ sessions_are J calls H [] H c refl received)

@@ -23,7 +23,7 @@ use Rattle.audit_log.specs.Begun.{Begun, IsRead, told, with_step}
 use Rattle.audit_log.specs.SessionStages.{no_stages}
 use Rattle.audit_log.specs.Sessions.{after_event, begun, started, with_event}
 use Rattle.audit_log.specs.SessionTable.{AllShut, IsRowStepped, IsStepped, StandsFor, current, no_row, no_session, nobody, session_in}
-use Rattle.audit_log.specs.declared.session.Session.{Session}
+use Rattle.audit_log.specs.declared.session.SessionRecord.{SessionRecord}
 use Rattle.audit_log.specs.declared.session_table.Current.{Current}
 use Rattle.audit_log.specs.declared.session_table.SessionTable.{SessionTable}
 use Rattle.audit_log.proofs.SessionEvents.{begun_none, nothing_received, own_step, other_stays, over_stays, receive_ends, stays_open, was_received}
@@ -226,7 +226,7 @@ any_default (x ∷ xs) zero d e l = refl
 any_default (x ∷ xs) (suc i) d e l = any_default xs i d e (omega arith)
 
 -- one more step of the session in a row, where there was memory for it
-pub row_ok : (r : Result (Unit {0}) NoMemory) (rules : List Rule) (rows : List Session) (i place : ℕ) (a : What) (c after : Captured) (old new d : Session) → old ≡ get_or rows i d
+pub row_ok : (r : Result (Unit {0}) NoMemory) (rules : List Rule) (rows : List SessionRecord) (i place : ℕ) (a : What) (c after : Captured) (old new d : SessionRecord) → old ≡ get_or rows i d
     → OnOk r ((s : Begun) → old ≡ told (judging_by rules) s → IsRead s c → (new ≡ told (judging_by rules) (with_step place a s)) × IsRead (with_step place a s) after)
     → OnOk r (IsRowStepped rules place a c after rows (set rows i new) (Some i))
 row_ok (Err e) rules rows i place a c after old new d is g = tt

@@ -18,7 +18,7 @@ use Rattle.audit_log.specs.Begun.{Begun, IsRead, found_so_far, told, with_step}
 use Rattle.audit_log.specs.SessionFacts.{facts_of, facts_with}
 use Rattle.audit_log.specs.SessionStages.{is_done, place_if, stages_joined, with_stage}
 use Rattle.audit_log.specs.declared.session_facts.Facts.{Facts}
-use Rattle.audit_log.specs.declared.session.Session.{Session}
+use Rattle.audit_log.specs.declared.session.SessionRecord.{SessionRecord}
 use Rattle.audit_log.specs.declared.session_stages.Stages.{Stages}
 
 and_true : (b : Bool) → (b && true) ≡ b
@@ -58,7 +58,7 @@ reads-more : (own : List What) (a : What) → checked_twice own ≡ false → re
 reads-more own a h = rw h refl
 
 same-session : (p q : ℕ) (w v : ℕ) (n m : Notif) (f g : Facts) (x y : Option Back) (j k : Finding) (t u : Stages) → p ≡ q → w ≡ v → n ≡ m → f ≡ g → x ≡ y → j ≡ k → t ≡ u
-    → ◌≡◌ {A = Session} (record { place = p; worker = w; notif = n; facts = f; back = x; found = j; stages = t }) (record { place = q; worker = v; notif = m; facts = g; back = y; found = k; stages = u })
+    → ◌≡◌ {A = SessionRecord} (record { place = p; worker = w; notif = n; facts = f; back = x; found = j; stages = t }) (record { place = q; worker = v; notif = m; facts = g; back = y; found = k; stages = u })
 same-session p q w v n m f g x y j k t u a b c d e h i = rw (a, b, c, d, e, h, i) refl
 
 -- ---- Where the steps stand
@@ -77,44 +77,44 @@ back-cons : (own : List What) (a : What) → is_shut own ≡ false → or_back (
 back-cons own a h = ap sent_back (sym (open_joined own a h))
 
 -- of a session that is over
-pub after_shut : (rules : List Rule) (s : Begun) (x : Session) (place : ℕ) (a : What) (c : Captured) → x ≡ told (judging_by rules) s → x.facts.shut ≡ true → IsRead s c
+pub after_shut : (rules : List Rule) (s : Begun) (x : SessionRecord) (place : ℕ) (a : What) (c : Captured) → x ≡ told (judging_by rules) s → x.facts.shut ≡ true → IsRead s c
     → (x ≡ told (judging_by rules) (with_step place a s)) × IsRead (with_step place a s) c
 after_shut rules s x place a c p over r =
-    let shut : is_shut s.steps ≡ true = sym (ap (λ (r : Session). r.facts.shut) p) ∙ over in
+    let shut : is_shut s.steps ≡ true = sym (ap (λ (r : SessionRecord). r.facts.shut) p) ∙ over in
     rw (shut_joined s.steps a shut, stages-shut place s.steps a s.stages shut) (p, r)
 
-module _ (rules : List Rule) (s : Begun) (x : Session) (place : ℕ) (a : What) (f : Facts) (back : Option Back) (t : Stages) (p : x ≡ told (judging_by rules) s) (stays : x.facts.shut ≡ false)
+module _ (rules : List Rule) (s : Begun) (x : SessionRecord) (place : ℕ) (a : What) (f : Facts) (back : Option Back) (t : Stages) (p : x ≡ told (judging_by rules) s) (stays : x.facts.shut ≡ false)
     (fe : f ≡ facts_with x.facts a) (be : back ≡ or_back (back_in a) x.back) (ve : t.valid ≡ or_else x.stages.valid (place_if f.checked_twice place))
     (ee : t.effect ≡ or_else x.stages.effect (place_if (is_done a) place)) (se : t.sent ≡ or_else x.stages.sent (place_if (is_sent a) place)) where
   is-open : is_shut s.steps ≡ false
-  is-open = sym (ap (λ (r : Session). r.facts.shut) p) ∙ stays
+  is-open = sym (ap (λ (r : SessionRecord). r.facts.shut) p) ∙ stays
 
   facts-are : f ≡ facts_of (joined s.steps a)
-  facts-are = fe ∙ ap (λ (r : Session). facts_with r.facts a) p ∙ facts-more s.steps a is-open
+  facts-are = fe ∙ ap (λ (r : SessionRecord). facts_with r.facts a) p ∙ facts-more s.steps a is-open
 
   back-is : back ≡ sent_back (joined s.steps a)
-  back-is = be ∙ ap (λ (r : Session). or_back (back_in a) r.back) p ∙ back-cons s.steps a is-open
+  back-is = be ∙ ap (λ (r : SessionRecord). or_back (back_in a) r.back) p ∙ back-cons s.steps a is-open
 
   stages-are : t ≡ stages_joined place s.steps a s.stages
   stages-are =
-      let st : x.stages ≡ s.stages = ap (λ (r : Session). r.stages) p in
+      let st : x.stages ≡ s.stages = ap (λ (r : SessionRecord). r.stages) p in
       let twice : f.checked_twice ≡ checked_twice (a ∷ s.steps) = ap (λ (g : Facts). g.checked_twice) facts-are ∙ ap checked_twice (open_joined s.steps a is-open) in
       stages-open place s.steps a s.stages t is-open (rw (← st, ← twice) ve) (rw (← st) ee) (rw (← st) se)
 
   with-found : (j : Finding) → j ≡ found_so_far (judging_by rules) s.notif (joined s.steps a)
-      → ◌≡◌ {A = Session} (record { place = x.place; worker = x.worker; notif = x.notif; facts = f; back = back; found = j; stages = t }) (told (judging_by rules) (with_step place a s))
+      → ◌≡◌ {A = SessionRecord} (record { place = x.place; worker = x.worker; notif = x.notif; facts = f; back = back; found = j; stages = t }) (told (judging_by rules) (with_step place a s))
   with-found j e = same-session x.place s.place x.worker s.worker x.notif s.notif f (facts_of (joined s.steps a)) back (sent_back (joined s.steps a)) j (found_so_far (judging_by rules) s.notif (joined s.steps a))
-      t (stages_joined place s.steps a s.stages) (ap (λ (r : Session). r.place) p) (ap (λ (r : Session). r.worker) p) (ap (λ (r : Session). r.notif) p) facts-are back-is e stages-are
+      t (stages_joined place s.steps a s.stages) (ap (λ (r : SessionRecord). r.place) p) (ap (λ (r : SessionRecord). r.worker) p) (ap (λ (r : SessionRecord). r.notif) p) facts-are back-is e stages-are
 
   -- of a session that was judged
   pub after_judged : (c : Captured) → x.facts.checked_twice ≡ true
-      → ◌≡◌ {A = Session} (record { place = x.place; worker = x.worker; notif = x.notif; facts = f; back = back; found = x.found; stages = t }) (told (judging_by rules) (with_step place a s)) × IsRead (with_step place a s) c
+      → ◌≡◌ {A = SessionRecord} (record { place = x.place; worker = x.worker; notif = x.notif; facts = f; back = back; found = x.found; stages = t }) (told (judging_by rules) (with_step place a s)) × IsRead (with_step place a s) c
   after_judged c twice =
-      let before : checked_twice s.steps ≡ true = sym (ap (λ (r : Session). r.facts.checked_twice) p) ∙ twice in
+      let before : checked_twice s.steps ≡ true = sym (ap (λ (r : SessionRecord). r.facts.checked_twice) p) ∙ twice in
       let q : joined s.steps a ≡ a ∷ s.steps = open_joined s.steps a is-open in
       let m : checked_twice (joined s.steps a) ≡ true = ap checked_twice q ∙ twice-later s.steps a before in
       let j : x.found ≡ found_so_far (judging_by rules) s.notif (joined s.steps a) =
-      ap (λ (r : Session). r.found) p ∙ found-later (judging_by rules) s.notif s.steps a before ∙ ap (found_so_far (judging_by rules) s.notif) (sym q) in
+      ap (λ (r : SessionRecord). r.found) p ∙ found-later (judging_by rules) s.notif s.steps a before ∙ ap (found_so_far (judging_by rules) s.notif) (sym q) in
       (with-found x.found j, λ h. absurd (cc (m, h)))
 
   -- of one that wasn't, whose capture takes the step, and which is judged where this was its second good check
@@ -123,15 +123,15 @@ module _ (rules : List Rule) (s : Begun) (x : Session) (place : ℕ) (a : What) 
       → ((answers : List (Result (List ℕ) ℕ)) → Follows (plan x.notif.call.nr x.notif.call.args) answers mid
       → j ≡ (if f.checked_twice then finding_of (judged_by rules x.notif (progress (plan x.notif.call.nr x.notif.call.args) answers)) false else Open))
       → (f.checked_twice ≡ false → new ≡ mid)
-      → ◌≡◌ {A = Session} (record { place = x.place; worker = x.worker; notif = x.notif; facts = f; back = back; found = j; stages = t }) (told (judging_by rules) (with_step place a s)) × IsRead (with_step place a s) new
+      → ◌≡◌ {A = SessionRecord} (record { place = x.place; worker = x.worker; notif = x.notif; facts = f; back = back; found = j; stages = t }) (told (judging_by rules) (with_step place a s)) × IsRead (with_step place a s) new
   after_heard old mid new j twice read hears judges kept =
-      let before : checked_twice s.steps ≡ false = sym (ap (λ (r : Session). r.facts.checked_twice) p) ∙ twice in
+      let before : checked_twice s.steps ≡ false = sym (ap (λ (r : SessionRecord). r.facts.checked_twice) p) ∙ twice in
       let q : joined s.steps a ≡ a ∷ s.steps = open_joined s.steps a is-open in
       let parts = plan s.notif.call.nr s.notif.call.args in
       let more : reads (joined s.steps a) ≡ reads s.steps ++ read_in a = ap reads q ∙ reads-more s.steps a before in
       let told-mid : Follows parts (heard parts [] (reads s.steps ++ read_in a)) mid = hears parts (reads s.steps) (read before) in
       let follows : Follows parts (heard parts [] (reads (joined s.steps a))) mid = subst (λ xs. Follows parts (heard parts [] xs) mid) (sym more) told-mid in
-      let n-is : x.notif ≡ s.notif = ap (λ (r : Session). r.notif) p in
+      let n-is : x.notif ≡ s.notif = ap (λ (r : SessionRecord). r.notif) p in
       let judges-s : (answers : List (Result (List ℕ) ℕ)) → Follows parts answers mid → j ≡ (if f.checked_twice then finding_of (judged_by rules s.notif (progress parts answers)) false else Open) =
       subst (λ (n : Notif). (answers : List (Result (List ℕ) ℕ)) → Follows (plan n.call.nr n.call.args) answers mid → j ≡ (if f.checked_twice then finding_of (judged_by rules n (progress (plan n.call.nr n.call.args) answers)) false else Open)) n-is judges in
       let due : f.checked_twice ≡ checked_twice (joined s.steps a) = ap (λ (g : Facts). g.checked_twice) facts-are in

@@ -3,14 +3,14 @@ use Rattle.std.specs.Prelude.{ℕ, ◌||◌, List, Option, is_some}
 use Rattle.hist_model.specs.ReportAudit.{Judging, answer_of, arrival_of, audit_line_of}
 use Rattle.hist_model.specs.declared.report.Audit.{Audit}
 use Rattle.audit_log.specs.Begun.{finding_in}
-use Rattle.audit_log.specs.declared.session.Session.{Session}
+use Rattle.audit_log.specs.declared.session.SessionRecord.{SessionRecord}
 use Rattle.audit_log.specs.CallTable.{number_in}
 use Rattle.audit_log.specs.declared.call_table.CallTable.{CallTable}
 
 -- what came of a session for whose call this number was installed
-abbrev pub audited : Option ℕ → Session → Audit
+abbrev pub audited : Option ℕ → SessionRecord → Audit
 audited number x = record { finding = finding_in x; answer = answer_of x.back number; arrival = arrival_of (x.facts.sent || is_some number) x.facts.lost }
 
 -- its line
-abbrev pub session_line : Judging → CallTable → Session → List ℕ
+abbrev pub session_line : Judging → CallTable → SessionRecord → List ℕ
 session_line J t x = audit_line_of J x.place x.worker x.notif (audited (number_in t x.place) x)

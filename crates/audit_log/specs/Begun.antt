@@ -9,7 +9,7 @@ use Rattle.arg_capture.specs.Captures.{Captured, Follows}
 use Rattle.sys_abi.specs.declared.wire.Notif.{Notif}
 use Rattle.audit_log.specs.SessionFacts.{facts_of}
 use Rattle.audit_log.specs.SessionStages.{stages_joined}
-use Rattle.audit_log.specs.declared.session.Session.{Session}
+use Rattle.audit_log.specs.declared.session.SessionRecord.{SessionRecord}
 use Rattle.audit_log.specs.declared.session_stages.Stages.{Stages}
 
 -- a session: the place of the event that begins it, its worker, the notification, its own steps, the newest first, and where they stand
@@ -39,11 +39,11 @@ spent (Injected i) = Spent i
 spent found = found
 
 -- what it came to, by what is kept of it
-abbrev pub finding_in : Session → Finding
+abbrev pub finding_in : SessionRecord → Finding
 finding_in x = if x.facts.gone then Gone else (if x.facts.spent then spent x.found else x.found)
 
 -- what is kept of a session with these steps
-abbrev pub told : Judging → Begun → Session
+abbrev pub told : Judging → Begun → SessionRecord
 told J s = record { place = s.place; worker = s.worker; notif = s.notif; facts = facts_of s.steps; back = sent_back s.steps; found = found_so_far J s.notif s.steps; stages = s.stages }
 
 -- up to its second good check, a capture follows what it reads

@@ -2,6 +2,7 @@ pub mod Audited
 pub mod Begun
 pub mod ByPlace
 pub mod CallTable
+pub mod Counts
 pub mod Laws
 pub mod Received
 pub mod Records
@@ -12,5 +13,6 @@ pub mod SessionFacts
 pub mod SessionStages
 pub mod SessionTable
 pub mod Sessions
+pub mod Tables
 pub mod Tasks
 pub mod Written

@@ -16,7 +16,7 @@ use Rattle.hist_model.specs.declared.event.What.TheVariants.{AddfdPut, Install}
 use Rattle.audit_log.specs.ByPlace.{ByPlace}
 use Rattle.audit_log.specs.Records.{no_record}
 use Rattle.audit_log.specs.declared.records.CallRecord.{CallRecord}
-use Rattle.audit_log.specs.declared.requests.Requests.{Requests}
+use Rattle.audit_log.specs.declared.requests.PendingRequests.{PendingRequests}
 
 -- the items of a queue that was found, or else none
 abbrev pub items_or_none : Option (VecDeque Bool Global) → List Bool
@@ -24,7 +24,7 @@ items_or_none (Some q) = q.items
 items_or_none None = []
 
 -- the requests of the call at place c
-abbrev pub queue_in : Requests → ℕ → List Bool
+abbrev pub queue_in : PendingRequests → ℕ → List Bool
 queue_in r c = items_or_none (get nat_cmp r.queues c)
 
 -- at each place of these events the requests are those of its event, as if it entered a call

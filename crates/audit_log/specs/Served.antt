@@ -10,7 +10,7 @@ use Rattle.hist_model.specs.declared.event.What.{What}
 use Rattle.hist_model.specs.declared.event.What.TheVariants.{Recv}
 use Rattle.audit_log.specs.Begun.{Begun}
 use Rattle.audit_log.specs.SessionStages.{stages_at}
-use Rattle.audit_log.specs.declared.session.Session.{Session}
+use Rattle.audit_log.specs.declared.session.SessionRecord.{SessionRecord}
 
 -- in the history H, the session that the step after K begins, where the newest call with its notification's id stands at place c
 abbrev pub session_by : List Event → ℕ → List Event → Actor → What → Option Begun
@@ -33,7 +33,7 @@ latest test [] = None
 latest test (x ∷ xs) = or_some (latest test xs) (if test x then Some x else None)
 
 -- the session received the notification of the call at place c, by the calls of what was received
-abbrev pub is_for : List (Option ℕ) → ℕ → Session → Bool
+abbrev pub is_for : List (Option ℕ) → ℕ → SessionRecord → Bool
 is_for calls c x = is_place (get_or calls x.place None) c
 
 -- with one more number for a call, if it is for one
@@ -42,10 +42,10 @@ noted None n found = found
 noted (Some c) n found = set found c (Some n)
 
 -- the session in this row, if there is one
-abbrev pub row_at : List Session → Option ℕ → Option Session
+abbrev pub row_at : List SessionRecord → Option ℕ → Option SessionRecord
 row_at rows None = None
 row_at rows (Some i) = slice_get rows i
 
 -- of each call, by its place, the row of its last session
-abbrev pub TellsSessions : List (Option ℕ) → List Session → ℕ → List (Option ℕ) → Type 0
+abbrev pub TellsSessions : List (Option ℕ) → List SessionRecord → ℕ → List (Option ℕ) → Type 0
 TellsSessions calls rows room found = (c : ℕ) → c < room → row_at rows (get_or found c None) ≡ latest (is_for calls c) rows

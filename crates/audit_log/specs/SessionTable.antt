@@ -6,7 +6,7 @@ use Rattle.audit_log.specs.Begun.{Begun, IsRead, told, with_step}
 use Rattle.hist_model.specs.declared.event.What.{What}
 use Rattle.arg_capture.specs.Captures.{Captured}
 use Rattle.audit_log.specs.SessionStages.{no_stages}
-use Rattle.audit_log.specs.declared.session.Session.{Session}
+use Rattle.audit_log.specs.declared.session.SessionRecord.{SessionRecord}
 use Rattle.audit_log.specs.declared.session_table.Current.{Current}
 use Rattle.audit_log.specs.declared.session_table.SessionTable.{SessionTable}
 
@@ -24,18 +24,18 @@ abbrev pub current : SessionTable → ℕ → Current
 current t w = get_or t.workers.items w nobody
 
 -- what is found past the end of the rows
-abbrev pub no_row : Session
+abbrev pub no_row : SessionRecord
 no_row = told (judging_by []) no_session
 
 -- one more step, which has this place, in the session of this row, if there is one
-abbrev pub IsRowStepped : List Rule → ℕ → What → Captured → Captured → List Session → List Session → Option ℕ → Type 0
+abbrev pub IsRowStepped : List Rule → ℕ → What → Captured → Captured → List SessionRecord → List SessionRecord → Option ℕ → Type 0
 IsRowStepped rules place a c d before after None = after ≡ before
 IsRowStepped rules place a c d before after (Some i) =
     i < length before → (s : Begun) → get_or before i no_row ≡ told (judging_by rules) s → IsRead s c
     → (after ≡ set before i (told (judging_by rules) (with_step place a s))) × IsRead (with_step place a s) d
 
 -- one more step of a worker in the session that it is in
-abbrev pub IsStepped : List Rule → ℕ → What → Current → Current → List Session → List Session → Type 0
+abbrev pub IsStepped : List Rule → ℕ → What → Current → Current → List SessionRecord → List SessionRecord → Type 0
 IsStepped rules place a old new before after = (new.row ≡ old.row) × IsRowStepped rules place a old.capture new.capture before after old.row
 
 -- an open session is its worker's current one, and what is read in it goes through that worker's capture

@@ -1,5 +1,5 @@
 -- What is kept of each task while the events are gone through: the first PID that it was given, and its newest call.
-use Rattle.std.specs.Prelude.{◌≡◌, ℕ, ◌&&◌, if◌then◌else◌, List, Option, Some, None}
+use Rattle.std.specs.Prelude.{◌≡◌, ℕ, ◌&&◌, if◌then◌else◌, List, [], ◌∷◌, Option, Some, None}
 use Rattle.std.specs.HashMap.{get_by}
 use Rattle.hist_model.specs.Look.{Name, is_task, name_eq, or_else, task_name}
 use Rattle.hist_model.specs.Kinds.{enters}
@@ -8,7 +8,7 @@ use Rattle.hist_model.specs.declared.event.Actor.{Actor}
 use Rattle.hist_model.specs.declared.event.Actor.TheVariants.{Task}
 use Rattle.hist_model.specs.declared.event.Event.{Event}
 use Rattle.audit_log.specs.declared.tasks.TaskFacts.{TaskFacts}
-use Rattle.audit_log.specs.declared.tasks.Tasks.{Tasks}
+use Rattle.audit_log.specs.declared.tasks.TaskRecords.{TaskRecords}
 
 -- of a task of which nothing was seen
 abbrev pub no_task : TaskFacts
@@ -19,9 +19,14 @@ abbrev pub facts_or_none : Option TaskFacts → TaskFacts
 facts_or_none (Some f) = f
 facts_or_none None = no_task
 
--- what the table has of task n
-abbrev pub facts_in : Tasks → Name → TaskFacts
-facts_in t n = facts_or_none (get_by (λ key. name_eq n key.items) t.rows)
+-- what the rows have of task n
+abbrev pub row_of : TaskRecords → Name → TaskFacts
+row_of t n = facts_or_none (get_by (λ key. name_eq n key.items) t.rows)
+
+-- what the table has of task n; under the name that has no number it stands apart
+abbrev pub facts_in : TaskRecords → Name → TaskFacts
+facts_in t [] = t.unnamed
+facts_in t (x ∷ n) = row_of t (x ∷ n)
 
 -- of task n in these events
 abbrev pub task_facts : List Event → Name → TaskFacts
@@ -35,7 +40,7 @@ task_after place e n f = record {
 }
 
 -- the table tells of each task in these events
-abbrev pub Knows : List Event → Tasks → Type 0
+abbrev pub Knows : List Event → TaskRecords → Type 0
 Knows K t = (n : Name) → facts_in t n ≡ task_facts K n
 
 -- the newest call of the actor, where it is a task

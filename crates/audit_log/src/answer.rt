@@ -7,7 +7,7 @@ ghost use Rattle.audit_log.specs.Requests.{TellsInstalled, answered_call, pendin
 
 use crate::outcome::is_pending;
 use crate::records::{CallRecord, record_at};
-use crate::requests::Requests;
+use crate::requests::PendingRequests;
 use crate::session_facts::is_sent;
 use hist_model::event::{Event, What};
 use hist_model::report::Outcome;
@@ -26,7 +26,11 @@ pub(crate) fn pending_call(records: &[CallRecord], call: Option<usize>) -> Optio
 }
 
 /// The call that a step answers by an installation: which one it would be for, and the requests before it.
-pub(crate) fn answered_call(requests: &Requests, call: Option<usize>, what: &What) -> Option<usize>
+pub(crate) fn answered_call(
+    requests: &PendingRequests,
+    call: Option<usize>,
+    what: &What,
+) -> Option<usize>
     ensures { result ≡ answered_call what.now call (queue_in requests.now) }
 {
     match what {

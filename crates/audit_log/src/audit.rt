@@ -12,10 +12,10 @@ ghost use Rattle.audit_log.specs.Written.{Wrote};
 use crate::call_table::CallTable;
 use crate::count::begun;
 use crate::error::ReportError;
-use crate::line::Line;
+use crate::line::LineBuffer;
 use crate::part::{write_line, write_title};
 use crate::report::Report;
-use crate::session::Session;
+use crate::session::SessionRecord;
 use crate::session_facts::Facts;
 use crate::words::{push_back, push_call};
 use hist_model::event::Back;
@@ -33,11 +33,11 @@ impl Report<'_> {
         ensures { Wrote (O.state out.old) (audit (judging_by self.now.policy.now.rules) self.now.history.now.events) result (O.state out.new) }
     {
         let events = self.history.events();
-        let mut line = Line::new(alloc);
+        let mut line = LineBuffer::new(alloc);
         write_titled(
             self.policy,
-            &self.calls,
-            self.sessions.as_slice(),
+            &self.tables.calls,
+            self.tables.sessions.as_slice(),
             begun(events),
             &mut line,
             out,
@@ -49,9 +49,9 @@ impl Report<'_> {
 fn write_titled<O: Sink>(
     policy: &Policy,
     calls: &CallTable,
-    sessions: &[Session],
+    sessions: &[SessionRecord],
     count: usize,
-    line: &mut Line,
+    line: &mut LineBuffer,
     out: &mut O,
 ) -> Result<(), ReportError>
     ensures { Wrote (O.state out.old) (title (codes "audit") count ++ flat_map (session_line (judging_by policy.now.rules) calls.now) sessions.now) result (O.state out.new) }
@@ -64,8 +64,8 @@ fn write_titled<O: Sink>(
 fn write_sessions<O: Sink>(
     policy: &Policy,
     calls: &CallTable,
-    sessions: &[Session],
-    line: &mut Line,
+    sessions: &[SessionRecord],
+    line: &mut LineBuffer,
     out: &mut O,
 ) -> Result<(), ReportError>
     ensures { Wrote (O.state out.old) (flat_map (session_line (judging_by policy.now.rules) calls.now) sessions.now) result (O.state out.new) }
@@ -80,8 +80,8 @@ fn write_sessions<O: Sink>(
 fn write_session<O: Sink>(
     policy: &Policy,
     calls: &CallTable,
-    session: &Session,
-    line: &mut Line,
+    session: &SessionRecord,
+    line: &mut LineBuffer,
     out: &mut O,
 ) -> Result<(), ReportError>
     ensures { Wrote (O.state out.old) (session_line (judging_by policy.now.rules) calls.now session.now) result (O.state out.new) }
@@ -117,9 +117,9 @@ pub fn arrival(facts: &Facts, number: Option<u32>) -> Arrival
 
 /// Adds the line of a session for whose call this number was installed.
 fn push_session(
-    line: &mut Line,
+    line: &mut LineBuffer,
     policy: &Policy,
-    session: &Session,
+    session: &SessionRecord,
     number: Option<u32>,
 ) -> Result<(), NoMemory>
     ensures { OnOk result (line.new ≡ line.old ++ audit_line_of (judging_by policy.now.rules) session.now.place session.now.worker session.now.notif (audited number session.now)) }
@@ -134,7 +134,11 @@ fn push_session(
 }
 
 /// Adds the rule that decided, and the verdict.
-pub fn push_finding(line: &mut Line, policy: &Policy, finding: Finding) -> Result<(), NoMemory>
+pub fn push_finding(
+    line: &mut LineBuffer,
+    policy: &Policy,
+    finding: Finding,
+) -> Result<(), NoMemory>
     ensures { OnOk result (line.new ≡ line.old ++ (codes " rule=" ++ rule_text (judging_by policy.now.rules) (rule_of finding) ++ codes " verdict=" ++ finding_text finding)) }
 {
     line.push(" rule=")?;
@@ -144,7 +148,7 @@ pub fn push_finding(line: &mut Line, policy: &Policy, finding: Finding) -> Resul
 }
 
 /// Adds what was answered, and whether it arrived, and ends the line.
-fn push_reply(line: &mut Line, answer: Option<Back>, arrival: Arrival) -> Result<(), NoMemory>
+fn push_reply(line: &mut LineBuffer, answer: Option<Back>, arrival: Arrival) -> Result<(), NoMemory>
     ensures { OnOk result (line.new ≡ line.old ++ (codes " answer=" ++ answer_text answer ++ codes " reply=" ++ arrival_text arrival ++ codes "\n")) }
 {
     line.push(" answer=")?;
@@ -155,7 +159,12 @@ fn push_reply(line: &mut Line, answer: Option<Back>, arrival: Arrival) -> Result
 }
 
 /// Adds the place of a session, its worker, and its notification's id and call.
-fn push_notified(line: &mut Line, place: usize, worker: u8, notif: &Notif) -> Result<(), NoMemory>
+fn push_notified(
+    line: &mut LineBuffer,
+    place: usize,
+    worker: u8,
+    notif: &Notif,
+) -> Result<(), NoMemory>
     ensures { OnOk result (line.new ≡ line.old ++ (decimal place ++ codes " w" ++ decimal worker ++ codes " id=" ++ decimal notif.now.id ++ codes " " ++ call_text notif.now.call.nr)) }
 {
     line.push_number(place as u64)?;
@@ -193,7 +202,11 @@ fn name_of(policy: &Policy, place: usize) -> &[u8]
 }
 
 /// Adds a rule's name, or `-` where there is none.
-pub fn push_rule(line: &mut Line, policy: &Policy, rule: Option<usize>) -> Result<(), NoMemory>
+pub fn push_rule(
+    line: &mut LineBuffer,
+    policy: &Policy,
+    rule: Option<usize>,
+) -> Result<(), NoMemory>
     ensures { OnOk result (line.new ≡ line.old ++ rule_text (judging_by policy.now.rules) rule) }
 {
     match rule {
@@ -219,7 +232,7 @@ fn finding_word(finding: Finding) -> &'static str
 }
 
 /// Adds what was answered, or `-`.
-fn push_answer(line: &mut Line, answer: Option<Back>) -> Result<(), NoMemory>
+fn push_answer(line: &mut LineBuffer, answer: Option<Back>) -> Result<(), NoMemory>
     ensures { OnOk result (line.new ≡ line.old ++ answer_text answer) }
 {
     match answer {

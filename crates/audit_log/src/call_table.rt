@@ -7,8 +7,8 @@ ghost use Rattle.audit_log.specs.Records.{no_record, number_at};
 use crate::answer::{answered_call, pending_call};
 use crate::received::Ids;
 use crate::records::{CallRecord, record, record_at};
-use crate::requests::Requests;
-use crate::tasks::Tasks;
+use crate::requests::PendingRequests;
+use crate::tasks::TaskRecords;
 use hist_model::event::Event;
 use hist_model::report::Outcome;
 use std::alloc::Global;
@@ -31,9 +31,9 @@ impl CallTable {
     pub fn of(alloc: Global, events: &[Event]) -> Result<CallTable, NoMemory>
         ensures { IfOk result (λ t. TellsCalls (reverse events.now) t) }
     {
-        let mut tasks = Tasks::new(alloc);
+        let mut tasks = TaskRecords::new(alloc);
         let mut ids = Ids::new(alloc);
-        let mut requests = Requests::new(alloc);
+        let mut requests = PendingRequests::new(alloc);
         let mut records = Vec::with_capacity(alloc, events.len())?;
         let mut received = Vec::with_capacity(alloc, events.len())?;
         let mut answered = Vec::with_capacity(alloc, events.len())?;

@@ -6,7 +6,7 @@ ghost use Rattle.audit_log.specs.Written.{Wrote};
 
 use crate::count::entered;
 use crate::error::ReportError;
-use crate::line::Line;
+use crate::line::LineBuffer;
 use crate::part::{Part, write_part};
 use crate::records::{CallRecord, record_at};
 use crate::report::Report;
@@ -25,7 +25,7 @@ impl Report<'_> {
     {
         let events = self.history.events();
         let part = Calls {
-            records: self.calls.records.as_slice(),
+            records: self.tables.calls.records.as_slice(),
         };
         write_part(alloc, &part, "calls", entered(events), events, out)
     }
@@ -44,7 +44,12 @@ impl Part for Calls<'_> {
     ghost text = { λ c. recorded_line c.records.now };
 
     #[tactic(auto, using(crate::proofs::Past::length_past))]
-    fn push_line(&self, line: &mut Line, before: &[Event], event: &Event) -> Result<(), NoMemory> {
+    fn push_line(
+        &self,
+        line: &mut LineBuffer,
+        before: &[Event],
+        event: &Event,
+    ) -> Result<(), NoMemory> {
         let place = before.len();
         match &event.what {
             What::Enter { nr, .. } => {
@@ -59,7 +64,7 @@ impl Part for Calls<'_> {
 
 /// Adds the line of a call.
 fn push_call_line(
-    line: &mut Line,
+    line: &mut LineBuffer,
     place: usize,
     who: &Actor,
     pid: u32,
@@ -81,7 +86,7 @@ fn push_call_line(
 }
 
 /// Adds the outcome of a call.
-pub fn push_outcome(line: &mut Line, outcome: Outcome) -> Result<(), NoMemory>
+pub fn push_outcome(line: &mut LineBuffer, outcome: Outcome) -> Result<(), NoMemory>
     ensures { OnOk result (line.new ≡ line.old ++ outcome_text outcome) }
 {
     match outcome {

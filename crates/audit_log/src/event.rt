@@ -1,10 +1,10 @@
 //! What happened in an event, in words.
 
-ghost use Rattle.std.specs.Prelude.{◌≡◌, ◌++◌, ◌==◌, ◌%◌, OnOk, codes, decimal, take, length, ◌≤◌};
+ghost use Rattle.std.specs.Prelude.{◌≡◌, ◌++◌, OnOk, codes, decimal, take, length, ◌≤◌};
 ghost use Rattle.hist_model.specs.ReportWords.{number_text, result_text, trimmed};
 ghost use Rattle.hist_model.specs.ReportJournal.{request_text, spawn_kind_text, spawned_text, disposition_text, entered_text, args_text, delivered_text, reaped_text, received_text, read_text, asked_text, what_text};
 
-use crate::line::Line;
+use crate::line::LineBuffer;
 use crate::request::push_request;
 use crate::words::{
     push_back, push_call, push_errno, push_hex_or_dash, push_name, push_number_or_errno,
@@ -15,10 +15,10 @@ use hist_model::request::Request;
 use hist_model::text::{TaskName, Text};
 use sys_abi::errno::Errno;
 use sys_abi::memory::NoMemory;
-use sys_abi::wire::{Addfd, Notif, SECCOMP_ADDFD_FLAG_SETFD};
+use sys_abi::wire::{Addfd, Notif};
 
 /// Adds what happened, in words.
-pub fn push_what(line: &mut Line, what: &What) -> Result<(), NoMemory>
+pub fn push_what(line: &mut LineBuffer, what: &What) -> Result<(), NoMemory>
     ensures { OnOk result (line.new ≡ line.old ++ what_text what.now) }
 {
     match what {
@@ -96,7 +96,7 @@ fn delivered_word(effect: Delivered) -> &'static str
 
 /// Adds that a task was made.
 fn push_spawn(
-    line: &mut Line,
+    line: &mut LineBuffer,
     child: &TaskName,
     answer: &Result<(u32, SpawnKind), Errno>,
 ) -> Result<(), NoMemory>
@@ -109,7 +109,10 @@ fn push_spawn(
 }
 
 /// Adds what a new task got.
-fn push_spawned(line: &mut Line, answer: &Result<(u32, SpawnKind), Errno>) -> Result<(), NoMemory>
+fn push_spawned(
+    line: &mut LineBuffer,
+    answer: &Result<(u32, SpawnKind), Errno>,
+) -> Result<(), NoMemory>
     ensures { OnOk result (line.new ≡ line.old ++ spawned_text answer.now) }
 {
     match answer {
@@ -124,7 +127,7 @@ fn push_spawned(line: &mut Line, answer: &Result<(u32, SpawnKind), Errno>) -> Re
 }
 
 /// Adds that bytes were stored.
-fn push_poke(line: &mut Line, addr: u64, bytes: &Text) -> Result<(), NoMemory>
+fn push_poke(line: &mut LineBuffer, addr: u64, bytes: &Text) -> Result<(), NoMemory>
     ensures { OnOk result (line.new ≡ line.old ++ what_text (What.Poke addr bytes.now)) }
 {
     line.push("poke ")?;
@@ -134,7 +137,7 @@ fn push_poke(line: &mut Line, addr: u64, bytes: &Text) -> Result<(), NoMemory>
 }
 
 /// Adds a word, a signal and another word.
-fn push_signal_word(line: &mut Line, word: &str, sig: u8, then: &str) -> Result<(), NoMemory>
+fn push_signal_word(line: &mut LineBuffer, word: &str, sig: u8, then: &str) -> Result<(), NoMemory>
     ensures { OnOk result (line.new ≡ line.old ++ (word.now ++ decimal sig ++ codes " " ++ then.now)) }
 {
     line.push(word)?;
@@ -144,7 +147,12 @@ fn push_signal_word(line: &mut Line, word: &str, sig: u8, then: &str) -> Result<
 }
 
 /// Adds that a call was entered.
-fn push_enter(line: &mut Line, nr: i32, args: &[u64; 6], verdict: Entered) -> Result<(), NoMemory>
+fn push_enter(
+    line: &mut LineBuffer,
+    nr: i32,
+    args: &[u64; 6],
+    verdict: Entered,
+) -> Result<(), NoMemory>
     ensures { OnOk result (line.new ≡ line.old ++ what_text (What.Enter nr args.now verdict)) }
 {
     line.push("call ")?;
@@ -155,7 +163,7 @@ fn push_enter(line: &mut Line, nr: i32, args: &[u64; 6], verdict: Entered) -> Re
 }
 
 /// Adds the arguments of a call, each after a space.
-fn push_args(line: &mut Line, args: &[u64]) -> Result<(), NoMemory>
+fn push_args(line: &mut LineBuffer, args: &[u64]) -> Result<(), NoMemory>
     ensures { OnOk result (line.new ≡ line.old ++ args_text args.now) }
 {
     for arg in args {
@@ -166,7 +174,7 @@ fn push_args(line: &mut Line, args: &[u64]) -> Result<(), NoMemory>
 }
 
 /// Adds what the filters say.
-pub fn push_entered(line: &mut Line, verdict: Entered) -> Result<(), NoMemory>
+pub fn push_entered(line: &mut LineBuffer, verdict: Entered) -> Result<(), NoMemory>
     ensures { OnOk result (line.new ≡ line.old ++ entered_text verdict) }
 {
     match verdict {
@@ -186,7 +194,11 @@ pub fn push_entered(line: &mut Line, verdict: Entered) -> Result<(), NoMemory>
 }
 
 /// Adds a word and a number or an error.
-fn push_answered(line: &mut Line, word: &str, answer: &Result<u32, Errno>) -> Result<(), NoMemory>
+fn push_answered(
+    line: &mut LineBuffer,
+    word: &str,
+    answer: &Result<u32, Errno>,
+) -> Result<(), NoMemory>
     ensures { OnOk result (line.new ≡ line.old ++ (word.now ++ number_text answer.now)) }
 {
     line.push(word)?;
@@ -194,7 +206,7 @@ fn push_answered(line: &mut Line, word: &str, answer: &Result<u32, Errno>) -> Re
 }
 
 /// Adds that a call returned.
-fn push_resume(line: &mut Line, back: Back) -> Result<(), NoMemory>
+fn push_resume(line: &mut LineBuffer, back: Back) -> Result<(), NoMemory>
     ensures { OnOk result (line.new ≡ line.old ++ what_text (What.Resume back)) }
 {
     line.push("resume ")?;
@@ -202,7 +214,12 @@ fn push_resume(line: &mut Line, back: Back) -> Result<(), NoMemory>
 }
 
 /// Adds that a signal was sent.
-fn push_kill(line: &mut Line, pid: u32, sig: u8, answer: &Result<(), Errno>) -> Result<(), NoMemory>
+fn push_kill(
+    line: &mut LineBuffer,
+    pid: u32,
+    sig: u8,
+    answer: &Result<(), Errno>,
+) -> Result<(), NoMemory>
     ensures { OnOk result (line.new ≡ line.old ++ what_text (What.Signal pid sig answer.now)) }
 {
     line.push("kill ")?;
@@ -214,7 +231,7 @@ fn push_kill(line: &mut Line, pid: u32, sig: u8, answer: &Result<(), Errno>) -> 
 }
 
 /// Adds that a task waited for a child.
-fn push_reap(line: &mut Line, answer: &Result<TaskName, Errno>) -> Result<(), NoMemory>
+fn push_reap(line: &mut LineBuffer, answer: &Result<TaskName, Errno>) -> Result<(), NoMemory>
     ensures { OnOk result (line.new ≡ line.old ++ what_text (What.Reap answer.now)) }
 {
     line.push("wait ")?;
@@ -225,7 +242,7 @@ fn push_reap(line: &mut Line, answer: &Result<TaskName, Errno>) -> Result<(), No
 }
 
 /// Adds that a notification was received.
-fn push_recv(line: &mut Line, answer: &Result<Notif, Errno>) -> Result<(), NoMemory>
+fn push_recv(line: &mut LineBuffer, answer: &Result<Notif, Errno>) -> Result<(), NoMemory>
     ensures { OnOk result (line.new ≡ line.old ++ what_text (What.Recv answer.now)) }
 {
     line.push("recv ")?;
@@ -242,7 +259,7 @@ fn push_recv(line: &mut Line, answer: &Result<Notif, Errno>) -> Result<(), NoMem
 
 /// Adds a word, a number and `ok` or an error.
 fn push_numbered(
-    line: &mut Line,
+    line: &mut LineBuffer,
     word: &str,
     number: u64,
     answer: &Result<(), Errno>,
@@ -257,7 +274,7 @@ fn push_numbered(
 
 /// Adds that a worker opened the directory from which paths go.
 fn push_open_base(
-    line: &mut Line,
+    line: &mut LineBuffer,
     pid: u32,
     dirfd: i32,
     answer: &Result<(), Errno>,
@@ -274,7 +291,7 @@ fn push_open_base(
 
 /// Adds that a worker read memory.
 fn push_read(
-    line: &mut Line,
+    line: &mut LineBuffer,
     addr: u64,
     len: u16,
     answer: &Result<Text, Errno>,
@@ -290,7 +307,7 @@ fn push_read(
 }
 
 /// Adds the bytes that were read, without the zero bytes at their end.
-fn push_bytes_read(line: &mut Line, answer: &Result<Text, Errno>) -> Result<(), NoMemory>
+fn push_bytes_read(line: &mut LineBuffer, answer: &Result<Text, Errno>) -> Result<(), NoMemory>
     ensures { OnOk result (line.new ≡ line.old ++ read_text answer.now) }
 {
     match answer {
@@ -316,7 +333,11 @@ fn trimmed_len(bytes: &[u8]) -> usize
 }
 
 /// Adds that a worker did what the policy grants.
-fn push_act(line: &mut Line, request: &Request, answer: &Result<(), Errno>) -> Result<(), NoMemory>
+fn push_act(
+    line: &mut LineBuffer,
+    request: &Request,
+    answer: &Result<(), Errno>,
+) -> Result<(), NoMemory>
     ensures { OnOk result (line.new ≡ line.old ++ (codes "act " ++ request_text request.now ++ codes " " ++ result_text answer.now)) }
 {
     line.push("act ")?;
@@ -326,7 +347,11 @@ fn push_act(line: &mut Line, request: &Request, answer: &Result<(), Errno>) -> R
 }
 
 /// Adds that a descriptor was asked to be put into a task: the call, the broker's number, and the number in the task, `-` for the lowest free one.
-fn push_put(line: &mut Line, asked: &Addfd, answer: &Result<(), Errno>) -> Result<(), NoMemory>
+fn push_put(
+    line: &mut LineBuffer,
+    asked: &Addfd,
+    answer: &Result<(), Errno>,
+) -> Result<(), NoMemory>
     ensures { OnOk result (line.new ≡ line.old ++ what_text (What.AddfdPut asked.now answer.now)) }
 {
     line.push("addfd-put ")?;
@@ -335,22 +360,15 @@ fn push_put(line: &mut Line, asked: &Addfd, answer: &Result<(), Errno>) -> Resul
     push_result(line, answer)
 }
 
-/// Whether a request names the number that the descriptor gets in the task.
-fn names_number(asked: &Addfd) -> bool
-    ensures { result ≡ (asked.now.flags % 2 == 1) }
-{
-    asked.flags & SECCOMP_ADDFD_FLAG_SETFD == SECCOMP_ADDFD_FLAG_SETFD
-}
-
 /// Adds what is asked when a descriptor is put into a task.
-fn push_asked(line: &mut Line, asked: &Addfd) -> Result<(), NoMemory>
+fn push_asked(line: &mut LineBuffer, asked: &Addfd) -> Result<(), NoMemory>
     ensures { OnOk result (line.new ≡ line.old ++ asked_text asked.now) }
 {
     line.push_number(asked.id)?;
     line.push(" src=")?;
     line.push_number(u64::from(asked.srcfd))?;
     line.push(" at=")?;
-    if names_number(asked) {
+    if asked.has_setfd() {
         line.push_number(u64::from(asked.newfd))
     } else {
         line.push("-")
@@ -359,7 +377,7 @@ fn push_asked(line: &mut Line, asked: &Addfd) -> Result<(), NoMemory>
 
 /// Adds that a worker answered a notification.
 fn push_send(
-    line: &mut Line,
+    line: &mut LineBuffer,
     id: u64,
     back: Back,
     answer: &Result<(), Errno>,

@@ -6,7 +6,7 @@ ghost use Rattle.audit_log.specs.Written.{Wrote};
 
 use crate::error::ReportError;
 use crate::event::push_what;
-use crate::line::Line;
+use crate::line::LineBuffer;
 use crate::part::{Part, write_part};
 use crate::words::push_actor;
 use hist_model::event::Event;
@@ -44,13 +44,18 @@ impl Part for Journal {
     ghost text = { λ _. journal_line };
 
     #[tactic(auto, using(crate::proofs::Past::length_past))]
-    fn push_line(&self, line: &mut Line, before: &[Event], event: &Event) -> Result<(), NoMemory> {
+    fn push_line(
+        &self,
+        line: &mut LineBuffer,
+        before: &[Event],
+        event: &Event,
+    ) -> Result<(), NoMemory> {
         push_event(line, before.len(), event)
     }
 }
 
 /// Adds the line of the event at a place.
-pub fn push_event(line: &mut Line, place: usize, event: &Event) -> Result<(), NoMemory>
+pub fn push_event(line: &mut LineBuffer, place: usize, event: &Event) -> Result<(), NoMemory>
     ensures { OnOk result (line.new ≡ line.old ++ event_line place event.now) }
 {
     line.push_number(place as u64)?;

@@ -13,6 +13,9 @@ use sys_abi::memory::NoMemory;
 /// How many digits a number may have.
 const DIGITS: usize = 20;
 
+/// How many bytes are stored as digits of base 16 at a time.
+const PIECE: usize = 16;
+
 /// How much room is made beyond what is wanted.
 const SPARE: usize = 64;
 
@@ -21,14 +24,14 @@ const SPARE: usize = 64;
 /// Most pieces are a few bytes, whose number the compiler knows where they are added. So they are stored into room that is there
 /// already, without a call.
 #[derive(Drop)]
-pub struct Line {
+pub struct LineBuffer {
     /// The bytes of the line, and room for more behind them.
     room: Vec<u8>,
     /// How many of them are the line's.
     len: usize,
 }
 
-impl Model for Line {
+impl Model for LineBuffer {
     ghost use Rattle.std.specs.Prelude.{List, ℕ, ◌≤◌, length, take};
 
     ghost Value = { List ℕ };
@@ -91,12 +94,27 @@ fn place_first(room: &mut [u8], at: usize, bytes: &[u8], count: usize) -> usize
     at + count
 }
 
-impl Line {
+/// As many bytes as are stored at a time, as digits of base 16.
+#[inline(always)]
+fn hex_piece(bytes: &[u8]) -> [u8; 2 * PIECE]
+    requires { length bytes.now ≡ 16 }
+    ensures { result ≡ hex bytes.now }
+{
+    let mut digits = [0; 2 * PIECE];
+    for place in 0..PIECE {
+        let [high, low] = hex_byte(bytes[place]);
+        digits[2 * place] = high;
+        digits[2 * place + 1] = low;
+    }
+    digits
+}
+
+impl LineBuffer {
     /// An empty line.
-    pub fn new(alloc: Global) -> Line
+    pub fn new(alloc: Global) -> LineBuffer
         ensures { result ≡ [] }
     {
-        Line {
+        LineBuffer {
             room: Vec::new(alloc),
             len: 0,
         }
@@ -113,7 +131,7 @@ impl Line {
     pub fn into_bytes(self) -> Vec<u8>
         ensures { result.items ≡ self }
     {
-        let Line { mut room, len } = self;
+        let LineBuffer { mut room, len } = self;
         room.truncate(len);
         room
     }
@@ -156,6 +174,18 @@ impl Line {
     pub(crate) fn push_hex(&mut self, bytes: &[u8]) -> Result<(), NoMemory>
         ensures { OnOk result (self.new ≡ self.old ++ hex bytes.now) }
     {
+        let mut at = 0;
+        while PIECE <= bytes.len() - at {
+            self.push_bytes(&hex_piece(&bytes[at..at + PIECE]))?;
+            at += PIECE;
+        }
+        self.push_hex_each(&bytes[at..])
+    }
+
+    /// The same, byte by byte.
+    fn push_hex_each(&mut self, bytes: &[u8]) -> Result<(), NoMemory>
+        ensures { OnOk result (self.new ≡ self.old ++ hex bytes.now) }
+    {
         for byte in bytes {
             self.push_bytes(&hex_byte(*byte))?;
         }
@@ -174,9 +204,20 @@ impl Line {
         Ok(())
     }
 
-    /// Adds a number. As many bytes are stored as it may have digits, and those that it has count.
-    #[tactic(auto, using(crate::proofs::Room::window_shows))]
+    /// Adds a number.
+    #[tactic(auto, using(std::proofs::lemmas::Fmt::decimal_digit))]
     pub fn push_number(&mut self, n: u64) -> Result<(), NoMemory>
+        ensures { OnOk result (self.new ≡ self.old ++ decimal n) }
+    {
+        if n < 10 {
+            return self.push_bytes(&[b'0' + n as u8]);
+        }
+        self.push_digits(n)
+    }
+
+    /// The same, of any number of digits. As many bytes are stored as it may have digits, and those that it has count.
+    #[tactic(auto, using(crate::proofs::Room::window_shows))]
+    fn push_digits(&mut self, n: u64) -> Result<(), NoMemory>
         ensures { OnOk result (self.new ≡ self.old ++ decimal n) }
     {
         let mut digits = [b'0'; 2 * DIGITS];

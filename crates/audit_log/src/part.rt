@@ -5,7 +5,7 @@ ghost use Rattle.hist_model.specs.ReportJournal.{lines_of, title};
 ghost use Rattle.audit_log.specs.Written.{Wrote};
 
 use crate::error::ReportError;
-use crate::line::Line;
+use crate::line::LineBuffer;
 use hist_model::event::Event;
 use io_edge::sink::Sink;
 use std::alloc::Global;
@@ -20,12 +20,17 @@ pub trait Part {
     ghost text: { Self → List Event → Event → List ℕ };
 
     /// Adds the line of the event that comes after `before`.
-    fn push_line(&self, line: &mut Line, before: &[Event], event: &Event) -> Result<(), NoMemory>
+    fn push_line(
+        &self,
+        line: &mut LineBuffer,
+        before: &[Event],
+        event: &Event,
+    ) -> Result<(), NoMemory>
         ensures { OnOk result (line.new ≡ line.old ++ text self.now (reverse before.now) event.now) };
 }
 
 /// Writes a line, in one write; nothing where it is empty.
-pub fn write_line<O: Sink>(line: &Line, out: &mut O) -> Result<(), ReportError>
+pub fn write_line<O: Sink>(line: &LineBuffer, out: &mut O) -> Result<(), ReportError>
     ensures { Wrote (O.state out.old) line.now result (O.state out.new) }
 {
     if line.bytes().is_empty() {
@@ -36,7 +41,7 @@ pub fn write_line<O: Sink>(line: &Line, out: &mut O) -> Result<(), ReportError>
 }
 
 /// Adds the title of a part that has so many lines.
-fn push_title(line: &mut Line, word: &str, count: usize) -> Result<(), NoMemory>
+fn push_title(line: &mut LineBuffer, word: &str, count: usize) -> Result<(), NoMemory>
     ensures { OnOk result (line.new ≡ line.old ++ title word.now count) }
 {
     line.push(word)?;
@@ -47,7 +52,7 @@ fn push_title(line: &mut Line, word: &str, count: usize) -> Result<(), NoMemory>
 
 /// Writes the title of a part.
 pub(crate) fn write_title<O: Sink>(
-    line: &mut Line,
+    line: &mut LineBuffer,
     word: &str,
     count: usize,
     out: &mut O,
@@ -62,7 +67,7 @@ pub(crate) fn write_title<O: Sink>(
 /// Writes the line of the event that comes after `before`.
 fn write_event<P: Part, O: Sink>(
     part: &P,
-    line: &mut Line,
+    line: &mut LineBuffer,
     before: &[Event],
     event: &Event,
     out: &mut O,
@@ -77,7 +82,7 @@ fn write_event<P: Part, O: Sink>(
 /// Writes the lines of the events, from the oldest on.
 pub fn write_lines<P: Part, O: Sink>(
     part: &P,
-    line: &mut Line,
+    line: &mut LineBuffer,
     events: &[Event],
     out: &mut O,
 ) -> Result<(), ReportError>
@@ -100,7 +105,7 @@ pub(crate) fn write_part<P: Part, O: Sink>(
 ) -> Result<(), ReportError>
     ensures { Wrote (O.state out.old) (title word.now count ++ lines_of (P.text part.now) (reverse events.now)) result (O.state out.new) }
 {
-    let mut line = Line::new(alloc);
+    let mut line = LineBuffer::new(alloc);
     write_title(&mut line, word, count, out)?;
     write_lines(part, &mut line, events, out)
 }

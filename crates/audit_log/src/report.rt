@@ -1,53 +1,32 @@
 //! What stands behind the journal of a report: the calls, the audit and the summary.
 
-ghost use Rattle.std.specs.Prelude.{◌≡◌, ◌++◌, IfOk, map};
+ghost use Rattle.std.specs.Prelude.{◌≡◌, ◌++◌, IfOk, OnOk};
 ghost use Rattle.hist_model.specs.Report.{summary};
 ghost use Rattle.hist_model.specs.ReportAudit.{audit, judging_by};
 ghost use Rattle.hist_model.specs.ReportCalls.{calls};
-ghost use Rattle.audit_log.specs.Begun.{told};
-ghost use Rattle.audit_log.specs.Sessions.{begun};
-ghost use Rattle.audit_log.specs.CallTable.{TellsCalls};
+ghost use Rattle.audit_log.specs.Counts.{counts_of};
 ghost use Rattle.audit_log.specs.Rest.{rest};
+ghost use Rattle.audit_log.specs.Tables.{TellsTables};
 ghost use Rattle.audit_log.specs.Written.{Wrote};
 
-use crate::call_table::CallTable;
 use crate::error::ReportError;
-use crate::session::Session;
-use crate::session_table::sessions;
+use crate::summary::Counts;
+use crate::tables::Tables;
 use hist_model::history::History;
 use hist_model::policy::Policy;
 use io_edge::sink::Sink;
 use std::alloc::Global;
-use sys_abi::memory::NoMemory;
 
-/// A history's report, with what its parts have in common: what is kept of the calls, and of the sessions.
+/// A history's report, with what its parts have in common.
 #[derive(Drop)]
 pub(crate) struct Report<'a> {
     pub(crate) policy: &'a Policy,
     pub(crate) history: &'a History,
-    pub(crate) calls: CallTable,
-    pub(crate) sessions: Vec<Session>,
-    ghost of_calls: { TellsCalls history.now.events calls },
-    ghost of_sessions: { sessions.items ≡ map (told (judging_by policy.now.rules)) (begun history.now.events history.now.events) },
+    pub(crate) tables: &'a Tables,
+    ghost told: { TellsTables policy.now.rules history.now.events tables.now },
 }
 
-impl<'a> Report<'a> {
-    /// Of a history, by the policy that its workers had.
-    fn of(alloc: Global, policy: &'a Policy, history: &'a History) -> Result<Report<'a>, NoMemory>
-        ensures policy { IfOk result (λ r. r.policy.now ≡ policy.now) }
-        ensures history { IfOk result (λ r. r.history.now ≡ history.now) }
-    {
-        let events = history.events();
-        let calls = CallTable::of(alloc, events)?;
-        let sessions = sessions(alloc, policy, events)?;
-        Ok(Report {
-            policy,
-            history,
-            calls,
-            sessions,
-        })
-    }
-
+impl Report<'_> {
     /// Writes the calls and the audit.
     fn write_listed<O: Sink>(&self, alloc: Global, out: &mut O) -> Result<(), ReportError>
         ensures { Wrote (O.state out.old) (calls self.now.history.now.events ++ audit (judging_by self.now.policy.now.rules) self.now.history.now.events) result (O.state out.new) }
@@ -56,12 +35,18 @@ impl<'a> Report<'a> {
         self.write_audit(alloc, out)
     }
 
-    /// Writes the calls, the audit and the summary.
-    fn write_rest<O: Sink>(&self, alloc: Global, out: &mut O) -> Result<(), ReportError>
-        ensures { Wrote (O.state out.old) (rest (judging_by self.now.policy.now.rules) self.now.history.now.events) result (O.state out.new) }
+    /// Writes the calls, the audit and the summary, and tells the counts in it.
+    fn write_rest<O: Sink>(
+        &self,
+        alloc: Global,
+        counts: &mut Counts,
+        out: &mut O,
+    ) -> Result<(), ReportError>
+        ensures wrote { Wrote (O.state out.old) (rest (judging_by self.now.policy.now.rules) self.now.history.now.events) result (O.state out.new) }
+        ensures counts { OnOk result (counts.new ≡ counts_of (judging_by self.now.policy.now.rules) self.now.history.now.events) }
     {
         self.write_listed(alloc, out)?;
-        self.write_summary(alloc, out)
+        self.write_summary(alloc, counts, out)
     }
 }
 
@@ -80,8 +65,48 @@ pub fn write_rest<O: Sink>(
 ) -> Result<(), ReportError>
     ensures { Wrote (O.state out.old) (rest (judging_by policy.now.rules) history.now.events) result (O.state out.new) }
 {
-    let report = Report::of(alloc, policy, history)?;
-    report.write_rest(alloc, out)
+    let mut counts = Counts::none();
+    write_rest_counting(alloc, policy, history, &mut counts, out)
+}
+
+/// Does what `write_rest` does, and tells the counts of the summary, where all was written.
+pub fn write_rest_counting<O: Sink>(
+    alloc: Global,
+    policy: &Policy,
+    history: &History,
+    counts: &mut Counts,
+    out: &mut O,
+) -> Result<(), ReportError>
+    ensures wrote { Wrote (O.state out.old) (rest (judging_by policy.now.rules) history.now.events) result (O.state out.new) }
+    ensures counts { OnOk result (counts.new ≡ counts_of (judging_by policy.now.rules) history.now.events) }
+{
+    let tables = Tables::of(alloc, policy, history)?;
+    let report = Report {
+        policy,
+        history,
+        tables: &tables,
+    };
+    report.write_rest(alloc, counts, out)
+}
+
+/// Does what `write_rest` does, by the tables of the history that were made before.
+pub fn write_rest_by<O: Sink>(
+    alloc: Global,
+    policy: &Policy,
+    history: &History,
+    tables: &Tables,
+    out: &mut O,
+) -> Result<(), ReportError>
+    requires { TellsTables policy.now.rules history.now.events tables.now }
+    ensures { Wrote (O.state out.old) (rest (judging_by policy.now.rules) history.now.events) result (O.state out.new) }
+{
+    let mut counts = Counts::none();
+    let report = Report {
+        policy,
+        history,
+        tables,
+    };
+    report.write_rest(alloc, &mut counts, out)
 }
 
 /// Writes the summary of a history: how many events, calls, listed calls and answers it has, and how many sessions came to what.
@@ -95,6 +120,12 @@ pub fn write_summary<O: Sink>(
 ) -> Result<(), ReportError>
     ensures { Wrote (O.state out.old) (summary (judging_by policy.now.rules) history.now.events) result (O.state out.new) }
 {
-    let report = Report::of(alloc, policy, history)?;
-    report.write_summary(alloc, out)
+    let tables = Tables::of(alloc, policy, history)?;
+    let mut counts = Counts::none();
+    let report = Report {
+        policy,
+        history,
+        tables: &tables,
+    };
+    report.write_summary(alloc, &mut counts, out)
 }

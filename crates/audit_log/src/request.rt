@@ -5,7 +5,7 @@ ghost use Rattle.hist_model.specs.ReportWords.{quoted, or_dash, hex_or_dash};
 ghost use Rattle.hist_model.specs.ReportJournal.{maker_text, node_text, request_text, shift_text};
 ghost use Rattle.sys_abi.specs.Devices.{major_of, minor_of};
 
-use crate::line::Line;
+use crate::line::LineBuffer;
 use crate::words::{push_call, push_hex_or_dash, push_or_dash};
 use hist_model::request::{Kind, Request, node_device};
 use hist_model::text::Text;
@@ -13,7 +13,7 @@ use sys_abi::device::split_dev;
 use sys_abi::memory::NoMemory;
 
 /// Adds what a worker does for a call; of a call that it never does anything for, the name alone.
-pub fn push_request(line: &mut Line, request: &Request) -> Result<(), NoMemory>
+pub fn push_request(line: &mut LineBuffer, request: &Request) -> Result<(), NoMemory>
     ensures { OnOk result (line.new ≡ line.old ++ request_text request.now) }
 {
     match request {
@@ -49,7 +49,7 @@ pub fn push_request(line: &mut Line, request: &Request) -> Result<(), NoMemory>
 
 /// Adds a mknod: its path, the kind of node and, of a device, its numbers.
 fn push_mknod(
-    line: &mut Line,
+    line: &mut LineBuffer,
     dirfd: Option<i32>,
     path: &Text,
     mode: u16,
@@ -64,7 +64,7 @@ fn push_mknod(
 }
 
 /// Adds the call that makes a node, with the number from which its path goes.
-fn push_maker(line: &mut Line, dirfd: Option<i32>) -> Result<(), NoMemory>
+fn push_maker(line: &mut LineBuffer, dirfd: Option<i32>) -> Result<(), NoMemory>
     ensures { OnOk result (line.new ≡ line.old ++ maker_text dirfd) }
 {
     match dirfd {
@@ -78,7 +78,7 @@ fn push_maker(line: &mut Line, dirfd: Option<i32>) -> Result<(), NoMemory>
 }
 
 /// Adds a kind of node, with the numbers of a device.
-fn push_node(line: &mut Line, kind: Kind, dev: u32) -> Result<(), NoMemory>
+fn push_node(line: &mut LineBuffer, kind: Kind, dev: u32) -> Result<(), NoMemory>
     ensures { OnOk result (line.new ≡ line.old ++ node_text kind dev) }
 {
     match kind {
@@ -93,7 +93,7 @@ fn push_node(line: &mut Line, kind: Kind, dev: u32) -> Result<(), NoMemory>
 }
 
 /// Adds a device, with its numbers.
-fn push_device(line: &mut Line, kind: &str, dev: u32) -> Result<(), NoMemory>
+fn push_device(line: &mut LineBuffer, kind: &str, dev: u32) -> Result<(), NoMemory>
     ensures { OnOk result (line.new ≡ line.old ++ (kind.now ++ decimal (major_of dev) ++ codes ":" ++ decimal (minor_of dev))) }
 {
     let (major, minor) = split_dev(dev);
@@ -105,7 +105,7 @@ fn push_device(line: &mut Line, kind: &str, dev: u32) -> Result<(), NoMemory>
 
 /// Adds the first words of a mount: its source, its target and its type.
 fn push_mount_point(
-    line: &mut Line,
+    line: &mut LineBuffer,
     source: &Text,
     target: &Text,
     fstype: &Text,
@@ -122,7 +122,7 @@ fn push_mount_point(
 
 /// Adds the other words of a mount.
 fn push_mount_options(
-    line: &mut Line,
+    line: &mut LineBuffer,
     flags: u64,
     options: &Text,
     via: &Text,
@@ -142,7 +142,7 @@ fn push_mount_options(
 
 /// Adds a setxattr: its path, the attribute's name and value, and its flags.
 fn push_setxattr(
-    line: &mut Line,
+    line: &mut LineBuffer,
     path: &Text,
     name: &Text,
     value: &Text,

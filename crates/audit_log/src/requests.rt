@@ -1,7 +1,6 @@
 //! The requests for descriptors that have no installation yet, while the events are gone through.
 
 ghost use Rattle.std.specs.Prelude.{◌≡◌, ◌++◌, ◌∷◌, ◌==◌, [], ℕ, OnOk, Option, if◌then◌else◌};
-ghost use Rattle.hist_model.specs.Kinds.{has_send_flag};
 ghost use Rattle.hist_model.specs.Look.{is_place};
 ghost use Rattle.hist_model.specs.ReportRequests.{without_first};
 ghost use Rattle.audit_log.specs.Received.{place_in};
@@ -12,28 +11,20 @@ use hist_model::event::What;
 use std::alloc::Global;
 use std::collections::{BTreeMap, VecDeque};
 use sys_abi::memory::NoMemory;
-use sys_abi::wire::{Addfd, SECCOMP_ADDFD_FLAG_SEND};
-
-/// Whether the request has SEND.
-fn has_send_flag(asked: &Addfd) -> bool
-    ensures { result ≡ has_send_flag asked.now }
-{
-    asked.flags >= SECCOMP_ADDFD_FLAG_SEND
-}
 
 /// The requests of each call that have no installation yet, by the place of the call: the oldest first, each by whether it has SEND.
 #[derive(Drop)]
-pub(crate) struct Requests {
+pub(crate) struct PendingRequests {
     alloc: Global,
     queues: BTreeMap<usize, VecDeque<bool>>,
 }
 
-impl Requests {
+impl PendingRequests {
     /// The state before any event.
-    pub(crate) fn new(alloc: Global) -> Requests
+    pub(crate) fn new(alloc: Global) -> PendingRequests
         ensures { (c : ℕ) → queue_in result c ≡ [] }
     {
-        Requests {
+        PendingRequests {
             alloc,
             queues: BTreeMap::new(alloc),
         }
@@ -98,7 +89,7 @@ impl Requests {
             What::AddfdPut {
                 asked,
                 answer: Ok(()),
-            } => self.push(ids.named(asked.id), has_send_flag(asked)),
+            } => self.push(ids.named(asked.id), asked.has_send_flag()),
             _ => Ok(()),
         }
     }

@@ -3,7 +3,7 @@
 ghost use Rattle.std.specs.Prelude.{◌≡◌, IfOk, None, get_or, replicate};
 ghost use Rattle.audit_log.specs.Served.{TellsSessions, noted};
 
-use crate::session::Session;
+use crate::session::SessionRecord;
 use std::alloc::Global;
 use sys_abi::memory::NoMemory;
 
@@ -35,7 +35,7 @@ pub fn served_calls(
     alloc: Global,
     room: usize,
     received: &[Option<usize>],
-    sessions: &[Session],
+    sessions: &[SessionRecord],
 ) -> Result<Vec<Option<usize>>, NoMemory>
     ensures { IfOk result (λ found. TellsSessions received.now sessions.now room found.items) }
 {

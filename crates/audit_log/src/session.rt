@@ -19,7 +19,7 @@ use sys_abi::wire::Notif;
 
 /// What is kept of a session.
 #[derive(Clone, Copy, PartialEq, Eq, Debug)]
-pub struct Session {
+pub struct SessionRecord {
     /// The place of the event that begins it.
     pub place: usize,
     /// The number of its worker.
@@ -84,7 +84,7 @@ fn found_where(due: bool, policy: &Policy, notif: &Notif, capture: &mut Capture)
     }
 }
 
-impl Session {
+impl SessionRecord {
     /// One more step of its worker, which has this place, and which the capture of its reads takes too.
     pub(crate) fn step(
         &mut self,

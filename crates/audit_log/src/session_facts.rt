@@ -3,7 +3,7 @@
 ghost use Rattle.std.specs.Prelude.{◌≡◌};
 ghost use Rattle.hist_model.specs.Kinds.{is_good_check, is_letgo, starts, is_gone, misses_call, is_sent, is_spent};
 ghost use Rattle.hist_model.specs.ReportAudit.{back_in, or_back};
-ghost use Rattle.audit_log.specs.SessionFacts.{facts_with};
+ghost use Rattle.audit_log.specs.SessionFacts.{checked_by, facts_with, gone_by, lost_by, spent_by};
 
 use hist_model::event::{Back, What};
 use sys_abi::errno::Errno;
@@ -133,19 +133,78 @@ impl Facts {
         lost: false,
     };
 
-    /// With one more step, where the session isn't shut.
+    /// With one more step, where the session isn't shut. By its kind, as each kind tells of few of the facts.
     pub(crate) fn with(self, what: &What) -> Facts
         ensures { result ≡ facts_with self what.now }
     {
+        let open = Facts {
+            shut: false,
+            ..self
+        };
+        match what {
+            What::Recv { .. } => Facts {
+                shut: starts(what),
+                ..open
+            },
+            What::LetGo => Facts { shut: true, ..open },
+            What::OpenMem { .. } => open.gone_by(what),
+            What::OpenBase { .. } => open.gone_by(what),
+            What::Check { .. } => open.checked_by(what),
+            What::Act { .. } => open.spent_by(what),
+            What::Plant { .. } => open.spent_by(what),
+            What::AddfdPut { .. } => open.lost_by(what),
+            What::AddfdTake { .. } => open.lost_by(what),
+            What::Send { .. } => Facts {
+                sent: is_sent(what) | self.sent,
+                ..open.lost_by(what)
+            },
+            _ => open,
+        }
+    }
+
+    /// With a step that may find the caller, or its call, gone.
+    #[inline(always)]
+    fn gone_by(self, what: &What) -> Facts
+        ensures { result ≡ gone_by self what.now }
+    {
+        Facts {
+            gone: is_gone(what) | self.gone,
+            ..self
+        }
+    }
+
+    /// With a step that asks whether the notification is valid.
+    #[inline(always)]
+    fn checked_by(self, what: &What) -> Facts
+        ensures { result ≡ checked_by self what.now }
+    {
         let good = is_good_check(what);
         Facts {
-            shut: is_letgo(what) | starts(what),
-            gone: is_gone(what) | self.gone,
             checked: good | self.checked,
             checked_twice: (good & self.checked) | self.checked_twice,
+            ..self.gone_by(what)
+        }
+    }
+
+    /// With a step that may be refused since the rule's times were spent.
+    #[inline(always)]
+    fn spent_by(self, what: &What) -> Facts
+        ensures { result ≡ spent_by self what.now }
+    {
+        Facts {
             spent: is_spent(what) | self.spent,
-            sent: is_sent(what) | self.sent,
+            ..self
+        }
+    }
+
+    /// With a step that may find no listed call.
+    #[inline(always)]
+    fn lost_by(self, what: &What) -> Facts
+        ensures { result ≡ lost_by self what.now }
+    {
+        Facts {
             lost: misses_call(what) | self.lost,
+            ..self
         }
     }
 }

@@ -14,7 +14,7 @@ ghost use Rattle.audit_log.specs.Begun.{Begun, told};
 ghost use Rattle.audit_log.specs.Sessions.{after_event, begun, started, with_event};
 ghost use Rattle.audit_log.specs.SessionTable.{AllShut, IsIdle, IsRowStepped, IsStepped, StandsFor};
 
-use crate::session::Session;
+use crate::session::SessionRecord;
 use crate::session_facts::Facts;
 use crate::session_stages::Stages;
 use arg_capture::{Capture, Plan};
@@ -41,7 +41,7 @@ struct Current {
 #[derive(Drop)]
 struct SessionTable {
     alloc: Global,
-    rows: Vec<Session>,
+    rows: Vec<SessionRecord>,
     /// By the worker's number.
     workers: Vec<Current>,
 }
@@ -67,7 +67,7 @@ fn received(what: &What) -> Option<Notif>
 fn advance_row(
     policy: &Policy,
     place: usize,
-    rows: &mut Vec<Session>,
+    rows: &mut Vec<SessionRecord>,
     row: usize,
     capture: &mut Capture,
     what: &What,
@@ -87,7 +87,7 @@ impl Current {
         &mut self,
         policy: &Policy,
         place: usize,
-        rows: &mut Vec<Session>,
+        rows: &mut Vec<SessionRecord>,
         what: &What,
     ) -> Result<(), NoMemory>
         ensures { OnOk result (IsStepped policy.now.rules place what.now self.old self.new rows.old.items rows.new.items) }
@@ -165,7 +165,7 @@ impl SessionTable {
         let row = self.rows.len();
         let facts = Facts::BEGUN;
         let back: Option<Back> = None;
-        self.rows.push(Session {
+        self.rows.push(SessionRecord {
             place,
             worker,
             notif: *notif,
@@ -210,7 +210,11 @@ impl SessionTable {
 }
 
 /// The outcome of each session of a history, the oldest first, in one pass over its events.
-pub fn sessions(alloc: Global, policy: &Policy, events: &[Event]) -> Result<Vec<Session>, NoMemory>
+pub fn sessions(
+    alloc: Global,
+    policy: &Policy,
+    events: &[Event],
+) -> Result<Vec<SessionRecord>, NoMemory>
     ensures { IfOk result (λ found. found.items ≡ map (told (judging_by policy.now.rules)) (begun (reverse events.now) (reverse events.now))) }
 {
     let mut table = SessionTable::new(alloc)?;

@@ -1,8 +1,8 @@
 //! What is kept of each task while the events are gone through.
 
-ghost use Rattle.std.specs.Prelude.{◌≡◌, ℕ, List, OnOk, Some, if◌then◌else◌};
+ghost use Rattle.std.specs.Prelude.{◌≡◌, ◌&&◌, ℕ, List, OnOk, Some, if◌then◌else◌};
 ghost use Rattle.hist_model.specs.Look.{is_task, name_eq, or_else};
-ghost use Rattle.audit_log.specs.Tasks.{facts_in, facts_of, no_task, task_after};
+ghost use Rattle.audit_log.specs.Tasks.{facts_in, facts_of, no_task, row_of, task_after};
 
 use hist_model::event::{Actor, Event, What};
 use std::alloc::Global;
@@ -27,19 +27,24 @@ impl TaskFacts {
 }
 
 /// The tasks of which something was seen, by their names.
+///
+/// Most events are of workers. What is kept under the name that has no number, as for them, stands apart, so that it is there without
+/// being looked up.
 #[derive(Drop)]
-pub(crate) struct Tasks {
+pub(crate) struct TaskRecords {
     alloc: Global,
+    unnamed: TaskFacts,
     rows: HashMap<Vec<u32>, TaskFacts>,
 }
 
-impl Tasks {
+impl TaskRecords {
     /// Before all events.
-    pub(crate) fn new(alloc: Global) -> Tasks
+    pub(crate) fn new(alloc: Global) -> TaskRecords
         ensures { (n : List ℕ) → facts_in result n ≡ no_task }
     {
-        Tasks {
+        TaskRecords {
             alloc,
+            unnamed: TaskFacts::NONE,
             rows: HashMap::new(alloc),
         }
     }
@@ -47,6 +52,17 @@ impl Tasks {
     /// Of the task with this name.
     pub(crate) fn get(&self, name: &[u32]) -> TaskFacts
         ensures { result ≡ facts_in self.now name.now }
+    {
+        if name.is_empty() {
+            self.unnamed
+        } else {
+            self.row(name)
+        }
+    }
+
+    /// Of the task with this name, by the rows.
+    fn row(&self, name: &[u32]) -> TaskFacts
+        ensures { result ≡ row_of self.now name.now }
     {
         match self.rows.get(name) {
             Some(facts) => *facts,
@@ -62,7 +78,7 @@ impl Tasks {
             Actor::Task(name) => self.get(name.items()),
             _ => TaskFacts {
                 newest: None,
-                ..self.get(&[])
+                ..self.unnamed
             },
         }
     }
@@ -70,6 +86,35 @@ impl Tasks {
     /// Keeps this of the task with this name.
     fn put(&mut self, name: &[u32], facts: TaskFacts) -> Result<(), NoMemory>
         ensures { OnOk result ((n : List ℕ) → facts_in self.new n ≡ (if name_eq name.now n then facts else facts_in self.old n)) }
+    {
+        if name.is_empty() {
+            self.unnamed = facts;
+            return Ok(());
+        }
+        if self.change_row(name, facts) {
+            return Ok(());
+        }
+        self.add_row(name, facts)
+    }
+
+    /// Changes the row of the task with this name, where it has one; whether it has.
+    fn change_row(&mut self, name: &[u32], facts: TaskFacts) -> bool
+        ensures unnamed { self.new.unnamed ≡ self.old.unnamed }
+        ensures row { (n : List ℕ) → row_of self.new n ≡ (if result && name_eq name.now n then facts else row_of self.old n) }
+    {
+        match self.rows.get_mut(name) {
+            Some(kept) => {
+                *kept = facts;
+                true
+            }
+            None => false,
+        }
+    }
+
+    /// Gives the task with this name a row.
+    fn add_row(&mut self, name: &[u32], facts: TaskFacts) -> Result<(), NoMemory>
+        ensures unnamed { self.new.unnamed ≡ self.old.unnamed }
+        ensures row { OnOk result ((n : List ℕ) → row_of self.new n ≡ (if name_eq name.now n then facts else row_of self.old n)) }
     {
         let key = Vec::from_slice(self.alloc, name)?;
         self.rows.insert(key, facts)?;

@@ -4,7 +4,7 @@ ghost use Rattle.std.specs.Prelude.{◌≡◌, ◌++◌, OnOk, codes, decimal};
 ghost use Rattle.std.specs.List.{flat_map};
 ghost use Rattle.hist_model.specs.ReportWords.{hex_or_dash, or_dash, name_text, errno_text, call_text, result_text, number_text, back_text, actor_text};
 
-use crate::line::Line;
+use crate::line::LineBuffer;
 use hist_model::event::{Actor, Back};
 use hist_model::text::TaskName;
 use sys_abi::calls::call_name;
@@ -12,7 +12,7 @@ use sys_abi::errno::Errno;
 use sys_abi::memory::NoMemory;
 
 /// Adds bytes as digits of base 16, or `-` where there are none.
-pub(crate) fn push_hex_or_dash(line: &mut Line, bytes: &[u8]) -> Result<(), NoMemory>
+pub(crate) fn push_hex_or_dash(line: &mut LineBuffer, bytes: &[u8]) -> Result<(), NoMemory>
     ensures { OnOk result (line.new ≡ line.old ++ hex_or_dash bytes.now) }
 {
     if bytes.is_empty() {
@@ -23,7 +23,7 @@ pub(crate) fn push_hex_or_dash(line: &mut Line, bytes: &[u8]) -> Result<(), NoMe
 }
 
 /// Adds a text as it is, or `-` where it is empty.
-pub(crate) fn push_or_dash(line: &mut Line, text: &[u8]) -> Result<(), NoMemory>
+pub(crate) fn push_or_dash(line: &mut LineBuffer, text: &[u8]) -> Result<(), NoMemory>
     ensures { OnOk result (line.new ≡ line.old ++ or_dash text.now) }
 {
     if text.is_empty() {
@@ -34,14 +34,14 @@ pub(crate) fn push_or_dash(line: &mut Line, text: &[u8]) -> Result<(), NoMemory>
 }
 
 /// Adds a task's name: its numbers, with points between them.
-pub fn push_name(line: &mut Line, name: &TaskName) -> Result<(), NoMemory>
+pub fn push_name(line: &mut LineBuffer, name: &TaskName) -> Result<(), NoMemory>
     ensures { OnOk result (line.new ≡ line.old ++ name_text name.now) }
 {
     push_numbers(line, name.items())
 }
 
 /// Adds numbers with points between them.
-fn push_numbers(line: &mut Line, numbers: &[u32]) -> Result<(), NoMemory>
+fn push_numbers(line: &mut LineBuffer, numbers: &[u32]) -> Result<(), NoMemory>
     ensures { OnOk result (line.new ≡ line.old ++ name_text numbers.now) }
 {
     match numbers {
@@ -54,7 +54,7 @@ fn push_numbers(line: &mut Line, numbers: &[u32]) -> Result<(), NoMemory>
 }
 
 /// Adds numbers with a point before each.
-fn push_pointed(line: &mut Line, numbers: &[u32]) -> Result<(), NoMemory>
+fn push_pointed(line: &mut LineBuffer, numbers: &[u32]) -> Result<(), NoMemory>
     ensures { OnOk result (line.new ≡ line.old ++ flat_map (λ n. codes "." ++ decimal n) numbers.now) }
 {
     for n in numbers {
@@ -65,7 +65,7 @@ fn push_pointed(line: &mut Line, numbers: &[u32]) -> Result<(), NoMemory>
 }
 
 /// Adds an error's name, or `E` and its number.
-pub(crate) fn push_errno(line: &mut Line, error: Errno) -> Result<(), NoMemory>
+pub(crate) fn push_errno(line: &mut LineBuffer, error: Errno) -> Result<(), NoMemory>
     ensures { OnOk result (line.new ≡ line.old ++ errno_text error) }
 {
     match error.name() {
@@ -78,7 +78,7 @@ pub(crate) fn push_errno(line: &mut Line, error: Errno) -> Result<(), NoMemory>
 }
 
 /// Adds a call's name, or its number.
-pub fn push_call(line: &mut Line, nr: i32) -> Result<(), NoMemory>
+pub fn push_call(line: &mut LineBuffer, nr: i32) -> Result<(), NoMemory>
     ensures { OnOk result (line.new ≡ line.old ++ call_text nr) }
 {
     match call_name(nr) {
@@ -88,7 +88,7 @@ pub fn push_call(line: &mut Line, nr: i32) -> Result<(), NoMemory>
 }
 
 /// Adds `ok`, or an error.
-pub fn push_result(line: &mut Line, answer: &Result<(), Errno>) -> Result<(), NoMemory>
+pub fn push_result(line: &mut LineBuffer, answer: &Result<(), Errno>) -> Result<(), NoMemory>
     ensures { OnOk result (line.new ≡ line.old ++ result_text answer.now) }
 {
     match answer {
@@ -99,7 +99,7 @@ pub fn push_result(line: &mut Line, answer: &Result<(), Errno>) -> Result<(), No
 
 /// Adds a number, or an error.
 pub(crate) fn push_number_or_errno(
-    line: &mut Line,
+    line: &mut LineBuffer,
     answer: &Result<u32, Errno>,
 ) -> Result<(), NoMemory>
     ensures { OnOk result (line.new ≡ line.old ++ number_text answer.now) }
@@ -111,7 +111,7 @@ pub(crate) fn push_number_or_errno(
 }
 
 /// Adds how a call returns.
-pub(crate) fn push_back(line: &mut Line, back: Back) -> Result<(), NoMemory>
+pub(crate) fn push_back(line: &mut LineBuffer, back: Back) -> Result<(), NoMemory>
     ensures { OnOk result (line.new ≡ line.old ++ back_text back) }
 {
     match back {
@@ -122,7 +122,7 @@ pub(crate) fn push_back(line: &mut Line, back: Back) -> Result<(), NoMemory>
 }
 
 /// Adds who takes a step.
-pub(crate) fn push_actor(line: &mut Line, who: &Actor) -> Result<(), NoMemory>
+pub(crate) fn push_actor(line: &mut LineBuffer, who: &Actor) -> Result<(), NoMemory>
     ensures { OnOk result (line.new ≡ line.old ++ actor_text who.now) }
 {
     match who {

@@ -20,9 +20,14 @@ audit 0
 summary events=3 calls=0 notified=0 answered=0 granted=0 denied=0 passed=0 injected=0 faults=0 gone=0 lost=0
 ";
     match check_report(alloc, &policy, script, report.as_bytes())? {
-        Found::Yes { history, finished } => {
+        Found::Yes {
+            history,
+            finished,
+            tables,
+        } => {
             assert_eq!(rt; history.len(), 3);
             assert!(rt; !finished);
+            assert!(rt; tables.sessions.is_empty());
         }
         Found::No { line } => assert_eq!(rt; line, 0),
     }

@@ -13,7 +13,7 @@ returns-in-None c S bytes h =
     let H = c.args.history.events in
     let text = c.args.left.text.now in
     let same : Compares (rest_of P H) text None = subst (Compares (rest_of P H) text) c.in-None.is c.in_ok-compared.ensures.compares in
-    (rest_read P S bytes c.requires.policy c.args.left.number H text h same, c.requires.finished)
+    (rest_read P S bytes c.requires.policy c.args.left.number H text h same, c.requires.finished, c.in_ok-tables.ensures)
 
 pub returns-in-Some : goal.returns-in-Some
 returns-in-Some c S bytes h =

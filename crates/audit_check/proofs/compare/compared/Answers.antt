@@ -13,7 +13,7 @@ pub returns-in-Err-WriteFault : goal.returns-in-Err-WriteFault
 returns-in-Err-WriteFault c =
     let text = c.args.text.now in
     let rest = rest_of c.args.policy.now c.args.history.now.events in
-    let out = c.write_rest.new.out in
+    let out = c.write_rest_by.new.out in
     let wrote : Wrote (known text 0 None) rest (Err WriteFault) (known out.text.now out.same out.other) = rw c.in-Err-WriteFault.field-0-is at c.in-Err-WriteFault.ensures in
     let found = compares_failed text out.text.now rest out.same out.other out.within out.differs wrote in
     record {
@@ -25,7 +25,7 @@ pub returns-in-Ok : goal.returns-in-Ok
 returns-in-Ok c =
     let text = c.args.text.now in
     let rest = rest_of c.args.policy.now c.args.history.now.events in
-    let out = c.write_rest.new.out in
+    let out = c.write_rest_by.new.out in
     let wrote : Wrote (known text 0 None) rest (Ok tt) (known out.text.now out.same out.other) = c.in-Ok.ensures in
     let found = compares_wrote text out.text.now rest out.same out.other out.within out.differs wrote in
     record {

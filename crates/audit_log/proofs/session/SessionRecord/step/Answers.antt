@@ -1,6 +1,6 @@
 -- By whether the session is over, and whether it was judged.
 use Rattle.audit_log.proofs.SessionSteps.{after_judged, after_heard, after_shut}
-use Rattle.audit_log.proofs.session.Session.step.Goals as goal
+use Rattle.audit_log.proofs.session.SessionRecord.step.Goals as goal
 
 pub returns-then-self : goal.returns-then-self
 returns-then-self c = λ s p r. after_shut c.args.policy.now.rules s c.args.self.now c.args.place c.args.what.now c.args.capture.now p c.if-self.true r
