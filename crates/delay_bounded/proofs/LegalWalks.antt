@@ -1,25 +1,27 @@
--- Each walk is legal, none of its events is a Skip, and none is a step of a worker above the limit.
+-- Each walk is legal, none of its events is a Skip, and none is a step of a worker above the limit; and nobody is able to step at its end.
 -- By induction on the steps that are left: a turn is a step of an actor that a schedule may name.
-use Rattle.std.proofs.Common.{◌≡◌, ℕ, zero, suc, ◌+◌, ◌-◌, ◌<◌, ◌≤◌, Bool, true, false, not, if◌then◌else◌, nat_lt, List, [], ◌∷◌, length, filter, All, refl, ap, arith}
+use Rattle.std.proofs.Common.{◌≡◌, ℕ, zero, suc, ◌+◌, ◌-◌, ◌<◌, ◌≤◌, ◌^◌, Bool, true, false, not, if◌then◌else◌, nat_lt, List, [], ◌∷◌, ◌++◌, length, filter, All, refl, sym, ap, ◌∙◌, arith}
 use Rattle.std.proofs.lemmas.List.Elements.{All-append, All-cons, All-filter, All-head, All-map, All-nil, All-tail, All-weaker, filter_passes}
 use Rattle.std.proofs.lemmas.Bool.{and_parts}
 use Rattle.hist_model.specs.Legal.{IsWithin, rules_of, started, system_of, with_step}
 use Rattle.hist_model.specs.Look.{Name}
 use Rattle.hist_model.specs.Steps.{IsLegal, step}
+use Rattle.hist_model.specs.Tasks.{is_made}
 use Rattle.hist_model.specs.declared.event.Actor.{Actor}
 use Rattle.hist_model.specs.declared.event.Actor.TheVariants.{Listener, Start, Task, Worker}
 use Rattle.hist_model.specs.declared.event.Event.{Event}
 use Rattle.hist_model.specs.declared.policy.Policy.{Policy}
 use Rattle.hist_model.specs.declared.script.Script.{Script}
-use Rattle.history_frames.specs.Ordinals.{task_name_of, tasks_made}
-use Rattle.mediation.specs.Scheduled.{IsScheduled}
+use Rattle.history_frames.specs.Ordinals.{count_of, task_name_of, tasks_made}
+use Rattle.mediation.specs.Scheduled.{IsScheduled, IsUnclosed}
 use Rattle.mediation.proofs.Mediation.{mediated}
 use Rattle.mediation.proofs.Played.{goes_on-start, goes_on-step}
 use Rattle.delay_bounded.specs.Circle.{able, at_place, is_able, may_step, places, round, with_turn}
 use Rattle.delay_bounded.specs.Explored.{Walk, by_delays, closed, explored, is_spent, most_events, or_over, walks, with_delays}
-use Rattle.delay_bounded.proofs.Rounds.{round_inside}
-use Rattle.delay_bounded.specs.Laws.{IsExplored, IsLowest, IsWalked}
+use Rattle.delay_bounded.proofs.Rounds.{round_inside, round_splits}
+use Rattle.delay_bounded.specs.Laws.{AreNamed, ClosesFinished, IsExplored, IsLowest, IsOver, IsWalked}
 use Rattle.delay_bounded.specs.Schedules.{schedule_of}
+use Rattle.delay_bounded.proofs.Finishing.{finished}
 use Rattle.delay_bounded.proofs.Schedules.{plays}
 use Rattle.delay_bounded.proofs.Turns.{turn_by_turn}
 
@@ -73,25 +75,45 @@ module _ (P : Policy) (S : Script) (W : ℕ) (few : W ≤ 16) where
 
   -- ---- The walks
 
+  -- nobody is able to step at the end of a walk that can be counted
   abbrev Good : Walk → Type 0
-  Good w = IsWalked P S W w.events
+  Good w = IsWalked P S W w.events × (length w.events < most_events → IsOver P S W w.events)
 
-  module _ (K : List Event) (k : IsWalked P S W K) (f : ℕ → ℕ → List Walk) (goes : (q r : ℕ) → IsWalked P S W (with_turn P S K q) → All Good (f q r)) where
+  over_where_none : (K : List Event) (p : ℕ) → p < places W K → able P S W K p ≡ [] → IsOver P S W K
+  unfolding able
+  over_where_none K p inside none q l = by (is_able P S K (at_place K q)) refl
+    where
+      no_part : (before behind : List ℕ) → [] ≡ before ++ q ∷ behind → ⊥
+      no_part [] behind e = cc
+      no_part (b ∷ before) behind e = cc
+
+      by : (b : Bool) → is_able P S K (at_place K q) ≡ b → is_able P S K (at_place K q) ≡ false
+      by true e = let s = round_splits (λ q. is_able P S K (at_place K q)) p q (places W K) inside l e in absurd (no_part s.before s.behind (sym none ∙ s.whole))
+      by false e = e
+
+  more_places : (K : List Event) (q : ℕ) → places W K ≤ places W (with_turn P S K q)
+  unfolding count_of
+  more_places K q = omega arith
+
+  module _ (K : List Event) (p : ℕ) (first : p < places W K) (k : IsWalked P S W K) (f : ℕ → ℕ → List Walk) (goes : (q r : ℕ) → q < places W (with_turn P S K q) → IsWalked P S W (with_turn P S K q) → All Good (f q r)) where
+    goes_on : (q r : ℕ) → q < places W K → is_able P S K (at_place K q) ≡ true → All Good (f q r)
+    goes_on q r l e = goes q r (omega (arith, more_places K q)) (walked_on K q l e k)
+
     each : (qs : List ℕ) (d : ℕ) → All (λ q. q < places W K) qs → All (λ q. is_able P S K (at_place K q) ≡ true) qs → All Good (by_delays f qs d)
     each [] d i a = All-nil Good
-    each (q ∷ more) zero i a = goes q zero (walked_on K q (All-head (λ q. q < places W K) q more i) (All-head (λ q. is_able P S K (at_place K q) ≡ true) q more a) k)
+    each (q ∷ more) zero i a = goes_on q zero (All-head (λ q. q < places W K) q more i) (All-head (λ q. is_able P S K (at_place K q) ≡ true) q more a)
     each (q ∷ more) (suc d) i a = All-append Good (f q (suc d)) (by_delays f more d)
-        (goes q (suc d) (walked_on K q (All-head (λ q. q < places W K) q more i) (All-head (λ q. is_able P S K (at_place K q) ≡ true) q more a) k))
+        (goes_on q (suc d) (All-head (λ q. q < places W K) q more i) (All-head (λ q. is_able P S K (at_place K q) ≡ true) q more a))
         (each more d (All-tail (λ q. q < places W K) q more i) (All-tail (λ q. is_able P S K (at_place K q) ≡ true) q more a))
 
-    either : (qs : List ℕ) (d : ℕ) → All (λ q. q < places W K) qs → All (λ q. is_able P S K (at_place K q) ≡ true) qs → All Good (or_over qs (record { left = d; events = K }) (by_delays f qs d))
-    either [] d i a = All-cons Good (record { left = d; events = K }) [] k (All-nil Good)
-    either (q ∷ more) d i a = each (q ∷ more) d i a
+    either : (qs : List ℕ) (d : ℕ) → able P S W K p ≡ qs → All (λ q. q < places W K) qs → All (λ q. is_able P S K (at_place K q) ≡ true) qs → All Good (or_over qs (record { left = d; events = K }) (by_delays f qs d))
+    either [] d e i a = All-cons Good (record { left = d; events = K }) [] (k, λ l. over_where_none K p first e) (All-nil Good)
+    either (q ∷ more) d e i a = each (q ∷ more) d i a
 
-  all_walked : (n : ℕ) (K : List Event) (p d : ℕ) → IsWalked P S W K → All Good (walks P S W n K p d)
+  all_walked : (n : ℕ) (K : List Event) (p d : ℕ) → most_events ≤ n + length K → p < places W K → IsWalked P S W K → All Good (walks P S W n K p d)
   unfolding walks
-  all_walked zero K p d k = All-cons Good (record { left = d; events = K }) [] k (All-nil Good)
-  all_walked (suc n) K p d k = either K k (λ q r. walks P S W n (with_turn P S K q) q r) (λ q r w. all_walked n (with_turn P S K q) q r w) (able P S W K p) d (able_inside K p) (able_able K p)
+  all_walked zero K p d long first k = All-cons Good (record { left = d; events = K }) [] (k, λ l. absurd (omega arith)) (All-nil Good)
+  all_walked (suc n) K p d long first k = either K p first k (λ q r. walks P S W n (with_turn P S K q) q r) (λ q r inside w. all_walked n (with_turn P S K q) q r (omega arith) inside w) (able P S W K p) d refl (able_inside K p) (able_able K p)
 
   -- ---- Their histories
 
@@ -102,7 +124,7 @@ module _ (P : Policy) (S : Script) (W : ℕ) (few : W ≤ 16) where
 
   ends : (w : Walk) → Good w → IsExplored P S W (closed P S w)
   unfolding step schedule_of
-  ends w k = record {
+  ends w (k, over) = record {
     legal = λ l. (ends_legal w.events k, l, omega arith);
     mediated = λ l. mediated P S (closed P S w) (ends_legal w.events k) l;
     no_skip = (refl, k.no_skip);
@@ -110,14 +132,38 @@ module _ (P : Policy) (S : Script) (W : ℕ) (few : W ≤ 16) where
     played = ap (λ (K : List Event). with_step P S Listener K) (plays P S W w.events (turn_by_turn P S W w.events k.goes_on k.no_skip k.within k.lowest));
   }
 
-  all_with : (d : ℕ) → All (IsExplored P S W) (with_delays P S W d)
-  unfolding with_delays
-  all_with d =
-      let walked = all_walked (most_events - length (started S)) (started S) 0 d walked_first in
-      let spent = All-filter is_spent Good (walks P S W (most_events - length (started S)) (started S) 0 d) walked in
-      All-map (IsExplored P S W) (closed P S) (filter is_spent (walks P S W (most_events - length (started S)) (started S) 0 d)) (All-weaker Good (λ w. IsExplored P S W (closed P S w)) ends _ spent)
+  filled : (K : List Event) → IsUnclosed K → 0 < length K
+  filled [] u = absurd u
+  filled (e ∷ K) u = omega arith
+
+  unmade_by_close : (K : List Event) → AreNamed (with_step P S Listener K) → AreNamed K
+  unfolding step is_made
+  unmade_by_close K named n made = named n made
+
+  -- a history that can be counted
+  abbrev EndsFinished : List Event → Type 0
+  EndsFinished H = length H < 2 ^ 64 → AreNamed H → ClosesFinished H
+
+  ends_finished : (w : Walk) → Good w → EndsFinished (closed P S w)
+  unfolding step
+  ends_finished w (k, over) few_events named =
+      (w.events, refl, finished P S W w.events k.goes_on.legal (omega arith) k.within (unmade_by_close w.events named) (over (omega arith)) (filled w.events k.goes_on.unclosed))
+
+  module _ (Q : List Event → Type 0) (good : (w : Walk) → Good w → Q (closed P S w)) where
+    all_with : (d : ℕ) → All Q (with_delays P S W d)
+    unfolding with_delays
+    all_with d =
+        let walked = all_walked (most_events - length (started S)) (started S) 0 d (omega arith) (omega arith) walked_first in
+        let spent = All-filter is_spent Good (walks P S W (most_events - length (started S)) (started S) 0 d) walked in
+        All-map Q (closed P S) (filter is_spent (walks P S W (most_events - length (started S)) (started S) 0 d)) (All-weaker Good (λ w. Q (closed P S w)) good _ spent)
+
+    all_of : (d : ℕ) → All Q (explored P S W d)
+    unfolding explored
+    all_of zero = all_with 0
+    all_of (suc d) = All-append Q (explored P S W d) (with_delays P S W (suc d)) (all_of d) (all_with (suc d))
 
   pub all_explored : (d : ℕ) → All (IsExplored P S W) (explored P S W d)
-  unfolding explored
-  all_explored zero = all_with 0
-  all_explored (suc d) = All-append (IsExplored P S W) (explored P S W d) (with_delays P S W (suc d)) (all_explored d) (all_with (suc d))
+  all_explored d = all_of (IsExplored P S W) ends d
+
+  pub all_finished : (d : ℕ) → All EndsFinished (explored P S W d)
+  all_finished d = all_of EndsFinished ends_finished d

@@ -1,6 +1,8 @@
 mod Complete
+mod Finishing
 pub mod Left
 mod LegalWalks
+mod Requests
 pub mod Rounds
 mod Schedules
 mod Turns

@@ -48,7 +48,7 @@ more_made : (e : Event) (K : List Event) → tasks_made K ≤ tasks_made (e ∷ 
 unfolding count_of
 more_made e K = omega arith
 
-has_ordinal : (K : List Event) (n : Name) → is_made K n ≡ true → (o : ℕ) × (o < tasks_made K) × (task_name_of K o ≡ n)
+pub has_ordinal : (K : List Event) (n : Name) → is_made K n ≡ true → (o : ℕ) × (o < tasks_made K) × (task_name_of K o ≡ n)
 unfolding is_made
 has_ordinal [] n h = cc
 has_ordinal (e ∷ K) n h = elim (either (makes e.what && name_eq (child_of e.what) n) (is_made K n) h) [
@@ -71,7 +71,7 @@ lives : (c : Bool) (x : What) → skips (if c then x else Skip) ≡ false → c 
 lives true x e = refl
 lives false x e = cc
 
-worker_place : (t w : ℕ) (n : Name) → (if nat_lt (t + w) t then Task n else Worker (t + w - t)) ≡ Worker w
+pub worker_place : (t w : ℕ) (n : Name) → (if nat_lt (t + w) t then Task n else Worker (t + w - t)) ≡ Worker w
 worker_place t w n =
     let none : nat_lt (t + w) t ≡ false = le-ltb (t + w) t (omega arith) in
     let same : t + w - t ≡ w = omega arith in

@@ -1,10 +1,14 @@
 -- What the explored histories are, whichever they are.
 use Rattle.std.specs.Prelude.{◌≡◌, ℕ, suc, ◌+◌, ◌<◌, ◌≤◌, ◌^◌, true, false, ◌||◌, List, [], ◌∷◌, ◌++◌, length, reverse, All, Contains, None}
-use Rattle.hist_model.specs.Legal.{Legal, NoSkip, NoWorkerAbove, started, with_schedule, with_step}
+use Rattle.hist_model.specs.Legal.{Finished, Legal, NoSkip, NoWorkerAbove, started, with_schedule, with_step}
+use Rattle.hist_model.specs.Look.{Name, ev}
 use Rattle.hist_model.specs.Mediated.{Mediated}
+use Rattle.hist_model.specs.Names.{is_task_name}
+use Rattle.hist_model.specs.Tasks.{is_made}
 use Rattle.hist_model.specs.declared.event.Actor.{Actor}
 use Rattle.hist_model.specs.declared.event.Actor.TheVariants.{Listener, Worker}
 use Rattle.hist_model.specs.declared.event.Event.{Event}
+use Rattle.hist_model.specs.declared.event.What.TheVariants.{Close}
 use Rattle.mediation.specs.Scheduled.{GoesOn}
 use Rattle.hist_model.specs.declared.policy.Policy.{Policy}
 use Rattle.hist_model.specs.declared.script.Script.{Script}
@@ -70,6 +74,22 @@ IsTurnByTurn P S W (e ∷ f ∷ K) = (q : ℕ) × (q < places W (f ∷ K)) × (i
 -- nobody is able to step
 abbrev pub IsOver : Policy → Script → ℕ → List Event → Type 0
 IsOver P S W K = (q : ℕ) → q < places W K → is_able P S K (at_place K q) ≡ false
+
+-- each task that was made has a name of the form
+abbrev pub AreNamed : List Event → Type 0
+AreNamed K = (n : Name) → is_made K n ≡ true → is_task_name n ≡ true
+
+-- nobody can be stuck: where nobody is able to step after such a history, it is finished
+abbrev pub EndsFinished : Type 0
+EndsFinished = (P : Policy) (S : Script) (W : ℕ) (K : List Event) → length K < 2 ^ 64 → IsWalked P S W K → AreNamed K → IsOver P S W K → Finished K
+
+-- the history was finished when the listener was closed at its end
+abbrev pub ClosesFinished : List Event → Type 0
+ClosesFinished H = (K : List Event) × (H ≡ ev Listener Close ∷ K) × Finished K
+
+-- so is each explored one that can be counted
+abbrev pub AreFinished : Type 0
+AreFinished = (P : Policy) (S : Script) (W d : ℕ) → W ≤ 16 → All (λ H. length H < 2 ^ 64 → AreNamed H → ClosesFinished H) (explored P S W d)
 
 -- without a bound, each such history is explored at whose end nobody is able to step; the listener is closed there
 abbrev pub IsComplete : Type 0

@@ -1,7 +1,7 @@
 //! What the explored histories are, whichever they are.
 
 ghost use Rattle.delay_bounded.specs.Examples.{WithOneDelay, WithoutDelays};
-ghost use Rattle.delay_bounded.specs.Laws.{AreLegal, Begins, HasNoGap, IsAll, IsComplete, IsOneAlone, IsWithinMore};
+ghost use Rattle.delay_bounded.specs.Laws.{AreFinished, AreLegal, Begins, EndsFinished, HasNoGap, IsAll, IsComplete, IsOneAlone, IsWithinMore};
 
 /// The list for a bound begins the list for the next one.
 pub fn bounds_begin()
@@ -38,6 +38,18 @@ pub fn explored_are_legal()
 /// workers without a notification in hand the lowest alone steps, and at whose end nobody is able to step.
 pub fn all_is_complete()
     ensures { IsComplete }
+{}
+
+/// Where nobody is able to step after a legal history without a `Skip`, whose tasks have names of the form, every task has ended, no
+/// call is listed, and no worker has a notification in hand: nobody can be stuck.
+pub fn ends_finished()
+    ensures { EndsFinished }
+{}
+
+/// So each explored history that can be counted was finished when the listener was closed at its end, if its tasks have names of the
+/// form.
+pub fn explored_are_finished()
+    ensures { AreFinished }
 {}
 
 /// The explored histories of two tasks with one call each and one worker, without delays and with one at most.

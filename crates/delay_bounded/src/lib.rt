@@ -7,7 +7,7 @@
 //! In the literature this is delay-bounded scheduling.
 //!
 //! Nothing here runs: each law is the contract of a function without a body. Below stand the definitions of `hist_model` and the
-//! mediation law; nothing stands above yet.
+//! mediation law; above stands `explorer`, which plays these histories.
 #![tactic(auto)]
 
 pub mod laws;

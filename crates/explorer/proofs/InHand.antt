@@ -1,6 +1,6 @@
 -- What a worker's step changes of what it has in hand.
 -- By cases on the step, and on the numbers of the workers.
-use Rattle.std.proofs.Common.{◌≡◌, ℕ, zero, suc, ◌+◌, ◌<◌, ◌≤◌, Bool, true, false, ◌&&◌, ◌==◌, List, [], ◌∷◌, ◌++◌, length, take, get_or, set, Ok, Err, refl, sym, ◌∙◌, ap, arith, add-one, eq-eqb, eqb-true, replicate}
+use Rattle.std.proofs.Common.{◌≡◌, ℕ, zero, suc, ◌<◌, Bool, true, false, ◌&&◌, ◌==◌, List, [], ◌∷◌, ◌++◌, length, take, get_or, set, Ok, Err, refl, sym, ◌∙◌, ap, arith, add-one, eq-eqb, eqb-true, replicate}
 use Rattle.std.specs.List.{list_all}
 use Rattle.std.proofs.lemmas.List.{get_or-replicate, get_or-set_other, get_or-set_same, take_more}
 use Rattle.std.proofs.lemmas.List.Folds.{list_all-append}
@@ -11,7 +11,7 @@ use Rattle.hist_model.specs.Sessions.{joined, session}
 use Rattle.hist_model.specs.declared.event.Actor.TheVariants.{Worker}
 use Rattle.hist_model.specs.declared.event.Event.{Event}
 use Rattle.hist_model.specs.declared.event.What.{What}
-use Rattle.hist_model.specs.declared.event.What.TheVariants.{LetGo, Recv}
+use Rattle.hist_model.specs.declared.event.What.TheVariants.{Recv}
 use Rattle.hist_model.specs.declared.script.Script.{Script}
 use Rattle.delay_bounded.specs.Circle.{all_in_hand, in_hand}
 use Rattle.explorer.specs.InHand.{full_after}

@@ -1,12 +1,16 @@
 mod Bounds
 mod ByDelays
+mod Counts
+mod FoundTexts
 mod InHand
+mod Merging
 mod OneWalk
 mod PassByPass
 mod Pending
 mod Rounds
 mod Running
-mod Taking
+mod Scheduling
+pub mod Taking
 mod Tellings
 mod Walked
 mod Walkers

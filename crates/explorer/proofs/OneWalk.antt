@@ -1,15 +1,15 @@
 -- What a walk more changes of what is told of all walks within a bound.
 -- By what its note comes to, and by which walks are left.
-use Rattle.std.proofs.Common.{◌≡◌, ℕ, ◌+◌, ◌-◌, ◌<◌, ◌≤◌, List, [], ◌∷◌, ◌++◌, length, All, refl, sym, ◌∙◌, ap, subst, arith, append-nil, append_assoc}
+use Rattle.std.proofs.Common.{◌≡◌, ℕ, ◌-◌, ◌<◌, ◌≤◌, List, [], ◌∷◌, ◌++◌, length, All, refl, sym, ◌∙◌, ap, subst, arith, append-nil, append_assoc}
 use Rattle.std.proofs.lemmas.List.Elements.{All-head, All-tail}
 use Rattle.hist_model.specs.Legal.{started}
 use Rattle.hist_model.specs.declared.event.Event.{Event}
 use Rattle.hist_model.specs.declared.policy.Policy.{Policy}
 use Rattle.hist_model.specs.declared.script.Script.{Script}
-use Rattle.delay_bounded.specs.Explored.{Walk, closed, explored, most_events, walks_of}
+use Rattle.delay_bounded.specs.Explored.{Walk, most_events, walks_of}
 use Rattle.delay_bounded.proofs.Left.{all_within}
 use Rattle.explorer.specs.Taken.{event_limit}
-use Rattle.explorer.specs.Telling.{TellsBy, TellsOf}
+use Rattle.explorer.specs.Telling.{TellsBy}
 use Rattle.explorer.specs.Walking.{EndsFirst, GoesThrough, IsPartDone}
 use Rattle.explorer.specs.declared.by_delays.ByDelays.{ByDelays}
 use Rattle.explorer.specs.declared.walker.Walker.{Walker}

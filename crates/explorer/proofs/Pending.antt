@@ -1,13 +1,13 @@
 -- What a turn more, and a turn less, change of the walks that are pending.
 -- By induction on the turns.
-use Rattle.std.proofs.Common.{◌≡◌, ℕ, suc, ◌-◌, get_or, List, [], ◌∷◌, ◌++◌, refl, ap, ◌∙◌, append_assoc, sym, append-nil, true, ◌<◌, ◌≤◌, ◌^◌, length, ◌+◌, arith, nat_lt}
-use Rattle.history_frames.specs.Ordinals.{count_of, tasks_made}
+use Rattle.std.proofs.Common.{◌≡◌, ℕ, suc, ◌-◌, get_or, List, [], ◌∷◌, ◌++◌, refl, append_assoc, sym, append-nil, true, ◌<◌, ◌≤◌, ◌^◌, length, arith}
+use Rattle.history_frames.specs.Ordinals.{count_of}
 use Rattle.hist_model.specs.Legal.{started}
 use Rattle.hist_model.specs.declared.event.Event.{Event}
 use Rattle.hist_model.specs.declared.policy.Policy.{Policy}
 use Rattle.hist_model.specs.declared.script.Script.{Script}
 use Rattle.delay_bounded.specs.Circle.{able, at_place, is_able, places, with_turn}
-use Rattle.delay_bounded.specs.Explored.{Walk, by_delays, later, or_over, walks_on}
+use Rattle.delay_bounded.specs.Explored.{Walk, later, walks_on}
 use Rattle.explorer.specs.Frames.{AreTurns, able_from, after, behind, last_place, later_from, left_from, pending}
 use Rattle.delay_bounded.proofs.Walks.{first_turn, walks_step}
 use Rattle.explorer.specs.declared.frames.Frame.{Frame}

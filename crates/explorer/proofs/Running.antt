@@ -1,6 +1,6 @@
 -- What a try of an actor comes to for a run: it is able to step, and did, or it isn't.
 -- By what its machine says of the try, and what its step changes of what the workers have in hand.
-use Rattle.std.proofs.Common.{◌≡◌, ℕ, ◌+◌, ◌<◌, ◌≤◌, ◌%◌, arith, Some, None, [], length, Bool, true, false, ◌&&◌, ◌||◌, not, List, ◌∷◌, refl, sym, ◌∙◌, ap}
+use Rattle.std.proofs.Common.{◌≡◌, ℕ, ◌+◌, ◌<◌, ◌≤◌, ◌%◌, arith, Some, None, Bool, true, false, List, ◌∷◌, refl, sym, ◌∙◌, ap}
 use Rattle.broker_machine.specs.Serving as machine
 use Rattle.hist_model.specs.Kinds.{skips}
 use Rattle.hist_model.specs.Legal.{rules_of, system_of, with_step}
@@ -13,13 +13,12 @@ use Rattle.hist_model.specs.declared.event.Actor.TheVariants.{Task, Worker}
 use Rattle.hist_model.specs.declared.event.Event.{Event}
 use Rattle.hist_model.specs.declared.event.What.{What}
 use Rattle.hist_model.specs.declared.policy.Policy.{Policy}
-use Rattle.hist_model.specs.declared.script.Script.{Script}
 use Rattle.history_frames.specs.Ordinals.{task_name_of}
 use Rattle.model_kernel.specs.Kernels.{IsKernel, past}
 use Rattle.model_kernel.specs.declared.kernel.Kernel.{Kernel}
-use Rattle.delay_bounded.specs.Circle.{all_in_hand, at_place, in_hand, is_able, may_step, places}
+use Rattle.delay_bounded.specs.Circle.{at_place, in_hand, is_able, may_step, places}
 use Rattle.explorer.specs.InHand.{Tells}
-use Rattle.explorer.specs.Runs.{Comes, Finds, IsGoing, IsRun, Tries, able_in, script_in, story}
+use Rattle.explorer.specs.Runs.{Comes, Finds, IsGoing, Tries, able_in, script_in, story}
 use Rattle.explorer.proofs.Rounds.{able_there, nobody_there, unable_there}
 use Rattle.explorer.specs.declared.run.Run.{Run}
 

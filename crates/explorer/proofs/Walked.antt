@@ -9,8 +9,8 @@ use Rattle.hist_model.specs.declared.script.Script.{Script}
 use Rattle.delay_bounded.specs.Circle.{at_place, is_able, places, with_turn}
 use Rattle.delay_bounded.specs.Explored.{Walk}
 use Rattle.explorer.specs.Frames.{AreTurns, able_from, after, behind, last_place, later_from, left_from, pending}
-use Rattle.explorer.specs.Runs.{Comes, Finds, IsRun, script_in, story}
-use Rattle.explorer.specs.Walking.{HasCome, IsAtEnd, LeadsTo, TurnsLater}
+use Rattle.explorer.specs.Runs.{Finds, IsRun, story}
+use Rattle.explorer.specs.Walking.{HasCome, IsAtEnd, TurnsLater}
 use Rattle.explorer.specs.declared.frames.Frame.{Frame}
 use Rattle.explorer.specs.declared.run.Run.{Run}
 use Rattle.explorer.specs.declared.run.Turn.{Turn}

@@ -1,6 +1,6 @@
 -- The end of the next walk, and the walks that are left behind it.
 -- By what the walk's run and the search for a later turn come to, and by cases on what was found.
-use Rattle.std.proofs.Common.{◌≡◌, ℕ, zero, suc, ◌+◌, ◌<◌, ◌^◌, List, [], ◌∷◌, ◌++◌, length, refl, sym, ◌∙◌, ap, subst, arith, append-nil}
+use Rattle.std.proofs.Common.{◌≡◌, ℕ, ◌<◌, ◌^◌, List, [], ◌∷◌, length, refl, sym, ◌∙◌, ap, subst, arith, append-nil}
 use Rattle.hist_model.specs.Legal.{started}
 use Rattle.hist_model.specs.Look.{ev}
 use Rattle.hist_model.specs.Steps.{step}

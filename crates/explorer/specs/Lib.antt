@@ -1,6 +1,10 @@
 pub mod Frames
 pub mod InHand
+pub mod Laws
+pub mod Printed
 pub mod Runs
+pub mod Schedules
 pub mod Taken
+pub mod Tallies
 pub mod Telling
 pub mod Walking

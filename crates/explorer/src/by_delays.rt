@@ -1,6 +1,6 @@
 //! The histories of one walk after another, told apart by their delays.
 
-ghost use Rattle.std.specs.Prelude.{◌≡◌, ◌≤◌, ◌<◌, ◌^◌, ◌++◌, ◌∷◌, [], ℕ, List, length, nat_le, OnOk};
+ghost use Rattle.std.specs.Prelude.{◌≡◌, ◌≤◌, ◌<◌, ◌^◌, ◌++◌, ◌∷◌, [], ℕ, List, length, nat_le, IfOk, OnOk};
 ghost use Rattle.hist_model.specs.declared.policy.Policy.{Policy};
 ghost use Rattle.hist_model.specs.declared.script.Script.{Script};
 ghost use Rattle.delay_bounded.specs.Explored.{Walk, closed, explored, walks_of};
@@ -9,6 +9,7 @@ ghost use Rattle.explorer.specs.Telling.{TellsOf};
 
 use crate::tally::{EVENT_LIMIT, Tally};
 use hist_model::history::History;
+use hist_model::policy::Policy as BrokerPolicy;
 use std::alloc::Global;
 use sys_abi::memory::NoMemory;
 
@@ -45,44 +46,51 @@ impl ByDelays {
     }
 
     /// With a place for the histories of a number of delays.
-    fn ready(&mut self, delays: usize) -> Result<(), NoMemory>
+    fn ready(&mut self, alloc: Global, delays: usize) -> Result<(), NoMemory>
         requires { delays ≤ self.old.bound }
         ensures { OnOk result (IsReady delays self.old self.new) }
     {
         'places: while self.tallies.len() <= delays {
-            self.tallies.push(Tally::none())?;
+            self.tallies.push(Tally::none(alloc))?;
         }
         Ok(())
     }
 
     /// With the history of a walk more, which has so many delays left.
-    pub(crate) fn note(&mut self, left: u64, history: &History) -> Result<(), NoMemory>
-        requires told { (P : Policy) × (S : Script) × (ws : List Walk) × TellsBy P S ws self.old }
+    pub(crate) fn note(
+        &mut self,
+        alloc: Global,
+        policy: &BrokerPolicy,
+        left: u64,
+        history: &History,
+    ) -> Result<(), NoMemory>
+        requires told { (S : Script) × (ws : List Walk) × TellsBy policy.now S ws self.old }
         requires within { left ≤ self.old.bound }
         requires room { self.old.events < event_limit }
         requires begun { 0 < length history.now.events }
         requires few { length history.now.events < 2 ^ 63 }
-        ensures tells { OnOk result ((P : Policy) (S : Script) (ws : List Walk) (w : Walk) → w.left ≡ left → closed P S w ≡ history.now.events → TellsBy P S ws self.old → TellsBy P S (ws ++ w ∷ []) self.new) }
+        ensures tells { OnOk result ((S : Script) (ws : List Walk) (w : Walk) → w.left ≡ left → closed policy.now S w ≡ history.now.events → TellsBy policy.now S ws self.old → TellsBy policy.now S (ws ++ w ∷ []) self.new) }
         ensures bound { OnOk result (self.new.bound ≡ self.old.bound) }
     {
         let delays = (self.bound - left) as usize;
-        self.ready(delays)?;
-        self.tallies[delays].note(history);
+        self.ready(alloc, delays)?;
+        self.tallies[delays].note(alloc, policy, history)?;
         self.events += history.len() as u64;
         Ok(())
     }
 
     /// What is told of them all, those with the fewest delays first.
-    pub(crate) fn joined(&self) -> Tally
-        requires told { (P : Policy) × (S : Script) × (ws : List Walk) × TellsBy P S ws self.now }
-        requires few { self.now.events < event_limit }
-        ensures tells { (P : Policy) (S : Script) (W : ℕ) → TellsBy P S (walks_of P S W self.now.bound) self.now → TellsOf (explored P S W self.now.bound) result }
-        ensures events { result.events ≡ self.now.events }
+    pub(crate) fn joined(self, alloc: Global) -> Result<Tally, NoMemory>
+        requires told { (P : Policy) × (S : Script) × (ws : List Walk) × TellsBy P S ws self }
+        requires few { self.events < event_limit }
+        ensures tells { IfOk result (λ all. (P : Policy) (S : Script) (W : ℕ) → TellsBy P S (walks_of P S W self.bound) self → TellsOf P (explored P S W self.bound) all) }
+        ensures events { IfOk result (λ all. all.events ≡ self.events) }
     {
-        let mut all = Tally::none();
-        for tally in &self.tallies {
-            all.join(tally);
+        let ByDelays { tallies, .. } = self;
+        let mut all = Tally::none(alloc);
+        for tally in tallies {
+            all.join(tally)?;
         }
-        all
+        Ok(all)
     }
 }

@@ -5,6 +5,7 @@ ghost use Rattle.delay_bounded.specs.Explored.{bound_of, explored};
 ghost use Rattle.explorer.specs.Taken.{event_limit};
 ghost use Rattle.explorer.specs.Telling.{TellsFirst};
 
+use crate::found::FoundOutcome;
 use crate::one_walk::{Attempt, walk_all};
 use crate::passes::explore_by_passes;
 use crate::tally::EVENT_LIMIT;
@@ -14,7 +15,7 @@ use std::alloc::Global;
 use sys_abi::memory::NoMemory;
 
 /// What exploring came to.
-#[derive(Clone, Copy, PartialEq, Eq, Drop, Debug)]
+#[derive(Debug, Drop)]
 pub struct Exploration {
     /// How many histories were explored.
     pub histories: u64,
@@ -24,6 +25,8 @@ pub struct Exploration {
     pub longest: u64,
     /// Whether no history within the bound is left.
     pub whole: bool,
+    /// What they come to, in the order in which each outcome came up first.
+    pub outcomes: Vec<FoundOutcome>,
 }
 
 /// The bound, or the limit of events: before a history with so many delays there is one with each smaller number, and so there would
@@ -49,14 +52,11 @@ pub fn explore(
     delays: Option<u64>,
 ) -> Result<Exploration, NoMemory>
     requires workers { workers ≤ 15 }
-    ensures { IfOk result (λ x. TellsFirst (explored policy.now script workers (bound_of delays)) x) }
+    ensures { IfOk result (λ x. TellsFirst policy.now (explored policy.now script workers (bound_of delays)) x) }
 {
     let bound = bound_within(delays);
     match walk_all(alloc, policy, workers, script, bound)? {
         Attempt::Whole(tally) => Ok(tally.told(true)),
-        Attempt::TooMany(script) => {
-            let told = explore_by_passes(alloc, policy, workers, script, bound)?;
-            Ok(told)
-        }
+        Attempt::TooMany(script) => explore_by_passes(alloc, policy, workers, script, bound),
     }
 }

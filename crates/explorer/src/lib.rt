@@ -1,27 +1,36 @@
-//! Explores what a policy and a script can come to: plays every interleaving within a bound of delays.
+//! Explores what a policy and a script can come to: plays every interleaving within a bound of delays, and tells which outcomes there
+//! are, how many histories have each, and a schedule that plays it.
 //!
 //! Which histories these are is a list (`delay_bounded`). The explorer walks through it: from the start it goes on without a delay
 //! until nobody is able to step; then it takes back turns up to the last one that can be delayed once more, plays what comes before
 //! it anew, and goes on from there (`walk.rt`, `walker.rt`). It keeps the turns of one history, and what is told of all; so its memory
-//! doesn't grow with the number of histories.
+//! doesn't grow with the number of histories, but with that of their outcomes.
+//!
+//! An outcome is what a history comes to (`outcome_text`). It is kept with its count and the schedule of its first history
+//! (`found.rt`, `schedule.rt`), and the definition of what is told computes (`specs/Tallies.antt`).
 //!
 //! The walks come in the order of the places where they delay, and the list has those with the fewest delays first. So what is told is
 //! kept for each number of delays, and put together in the end (`by_delays.rt`, `one_walk.rt`). Where there are too many events to
 //! explore them all, each number of delays is a pass of its own (`passes.rt`).
 //!
 //! Its model is the machine's history, and the walks that are left (`specs/Walking.antt`). Below stand the machine of a kernel and
-//! its workers (`broker_machine`), and the definitions of `delay_bounded`. No form of words of the program calls it yet.
+//! its workers (`broker_machine`), the definitions of `delay_bounded`, and the text of outcomes (`outcome_text`). Above stands
+//! `broker_app`, whose words `explore` print what is found.
 #![tactic(auto)]
 
 mod by_delays;
 mod exploring;
+mod found;
 mod frames;
 mod hands;
+pub mod laws;
 mod one_walk;
 mod passes;
 mod run;
+mod schedule;
 mod tally;
 mod walk;
 mod walker;
 
 pub use exploring::{Exploration, explore};
+pub use found::FoundOutcome;

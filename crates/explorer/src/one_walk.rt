@@ -37,13 +37,16 @@ pub(crate) fn walk_all(
     let mut walker = Walker::begin(alloc, script, bound)?;
     'walks: loop {
         match walker.next(alloc, policy, workers)? {
-            Walked::All(_script) => return Ok(Attempt::Whole(found.joined())),
+            Walked::All(_script) => {
+                let all = found.joined(alloc)?;
+                return Ok(Attempt::Whole(all));
+            }
             Walked::Ended {
                 left,
                 history,
                 rest,
             } => {
-                found.note(left, &history)?;
+                found.note(alloc, policy, left, &history)?;
                 if found.is_full() {
                     return Ok(Attempt::TooMany(rest.into_script()?));
                 }

@@ -1,8 +1,7 @@
 //! The first histories of a script in their order, those with the fewest delays first: with each number of delays by a pass of its own.
 
-ghost use Rattle.std.specs.Prelude.{◌≡◌, ◌≤◌, ◌<◌, ◌^◌, List, length, IfOk};
+ghost use Rattle.std.specs.Prelude.{◌≡◌, ◌≤◌, ◌<◌, ◌^◌, List, length, IfOk, OnOk};
 ghost use Rattle.hist_model.specs.declared.event.Event.{Event};
-ghost use Rattle.hist_model.specs.declared.policy.Policy.{Policy as PolicyValue};
 ghost use Rattle.hist_model.specs.declared.script.Script.{Script as ScriptValue};
 ghost use Rattle.delay_bounded.specs.Explored.{Walk, closed, explored, with_delays};
 ghost use Rattle.explorer.specs.Taken.{event_limit};
@@ -18,21 +17,27 @@ use std::alloc::Global;
 use sys_abi::memory::NoMemory;
 
 /// Notes the history of a walk that has no delay left. Gives false where there are too many events before it.
-fn note_spent(found: &mut Tally, left: u64, history: &History) -> bool
-    requires told { (L : List (List Event)) × TellsOf L found.old }
+fn note_spent(
+    alloc: Global,
+    policy: &Policy,
+    found: &mut Tally,
+    left: u64,
+    history: &History,
+) -> Result<bool, NoMemory>
+    requires told { (L : List (List Event)) × TellsOf policy.now L found.old }
     requires begun { 0 < length history.now.events }
     requires few { length history.now.events < 2 ^ 63 }
-    ensures told { (L : List (List Event)) × TellsOf L found.new }
-    ensures notes { (P : PolicyValue) (S : ScriptValue) (w : Walk) → w.left ≡ left → closed P S w ≡ history.now.events → Notes P S w found.old result found.new }
+    ensures told { OnOk result ((L : List (List Event)) × TellsOf policy.now L found.new) }
+    ensures notes { IfOk result (λ goes_on. (S : ScriptValue) (w : Walk) → w.left ≡ left → closed policy.now S w ≡ history.now.events → Notes policy.now S w found.old goes_on found.new) }
 {
     if left != 0 {
-        return true;
+        return Ok(true);
     }
     if found.is_full() {
-        return false;
+        return Ok(false);
     }
-    found.note(history);
-    true
+    found.note(alloc, policy, history)?;
+    Ok(true)
 }
 
 /// Explores the histories with so many delays, as long as there are fewer events than the limit. Gives the script back, and says
@@ -46,9 +51,9 @@ fn pass(
     found: &mut Tally,
 ) -> Result<(Script, bool), NoMemory>
     requires workers { workers ≤ 15 }
-    requires told { (L : List (List Event)) × TellsOf L found.old }
+    requires told { (L : List (List Event)) × TellsOf policy.now L found.old }
     ensures script { IfOk result (λ r. r.0 ≡ script) }
-    ensures explored { IfOk result (λ r. Explores (with_delays policy.now script workers delays) found.old r.1 found.new) }
+    ensures explored { IfOk result (λ r. Explores policy.now (with_delays policy.now script workers delays) found.old r.1 found.new) }
 {
     let mut walker = Walker::begin(alloc, script, delays)?;
     'walks: loop {
@@ -59,7 +64,8 @@ fn pass(
                 history,
                 rest,
             } => {
-                if !note_spent(found, left, &history) {
+                let goes_on = note_spent(alloc, policy, found, left, &history)?;
+                if !goes_on {
                     return Ok((rest.into_script()?, false));
                 }
                 walker = rest;
@@ -78,9 +84,9 @@ pub(crate) fn explore_by_passes(
 ) -> Result<Exploration, NoMemory>
     requires workers { workers ≤ 15 }
     requires bound { bound ≤ event_limit }
-    ensures { IfOk result (λ x. TellsFirst (explored policy.now script workers bound) x) }
+    ensures { IfOk result (λ x. TellsFirst policy.now (explored policy.now script workers bound) x) }
 {
-    let mut found = Tally::none();
+    let mut found = Tally::none(alloc);
     for delays in 0..bound + 1 {
         let before = found.histories();
         let (back, whole) = pass(alloc, policy, workers, script, delays, &mut found)?;

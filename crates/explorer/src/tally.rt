@@ -1,34 +1,41 @@
 //! What is told of histories.
 
-ghost use Rattle.std.specs.Prelude.{◌≡◌, ◌≤◌, ◌<◌, ◌^◌, ◌+◌, ◌++◌, ◌∷◌, [], List, length, nat_le};
+ghost use Rattle.std.specs.Prelude.{◌≡◌, ◌≤◌, ◌<◌, ◌^◌, ◌+◌, ◌++◌, ◌∷◌, [], List, length, nat_le, OnOk};
 ghost use Rattle.hist_model.specs.declared.event.Event.{Event};
+ghost use Rattle.hist_model.specs.declared.policy.Policy.{Policy as PolicyValue};
 ghost use Rattle.explorer.specs.Taken.{event_limit};
 
 use crate::exploring::Exploration;
+use crate::found::{FoundOutcome, add_all, add_history};
 use hist_model::history::History;
+use hist_model::policy::Policy;
+use std::alloc::Global;
+use sys_abi::memory::NoMemory;
 
 /// So many events are explored at least, where a history is left.
 pub(crate) const EVENT_LIMIT: u64 = 100_000_000;
 
-/// How many histories there are, how many events they have together, and how many the longest.
+/// How many histories there are, how many events they have together, and how many the longest; and what they come to.
 #[derive(Drop, Debug)]
 pub(crate) struct Tally {
     histories: u64,
     events: u64,
     longest: u64,
+    outcomes: Vec<FoundOutcome>,
 }
 
 impl Tally {
     ghost use Rattle.explorer.specs.Telling.{TellsOf};
 
     /// Of no history.
-    pub(crate) fn none() -> Tally
-        ensures { TellsOf [] result }
+    pub(crate) fn none(alloc: Global) -> Tally
+        ensures { (P : PolicyValue) → TellsOf P [] result }
     {
         Tally {
             histories: 0,
             events: 0,
             longest: 0,
+            outcomes: Vec::new(alloc),
         }
     }
 
@@ -54,44 +61,67 @@ impl Tally {
     }
 
     /// With a history more.
-    pub(crate) fn note(&mut self, history: &History)
-        requires told { (L : List (List Event)) × TellsOf L self.old }
+    pub(crate) fn note(
+        &mut self,
+        alloc: Global,
+        policy: &Policy,
+        history: &History,
+    ) -> Result<(), NoMemory>
+        requires told { (L : List (List Event)) × TellsOf policy.now L self.old }
         requires room { self.old.events < event_limit }
         requires begun { 0 < length history.now.events }
         requires few { length history.now.events < 2 ^ 63 }
-        ensures tells { (L : List (List Event)) → TellsOf L self.old → TellsOf (L ++ history.now.events ∷ []) self.new }
-        ensures events { self.new.events ≡ self.old.events + length history.now.events }
+        ensures tells { OnOk result ((L : List (List Event)) → TellsOf policy.now L self.old → TellsOf policy.now (L ++ history.now.events ∷ []) self.new) }
+        ensures events { OnOk result (self.new.events ≡ self.old.events + length history.now.events) }
     {
+        add_history(alloc, &mut self.outcomes, policy, history)?;
         let events = history.len() as u64;
         self.histories += 1;
         self.events += events;
         self.longest = self.longest.max(events);
+        Ok(())
     }
 
     /// With the histories of another one behind its own.
-    pub(crate) fn join(&mut self, other: &Tally)
-        requires told { (L M : List (List Event)) × TellsOf L self.old × TellsOf M other.now }
-        requires few { self.old.events + other.now.events < 2 ^ 64 }
-        ensures tells { (L M : List (List Event)) → TellsOf L self.old → TellsOf M other.now → TellsOf (L ++ M) self.new }
-        ensures events { self.new.events ≡ self.old.events + other.now.events }
+    pub(crate) fn join(&mut self, other: Tally) -> Result<(), NoMemory>
+        requires told { (P : PolicyValue) × (L M : List (List Event)) × TellsOf P L self.old × TellsOf P M other }
+        requires few { self.old.events + other.events < 2 ^ 64 }
+        ensures tells { OnOk result ((P : PolicyValue) (L M : List (List Event)) → TellsOf P L self.old → TellsOf P M other → TellsOf P (L ++ M) self.new) }
+        ensures events { OnOk result (self.new.events ≡ self.old.events + other.events) }
     {
-        self.histories += other.histories;
-        self.events += other.events;
-        self.longest = self.longest.max(other.longest);
+        let Tally {
+            histories,
+            events,
+            longest,
+            outcomes,
+        } = other;
+        add_all(&mut self.outcomes, outcomes)?;
+        self.histories += histories;
+        self.events += events;
+        self.longest = self.longest.max(longest);
+        Ok(())
     }
 
     /// What exploring these came to, and whether no history is left.
-    pub(crate) fn told(&self, whole: bool) -> Exploration
-        ensures histories { result.histories ≡ self.now.histories }
-        ensures events { result.events ≡ self.now.events }
-        ensures longest { result.longest ≡ self.now.longest }
+    pub(crate) fn told(self, whole: bool) -> Exploration
+        ensures histories { result.histories ≡ self.histories }
+        ensures events { result.events ≡ self.events }
+        ensures longest { result.longest ≡ self.longest }
         ensures whole { result.whole ≡ whole }
+        ensures outcomes { result.outcomes ≡ self.outcomes }
     {
+        let Tally {
+            histories,
+            events,
+            longest,
+            outcomes,
+        } = self;
         Exploration {
-            histories: self.histories,
-            events: self.events,
-            longest: self.longest,
+            histories,
+            events,
+            longest,
             whole,
+            outcomes,
         }
     }
 }

@@ -24,7 +24,7 @@ use Rattle.audit_log.specs.Served.{TellsSessions, row_at, session_by, session_fo
 use Rattle.audit_log.specs.SessionStages.{stages_at}
 use Rattle.audit_log.specs.Sessions.{begun}
 use Rattle.audit_log.specs.declared.call_table.CallTable.{CallTable}
-use Rattle.audit_log.specs.declared.session.Session.{Session}
+use Rattle.audit_log.specs.declared.session.SessionRecord.{SessionRecord}
 use Rattle.audit_log.proofs.Past.{length_taken, past_more}
 use Rattle.audit_log.proofs.Recorded.{task_of}
 use Rattle.audit_log.proofs.ServedCalls.{session_row}
@@ -64,7 +64,7 @@ session-kept : (J : Judging) (H : List Event) (number : Option ℕ) (o : Option 
 session-kept J H number None own = refl
 session-kept J H number (Some s) own = rw (finding_told J s, ← own s refl) refl
 
-module _ (J : Judging) (H : List Event) (calls : CallTable) (rows : List Session) (served : List (Option ℕ))
+module _ (J : Judging) (H : List Event) (calls : CallTable) (rows : List SessionRecord) (served : List (Option ℕ))
     (tells : TellsCalls H calls) (kept : rows ≡ map (told J) (begun H H)) (sessions : TellsSessions calls.received.items rows (length H) served) where
   line-same : (n : Name) (later K : List Event) (e : Event) → H ≡ later ++ e ∷ K → lines_by J H calls rows served n K e ≡ call_lines J H n K e
   line-same n later K e q = by (is_call_of n e) refl

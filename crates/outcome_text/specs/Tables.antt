@@ -7,16 +7,16 @@ use Rattle.audit_log.specs.Audited.{audited}
 use Rattle.audit_log.specs.Records.{no_record}
 use Rattle.audit_log.specs.Served.{row_at}
 use Rattle.audit_log.specs.declared.call_table.CallTable.{CallTable}
-use Rattle.audit_log.specs.declared.session.Session.{Session}
+use Rattle.audit_log.specs.declared.session.SessionRecord.{SessionRecord}
 use Rattle.outcome_text.specs.Outcomes.{audit_text, calls_of, did, entry_of, is_call_of, session_text}
 
 -- of a session, by what is kept of it
-abbrev pub kept_text : Judging → List Event → Option ℕ → Option Session → List ℕ
+abbrev pub kept_text : Judging → List Event → Option ℕ → Option SessionRecord → List ℕ
 kept_text J H number None = session_text J number None
 kept_text J H number (Some x) = audit_text J (audited number x) ++ did (session_at x.worker x.place H)
 
 -- of an event at a place, behind so many calls of task n
-abbrev pub lines_at : Judging → List Event → CallTable → List Session → List (Option ℕ) → Name → ℕ → ℕ → Event → List ℕ
+abbrev pub lines_at : Judging → List Event → CallTable → List SessionRecord → List (Option ℕ) → Name → ℕ → ℕ → Event → List ℕ
 lines_at J H calls rows served n place before e =
     if is_call_of n e
     then entry_of n (before + 1) e.what (get_or calls.records.items place no_record).outcome
@@ -24,5 +24,5 @@ lines_at J H calls rows served n place before e =
     else []
 
 -- of the event that comes after K
-abbrev pub lines_by : Judging → List Event → CallTable → List Session → List (Option ℕ) → Name → List Event → Event → List ℕ
+abbrev pub lines_by : Judging → List Event → CallTable → List SessionRecord → List (Option ℕ) → Name → List Event → Event → List ℕ
 lines_by J H calls rows served n K e = lines_at J H calls rows served n (length K) (calls_of n K) e

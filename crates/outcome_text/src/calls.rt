@@ -11,9 +11,9 @@ ghost use Rattle.outcome_text.specs.Tables.{kept_text, lines_at, lines_by};
 use crate::deeds::push_deeds;
 use crate::words::{push_audit, push_entry};
 use audit_log::call_table::CallTable;
-use audit_log::line::Line;
+use audit_log::line::LineBuffer;
 use audit_log::served::place_at;
-use audit_log::session::Session;
+use audit_log::session::SessionRecord;
 use hist_model::event::{Actor, Event, What};
 use hist_model::policy::Policy;
 use hist_model::text::TaskName;
@@ -26,7 +26,7 @@ pub(crate) struct Kept<'a> {
     pub(crate) events: &'a [Event],
     pub(crate) calls: &'a CallTable,
     /// What is kept of each session, from the oldest on.
-    pub(crate) sessions: &'a [Session],
+    pub(crate) sessions: &'a [SessionRecord],
     /// Of each call, by its place, the row of its session.
     pub(crate) served: &'a [Option<usize>],
 }
@@ -43,7 +43,7 @@ fn is_call_of(event: &Event, name: &TaskName) -> bool
 
 impl Kept<'_> {
     /// What is kept of the session of the call at a place.
-    fn session_of(&self, place: usize) -> Option<&Session>
+    fn session_of(&self, place: usize) -> Option<&SessionRecord>
         ensures { option_copied result ≡ row_at self.now.sessions.now (get_or self.now.served.now place None) }
     {
         self.sessions.get(place_at(self.served, place)?)
@@ -52,8 +52,8 @@ impl Kept<'_> {
     /// Adds the words of the session that received a call, for which this number was installed, and what it did.
     fn push_session(
         &self,
-        line: &mut Line,
-        session: Option<&Session>,
+        line: &mut LineBuffer,
+        session: Option<&SessionRecord>,
         number: Option<u32>,
     ) -> Result<(), NoMemory>
         ensures { OnOk result (line.new ≡ line.old ++ kept_text (judging_by self.now.policy.now.rules) (reverse self.now.events.now) number (option_copied session.entry)) }
@@ -71,7 +71,7 @@ impl Kept<'_> {
     /// number of the task's calls up to it.
     fn push_event(
         &self,
-        line: &mut Line,
+        line: &mut LineBuffer,
         name: &TaskName,
         place: usize,
         before: u64,
@@ -96,7 +96,7 @@ impl Kept<'_> {
     }
 
     /// Adds the lines of the calls of a task, from the oldest on.
-    pub(crate) fn push_calls(&self, line: &mut Line, name: &TaskName) -> Result<(), NoMemory>
+    pub(crate) fn push_calls(&self, line: &mut LineBuffer, name: &TaskName) -> Result<(), NoMemory>
         ensures { OnOk result (line.new ≡ line.old ++ lines_of (lines_by (judging_by self.now.policy.now.rules) (reverse self.now.events.now) self.now.calls.now self.now.sessions.now self.now.served.now name.now) (reverse self.now.events.now)) }
     {
         let mut number = 0;
@@ -107,7 +107,7 @@ impl Kept<'_> {
     }
 
     /// Adds the lines of the calls of these tasks, one after another.
-    pub(crate) fn push_all(&self, line: &mut Line, names: &[TaskName]) -> Result<(), NoMemory>
+    pub(crate) fn push_all(&self, line: &mut LineBuffer, names: &[TaskName]) -> Result<(), NoMemory>
         ensures { OnOk result (line.new ≡ line.old ++ flat_map (λ n. lines_of (lines_by (judging_by self.now.policy.now.rules) (reverse self.now.events.now) self.now.calls.now self.now.sessions.now self.now.served.now n) (reverse self.now.events.now)) names.now) }
     {
         for name in names {

@@ -9,7 +9,7 @@ ghost use Rattle.hist_model.specs.ReportWords.{result_text};
 ghost use Rattle.outcome_text.specs.Outcomes.{did, did_by};
 
 use audit_log::event::push_what;
-use audit_log::line::Line;
+use audit_log::line::LineBuffer;
 use audit_log::request::push_request;
 use audit_log::session_facts::{is_letgo, starts};
 use audit_log::words::push_result;
@@ -19,7 +19,11 @@ use sys_abi::errno::Errno;
 use sys_abi::memory::NoMemory;
 
 /// Adds a line with what a worker did for a call.
-fn push_act(line: &mut Line, request: &Request, answer: &Result<(), Errno>) -> Result<(), NoMemory>
+fn push_act(
+    line: &mut LineBuffer,
+    request: &Request,
+    answer: &Result<(), Errno>,
+) -> Result<(), NoMemory>
     ensures { OnOk result (line.new ≡ line.old ++ (codes " did " ++ request_text request.now ++ codes " " ++ result_text answer.now ++ codes "\n")) }
 {
     line.push(" did ")?;
@@ -30,7 +34,7 @@ fn push_act(line: &mut Line, request: &Request, answer: &Result<(), Errno>) -> R
 }
 
 /// Adds a line with a step.
-fn push_step(line: &mut Line, what: &What) -> Result<(), NoMemory>
+fn push_step(line: &mut LineBuffer, what: &What) -> Result<(), NoMemory>
     ensures { OnOk result (line.new ≡ line.old ++ (codes " did " ++ what_text what.now ++ codes "\n")) }
 {
     line.push(" did ")?;
@@ -39,7 +43,7 @@ fn push_step(line: &mut Line, what: &What) -> Result<(), NoMemory>
 }
 
 /// Adds what a step did for the call.
-fn push_deed(line: &mut Line, what: &What) -> Result<(), NoMemory>
+fn push_deed(line: &mut LineBuffer, what: &What) -> Result<(), NoMemory>
     ensures { OnOk result (line.new ≡ line.old ++ did_by what.now) }
 {
     match what {
@@ -53,7 +57,7 @@ fn push_deed(line: &mut Line, what: &What) -> Result<(), NoMemory>
     }
 }
 
-/// Whether the event is a step of the worker that isn't none.
+/// Whether the event is a step of this worker, and no `Skip`.
 fn is_step_of(event: &Event, worker: u8) -> bool
     ensures { result ≡ is_worker event.now.who worker && not (skips event.now.what) }
 {
@@ -64,7 +68,7 @@ fn is_step_of(event: &Event, worker: u8) -> bool
 }
 
 /// Adds what an event did for the call of the worker's session, and says whether it ends that session.
-fn push_later(line: &mut Line, event: &Event, worker: u8) -> Result<bool, NoMemory>
+fn push_later(line: &mut LineBuffer, event: &Event, worker: u8) -> Result<bool, NoMemory>
     ensures line { IfOk result (λ over. line.new ≡ line.old ++ (if is_worker event.now.who worker && not (skips event.now.what) then did_by event.now.what else [])) }
     ensures over { IfOk result (λ over. over ≡ (is_worker event.now.who worker && not (skips event.now.what)) && (is_letgo event.now.what || starts event.now.what)) }
 {
@@ -77,7 +81,7 @@ fn push_later(line: &mut Line, event: &Event, worker: u8) -> Result<bool, NoMemo
 
 /// Adds what the session did that the worker began at a place. Of any list of events, its first step may be of any kind.
 pub(crate) fn push_deeds(
-    line: &mut Line,
+    line: &mut LineBuffer,
     events: &[Event],
     place: usize,
     worker: u8,

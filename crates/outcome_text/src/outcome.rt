@@ -7,7 +7,7 @@ ghost use Rattle.outcome_text.specs.Outcomes.{result_of};
 use crate::calls::Kept;
 use crate::names::task_names;
 use audit_log::call_table::CallTable;
-use audit_log::line::Line;
+use audit_log::line::LineBuffer;
 use audit_log::served::served_calls;
 use audit_log::session_table::sessions;
 use hist_model::history::History;
@@ -32,7 +32,7 @@ pub fn outcome_of(alloc: Global, policy: &Policy, history: &History) -> Result<V
         sessions: sessions.as_slice(),
         served: served.as_slice(),
     };
-    let mut line = Line::new(alloc);
+    let mut line = LineBuffer::new(alloc);
     kept.push_all(&mut line, names.as_slice())?;
     Ok(line.into_bytes())
 }

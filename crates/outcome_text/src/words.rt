@@ -11,8 +11,8 @@ ghost use Rattle.outcome_text.specs.Outcomes.{audit_text, came_text, entry_of, e
 use audit_log::audit::{arrival, arrival_word, push_finding};
 use audit_log::calls::push_outcome;
 use audit_log::event::push_entered;
-use audit_log::line::Line;
-use audit_log::session::Session;
+use audit_log::line::LineBuffer;
+use audit_log::session::SessionRecord;
 use audit_log::words::{push_call, push_name};
 use hist_model::event::{Entered, What};
 use hist_model::policy::Policy;
@@ -22,7 +22,7 @@ use sys_abi::calls::GETPID;
 use sys_abi::memory::NoMemory;
 
 /// Adds what the filters say of a call, without the id.
-fn push_verdict(line: &mut Line, verdict: Entered) -> Result<(), NoMemory>
+fn push_verdict(line: &mut LineBuffer, verdict: Entered) -> Result<(), NoMemory>
     ensures { OnOk result (line.new ≡ line.old ++ verdict_text verdict) }
 {
     match verdict {
@@ -31,7 +31,7 @@ fn push_verdict(line: &mut Line, verdict: Entered) -> Result<(), NoMemory>
     }
 }
 
-/// Whether a call has this number.
+/// Whether a call's number is that of getpid.
 fn is_getpid(nr: i32) -> bool
     ensures { result ≡ is_number nr nr_getpid }
 {
@@ -49,7 +49,7 @@ fn gives_number(came: &Outcome) -> bool
 }
 
 /// Adds what a call came to; of a getpid not which number.
-fn push_came(line: &mut Line, nr: i32, came: Outcome) -> Result<(), NoMemory>
+fn push_came(line: &mut LineBuffer, nr: i32, came: Outcome) -> Result<(), NoMemory>
     ensures { OnOk result (line.new ≡ line.old ++ came_text nr came) }
 {
     let number = gives_number(&came);
@@ -61,7 +61,7 @@ fn push_came(line: &mut Line, nr: i32, came: Outcome) -> Result<(), NoMemory>
 }
 
 /// Adds the task of a call, and the call's number among the task's own.
-fn push_ordinal(line: &mut Line, name: &TaskName, number: u64) -> Result<(), NoMemory>
+fn push_ordinal(line: &mut LineBuffer, name: &TaskName, number: u64) -> Result<(), NoMemory>
     ensures { OnOk result (line.new ≡ line.old ++ (codes "t" ++ name_text name.now ++ codes " " ++ decimal number ++ codes " ")) }
 {
     line.push("t")?;
@@ -72,7 +72,12 @@ fn push_ordinal(line: &mut Line, name: &TaskName, number: u64) -> Result<(), NoM
 }
 
 /// Adds a call, what the filters say of it, and what it came to.
-fn push_called(line: &mut Line, nr: i32, verdict: Entered, came: Outcome) -> Result<(), NoMemory>
+fn push_called(
+    line: &mut LineBuffer,
+    nr: i32,
+    verdict: Entered,
+    came: Outcome,
+) -> Result<(), NoMemory>
     ensures { OnOk result (line.new ≡ line.old ++ (call_text nr ++ codes " " ++ verdict_text verdict ++ codes " " ++ came_text nr came)) }
 {
     push_call(line, nr)?;
@@ -84,7 +89,7 @@ fn push_called(line: &mut Line, nr: i32, verdict: Entered, came: Outcome) -> Res
 
 /// Adds the words of a step that enters a call.
 pub(crate) fn push_entry(
-    line: &mut Line,
+    line: &mut LineBuffer,
     name: &TaskName,
     number: u64,
     what: &What,
@@ -103,9 +108,9 @@ pub(crate) fn push_entry(
 
 /// Adds the words of the audit of a session for whose call this number was installed, and ends the line.
 pub(crate) fn push_audit(
-    line: &mut Line,
+    line: &mut LineBuffer,
     policy: &Policy,
-    session: &Session,
+    session: &SessionRecord,
     number: Option<u32>,
 ) -> Result<(), NoMemory>
     ensures { OnOk result (line.new ≡ line.old ++ audit_text (judging_by policy.now.rules) (audited number session.now)) }

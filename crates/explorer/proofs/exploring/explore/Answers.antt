@@ -1,4 +1,6 @@
-use Rattle.delay_bounded.specs.Explored.{bound_of}
+use Rattle.std.proofs.lemmas.Result.{IfOk-weaker}
+use Rattle.delay_bounded.specs.Explored.{bound_of, explored}
+use Rattle.explorer.specs.Telling.{TellsFirst}
 use Rattle.explorer.proofs.Bounds.{told_few, told_within}
 use Rattle.explorer.proofs.exploring.explore.Goals as goal
 
@@ -9,11 +11,14 @@ returns-in-Whole c =
     let W = c.args.workers in
     let told = rw c.in-Whole.is at c.in_ok-tally.ensures in
     told_within P S W c.bound_within-bound.result (bound_of c.args.delays) c.bound_within-bound.ensures c.told.result
-    (told_few P S W c.bound_within-bound.result c.in-Whole.tally c.told.result told.0 told.1 c.told.ensures.histories c.told.ensures.events c.told.ensures.longest c.told.ensures.whole)
+    (told_few P S W c.bound_within-bound.result c.in-Whole.tally c.told.result told.0 told.1 c.told.ensures.histories c.told.ensures.events c.told.ensures.longest c.told.ensures.outcomes c.told.ensures.whole)
 
-pub returns-in_ok-told-in-TooMany : goal.returns-in_ok-told-in-TooMany
-returns-in_ok-told-in-TooMany c =
+pub returns-in-TooMany : goal.returns-in-TooMany
+returns-in-TooMany c =
     let P = c.args.policy.now in
+    let S = c.args.script in
+    let W = c.args.workers in
     let back = rw c.in-TooMany.is at c.in_ok-tally.ensures in
-    let told = rw back at c.in_ok-told-in-TooMany.ensures in
-    told_within P c.args.script c.args.workers c.bound_within-bound.result (bound_of c.args.delays) c.bound_within-bound.ensures c.in_ok-told-in-TooMany.told told
+    let told = rw back at c.explore_by_passes.ensures in
+    IfOk-weaker c.explore_by_passes.result (λ x. TellsFirst P (explored P S W c.bound_within-bound.result) x) (λ x. TellsFirst P (explored P S W (bound_of c.args.delays)) x)
+    (λ x t. told_within P S W c.bound_within-bound.result (bound_of c.args.delays) c.bound_within-bound.ensures x t) told

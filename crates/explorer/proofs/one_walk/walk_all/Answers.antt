@@ -1,4 +1,4 @@
-use Rattle.std.proofs.Common.{◌≡◌, [], subst, arith, ◌∙◌}
+use Rattle.std.proofs.Common.{subst, arith, ◌∙◌}
 use Rattle.delay_bounded.specs.Explored.{explored}
 use Rattle.explorer.specs.Telling.{TellsOf}
 use Rattle.explorer.specs.Walking.{EndsFirst}
@@ -25,11 +25,11 @@ returns-in-All c =
     let W = c.args.workers in
     let part = c.walks.invariant in
     let ended = rw c.in-All.is at c.in_ok-_script.ensures S part.more part.goes_on in
-    let told = c.joined.ensures.tells P S W (whole P S W c.args.bound c.walks.found c.walks.walker part ended.1) in
-    (subst (λ n. TellsOf (explored P S W n) c.joined.result) part.bound_is told, omega (arith, c.joined.ensures.events, part.few))
+    let told = c.in_ok-all-in-All.ensures.tells P S W (whole P S W c.args.bound c.walks.found c.walks.walker part ended.1) in
+    (subst (λ n. TellsOf P (explored P S W n) c.in_ok-all-in-All.all) part.bound_is told, omega (arith, c.in_ok-all-in-All.ensures.events, part.few))
 
 pub note-requires-clause-told : goal.note-requires-clause-told
-note-requires-clause-told c = (c.args.policy.now, c.args.script, c.walks.invariant.done, c.walks.invariant.tells)
+note-requires-clause-told c = (c.args.script, c.walks.invariant.done, c.walks.invariant.tells)
 
 pub note-requires-clause-within : goal.note-requires-clause-within
 note-requires-clause-within c =
@@ -63,7 +63,7 @@ walks-preserved c =
     let part = c.walks.invariant in
     let ended : EndsFirst P S W part.more c.in-Ended.left c.in-Ended.history.events c.in-Ended.rest = rw c.in-Ended.is at c.in_ok-_script.ensures S part.more part.goes_on in
     one_done P S W c.args.bound c.walks.found c.walks.walker part _ _ _ ended c.note.new.self
-    (c.in_ok-note-in-Ended.ensures.tells P S part.done ended.walk ended.left_is ended.history_is part.tells) c.in_ok-note-in-Ended.ensures.bound (has_room _ _ c.is_full.ensures c.if-is_full.false)
+    (c.in_ok-note-in-Ended.ensures.tells S part.done ended.walk ended.left_is ended.history_is part.tells) c.in_ok-note-in-Ended.ensures.bound (has_room _ _ c.is_full.ensures c.if-is_full.false)
 
 pub walks-smaller : goal.walks-smaller
 walks-smaller c =

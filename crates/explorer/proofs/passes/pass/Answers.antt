@@ -1,4 +1,4 @@
-use Rattle.std.proofs.Common.{◌≡◌, [], refl, subst, ◌∙◌}
+use Rattle.std.proofs.Common.{refl, ◌∙◌}
 use Rattle.explorer.specs.Walking.{EndsFirst, walks_in}
 use Rattle.explorer.proofs.PassByPass.{all_done, begun, has_events, stopped, went_on}
 use Rattle.explorer.proofs.Walkers.{fewer_left}
@@ -40,20 +40,20 @@ note_spent-requires-clause-few c =
     let ended : EndsFirst c.args.policy.now c.args.script c.args.workers (walks_in c.args.policy.now c.args.workers c.walks.walker) c.in-Ended.left c.in-Ended.history.events c.in-Ended.rest = rw c.in-Ended.is at c.in_ok-script.ensures c.args.script _ i.goes_on in
     ended.few
 
-pub returns-then-not-note_spent-clause-script : goal.returns-then-not-note_spent-clause-script
-returns-then-not-note_spent-clause-script c =
+pub returns-then-not-goes_on-clause-script : goal.returns-then-not-goes_on-clause-script
+returns-then-not-goes_on-clause-script c =
     let i = c.walks.invariant in
     let ended : EndsFirst c.args.policy.now c.args.script c.args.workers (walks_in c.args.policy.now c.args.workers c.walks.walker) c.in-Ended.left c.in-Ended.history.events c.in-Ended.rest = rw c.in-Ended.is at c.in_ok-script.ensures c.args.script _ i.goes_on in
     c.in_ok-into_script-in-Ended.ensures ∙ ended.goes_on.script_is
 
-pub returns-then-not-note_spent-clause-explored : goal.returns-then-not-note_spent-clause-explored
-returns-then-not-note_spent-clause-explored c =
+pub returns-then-not-goes_on-clause-explored : goal.returns-then-not-goes_on-clause-explored
+returns-then-not-goes_on-clause-explored c =
     let P = c.args.policy.now in
     let S = c.args.script in
     let W = c.args.workers in
     let i = c.walks.invariant in
     let ended : EndsFirst P S W (walks_in P W c.walks.walker) c.in-Ended.left c.in-Ended.history.events c.in-Ended.rest = rw c.in-Ended.is at c.in_ok-script.ensures S _ i.goes_on in
-    stopped P S W c.args.delays c.args.found.now c.walks.found c.walks.walker i.under_way _ _ _ ended c.note_spent.new.found _ (c.note_spent.ensures.notes P S ended.walk ended.left_is ended.history_is) c.if-not-note_spent.true
+    stopped P S W c.args.delays c.args.found.now c.walks.found c.walks.walker i.under_way _ _ _ ended c.note_spent.new.found _ (c.in_ok-goes_on-in-Ended.ensures.notes S ended.walk ended.left_is ended.history_is) c.if-not-goes_on.true
 
 pub walks-preserved : goal.walks-preserved
 walks-preserved c =
@@ -63,9 +63,9 @@ walks-preserved c =
     let i = c.walks.invariant in
     let ended : EndsFirst P S W (walks_in P W c.walks.walker) c.in-Ended.left c.in-Ended.history.events c.in-Ended.rest = rw c.in-Ended.is at c.in_ok-script.ensures S _ i.goes_on in
     record {
-      told = c.note_spent.ensures.told;
+      told = c.in_ok-goes_on-in-Ended.ensures.told;
       goes_on = record { script_is = ended.goes_on.script_is; going = ended.goes_on.going; left = refl };
-      under_way = went_on P S W c.args.delays c.args.found.now c.walks.found c.walks.walker i.under_way _ _ _ ended c.note_spent.new.found _ (c.note_spent.ensures.notes P S ended.walk ended.left_is ended.history_is) c.if-not-note_spent.false;
+      under_way = went_on P S W c.args.delays c.args.found.now c.walks.found c.walks.walker i.under_way _ _ _ ended c.note_spent.new.found _ (c.in_ok-goes_on-in-Ended.ensures.notes S ended.walk ended.left_is ended.history_is) c.if-not-goes_on.false;
     }
 
 pub walks-smaller : goal.walks-smaller

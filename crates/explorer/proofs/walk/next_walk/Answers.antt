@@ -1,8 +1,4 @@
-use Rattle.std.proofs.Common.{◌≡◌, ◌∷◌, [], ◌++◌, ◌∙◌, suc, length, arith}
-use Rattle.hist_model.specs.declared.script.Script.{Script}
-use Rattle.hist_model.specs.Legal.{started}
-use Rattle.explorer.specs.Frames.{AreTurns}
-use Rattle.explorer.specs.Walking.{TurnsLater}
+use Rattle.std.proofs.Common.{◌≡◌, ◌∙◌, suc, length, arith}
 use Rattle.explorer.proofs.Walked.{goes_back, goes_on, none_back, nothing_left, turns_back, zero_left}
 use Rattle.explorer.proofs.walk.next_walk.Goals as goal
 

@@ -1,5 +1,4 @@
-use Rattle.std.proofs.Common.{◌≡◌, ◌<◌, ◌∙◌, refl, arith, sym}
-use Rattle.delay_bounded.specs.Circle.{places}
+use Rattle.std.proofs.Common.{◌∙◌, refl, arith}
 use Rattle.explorer.specs.Runs.{story}
 use Rattle.explorer.proofs.Walked.{next_after, next_turns, replayed, run_here}
 use Rattle.explorer.proofs.walk.replay.Goals as goal

@@ -1,4 +1,4 @@
-use Rattle.std.proofs.Common.{◌≡◌, Some, refl}
+use Rattle.std.proofs.Common.{◌≡◌, Some}
 use Rattle.explorer.specs.Frames.{last_place}
 use Rattle.explorer.proofs.Walked.{come_more, last_in, later_walks, same_turns}
 use Rattle.explorer.proofs.walk.turn_later.Goals as goal

@@ -1,5 +1,5 @@
 use Rattle.std.proofs.Common.{◌≡◌, Some, None, refl, ◌∙◌}
-use Rattle.explorer.specs.Frames.{last_place, left_from}
+use Rattle.explorer.specs.Frames.{last_place}
 use Rattle.explorer.specs.Runs.{script_in}
 use Rattle.explorer.proofs.Walked.{at_end, come_more, last_in, more_walks}
 use Rattle.explorer.proofs.walk.walk_on.Goals as goal

@@ -1,35 +1,63 @@
-use Rattle.std.proofs.Common.{◌≡◌, ◌+◌, ◌<◌, ◌++◌, List, get_or, length, arith, subst}
-use Rattle.hist_model.specs.declared.event.Event.{Event}
+use Rattle.std.proofs.Common.{◌≡◌, ◌++◌, List, [], get_or, length, sum_by, sym, ap, ◌∙◌, arith, rules, subst}
+use Rattle.std.proofs.lemmas.Iterator.Adapters.{YieldsList-from_vec}
+use Rattle.std.proofs.lemmas.Iterator.Consumers.{YieldsList-end, YieldsList-turn}
+use Rattle.std.proofs.lemmas.List.{length_push, take_all}
 use Rattle.explorer.specs.Telling.{TellsOf}
 use Rattle.explorer.specs.declared.tally.Tally.{Tally}
-use Rattle.explorer.proofs.ByDelays.{events_there, more_told, told_there, whole_told}
+use Rattle.explorer.proofs.ByDelays.{events_there, few_there, more_told, told_there, whole_told}
 use Rattle.explorer.proofs.by_delays.ByDelays.joined.Goals as goal
 
-abbrev nothing : Tally
-nothing = record { histories = 0; events = 0; longest = 0 }
+pub loop-tally-init : goal.loop-tally-init
+loop-tally-init c = record {
+  told = λ P S ws t. ([], c.none-all.ensures P);
+  tells = λ P S W t. c.none-all.ensures P;
+  events = (c.none-all.ensures c.requires.told.0).events;
+}
 
 pub join-requires-clause-told : goal.join-requires-clause-told
 join-requires-clause-told c =
-    let (L, t) = c.loop-tally.invariant.told in
-    let inside : c.loop-tally.tally-index < length c.args.self.now.tallies.items = omega (arith, c.deref-tally-items.ensures.len) in
-    let (M, u) = told_there c.args.self.now c.requires.told c.loop-tally.tally-index nothing inside in
-    rw c.deref-tally-items.ensures.value (L, M, t, u)
+    let road = YieldsList-from_vec {s = c.into_iter-tally-iterator.result} c.args.self.tallies.items (search rules) (search rules) in
+    let turn = YieldsList-turn road c.loop-tally.yielded c.loop-tally.tally-iterator c.loop-tally.yielded_by c.next.result c.next.new.self c.in-Some.tally c.in-Some.is c.next.ensures.steps in
+    let (P, S, ws, told) = c.requires.told in
+    let (L, t) = c.loop-tally.invariant.told P S ws told in
+    let (M, u) = told_there c.args.self P S ws told (length c.loop-tally.yielded) c.in-Some.tally turn.0 in
+    (P, L, M, t, subst (TellsOf P M) (sym turn.1) u)
+
+pub join-requires-clause-few : goal.join-requires-clause-few
+join-requires-clause-few c =
+    let road = YieldsList-from_vec {s = c.into_iter-tally-iterator.result} c.args.self.tallies.items (search rules) (search rules) in
+    let turn = YieldsList-turn road c.loop-tally.yielded c.loop-tally.tally-iterator c.loop-tally.yielded_by c.next.result c.next.new.self c.in-Some.tally c.in-Some.is c.next.ensures.steps in
+    let (P, S, ws, told) = c.requires.told in
+    let same : c.in-Some.tally.events ≡ (get_or c.args.self.tallies.items (length c.loop-tally.yielded) c.in-Some.tally).events = ap (λ (t : Tally). t.events) turn.1 in
+    omega (arith, same, c.loop-tally.invariant.events, c.requires.few, few_there P S ws c.args.self told (length c.loop-tally.yielded) c.in-Some.tally turn.0)
 
 pub loop-tally-preserved : goal.loop-tally-preserved
 loop-tally-preserved c =
+    let road = YieldsList-from_vec {s = c.into_iter-tally-iterator.result} c.args.self.tallies.items (search rules) (search rules) in
+    let turn = YieldsList-turn road c.loop-tally.yielded c.loop-tally.tally-iterator c.loop-tally.yielded_by c.next.result c.next.new.self c.in-Some.tally c.in-Some.is c.next.ensures.steps in
+    let at = length c.loop-tally.yielded in
     let i = c.loop-tally.invariant in
-    let at = c.loop-tally.tally-index in
-    let (L, t) = i.told in
-    let inside : at < length c.args.self.now.tallies.items = omega (arith, c.deref-tally-items.ensures.len) in
-    let (M, u) = told_there c.args.self.now c.requires.told at nothing inside in
-    let joined = subst (λ (xs : List Tally). (L M : List (List Event)) → TellsOf L c.loop-tally.all → TellsOf M (get_or xs at nothing) → TellsOf (L ++ M) c.join.new.self) c.deref-tally-items.ensures.value c.join.ensures.tells in
-    let events = subst (λ (xs : List Tally). c.join.new.self.events ≡ c.loop-tally.all.events + (get_or xs at nothing).events) c.deref-tally-items.ensures.value c.join.ensures.events in
+    let more = length_push c.loop-tally.yielded c.in-Some.tally in
+    let same : c.in-Some.tally.events ≡ (get_or c.args.self.tallies.items at c.in-Some.tally).events = ap (λ (t : Tally). t.events) turn.1 in
     record {
-      told = (L ++ M, joined L M t u);
-      tells = λ P S W told. more_told P S W c.args.self.now told at nothing c.loop-tally.all c.join.new.self inside (i.tells P S W told) joined;
-      events = omega (arith, events, i.events, events_there c.args.self.now at nothing inside);
+      told = λ P S ws told.
+          let (L, t) = i.told P S ws told in
+          let (M, u) = told_there c.args.self P S ws told at c.in-Some.tally turn.0 in
+          (L ++ M, c.in_ok-join.ensures.tells P L M t (subst (TellsOf P M) (sym turn.1) u));
+      tells = λ P S W told. rw more (more_told P S W c.args.self told at c.in-Some.tally c.loop-tally.all c.join.new.self turn.0 (i.tells P S W told)
+          (λ L M t u. c.in_ok-join.ensures.tells P L M t (subst (TellsOf P M) (sym turn.1) u)));
+      events = rw more (omega (arith, c.in_ok-join.ensures.events, i.events, same, events_there c.args.self at c.in-Some.tally turn.0));
     }
 
 pub returns-clause-tells : goal.returns-clause-tells
-returns-clause-tells c = λ P S W told.
-    whole_told P S W c.args.self.now told c.loop-tally.tally-index c.loop-tally.all (omega (arith, c.deref-tally-items.ensures.len)) (c.loop-tally.invariant.tells P S W told)
+returns-clause-tells c =
+    let end = YieldsList-end (YieldsList-from_vec {s = c.into_iter-tally-iterator.result} c.args.self.tallies.items (search rules) (search rules))
+    c.loop-tally.yielded c.loop-tally.tally-iterator c.loop-tally.yielded_by c.next.result c.next.new.self c.in-None.is c.next.ensures.steps in
+    λ P S W told. whole_told P S W c.args.self told (length c.loop-tally.yielded) c.loop-tally.all end.1 (c.loop-tally.invariant.tells P S W told)
+
+pub returns-clause-events : goal.returns-clause-events
+returns-clause-events c =
+    let end = YieldsList-end (YieldsList-from_vec {s = c.into_iter-tally-iterator.result} c.args.self.tallies.items (search rules) (search rules))
+    c.loop-tally.yielded c.loop-tally.tally-iterator c.loop-tally.yielded_by c.next.result c.next.new.self c.in-None.is c.next.ensures.steps in
+    let (P, S, ws, told) = c.requires.told in
+    c.loop-tally.invariant.events ∙ (ap (λ (ts : List Tally). sum_by (λ (t : Tally). t.events) ts) (take_all (length c.loop-tally.yielded) c.args.self.tallies.items (omega (arith, end.1))) ∙ sym told.events)

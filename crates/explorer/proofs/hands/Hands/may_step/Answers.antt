@@ -1,4 +1,4 @@
-use Rattle.std.proofs.Common.{◌≡◌, ℕ, ◌<◌, false, ◌∙◌, sym, arith}
+use Rattle.std.proofs.Common.{◌∙◌, arith}
 use Rattle.explorer.proofs.InHand.{all_below}
 use Rattle.explorer.proofs.hands.Hands.may_step.Goals as goal
 

@@ -1,5 +1,5 @@
-use Rattle.std.proofs.Common.{◌≡◌, ◌<◌, ◌≤◌, arith, ap, ◌∙◌}
-use Rattle.explorer.proofs.Running.{comes_on, none_found, none_yet, turn_found}
+use Rattle.std.proofs.Common.{arith}
+use Rattle.explorer.proofs.Running.{none_found, none_yet, turn_found}
 use Rattle.explorer.proofs.run.Run.next_turn.Goals as goal
 
 pub returns-then-branch : goal.returns-then-branch

@@ -1,5 +1,4 @@
 use Rattle.delay_bounded.specs.Explored.{walks_of}
-use Rattle.explorer.specs.declared.walk.Next.TheVariants.{Walks}
 use Rattle.explorer.proofs.Walkers.{begins, leads_on}
 use Rattle.explorer.proofs.walker.Walker.begin.Goals as goal
 

@@ -1,0 +1,12 @@
+use Rattle.std.proofs.Common.{◌<◌, List, [], ◌∷◌, length, arith}
+use Rattle.hist_model.specs.declared.event.Event.{Event}
+use Rattle.mediation.specs.Scheduled.{IsUnclosed}
+use Rattle.delay_bounded.proofs.Finishing.{finished}
+use Rattle.delay_bounded.proofs.laws.ends_finished.Goals as goal
+
+some : (K : List Event) → IsUnclosed K → 0 < length K
+some [] u = absurd u
+some (e ∷ K) u = omega arith
+
+pub returns : goal.returns
+returns c = λ P S W K few k named over. finished P S W K k.goes_on.legal few k.within named over (some K k.goes_on.unclosed)

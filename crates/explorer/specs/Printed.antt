@@ -1,0 +1,67 @@
+-- What is printed of the explored histories: how many there are, and each outcome with the schedule of its first history.
+use Rattle.std.specs.Prelude.{ℕ, ◌+◌, Bool, true, false, List, [], ◌∷◌, ◌++◌, length, Option, Some, None, codes, decimal}
+use Rattle.std.specs.List.{flat_map}
+use Rattle.hist_model.specs.ReportAudit.{judging_by}
+use Rattle.hist_model.specs.ReportWords.{name_text}
+use Rattle.hist_model.specs.declared.event.Actor.{Actor}
+use Rattle.hist_model.specs.declared.event.Actor.TheVariants.{Task, Worker}
+use Rattle.hist_model.specs.declared.event.Event.{Event}
+use Rattle.hist_model.specs.declared.policy.Policy.{Policy}
+use Rattle.hist_model.specs.declared.script.Step.{Step}
+use Rattle.explorer.specs.Taken.{all_events, event_limit, longest, none_left, taken}
+use Rattle.explorer.specs.Tallies.{CountedOutcome, outcomes}
+
+-- ---- A schedule
+
+-- an actor as a schedule names it
+abbrev pub actor_words : Actor → List ℕ
+actor_words (Task n) = codes "t " ++ name_text n
+actor_words (Worker w) = codes "w " ++ decimal w
+actor_words _ = []
+
+-- a line of a schedule
+abbrev pub step_line : Step → List ℕ
+step_line s = actor_words s.who ++ codes " " ++ decimal s.count ++ codes "\n"
+
+-- the block with which a script plays the first history of an outcome
+abbrev pub schedule_block : Option (List Step) → List ℕ
+schedule_block None = codes "schedule too long\n"
+schedule_block (Some steps) = codes "schedule\n" ++ flat_map step_line steps ++ codes "end\n"
+
+-- ---- The outcomes
+
+-- a text, or `none` in place of an empty one
+abbrev pub or_none : List ℕ → List ℕ
+or_none [] = codes "none\n"
+or_none (b ∷ text) = b ∷ text
+
+-- an outcome with its number
+abbrev pub outcome_block : ℕ → CountedOutcome → List ℕ
+outcome_block n o = codes "outcome " ++ decimal n ++ codes " histories=" ++ decimal o.histories ++ codes "\n" ++ or_none o.text ++ schedule_block o.schedule
+
+-- the outcomes, numbered from n on
+unfoldable pub blocks : ℕ → List CountedOutcome → List ℕ
+blocks n [] = []
+blocks n (o ∷ more) = outcome_block n o ++ blocks (n + 1) more
+
+-- ---- In all
+
+abbrev pub yes_or_no : Bool → List ℕ
+yes_or_no true = codes "yes"
+yes_or_no false = codes "no"
+
+-- how many histories there are, how many events they have together, how many the longest has, how many outcomes there are, and whether no history is left
+abbrev pub counts_line : ℕ → ℕ → ℕ → ℕ → Bool → List ℕ
+counts_line histories events longest found whole =
+    codes "explored histories=" ++ decimal histories ++ codes " events=" ++ decimal events ++ codes " longest=" ++ decimal longest
+    ++ codes " outcomes=" ++ decimal found ++ codes " whole=" ++ yes_or_no whole ++ codes "\n"
+
+-- what is told of these histories
+abbrev pub told : Policy → List (List Event) → Bool → List ℕ
+told P histories whole =
+    counts_line (length histories) (all_events histories) (longest histories) (length (outcomes (judging_by P.rules) histories)) whole
+    ++ blocks 1 (outcomes (judging_by P.rules) histories)
+
+-- what is printed of the histories of a list: of the first of them, as long as fewer events than the limit were explored before
+abbrev pub printed : Policy → List (List Event) → List ℕ
+printed P histories = told P (taken event_limit histories) (none_left event_limit histories)
