@@ -1,3 +1,6 @@
 pub mod Isolation
 pub mod Ranges
 pub mod Worked
+pub mod Passes
+pub mod Closing
+pub mod Ended

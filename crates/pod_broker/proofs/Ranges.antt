@@ -112,7 +112,7 @@ shared S T p h g =
     let t = bounds T p g in
     and_from (nat_lt S.pidbase (T.pidbase + T.pidmax)) (nat_lt T.pidbase (S.pidbase + S.pidmax)) (lt-ltb _ _ (omega arith)) (lt-ltb _ _ (omega arith))
 
-not-shared : (S T : Script) (p : ℕ) → overlap S T ≡ false → in_range S p ≡ true → in_range T p ≡ false
+pub not-shared : (S T : Script) (p : ℕ) → overlap S T ≡ false → in_range S p ≡ true → in_range T p ≡ false
 not-shared S T p o h = false_from_ne_true (in_range T p) (λ g. let s = shared S T p h g in cc)
 
 pub overlap_is_shared : (S T : Script) → IsScript S → IsScript T → OverlapIsShared S T

@@ -1,2 +1,4 @@
 pub mod Pods
+pub mod Serving
+pub mod Locks
 pub mod Examples

@@ -1,5 +1,6 @@
 -- Containers beside each other: what is a container's own in its history, the PIDs that it gives, and when two share none.
 use Rattle.std.specs.Prelude.{◌≡◌, ◌↔◌, ℕ, ◌+◌, Bool, true, false, ◌&&◌, ◌||◌, nat_le, nat_lt, List, [], ◌∷◌, drop, reverse, Result, Err}
+use Rattle.std.specs.List.{AllPairs}
 use Rattle.hist_model.specs.Legal.{Legal}
 use Rattle.hist_model.specs.Mediated.{Each}
 use Rattle.hist_model.specs.Tasks.{given, is_some_of}
@@ -51,6 +52,14 @@ GivesInRange P S = (K : List Event) → Legal P S K → (p : ℕ) → was_given 
 -- where the ranges share no number, whatever two histories of the scripts gave is apart
 abbrev pub RangesSetApart : Policy → Script → Policy → Script → Type 0
 RangesSetApart P S Q T = overlap S T ≡ false → (K L : List Event) → Legal P S K → Legal Q T L → Apart K L
+
+-- no two of the scripts' ranges overlap
+abbrev pub NoneOverlap : List Script → Type 0
+NoneOverlap = AllPairs (λ S T. overlap S T ≡ false)
+
+-- no two of the histories give a common PID
+abbrev pub AllApart : List (List Event) → Type 0
+AllApart = AllPairs Apart
 
 -- a signal to a number outside of the script's range is answered ESRCH
 abbrev pub ReachesNoneOutside : Script → List Event → Event → Type 0
