@@ -18,8 +18,9 @@ use Rattle.broker_app.specs.Findings.{findings}
 use Rattle.broker_app.specs.Inputs.{PolicyIs, ReportIs, ScriptIs}
 use Rattle.broker_app.specs.Refusals.{InputRefused, ReportRefused}
 use Rattle.broker_app.specs.declared.status.InputFile.TheVariants.{Policy as PolicyFile, Script as ScriptFile, Report as ReportFile}
+use Rattle.broker_app.specs.declared.status.Refusal.TheVariants.{ReadFault, TooLong, BadPolicy, BadScript}
 use Rattle.broker_app.specs.declared.status.Status.{Status}
-use Rattle.broker_app.specs.declared.status.Status.TheVariants.{Done, ReadFault, TooLong, BadPolicy, BadScript, WriteFault, NoMemory, NotReport}
+use Rattle.broker_app.specs.declared.status.Status.TheVariants.{Done, Refused, WriteFault, NoMemory, NotReport}
 
 -- ---- The bytes of a report
 
@@ -45,12 +46,12 @@ not_found_ends P S bytes line sink unique first = (record { first = first; none 
 pub check_stops : (files after : FileState) (sink : SinkState) (policy script report : List ℕ) (status : Status) → InputRefused files after policy script status
     → CheckEnds files after sink sink policy script report status
 check_stops files after sink policy script report NoMemory h = inl (λ t. refl)
-check_stops files after sink policy script report (ReadFault PolicyFile) h = (h, λ t. refl)
-check_stops files after sink policy script report (TooLong PolicyFile) h = (h, λ t. refl)
-check_stops files after sink policy script report (BadPolicy error) h = (h, λ t. refl)
-check_stops files after sink policy script report (ReadFault ScriptFile) h = (h, λ t. refl)
-check_stops files after sink policy script report (TooLong ScriptFile) h = (h, λ t. refl)
-check_stops files after sink policy script report (BadScript error) h = (h, λ t. refl)
+check_stops files after sink policy script report (Refused (ReadFault PolicyFile)) h = (h, λ t. refl)
+check_stops files after sink policy script report (Refused (TooLong PolicyFile)) h = (h, λ t. refl)
+check_stops files after sink policy script report (Refused (BadPolicy error)) h = (h, λ t. refl)
+check_stops files after sink policy script report (Refused (ReadFault ScriptFile)) h = (h, λ t. refl)
+check_stops files after sink policy script report (Refused (TooLong ScriptFile)) h = (h, λ t. refl)
+check_stops files after sink policy script report (Refused (BadScript error)) h = (h, λ t. refl)
 check_stops files after sink policy script report status h = absurd h
 
 -- the report wasn't
@@ -59,8 +60,8 @@ pub report_stops : (files mid after : FileState) (sink : SinkState) (policy scri
 report_stops files mid after sink policy script report P S status same policy_is script_is h = by status (report_before files mid after report same status h)
   where
     by : (status : Status) → ReportRefused files after report status → CheckEnds files after sink sink policy script report status
-    by (ReadFault ReportFile) r = ((P, S, policy_is, script_is, r), λ t. refl)
-    by (TooLong ReportFile) r = ((P, S, policy_is, script_is, r), λ t. refl)
+    by (Refused (ReadFault ReportFile)) r = ((P, S, policy_is, script_is, r), λ t. refl)
+    by (Refused (TooLong ReportFile)) r = ((P, S, policy_is, script_is, r), λ t. refl)
     by NoMemory r = inl (λ t. refl)
     by status r = absurd r
 

@@ -6,38 +6,42 @@ use Rattle.hist_model.specs.declared.policy.Policy.{Policy}
 use Rattle.hist_model.specs.declared.script.Script.{Script}
 use Rattle.io_edge.proofs.Laws.{then_rose}
 use Rattle.io_edge.specs.FileState.{FileState, ReadsPast, SameFiles}
+use Rattle.policy_reader.specs.Policies.{policy as policy_of}
+use Rattle.policy_reader.specs.declared.error.PolicyError.{PolicyError}
 use Rattle.script_reader.specs.Scripts.{script as script_of}
 use Rattle.script_reader.specs.declared.error.ScriptError.{ScriptError}
 use Rattle.broker_app.specs.Inputs.{HasBytes, PolicyIs, ReadsAs, ReportIs, ScriptIs, policy_limit, report_limit, script_limit}
 use Rattle.broker_app.specs.Refusals.{CannotRead, FileRefused, InputRefused, PolicyRefused, ReportRefused, ScriptRefused}
 use Rattle.broker_app.specs.declared.status.InputFile.TheVariants.{Policy as PolicyFile, Script as ScriptFile, Report as ReportFile}
+use Rattle.broker_app.specs.declared.status.Refusal.{Refusal}
+use Rattle.broker_app.specs.declared.status.Refusal.TheVariants.{ReadFault, TooLong, BadPolicy, BadScript}
 use Rattle.broker_app.specs.declared.status.Status.{Status}
-use Rattle.broker_app.specs.declared.status.Status.TheVariants.{ReadFault, TooLong, BadPolicy, BadScript, NoMemory}
+use Rattle.broker_app.specs.declared.status.Status.TheVariants.{Refused, NoMemory}
 
 pub reads_as : {A : Type 0} (read : List ℕ → A) (limit : ℕ) (file : Option (List ℕ)) (bytes : List ℕ) (reading : A) → HasBytes limit file bytes → read bytes ≡ reading → ReadsAs read limit file reading
 reads_as read limit file bytes reading has is = subst (λ f. ReadsAs read limit f reading) (sym has.0) (has.1, is)
 
 pub policy_unread : (files after : FileState) (name : List ℕ) (status : Status) → FileRefused PolicyFile policy_limit files after name status → PolicyRefused files after name status
-policy_unread files after name (ReadFault PolicyFile) h = h.1
-policy_unread files after name (ReadFault file) h = let other = h.0 in cc
-policy_unread files after name (TooLong PolicyFile) h = h.1
-policy_unread files after name (TooLong file) h = let other = h.0 in cc
+policy_unread files after name (Refused (ReadFault PolicyFile)) h = h.1
+policy_unread files after name (Refused (ReadFault file)) h = let other = h.0 in cc
+policy_unread files after name (Refused (TooLong PolicyFile)) h = h.1
+policy_unread files after name (Refused (TooLong file)) h = let other = h.0 in cc
 policy_unread files after name NoMemory h = tt
 policy_unread files after name status h = absurd h
 
 pub script_unread : (files after : FileState) (name : List ℕ) (status : Status) → FileRefused ScriptFile script_limit files after name status → ScriptRefused files after name status
-script_unread files after name (ReadFault ScriptFile) h = h.1
-script_unread files after name (ReadFault file) h = let other = h.0 in cc
-script_unread files after name (TooLong ScriptFile) h = h.1
-script_unread files after name (TooLong file) h = let other = h.0 in cc
+script_unread files after name (Refused (ReadFault ScriptFile)) h = h.1
+script_unread files after name (Refused (ReadFault file)) h = let other = h.0 in cc
+script_unread files after name (Refused (TooLong ScriptFile)) h = h.1
+script_unread files after name (Refused (TooLong file)) h = let other = h.0 in cc
 script_unread files after name NoMemory h = tt
 script_unread files after name status h = absurd h
 
 pub report_unread : (files after : FileState) (name : List ℕ) (status : Status) → FileRefused ReportFile report_limit files after name status → ReportRefused files after name status
-report_unread files after name (ReadFault ReportFile) h = h.1
-report_unread files after name (ReadFault file) h = let other = h.0 in cc
-report_unread files after name (TooLong ReportFile) h = h.1
-report_unread files after name (TooLong file) h = let other = h.0 in cc
+report_unread files after name (Refused (ReadFault ReportFile)) h = h.1
+report_unread files after name (Refused (ReadFault file)) h = let other = h.0 in cc
+report_unread files after name (Refused (TooLong ReportFile)) h = h.1
+report_unread files after name (Refused (TooLong file)) h = let other = h.0 in cc
 report_unread files after name NoMemory h = tt
 report_unread files after name status h = absurd h
 
@@ -49,6 +53,9 @@ module _ (files mid after : FileState) (name : List ℕ) (same : SameFiles files
 
   pub script_is_before : (reading : Result Script ScriptError) → ScriptIs mid name reading → ScriptIs files name reading
   script_is_before reading h = λ t. subst (λ f. ReadsAs script_of script_limit f reading) bytes_before (h (same.tells ∙ t))
+
+  pub policy_is_before : (reading : Result Policy PolicyError) → PolicyIs mid name reading → PolicyIs files name reading
+  policy_is_before reading h = λ t. subst (λ f. ReadsAs policy_of policy_limit f reading) bytes_before (h (same.tells ∙ t))
 
   pub report_is_before : (bytes : List ℕ) → ReportIs mid name bytes → ReportIs files name bytes
   report_is_before bytes h = λ t. subst (λ f. HasBytes report_limit f bytes) bytes_before (h (same.tells ∙ t))
@@ -63,25 +70,32 @@ module _ (files mid after : FileState) (name : List ℕ) (same : SameFiles files
   cannot_before : CannotRead mid after name → CannotRead files after name
   cannot_before h = (then_rose files.faults mid.faults after.faults same.faults h.0, λ s. sym bytes_before ∙ h.1 (same.sound ∙ s))
 
+  policy_before : (status : Status) → PolicyRefused mid after name status → PolicyRefused files after name status
+  policy_before (Refused (ReadFault PolicyFile)) h = cannot_before h
+  policy_before (Refused (TooLong PolicyFile)) h = past_before policy_limit h
+  policy_before (Refused (BadPolicy error)) h = (policy_is_before (Err error) h.0, λ t. h.1 (same.tells ∙ t))
+  policy_before NoMemory h = tt
+  policy_before status h = absurd h
+
   pub script_before : (status : Status) → ScriptRefused mid after name status → ScriptRefused files after name status
-  script_before (ReadFault ScriptFile) h = cannot_before h
-  script_before (TooLong ScriptFile) h = past_before script_limit h
-  script_before (BadScript error) h = script_is_before (Err error) h
+  script_before (Refused (ReadFault ScriptFile)) h = cannot_before h
+  script_before (Refused (TooLong ScriptFile)) h = past_before script_limit h
+  script_before (Refused (BadScript error)) h = script_is_before (Err error) h
   script_before NoMemory h = tt
   script_before status h = absurd h
 
   pub report_before : (status : Status) → ReportRefused mid after name status → ReportRefused files after name status
-  report_before (ReadFault ReportFile) h = cannot_before h
-  report_before (TooLong ReportFile) h = past_before report_limit h
+  report_before (Refused (ReadFault ReportFile)) h = cannot_before h
+  report_before (Refused (TooLong ReportFile)) h = past_before report_limit h
   report_before NoMemory h = tt
   report_before status h = absurd h
 
 -- ---- The policy and the script
 
 pub policy_stops : (files after : FileState) (policy script : List ℕ) (status : Status) → PolicyRefused files after policy status → InputRefused files after policy script status
-policy_stops files after policy script (ReadFault PolicyFile) h = h
-policy_stops files after policy script (TooLong PolicyFile) h = h
-policy_stops files after policy script (BadPolicy error) h = h
+policy_stops files after policy script (Refused (ReadFault PolicyFile)) h = h
+policy_stops files after policy script (Refused (TooLong PolicyFile)) h = h
+policy_stops files after policy script (Refused (BadPolicy error)) h = h
 policy_stops files after policy script NoMemory h = tt
 policy_stops files after policy script status h = absurd h
 
@@ -90,8 +104,22 @@ pub script_stops : (files mid after : FileState) (policy script : List ℕ) (P :
 script_stops files mid after policy script P status same is h = by status (script_before files mid after script same status h)
   where
     by : (status : Status) → ScriptRefused files after script status → InputRefused files after policy script status
-    by (ReadFault ScriptFile) r = (P, is, r)
-    by (TooLong ScriptFile) r = (P, is, r)
-    by (BadScript error) r = (P, is, r)
+    by (Refused (ReadFault ScriptFile)) r = (P, is, r)
+    by (Refused (TooLong ScriptFile)) r = (P, is, r)
+    by (Refused (BadScript error)) r = (P, is, r)
     by NoMemory r = tt
     by status r = absurd r
+
+-- the same of files that others were read before
+pub input_before : (files mid after : FileState) (policy script : List ℕ) (refusal : Refusal) → SameFiles files mid → InputRefused mid after policy script (Refused refusal)
+    → InputRefused files after policy script (Refused refusal)
+input_before files mid after policy script (ReadFault PolicyFile) same h = policy_before files mid after policy same (Refused (ReadFault PolicyFile)) h
+input_before files mid after policy script (TooLong PolicyFile) same h = policy_before files mid after policy same (Refused (TooLong PolicyFile)) h
+input_before files mid after policy script (BadPolicy error) same h = policy_before files mid after policy same (Refused (BadPolicy error)) h
+input_before files mid after policy script (ReadFault ScriptFile) same h =
+    (h.0, policy_is_before files mid after policy same (Ok h.0) h.1, script_before files mid after script same (Refused (ReadFault ScriptFile)) h.2)
+input_before files mid after policy script (TooLong ScriptFile) same h =
+    (h.0, policy_is_before files mid after policy same (Ok h.0) h.1, script_before files mid after script same (Refused (TooLong ScriptFile)) h.2)
+input_before files mid after policy script (BadScript error) same h =
+    (h.0, policy_is_before files mid after policy same (Ok h.0) h.1, script_before files mid after script same (Refused (BadScript error)) h.2)
+input_before files mid after policy script refusal same h = absurd h

@@ -1,14 +1,9 @@
 -- How a run with threads ends.
--- By the law that every legal history is mediated, since the close is a step behind one that goes on, and by cases on the status.
-use Rattle.std.proofs.Common.{◌≡◌, ℕ, ◌<◌, ◌^◌, List, [], ◌∷◌, length, Result, Ok, Err, Some, inl, inr, refl, sym, subst, arith}
-use Rattle.hist_model.specs.Legal.{rules_of, system_of}
-use Rattle.hist_model.specs.Look.{ev}
+-- By what is known of a history that hands have served to its end, and by cases on the status.
+use Rattle.std.proofs.Common.{◌≡◌, ℕ, List, Result, Ok, Err, Some, inl, inr, refl, sym, subst}
 use Rattle.hist_model.specs.Report.{report}
 use Rattle.hist_model.specs.ReportAudit.{judging_by}
-use Rattle.hist_model.specs.Steps.{IsLegal, step}
-use Rattle.hist_model.specs.declared.event.Actor.TheVariants.{Listener}
 use Rattle.hist_model.specs.declared.event.Event.{Event}
-use Rattle.hist_model.specs.declared.event.What.TheVariants.{Close}
 use Rattle.hist_model.specs.declared.history.Setup.{Setup}
 use Rattle.hist_model.specs.declared.policy.Policy.{Policy}
 use Rattle.hist_model.specs.declared.script.Script.{Script}
@@ -16,43 +11,18 @@ use Rattle.io_edge.specs.FileState.{FileState}
 use Rattle.io_edge.specs.SinkState.{SinkState}
 use Rattle.lane_gate.specs.Keeping.{IsServedInLanes}
 use Rattle.lane_seats.specs.Lanes.{Laned}
-use Rattle.mediation.proofs.Mediation.{mediated}
-use Rattle.mediation.specs.Scheduled.{IsUnclosed}
-use Rattle.worker_gate.specs.Hands.{IsServedWhole}
+use Rattle.worker_gate.proofs.Endings.{has_ended}
+use Rattle.worker_gate.specs.Endings.{ClosesBehind}
 use Rattle.broker_app.specs.Answers.{Printed, status_of}
 use Rattle.broker_app.specs.Inputs.{PolicyIs, ScriptIs}
 use Rattle.broker_app.specs.Refusals.{InputRefused}
-use Rattle.broker_app.specs.Runs.{AreRun, ByLanes, ClosesBehind, Ending, HasEnded, RunEnds}
+use Rattle.broker_app.specs.Runs.{AreRun, ByLanes, Ending, RunEnds}
 use Rattle.broker_app.specs.declared.status.Status.{Status}
 use Rattle.broker_app.specs.declared.status.Status.TheVariants.{Done, NoMemory, WriteFault}
 
 -- ---- The history
 
--- the close is a step behind a legal history that isn't closed
-close_is_legal : (P : Policy) (S : Script) (K : List Event) → IsLegal (system_of S) (rules_of P S.figures) K → IsUnclosed K → IsLegal (system_of S) (rules_of P S.figures) (ev Listener Close ∷ K)
-unfolding step
-close_is_legal P S [] legal unclosed = absurd unclosed
-close_is_legal P S (f ∷ K) legal unclosed = ((unclosed, refl, refl, refl), legal)
-
--- so the hands' history ends with it
-pub has_ended : (P : Policy) (S : Script) (made : Setup) (workers : ℕ) (seen K H : List Event) → made ≡ record { policy = P; script = S; limit = Some workers } → IsServedWhole made workers seen → K ≡ seen
-    → ClosesBehind K H → HasEnded P S workers H
-has_ended P S made workers seen K H m whole k c =
-    let served = subst (λ (setup : Setup). IsServedWhole setup workers K) m (subst (λ (L : List Event). IsServedWhole made workers L) (sym k) whole) in
-    subst (λ (L : List Event). HasEnded P S workers L) (sym c.closed) (ended served (subst (λ (L : List Event). length L < 2 ^ 64) c.closed c.room))
-  where
-    ended : IsServedWhole (record { policy = P; script = S; limit = Some workers }) workers K → length (ev Listener Close ∷ K) < 2 ^ 64 → HasEnded P S workers (ev Listener Close ∷ K)
-    ended whole room =
-        let legal = close_is_legal P S K whole.rules.legal.0 c.unclosed in
-        record {
-          legal = (legal, room, omega arith);
-          no_skip = (refl, whole.rules.no_skip);
-          within = (tt, whole.rules.within);
-          ends = (K, refl, whole.finished);
-          mediated = mediated P S (ev Listener Close ∷ K) legal room;
-        }
-
--- and so does that of lanes' hands
+-- the history of lanes' hands ends with the close
 pub lanes_have_ended : (P : Policy) (S : Script) (made : Setup) (seen K H : List Event) → made ≡ record { policy = P; script = S; limit = Some 15 } → IsServedInLanes made seen → K ≡ seen → ClosesBehind K H → ByLanes P S H
 lanes_have_ended P S made seen K H m served k c =
     (has_ended P S made 15 seen K H m served.whole k c, subst (λ (L : List Event). Laned L) (sym c.closed) (tt, subst (λ (L : List Event). Laned L) (sym k) served.laned))

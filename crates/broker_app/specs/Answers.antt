@@ -1,5 +1,6 @@
 -- What the program's answer means: what it read, what it wrote, and why it stopped.
 use Rattle.std.specs.Prelude.{◌≡◌, ℕ, ◌≤◌, ◌++◌, true, List, Option, Some, None, Result, Ok, Err, ◌⊎◌}
+use Rattle.audit_log.specs.Tables.{TellsTables}
 use Rattle.handover.specs.Keeping.{all_handed}
 use Rattle.hist_model.specs.Legal.{played}
 use Rattle.hist_model.specs.Mediated.{Mediated}
@@ -7,6 +8,7 @@ use Rattle.hist_model.specs.Report.{report, summary}
 use Rattle.hist_model.specs.ReportAudit.{Judging, judging_by}
 use Rattle.hist_model.specs.declared.event.Event.{Event}
 use Rattle.hist_model.specs.declared.policy.Policy.{Policy}
+use Rattle.hist_model.specs.declared.policy.Rule.{Rule}
 use Rattle.hist_model.specs.declared.script.Script.{Script}
 use Rattle.io_edge.specs.Faults.{Rose}
 use Rattle.io_edge.specs.FileState.{FileState}
@@ -14,12 +16,14 @@ use Rattle.io_edge.specs.SinkState.{SinkState, AddsPrefix}
 use Rattle.generated_input.specs.GeneratedPolicy.{generated_policy}
 use Rattle.generated_input.specs.GeneratedScript.{generated_script}
 use Rattle.broker_app.specs.Checks.{CheckEnds}
+use Rattle.broker_app.specs.Explorations.{ExploreEnds}
 use Rattle.broker_app.specs.Findings.{findings}
 use Rattle.broker_app.specs.Handovers.{handover_report, handovers}
 use Rattle.broker_app.specs.Plays.{PlayEnds, report_of}
+use Rattle.broker_app.specs.Pods.{PodEnds}
 use Rattle.broker_app.specs.Refusals.{Stands, TookNothing}
 use Rattle.broker_app.specs.Runs.{ByLanes, ByWorkers, RunEnds}
-use Rattle.broker_app.specs.Words.{Form, AuditCheck, Handover, Lanes, Play, Run, Stress}
+use Rattle.broker_app.specs.Words.{Form, AuditCheck, Explore, Handover, Lanes, Play, Pod, Run, Stress}
 use Rattle.broker_app.specs.declared.printing.Printout.{Printout}
 use Rattle.broker_app.specs.declared.printing.Printout.TheVariants.{Report, Handovers, Summary, Findings}
 use Rattle.broker_app.specs.declared.status.Status.{Status}
@@ -32,7 +36,12 @@ abbrev pub text_of : Printout → Judging → List Event → List ℕ
 text_of Report J H = report J H
 text_of (Handovers handed) J H = report J H ++ handovers (all_handed handed.now)
 text_of Summary J H = summary J H
-text_of (Findings finished) J H = findings J H finished
+text_of (Findings finished tables) J H = findings J H finished
+
+-- the tables by which it is printed, if it has some, tell of the history under these rules
+abbrev pub IsPrintable : Printout → List Rule → List Event → Type 0
+IsPrintable (Findings finished tables) rules H = TellsTables rules H tables.now
+IsPrintable _ rules H = Unit {0}
 
 -- that of the history that a policy and a script play
 abbrev pub printout_of : Printout → Policy → Script → List ℕ
@@ -86,6 +95,8 @@ Answers (Some (Run policy script workers cpus)) files after old new status = Run
 Answers (Some (Lanes policy script cpus)) files after old new status = RunEnds files after old new policy script ByLanes status
 Answers (Some (AuditCheck policy script report)) files after old new status = CheckEnds files after old new policy script report status
 Answers (Some (Handover policy script every)) files after old new status = PlayEnds files after old new policy script (handover_report every) status
+Answers (Some (Pod workers cpus pairs)) files after old new status = PodEnds files after old new workers pairs status
+Answers (Some (Explore policy script workers delays)) files after old new status = ExploreEnds files after old new policy script workers delays status
 
 -- the status that an outcome is
 abbrev pub status_of : Result (Unit {0}) Status → Status

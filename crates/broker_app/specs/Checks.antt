@@ -15,8 +15,9 @@ use Rattle.broker_app.specs.Findings.{findings}
 use Rattle.broker_app.specs.Inputs.{PolicyIs, ReportIs, ScriptIs}
 use Rattle.broker_app.specs.Refusals.{InputRefused, OnlyScript, Stands, TookNothing}
 use Rattle.broker_app.specs.declared.status.InputFile.TheVariants.{Report as ReportFile}
+use Rattle.broker_app.specs.declared.status.Refusal.TheVariants.{ReadFault, TooLong}
 use Rattle.broker_app.specs.declared.status.Status.{Status}
-use Rattle.broker_app.specs.declared.status.Status.TheVariants.{Done, ReadFault, TooLong, WriteFault, NoMemory, NotReport}
+use Rattle.broker_app.specs.declared.status.Status.TheVariants.{Done, Refused, WriteFault, NoMemory, NotReport}
 
 -- ---- What was found
 
@@ -68,6 +69,6 @@ CheckEnds files after old new policy script report Done = ReadCheckEnds files ol
 CheckEnds files after old new policy script report WriteFault = ReadCheckEnds files old new policy script report WriteFault
 CheckEnds files after old new policy script report NoMemory = TookNothing old new ⊎ ReadCheckEnds files old new policy script report NoMemory
 CheckEnds files after old new policy script report (NotReport line) = ReadCheckEnds files old new policy script report (NotReport line)
-CheckEnds files after old new policy script report (ReadFault ReportFile) = OnlyScript files after policy script report (ReadFault ReportFile) × TookNothing old new
-CheckEnds files after old new policy script report (TooLong ReportFile) = OnlyScript files after policy script report (TooLong ReportFile) × TookNothing old new
+CheckEnds files after old new policy script report (Refused (ReadFault ReportFile)) = OnlyScript files after policy script report (Refused (ReadFault ReportFile)) × TookNothing old new
+CheckEnds files after old new policy script report (Refused (TooLong ReportFile)) = OnlyScript files after policy script report (Refused (TooLong ReportFile)) × TookNothing old new
 CheckEnds files after old new policy script report status = InputRefused files after policy script status × TookNothing old new

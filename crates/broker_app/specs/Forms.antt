@@ -1,12 +1,12 @@
 -- The forms of words, as the program's code has them.
-use Rattle.std.specs.Prelude.{ℕ, ◌<◌, ◌≤◌, List, map, String}
+use Rattle.std.specs.Prelude.{◌≡◌, ℕ, ◌<◌, ◌≤◌, true, List, length, map, String}
 use Rattle.std.specs.String.{string_bytes}
 use Rattle.std.specs.declared.alloc.Global.{Global}
-use Rattle.broker_app.specs.Words.{Form as Meaning, AuditCheck as Checks, Handover as Hands, Lanes as RunsByLanes, Play as Plays, Run as Runs, Stress as Stresses}
+use Rattle.broker_app.specs.Words.{Form as Meaning, AuditCheck as Checks, Explore as Explores, Handover as Hands, Lanes as RunsByLanes, Play as Plays, Pod as ServesPod, Run as Runs, Stress as Stresses, are_pairs, in_pairs}
 use Rattle.broker_app.specs.declared.words.Form.{Form}
-use Rattle.broker_app.specs.declared.words.Form.TheVariants.{Job as IsJob, Lanes, Run}
+use Rattle.broker_app.specs.declared.words.Form.TheVariants.{Job as IsJob, Lanes, Pod, Run}
 use Rattle.broker_app.specs.declared.words.Job.{Job}
-use Rattle.broker_app.specs.declared.words.Job.TheVariants.{AuditCheck, Handover, Play, Stress}
+use Rattle.broker_app.specs.declared.words.Job.TheVariants.{AuditCheck, Explore, Handover, Play, Stress}
 
 -- the bytes of the words
 abbrev pub texts : List (String Global) → List (List ℕ)
@@ -18,21 +18,25 @@ job_of (Play policy script) = Plays policy.now script.now
 job_of (Stress from count) = Stresses from count
 job_of (AuditCheck policy script report) = Checks policy.now script.now report.now
 job_of (Handover policy script every) = Hands policy.now script.now every
+job_of (Explore policy script workers delays) = Explores policy.now script.now workers delays
 
 -- the form that the words have
 abbrev pub form_of : Form → Meaning
 form_of (IsJob job) = job_of job
 form_of (Run policy script workers cpus) = Runs policy.now script.now workers cpus
 form_of (Lanes policy script cpus) = RunsByLanes policy.now script.now cpus
+form_of (Pod workers cpus pairs) = ServesPod workers cpus (in_pairs (texts pairs.now))
 
--- generated input has at most 4000 calls, and a worker is replaced after one step at the earliest
+-- generated input has at most 4000 calls, a worker is replaced after one step at the earliest, and the workers of what is explored are 0 to 15 at most
 abbrev pub IsJobInRange : Job → Type 0
 IsJobInRange (Stress from count) = count ≤ 4000
 IsJobInRange (Handover policy script every) = 0 < every
+IsJobInRange (Explore policy script workers delays) = workers ≤ 15
 IsJobInRange _ = Unit {0}
 
--- and a run has at most 16 hands of either kind beside the calling one
+-- a run has at most 16 hands of either kind beside the calling one, and so has a pod, whose words name pairs of files
 abbrev pub IsInRange : Form → Type 0
 IsInRange (IsJob job) = IsJobInRange job
 IsInRange (Run policy script workers cpus) = (workers ≤ 16) × (cpus ≤ 16)
 IsInRange (Lanes policy script cpus) = cpus ≤ 16
+IsInRange (Pod workers cpus pairs) = (workers ≤ 16) × (cpus ≤ 16) × (are_pairs (length pairs.now) ≡ true)

@@ -8,4 +8,7 @@ pub mod Checks
 pub mod Runs
 pub mod Plays
 pub mod Handovers
+pub mod PodText
+pub mod Pods
+pub mod Explorations
 pub mod Answers

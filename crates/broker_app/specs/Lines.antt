@@ -10,19 +10,26 @@ use Rattle.script_reader.specs.declared.error.ScriptError.{ScriptError}
 use Rattle.script_reader.specs.declared.error.ScriptError.TheVariants.{BadLine, TooLarge}
 use Rattle.broker_app.specs.declared.status.InputFile.{InputFile}
 use Rattle.broker_app.specs.declared.status.InputFile.TheVariants.{Policy as PolicyFile, Script as ScriptFile, Report as ReportFile}
+use Rattle.broker_app.specs.declared.status.Refusal.{Refusal}
+use Rattle.broker_app.specs.declared.status.Refusal.TheVariants.{ReadFault, TooLong, BadPolicy, BadScript}
 use Rattle.broker_app.specs.declared.status.Status.{Status}
-use Rattle.broker_app.specs.declared.status.Status.TheVariants.{Done, Usage, ReadFault, TooLong, BadPolicy, BadScript, WriteFault, NoMemory, NotReport}
+use Rattle.broker_app.specs.declared.status.Status.TheVariants.{Done, Usage, Refused, ContainerRefused, WriteFault, NoMemory, NotReport, PidsOverlap}
+
+abbrev pub code_of_refusal : Refusal → ℕ
+code_of_refusal (ReadFault file) = 2
+code_of_refusal (TooLong file) = 3
+code_of_refusal (BadPolicy error) = 4
+code_of_refusal (BadScript error) = 5
 
 abbrev pub code_of : Status → ℕ
 code_of Done = 0
 code_of Usage = 1
-code_of (ReadFault file) = 2
-code_of (TooLong file) = 3
-code_of (BadPolicy error) = 4
-code_of (BadScript error) = 5
+code_of (Refused refusal) = code_of_refusal refusal
+code_of (ContainerRefused container refusal) = code_of_refusal refusal
 code_of WriteFault = 6
 code_of NoMemory = 7
 code_of (NotReport line) = 9
+code_of (PidsOverlap first second) = 10
 
 -- the name of a file in a line, with the byte that ends the line
 abbrev pub file_named : InputFile → List ℕ
@@ -64,16 +71,30 @@ abbrev pub script_line : ScriptError → List ℕ
 script_line (BadLine number reason) = script_line_of number (reason_text reason)
 script_line (TooLarge number) = script_line_of number (codes "too large")
 
+-- why a file wasn't taken
+abbrev pub refusal_line : Refusal → List ℕ
+refusal_line (ReadFault file) = codes "read fault: " ++ file_named file
+refusal_line (TooLong file) = codes "too long: " ++ file_named file
+refusal_line (BadPolicy error) = policy_line error
+refusal_line (BadScript error) = script_line error
+
+-- of which container the file is
+abbrev pub container_front : ℕ → List ℕ
+container_front container = codes "container " ++ (decimal container ++ codes ": ")
+
+-- which containers have ranges of PIDs that overlap
+abbrev pub overlap_line : ℕ → ℕ → List ℕ
+overlap_line first second = (codes "pod: pids overlap: " ++ decimal first) ++ (codes " " ++ (decimal second ++ codes "\n"))
+
 abbrev pub line_of : Status → List ℕ
 line_of Done = []
-line_of Usage = codes "usage: play POLICY SCRIPT | run POLICY SCRIPT WORKERS CPUS | stress FROM COUNT | audit-check POLICY SCRIPT REPORT | lanes POLICY SCRIPT CPUS | handover POLICY SCRIPT EVERY\n"
-line_of (ReadFault file) = codes "read fault: " ++ file_named file
-line_of (TooLong file) = codes "too long: " ++ file_named file
-line_of (BadPolicy error) = policy_line error
-line_of (BadScript error) = script_line error
+line_of Usage = codes "usage: play POLICY SCRIPT | run POLICY SCRIPT WORKERS CPUS | stress FROM COUNT | audit-check POLICY SCRIPT REPORT | lanes POLICY SCRIPT CPUS | handover POLICY SCRIPT EVERY | pod WORKERS CPUS POLICY SCRIPT .. | explore POLICY SCRIPT WORKERS DELAYS\n"
+line_of (Refused refusal) = refusal_line refusal
+line_of (ContainerRefused container refusal) = container_front container ++ refusal_line refusal
 line_of WriteFault = codes "write fault\n"
 line_of NoMemory = codes "no memory\n"
 line_of (NotReport line) = codes "report: line " ++ (decimal line ++ codes "\n")
+line_of (PidsOverlap first second) = overlap_line first second
 
 abbrev pub status_of_report : ReportError → Status
 status_of_report CannotWrite = WriteFault

@@ -8,8 +8,9 @@ use Rattle.io_edge.specs.SinkState.{SinkState}
 use Rattle.broker_app.specs.Inputs.{PolicyIs, ScriptIs, policy_limit, script_limit, report_limit}
 use Rattle.broker_app.specs.declared.status.InputFile.{InputFile}
 use Rattle.broker_app.specs.declared.status.InputFile.TheVariants.{Policy as PolicyFile, Script as ScriptFile, Report as ReportFile}
+use Rattle.broker_app.specs.declared.status.Refusal.TheVariants.{ReadFault, TooLong, BadPolicy, BadScript}
 use Rattle.broker_app.specs.declared.status.Status.{Status}
-use Rattle.broker_app.specs.declared.status.Status.TheVariants.{ReadFault, TooLong, BadPolicy, BadScript, NoMemory}
+use Rattle.broker_app.specs.declared.status.Status.TheVariants.{Refused, NoMemory}
 
 -- ---- What was printed
 
@@ -33,24 +34,24 @@ OpenedLast files after name = files.tells ≡ true → after.current ≡ Some na
 
 -- why the bytes of a file weren't read: this file's, of which there may be so many
 abbrev pub FileRefused : InputFile → ℕ → FileState → FileState → List ℕ → Status → Type 0
-FileRefused file limit files after name (ReadFault which) = (which ≡ file) × CannotRead files after name
-FileRefused file limit files after name (TooLong which) = (which ≡ file) × ReadsPast limit files name after
+FileRefused file limit files after name (Refused (ReadFault which)) = (which ≡ file) × CannotRead files after name
+FileRefused file limit files after name (Refused (TooLong which)) = (which ≡ file) × ReadsPast limit files name after
 FileRefused file limit files after name NoMemory = Unit {0}
 FileRefused file limit files after name _ = ⊥
 
 -- why the policy wasn't taken
 abbrev pub PolicyRefused : FileState → FileState → List ℕ → Status → Type 0
-PolicyRefused files after policy (ReadFault PolicyFile) = CannotRead files after policy
-PolicyRefused files after policy (TooLong PolicyFile) = ReadsPast policy_limit files policy after
-PolicyRefused files after policy (BadPolicy error) = PolicyIs files policy (Err error) × OpenedLast files after policy
+PolicyRefused files after policy (Refused (ReadFault PolicyFile)) = CannotRead files after policy
+PolicyRefused files after policy (Refused (TooLong PolicyFile)) = ReadsPast policy_limit files policy after
+PolicyRefused files after policy (Refused (BadPolicy error)) = PolicyIs files policy (Err error) × OpenedLast files after policy
 PolicyRefused files after policy NoMemory = Unit {0}
 PolicyRefused files after policy _ = ⊥
 
 -- why the script wasn't taken
 abbrev pub ScriptRefused : FileState → FileState → List ℕ → Status → Type 0
-ScriptRefused files after script (ReadFault ScriptFile) = CannotRead files after script
-ScriptRefused files after script (TooLong ScriptFile) = ReadsPast script_limit files script after
-ScriptRefused files after script (BadScript error) = ScriptIs files script (Err error)
+ScriptRefused files after script (Refused (ReadFault ScriptFile)) = CannotRead files after script
+ScriptRefused files after script (Refused (TooLong ScriptFile)) = ReadsPast script_limit files script after
+ScriptRefused files after script (Refused (BadScript error)) = ScriptIs files script (Err error)
 ScriptRefused files after script NoMemory = Unit {0}
 ScriptRefused files after script _ = ⊥
 
@@ -60,8 +61,8 @@ OnlyPolicy files after policy script status = (P : Policy) × PolicyIs files pol
 
 -- why the report wasn't taken
 abbrev pub ReportRefused : FileState → FileState → List ℕ → Status → Type 0
-ReportRefused files after report (ReadFault ReportFile) = CannotRead files after report
-ReportRefused files after report (TooLong ReportFile) = ReadsPast report_limit files report after
+ReportRefused files after report (Refused (ReadFault ReportFile)) = CannotRead files after report
+ReportRefused files after report (Refused (TooLong ReportFile)) = ReadsPast report_limit files report after
 ReportRefused files after report NoMemory = Unit {0}
 ReportRefused files after report _ = ⊥
 
@@ -71,11 +72,11 @@ OnlyScript files after policy script report status = (P : Policy) × (S : Script
 
 -- why the policy and the script weren't both taken
 abbrev pub InputRefused : FileState → FileState → List ℕ → List ℕ → Status → Type 0
-InputRefused files after policy script (ReadFault PolicyFile) = PolicyRefused files after policy (ReadFault PolicyFile)
-InputRefused files after policy script (TooLong PolicyFile) = PolicyRefused files after policy (TooLong PolicyFile)
-InputRefused files after policy script (BadPolicy error) = PolicyRefused files after policy (BadPolicy error)
-InputRefused files after policy script (ReadFault ScriptFile) = OnlyPolicy files after policy script (ReadFault ScriptFile)
-InputRefused files after policy script (TooLong ScriptFile) = OnlyPolicy files after policy script (TooLong ScriptFile)
-InputRefused files after policy script (BadScript error) = OnlyPolicy files after policy script (BadScript error)
+InputRefused files after policy script (Refused (ReadFault PolicyFile)) = PolicyRefused files after policy (Refused (ReadFault PolicyFile))
+InputRefused files after policy script (Refused (TooLong PolicyFile)) = PolicyRefused files after policy (Refused (TooLong PolicyFile))
+InputRefused files after policy script (Refused (BadPolicy error)) = PolicyRefused files after policy (Refused (BadPolicy error))
+InputRefused files after policy script (Refused (ReadFault ScriptFile)) = OnlyPolicy files after policy script (Refused (ReadFault ScriptFile))
+InputRefused files after policy script (Refused (TooLong ScriptFile)) = OnlyPolicy files after policy script (Refused (TooLong ScriptFile))
+InputRefused files after policy script (Refused (BadScript error)) = OnlyPolicy files after policy script (Refused (BadScript error))
 InputRefused files after policy script NoMemory = Unit {0}
 InputRefused files after policy script _ = ⊥

@@ -1,44 +1,21 @@
 -- What the answer of a run with threads means, with workers or by lanes: which history is printed, and why it stopped.
-use Rattle.std.specs.Prelude.{◌≡◌, ℕ, ◌<◌, ◌^◌, ◌++◌, ◌∷◌, ◌⊎◌, true, List, length, Ok}
-use Rattle.hist_model.specs.Legal.{Finished, Legal, NoSkip, NoWorkerAbove}
-use Rattle.hist_model.specs.Look.{ev}
-use Rattle.hist_model.specs.Mediated.{Mediated}
+use Rattle.std.specs.Prelude.{◌≡◌, ℕ, ◌++◌, ◌⊎◌, true, List, Ok}
 use Rattle.hist_model.specs.Report.{report}
 use Rattle.hist_model.specs.ReportAudit.{judging_by}
-use Rattle.hist_model.specs.declared.event.Actor.TheVariants.{Listener}
 use Rattle.hist_model.specs.declared.event.Event.{Event}
-use Rattle.hist_model.specs.declared.event.What.TheVariants.{Close}
 use Rattle.hist_model.specs.declared.policy.Policy.{Policy}
 use Rattle.hist_model.specs.declared.script.Script.{Script}
 use Rattle.io_edge.specs.Faults.{Rose}
 use Rattle.io_edge.specs.FileState.{FileState}
 use Rattle.io_edge.specs.SinkState.{SinkState, AddsPrefix}
 use Rattle.lane_seats.specs.Lanes.{Laned}
-use Rattle.mediation.specs.Scheduled.{IsUnclosed}
+use Rattle.worker_gate.specs.Endings.{HasEnded}
 use Rattle.broker_app.specs.Inputs.{PolicyIs, ScriptIs}
 use Rattle.broker_app.specs.Refusals.{InputRefused, Stands, TookNothing}
 use Rattle.broker_app.specs.declared.status.Status.{Status}
 use Rattle.broker_app.specs.declared.status.Status.TheVariants.{Done, WriteFault, NoMemory}
 
 -- ---- The history
-
--- a history that isn't closed, and the same with the close of the listener
-pub record ClosesBehind (K H : List Event) : Type 0 where
-  pub unclosed : IsUnclosed K
-  pub closed : H ≡ ev Listener Close ∷ K
-  pub room : length H < 2 ^ 64
-
--- the history is a finished one, behind which the listener is closed
-abbrev pub ClosesFinished : List Event → Type 0
-ClosesFinished H = (K : List Event) × (H ≡ ev Listener Close ∷ K) × Finished K
-
--- the container was served to its end: by a legal history, in which every turn is a step, and no worker above this one steps
-pub record HasEnded (P : Policy) (S : Script) (workers : ℕ) (H : List Event) : Type 0 where
-  pub legal : Legal P S H
-  pub no_skip : NoSkip H
-  pub within : NoWorkerAbove workers H
-  pub ends : ClosesFinished H
-  pub mediated : Mediated P S H
 
 -- it was served by workers up to this one
 abbrev pub ByWorkers : ℕ → Policy → Script → List Event → Type 0

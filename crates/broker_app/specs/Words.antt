@@ -1,8 +1,15 @@
 -- The words with which the program is called, and the forms that they may have.
-use Rattle.std.specs.Prelude.{ℕ, ◌-◌, ◌^◌, if◌then◌else◌, List, [], ◌∷◌, Option, Some, None, bytes_eq, codes}
+use Rattle.std.specs.Prelude.{ℕ, ◌-◌, ◌^◌, ◌&&◌, ◌%◌, ◌==◌, Bool, if◌then◌else◌, nat_le, List, [], ◌∷◌, length, Option, Some, None, bytes_eq, codes}
+use Rattle.std.specs.Option.{option_map}
 use Rattle.hist_model.specs.Words.{number_between}
 
--- play a script, run it with threads or by lanes, play generated input, check a report, or play a script with workers that are replaced
+-- the names of a policy's and a script's files
+pub record FilePair : Type 0 where
+  pub policy : List ℕ
+  pub script : List ℕ
+
+-- play a script, run it with threads or by lanes, play generated input, check a report, play a script with workers that are replaced, serve
+-- containers side by side, or explore a script's histories
 pub data Form : Type 0 where
   Play : List ℕ → List ℕ → Form
   Run : List ℕ → List ℕ → ℕ → ℕ → Form
@@ -10,6 +17,8 @@ pub data Form : Type 0 where
   Stress : ℕ → ℕ → Form
   AuditCheck : List ℕ → List ℕ → List ℕ → Form
   Handover : List ℕ → List ℕ → ℕ → Form
+  Pod : ℕ → ℕ → List FilePair → Form
+  Explore : List ℕ → List ℕ → ℕ → Option ℕ → Form
 
 abbrev pub run_form : List ℕ → List ℕ → Option ℕ → Option ℕ → Option Form
 run_form policy script (Some workers) (Some cpus) = Some (Run policy script workers cpus)
@@ -22,6 +31,27 @@ lanes_form policy script None = None
 abbrev pub handover_form : List ℕ → List ℕ → Option ℕ → Option Form
 handover_form policy script (Some every) = Some (Handover policy script every)
 handover_form policy script None = None
+
+-- the names of 1 to 8 pairs of files
+abbrev pub are_pairs : ℕ → Bool
+are_pairs count = nat_le 2 count && nat_le count 16 && (count % 2 == 0)
+
+-- names, two and two
+abbrev pub in_pairs : List (List ℕ) → List FilePair
+in_pairs (policy ∷ script ∷ more) = record { policy = policy; script = script } ∷ in_pairs more
+in_pairs _ = []
+
+abbrev pub pod_form : Option ℕ → Option ℕ → List (List ℕ) → Option Form
+pod_form (Some workers) (Some cpus) names = if are_pairs (length names) then Some (Pod workers cpus (in_pairs names)) else None
+pod_form workers cpus names = None
+
+-- a bound of delays, or none where all are asked for; nothing where the word is neither
+abbrev pub delays_of : List ℕ → Option (Option ℕ)
+delays_of word = if bytes_eq word (codes "all") then Some None else option_map Some (number_between 0 8 word)
+
+abbrev pub explore_form : List ℕ → List ℕ → Option ℕ → Option (Option ℕ) → Option Form
+explore_form policy script (Some workers) (Some delays) = Some (Explore policy script workers delays)
+explore_form policy script _ _ = None
 
 abbrev pub stress_form : Option ℕ → Option ℕ → Option Form
 stress_form (Some from) (Some count) = Some (Stress from count)
@@ -39,12 +69,20 @@ four_words command a b c =
     else (if bytes_eq command (codes "handover") then handover_form a b (number_between 1 200000 c) else None))
 
 abbrev pub five_words : List ℕ → List ℕ → List ℕ → List ℕ → List ℕ → Option Form
-five_words command a b c d = if bytes_eq command (codes "run") then run_form a b (number_between 0 16 c) (number_between 0 16 d) else None
+five_words command a b c d =
+    if bytes_eq command (codes "run") then run_form a b (number_between 0 16 c) (number_between 0 16 d)
+    else (if bytes_eq command (codes "explore") then explore_form a b (number_between 0 15 c) (delays_of d) else None)
 
--- the form of the words: play POLICY SCRIPT, stress FROM COUNT, audit-check POLICY SCRIPT REPORT, lanes POLICY SCRIPT CPUS,
--- handover POLICY SCRIPT EVERY, or run POLICY SCRIPT WORKERS CPUS
+-- the form of three to five words: play POLICY SCRIPT, stress FROM COUNT, audit-check POLICY SCRIPT REPORT, lanes POLICY SCRIPT CPUS,
+-- handover POLICY SCRIPT EVERY, run POLICY SCRIPT WORKERS CPUS, or explore POLICY SCRIPT WORKERS DELAYS
+abbrev pub few_words : List (List ℕ) → Option Form
+few_words (command ∷ a ∷ b ∷ []) = three_words command a b
+few_words (command ∷ a ∷ b ∷ c ∷ []) = four_words command a b c
+few_words (command ∷ a ∷ b ∷ c ∷ d ∷ []) = five_words command a b c d
+few_words _ = None
+
+-- the form of the words: pod WORKERS CPUS POLICY SCRIPT .., with 1 to 8 pairs of files, or one of fewer words
 abbrev pub form : List (List ℕ) → Option Form
-form (command ∷ a ∷ b ∷ []) = three_words command a b
-form (command ∷ a ∷ b ∷ c ∷ []) = four_words command a b c
-form (command ∷ a ∷ b ∷ c ∷ d ∷ []) = five_words command a b c d
-form _ = None
+form (command ∷ a ∷ b ∷ more) =
+    if bytes_eq command (codes "pod") then pod_form (number_between 0 16 a) (number_between 0 16 b) more else few_words (command ∷ a ∷ b ∷ more)
+form words = None

@@ -5,22 +5,29 @@ ghost use Rattle.audit_check.specs.Reported.{IsUnique};
 ghost use Rattle.hist_model.specs.Legal.{played};
 ghost use Rattle.hist_model.specs.Mediated.{Mediated};
 ghost use Rattle.hist_model.specs.ReportAudit.{judging_by};
-ghost use Rattle.broker_app.specs.Words.{form};
+ghost use Rattle.hist_model.specs.declared.event.Event.{Event};
+ghost use Rattle.broker_app.specs.Words.{are_pairs, form, in_pairs};
 ghost use Rattle.hist_model.specs.declared.script.Script.{Script};
 ghost use Rattle.std.specs.Option.{option_map};
 ghost use Rattle.broker_app.specs.Forms.{IsJobInRange, IsInRange, form_of, job_of, texts};
-ghost use Rattle.broker_app.specs.Answers.{Answers, GeneratedIsMediated, Printed, Said, StressEnds, generated_summary, printout_of, status_of, text_of};
+ghost use Rattle.broker_app.specs.Answers.{Answers, GeneratedIsMediated, IsPrintable, Printed, Said, StressEnds, generated_summary, printout_of, status_of, text_of};
 ghost use Rattle.broker_app.specs.Handovers.{handover_report};
 ghost use Rattle.broker_app.specs.Plays.{PlayEnds, report_of};
 ghost use Rattle.broker_app.specs.Checks.{BytesCheckEnds, CheckEnds};
 ghost use Rattle.broker_app.specs.Lines.{line_of};
+ghost use Rattle.broker_app.specs.Pods.{PodEnds};
+ghost use Rattle.broker_app.specs.PodText.{pod_text};
 ghost use Rattle.broker_app.specs.Runs.{ByLanes, ByWorkers, RunEnds};
 ghost use Rattle.broker_app.specs.declared.status.InputFile.TheVariants.{Policy as PolicyFile};
-ghost use Rattle.broker_app.specs.declared.status.Status.TheVariants.{ReadFault};
+ghost use Rattle.broker_app.specs.declared.status.Refusal.TheVariants.{ReadFault};
+ghost use Rattle.broker_app.specs.declared.status.Status.TheVariants.{Refused};
 
+use crate::exploring::explore_files;
 use crate::inputs::{read_inputs, read_report};
 use crate::lines::say;
 use crate::players::{Player, TurnTaker, run_container, run_container_by_lanes};
+use crate::pod_printing::print_pod;
+use crate::pods::{read_containers, see_ranges};
 use crate::printing::{Printout, print_history};
 use crate::status::Status;
 use crate::words::{Form, Job, read_form};
@@ -32,10 +39,11 @@ use hist_model::policy::Policy;
 use hist_model::script::Script;
 use io_edge::files::Files;
 use io_edge::sink::Sink;
+use pod_broker::{OpenPod, serve_pod};
 use std::alloc::Global;
 use std::sync::Wait;
 use std::thread::Threads;
-use worker_gate::Gate;
+use worker_gate::{Gate, Played};
 
 /// Prints what is asked of a history.
 #[tactic(auto, using(crate::proofs::Ends::printed_whole, crate::proofs::Ends::printed_part))]
@@ -46,9 +54,19 @@ fn print_text<O: Sink>(
     history: &History,
     out: &mut O,
 ) -> Result<(), Status>
+    requires { IsPrintable printout policy.now.rules history.now.events }
     ensures { Printed (text_of printout.entry (judging_by policy.now.rules) history.now.events) (O.state out.old) (O.state out.new) result }
 {
     print_history(alloc, printout, policy, history, out)?;
+    Ok(())
+}
+
+/// Prints the reports of containers that were served side by side, and the sums of their summaries.
+#[tactic(auto, using(crate::proofs::Ends::printed_whole, crate::proofs::Ends::printed_part))]
+fn print_containers<O: Sink>(alloc: Global, ended: &[Played], out: &mut O) -> Result<(), Status>
+    ensures { Printed (pod_text ended.now) (O.state out.old) (O.state out.new) result }
+{
+    print_pod(alloc, ended, out)?;
     Ok(())
 }
 
@@ -62,10 +80,13 @@ fn print_played<P: Player, O: Sink>(
     script: Script,
     out: &mut O,
 ) -> Result<(), Status>
+    requires { (H : List Event) → IsPrintable printout policy.rules H }
     ensures { Printed (printout_of printout.entry policy script) (O.state out.old) (O.state out.new) result }
 {
     let played = player.play(alloc, policy, script)?;
-    print_text(alloc, printout, &played.policy, &played.history, out)
+    let printed = print_text(alloc, printout, &played.policy, &played.history, out);
+    player.let_go(played);
+    printed
 }
 
 /// What a script plays under a policy is mediated.
@@ -125,7 +146,7 @@ fn play_files<P: Player, F: Files, O: Sink>(
     out: &mut O,
 ) -> Result<(), Status>
     ensures ends { PlayEnds (F.state files.old) (F.state files.new) (O.state out.old) (O.state out.new) policy.now script.now report_of (status_of result) }
-    ensures absent { (F.state files.old).sound ≡ true → (F.state files.old).bytes policy.now ≡ None → result ≡ Err (ReadFault PolicyFile) }
+    ensures absent { (F.state files.old).sound ≡ true → (F.state files.old).bytes policy.now ≡ None → result ≡ Err (Refused (ReadFault PolicyFile)) }
 {
     let (policy, script) = read_inputs(alloc, files, policy, script)?;
     is_mediated(&policy, &script);
@@ -148,7 +169,9 @@ fn print_handed_play<P: Player, O: Sink>(
     let printout = Printout::Handovers {
         handed: played.handed.as_slice(),
     };
-    print_text(alloc, printout, &played.policy, &played.history, out)
+    let printed = print_text(alloc, printout, &played.policy, &played.history, out);
+    player.let_go(played);
+    printed
 }
 
 /// Plays the script in one file under the policy in another with workers that are replaced, and writes the report and the ledgers.
@@ -179,7 +202,8 @@ fn is_unique(policy: &Policy)
 
 /// Checks the bytes of a report, and prints what is found of the history that it tells.
 #[tactic(auto, using(crate::proofs::Checks::found_ends, crate::proofs::Checks::not_found_ends))]
-fn check_bytes<O: Sink>(
+fn check_bytes<P: Player, O: Sink>(
+    player: &P,
     alloc: Global,
     policy: &Policy,
     script: Script,
@@ -191,20 +215,28 @@ fn check_bytes<O: Sink>(
 {
     is_unique(policy);
     match check_report(alloc, policy, script, report)? {
-        Found::Yes { history, finished } => print_text(
-            alloc,
-            Printout::Findings { finished },
-            policy,
-            &history,
-            out,
-        ),
+        Found::Yes {
+            history,
+            finished,
+            tables,
+        } => {
+            let printout = Printout::Findings {
+                finished,
+                tables: &tables,
+            };
+            let printed = print_text(alloc, printout, policy, &history, out);
+            player.let_go(tables);
+            player.let_go(history);
+            printed
+        }
         Found::No { line } => Err(Status::NotReport { line }),
     }
 }
 
 /// Checks the report of a file under the policy and the script of two others, and prints what is found.
 #[tactic(auto, using(crate::proofs::Checks::check_stops, crate::proofs::Checks::report_stops, crate::proofs::Checks::read_ends))]
-fn check_files<F: Files, O: Sink>(
+fn check_files<P: Player, F: Files, O: Sink>(
+    player: &P,
     alloc: Global,
     files: &mut F,
     policy: &str,
@@ -216,7 +248,7 @@ fn check_files<F: Files, O: Sink>(
 {
     let (policy, script) = read_inputs(alloc, files, policy, script)?;
     let report = read_report(alloc, files, report)?;
-    check_bytes(alloc, &policy, script, report.as_slice(), out)
+    check_bytes(player, alloc, &policy, script, report.as_slice(), out)
 }
 
 /// Does a job; none is a usage error.
@@ -240,7 +272,7 @@ fn answer<P: Player, F: Files, O: Sink>(
                 script,
                 report,
             },
-        ) => check_files(alloc, files, policy, script, report, out),
+        ) => check_files(player, alloc, files, policy, script, report, out),
         Some(
             Job::Handover {
                 policy,
@@ -248,6 +280,14 @@ fn answer<P: Player, F: Files, O: Sink>(
                 every,
             },
         ) => hand_over_files(player, alloc, files, policy, script, every, out),
+        Some(
+            Job::Explore {
+                policy,
+                script,
+                workers,
+                delays,
+            },
+        ) => explore_files(alloc, files, policy, script, workers, delays, out),
     }
 }
 
@@ -269,7 +309,9 @@ fn run_files<R: Threads + Wait + Sync, F: Files, O: Sink, G: Gate + Sync>(
 {
     let (policy, script) = read_inputs(alloc, files, policy, script)?;
     let ended = run_container(rt, alloc, policy, script, workers, cpus, gate)?;
-    print_text(alloc, Printout::Report, &ended.policy, &ended.history, out)
+    let printed = print_text(alloc, Printout::Report, &ended.policy, &ended.history, out);
+    TurnTaker { rt }.let_go(ended);
+    printed
 }
 
 /// Runs the script of a file by lanes under the policy of another, and writes the report.
@@ -288,7 +330,29 @@ fn run_files_by_lanes<R: Threads + Wait + Sync, F: Files, O: Sink>(
 {
     let (policy, script) = read_inputs(alloc, files, policy, script)?;
     let ended = run_container_by_lanes(rt, alloc, policy, script, cpus)?;
-    print_text(alloc, Printout::Report, &ended.policy, &ended.history, out)
+    let printed = print_text(alloc, Printout::Report, &ended.policy, &ended.history, out);
+    TurnTaker { rt }.let_go(ended);
+    printed
+}
+
+/// Serves the containers of pairs of files side by side, and writes the report of each and the sums of their summaries.
+#[tactic(auto, using(crate::proofs::Containers::pairs_stop, crate::proofs::Containers::pod_unserved))]
+fn serve_files<R: Threads + Wait + Sync, F: Files, O: Sink>(
+    rt: &R,
+    alloc: Global,
+    files: &mut F,
+    names: &[String],
+    workers: u8,
+    cpus: u8,
+    out: &mut O,
+) -> Result<(), Status>
+    requires { (workers ≤ 16) × (cpus ≤ 16) × (are_pairs (length names.now) ≡ true) }
+    ensures { PodEnds (F.state files.old) (F.state files.new) (O.state out.old) (O.state out.new) workers (in_pairs (texts names.now)) (status_of result) }
+{
+    let containers = read_containers(alloc, files, names)?;
+    see_ranges(containers.as_slice())?;
+    let ended = serve_pod(rt, alloc, containers, workers, cpus, &OpenPod)?;
+    print_containers(alloc, ended.as_slice(), out)
 }
 
 /// Does what a form of the words asks for; none is a usage error.
@@ -322,6 +386,13 @@ fn answer_form<R: Threads + Wait + Sync, F: Files, O: Sink, G: Gate + Sync>(
                 cpus,
             },
         ) => run_files_by_lanes(rt, alloc, files, policy, script, cpus, out),
+        Some(
+            Form::Pod {
+                workers,
+                cpus,
+                pairs,
+            },
+        ) => serve_files(rt, alloc, files, pairs, workers, cpus, out),
     }
 }
 

@@ -5,9 +5,10 @@ ghost use Rattle.io_edge.specs.FileState.{SameFiles};
 ghost use Rattle.broker_app.specs.Inputs.{HasBytes, PolicyIs, ReportIs, ScriptIs};
 ghost use Rattle.broker_app.specs.Refusals.{FileRefused, InputRefused, PolicyRefused, ReportRefused, ScriptRefused};
 ghost use Rattle.broker_app.specs.declared.status.InputFile.TheVariants.{Policy as PolicyFile, Script as ScriptFile};
-ghost use Rattle.broker_app.specs.declared.status.Status.TheVariants.{ReadFault};
+ghost use Rattle.broker_app.specs.declared.status.Refusal.TheVariants.{ReadFault};
+ghost use Rattle.broker_app.specs.declared.status.Status.TheVariants.{Refused};
 
-use crate::status::{InputFile, Status};
+use crate::status::{InputFile, Refusal, Status};
 use hist_model::policy::Policy;
 use hist_model::script::Script;
 use io_edge::files::Files;
@@ -38,13 +39,13 @@ fn read_file<F: Files>(
     ensures within { IfOk result (λ v. length v.items ≤ limit) }
     ensures refused { IfErr result (λ s. FileRefused file limit (F.state files.old) (F.state files.new) name.now s) }
     ensures opened { OnOk result ((F.state files.old).tells ≡ true → (F.state files.new).current ≡ Some name.now) }
-    ensures absent { (F.state files.old).sound ≡ true → (F.state files.old).bytes name.now ≡ None → result ≡ Err (ReadFault file) }
+    ensures absent { (F.state files.old).sound ≡ true → (F.state files.old).bytes name.now ≡ None → result ≡ Err (Refused (ReadFault file)) }
 {
     let mut bytes = Vec::new(alloc);
     match read_all(files, name, limit, &mut bytes) {
         Ok(()) => Ok(bytes),
-        Err(ReadAllError::ReadFault) => Err(Status::ReadFault(file)),
-        Err(ReadAllError::TooLong) => Err(Status::TooLong(file)),
+        Err(ReadAllError::ReadFault) => Err(Status::Refused(Refusal::ReadFault(file))),
+        Err(ReadAllError::TooLong) => Err(Status::Refused(Refusal::TooLong(file))),
         Err(ReadAllError::NoMemory) => Err(Status::NoMemory),
     }
 }
@@ -55,12 +56,12 @@ fn read_policy<F: Files>(alloc: Global, files: &mut F, name: &str) -> Result<Pol
     ensures same { SameFiles (F.state files.old) (F.state files.new) }
     ensures read { IfOk result (λ p. PolicyIs (F.state files.old) name.now (Ok p)) }
     ensures refused { IfErr result (λ s. PolicyRefused (F.state files.old) (F.state files.new) name.now s) }
-    ensures absent { (F.state files.old).sound ≡ true → (F.state files.old).bytes name.now ≡ None → result ≡ Err (ReadFault PolicyFile) }
+    ensures absent { (F.state files.old).sound ≡ true → (F.state files.old).bytes name.now ≡ None → result ≡ Err (Refused (ReadFault PolicyFile)) }
 {
     let bytes = read_file(alloc, files, name, InputFile::Policy, POLICY_LIMIT)?;
     match policy_reader::read_policy(alloc, bytes.as_slice()) {
         Ok(policy) => Ok(policy),
-        Err(OrNoMemory::Refused(error)) => Err(Status::BadPolicy(error)),
+        Err(OrNoMemory::Refused(error)) => Err(Status::Refused(Refusal::BadPolicy(error))),
         Err(OrNoMemory::NoMemory) => Err(Status::NoMemory),
     }
 }
@@ -71,12 +72,12 @@ fn read_script<F: Files>(alloc: Global, files: &mut F, name: &str) -> Result<Scr
     ensures same { SameFiles (F.state files.old) (F.state files.new) }
     ensures read { IfOk result (λ s. ScriptIs (F.state files.old) name.now (Ok s)) }
     ensures refused { IfErr result (λ s. ScriptRefused (F.state files.old) (F.state files.new) name.now s) }
-    ensures absent { (F.state files.old).sound ≡ true → (F.state files.old).bytes name.now ≡ None → result ≡ Err (ReadFault ScriptFile) }
+    ensures absent { (F.state files.old).sound ≡ true → (F.state files.old).bytes name.now ≡ None → result ≡ Err (Refused (ReadFault ScriptFile)) }
 {
     let bytes = read_file(alloc, files, name, InputFile::Script, SCRIPT_LIMIT)?;
     match script_reader::read_script(alloc, bytes.as_slice()) {
         Ok(script) => Ok(script),
-        Err(OrNoMemory::Refused(error)) => Err(Status::BadScript(error)),
+        Err(OrNoMemory::Refused(error)) => Err(Status::Refused(Refusal::BadScript(error))),
         Err(OrNoMemory::NoMemory) => Err(Status::NoMemory),
     }
 }
@@ -93,7 +94,7 @@ pub(crate) fn read_inputs<F: Files>(
     ensures policy { IfOk result (λ read. PolicyIs (F.state files.old) policy.now (Ok read.0)) }
     ensures script { IfOk result (λ read. ScriptIs (F.state files.old) script.now (Ok read.1)) }
     ensures refused { IfErr result (λ s. InputRefused (F.state files.old) (F.state files.new) policy.now script.now s) }
-    ensures absent { (F.state files.old).sound ≡ true → (F.state files.old).bytes policy.now ≡ None → result ≡ Err (ReadFault PolicyFile) }
+    ensures absent { (F.state files.old).sound ≡ true → (F.state files.old).bytes policy.now ≡ None → result ≡ Err (Refused (ReadFault PolicyFile)) }
 {
     let policy = read_policy(alloc, files, policy)?;
     let script = read_script(alloc, files, script)?;

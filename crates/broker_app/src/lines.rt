@@ -3,9 +3,9 @@
 ghost use Rattle.std.specs.Prelude.{◌≡◌, ◌++◌, codes, decimal};
 ghost use Rattle.io_edge.specs.SinkState.{Writes};
 ghost use Rattle.broker_app.specs.Answers.{Said};
-ghost use Rattle.broker_app.specs.Lines.{line_of, policy_line, script_line, script_line_of, reason_text, file_named};
+ghost use Rattle.broker_app.specs.Lines.{container_front, line_of, overlap_line, policy_line, refusal_line, script_line, script_line_of, reason_text, file_named};
 
-use crate::status::{InputFile, Status};
+use crate::status::{InputFile, Refusal, Status};
 use io_edge::fault::Failed;
 use io_edge::sink::Sink;
 use lex_core::Reason;
@@ -119,6 +119,52 @@ fn write_report_line<E: Sink>(line: u32, err: &mut E) -> Result<(), Failed>
     write_ended(b"report: line ", digits.format(line).as_bytes(), err)
 }
 
+/// Writes why a file wasn't taken.
+fn write_refusal<E: Sink>(refusal: &Refusal, err: &mut E) -> Result<(), Failed>
+    ensures { Writes (E.state err.old) (refusal_line refusal.now) result (E.state err.new) }
+{
+    match refusal {
+        Refusal::ReadFault(file) => write_two(b"read fault: ", file_named(*file), err),
+        Refusal::TooLong(file) => write_two(b"too long: ", file_named(*file), err),
+        Refusal::BadPolicy(error) => write_policy_line(error, err),
+        Refusal::BadScript(error) => write_script_line(error, err),
+    }
+}
+
+/// Writes the number of a container, and what stands between it and why its file wasn't taken.
+#[tactic(auto, using(crate::proofs::Saying::writes_front, crate::proofs::Saying::writes_more))]
+fn write_container<E: Sink>(container: u8, err: &mut E) -> Result<(), Failed>
+    ensures { Writes (E.state err.old) (container_front container) result (E.state err.new) }
+{
+    let mut digits = itoa::Buffer::new();
+    err.write(b"container ")?;
+    write_two(digits.format(container).as_bytes(), b": ", err)
+}
+
+/// Writes the number of a container, and why its file wasn't taken.
+#[tactic(auto, using(crate::proofs::Saying::writes_front, crate::proofs::Saying::writes_more))]
+fn write_container_refusal<E: Sink>(
+    container: u8,
+    refusal: &Refusal,
+    err: &mut E,
+) -> Result<(), Failed>
+    ensures { Writes (E.state err.old) (container_front container ++ refusal_line refusal.now) result (E.state err.new) }
+{
+    write_container(container, err)?;
+    write_refusal(refusal, err)
+}
+
+/// Writes which containers have ranges that overlap.
+#[tactic(auto, using(crate::proofs::Saying::writes_front, crate::proofs::Saying::writes_more))]
+fn write_overlap_line<E: Sink>(first: u8, second: u8, err: &mut E) -> Result<(), Failed>
+    ensures { Writes (E.state err.old) (overlap_line first second) result (E.state err.new) }
+{
+    let mut digits = itoa::Buffer::new();
+    write_two(b"pod: pids overlap: ", digits.format(first).as_bytes(), err)?;
+    let mut digits = itoa::Buffer::new();
+    write_ended(b" ", digits.format(second).as_bytes(), err)
+}
+
 /// Writes the line of a status.
 fn write_status<E: Sink>(status: &Status, err: &mut E) -> Result<(), Failed>
     ensures { Writes (E.state err.old) (line_of status.now) result (E.state err.new) }
@@ -126,15 +172,16 @@ fn write_status<E: Sink>(status: &Status, err: &mut E) -> Result<(), Failed>
     match status {
         Status::Done => err.write(b""),
         Status::Usage => err.write(
-            b"usage: play POLICY SCRIPT | run POLICY SCRIPT WORKERS CPUS | stress FROM COUNT | audit-check POLICY SCRIPT REPORT | lanes POLICY SCRIPT CPUS | handover POLICY SCRIPT EVERY\n",
+            b"usage: play POLICY SCRIPT | run POLICY SCRIPT WORKERS CPUS | stress FROM COUNT | audit-check POLICY SCRIPT REPORT | lanes POLICY SCRIPT CPUS | handover POLICY SCRIPT EVERY | pod WORKERS CPUS POLICY SCRIPT .. | explore POLICY SCRIPT WORKERS DELAYS\n",
         ),
-        Status::ReadFault(file) => write_two(b"read fault: ", file_named(*file), err),
-        Status::TooLong(file) => write_two(b"too long: ", file_named(*file), err),
-        Status::BadPolicy(error) => write_policy_line(error, err),
-        Status::BadScript(error) => write_script_line(error, err),
+        Status::Refused(refusal) => write_refusal(refusal, err),
+        Status::ContainerRefused { container, refusal } => {
+            write_container_refusal(*container, refusal, err)
+        }
         Status::WriteFault => err.write(b"write fault\n"),
         Status::NoMemory => err.write(b"no memory\n"),
         Status::NotReport { line } => write_report_line(*line, err),
+        Status::PidsOverlap { first, second } => write_overlap_line(*first, *second, err),
     }
 }
 

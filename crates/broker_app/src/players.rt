@@ -2,10 +2,10 @@
 
 ghost use Rattle.std.specs.Prelude.{◌≡◌, ◌<◌, ◌≤◌, IfOk};
 ghost use Rattle.hist_model.specs.Legal.{played};
-ghost use Rattle.mediation.specs.Scheduled.{IsUnclosed};
 ghost use Rattle.handover.specs.Handing.{handed};
 ghost use Rattle.handover.specs.Keeping.{all_handed};
-ghost use Rattle.broker_app.specs.Runs.{ByLanes, ClosesBehind, HasEnded};
+ghost use Rattle.broker_app.specs.Runs.{ByLanes};
+ghost use Rattle.worker_gate.specs.Endings.{HasEnded};
 
 use handover::{HandedPlay, play_handing};
 use handover_gate::play_handing_in_turns;
@@ -13,6 +13,7 @@ use hist_model::policy::Policy;
 use hist_model::script::Script;
 use lane_gate::{LaneServed, OpenLanes, serve_lanes};
 use std::alloc::Global;
+use std::mem;
 use std::sync::Wait;
 use std::thread::Threads;
 use sys_abi::memory::NoMemory;
@@ -42,6 +43,9 @@ pub trait Player {
         ensures policy { IfOk result (λ p. p.policy ≡ policy) }
         ensures script { IfOk result (λ p. p.script ≡ script) }
         ensures handed { IfOk result (λ p. all_handed p.handed.items ≡ handed every (played policy script)) };
+
+    /// Lets go of what was printed: its memory is given back, or left to the process where that is about to end.
+    fn let_go<T: Drop>(&self, printed: T);
 }
 
 /// Plays with no lock, for a caller that may not wait.
@@ -70,9 +74,13 @@ impl Player for LoneThread {
             &mut Heirs,
         )
     }
+
+    fn let_go<T: Drop>(&self, printed: T) {
+        mem::drop(printed)
+    }
 }
 
-/// Plays each step in a turn of the listener's lock.
+/// Plays each step in a turn of the listener's lock, for a process that ends behind what it prints.
 #[derive(Drop)]
 pub struct TurnTaker<'a, R: Wait> {
     pub rt: &'a R,
@@ -92,6 +100,10 @@ impl<'a, R: Wait> Player for TurnTaker<'a, R> {
     ) -> Result<HandedPlay, NoMemory> {
         let schedule = schedule_of(alloc, &script)?;
         play_handing_in_turns(self.rt, alloc, policy, script, schedule.as_slice(), every)
+    }
+
+    fn let_go<T: Drop>(&self, printed: T) {
+        mem::forget(printed)
     }
 }
 
@@ -115,19 +127,6 @@ fn play_in_turns<R: Wait>(
     lock.close(pass).finish()
 }
 
-/// Closes the listener behind a history that isn't closed.
-fn close_listener(served: Served) -> Result<Played, NoMemory>
-    requires { IsUnclosed served.history.events }
-    ensures policy { IfOk result (λ p. p.policy ≡ served.setup.policy) }
-    ensures script { IfOk result (λ p. p.script ≡ served.setup.script) }
-    ensures closed { IfOk result (λ p. ClosesBehind served.history.events p.history.events) }
-{
-    let played = served.finish()?;
-    // There are fewer than 2^64 events, as a legal history has.
-    let _events = played.history.len();
-    Ok(played)
-}
-
 /// Serves the container of a script with threads until nothing is left to do, and closes the listener.
 pub(crate) fn run_container<R: Threads + Wait + Sync, G: Gate + Sync>(
     rt: &R,
@@ -148,7 +147,7 @@ pub(crate) fn run_container<R: Threads + Wait + Sync, G: Gate + Sync>(
         return Err(NoMemory);
     };
     serve_hands(rt, alloc, &lock, &mut pass, workers, cpus, gate)?;
-    close_listener(lock.close(pass))
+    lock.close(pass).close_listener()
 }
 
 /// Serves the container of a script by lanes until nothing is left to do, and closes the listener.
@@ -169,5 +168,5 @@ pub(crate) fn run_container_by_lanes<R: Threads + Wait + Sync>(
         return Err(NoMemory);
     };
     serve_lanes(rt, alloc, &lock, &mut pass, cpus, &OpenLanes)?;
-    close_listener(lock.close(pass).into_served())
+    lock.close(pass).into_served().close_listener()
 }

@@ -4,19 +4,23 @@ ghost use Rattle.std.specs.Prelude.{◌≡◌, ◌++◌, IfOk, OnOk};
 ghost use Rattle.std.specs.List.{flat_map};
 ghost use Rattle.hist_model.specs.Report.{report, summary};
 ghost use Rattle.hist_model.specs.ReportAudit.{judging_by};
+ghost use Rattle.audit_log.specs.Counts.{counts_of};
+ghost use Rattle.audit_log.specs.Tables.{TellsTables};
 ghost use Rattle.audit_log.specs.Written.{Wrote};
 ghost use Rattle.handover.specs.Keeping.{all_handed, handed_as};
 ghost use Rattle.broker_app.specs.Handovers.{handovers, handovers_title, ledger_line};
-ghost use Rattle.broker_app.specs.Answers.{text_of};
+ghost use Rattle.broker_app.specs.Answers.{IsPrintable, text_of};
 ghost use Rattle.broker_app.specs.Findings.{findings, finished_text, yes_line};
 ghost use Rattle.broker_app.specs.Refusals.{Stands};
 
 use audit_check::trail::write_trail;
 use audit_log::error::ReportError;
 use audit_log::journal::write_journal;
-use audit_log::line::Line;
+use audit_log::line::LineBuffer;
 use audit_log::part::write_line;
-use audit_log::report::{write_rest, write_summary};
+use audit_log::report::{write_rest_counting, write_summary};
+use audit_log::summary::Counts;
+use audit_log::tables::Tables;
 use handover::Handover;
 use hist_model::history::History;
 use hist_model::policy::Policy;
@@ -33,8 +37,23 @@ pub(crate) enum Printout<'a> {
     Handovers { handed: &'a [Handover] },
     /// Only the last line of the report.
     Summary,
-    /// What is found of it where a report tells it: whether it is finished, and the trail of its calls.
-    Findings { finished: bool },
+    /// What is found of it where a report tells it: whether it is finished, and the trail of its calls, by the history's tables.
+    Findings { finished: bool, tables: &'a Tables },
+}
+
+/// Writes the report, and tells the counts in its summary, where all was written.
+pub(crate) fn write_report_counting<O: Sink>(
+    alloc: Global,
+    policy: &Policy,
+    history: &History,
+    counts: &mut Counts,
+    out: &mut O,
+) -> Result<(), ReportError>
+    ensures wrote { Wrote (O.state out.old) (report (judging_by policy.now.rules) history.now.events) result (O.state out.new) }
+    ensures counts { OnOk result (counts.new ≡ counts_of (judging_by policy.now.rules) history.now.events) }
+{
+    write_journal(alloc, history, out)?;
+    write_rest_counting(alloc, policy, history, counts, out)
 }
 
 /// Writes the report.
@@ -46,8 +65,8 @@ fn write_report<O: Sink>(
 ) -> Result<(), ReportError>
     ensures { Wrote (O.state out.old) (report (judging_by policy.now.rules) history.now.events) result (O.state out.new) }
 {
-    write_journal(alloc, history, out)?;
-    write_rest(alloc, policy, history, out)
+    let mut counts = Counts::none();
+    write_report_counting(alloc, policy, history, &mut counts, out)
 }
 
 /// The end of the line that says whether a history is finished.
@@ -62,10 +81,10 @@ fn finished_text(finished: bool) -> &'static str
 }
 
 /// The line that says how many events a history has, and whether it is finished.
-fn yes_line(alloc: Global, events: usize, finished: bool) -> Result<Line, NoMemory>
+fn yes_line(alloc: Global, events: usize, finished: bool) -> Result<LineBuffer, NoMemory>
     ensures { IfOk result (λ line. line ≡ yes_line events finished) }
 {
-    let mut line = Line::new(alloc);
+    let mut line = LineBuffer::new(alloc);
     line.push("yes events=")?;
     line.push_number(events as u64)?;
     line.push(finished_text(finished))?;
@@ -91,19 +110,21 @@ fn write_findings<O: Sink>(
     policy: &Policy,
     history: &History,
     finished: bool,
+    tables: &Tables,
     out: &mut O,
 ) -> Result<(), ReportError>
+    requires { TellsTables policy.now.rules history.now.events tables.now }
     ensures { Wrote (O.state out.old) (findings (judging_by policy.now.rules) history.now.events finished) result (O.state out.new) }
 {
     write_yes(alloc, history.len(), finished, out)?;
-    write_trail(alloc, policy, history, out)
+    write_trail(alloc, policy, history, tables, out)
 }
 
 /// The line that says how many workers were replaced.
-fn handovers_title(alloc: Global, count: usize) -> Result<Line, NoMemory>
+fn handovers_title(alloc: Global, count: usize) -> Result<LineBuffer, NoMemory>
     ensures { IfOk result (λ line. line ≡ handovers_title count) }
 {
-    let mut line = Line::new(alloc);
+    let mut line = LineBuffer::new(alloc);
     line.push("handovers ")?;
     line.push_number(count as u64)?;
     line.push("\n")?;
@@ -111,10 +132,10 @@ fn handovers_title(alloc: Global, count: usize) -> Result<Line, NoMemory>
 }
 
 /// The line of a ledger from which a worker was replaced.
-fn ledger_line(alloc: Global, handover: &Handover) -> Result<Line, NoMemory>
+fn ledger_line(alloc: Global, handover: &Handover) -> Result<LineBuffer, NoMemory>
     ensures { IfOk result (λ line. line ≡ ledger_line (handed_as handover.now)) }
 {
-    let mut line = Line::new(alloc);
+    let mut line = LineBuffer::new(alloc);
     line.push("ledger ")?;
     line.push_number(handover.place as u64)?;
     line.push(" w")?;
@@ -182,13 +203,16 @@ fn write_printout<O: Sink>(
     history: &History,
     out: &mut O,
 ) -> Result<(), ReportError>
+    requires { IsPrintable printout policy.now.rules history.now.events }
     ensures { Wrote (O.state out.old) (text_of printout.entry (judging_by policy.now.rules) history.now.events) result (O.state out.new) }
 {
     match printout {
         Printout::Report => write_report(alloc, policy, history, out),
         Printout::Handovers { handed } => write_handed(alloc, policy, history, handed, out),
         Printout::Summary => write_summary(alloc, policy, history, out),
-        Printout::Findings { finished } => write_findings(alloc, policy, history, finished, out),
+        Printout::Findings { finished, tables } => {
+            write_findings(alloc, policy, history, finished, tables, out)
+        }
     }
 }
 
@@ -201,6 +225,7 @@ pub(crate) fn print_history<O: Sink>(
     history: &History,
     out: &mut O,
 ) -> Result<(), ReportError>
+    requires { IsPrintable printout policy.now.rules history.now.events }
     ensures wrote { Wrote (O.state out.old) (text_of printout.entry (judging_by policy.now.rules) history.now.events) result (O.state out.new) }
     ensures stands { OnOk result (Stands (O.state out.new)) }
 {

@@ -1,7 +1,7 @@
 //! How the program ends.
 
 ghost use Rattle.std.specs.Prelude.{◌≡◌};
-ghost use Rattle.broker_app.specs.Lines.{code_of};
+ghost use Rattle.broker_app.specs.Lines.{code_of, code_of_refusal};
 
 use audit_log::error::ReportError;
 use policy_reader::PolicyError;
@@ -16,6 +16,33 @@ pub enum InputFile {
     Report,
 }
 
+/// Why a file wasn't taken.
+#[derive(PartialEq, Eq, Debug, Drop)]
+pub enum Refusal {
+    /// It couldn't be read.
+    ReadFault(InputFile),
+    /// It has more bytes than it may have: 1,048,576 of a policy, 8,388,608 of a script, 33,554,432 of a report.
+    TooLong(InputFile),
+    /// The policy is refused.
+    BadPolicy(PolicyError),
+    /// The script is refused.
+    BadScript(ScriptError),
+}
+
+impl Refusal {
+    /// The exit status.
+    fn code(&self) -> u8
+        ensures { result ≡ code_of_refusal self.now }
+    {
+        match self {
+            Refusal::ReadFault(_) => 2,
+            Refusal::TooLong(_) => 3,
+            Refusal::BadPolicy(_) => 4,
+            Refusal::BadScript(_) => 5,
+        }
+    }
+}
+
 /// How the program ends.
 #[derive(PartialEq, Eq, Debug, Drop)]
 pub enum Status {
@@ -23,14 +50,10 @@ pub enum Status {
     Done,
     /// The words have none of the forms.
     Usage,
-    /// A file couldn't be read.
-    ReadFault(InputFile),
-    /// A file has more bytes than it may have: 1,048,576 of a policy, 8,388,608 of a script, 33,554,432 of a report.
-    TooLong(InputFile),
-    /// The policy is refused.
-    BadPolicy(PolicyError),
-    /// The script is refused.
-    BadScript(ScriptError),
+    /// A file wasn't taken.
+    Refused(Refusal),
+    /// A file of one of several containers wasn't taken: the container's number, counted from 0.
+    ContainerRefused { container: u8, refusal: Refusal },
     /// What is printed couldn't be written.
     WriteFault,
     /// There was no memory.
@@ -38,6 +61,8 @@ pub enum Status {
     /// The file isn't a report: the number of the first line that can't be right, counted from 1, or one more than the number
     /// of lines.
     NotReport { line: u32 },
+    /// The ranges of PIDs of two containers' scripts share a number: the first two containers of which that is so.
+    PidsOverlap { first: u8, second: u8 },
 }
 
 impl Status {
@@ -48,13 +73,12 @@ impl Status {
         match self {
             Status::Done => 0,
             Status::Usage => 1,
-            Status::ReadFault(_) => 2,
-            Status::TooLong(_) => 3,
-            Status::BadPolicy(_) => 4,
-            Status::BadScript(_) => 5,
+            Status::Refused(refusal) => refusal.code(),
+            Status::ContainerRefused { refusal, .. } => refusal.code(),
             Status::WriteFault => 6,
             Status::NoMemory => 7,
             Status::NotReport { .. } => 9,
+            Status::PidsOverlap { .. } => 10,
         }
     }
 }

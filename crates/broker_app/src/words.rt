@@ -2,7 +2,7 @@
 
 ghost use Rattle.std.specs.Prelude.{◌≡◌, ◌^◌, ◌-◌, map, IfSome};
 ghost use Rattle.std.specs.Option.{option_map};
-ghost use Rattle.broker_app.specs.Words.{run_form, lanes_form, handover_form, stress_form, three_words, four_words, five_words, form};
+ghost use Rattle.broker_app.specs.Words.{run_form, lanes_form, are_pairs, pod_form, handover_form, delays_of, explore_form, stress_form, three_words, four_words, five_words, few_words, form};
 ghost use Rattle.hist_model.specs.Words.{number_between};
 ghost use Rattle.broker_app.specs.Forms.{IsInRange, form_of, texts};
 
@@ -34,6 +34,14 @@ pub enum Job<'a> {
         script: &'a str,
         every: u32,
     },
+    /// Explore what a script can come to, by workers from 0 to this one, at most 15, and with so many delays at most, or without a
+    /// bound: the names of the policy's and the script's files.
+    Explore {
+        policy: &'a str,
+        script: &'a str,
+        workers: u8,
+        delays: Option<u64>,
+    },
 }
 
 /// A form of the words.
@@ -54,6 +62,13 @@ pub enum Form<'a> {
         policy: &'a str,
         script: &'a str,
         cpus: u8,
+    },
+    /// Serve containers side by side: two numbers from 0 to 16, of the hands that serve notifications and of those that step
+    /// tasks, and the names of 1 to 8 pairs of files, each a policy's and a script's, one after another.
+    Pod {
+        workers: u8,
+        cpus: u8,
+        pairs: &'a [String],
     },
 }
 
@@ -83,6 +98,29 @@ fn lanes_form<'a>(policy: &'a str, script: &'a str, cpus: &str) -> Option<Form<'
     })
 }
 
+/// Whether so many words are the names of 1 to 8 pairs of files.
+fn are_pairs(count: usize) -> bool
+    ensures { result ≡ are_pairs count }
+{
+    2 <= count && count <= 16 && count % 2 == 0
+}
+
+fn pod_form<'a>(workers: &str, cpus: &str, pairs: &'a [String]) -> Option<Form<'a>>
+    ensures meant { option_map form_of result ≡ pod_form (number_between 0 16 workers.now) (number_between 0 16 cpus.now) (texts pairs.now) }
+    ensures range { IfSome result (λ f. IsInRange f) }
+{
+    let workers = number_between(workers.as_bytes(), 0, 16)?;
+    let cpus = number_between(cpus.as_bytes(), 0, 16)?;
+    if !are_pairs(pairs.len()) {
+        return None;
+    }
+    Some(Form::Pod {
+        workers: workers as u8,
+        cpus: cpus as u8,
+        pairs,
+    })
+}
+
 fn handover_form<'a>(policy: &'a str, script: &'a str, every: &str) -> Option<Form<'a>>
     ensures meant { option_map form_of result ≡ handover_form policy.now script.now (number_between 1 200000 every.now) }
     ensures range { IfSome result (λ f. IsInRange f) }
@@ -92,6 +130,36 @@ fn handover_form<'a>(policy: &'a str, script: &'a str, every: &str) -> Option<Fo
         policy,
         script,
         every: every as u32,
+    }))
+}
+
+/// A bound of delays, 0 to 8, or none where all are asked for.
+fn delays_of(word: &str) -> Option<Option<u64>>
+    ensures { result ≡ delays_of word.now }
+{
+    if word.as_bytes() == b"all".as_slice() {
+        return Some(None);
+    }
+    let delays = number_between(word.as_bytes(), 0, 8)?;
+    Some(Some(delays))
+}
+
+fn explore_form<'a>(
+    policy: &'a str,
+    script: &'a str,
+    workers: &str,
+    delays: &str,
+) -> Option<Form<'a>>
+    ensures meant { option_map form_of result ≡ explore_form policy.now script.now (number_between 0 15 workers.now) (delays_of delays.now) }
+    ensures range { IfSome result (λ f. IsInRange f) }
+{
+    let workers = number_between(workers.as_bytes(), 0, 15)?;
+    let delays = delays_of(delays)?;
+    Some(Form::Job(Job::Explore {
+        policy,
+        script,
+        workers: workers as u8,
+        delays,
     }))
 }
 
@@ -148,14 +216,16 @@ fn five_words<'a>(command: &str, a: &'a str, b: &'a str, c: &str, d: &str) -> Op
 {
     if command.as_bytes() == b"run".as_slice() {
         run_form(a, b, c, d)
+    } else if command.as_bytes() == b"explore".as_slice() {
+        explore_form(a, b, c, d)
     } else {
         None
     }
 }
 
-/// The form of the words, if they have one.
-pub fn read_form(words: &[String]) -> Option<Form<'_>>
-    ensures meant { option_map form_of result ≡ form (texts words.now) }
+/// The form of three to five words, but `pod`'s.
+fn few_words(words: &[String]) -> Option<Form<'_>>
+    ensures meant { option_map form_of result ≡ few_words (texts words.now) }
     ensures range { IfSome result (λ f. IsInRange f) }
 {
     if let [command, a, b] = words {
@@ -172,6 +242,20 @@ pub fn read_form(words: &[String]) -> Option<Form<'_>>
             c.as_str(),
             d.as_str(),
         );
+    }
+    None
+}
+
+/// The form of the words, if they have one.
+pub fn read_form(words: &[String]) -> Option<Form<'_>>
+    ensures meant { option_map form_of result ≡ form (texts words.now) }
+    ensures range { IfSome result (λ f. IsInRange f) }
+{
+    if let [command, workers, cpus, pairs @ ..] = words {
+        if command.as_bytes() == b"pod".as_slice() {
+            return pod_form(workers.as_str(), cpus.as_str(), pairs);
+        }
+        return few_words(words);
     }
     None
 }

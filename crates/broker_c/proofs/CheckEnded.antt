@@ -8,8 +8,9 @@ use Rattle.hist_model.specs.declared.policy.Policy.{Policy}
 use Rattle.hist_model.specs.declared.script.Script.{Script}
 use Rattle.broker_app.specs.Checks.{AreChecked, BytesCheckEnds, CheckEnds, ReadCheckEnds, TookFindings, TookFindingsPrefix}
 use Rattle.broker_app.specs.declared.status.InputFile.TheVariants.{Report as ReportFile}
+use Rattle.broker_app.specs.declared.status.Refusal.TheVariants.{ReadFault, TooLong}
 use Rattle.broker_app.specs.declared.status.Status.{Status}
-use Rattle.broker_app.specs.declared.status.Status.TheVariants.{Done, ReadFault, TooLong, WriteFault, NoMemory, NotReport}
+use Rattle.broker_app.specs.declared.status.Status.TheVariants.{Done, Refused, WriteFault, NoMemory, NotReport}
 use Rattle.broker_c.proofs.Inputs.{input_gives}
 use Rattle.broker_c.proofs.Prefixes.{adds_whole}
 use Rattle.broker_c.proofs.Settled.{by_room}
@@ -77,8 +78,8 @@ begun policy script report after new WriteFault e =
     inr (part policy script report g.P g.S new g.are g.ends.1)
 begun policy script report after new NoMemory e = elim e [ inl nothing ↦ inl (nothing refl) | inr read ↦ unfinished policy script report new read ]
 begun policy script report after new (NotReport line) e = let g = given policy script report new (NotReport line) e in inl (g.ends.1 refl)
-begun policy script report after new (ReadFault ReportFile) e = inl (e.1 refl)
-begun policy script report after new (TooLong ReportFile) e = inl (e.1 refl)
+begun policy script report after new (Refused (ReadFault ReportFile)) e = inl (e.1 refl)
+begun policy script report after new (Refused (TooLong ReportFile)) e = inl (e.1 refl)
 begun policy script report after new status e = inl (e.1 refl)
 
 -- all that was printed fits
@@ -91,8 +92,8 @@ fitting policy script report room false after new NoMemory le e = begun policy s
 fitting policy script report room false after new (NotReport line) le e =
     let g = given policy script report new (NotReport line) e in
     ((g.P, g.S, g.are, g.ends.0), g.ends.1 refl)
-fitting policy script report room false after new (ReadFault ReportFile) le ((P, S, policy_is, script_is, cannot), nothing) = let absent = cannot.1 refl in cc
-fitting policy script report room false after new (TooLong ReportFile) le ((P, S, policy_is, script_is, past), nothing) =
+fitting policy script report room false after new (Refused (ReadFault ReportFile)) le ((P, S, policy_is, script_is, cannot), nothing) = let absent = cannot.1 refl in cc
+fitting policy script report room false after new (Refused (TooLong ReportFile)) le ((P, S, policy_is, script_is, past), nothing) =
     ((P, S, (policy_is refl, script_is refl)), past.longer refl, nothing refl)
 fitting policy script report room false after new status le e = input_gives policy script report new.taken after status e.0 (e.1 refl)
 

@@ -5,18 +5,19 @@ use Rattle.std.specs.Prelude.{codes}
 use Rattle.io_edge.specs.FileState.{FileState}
 use Rattle.broker_app.specs.Refusals.{InputRefused}
 use Rattle.broker_app.specs.declared.status.InputFile.TheVariants.{Policy as PolicyFile, Script as ScriptFile}
+use Rattle.broker_app.specs.declared.status.Refusal.TheVariants.{ReadFault, TooLong, BadPolicy, BadScript}
 use Rattle.broker_app.specs.declared.status.Status.{Status}
-use Rattle.broker_app.specs.declared.status.Status.TheVariants.{ReadFault, TooLong, BadPolicy, BadScript, NoMemory}
+use Rattle.broker_app.specs.declared.status.Status.TheVariants.{Refused, NoMemory}
 use Rattle.broker_c.specs.Given.{files_of}
 use Rattle.broker_c.specs.Outcomes.{InputGives}
 
 pub input_gives : (policy script report printed : List ℕ) (after : FileState) (status : Status) → InputRefused (files_of policy script report) after (codes "policy") (codes "script") status → printed ≡ []
     → InputGives policy script printed status
-input_gives policy script report printed after (TooLong PolicyFile) h nothing = (h.longer refl, nothing)
-input_gives policy script report printed after (BadPolicy error) h nothing = (h.0 refl, nothing)
-input_gives policy script report printed after (TooLong ScriptFile) h nothing = ((h.0, h.1 refl), h.2.longer refl, nothing)
-input_gives policy script report printed after (BadScript error) h nothing = ((h.0, h.1 refl), h.2 refl, nothing)
+input_gives policy script report printed after (Refused (TooLong PolicyFile)) h nothing = (h.longer refl, nothing)
+input_gives policy script report printed after (Refused (BadPolicy error)) h nothing = (h.0 refl, nothing)
+input_gives policy script report printed after (Refused (TooLong ScriptFile)) h nothing = ((h.0, h.1 refl), h.2.longer refl, nothing)
+input_gives policy script report printed after (Refused (BadScript error)) h nothing = ((h.0, h.1 refl), h.2 refl, nothing)
 input_gives policy script report printed after NoMemory h nothing = nothing
-input_gives policy script report printed after (ReadFault PolicyFile) h nothing = let absent = h.1 refl in cc
-input_gives policy script report printed after (ReadFault ScriptFile) h nothing = let absent = h.2.1 refl in cc
+input_gives policy script report printed after (Refused (ReadFault PolicyFile)) h nothing = let absent = h.1 refl in cc
+input_gives policy script report printed after (Refused (ReadFault ScriptFile)) h nothing = let absent = h.2.1 refl in cc
 input_gives policy script report printed after status h nothing = absurd h

@@ -6,5 +6,6 @@ pub mod PlayEnded
 pub mod CheckEnded
 pub mod StressEnded
 pub mod HandoverEnded
+pub mod ExploreEnded
 pub mod Lines
 pub mod Told

@@ -7,10 +7,11 @@ use Rattle.std.proofs.lemmas.List.{take_all}
 use Rattle.std.proofs.lemmas.Grind.{common_steps}
 use Rattle.broker_app.specs.Handovers.{handover_report}
 use Rattle.broker_app.specs.Plays.{Printing}
+use Rattle.broker_app.specs.declared.status.Refusal.TheVariants.{ReadFault}
 use Rattle.broker_app.specs.declared.status.Status.{Status}
-use Rattle.broker_app.specs.declared.status.Status.TheVariants.{Done, ReadFault}
+use Rattle.broker_app.specs.declared.status.Status.TheVariants.{Done, ContainerRefused, Refused}
 use Rattle.broker_c.specs.Buffers.{Holds, number_of}
-use Rattle.broker_c.specs.Outcomes.{CheckGives, HandoverGives, IsFindings, IsHandover, IsPlay, IsSummary, PlayGives, StressGives}
+use Rattle.broker_c.specs.Outcomes.{CheckGives, ExploreGives, HandoverGives, IsAskedExploration, IsFindings, IsHandover, IsPlay, IsSummary, PlayGives, StressGives}
 
 -- a text that fits is read back
 read_back : (text old new : List ℕ) (told : ℕ) → length text ≤ length old → Holds text old new told → take told new ≡ text
@@ -26,7 +27,8 @@ number-0 Done text size is = by (nat_lt size text) refl
     by : (short : Bool) → nat_lt size text ≡ short → (Done ≡ Done) × (text ≤ size)
     by true s = let e = rw s at is in cc
     by false s = (refl, ltb-false size text s)
-number-0 (ReadFault file) text size is = cc
+number-0 (Refused (ReadFault file)) text size is = cc
+number-0 (ContainerRefused container (ReadFault file)) text size is = cc
 number-0 status text size is = cc
 
 -- what a play prints is read where the number is 0
@@ -60,3 +62,11 @@ handover_told policy script every room status printed old new told number gives 
     let fits = number-0 status (length printed) (length old) (sym is ∙ zero) in
     let whole : HandoverGives policy script every room printed Done = subst (λ s. HandoverGives policy script every room printed s) fits.0 gives in
     play_told (handover_report every) policy script room Done printed old new told 0 whole.1 (sym zero ∙ (is ∙ ap (λ s. number_of s (length printed) (length old)) fits.0)) held refl
+
+-- and what a script can come to
+pub exploration_told : (policy script : List ℕ) (workers delays room : ℕ) (status : Status) (printed old new : List ℕ) (told number : ℕ) → ExploreGives policy script workers delays room printed status
+    → number ≡ number_of status (length printed) (length old) → Holds printed old new told → number ≡ 0 → IsAskedExploration policy script workers delays (take told new)
+exploration_told policy script workers delays room status printed old new told number gives is held zero =
+    let fits = number-0 status (length printed) (length old) (sym is ∙ zero) in
+    let whole : ExploreGives policy script workers delays room printed Done = subst (λ s. ExploreGives policy script workers delays room printed s) fits.0 gives in
+    subst (λ text. IsAskedExploration policy script workers delays text) (sym (read_back printed old new told fits.1 held)) (whole.0, whole.1, whole.2.0)

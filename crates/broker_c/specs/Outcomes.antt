@@ -1,5 +1,5 @@
 -- What a call came to: what was printed, and why it stopped.
-use Rattle.std.specs.Prelude.{◌≡◌, ℕ, ◌<◌, ◌≤◌, ◌⊎◌, Bool, true, false, List, [], length, Some, Result, Ok, Err}
+use Rattle.std.specs.Prelude.{◌≡◌, ℕ, ◌<◌, ◌≤◌, ◌⊎◌, ◌==◌, Bool, true, false, if◌then◌else◌, nat_le, List, [], length, Option, Some, None, Result, Ok, Err, codes}
 use Rattle.hist_model.specs.ReportAudit.{judging_by}
 use Rattle.hist_model.specs.declared.event.Event.{Event}
 use Rattle.hist_model.specs.Legal.{played}
@@ -13,14 +13,17 @@ use Rattle.script_reader.specs.Scripts.{script as script_of}
 use Rattle.script_reader.specs.declared.error.ScriptError.{ScriptError}
 use Rattle.broker_app.specs.Answers.{GeneratedIsMediated, generated_summary}
 use Rattle.broker_app.specs.Checks.{IsFound, IsNotFound}
+use Rattle.broker_app.specs.Explorations.{ExploredLaws, explored_text}
 use Rattle.broker_app.specs.Findings.{findings}
 use Rattle.broker_app.specs.Handovers.{handover_report}
 use Rattle.broker_app.specs.Inputs.{ReadsAs, policy_limit, report_limit, script_limit}
 use Rattle.broker_app.specs.Lines.{line_of}
 use Rattle.broker_app.specs.Plays.{Printing, report_of}
+use Rattle.broker_app.specs.Words.{Form, Explore}
 use Rattle.broker_app.specs.declared.status.InputFile.TheVariants.{Policy as PolicyFile, Script as ScriptFile, Report as ReportFile}
+use Rattle.broker_app.specs.declared.status.Refusal.TheVariants.{TooLong, BadPolicy, BadScript}
 use Rattle.broker_app.specs.declared.status.Status.{Status}
-use Rattle.broker_app.specs.declared.status.Status.TheVariants.{Done, Usage, TooLong, BadPolicy, BadScript, WriteFault, NoMemory, NotReport}
+use Rattle.broker_app.specs.declared.status.Status.TheVariants.{Done, Usage, Refused, WriteFault, NoMemory, NotReport}
 
 -- ---- What was read
 
@@ -91,14 +94,45 @@ IsSummary from count printed = GeneratedIsMediated from count × (printed ≡ ge
 abbrev pub BeginsSummary : ℕ → ℕ → List ℕ → Type 0
 BeginsSummary from count printed = GeneratedIsMediated from count × AddsPrefix [] (generated_summary from count) printed
 
+-- the bound that a number of delays means: 0 to 8, or none where it means all
+abbrev pub bound_meant : ℕ → Option (Option ℕ)
+bound_meant delays = if delays == 4294967295 then Some None else (if nat_le delays 8 then Some (Some delays) else None)
+
+-- there are such workers, and this is the bound that is meant
+abbrev pub IsAsked : ℕ → ℕ → Option ℕ → Type 0
+IsAsked workers delays bound = (workers ≤ 15) × (bound_meant delays ≡ Some bound)
+
+-- the form that asks for it
+abbrev pub explore_asked : ℕ → Option (Option ℕ) → Option Form
+explore_asked workers (Some bound) = if nat_le workers 15 then Some (Explore (codes "policy") (codes "script") workers bound) else None
+explore_asked workers None = None
+
+-- these are the policy and the script of the bytes, and so is what is explored of them
+pub record AreExplored (policy script : List ℕ) (workers : ℕ) (bound : Option ℕ) (P : Policy) (S : Script) : Type 0 where
+  pub policy_is : PolicyReads policy (Ok P)
+  pub script_is : ScriptReads script (Ok S)
+  pub laws : ExploredLaws workers bound P S
+
+-- what is printed of what the policy and the script of the bytes come to
+abbrev pub IsExploration : List ℕ → List ℕ → ℕ → Option ℕ → List ℕ → Type 0
+IsExploration policy script workers bound printed = (P : Policy) × (S : Script) × AreExplored policy script workers bound P S × (printed ≡ explored_text workers bound P S)
+
+-- a prefix of it
+abbrev pub BeginsExploration : List ℕ → List ℕ → ℕ → Option ℕ → List ℕ → Type 0
+BeginsExploration policy script workers bound printed = (P : Policy) × (S : Script) × AreExplored policy script workers bound P S × AddsPrefix [] (explored_text workers bound P S) printed
+
+-- that of the workers and the bound that were asked for
+abbrev pub IsAskedExploration : List ℕ → List ℕ → ℕ → ℕ → List ℕ → Type 0
+IsAskedExploration policy script workers delays printed = (bound : Option ℕ) × IsAsked workers delays bound × IsExploration policy script workers bound printed
+
 -- ---- How it ended
 
 -- why the policy's and the script's bytes weren't both taken: nothing was printed
 abbrev pub InputGives : List ℕ → List ℕ → List ℕ → Status → Type 0
-InputGives policy script printed (TooLong PolicyFile) = (policy_limit < length policy) × (printed ≡ [])
-InputGives policy script printed (BadPolicy error) = PolicyReads policy (Err error) × (printed ≡ [])
-InputGives policy script printed (TooLong ScriptFile) = IsPolicy policy × (script_limit < length script) × (printed ≡ [])
-InputGives policy script printed (BadScript error) = IsPolicy policy × ScriptReads script (Err error) × (printed ≡ [])
+InputGives policy script printed (Refused (TooLong PolicyFile)) = (policy_limit < length policy) × (printed ≡ [])
+InputGives policy script printed (Refused (BadPolicy error)) = PolicyReads policy (Err error) × (printed ≡ [])
+InputGives policy script printed (Refused (TooLong ScriptFile)) = IsPolicy policy × (script_limit < length script) × (printed ≡ [])
+InputGives policy script printed (Refused (BadScript error)) = IsPolicy policy × ScriptReads script (Err error) × (printed ≡ [])
 InputGives policy script printed NoMemory = printed ≡ []
 InputGives policy script printed _ = ⊥
 
@@ -119,13 +153,26 @@ HandoverGives policy script every room printed Usage = ¬ (IsEvery every) × (pr
 HandoverGives policy script every room printed NoMemory = PlayGives (handover_report every) policy script room printed NoMemory
 HandoverGives policy script every room printed status = IsEvery every × PlayGives (handover_report every) policy script room printed status
 
+-- how the exploration of a policy's and a script's bytes ended, by workers up to this one and within this bound
+abbrev pub ExplorationGives : List ℕ → List ℕ → ℕ → Option ℕ → ℕ → List ℕ → Status → Type 0
+ExplorationGives policy script workers bound room printed Done = IsExploration policy script workers bound printed × (length printed ≤ room)
+ExplorationGives policy script workers bound room printed WriteFault = BeginsExploration policy script workers bound printed × (room < length printed)
+ExplorationGives policy script workers bound room printed NoMemory = (printed ≡ []) ⊎ BeginsExploration policy script workers bound printed
+ExplorationGives policy script workers bound room printed status = InputGives policy script printed status
+
+-- and by the numbers that were given: usage where there are no such workers, or no such bound
+abbrev pub ExploreGives : List ℕ → List ℕ → ℕ → ℕ → ℕ → List ℕ → Status → Type 0
+ExploreGives policy script workers delays room printed Usage = ((bound : Option ℕ) → ¬ (IsAsked workers delays bound)) × (printed ≡ [])
+ExploreGives policy script workers delays room printed NoMemory = (printed ≡ []) ⊎ ((bound : Option ℕ) × IsAsked workers delays bound × BeginsExploration policy script workers bound printed)
+ExploreGives policy script workers delays room printed status = (bound : Option ℕ) × IsAsked workers delays bound × ExplorationGives policy script workers bound room printed status
+
 -- how the check of a report's bytes ended, with room for so many bytes of what is found
 abbrev pub CheckGives : List ℕ → List ℕ → List ℕ → ℕ → List ℕ → Status → Type 0
 CheckGives policy script report room printed Done = IsFindings policy script report printed × (length printed ≤ room)
 CheckGives policy script report room printed WriteFault = BeginsFindings policy script report printed × (room < length printed)
 CheckGives policy script report room printed NoMemory = (printed ≡ []) ⊎ BeginsFindings policy script report printed
 CheckGives policy script report room printed (NotReport line) = HasFault policy script report line × (printed ≡ [])
-CheckGives policy script report room printed (TooLong ReportFile) = IsInput policy script × (report_limit < length report) × (printed ≡ [])
+CheckGives policy script report room printed (Refused (TooLong ReportFile)) = IsInput policy script × (report_limit < length report) × (printed ≡ [])
 CheckGives policy script report room printed status = InputGives policy script printed status
 
 -- generated input has 1 to 4000 calls

@@ -4,9 +4,9 @@ ghost use Rattle.std.specs.Prelude.{◌≡◌, length, min, take};
 ghost use Rattle.broker_app.specs.Lines.{line_of};
 ghost use Rattle.broker_app.specs.Plays.{report_of};
 ghost use Rattle.broker_c.specs.Buffers.{Holds, Tells, number_of};
-ghost use Rattle.broker_c.specs.Outcomes.{CheckGives, HandoverGives, IsFindings, IsHandover, IsReport, IsSummary, PlayGives, Says, StressGives};
+ghost use Rattle.broker_c.specs.Outcomes.{CheckGives, ExploreGives, HandoverGives, IsAskedExploration, IsFindings, IsHandover, IsReport, IsSummary, PlayGives, Says, StressGives};
 
-use crate::outcome::{Outcome, check, play, play_handing, stress};
+use crate::outcome::{Outcome, check, explore, play, play_handing, stress};
 use broker_app::status::Status;
 use std::alloc::Global;
 
@@ -143,5 +143,26 @@ pub extern "C" fn broker_handover(
     ensures tells { Tells (HandoverGives policy.now script.now every (min room ROOM_LIMIT)) result out.old out.new out_length.new line.old line.new line_length.new }
 {
     let outcome = play_handing(alloc, policy, script, every, room.min(ROOM_LIMIT));
+    tell(&outcome, out, out_length, line, line_length)
+}
+
+/// Explores a script under a policy, as `explore POLICY SCRIPT WORKERS DELAYS` does, and tells what is found and its line.
+#[unsafe(no_mangle)]
+pub extern "C" fn broker_explore(
+    alloc: Global,
+    policy: &[u8],
+    script: &[u8],
+    workers: u32,
+    delays: u32,
+    room: usize,
+    out: &mut [u8],
+    out_length: &mut usize,
+    line: &mut [u8],
+    line_length: &mut usize,
+) -> u32
+    ensures done { result ≡ 0 → IsAskedExploration policy.now script.now workers delays (take out_length.new out.new) }
+    ensures tells { Tells (ExploreGives policy.now script.now workers delays (min room ROOM_LIMIT)) result out.old out.new out_length.new line.old line.new line_length.new }
+{
+    let outcome = explore(alloc, policy, script, workers, delays, room.min(ROOM_LIMIT));
     tell(&outcome, out, out_length, line, line_length)
 }

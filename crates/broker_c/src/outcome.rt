@@ -2,13 +2,13 @@
 
 ghost use Rattle.std.specs.Prelude.{◌≡◌, ◌^◌, ◌<◌, ◌&&◌, codes, length, nat_le, nat_lt, Some, None, if◌then◌else◌};
 ghost use Rattle.std.specs.Option.{ForSome, option_map};
-ghost use Rattle.broker_app.specs.Words.{Handover, Stress};
+ghost use Rattle.broker_app.specs.Words.{Explore, Handover, Stress};
 ghost use Rattle.broker_app.specs.Answers.{Said};
 ghost use Rattle.broker_app.specs.Forms.{IsJobInRange, job_of};
 ghost use Rattle.broker_app.specs.Lines.{line_of};
 ghost use Rattle.broker_app.specs.Plays.{report_of};
 ghost use Rattle.broker_c.specs.Held.{empty_sink};
-ghost use Rattle.broker_c.specs.Outcomes.{CheckGives, HandoverGives, PlayGives, Says, StressGives, settled};
+ghost use Rattle.broker_c.specs.Outcomes.{CheckGives, ExploreGives, HandoverGives, PlayGives, Says, StressGives, bound_meant, explore_asked, settled};
 
 use crate::given::{GivenFiles, POLICY, REPORT, SCRIPT};
 use crate::held::HeldBytes;
@@ -18,6 +18,9 @@ use broker_app::status::Status;
 use broker_app::words::Job;
 use io_edge::sink::Sink;
 use std::alloc::Global;
+
+/// The number of delays that means all of them.
+const ALL_DELAYS: u32 = u32::MAX;
 
 /// How many bytes of a line are held at most.
 const LINE_ROOM: usize = 1 << 30;
@@ -159,6 +162,63 @@ pub(crate) fn play_handing(
         &mut err,
     );
     outcome_of(status, room, out, err)
+}
+
+/// Explores a script under a policy, with room for so many bytes of what is found.
+pub(crate) fn explore(
+    alloc: Global,
+    policy: &[u8],
+    script: &[u8],
+    workers: u32,
+    delays: u32,
+    room: usize,
+) -> Outcome
+    requires { room < 2 ^ 63 }
+    ensures gives { ExploreGives policy.now script.now workers delays room result.printed.items result.status }
+    ensures says { Says result.status result.said.items }
+{
+    let mut files = GivenFiles::new(policy, script, &[]);
+    let mut out = HeldBytes::new(alloc, room + 1);
+    let mut err = HeldBytes::new(alloc, LINE_ROOM);
+    let status = carry_out(
+        &LoneThread,
+        alloc,
+        explore_job(workers, delays),
+        &mut files,
+        &mut out,
+        &mut err,
+    );
+    outcome_of(status, room, out, err)
+}
+
+/// The bound that a number of delays means, 0 to 8, or none where it means all; nothing where it means neither.
+fn bound_meant(delays: u32) -> Option<Option<u64>>
+    ensures { result ≡ bound_meant delays }
+{
+    if delays == ALL_DELAYS {
+        Some(None)
+    } else if delays <= 8 {
+        Some(Some(u64::from(delays)))
+    } else {
+        None
+    }
+}
+
+/// The job that asks for what a script can come to, by workers up to this one and with this bound, if there can be such.
+fn explore_job<'a>(workers: u32, delays: u32) -> Option<Job<'a>>
+    ensures meant { option_map job_of result ≡ explore_asked workers (bound_meant delays) }
+    ensures few { ForSome result IsJobInRange }
+{
+    let delays = bound_meant(delays)?;
+    if workers > 15 {
+        return None;
+    }
+    Some(Job::Explore {
+        policy: POLICY,
+        script: SCRIPT,
+        workers: workers as u8,
+        delays,
+    })
 }
 
 /// The job that asks for workers that are replaced after each so many of their steps, if they can be.

@@ -1,7 +1,7 @@
 //! The top call over files and sinks in memory, where a call of the files or a write fails.
 
 use crate::top_call::{Given, run, sound};
-use broker_app::status::{InputFile, Status};
+use broker_app::status::{InputFile, Refusal, Status};
 use std::alloc::Global;
 use std::process::Abort;
 use std::sync::Wait;
@@ -86,7 +86,7 @@ fn done(report: &str) -> Want<'_> {
 /// No report, since a call on this file failed.
 fn read_fault(file: InputFile, line: &str) -> Want<'_> {
     Want {
-        status: Status::ReadFault(file),
+        status: Status::Refused(Refusal::ReadFault(file)),
         code: 2,
         line,
         report: "",

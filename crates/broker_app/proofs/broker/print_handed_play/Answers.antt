@@ -20,8 +20,8 @@ pub returns : goal.returns
 returns g c =
     let played = c.in_ok-played.played in
     let out = g.O.Sink.state c.args.out.now in
-    let after = g.O.Sink.state c.print_text.new.out in
-    ends_handed c.args.every played.policy c.args.policy c.args.script played.history.events played.handed.items out after c.print_text.result
+    let after = g.O.Sink.state c.print_text-printed.new.out in
+    ends_handed c.args.every played.policy c.args.policy c.args.script played.history.events played.handed.items out after c.print_text-printed.result
     c.in_ok-played.ensures.policy c.in_ok-played.ensures.events c.in_ok-played.ensures.handed
-    (subst (λ (handed : List Handover). Printed (report (judging_by played.policy.rules) played.history.events ++ handovers (all_handed handed)) out after c.print_text.result)
-    c.as_slice.ensures.value c.print_text.ensures)
+    (subst (λ (handed : List Handover). Printed (report (judging_by played.policy.rules) played.history.events ++ handovers (all_handed handed)) out after c.print_text-printed.result)
+    c.as_slice.ensures.value c.print_text-printed.ensures)

@@ -1,6 +1,6 @@
 use Rattle.std.proofs.Common.{◌∙◌}
 use Rattle.std.proofs.lemmas.Result.{IfOk-weaker}
-use Rattle.broker_app.proofs.Runs.{has_ended}
+use Rattle.worker_gate.proofs.Endings.{has_ended}
 use Rattle.broker_app.proofs.players.run_container.Goals as goal
 
 pub close_listener-requires : goal.close_listener-requires

@@ -1,0 +1,94 @@
+-- Each legal history that is explored without a bound has one of the printed outcomes, where no history is left.
+-- By induction on the histories: an outcome that is there stays there, and that of a history that is counted comes there.
+use Rattle.std.proofs.Common.{◌≡◌, ℕ, ◌≤◌, Bool, true, false, List, [], ◌∷◌, ◌⊎◌, inl, inr, refl, sym, ap, subst, arith}
+use Rattle.std.specs.Prelude.{Contains, Option, Some, None, bytes_eq, if◌then◌else◌, map}
+use Rattle.std.proofs.lemmas.List.Elements.{Contains-append_cases, Contains-append_left, Contains-append_right, Contains-push, Contains-push_cases}
+use Rattle.std.proofs.lemmas.Slice.Eq.{bytes_eq-Decides}
+use Rattle.delay_bounded.specs.Explored.{bound_of, explored}
+use Rattle.delay_bounded.specs.Laws.{IsComplete}
+use Rattle.explorer.proofs.Taking.{taken_whole}
+use Rattle.explorer.specs.Taken.{event_limit, none_left, taken}
+use Rattle.explorer.specs.Tallies.{CountedOutcome, added, of_one, outcomes, tallied, with_more}
+use Rattle.hist_model.specs.Legal.{with_step}
+use Rattle.hist_model.specs.ReportAudit.{Judging, judging_by}
+use Rattle.hist_model.specs.declared.event.Actor.TheVariants.{Listener}
+use Rattle.hist_model.specs.declared.event.Event.{Event}
+use Rattle.hist_model.specs.declared.policy.Policy.{Policy}
+use Rattle.hist_model.specs.declared.script.Script.{Script}
+use Rattle.outcome_text.specs.Outcomes.{result_of}
+use Rattle.broker_app.specs.Explorations.{EachHasOutcome, IsWhole}
+
+-- ---- Elements of lists
+
+module _ {X : Type 0} where
+  here : (x : X) (xs : List X) → Contains (x ∷ xs) x
+  here x xs = Contains-append_left (x ∷ []) xs x (Contains-push [] x)
+
+  later : (y x : X) (xs : List X) → Contains xs x → Contains (y ∷ xs) x
+  later y x xs h = Contains-append_right (y ∷ []) xs x h
+
+  none : (x : X) → ¬ (Contains [] x)
+  none x h = omega (arith, h.1)
+
+  first_or_later : (y x : X) (xs : List X) → Contains (y ∷ xs) x → (y ≡ x) ⊎ Contains xs x
+  first_or_later y x xs h =
+      elim (Contains-append_cases (y ∷ []) xs x h) [ inl first ↦ elim (Contains-push_cases [] y x first) [ inl there ↦ absurd (none x there) | inr is ↦ inl is ] | inr there ↦ inr there ]
+
+-- ---- Outcomes
+
+-- the texts of outcomes
+abbrev texts : List CountedOutcome → List (List ℕ)
+texts os = map (λ (o : CountedOutcome). o.text) os
+
+-- a text that is there stays there, whichever outcome is added
+stays_there : (text : List ℕ) (o : CountedOutcome) (os : List CountedOutcome) → Contains (texts os) text → Contains (texts (added o os)) text
+stays_there text o [] there = absurd (none text there)
+stays_there text o (p ∷ os) there = by (bytes_eq p.text o.text) (stays_there text o os)
+  where
+    by : (same : Bool) → (Contains (texts os) text → Contains (texts (added o os)) text) → Contains (texts (if same then with_more p o.histories ∷ os else p ∷ added o os)) text
+    by true stays = there
+    by false stays =
+        elim (first_or_later p.text text (texts os) there) [
+          | inl is ↦ subst (λ t. Contains (p.text ∷ texts (added o os)) t) is (here p.text (texts (added o os)))
+          | inr behind ↦ later p.text text (texts (added o os)) (stays behind)
+        ]
+
+-- the text of an outcome that is added comes there
+comes_there : (o : CountedOutcome) (os : List CountedOutcome) → Contains (texts (added o os)) o.text
+comes_there o [] = here o.text []
+comes_there o (p ∷ os) = by (bytes_eq p.text o.text) refl (comes_there o os)
+  where
+    by : (same : Bool) → bytes_eq p.text o.text ≡ same → Contains (texts (added o os)) o.text → Contains (texts (if same then with_more p o.histories ∷ os else p ∷ added o os)) o.text
+    by true is comes = subst (λ t. Contains (p.text ∷ texts os) t) ((bytes_eq-Decides p.text o.text).0 is) (here p.text (texts os))
+    by false is comes = later p.text o.text (texts (added o os)) comes
+
+-- ---- Histories
+
+-- a text that is there stays there, whichever histories are counted
+stays_counted : (J : Judging) (text : List ℕ) (os : List CountedOutcome) (L : List (List Event)) → Contains (texts os) text → Contains (texts (tallied J os L)) text
+unfolding tallied
+stays_counted J text os [] there = there
+stays_counted J text os (H ∷ more) there = stays_counted J text (added (of_one J H) os) more (stays_there text (of_one J H) os there)
+
+-- what a history of the list comes to is there
+counted : (J : Judging) (H : List Event) (os : List CountedOutcome) (L : List (List Event)) → Contains L H → Contains (texts (tallied J os L)) (result_of J H)
+unfolding tallied
+counted J H os [] there = absurd (none H there)
+counted J H os (G ∷ more) there =
+    elim (first_or_later G H more there) [
+      | inl is ↦ stays_counted J (result_of J H) (added (of_one J G) os) more
+          (subst (λ text. Contains (texts (added (of_one J G) os)) text) (ap (result_of J) is) (comes_there (of_one J G) os))
+      | inr behind ↦ counted J H (added (of_one J G) os) more behind
+    ]
+
+-- ---- In all
+
+-- without a bound each has its outcome, where no history is left
+pub is_whole : (P : Policy) (S : Script) (W : ℕ) → W ≤ 16 → IsComplete → (delays : Option ℕ) → IsWhole W delays P S
+is_whole P S W few complete (Some d) = tt
+is_whole P S W few complete None = λ whole K counts walked over.
+    let L = explored P S W (bound_of None) in
+    let all : L ≡ taken event_limit L = sym (taken_whole event_limit L whole) in
+    let H = with_step P S Listener K in
+    subst (λ (M : List (List Event)). Contains (texts (outcomes (judging_by P.rules) M)) (result_of (judging_by P.rules) H)) all
+    (counted (judging_by P.rules) H [] L (complete P S W K few counts walked over))

@@ -1,0 +1,36 @@
+-- What was read wasn't served, since ranges overlap; or it was, and was printed or a part of it.
+use Rattle.std.proofs.Common.{rules, ◌≡◌, List, Err, subst}
+use Rattle.pod_broker.specs.Pods.{NoneOverlap}
+use Rattle.pod_broker.specs.Serving.{scripts}
+use Rattle.pod_broker.specs.declared.container.Container.{Container}
+use Rattle.worker_gate.specs.declared.schedule.Played.{Played}
+use Rattle.broker_app.proofs.Containers.{have_ended, pod_ends, ranges_stop}
+use Rattle.broker_app.specs.Answers.{Printed}
+use Rattle.broker_app.specs.Forms.{texts}
+use Rattle.broker_app.specs.PodText.{pod_text}
+use Rattle.broker_app.specs.Pods.{AreServedApart, Overlapping}
+use Rattle.broker_app.specs.Words.{in_pairs}
+use Rattle.broker_app.proofs.broker.serve_files.Goals as goal
+
+pub returns-in_err-see_ranges : goal.returns-in_err-see_ranges
+returns-in_err-see_ranges g c =
+    let stopped : c.from_residual-in_err-see_ranges.result ≡ Err c.in_err-see_ranges.field-0.0 = search rules in
+    rw stopped
+    (ranges_stop (g.F.Files.state c.args.files.now) (g.F.Files.state c.read_containers.new.files) (g.O.Sink.state c.args.out.now) c.args.workers (in_pairs (texts c.args.names.now))
+    c.in_ok-containers.containers.items c.in_err-see_ranges.field-0.0 c.in_ok-containers.ensures.read
+    (subst (λ (cs : List Container). Overlapping cs c.in_err-see_ranges.field-0.0) c.as_slice.ensures.value c.in_err-see_ranges.ensures.refused))
+
+pub returns : goal.returns
+returns g c =
+    let files = g.F.Files.state c.args.files.now in
+    let pairs = in_pairs (texts c.args.names.now) in
+    let containers = c.in_ok-containers.containers.items in
+    let ended = c.in_ok-ended.ended.items in
+    let separate : NoneOverlap (scripts containers) = subst (λ (cs : List Container). NoneOverlap (scripts cs)) c.as_slice.ensures.value c.in_ok-see_ranges.ensures.separate in
+    let served : AreServedApart files c.args.workers pairs ended =
+    record {
+      ended = have_ended files c.args.workers pairs containers ended c.in_ok-containers.ensures.read c.in_ok-ended.ensures.served;
+      apart = c.in_ok-ended.ensures.apart separate;
+    } in
+    pod_ends files (g.F.Files.state c.read_containers.new.files) (g.O.Sink.state c.args.out.now) (g.O.Sink.state c.print_containers.new.out) c.args.workers pairs ended c.print_containers.result served
+    (subst (λ (ps : List Played). Printed (pod_text ps) (g.O.Sink.state c.args.out.now) (g.O.Sink.state c.print_containers.new.out) c.print_containers.result) c.as_slice-2.ensures.value c.print_containers.ensures)

@@ -1,0 +1,79 @@
+-- What the answer of an exploration of two files means: what is printed of the explored histories, and why it stopped.
+use Rattle.std.specs.Prelude.{◌≡◌, ℕ, ◌<◌, ◌^◌, ◌++◌, ◌⊎◌, true, All, Contains, List, length, map, Ok, Option, Some, None}
+use Rattle.delay_bounded.specs.Explored.{bound_of, explored}
+use Rattle.delay_bounded.specs.Laws.{AreNamed, ClosesFinished, IsExplored, IsOver, IsWalked}
+use Rattle.explorer.specs.Printed.{blocks, counts_line, printed}
+use Rattle.explorer.specs.Taken.{event_limit, none_left, taken}
+use Rattle.explorer.specs.Tallies.{CountedOutcome, outcomes}
+use Rattle.explorer.specs.declared.exploring.Exploration.{Exploration}
+use Rattle.hist_model.specs.Legal.{with_step}
+use Rattle.hist_model.specs.ReportAudit.{judging_by}
+use Rattle.hist_model.specs.declared.event.Actor.TheVariants.{Listener}
+use Rattle.hist_model.specs.declared.event.Event.{Event}
+use Rattle.hist_model.specs.declared.policy.Policy.{Policy}
+use Rattle.hist_model.specs.declared.script.Script.{Script}
+use Rattle.io_edge.specs.Faults.{Rose}
+use Rattle.io_edge.specs.FileState.{FileState}
+use Rattle.io_edge.specs.SinkState.{SinkState, AddsPrefix}
+use Rattle.outcome_text.specs.Outcomes.{result_of}
+use Rattle.broker_app.specs.Inputs.{PolicyIs, ScriptIs}
+use Rattle.broker_app.specs.Refusals.{InputRefused, Stands, TookNothing}
+use Rattle.broker_app.specs.declared.status.Status.{Status}
+use Rattle.broker_app.specs.declared.status.Status.TheVariants.{Done, WriteFault, NoMemory}
+
+-- ---- What was printed
+
+-- what is printed of what was found
+abbrev pub exploration_text : Exploration → List ℕ
+exploration_text x = counts_line x.histories x.events x.longest (length x.outcomes.items) x.whole ++ blocks 1 x.outcomes.items
+
+-- what is printed of what a policy and a script come to, by workers up to W, with so many delays at most, or all
+abbrev pub explored_text : ℕ → Option ℕ → Policy → Script → List ℕ
+explored_text W delays P S = printed P (explored P S W (bound_of delays))
+
+-- the texts of the outcomes that are printed of some histories
+abbrev pub printed_outcomes : Policy → List (List Event) → List (List ℕ)
+printed_outcomes P histories = map (λ (o : CountedOutcome). o.text) (outcomes (judging_by P.rules) (taken event_limit histories))
+
+-- ---- What holds of it
+
+-- a legal history in which of the idle workers the lowest receives, without a Skip and by workers up to W, at whose end nobody is able to step, comes to one of the printed outcomes
+abbrev pub EachHasOutcome : ℕ → Policy → Script → Type 0
+EachHasOutcome W P S = (K : List Event) → length K < 2 ^ 64 → IsWalked P S W K → IsOver P S W K
+    → Contains (printed_outcomes P (explored P S W (bound_of None))) (result_of (judging_by P.rules) (with_step P S Listener K))
+
+-- so it is without a bound, where no history is left
+abbrev pub IsWhole : ℕ → Option ℕ → Policy → Script → Type 0
+IsWhole W None P S = none_left event_limit (explored P S W (bound_of None)) ≡ true → EachHasOutcome W P S
+IsWhole W (Some d) P S = Unit {0}
+
+-- each explored history is legal and mediated, and its schedule plays it; where its tasks have names of the form, it is finished before its close; and without a bound each has its outcome
+pub record ExploredLaws (W : ℕ) (delays : Option ℕ) (P : Policy) (S : Script) : Type 0 where
+  pub each : All (IsExplored P S W) (explored P S W (bound_of delays))
+  pub finished : All (λ H. length H < 2 ^ 64 → AreNamed H → ClosesFinished H) (explored P S W (bound_of delays))
+  pub whole : IsWhole W delays P S
+
+-- these are the policy and the script of the named files, and so is what is explored of them
+pub record AreExplored (files : FileState) (policy script : List ℕ) (W : ℕ) (delays : Option ℕ) (P : Policy) (S : Script) : Type 0 where
+  pub policy_is : PolicyIs files policy (Ok P)
+  pub script_is : ScriptIs files script (Ok S)
+  pub laws : ExploredLaws W delays P S
+
+-- the sink took a prefix of what is printed of the two files
+abbrev pub TookExploredPrefix : FileState → List ℕ → List ℕ → ℕ → Option ℕ → SinkState → SinkState → Type 0
+TookExploredPrefix files policy script W delays old new =
+    (P : Policy) × (S : Script) × AreExplored files policy script W delays P S × (old.tells ≡ true → AddsPrefix old.taken (explored_text W delays P S) new.taken)
+
+-- the sink took the whole of it
+abbrev pub TookExplored : FileState → List ℕ → List ℕ → ℕ → Option ℕ → SinkState → SinkState → Type 0
+TookExplored files policy script W delays old new =
+    (P : Policy) × (S : Script) × AreExplored files policy script W delays P S × (old.tells ≡ true → new.taken ≡ old.taken ++ explored_text W delays P S)
+
+-- ---- How it ended
+
+-- how the exploration of a policy's and a script's files ended
+abbrev pub ExploreEnds : FileState → FileState → SinkState → SinkState → List ℕ → List ℕ → ℕ → Option ℕ → Status → Type 0
+ExploreEnds files after old new policy script W delays Done = TookExplored files policy script W delays old new × Stands new
+ExploreEnds files after old new policy script W delays WriteFault = Rose old.faults new.faults × TookExploredPrefix files policy script W delays old new
+ExploreEnds files after old new policy script W delays NoMemory = TookNothing old new ⊎ TookExploredPrefix files policy script W delays old new
+ExploreEnds files after old new policy script W delays status = InputRefused files after policy script status × TookNothing old new

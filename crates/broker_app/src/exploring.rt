@@ -1,0 +1,81 @@
+//! What a script can come to: its histories are explored, and what was found is printed.
+
+ghost use Rattle.std.specs.Prelude.{◌≡◌, ◌≤◌, OnOk};
+ghost use Rattle.audit_log.specs.Written.{Wrote};
+ghost use Rattle.broker_app.specs.Answers.{Printed, status_of};
+ghost use Rattle.broker_app.specs.Explorations.{ExploreEnds, exploration_text, explored_text};
+ghost use Rattle.broker_app.specs.Refusals.{Stands};
+
+use crate::inputs::read_inputs;
+use crate::outcomes::write_exploration;
+use crate::status::Status;
+use audit_log::error::ReportError;
+use delay_bounded::laws::{all_is_complete, explored_are_finished, explored_are_legal};
+use explorer::{Exploration, explore};
+use hist_model::policy::Policy;
+use hist_model::script::Script;
+use io_edge::files::Files;
+use io_edge::sink::Sink;
+use std::alloc::Global;
+
+/// Writes what was found, and flushes it.
+#[tactic(auto, using(crate::proofs::Ends::flushed))]
+fn write_flushed<O: Sink>(
+    alloc: Global,
+    found: &Exploration,
+    out: &mut O,
+) -> Result<(), ReportError>
+    ensures wrote { Wrote (O.state out.old) (exploration_text found.now) result (O.state out.new) }
+    ensures stands { OnOk result (Stands (O.state out.new)) }
+{
+    write_exploration(alloc, found, out)?;
+    out.flush()?;
+    Ok(())
+}
+
+/// Prints what was found.
+#[tactic(auto, using(crate::proofs::Ends::printed_whole, crate::proofs::Ends::printed_part))]
+fn print_exploration<O: Sink>(alloc: Global, found: &Exploration, out: &mut O) -> Result<(), Status>
+    ensures { Printed (exploration_text found.now) (O.state out.old) (O.state out.new) result }
+{
+    write_flushed(alloc, found, out)?;
+    Ok(())
+}
+
+/// Explores a script under a policy, and prints what was found.
+#[tactic(auto, using(crate::proofs::Ends::ends_unplayed))]
+fn print_explored<O: Sink>(
+    alloc: Global,
+    policy: &Policy,
+    script: Script,
+    workers: u8,
+    delays: Option<u64>,
+    out: &mut O,
+) -> Result<(), Status>
+    requires { workers ≤ 15 }
+    ensures { Printed (explored_text workers delays policy.now script) (O.state out.old) (O.state out.new) result }
+{
+    let found = explore(alloc, policy, script, workers, delays)?;
+    print_exploration(alloc, &found, out)
+}
+
+/// Explores the script in one file under the policy in another, and prints what was found.
+#[tactic(auto, using(crate::proofs::Explored::explore_stops))]
+pub(crate) fn explore_files<F: Files, O: Sink>(
+    alloc: Global,
+    files: &mut F,
+    policy: &str,
+    script: &str,
+    workers: u8,
+    delays: Option<u64>,
+    out: &mut O,
+) -> Result<(), Status>
+    requires { workers ≤ 15 }
+    ensures { ExploreEnds (F.state files.old) (F.state files.new) (O.state out.old) (O.state out.new) policy.now script.now workers delays (status_of result) }
+{
+    let (policy, script) = read_inputs(alloc, files, policy, script)?;
+    explored_are_legal();
+    explored_are_finished();
+    all_is_complete();
+    print_explored(alloc, &policy, script, workers, delays, out)
+}

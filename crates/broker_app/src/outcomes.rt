@@ -1,0 +1,166 @@
+//! What is printed of what exploring came to.
+
+ghost use Rattle.std.specs.Prelude.{◌≡◌, ◌++◌, IfOk, OnOk, decimal, length, option_copied};
+ghost use Rattle.std.specs.List.{flat_map};
+ghost use Rattle.audit_log.specs.Written.{Wrote};
+ghost use Rattle.explorer.specs.Printed.{actor_words, blocks, counts_line, or_none, outcome_block, schedule_block, step_line, yes_or_no};
+ghost use Rattle.broker_app.specs.Explorations.{exploration_text};
+
+use audit_log::error::ReportError;
+use audit_log::line::LineBuffer;
+use audit_log::part::write_line;
+use audit_log::words::push_name;
+use explorer::{Exploration, FoundOutcome};
+use hist_model::event::Actor;
+use hist_model::script::Step;
+use io_edge::sink::Sink;
+use std::alloc::Global;
+use sys_abi::memory::NoMemory;
+
+/// Adds a word and a number.
+fn push_count(line: &mut LineBuffer, word: &str, number: u64) -> Result<(), NoMemory>
+    ensures { OnOk result (line.new ≡ line.old ++ (word.now ++ decimal number)) }
+{
+    line.push(word)?;
+    line.push_number(number)
+}
+
+/// The word for whether no history is left.
+fn yes_or_no(whole: bool) -> &'static str
+    ensures { result.now ≡ yes_or_no whole }
+{
+    if whole { "yes" } else { "no" }
+}
+
+/// The line that says how many histories were explored, how many events they have, and how many outcomes.
+fn counts_line(alloc: Global, found: &Exploration) -> Result<LineBuffer, NoMemory>
+    ensures { IfOk result (λ line. line ≡ counts_line found.now.histories found.now.events found.now.longest (length found.now.outcomes.items) found.now.whole) }
+{
+    let mut line = LineBuffer::new(alloc);
+    push_count(&mut line, "explored histories=", found.histories)?;
+    push_count(&mut line, " events=", found.events)?;
+    push_count(&mut line, " longest=", found.longest)?;
+    push_count(&mut line, " outcomes=", found.outcomes.len() as u64)?;
+    line.push(" whole=")?;
+    line.push(yes_or_no(found.whole))?;
+    line.push("\n")?;
+    Ok(line)
+}
+
+/// Adds an actor as a schedule names it.
+fn push_actor(line: &mut LineBuffer, who: &Actor) -> Result<(), NoMemory>
+    ensures { OnOk result (line.new ≡ line.old ++ actor_words who.now) }
+{
+    match who {
+        Actor::Task(name) => {
+            line.push("t ")?;
+            push_name(line, name)
+        }
+        Actor::Worker(number) => push_count(line, "w ", u64::from(*number)),
+        _ => Ok(()),
+    }
+}
+
+/// Adds a line of a schedule.
+fn push_step(line: &mut LineBuffer, step: &Step) -> Result<(), NoMemory>
+    ensures { OnOk result (line.new ≡ line.old ++ step_line step.now) }
+{
+    push_actor(line, &step.who)?;
+    push_count(line, " ", u64::from(step.count))?;
+    line.push("\n")
+}
+
+/// Adds the lines of a schedule, from the first on.
+fn push_steps(line: &mut LineBuffer, steps: &[Step]) -> Result<(), NoMemory>
+    ensures { OnOk result (line.new ≡ line.old ++ flat_map step_line steps.now) }
+{
+    for step in steps {
+        push_step(line, step)?;
+    }
+    Ok(())
+}
+
+/// Adds the block with which a script plays a history; without a schedule, that it would be too long.
+fn push_schedule(line: &mut LineBuffer, schedule: Option<&[Step]>) -> Result<(), NoMemory>
+    ensures { OnOk result (line.new ≡ line.old ++ schedule_block (option_copied schedule.entry)) }
+{
+    match schedule {
+        None => line.push("schedule too long\n"),
+        Some(steps) => {
+            line.push("schedule\n")?;
+            push_steps(line, steps)?;
+            line.push("end\n")
+        }
+    }
+}
+
+/// Adds the lines of an outcome, or `none` where it has none.
+fn push_or_none(line: &mut LineBuffer, text: &[u8]) -> Result<(), NoMemory>
+    ensures { OnOk result (line.new ≡ line.old ++ or_none text.now) }
+{
+    if text.is_empty() {
+        line.push("none\n")
+    } else {
+        line.push_bytes(text)
+    }
+}
+
+/// An outcome with its number.
+fn outcome_block(alloc: Global, number: u64, outcome: &FoundOutcome) -> Result<LineBuffer, NoMemory>
+    ensures { IfOk result (λ line. line ≡ outcome_block number outcome.now) }
+{
+    let mut line = LineBuffer::new(alloc);
+    push_count(&mut line, "outcome ", number)?;
+    push_count(&mut line, " histories=", outcome.histories())?;
+    line.push("\n")?;
+    push_or_none(&mut line, outcome.text())?;
+    push_schedule(&mut line, outcome.schedule())?;
+    Ok(line)
+}
+
+/// Writes an outcome with its number.
+fn write_outcome<O: Sink>(
+    alloc: Global,
+    number: u64,
+    outcome: &FoundOutcome,
+    out: &mut O,
+) -> Result<(), ReportError>
+    ensures { Wrote (O.state out.old) (outcome_block number outcome.now) result (O.state out.new) }
+{
+    let block = outcome_block(alloc, number, outcome)?;
+    write_line(&block, out)
+}
+
+/// Writes the outcomes, numbered from 1 on.
+fn write_outcomes<O: Sink>(
+    alloc: Global,
+    outcomes: &[FoundOutcome],
+    out: &mut O,
+) -> Result<(), ReportError>
+    ensures { Wrote (O.state out.old) (blocks 1 outcomes.now) result (O.state out.new) }
+{
+    for index in 0..outcomes.len() {
+        write_outcome(alloc, index as u64 + 1, &outcomes[index], out)?;
+    }
+    Ok(())
+}
+
+/// Writes how many histories were explored.
+fn write_counts<O: Sink>(alloc: Global, found: &Exploration, out: &mut O) -> Result<(), ReportError>
+    ensures { Wrote (O.state out.old) (counts_line found.now.histories found.now.events found.now.longest (length found.now.outcomes.items) found.now.whole) result (O.state out.new) }
+{
+    let line = counts_line(alloc, found)?;
+    write_line(&line, out)
+}
+
+/// Writes what exploring came to.
+pub(crate) fn write_exploration<O: Sink>(
+    alloc: Global,
+    found: &Exploration,
+    out: &mut O,
+) -> Result<(), ReportError>
+    ensures { Wrote (O.state out.old) (exploration_text found.now) result (O.state out.new) }
+{
+    write_counts(alloc, found, out)?;
+    write_outcomes(alloc, found.outcomes.as_slice(), out)
+}
