@@ -117,6 +117,14 @@ def devices(calls):
     return made
 
 
+def callers(calls):
+    """Two tasks that make so many calls each, all for one of two nodes. There is no schedule: it is explored."""
+    made = Input(MKNOD, "notify mknod")
+    made.program("second", *["call mknod 0x10010 0o020666 259"] * calls)
+    made.program("main", 'poke 0x10000 "/a\\0"', 'poke 0x10010 "/b\\0"', "spawn second", *["call mknod 0x10000 0o020666 259"] * calls)
+    return made
+
+
 # ---- five kinds of calls
 
 FIVE_KINDS = {

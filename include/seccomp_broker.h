@@ -34,9 +34,10 @@ extern "C" {
 /* How a call ended. 0 to 9 are the program's exit statuses. With each but BROKER_DONE and BROKER_SHORT_BUFFER, `line` has the one
  * line that the program would print on standard error; with these two it is empty. */
 enum broker_status {
-  /* `out` has the whole report, with the ledgers behind it of broker_handover, or the whole of what broker_audit_check found. */
+  /* `out` has the whole report, with the ledgers behind it of broker_handover, or the whole of what broker_audit_check or
+   * broker_explore found. */
   BROKER_DONE = 0,
-  /* `count` isn't 1 to 4000, or `every` isn't 1 to 200000. */
+  /* `count` isn't 1 to 4000, `every` isn't 1 to 200000, `workers` is above 15, or `delays` above 8 and not BROKER_ALL_DELAYS. */
   BROKER_USAGE = 1,
   /* A file couldn't be read. No call of this library answers it. */
   BROKER_READ_FAULT = 2,
@@ -122,6 +123,26 @@ enum broker_status broker_handover(const void *policy, size_t policy_length,
                                    size_t room,
                                    void *out, size_t out_size, size_t *out_length,
                                    void *line, size_t line_size, size_t *line_length);
+
+/* The number of delays that means all of them. */
+#define BROKER_ALL_DELAYS UINT32_MAX
+
+/*
+ * Explores what a script can come to under a policy: plays it in every order of steps with at most so many `delays`, 0 to 8, or
+ * BROKER_ALL_DELAYS, by workers from 0 to `workers`, at most 15. Writes to `out` what `explore POLICY SCRIPT WORKERS DELAYS` prints: how
+ * many histories were explored, and each thing that came of the calls, with a schedule that shows it. Here the lengths, `room` and
+ * BROKER_SHORT_BUFFER are of that text.
+ *
+ * Answers BROKER_DONE, BROKER_USAGE, BROKER_TOO_LONG, BROKER_BAD_POLICY, BROKER_BAD_SCRIPT, BROKER_WRITE_FAULT, BROKER_NO_MEMORY or
+ * BROKER_SHORT_BUFFER. The policy is looked at first, and a script only where the policy is taken.
+ */
+BROKER_NOT_NULL(10, 13)
+enum broker_status broker_explore(const void *policy, size_t policy_length,
+                                  const void *script, size_t script_length,
+                                  uint32_t workers, uint32_t delays,
+                                  size_t room,
+                                  void *out, size_t out_size, size_t *out_length,
+                                  void *line, size_t line_size, size_t *line_length);
 
 #undef BROKER_NOT_NULL
 

@@ -1,6 +1,6 @@
 """Plays scripts under policies, and checks reports, by the C library that tools/make-c-library makes: play(policy, script) gives a
-Report, hand_over(policy, script, every) its text and the ledgers of workers that were replaced, and check(policy, script, report) what
-is found of a report; all raise Refused."""
+Report, hand_over(policy, script, every) its text and the ledgers of workers that were replaced, check(policy, script, report) what is
+found of a report, and explore(policy, script, workers, delays) what can come of a script; all raise Refused."""
 import ctypes
 import json
 import os
@@ -13,8 +13,10 @@ BYTES, SIZE, LENGTH = ctypes.c_char_p, ctypes.c_size_t, ctypes.POINTER(ctypes.c_
 LIBRARY.broker_play.argtypes = [BYTES, SIZE] * 2 + [SIZE, BYTES, SIZE, LENGTH, BYTES, SIZE, LENGTH]
 LIBRARY.broker_audit_check.argtypes = [BYTES, SIZE] * 3 + [SIZE, BYTES, SIZE, LENGTH, BYTES, SIZE, LENGTH]
 LIBRARY.broker_handover.argtypes = [BYTES, SIZE] * 2 + [ctypes.c_uint32, SIZE, BYTES, SIZE, LENGTH, BYTES, SIZE, LENGTH]
+LIBRARY.broker_explore.argtypes = [BYTES, SIZE] * 2 + [ctypes.c_uint32] * 2 + [SIZE, BYTES, SIZE, LENGTH, BYTES, SIZE, LENGTH]
 LIBRARY.broker_play.restype = LIBRARY.broker_audit_check.restype = LIBRARY.broker_handover.restype = ctypes.c_uint
-DONE, SHORT_BUFFER, ROOM_LIMIT = 0, 100, 1 << 30
+LIBRARY.broker_explore.restype = ctypes.c_uint
+DONE, SHORT_BUFFER, ROOM_LIMIT, ALL_DELAYS = 0, 100, 1 << 30, 2**32 - 1
 
 
 class Refused(Exception):
@@ -87,3 +89,15 @@ def check(policy, script, report):
     first, *trail = answer(LIBRARY.broker_audit_check, policy, script, report).splitlines()
     fields = dict(field.split("=") for field in first.split()[1:])
     return Findings(int(fields["events"]), fields["finished"] == "yes", trail)
+
+
+def explore(policy, script, workers=0, delays=ALL_DELAYS):
+    """What can come of a script under a policy, by workers up to this number: of each outcome its lines, how many histories have it, and
+    the lines of a schedule that shows it. And whether no history within the bound of delays is left."""
+    first, *lines = answer(LIBRARY.broker_explore, policy, script, numbers=[workers, delays]).splitlines()
+    outcomes = []
+    for line in lines:
+        if line.startswith("outcome "):
+            outcomes.append(([], int(line.rpartition("=")[2]), []))
+        outcomes[-1][2 if outcomes[-1][2] or line.startswith("schedule") else 0].append(line)
+    return [(told[1:], count, schedule) for told, count, schedule in outcomes], first.endswith("whole=yes")

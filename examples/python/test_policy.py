@@ -2,7 +2,7 @@
 import json
 import unittest
 
-from seccomp_broker import Refused, check, hand_over, play, report_of
+from seccomp_broker import Refused, check, explore, hand_over, play, report_of
 
 KEYS = "security.syscalls.intercept."
 SCRIPT = r"""
@@ -72,6 +72,12 @@ class Boot(unittest.TestCase):
         place, ledger = ledgers[0]
         self.assertIn(f'{place} w0 act mknod "/dev/null" chr 1:3 ok', report.splitlines())
         self.assertEqual(ledger["count"], 6)
+
+    def test_no_order_of_steps_makes_the_node_twice_or_refuses_it(self):
+        outcomes, whole = explore(policy(mknod="true"), SCRIPT)
+        self.assertTrue(whole)
+        for lines, _, _ in outcomes:
+            self.assertEqual(len([line for line in lines if line.startswith(" did mknod ")]), 1)
 
     def test_a_report_of_another_policy_is_none(self):
         with self.assertRaises(Refused) as refused:

@@ -1,0 +1,34 @@
+"""What a pod printed, taken apart."""
+import re
+
+PART = re.compile(rb"container (\d+)\n")
+
+
+def parts(out):
+    """The report of each container, and the last line. A ValueError says what has another form."""
+    reports, lines = [], out.splitlines(keepends=True)
+    while lines and (title := PART.fullmatch(lines[0])):
+        if int(title[1]) != len(reports):
+            raise ValueError(f"{title[0]!r} where container {len(reports)} is next")
+        end = next((at for at, line in enumerate(lines) if line.startswith(b"summary ")), None)
+        if end is None:
+            raise ValueError(f"container {len(reports)} has no summary")
+        reports.append(b"".join(lines[1:end + 1]))
+        lines = lines[end + 1:]
+    if len(lines) != 1:
+        raise ValueError(f"{len(lines)} lines behind the parts")
+    return reports, lines[0]
+
+
+def numbers(line):
+    """The counts of a line, each under its name."""
+    return {name: int(count) for name, count in re.findall(rb"(\w+)=(\d+)", line)}
+
+
+def last_line(reports):
+    """The last line of a pod with these reports."""
+    sums = {}
+    for report in reports:
+        for name, count in numbers(report.splitlines()[-1]).items():
+            sums[name] = sums.get(name, 0) + count
+    return b"pod containers=%d " % len(reports) + b" ".join(b"%s=%d" % counted for counted in sums.items()) + b"\n"
