@@ -1,11 +1,11 @@
 -- Who has ended and who is reaped after an event, and who holds a PID.
 -- By the one event that each definition looks at first, and by induction on the search of a free number.
-use Rattle.std.proofs.Common.{◌≡◌, inl, inr, ℕ, zero, suc, ◌+◌, ◌<◌, ◌≤◌, Bool, true, false, ◌&&◌, not, List, [], ◌∷◌, length, Option, Some, None, refl, sym, ap, ◌∙◌, arith}
+use Rattle.std.proofs.Common.{◌≡◌, inl, inr, ℕ, zero, suc, ◌+◌, ◌<◌, Bool, true, false, ◌&&◌, not, List, [], ◌∷◌, length, Option, Some, None, refl, sym, ap, ◌∙◌, arith}
 use Rattle.std.specs.Prelude.{Ok, ◌-◌, if◌then◌else◌}
-use Rattle.std.proofs.lemmas.Bool.{cases_Bool, cases_order, cases_lt, eqb-true, or_right, both_ways, false_from_ne_true}
+use Rattle.std.proofs.lemmas.Bool.{cases_Bool, eqb-true, or_right, both_ways}
 use Rattle.hist_model.specs.Look.{Name, name_eq, newest, is_task, event_at, or_else, oldest}
 use Rattle.hist_model.specs.Kinds.{ends, makes}
-use Rattle.hist_model.specs.Tasks.{ended, was_waited_for, reaped, reaps, holds, holder, pid_of, name_of, given, given_in, is_some_of, is_made, child_of, parent, free_from, next_pid, last_pid, is_none}
+use Rattle.hist_model.specs.Tasks.{ended, was_waited_for, reaped, reaps, holds, holder, pid_of, name_of, given, given_in, is_some_of, is_made, child_of, free_from, next_pid, last_pid, is_none}
 use Rattle.hist_model.specs.Steps.{makes_in}
 use Rattle.hist_model.specs.Laws.{PidsDiffer}
 use Rattle.hist_model.specs.declared.event.Event.{Event}
@@ -68,14 +68,6 @@ holder-is K p t d h = go (newest (holds K p) (length K)) refl
     go : (o : Option ℕ) → newest (holds K p) (length K) ≡ o → newest (holds K p) (length K) ≡ Some t
     go None e = absurd (newest-found (holds K p) (length K) t (holds-below K p t h) h e)
     go (Some x) e = let y = newest-some (holds K p) (length K) x e in e ∙ ap Some (d p x t y.0 h)
-
-pub holder-none : (K : List Event) (p : ℕ) → ((t : ℕ) → holds K p t ≡ true → ⊥) → holder K p ≡ None
-unfolding holder
-holder-none K p h = go (newest (holds K p) (length K)) refl
-  where
-    go : (o : Option ℕ) → newest (holds K p) (length K) ≡ o → newest (holds K p) (length K) ≡ None
-    go None e = e
-    go (Some x) e = absurd (h x (newest-some (holds K p) (length K) x e).0)
 
 pub holder-holds : (K : List Event) (p t : ℕ) → holder K p ≡ Some t → holds K p t ≡ true
 unfolding holder
@@ -143,17 +135,6 @@ next-free base pidmax K p e = go (free_from K (base + pidmax - last_pid base K) 
     go (Some q) h e = free-none K (base + pidmax - last_pid base K) (last_pid base K + 1) p (h ∙ e)
     go None h e = free-none K (last_pid base K - base) (base + 1) p e
 
--- a task that isn't made is none that was made
-pub unmade-less : (e : Event) (K : List Event) (n : Name) → is_made (e ∷ K) n ≡ false → is_made K n ≡ false
-unmade-less e K n h = false_from_ne_true (is_made K n) (λ q. both_ways (is_made (e ∷ K) n) h (older-made e K n q))
-
-pub reaped-same : (e : Event) (K : List Event) (n : Name) → was_waited_for (e ∷ K) n ≡ was_waited_for K n → ended (e ∷ K) n ≡ ended K n → ended (e ∷ K) (parent n) ≡ ended K (parent n) → reaped (e ∷ K) n ≡ reaped K n
-unfolding reaped
-reaped-same e K n w d p = rw (w, d, p)
-
-pub unreaped-less : (e : Event) (K : List Event) (n : Name) → reaped (e ∷ K) n ≡ false → reaped K n ≡ false
-unreaped-less e K n h = false_from_ne_true (reaped K n) (λ q. both_ways (reaped (e ∷ K) n) h (reaped-more e K n q))
-
 -- two tasks have different names, where each name is new when it is given
 pub names-more : (e : Event) (K : List Event) → (makes e.what ≡ true → is_made K (child_of e.what) ≡ false)
     → ((t u : ℕ) → makes_in (event_at K t) ≡ true → makes_in (event_at K u) ≡ true → name_of K t ≡ name_of K u → t ≡ u)
@@ -189,27 +170,3 @@ pub oldest-least : (test : ℕ → Bool) (n t u : ℕ) → oldest test n ≡ Som
 unfolding oldest
 oldest-least test zero t u q h l = cc
 oldest-least test (suc n) t u q h l = older-step test n t u (oldest test n) refl q h l (λ z. oldest-least test n t u z h l)
-
-all-held : (K : List Event) (n p q : ℕ) → free_from K n p ≡ None → p ≤ q → q < p + n → holder K q ≡ None → ⊥
-unfolding free_from
-all-held K zero p q e l m h = absurd (omega arith)
-all-held K (suc n) p q e l m h = go (holder K p) refl e (λ z w. all-held K n (p + 1) q z w (omega arith) h)
-  where
-    go : (r : Option ℕ) → holder K p ≡ r → (if is_none r then Some p else free_from K n (p + 1)) ≡ None → (free_from K n (p + 1) ≡ None → p + 1 ≤ q → ⊥) → ⊥
-    go None f e ih = cc
-    go (Some t) f e ih = elim (cases_order p q) [
-      | inl z ↦ let w : Some t ≡ None = sym f ∙ (ap (holder K) z ∙ h) in cc
-      | inr z ↦ elim z [ inl z ↦ ih e (omega arith) | inr z ↦ absurd (omega arith) ]
-    ]
-
--- where no number comes next, each is held
-pub next-none : (base pidmax : ℕ) (K : List Event) (q : ℕ) → next_pid base pidmax K ≡ None → base < q → q ≤ base + pidmax → holder K q ≡ None → ⊥
-unfolding next_pid
-next-none base pidmax K q e l m h = go (free_from K (base + pidmax - last_pid base K) (last_pid base K + 1)) refl e
-  where
-    go : (r : Option ℕ) → free_from K (base + pidmax - last_pid base K) (last_pid base K + 1) ≡ r → or_else r (free_from K (last_pid base K - base) (base + 1)) ≡ None → ⊥
-    go (Some p) f e = cc
-    go None f e = elim (cases_lt (last_pid base K) q) [
-      | inl z ↦ all-held K (base + pidmax - last_pid base K) (last_pid base K + 1) q f (omega arith) (omega arith) h
-      | inr z ↦ all-held K (last_pid base K - base) (base + 1) q e (omega arith) (omega arith) h
-    ]

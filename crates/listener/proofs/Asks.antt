@@ -19,8 +19,10 @@ use Rattle.hist_model.specs.declared.event.What.{What}
 use Rattle.hist_model.specs.declared.event.What.TheVariants.{AddfdPut, AddfdTake, Install}
 use Rattle.hist_model.proofs.Look.{event_at-here, event_at-older}
 use Rattle.sys_abi.specs.declared.wire.Addfd.{Addfd}
-use Rattle.history_frames.proofs.Listed.{listed-cases, listed-is_call, id-older, named-listed, is-place, place-is, queue-same, queue-put, queue-rest, queue-new}
-use Rattle.history_frames.proofs.Queued.{request-left, request-same, request-more, call-older, call-here, call-id, install-here, install-same, install-left, install-new, first-for}
+use Rattle.history_frames.proofs.Listed.{listed-cases, listed-is_call, id-older, named-listed, place-is}
+use Rattle.history_frames.proofs.Queued.{request-same, request-more, call-older, call-here}
+use Rattle.listener.proofs.Queues.{is-place, queue-same, queue-put, queue-rest, queue-new}
+use Rattle.listener.proofs.Installs.{request-left, call-id, install-here, install-same, install-left, install-new, first-for}
 use Rattle.listener.specs.Requests.{is_waiting, new_request}
 use Rattle.listener.specs.declared.requests.Request.{Request as Ask}
 use Rattle.listener.specs.State.{told}

@@ -17,7 +17,8 @@ use Rattle.hist_model.specs.declared.event.What.TheVariants.{Enter, Recv, Send, 
 use Rattle.hist_model.specs.declared.event.Entered.TheVariants.{Notify}
 use Rattle.hist_model.specs.declared.notification.Reply.TheVariants.{Installing}
 use Rattle.hist_model.proofs.Look.{name_eq-true, name_eq-refl, newest-some, newest-found}
-use Rattle.history_frames.proofs.Listed.{listed-below, listed-is_call, calls-more, calls-same, recvs-more, recvs-same}
+use Rattle.history_frames.proofs.Listed.{listed-below, listed-is_call}
+use Rattle.listener.proofs.Counts.{calls-more, calls-same, recvs-more, recvs-same}
 use Rattle.listener.specs.Requests.{is_waiting}
 use Rattle.listener.specs.State.{State, Row, row_of, queue as asks_for, after, after_step, after_leave, after_put, after_take, after_install, after_install_by, with_ask, without_ask, with_reply, with_told, told, answer, result_reply, has_id}
 use Rattle.listener.specs.Fold.{places, row_at, rows, ask_at, ask_places, asks, Looks}

@@ -1,3 +1,6 @@
+pub mod Counts
+pub mod Queues
+pub mod Installs
 pub mod Lists
 pub mod Rows
 pub mod Halves

@@ -21,7 +21,8 @@ use Rattle.hist_model.specs.declared.notification.Reply.TheVariants.{Installing}
 use Rattle.hist_model.proofs.Look.{event_at-here, event_at-older, name_eq-true, name_eq-refl}
 use Rattle.sys_abi.specs.declared.wire.Addfd.{Addfd}
 use Rattle.sys_abi.specs.declared.wire.Notif.{Notif}
-use Rattle.history_frames.proofs.Listed.{listed-below, listed-here, listed-stays, fetched-new, fetched-same, named-listed, named-is, place-is, is-place, queue-below, below-rest, sends-older, sends-push, IsCalm, queue-same, queue-put, queue-rest, settled-same, settled-now, reply-same, reply-now, calm-settles, queue-new, settled-new}
+use Rattle.history_frames.proofs.Listed.{listed-below, listed-here, listed-stays, fetched-new, named-listed, named-is, place-is}
+use Rattle.listener.proofs.Queues.{fetched-same, is-place, queue-below, below-rest, sends-older, sends-push, IsCalm, queue-same, queue-put, queue-rest, settled-same, settled-now, reply-same, reply-now, calm-settles, queue-new, settled-new}
 use Rattle.listener.specs.State.{Row, new_row, fetch, answer, reply_of, result_reply}
 use Rattle.listener.specs.Fold.{places, reply_by, row_at, rows}
 use Rattle.listener.specs.Sound.{SendsOnce}

@@ -12,7 +12,9 @@ use Rattle.hist_model.specs.declared.event.Entered.TheVariants.{Notify}
 use Rattle.hist_model.proofs.Look.{event_at-here, event_at-older}
 use Rattle.history_frames.specs.Ordinals.{nth_of}
 use Rattle.history_frames.proofs.Ordinals.{place-cases, place-below}
-use Rattle.history_frames.proofs.Listed.{listed-cases, caller-older, id-older, Below, below-rest, queue-below, sends-older, queue-put, queue-rest, queue-same, queue-new, calls-count, calls-more, calls-same, call-number, place-is}
+use Rattle.history_frames.proofs.Listed.{listed-cases, caller-older, id-older, place-is}
+use Rattle.listener.proofs.Counts.{calls-count, calls-more, calls-same, call-number}
+use Rattle.listener.proofs.Queues.{Below, below-rest, queue-below, sends-older, queue-put, queue-rest, queue-same, queue-new}
 use Rattle.listener.specs.Sound.{SendsOnce, IsSound, IdsDiffer, IsStep, Enters}
 
 pub ids-differ : (first : ℕ) (K : List Event) → IsSound first K → IdsDiffer K

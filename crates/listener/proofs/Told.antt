@@ -17,7 +17,7 @@ use Rattle.hist_model.specs.declared.notification.State.TheVariants.{Unfetched, 
 use Rattle.sys_abi.specs.Errnos.{enoent, ebusy, einprogress}
 use Rattle.sys_abi.specs.declared.wire.Addfd.{Addfd}
 use Rattle.history_frames.proofs.Listed.{listed-is_call, named-listed, named-is}
-use Rattle.history_frames.proofs.Queued.{call-id}
+use Rattle.listener.proofs.Installs.{call-id}
 use Rattle.listener.specs.declared.requests.Request.{Request}
 use Rattle.listener.specs.State.{State, row_named, queue as asks_for, far_in}
 use Rattle.listener.specs.Requests.{has_request, is_of, is_waiting}

@@ -20,7 +20,7 @@ use Rattle.hist_model.specs.declared.script.Script.{Script}
 use Rattle.hist_model.proofs.Look.{name_eq-true}
 use Rattle.history_frames.specs.Ordinals.{count_of, tasks_made, task_name_of}
 use Rattle.history_frames.proofs.Ordinals.{made-same, makes-below}
-use Rattle.history_frames.proofs.Held.{pids-more, names-more, unmade-less, older-made, ended-more, waited-same, next-free, made-is, holder-holds, holds-makes, holds-below}
+use Rattle.history_frames.proofs.Held.{pids-more, names-more, older-made, ended-more, waited-same, next-free, made-is, holder-holds, holds-makes, holds-below}
 use Rattle.tasks.specs.Sound.{IsSound, IsUntouched, IsFirstOrChild, IsStepOf, IsOther, keeps_tasks}
 use Rattle.tasks.proofs.Listed.{snoc-nil, snoc-parts}
 use Rattle.tasks.proofs.Named.{name-kept, name-new, name-made, made-cases, made-ordinal, spawns-own, spawns-least}
@@ -28,6 +28,10 @@ use Rattle.tasks.proofs.Frames.{Leaves, never, names-apart, steps-left, owes-lef
 use Rattle.tasks.proofs.StepFacts.{Facts, step-facts}
 use Rattle.tasks.proofs.Entries.{WaitInLast, entries-step, entries-other, entries-none, entries-first}
 use Rattle.tasks.proofs.Places.{counts-more, facts-close}
+
+-- a task that isn't made is none that was made
+unmade-less : (e : Event) (K : List Event) (n : Name) → is_made (e ∷ K) n ≡ false → is_made K n ≡ false
+unmade-less e K n h = false_from_ne_true (is_made K n) (λ q. both_ways (is_made (e ∷ K) n) h (older-made e K n q))
 
 -- what an event tells that is the start, a task's step or no task's
 pub record Fits (K : List Event) (e : Event) : Type 0 where
