@@ -16,12 +16,10 @@ use Rattle.arg_capture.specs.Captures.{Captured, Follows, Finishes, Answers, con
 use Rattle.arg_capture.specs.Moments.{run_at, read_at, AreRead, ArePlaced, IsCopy}
 use Rattle.arg_capture.proofs.Following.{follows_wants}
 use Rattle.arg_capture.proofs.Moments.{is_read_copy}
-use Rattle.task_memory.specs.declared.spaces.SpaceRef.{SpaceRef}
-use Rattle.task_memory.specs.declared.spaces.Spaces.{Spaces}
-use Rattle.task_memory.specs.Ranges.{AllEndLow}
-use Rattle.task_memory.specs.Spaces.{IsHeld}
-use Rattle.task_memory.specs.Stands.{StandsFor}
-use Rattle.task_memory.proofs.Ranges.{mapped-low}
+use Rattle.task_groups.specs.Ranges.{AllEndLow}
+use Rattle.task_groups.specs.Stands.{StandsFor}
+use Rattle.task_groups.specs.declared.groups.Groups.{Groups}
+use Rattle.task_groups.proofs.Ranges.{mapped-low}
 use Rattle.native_calls.specs.Copied.{AllGive, HasRead, texts_of}
 use Rattle.native_calls.proofs.Pieces.{copy-ends}
 use Rattle.sys_abi.specs.Errnos.{efault}
@@ -91,43 +89,43 @@ wants-is : (p : Progress) (ad n bd m : ℕ) → p ≡ Wants ad n → Some (bd, m
 wants-is p ad n bd m e q = let r : Some (bd, m) ≡ Some (ad, n) = q ∙ ap wanted e in let s : (bd, m) ≡ (ad, n) = cc in (ap (λ (x : ℕ × ℕ). x.0) s, ap (λ (x : ℕ × ℕ). x.1) s)
 
 -- the capture takes one more answer, of the piece that is wanted
-pub has-more : (T : Spaces) (s : SpaceRef) (nr : ℤ) (args : List ℕ) (count ad n : ℕ) (a : Result (List ℕ) ℕ) (old new : Captured) (r : Result (Unit {0}) NoMemory)
-    → HasRead T s nr args count old → wanted (continued old []) ≡ Some (ad, n) → AllGive (a ∷ [])
+pub has-more : (G : Groups) (o : ℕ) (nr : ℤ) (args : List ℕ) (count ad n : ℕ) (a : Result (List ℕ) ℕ) (old new : Captured) (r : Result (Unit {0}) NoMemory)
+    → HasRead G o nr args count old → wanted (continued old []) ≡ Some (ad, n) → AllGive (a ∷ [])
     → ((parts : List Part) (answers : List (Result (List ℕ) ℕ)) → Follows parts answers old → OnOk r (Follows parts (answers ++ a ∷ []) new))
-    → ((S : Script) (K : List Event) (g : ℕ) → StandsFor S K T → IsHeld T s → group_of K s.ordinal ≡ Some g → 1 ≤ n → a ≡ bytes_read S K g ad n)
-    → OnOk r (HasRead T s nr args (count + 1) new)
-has-more T s nr args count ad n a old new (Err e) h w g f said = tt
-has-more T s nr args count ad n a old new (Ok u) h w g f said = record {
+    → ((S : Script) (K : List Event) (living handles : ℕ → ℕ) (g : ℕ) → StandsFor S K living handles G → group_of K o ≡ Some g → 1 ≤ n → a ≡ bytes_read S K g ad n)
+    → OnOk r (HasRead G o nr args (count + 1) new)
+has-more G o nr args count ad n a old new (Err e) h w g f said = tt
+has-more G o nr args count ad n a old new (Ok u) h w g f said = record {
   answers = h.answers ++ a ∷ [];
   counted = omega (arith, length-append h.answers (a ∷ []), h.counted);
   follows = f (plan nr args) h.answers h.follows;
   give = gives-more h.answers a h.give g;
-  read = λ S K m stands held group. reads-more (mapped_byte S K m) (plan nr args) h.answers a (h.read S K m stands held group) (λ bd k p. answered S K m bd k stands held group p);
+  read = λ S K living handles m stands group. reads-more (mapped_byte S K m) (plan nr args) h.answers a (h.read S K living handles m stands group) (λ bd k p. answered S K living handles m bd k stands group p);
 }
   where
     asked : Some (ad, n) ≡ wanted (progress (plan nr args) h.answers)
     asked = follows_wants (plan nr args) h.answers old (Some (ad, n)) (sym w) h.follows
 
-    answered : (S : Script) (K : List Event) (m bd k : ℕ) → StandsFor S K T → IsHeld T s → group_of K s.ordinal ≡ Some m → progress (plan nr args) h.answers ≡ Wants bd k → a ≡ read_at (mapped_byte S K m) bd k
-    answered S K m bd k stands held group p =
+    answered : (S : Script) (K : List Event) (living handles : ℕ → ℕ) (m bd k : ℕ) → StandsFor S K living handles G → group_of K o ≡ Some m → progress (plan nr args) h.answers ≡ Wants bd k → a ≡ read_at (mapped_byte S K m) bd k
+    answered S K living handles m bd k stands group p =
         let e = wants-is (progress (plan nr args) h.answers) bd k ad n p asked in
         let l : 1 ≤ n = wanted_some (progress (plan nr args) h.answers) (ad, n) (piece_wanted nr args h.answers) (sym asked) in
-        said S K m stands held group l ∙ read-is S K m ad n stands.low ∙ ap (λ z. read_at (mapped_byte S K m) z n) e.0 ∙ ap (λ z. read_at (mapped_byte S K m) bd z) e.1
+        said S K living handles m stands group l ∙ read-is S K m ad n stands.low ∙ ap (λ z. read_at (mapped_byte S K m) z n) e.0 ∙ ap (λ z. read_at (mapped_byte S K m) bd z) e.1
 
 -- ---- the whole copy
 
-pub has-none : (T : Spaces) (s : SpaceRef) (nr : ℤ) (args : List ℕ) (c : Captured) → Follows (plan nr args) [] c → HasRead T s nr args 0 c
-has-none T s nr args c f = record {
+pub has-none : (G : Groups) (o : ℕ) (nr : ℤ) (args : List ℕ) (c : Captured) → Follows (plan nr args) [] c → HasRead G o nr args 0 c
+has-none G o nr args c f = record {
   answers = [];
   counted = refl;
   follows = f;
   give = tt;
-  read = λ S K g stands held group before answer later a n e w. absurd (omega (arith, ap length e, length-append before (answer ∷ later)));
+  read = λ S K living handles g stands group before answer later a n e w. absurd (omega (arith, ap length e, length-append before (answer ∷ later)));
 }
 
 -- no piece is left after so many
-pub has-all : (T : Spaces) (s : SpaceRef) (nr : ℤ) (args : List ℕ) (c : Captured) → ArePlaced (plan nr args) → HasRead T s nr args 16384 c → wanted (continued c []) ≡ None
-has-all T s nr args c p h = follows_wants (plan nr args) h.answers c (wanted (continued c [])) refl h.follows ∙ copy-ends nr args h.answers p h.give (omega (arith, h.counted))
+pub has-all : (G : Groups) (o : ℕ) (nr : ℤ) (args : List ℕ) (c : Captured) → ArePlaced (plan nr args) → HasRead G o nr args 16384 c → wanted (continued c []) ≡ None
+has-all G o nr args c p h = follows_wants (plan nr args) h.answers c (wanted (continued c [])) refl h.follows ∙ copy-ends nr args h.answers p h.give (omega (arith, h.counted))
 
 finished : (p : Progress) (copy : Result (List (List ℕ)) ℕ) (r : Result ArgCopy ℕ) → Finishes p r → IsCopy p copy → texts_of r ≡ copy
 finished (Wants a n) copy r h i = absurd h
@@ -137,12 +135,12 @@ finished (Faulty e) copy (Ok c) h i = absurd h
 finished (Faulty e) copy (Err d) h i = ap Err h ∙ sym i
 
 -- what is taken of the capture is the copy
-pub has-copy : (T : Spaces) (s : SpaceRef) (nr : ℤ) (args : List ℕ) (count : ℕ) (c : Captured) (r : Result ArgCopy ℕ) → ArePlaced (plan nr args) → HasRead T s nr args count c
+pub has-copy : (G : Groups) (o : ℕ) (nr : ℤ) (args : List ℕ) (count : ℕ) (c : Captured) (r : Result ArgCopy ℕ) → ArePlaced (plan nr args) → HasRead G o nr args count c
     → ((parts : List Part) (answers : List (Result (List ℕ) ℕ)) → Follows parts answers c → Finishes (progress parts answers) r)
-    → (S : Script) (K : List Event) (g : ℕ) → StandsFor S K T → IsHeld T s → group_of K s.ordinal ≡ Some g → texts_of r ≡ copy_of (mapped_byte S K g) (plan nr args)
-has-copy T s nr args count c r p h f S K g stands held group =
+    → (S : Script) (K : List Event) (living handles : ℕ → ℕ) (g : ℕ) → StandsFor S K living handles G → group_of K o ≡ Some g → texts_of r ≡ copy_of (mapped_byte S K g) (plan nr args)
+has-copy G o nr args count c r p h f S K living handles g stands group =
     finished (progress (plan nr args) h.answers) (copy_of (mapped_byte S K g) (plan nr args)) r (f (plan nr args) h.answers h.follows)
-    (is_read_copy (mapped_byte S K g) h.answers (plan nr args) p (h.read S K g stands held group))
+    (is_read_copy (mapped_byte S K g) h.answers (plan nr args) p (h.read S K living handles g stands group))
 
 -- an answer to a piece gives at least one byte, or is a fault
 pub answers-give : (q : ℕ × ℕ) (a : Result (List ℕ) ℕ) → Answers (Some q) a → AllGive (a ∷ [])

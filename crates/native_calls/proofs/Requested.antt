@@ -9,6 +9,8 @@ use Rattle.hist_model.specs.Memory.{is_number, mapped_byte}
 use Rattle.hist_model.specs.Natives.{Files, base_for, copied_natively, request_natively, call_natively}
 use Rattle.hist_model.specs.Requests as requests
 use Rattle.hist_model.specs.Requests.{base_dirfd}
+use Rattle.hist_model.specs.declared.request.ArgCopy.{ArgCopy}
+use Rattle.native_calls.specs.Copied.{texts_of}
 use Rattle.hist_model.specs.declared.event.Entered.{Entered}
 use Rattle.hist_model.specs.declared.event.Event.{Event}
 use Rattle.hist_model.specs.declared.event.What.TheVariants.{Enter}
@@ -54,3 +56,10 @@ module _ (S : Script) (K : List Event) (g : ℕ) (nr : ℤ) (args : List ℕ) (d
     step = λ F n v. runs-copied F n v ∙ by-copy F n v (copy_of (mapped_byte S K g) (plan nr args)) ∙ ap (λ q. step_of S K F n g (Request d q)) (sym h);
     stores = λ v. let s = not-other nr args d 99 base (none-written args) in rw s refl;
   }
+
+-- what a copy of arguments asks for
+pub asked : (nr : ℤ) (args : List ℕ) (copied : Result (List (List ℕ)) ℕ) (r : Result ArgCopy ℕ) (copy : ArgCopy) (q : the_request.Request) → texts_of r ≡ copied → r ≡ Ok copy → q ≡ requests.request nr args copy.texts → Ok q ≡ requested nr args copied
+asked nr args copied r copy q e i m = rw (← e, i) (ap Ok m)
+
+pub not-asked : (nr : ℤ) (args : List ℕ) (copied : Result (List (List ℕ)) ℕ) (r : Result ArgCopy ℕ) (x : ℕ) → texts_of r ≡ copied → r ≡ Err x → Err x ≡ requested nr args copied
+not-asked nr args copied r x e i = rw (← e, i) refl

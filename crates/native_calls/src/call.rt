@@ -6,8 +6,8 @@ ghost use Rattle.hist_model.specs.Memory.{mapped_byte};
 ghost use Rattle.hist_model.specs.declared.event.Event.{Event};
 ghost use Rattle.hist_model.specs.declared.script.Script.{Script};
 ghost use Rattle.history_frames.specs.Ordinals.{group_of};
-ghost use Rattle.task_memory.specs.Spaces.{IsHeld};
-ghost use Rattle.task_memory.specs.Stands.{StandsFor};
+ghost use Rattle.task_groups.specs.Groups.{IsLive};
+ghost use Rattle.task_groups.specs.Stands.{StandsFor};
 ghost use Rattle.native_calls.specs.Prepared.{requested};
 
 use crate::copies::copy_arguments;
@@ -17,7 +17,7 @@ use hist_model::request::Request;
 use sys_abi::calls::{CLOSE, GETPID, SYSINFO};
 use sys_abi::errno::Errno;
 use sys_abi::memory::NoMemory;
-use task_memory::{SpaceRef, Spaces};
+use task_groups::Groups;
 
 /// A native call with its arguments read.
 #[derive(Debug, Drop)]
@@ -48,40 +48,40 @@ fn low_32(argument: u64) -> u32
     (argument % 0x1_0000_0000) as u32
 }
 
-/// What a call with paths asks for, with its arguments as they are in a space now; or the fault of their copy.
+/// What a call with paths asks for, with its arguments as they are in the memory of a group now; or the fault of their copy.
 fn read_request(
-    spaces: &Spaces,
-    space: SpaceRef,
+    groups: &Groups,
+    group: u32,
     nr: i32,
     args: &[u64; 6],
     capture: &mut Capture,
     piece: &mut Vec<u8>,
 ) -> Result<Result<Request, Errno>, NoMemory>
-    ensures { IfOk result (λ r. (S : Script) (K : List Event) (g : ℕ) → StandsFor S K spaces.now → IsHeld spaces.now space → group_of K space.ordinal ≡ Some g
+    requires { IsLive groups.now group }
+    ensures { IfOk result (λ r. (S : Script) (K : List Event) (living handles : ℕ → ℕ) (g : ℕ) → StandsFor S K living handles groups.now → group_of K group ≡ Some g
         → r ≡ requested nr args.now (copy_of (mapped_byte S K g) (plan nr args.now))) }
 {
-    Ok(
-        match copy_arguments(spaces, space, nr, args, capture, piece)? {
-            Ok(copy) => Ok(request(nr, args, copy)),
-            Err(errno) => Err(errno),
-        },
-    )
+    match copy_arguments(groups, group, nr, args, capture, piece)? {
+        Ok(copy) => Ok(Ok(request(nr, args, copy))),
+        Err(errno) => Ok(Err(errno)),
+    }
 }
 
 impl NativeCall {
     ghost use Rattle.native_calls.specs.Prepared.{IsPrepared};
 
-    /// The call of this number with these arguments, whose texts are read out of its caller's space as they are now, by pieces:
+    /// The call of this number with these arguments, whose texts are read out of the memory of its caller's group as they are now, by pieces:
     /// a text that isn't mapped is EFAULT, one that doesn't end is its part's fault, and a value over 4096 bytes is E2BIG.
     pub fn prepare(
-        spaces: &Spaces,
-        space: SpaceRef,
+        groups: &Groups,
+        group: u32,
         nr: i32,
         args: &[u64; 6],
         capture: &mut Capture,
         piece: &mut Vec<u8>,
     ) -> Result<NativeCall, NoMemory>
-        ensures { IfOk result (λ call. (S : Script) (K : List Event) (g : ℕ) → StandsFor S K spaces.now → IsHeld spaces.now space → group_of K space.ordinal ≡ Some g
+        requires { IsLive groups.now group }
+        ensures { IfOk result (λ call. (S : Script) (K : List Event) (living handles : ℕ → ℕ) (g : ℕ) → StandsFor S K living handles groups.now → group_of K group ≡ Some g
             → IsPrepared S K g nr args.now call) }
     {
         match nr {
@@ -93,7 +93,7 @@ impl NativeCall {
             _ => match base_dirfd(nr, args) {
                 Some(dirfd) => Ok(NativeCall::Request {
                     dirfd,
-                    request: read_request(spaces, space, nr, args, capture, piece)?,
+                    request: read_request(groups, group, nr, args, capture, piece)?,
                 }),
                 None => Ok(NativeCall::Unknown),
             },

@@ -1,6 +1,6 @@
 //! Changes of the tree, as native calls answer them (mknod(2), setxattr(2)).
 
-ghost use Rattle.std.specs.Prelude.{◌≡◌, ◌≤◌, ◌||◌, ℕ, List, true, nat_eq, codes, IfOk, OnErr, IsOk};
+ghost use Rattle.std.specs.Prelude.{◌≡◌, ◌≤◌, ◌||◌, ℕ, List, true, nat_eq, codes, OnErr};
 ghost use Rattle.std.specs.List.{starts_with};
 ghost use Rattle.hist_model.specs.Trees.{ordinal_of};
 ghost use Rattle.hist_model.specs.Paths.{Create, reaches};
@@ -19,9 +19,9 @@ use path_walk::effects::perform_request;
 use path_walk::places::{Last, Place};
 use path_walk::resolution::{Walk, resolve};
 use sys_abi::errno::Errno;
-use sys_abi::memory::{NoMemory, OrNoMemory};
+use sys_abi::memory::OrNoMemory;
 
-/// Does what a request asks for.
+/// Does what a request asks for, for which there is room in the tree.
 #[tactic(auto, using(crate::proofs::Runs::change_made, crate::proofs::Runs::change_refused))]
 pub(crate) fn change(
     tree: &mut Tree,
@@ -29,16 +29,15 @@ pub(crate) fn change(
     root: NodeRef,
     base: Option<NodeRef>,
     request: &Request,
-) -> Result<Result<u32, Errno>, NoMemory>
-    ensures run { IfOk result (λ r. TreeRun (changed (perform tree.old.tree root.ordinal (ordinal_of base) (effect request.now))) r tree.old.tree tree.new.tree) }
-    ensures room { room_wanted (effect request.now) ≤ tree.old.spare → IsOk result }
-    ensures refused { IfOk result (λ r. OnErr r (tree.new ≡ tree.old)) }
-    ensures same { OnErr result (tree.new ≡ tree.old) }
+) -> Result<u32, Errno>
+    requires { room_wanted (effect request.now) ≤ tree.old.spare }
+    ensures run { TreeRun (changed (perform tree.old.tree root.ordinal (ordinal_of base) (effect request.now))) result tree.old.tree tree.new.tree }
+    ensures refused { OnErr result (tree.new ≡ tree.old) }
 {
     match perform_request(tree, root, base, request, walk) {
-        Ok(()) => Ok(Ok(0)),
-        Err(OrNoMemory::Refused(errno)) => Ok(Err(errno)),
-        Err(OrNoMemory::NoMemory) => Err(NoMemory),
+        Ok(()) => Ok(0),
+        Err(OrNoMemory::Refused(errno)) => Err(errno),
+        Err(OrNoMemory::NoMemory) => unreachable!(),
     }
 }
 

@@ -1,21 +1,16 @@
 //! Room for native calls.
 
-ghost use Rattle.std.specs.Prelude.{◌≡◌, ◌+◌, ◌≤◌, ℕ, List, length, IfOk, OnOk};
-ghost use Rattle.hist_model.specs.declared.event.Event.{Event};
-ghost use Rattle.hist_model.specs.declared.script.Script.{Script};
-ghost use Rattle.fd_table.specs.declared.tables.TableRef.{TableRef};
-ghost use Rattle.fd_table.specs.Tables.{IsHeld, SameTables, reached};
-ghost use Rattle.task_memory.specs.Spaces.{SameSpaces};
+ghost use Rattle.std.specs.Prelude.{◌≡◌, ◌+◌, ◌≤◌, ℕ, length, IfOk, OnOk};
+ghost use Rattle.task_groups.specs.Groups.{IsLive};
+ghost use Rattle.task_groups.specs.Rows.{SameGroups};
 ghost use Rattle.native_calls.specs.Done.{room_natively};
-ghost use Rattle.native_calls.specs.Stands.{StandFor, IsReady, room_of};
+ghost use Rattle.native_calls.specs.Stands.{IsReady, room_of};
 
 use crate::call::NativeCall;
-use crate::running::Caller;
-use fd_table::Tables;
 use hist_model::request::Request;
 use mount_tree::tree::Tree;
 use sys_abi::memory::NoMemory;
-use task_memory::Spaces;
+use task_groups::Groups;
 
 /// The bytes of sysinfo's answer.
 const SYSINFO_SIZE: u32 = 112;
@@ -57,23 +52,19 @@ fn call_room(call: &NativeCall) -> Result<u32, NoMemory>
     }
 }
 
-/// Makes room for a call, which then takes no memory.
+/// Makes room for a call of a task of a group, which then takes no memory.
 pub fn ready(
     call: &NativeCall,
-    caller: Caller,
+    group: u32,
     tree: &mut Tree,
-    spaces: &mut Spaces,
-    tables: &mut Tables,
+    groups: &mut Groups,
 ) -> Result<(), NoMemory>
-    requires { IsHeld tables.old caller.table }
-    ensures room { OnOk result (IsReady call.now caller tree.new.spare spaces.new tables.new) }
+    requires { IsLive groups.old group }
+    ensures room { OnOk result (IsReady call.now group tree.new.spare groups.new) }
+    ensures live { IsLive groups.new group }
     ensures tree { tree.new.tree ≡ tree.old.tree }
-    ensures spaces { SameSpaces spaces.old spaces.new }
-    ensures reached { (t : TableRef) → reached tables.new t ≡ reached tables.old t }
-    ensures tables { SameTables tables.old tables.new }
-    ensures stand { (S : Script) (K : List Event) → StandFor S K tree.old.tree spaces.old tables.old → StandFor S K tree.new.tree spaces.new tables.new }
+    ensures groups { SameGroups groups.old groups.new }
 {
     tree.ready(call_room(call)?)?;
-    spaces.ready(caller.space, SYSINFO_SIZE)?;
-    tables.ready(caller.table)
+    groups.ready(group, SYSINFO_SIZE)
 }

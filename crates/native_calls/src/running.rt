@@ -1,6 +1,6 @@
 //! The act of a native call.
 
-ghost use Rattle.std.specs.Prelude.{◌≡◌, ℕ, List, ◌∷◌, IfOk, OnErr, IsOk};
+ghost use Rattle.std.specs.Prelude.{◌≡◌, ℕ, List, ◌∷◌, IfOk, OnErr};
 ghost use Rattle.hist_model.specs.Look.{Name, ev};
 ghost use Rattle.hist_model.specs.Files.{files};
 ghost use Rattle.hist_model.specs.Natives.{native_step, native_answer};
@@ -8,25 +8,19 @@ ghost use Rattle.hist_model.specs.declared.event.Actor.TheVariants.{Task};
 ghost use Rattle.hist_model.specs.declared.event.Event.{Event};
 ghost use Rattle.hist_model.specs.declared.event.What.TheVariants.{Native};
 ghost use Rattle.hist_model.specs.declared.script.Script.{Script};
-ghost use Rattle.fd_table.specs.Tables as descriptors;
-ghost use Rattle.fd_table.specs.Tables.{SameTables, SameOthers};
-ghost use Rattle.task_memory.specs.Spaces as memory;
-ghost use Rattle.task_memory.specs.Spaces.{SameSpaces};
-ghost use Rattle.native_calls.specs.Prepared.{step_of, stored_by};
-ghost use Rattle.native_calls.specs.Stands.{StandFor, IsContainer, IsCaller, IsDue, IsRun, MarksDone, IsReady};
+ghost use Rattle.task_groups.specs.Groups.{IsLive};
+ghost use Rattle.native_calls.specs.Stands.{StandFor, IsDue, IsRun, MarksDone, IsReady};
 
 use crate::call::NativeCall;
 use crate::files::close;
 use crate::memory::write_sysinfo;
 use crate::requests::run_request;
-use fd_table::{TableRef, Tables};
 use hist_model::request::NodeRef;
 use hist_model::script::Figures;
 use mount_tree::tree::Tree;
 use path_walk::resolution::Walk;
 use sys_abi::errno::Errno;
-use sys_abi::memory::NoMemory;
-use task_memory::{SpaceRef, Spaces};
+use task_groups::Groups;
 
 /// What native calls ask of a container: its root, and the figures of sysinfo(2).
 #[derive(Clone, Copy, Debug)]
@@ -35,11 +29,10 @@ pub struct Container {
     pub figures: Figures,
 }
 
-/// The task that makes a call: its space, its table and its PID.
+/// The task that makes a call: the ordinal of its group, and its PID.
 #[derive(Clone, Copy, Debug)]
 pub struct Caller {
-    pub space: SpaceRef,
-    pub table: TableRef,
+    pub group: u32,
     pub pid: u32,
 }
 
@@ -50,51 +43,33 @@ fn act(
     caller: Caller,
     tree: &mut Tree,
     walk: &mut Walk,
-    spaces: &mut Spaces,
-    tables: &mut Tables,
-) -> Result<Result<u32, Errno>, NoMemory>
-    requires space { memory.IsHeld spaces.old caller.space }
-    requires table { descriptors.IsHeld tables.old caller.table }
-    ensures run { IfOk result (λ r. (S : Script) (K : List Event) (n : Name) (g : ℕ) → StandFor S K tree.old.tree spaces.old tables.old → IsContainer S container.now → IsCaller K n g caller
-        → IsRun S K g (step_of S K (files S K) n g call) (stored_by S call) r tree.old.tree tree.new.tree spaces.old spaces.new tables.old tables.new) }
-    ensures marks { IfOk result (λ r. IfOk r (λ m. MarksDone call caller.table m tables.old tables.new)) }
-    ensures holders { (s : SpaceRef) → memory.holders_of spaces.new s ≡ memory.holders_of spaces.old s }
-    ensures table_holders { descriptors.holders_of tables.new caller.table ≡ descriptors.holders_of tables.old caller.table }
-    ensures others { SameOthers tables.old caller.table tables.new }
-    ensures refused { IfOk result (λ r. OnErr r ((tree.new ≡ tree.old) × (spaces.new ≡ spaces.old) × (tables.new ≡ tables.old))) }
-    ensures room { IsReady call caller tree.old.spare spaces.old tables.old → IsOk result }
-    ensures tree { OnErr result (tree.new ≡ tree.old) }
-    ensures spaces { OnErr result (SameSpaces spaces.old spaces.new) }
-    ensures tables { OnErr result (SameTables tables.old tables.new) }
+    groups: &mut Groups,
+) -> Result<u32, Errno>
+    requires live { IsLive groups.old caller.group }
+    requires room { IsReady call caller.group tree.old.spare groups.old }
+    ensures run { IsRun container.now caller call result tree.old.tree tree.new.tree groups.old groups.new }
+    ensures marks { IfOk result (λ m. MarksDone call caller.group m groups.old groups.new) }
+    ensures refused { OnErr result ((tree.new ≡ tree.old) × (groups.new ≡ groups.old)) }
 {
+    let group = caller.group;
     match call {
-        NativeCall::Close { number } => Ok(close(tables, caller.table, number)),
-        NativeCall::GetPid => Ok(Ok(caller.pid)),
-        NativeCall::Sysinfo { addr } => {
-            write_sysinfo(spaces, caller.space, &container.figures, addr)
-        }
+        NativeCall::Close { number } => close(groups, group, number),
+        NativeCall::GetPid => Ok(caller.pid),
+        NativeCall::Sysinfo { addr } => write_sysinfo(groups, group, &container.figures, addr),
         NativeCall::Request {
             dirfd,
             request: Ok(request),
-        } => run_request(
-            tree,
-            walk,
-            tables,
-            container.root,
-            caller.table,
-            dirfd,
-            &request,
-        ),
+        } => run_request(tree, walk, groups, container.root, group, dirfd, &request),
         NativeCall::Request {
             request: Err(errno),
             ..
-        } => Ok(Err(errno)),
-        NativeCall::Unknown => Ok(Err(Errno::ENOSYS)),
+        } => Err(errno),
+        NativeCall::Unknown => Err(Errno::ENOSYS),
     }
 }
 
-/// Runs a prepared call of a task: answers it, and applies it to what it changes, in one walk of its path. It takes no memory
-/// where `ready` made room, and after `NoMemory` or an errno all is as it was.
+/// Runs a prepared call of a task, for which `ready` made room: answers it, and applies it to what it changes, in one walk of
+/// its path. It takes no memory, and after an errno all is as it was.
 ///
 /// close(2) answers EBADF for a number that isn't open. getpid(2) gives the task's number. sysinfo(2) stores the host's figures,
 /// and answers EFAULT where they don't fit in mapped memory. A call with paths answers the fault of its arguments first, and
@@ -107,24 +82,16 @@ pub fn run(
     caller: Caller,
     tree: &mut Tree,
     walk: &mut Walk,
-    spaces: &mut Spaces,
-    tables: &mut Tables,
-) -> Result<Result<u32, Errno>, NoMemory>
-    requires space { memory.IsHeld spaces.old caller.space }
-    requires table { descriptors.IsHeld tables.old caller.table }
-    ensures answer { IfOk result (λ r. (S : Script) (K : List Event) (n : Name) → IsDue S K n container.now caller call tree.old.tree spaces.old tables.old
-        → r ≡ native_answer (native_step S K (files S K) n)) }
-    ensures step { IfOk result (λ r. (S : Script) (K : List Event) (n : Name) → IsDue S K n container.now caller call tree.old.tree spaces.old tables.old
-        → StandFor S (ev (Task n) (Native r) ∷ K) tree.new.tree spaces.new tables.new) }
-    ensures marks { IfOk result (λ r. IfOk r (λ m. MarksDone call caller.table m tables.old tables.new)) }
-    ensures holders { (s : SpaceRef) → memory.holders_of spaces.new s ≡ memory.holders_of spaces.old s }
-    ensures table_holders { descriptors.holders_of tables.new caller.table ≡ descriptors.holders_of tables.old caller.table }
-    ensures others { SameOthers tables.old caller.table tables.new }
-    ensures refused { IfOk result (λ r. OnErr r ((tree.new ≡ tree.old) × (spaces.new ≡ spaces.old) × (tables.new ≡ tables.old))) }
-    ensures room { IsReady call caller tree.old.spare spaces.old tables.old → IsOk result }
-    ensures tree { OnErr result (tree.new ≡ tree.old) }
-    ensures spaces { OnErr result (SameSpaces spaces.old spaces.new) }
-    ensures tables { OnErr result (SameTables tables.old tables.new) }
+    groups: &mut Groups,
+) -> Result<u32, Errno>
+    requires live { IsLive groups.old caller.group }
+    requires room { IsReady call caller.group tree.old.spare groups.old }
+    ensures answer { (S : Script) (K : List Event) (living handles : ℕ → ℕ) (n : Name) → IsDue S K living handles n container.now caller call tree.old.tree groups.old
+        → result ≡ native_answer (native_step S K (files S K) n) }
+    ensures step { (S : Script) (K : List Event) (living handles : ℕ → ℕ) (n : Name) → IsDue S K living handles n container.now caller call tree.old.tree groups.old
+        → StandFor S (ev (Task n) (Native result) ∷ K) living handles tree.new.tree groups.new }
+    ensures marks { IfOk result (λ m. MarksDone call caller.group m groups.old groups.new) }
+    ensures refused { OnErr result ((tree.new ≡ tree.old) × (groups.new ≡ groups.old)) }
 {
-    act(call, container, caller, tree, walk, spaces, tables)
+    act(call, container, caller, tree, walk, groups)
 }

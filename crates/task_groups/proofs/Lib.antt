@@ -1,4 +1,9 @@
-pub mod Held
-pub mod Maps
-pub mod Rooms
-pub mod Stored
+pub mod Lists
+pub mod Ranges
+pub mod Shares
+pub mod Rising
+pub mod Sets
+pub mod Events
+pub mod Rows
+pub mod Stand
+pub mod Answered

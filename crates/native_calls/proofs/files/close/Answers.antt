@@ -1,9 +1,9 @@
-use Rattle.hist_model.specs.Files.{files}
-use Rattle.fd_table.specs.Stands.{group_at}
-use Rattle.native_calls.proofs.Runs.{closed}
+use Rattle.native_calls.proofs.Runs.{closed, not-closed, unchanged}
 use Rattle.native_calls.proofs.files.close.Goals as goal
 
 pub returns-in-Ok-clause-run : goal.returns-in-Ok-clause-run
-returns-in-Ok-clause-run c S K stands =
-    let g = group_at K c.args.table in
-    closed S K g c.args.number ((files S K).slot g c.args.number) c.args.tables.now c.close.new.self (c.in-Ok.ensures.open S K stands) (λ e s. c.in-Ok.ensures.step S K e stands s)
+returns-in-Ok-clause-run c s T = closed s c.args.group c.args.number ((s.contents c.args.group).slot c.args.number) c.close.new.self (c.in-Ok.ensures.open s T) (c.in-Ok.ensures.step s T)
+
+pub returns-in-Err-clause-run : goal.returns-in-Err-clause-run
+returns-in-Err-clause-run c s T =
+    not-closed s c.args.group c.args.number ((s.contents c.args.group).slot c.args.number) c.close.new.self (c.in-Err.ensures.open s T) (unchanged s c.args.group c.args.groups.now c.close.new.self T c.in-Err.ensures.refused)

@@ -1,5 +1,5 @@
-use Rattle.task_groups.proofs.Held.{has-row}
+use Rattle.task_groups.proofs.Stand.{has_row}
 use Rattle.task_groups.proofs.laws.made_groups_have_rows.Goals as goal
 
 pub returns : goal.returns
-returns c S K living handles G o T l = has-row S K living handles G T o l
+returns c s G o T l = has_row s G T o l

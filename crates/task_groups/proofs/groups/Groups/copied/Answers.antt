@@ -1,27 +1,27 @@
-use Rattle.std.proofs.Common.{◌≡◌, Some, sym, ap, ◌∙◌}
-use Rattle.hist_model.specs.Look.{task_name}
-use Rattle.hist_model.specs.Memory.{group_named, own_group}
-use Rattle.hist_model.specs.Steps.{place_or}
-use Rattle.history_frames.specs.Ordinals.{group_of}
-use Rattle.task_groups.proofs.Held.{copy-makes, made, reached-holders, space-held}
+use Rattle.std.proofs.Common.{[], ◌∷◌, ◌++◌, ap, refl, arith, ◌∙◌}
+use Rattle.std.proofs.lemmas.List.{length-map}
+use Rattle.task_groups.specs.Rows.{row_of, rows_of}
+use Rattle.task_groups.proofs.Rows.{added-row, row-list, uses-few}
+use Rattle.task_groups.proofs.Shares.{same-bytes}
+use Rattle.task_groups.proofs.Stand.{added}
 use Rattle.task_groups.proofs.groups.Groups.copied.Goals as goal
 
-pub returns-clause-ordinal : goal.returns-clause-ordinal
-returns-clause-ordinal c S K living handles T = c.in-Ok-copy.ensures.ordinal S K T.tables
-
 pub returns-clause-step : goal.returns-clause-step
-returns-clause-step c S K living handles e T f =
-    let r = c.row-row.result in
-    let i = T.rows c.args.o r c.row-row.ensures in
-    let s = space-held c.args.self.now c.args.o r c.requires.live c.row-row.ensures in
-    let own : group_named K (task_name e.who) ≡ group_of K r.space.ordinal = f.own ∙ (sym f.at ∙ ap (group_of K) (sym i.space_is)) in
-    let named : group_of K r.table.ordinal ≡ Some (own_group K e.who) = ap (group_of K) i.table_is ∙ (f.at ∙ ap Some (sym (ap place_or f.own))) in
-    made S K living handles c.args.self.now T e _ _ (record {
-      rows = c.push_reserved.ensures.items;
-      space = c.in-Ok.ensures.holder.one;
-      table = c.in-Ok-copy.ensures.holders.1;
-      other_spaces = c.in-Ok.ensures.holder.others;
-      other_tables = λ t n. reached-holders c.args.self.now.tables c.copy.new.self c.in-Ok-copy.table t c.in-Ok-copy.ensures.others n;
-    }) (c.in-Ok.ensures.ordinal S K T.spaces) (c.in-Ok-copy.ensures.ordinal S K T.tables) (copy-makes e f.spawn)
-    (c.in-Ok.ensures.step S K e T.spaces s.0 (record { name = f.spawn.name; pid = f.spawn.pid; is = f.spawn.is; owner = own }))
-    (c.in-Ok-copy.ensures.step S K e T.tables ((f.spawn.name, f.spawn.pid, f.spawn.is), named))
+returns-clause-step c s T =
+    let old = c.args.self.now in
+    let copy = c.copy-copy in
+    let live = c.requires.live in
+    let r = live.row in
+    let k = T.sound.rows c.args.o r live.at in
+    let list = row-list old c.args.o r T.sound live.at in
+    let has = (T.rows c.args.o r live.at).has in
+    let shared = copy.ensures.shared r live.at in
+    let few = uses-few (rows_of old) in
+    let small = length-map old.rows.items row_of in
+    added s old T _ (record { living = 1; handles = 0; pages = r.pages; descriptors = r.descriptors }) (s.contents c.args.o)
+    (added-row old.rows.items _ copy.result _ (c.push_reserved.ensures.items ∙ ap (λ gs. gs.items ++ copy.result ∷ []) copy.ensures.rows) (copy.ensures.row r live.at))
+    (ap (λ m. m.items) copy.ensures.map) copy.ensures.rlimit (copy.ensures.store T.sound.store)
+    (λ p. shared.count p (λ u. omega (arith, u, list.counted p)) (omega (arith, T.sound.counted p, few p (λ o x at. (T.sound.rows o x at).once p), small, list.once p, c.requires.room.room.copy.ordinal)))
+    (λ zs b. same-bytes old.pages copy.new.self.pages zs (λ p l. shared.bytes p) b)
+    (record { pages_rise = k.pages_rise; once = k.once; descriptors_rise = k.descriptors_rise; freed = λ z. absurd (omega arith); closed = λ z. absurd (omega arith) })
+    refl refl (record { bytes = λ l. has.bytes (omega (arith, live.lives)); slots = λ l. has.slots live.lives })

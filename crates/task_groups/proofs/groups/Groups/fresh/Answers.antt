@@ -1,17 +1,18 @@
-use Rattle.std.proofs.Common.{[], ◌∷◌, ◌++◌, ap, ◌∙◌}
-use Rattle.task_memory.specs.Stands.{IsNewSpawn}
-use Rattle.fd_table.proofs.Slots.{fresh-makes}
-use Rattle.task_groups.proofs.Held.{made, reached-holders}
+use Rattle.std.proofs.Common.{[], refl, arith, ◌∙◌}
+use Rattle.task_groups.specs.Descriptors.{console_descriptors}
+use Rattle.task_groups.specs.State.{new_contents}
+use Rattle.task_groups.proofs.Answered.{console-leads, no-byte}
+use Rattle.task_groups.proofs.Lists.{uses-none}
+use Rattle.task_groups.proofs.Rows.{added-row, row-is}
+use Rattle.task_groups.proofs.Stand.{added}
 use Rattle.task_groups.proofs.groups.Groups.fresh.Goals as goal
 
 pub returns : goal.returns
-returns c S K living handles e T f =
-    let m : IsNewSpawn e = record { name = f.name; pid = f.pid; is = f.is } in
-    made S K living handles c.args.self T e _ (record { space = c.in_ok-space.space; table = c.in_ok-table.table }) (record {
-      rows = c.push_reserved.ensures.items ∙ ap (λ xs. xs ++ record { space = c.in_ok-space.space; table = c.in_ok-table.table } ∷ []) c.reserve.ensures.items;
-      space = c.in_ok-space.ensures.holder.one;
-      table = c.in_ok-table.ensures.holders.1;
-      other_spaces = c.in_ok-space.ensures.holder.others;
-      other_tables = λ t n. reached-holders c.args.self.tables c.fresh-2.new.self c.in_ok-table.table t c.in_ok-table.ensures.others n;
-    }) (c.in_ok-space.ensures.ordinal S K T.spaces) (c.in_ok-table.ensures.ordinal S K T.tables) (fresh-makes e (f.name, f.pid, f.is))
-    (c.in_ok-space.ensures.step S K e T.spaces m) (c.in_ok-table.ensures.step S K e T.tables (f.name, f.pid, f.is))
+returns c s T =
+    let old = c.args.self in
+    added s old T _ (record { living = 1; handles = 0; pages = []; descriptors = console_descriptors }) new_contents
+    (added-row old.rows.items _ (record { living = 1; handles = 0; pages = c.new.result; descriptors = c.in_ok-descriptors.descriptors }) _ c.in_ok-push.ensures.items
+    (row-is (record { living = 1; handles = 0; pages = c.new.result; descriptors = c.in_ok-descriptors.descriptors }) 1 0 [] console_descriptors refl refl c.new.ensures.items (c.in_ok-descriptors.ensures.items ∙ c.console.ensures)))
+    refl refl T.sound.store (λ p. omega (arith, uses-none p)) (λ zs b. refl)
+    (record { pages_rise = λ i j d l m. absurd (omega arith); once = λ p. omega (arith, uses-none p); descriptors_rise = (omega arith, (omega arith, (omega arith, tt))); freed = λ z. absurd (omega arith); closed = λ z. absurd (omega arith) })
+    refl refl (record { bytes = λ l b m. no-byte old.pages b; slots = λ l n. console-leads n })

@@ -1,9 +1,10 @@
-use Rattle.std.proofs.Common.{ap, ◌∙◌}
-use Rattle.hist_model.specs.Files.{files}
-use Rattle.task_groups.proofs.Held.{group-at}
+use Rattle.std.proofs.Common.{◌≡◌, arith, ◌∙◌}
+use Rattle.std.proofs.lemmas.Grind.{common_steps}
+use Rattle.task_groups.specs.Rows.{obj_in}
+use Rattle.task_groups.proofs.Answered.{found-slot}
 use Rattle.task_groups.proofs.groups.Groups.get.Goals as goal
 
 pub returns : goal.returns
-returns c S K living handles g T a =
-    let i = T.rows c.args.o c.row.result c.row.ensures in
-    c.get.ensures S K T.tables ∙ ap (λ h. (files S K).slot h c.args.n) (group-at K c.row.result.table c.args.o g i.table_is a)
+returns c s T =
+    let mapped : c.map.result ≡ obj_in c.find.result = grind (arith, common_steps) in
+    mapped ∙ found-slot s c.args.self.now c.args.o c.args.n c.find.result T c.requires (c.find.ensures T.sound)

@@ -1,18 +1,19 @@
-use Rattle.std.proofs.Common.{ap, ◌∙◌}
-use Rattle.hist_model.specs.Files.{files, slot_in}
-use Rattle.hist_model.specs.Steps.{slot_answer}
-use Rattle.task_groups.proofs.Held.{group-at}
-use Rattle.task_groups.proofs.Stored.{installed}
+use Rattle.std.proofs.Common.{◌≡◌, true, Ok, Err, rules}
+use Rattle.hist_model.specs.Files.{has_setfd}
+use Rattle.task_groups.proofs.Answered.{installed, lowest-answer}
 use Rattle.task_groups.proofs.groups.Groups.install.Goals as goal
 
-pub returns-clause-answer : goal.returns-clause-answer
-returns-clause-answer c S K living handles g T a =
-    let i = T.rows c.args.o c.row.result c.row.ensures in
-    c.install_in.ensures.answer S K T.tables ∙ ap (λ h. slot_answer (slot_in S.rlimit (files S K) h c.args.asked.now)) (group-at K c.row.result.table c.args.o g i.table_is a)
+pub returns-then-has_setfd-clause-answer : goal.returns-then-has_setfd-clause-answer
+returns-then-has_setfd-clause-answer c s T = let h : has_setfd c.args.asked.now ≡ true = search rules in rw h (c.open_at.ensures.answer s T)
 
-pub returns-clause-step : goal.returns-clause-step
-returns-clause-step c S K living handles e g T a i =
-    let row = T.rows c.args.o c.row.result c.row.ensures in
-    let at = group-at K c.row.result.table c.args.o g row.table_is a in
-    installed S K living handles c.args.self.now T e c.row.result.table c.args.asked.now g c.install_in.result _ at i
-    c.install_in.ensures.step c.install_in.ensures.holders c.install_in.ensures.others c.install_in.ensures.refused
+pub returns-then-has_setfd-clause-step : goal.returns-then-has_setfd-clause-step
+returns-then-has_setfd-clause-step c s T = installed s c.args.self.now c.open_at.new.self c.args.o c.args.asked.now.srcfd c.open_at.result T c.open_at.ensures.step c.open_at.ensures.refused
+
+pub returns-in-Ok-clause-answer : goal.returns-in-Ok-clause-answer
+returns-in-Ok-clause-answer c s T = lowest-answer s c.args.o c.args.asked.now (Ok c.in-Ok.number) (search rules) (c.in-Ok.ensures.number s T)
+
+pub returns-in-Ok-clause-step : goal.returns-in-Ok-clause-step
+returns-in-Ok-clause-step c s T = c.in-Ok.ensures.step s T
+
+pub returns-in-Err-clause-answer : goal.returns-in-Err-clause-answer
+returns-in-Err-clause-answer c s T = lowest-answer s c.args.o c.args.asked.now (Err _) (search rules) (c.in-Err.ensures.number s T)

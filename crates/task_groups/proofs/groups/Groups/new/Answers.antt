@@ -1,15 +1,11 @@
-use Rattle.std.proofs.Common.{◌≡◌, [], refl, sym}
-use Rattle.task_groups.proofs.Maps.{ends-low, no-row, no-rows}
+use Rattle.std.proofs.Common.{◌≡◌, refl, subst, sym, ◌∙◌}
+use Rattle.task_groups.specs.Ranges.{AllEndLow}
+use Rattle.task_groups.proofs.Answered.{ends-low, holds-new}
 use Rattle.task_groups.proofs.groups.Groups.new.Goals as goal
 
 pub returns : goal.returns
 returns c =
-    let none : c.new-3.result.items ≡ [] = c.new-3.ensures.items in
-    record {
-      spaces = c.in_ok-new.ensures c.args.script.now (rw (← c.script.view_is) (sym c.items.ensures)) (rw c.items.ensures (ends-low _ c.script.invariant.map));
-      tables = c.in_ok-new-2.ensures c.args.script.now (rw (← c.script.view_is) refl);
-      made = no-rows c.new-3.result.items none;
-      rows = λ p q f. absurd (no-row c.new-3.result.items p q none f);
-      no_tasks = λ p b. refl;
-      no_handles = λ p b. refl;
-    }
+    let S = c.args.script.now in
+    let map : S.map ≡ c.items.result.now = rw (← c.script.view_is) (sym c.items.ensures) in
+    let low : AllEndLow c.items.result.now = rw c.items.ensures (ends-low _ c.script.invariant.map) in
+    holds-new S.map S.rlimit _ (subst AllEndLow (sym map) low) (c.in_ok-from_slice.ensures.items ∙ sym map) (rw (← c.script.view_is) refl) c.new.ensures.items c.new-2.ensures

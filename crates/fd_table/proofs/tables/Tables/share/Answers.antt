@@ -1,8 +1,0 @@
-use Rattle.std.proofs.Common.{arith}
-use Rattle.fd_table.proofs.Changed.{held-found, stands-held}
-use Rattle.fd_table.proofs.tables.Tables.share.Goals as goal
-
-pub returns-clause-stands : goal.returns-clause-stands
-returns-clause-stands c S K A =
-    let f = held-found c.args.self.now c.args.t c.requires.held in
-    stands-held S K c.args.self.now _ _ _ f.row A f.at (c.put_holders.ensures f.row f.at) (omega arith)

@@ -1,0 +1,285 @@
+//! Pages, which the lists of spaces share.
+
+ghost use Rattle.std.specs.Prelude.{◌≡◌, ◌≢◌, ℕ, ◌+◌, ◌-◌, ◌*◌, ◌%◌, ◌<◌, ◌≤◌, ◌++◌, ◌^◌, length, Some, None, OnOk, IsOk, vec_len, vec_capacity, slice_index};
+ghost use Rattle.slab.specs.Slab.{get, HasRoomFor};
+ghost use Rattle.hist_model.specs.Memory.{byte_or, byte_stored};
+ghost use Rattle.task_groups.specs.Lists.{NumbersRise, slot_of};
+ghost use Rattle.task_groups.specs.Pages.{count_at, bytes_at_some, byte_in, bytes_from, IsStore, IsList, HasPages, pages_touched, IsLeft, IsLeftBySome, IsPageAdded, IsOwned, IsPut, IsStored, IsSharedOnce, IsShared, IsLeftByAll};
+
+use crate::list::{self, PageEntry};
+use slab::Slab;
+use std::alloc::Global;
+use sys_abi::memory::NoMemory;
+
+/// How many bytes a page has.
+pub const PAGE: usize = 4096;
+
+/// A page that was never written.
+const ZEROS: [u8; PAGE] = [0; PAGE];
+
+/// A page, and how many entries of lists have it.
+#[derive(Drop)]
+pub struct Page {
+    shares: u64,
+    bytes: Box<[u8; PAGE]>,
+}
+
+/// The pages that were written, in slots that are used again.
+#[derive(Drop)]
+pub struct Pages {
+    slots: Slab<Page>,
+    /// Room for pages that are made later, with any bytes.
+    stock: Vec<Box<[u8; PAGE]>>,
+    alloc: Global,
+}
+
+impl Pages {
+    /// No pages.
+    pub fn new(alloc: Global) -> Pages
+        ensures { (p : ℕ) → get result.slots p ≡ None }
+    {
+        Pages {
+            slots: Slab::new(alloc),
+            stock: Vec::new(alloc),
+            alloc,
+        }
+    }
+
+    /// Makes room for so many more pages, which then take no memory.
+    pub fn ready(&mut self, count: usize) -> Result<(), NoMemory>
+        ensures room { OnOk result (HasPages self.new count) }
+        ensures had_room { HasPages self.old count → IsOk result }
+        ensures same { self.new.slots.slots ≡ self.old.slots.slots }
+    {
+        self.slots.reserve(count)?;
+        while self.stock.len() < count {
+            let buffer = Box::new(self.alloc, ZEROS)?;
+            self.stock.push(buffer)?;
+        }
+        Ok(())
+    }
+
+    /// How many entries have the page of a slot.
+    fn shares(&self, slot: usize) -> u64
+        ensures { result ≡ count_at self.now slot }
+    {
+        match self.slots.get(slot) {
+            Some(page) => page.shares,
+            None => 0,
+        }
+    }
+
+    /// The bytes of the page of a slot; zeros where there is none.
+    fn bytes(&self, slot: Option<usize>) -> &[u8; PAGE]
+        ensures { (i : ℕ) → slice_index result.now i ≡ slice_index (bytes_at_some self.now slot) i }
+    {
+        let Some(slot) = slot else {
+            return &ZEROS;
+        };
+        match self.slots.get(slot) {
+            Some(page) => &page.bytes,
+            None => &ZEROS,
+        }
+    }
+
+    /// Makes a page that one entry has, with the bytes of another one, or zeros. There is room for it.
+    fn add(&mut self, like: Option<usize>) -> usize
+        requires { HasPages self.old 1 }
+        ensures added { IsPageAdded self.old like result self.new }
+        ensures store { IsStore self.old → IsStore self.new }
+        ensures room { (k : ℕ) → HasPages self.old (k + 1) → HasPages self.new k }
+    {
+        let Some(mut bytes) = self.stock.pop() else {
+            unreachable!()
+        };
+        *bytes = *self.bytes(like);
+        self.slots.insert_reserved(Page { shares: 1, bytes })
+    }
+
+    /// One entry less has the page of a slot, which is given up with the last one.
+    fn leave(&mut self, slot: usize)
+        ensures left { IsLeft self.old slot self.new }
+        ensures store { IsStore self.old → IsStore self.new }
+        ensures room { (k : ℕ) → HasPages self.old k → HasPages self.new k }
+    {
+        let Some(page) = self.slots.get_mut(slot) else {
+            return;
+        };
+        if page.shares > 1 {
+            page.shares -= 1;
+        } else {
+            self.slots.try_remove(slot);
+        }
+    }
+
+    /// The same, if there is a slot.
+    fn leave_some(&mut self, slot: Option<usize>)
+        ensures left { IsLeftBySome self.old slot self.new }
+        ensures store { IsStore self.old → IsStore self.new }
+        ensures room { (k : ℕ) → HasPages self.old k → HasPages self.new k }
+    {
+        if let Some(slot) = slot {
+            self.leave(slot);
+        }
+    }
+
+    /// The slot of the page of a number, which no other entry has: where one has, this list gets a page of its own with
+    /// the same bytes. There is room for it.
+    fn own(&mut self, list: &mut Vec<PageEntry>, number: u64) -> usize
+        requires pages { HasPages self.old 1 }
+        requires entry { vec_len list.old < vec_capacity list.old }
+        ensures owned { IsStore self.old → IsList self.old list.old.items → IsOwned self.old list.old.items number result self.new list.new.items }
+        ensures pages { (k : ℕ) → HasPages self.old (k + 1) → HasPages self.new k }
+        ensures entries { (k : ℕ) → vec_len list.old + (k + 1) ≤ vec_capacity list.old → vec_len list.new + k ≤ vec_capacity list.new }
+    {
+        let found = list::find(list, number);
+        match found {
+            Some(slot) if self.shares(slot) == 1 => slot,
+            _ => self.replace(list, number, found),
+        }
+    }
+
+    /// Gives a list a page of its own, with the bytes of the page that it had under this number, or zeros. There is room
+    /// for it.
+    fn replace(&mut self, list: &mut Vec<PageEntry>, number: u64, found: Option<usize>) -> usize
+        requires pages { HasPages self.old 1 }
+        requires entry { vec_len list.old < vec_capacity list.old }
+        ensures owned { IsStore self.old → IsList self.old list.old.items → found ≡ slot_of list.old.items number → ((p : ℕ) → found ≡ Some p → count_at self.old p ≢ 1) → IsOwned self.old list.old.items number result self.new list.new.items }
+        ensures pages { (k : ℕ) → HasPages self.old (k + 1) → HasPages self.new k }
+        ensures entries { (k : ℕ) → vec_len list.old + (k + 1) ≤ vec_capacity list.old → vec_len list.new + k ≤ vec_capacity list.new }
+    {
+        let slot = self.add(found);
+        self.leave_some(found);
+        list::put(list, PageEntry { number, slot });
+        slot
+    }
+
+    /// Writes a piece into the page of a slot.
+    fn put(&mut self, slot: usize, offset: usize, piece: &[u8])
+        requires { offset + length piece.now ≤ 4096 }
+        ensures put { IsPut self.old slot offset piece.now self.new }
+        ensures store { IsStore self.old → IsStore self.new }
+        ensures room { (k : ℕ) → HasPages self.old k → HasPages self.new k }
+    {
+        if let Some(page) = self.slots.get_mut(slot) {
+            write_at(&mut page.bytes, offset, piece);
+        }
+    }
+
+    /// Stores a piece in one page of a space. There is room for that page.
+    fn store_piece(&mut self, list: &mut Vec<PageEntry>, number: u64, offset: usize, piece: &[u8])
+        requires pages { HasPages self.old 1 }
+        requires entry { vec_len list.old < vec_capacity list.old }
+        requires within { offset + length piece.now ≤ 4096 }
+        ensures stored { IsStore self.old → IsList self.old list.old.items → IsStored self.old list.old.items (4096 * number + offset) piece.now self.new list.new.items }
+        ensures pages { (k : ℕ) → HasPages self.old (k + 1) → HasPages self.new k }
+        ensures entries { (k : ℕ) → vec_len list.old + (k + 1) ≤ vec_capacity list.old → vec_len list.new + k ≤ vec_capacity list.new }
+    {
+        let slot = self.own(list, number);
+        self.put(slot, offset, piece);
+    }
+
+    /// Stores bytes in a space, from an address on. There is room for the pages.
+    pub fn store(&mut self, list: &mut Vec<PageEntry>, addr: u64, bytes: &[u8])
+        requires pages { HasPages self.old (pages_touched (addr % 4096) (length bytes.now)) }
+        requires entries { vec_len list.old + pages_touched (addr % 4096) (length bytes.now) ≤ vec_capacity list.old }
+        ensures { IsStore self.old → IsList self.old list.old.items → IsStored self.old list.old.items addr bytes.now self.new list.new.items }
+    {
+        let mut number = addr / PAGE as u64;
+        let mut offset = (addr % PAGE as u64) as usize;
+        let mut rest = bytes;
+        while !rest.is_empty() {
+            let (piece, more) = rest.split_at(rest.len().min(PAGE - offset));
+            self.store_piece(list, number, offset, piece);
+            number += 1;
+            offset = 0;
+            rest = more;
+        }
+    }
+
+    /// Appends bytes of one page of a space. There is room for them.
+    fn append_piece(
+        &self,
+        list: &[PageEntry],
+        number: u64,
+        offset: usize,
+        count: usize,
+        out: &mut Vec<u8>,
+    )
+        requires within { offset + count ≤ 4096 }
+        requires room { vec_len out.old + count ≤ vec_capacity out.old }
+        ensures items { NumbersRise list.now → out.new.items ≡ out.old.items ++ bytes_from (byte_in self.now list.now) (4096 * number + offset) count }
+        ensures len { vec_len out.new ≡ vec_len out.old + count }
+        ensures capacity { vec_capacity out.old ≤ vec_capacity out.new }
+    {
+        let page = self.bytes(list::find(list, number));
+        let Ok(()) = out.extend_from_slice(part(page, offset, count)) else {
+            unreachable!()
+        };
+    }
+
+    /// Appends so many bytes of a space, from an address on. There is room for them.
+    pub fn append(&self, list: &[PageEntry], addr: u64, count: usize, out: &mut Vec<u8>)
+        requires { vec_len out.old + count ≤ vec_capacity out.old }
+        ensures items { NumbersRise list.now → out.new.items ≡ out.old.items ++ bytes_from (byte_in self.now list.now) addr count }
+        ensures capacity { vec_capacity out.old ≤ vec_capacity out.new }
+    {
+        let mut number = addr / PAGE as u64;
+        let mut offset = (addr % PAGE as u64) as usize;
+        let mut rest = count;
+        while rest > 0 {
+            let piece = rest.min(PAGE - offset);
+            self.append_piece(list, number, offset, piece, out);
+            number += 1;
+            offset = 0;
+            rest -= piece;
+        }
+    }
+
+    /// One entry more has the page of a slot.
+    fn share(&mut self, slot: usize)
+        ensures shared { IsSharedOnce self.old slot self.new }
+        ensures store { IsStore self.old → IsStore self.new }
+    {
+        if let Some(page) = self.slots.get_mut(slot) {
+            page.shares = page.shares.saturating_add(1);
+        }
+    }
+
+    /// Each entry of a list is there once more.
+    pub fn share_all(&mut self, list: &[PageEntry])
+        ensures shared { IsShared self.old list.now self.new }
+        ensures store { IsStore self.old → IsStore self.new }
+    {
+        for entry in list {
+            self.share(entry.slot);
+        }
+    }
+
+    /// Each entry of a list is there no more.
+    pub fn leave_all(&mut self, list: &[PageEntry])
+        ensures left { IsLeftByAll self.old list.now self.new }
+        ensures store { IsStore self.old → IsStore self.new }
+    {
+        for entry in list {
+            self.leave(entry.slot);
+        }
+    }
+}
+
+/// Writes a piece into the bytes of a page.
+fn write_at(bytes: &mut [u8; PAGE], offset: usize, piece: &[u8])
+    requires { offset + length piece.now ≤ 4096 }
+    ensures { (i : ℕ) → slice_index bytes.new i ≡ byte_or (byte_stored (Some (offset, piece.now)) i) (slice_index bytes.old i) }
+{
+    bytes[offset..offset + piece.len()].copy_from_slice(piece);
+}
+
+/// Some bytes of a page.
+fn part(page: &[u8; PAGE], offset: usize, count: usize) -> &[u8]
+    requires { offset + count ≤ 4096 }
+    ensures len { length result.now ≡ count }
+    ensures bytes { (i : ℕ) → i < count → slice_index result.now i ≡ slice_index page.now (offset + i) }
+{
+    &page[offset..offset + count]
+}

@@ -1,9 +1,0 @@
-use Rattle.std.proofs.Common.{take}
-use Rattle.task_memory.specs.Pages.{IsStore, IsLeftByAll}
-use Rattle.task_memory.proofs.pages.Pages.leave_all.Given as goal
-
-abbrev pub invariant-loop-entry : goal.invariant-loop-entry
-invariant-loop-entry l = record {
-  done : IsLeftByAll l.fn.self (take l.entry-index l.list) l.self;
-  store : IsStore l.fn.self → IsStore l.self;
-}
