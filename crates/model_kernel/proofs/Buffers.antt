@@ -1,14 +1,13 @@
 -- What a receive tells by its buffer, where that is filled with zeros.
 -- By the count of requests and the answer of the receive.
-use Rattle.std.proofs.Common.{◌≡◌, refl, ℕ, ◌<◌, true, List, arith}
-use Rattle.std.specs.Prelude.{Err, Result, ◌==◌, All}
+use Rattle.std.proofs.Common.{◌≡◌, refl, ℕ, ◌<◌, true, List, arith, Err, Result, ◌==◌, All}
 use Rattle.std.proofs.lemmas.Bool.{ne_eqb}
 use Rattle.std.proofs.lemmas.List.Elements.{All-weaker}
 use Rattle.std.proofs.lemmas.List.Sums.{list_all-from_AllPass}
 use Rattle.hist_model.specs.Calls.{count}
 use Rattle.hist_model.specs.Steps.{oldest_unfetched, recv_answer}
-use Rattle.hist_model.specs.declared.event.Event.{Event}
 use Rattle.sys_abi.specs.declared.wire.Notif.{Notif}
+use Rattle.model_kernel.proofs.Words.{Event}
 use Rattle.model_kernel.specs.Wire.{are_zeros, buffer_after, bytes_or, is_answered, recv_result, without_notif}
 use Rattle.model_kernel.specs.declared.wire.RecvError.TheVariants.{Empty}
 

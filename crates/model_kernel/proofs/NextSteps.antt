@@ -1,29 +1,21 @@
 -- What was read of a task's next step is what the definitions say of it.
 -- By the call that it entered last, and the rule of scripts on what their programs store.
-use Rattle.std.proofs.Common.{◌≡◌, ℕ, true, List, Some, ap, sym, ◌∙◌, subst}
+use Rattle.std.proofs.Common.{◌≡◌, ℕ, true, List, Some, ap, sym, ◌∙◌, subst, ℤ, Ok, Err, Result, IfOk, replicate, length}
 use Rattle.std.proofs.lemmas.List.{length-replicate}
-use Rattle.std.specs.Prelude.{ℤ, Ok, Err, Result, IfOk, replicate, length}
 use Rattle.hist_model.specs.Memory.{all_mapped, group_named, last_call}
 use Rattle.hist_model.specs.Steps.{owes_native}
 use Rattle.hist_model.specs.ScriptRules.{IsScript}
 use Rattle.hist_model.specs.declared.event.Entered.{Entered}
-use Rattle.hist_model.specs.declared.event.What.TheVariants.{Enter}
 use Rattle.hist_model.specs.declared.script.Instr.TheVariants as instr
-use Rattle.hist_model.specs.declared.event.Event.{Event}
-use Rattle.hist_model.specs.declared.script.Script.{Script}
 use Rattle.history_frames.specs.Ordinals.{group_of}
-use Rattle.kernel_resources.specs.Stands as resources
+use Rattle.model_kernel.proofs.Words.{Enter, Event, IsKernel, Kernel, living_in, MayStep, named, past, Script, Tasks}
+use Rattle.model_kernel.specs.Stands as resources
 use Rattle.native_calls.specs.Prepared.{IsPrepared}
 use Rattle.native_calls.specs.declared.call.NativeCall.{NativeCall}
 use Rattle.sys_abi.specs.declared.memory.NoMemory.{NoMemory}
-use Rattle.kernel_resources.proofs.Natives.{counted-alike}
+use Rattle.model_kernel.proofs.NativeCalls.{counted-alike}
 use Rattle.tasks.specs.Stands as tasks
-use Rattle.tasks.specs.declared.table.Tasks.{Tasks}
-use Rattle.tasks.specs.Stands.{living_in}
-use Rattle.model_kernel.specs.Kernels.{IsKernel, past, system}
 use Rattle.model_kernel.specs.Ready.{IsOwed, own_instr, stored_by}
-use Rattle.model_kernel.specs.Steps.{MayStep, named}
-use Rattle.model_kernel.specs.declared.kernel.Kernel.{Kernel}
 use Rattle.model_kernel.proofs.Stored.{stored-mapped}
 
 -- the call was read in a group, after whatever history its resources stand for
@@ -60,6 +52,6 @@ roomier k new T i stand same events is =
     let resources : new.resources ≡ k.resources = ap (λ (x : Kernel). x.resources) is in
     record {
       tasks = rw (script, tables, events) stand;
-      resources = rw (script, tables, resources, events) (counted-alike k.script (past k) (living_in k.tasks) (living_in T) k.resources i.resources same);
+      resources = rw (script, tables, resources, events) (counted-alike k.script (past k) (living_in k.tasks) k.resources i.resources (living_in T) same);
       few = rw events i.few;
     }

@@ -1,20 +1,15 @@
 -- How many tasks there are after one more event.
 -- By the count of the events that make one.
-use Rattle.std.proofs.Common.{◌≡◌, ◌+◌, ◌<◌, ◌≤◌, ◌^◌, ℕ, Bool, true, false, if◌then◌else◌, List, [], ◌∷◌, ap, arith}
-use Rattle.std.specs.Prelude.{Ok, Err}
+use Rattle.std.proofs.Common.{◌≡◌, ◌+◌, ◌<◌, ◌≤◌, ◌^◌, ℕ, Bool, true, false, if◌then◌else◌, List, [], ◌∷◌, ap, arith, Ok, Err}
 use Rattle.std.proofs.lemmas.List.{length-map}
 use Rattle.hist_model.specs.Kinds.{makes}
 use Rattle.hist_model.specs.Legal.{started}
-use Rattle.hist_model.specs.declared.event.Event.{Event}
 use Rattle.hist_model.specs.declared.event.SpawnKind.TheVariants.{New, Copied, Shared}
-use Rattle.hist_model.specs.declared.event.What.{What}
-use Rattle.hist_model.specs.declared.event.What.TheVariants.{Spawn}
-use Rattle.hist_model.specs.declared.script.Script.{Script}
 use Rattle.history_frames.specs.Ordinals.{count_of, groups_made, makes_group, tasks_made}
 use Rattle.tasks.specs.Stands.{HasRoom, StandsFor}
 use Rattle.tasks.specs.Table.{member}
-use Rattle.tasks.specs.declared.table.Tasks.{Tasks}
 use Rattle.tasks.proofs.Told.{made-is}
+use Rattle.model_kernel.proofs.Words.{Event, Script, Spawn, Tasks, What}
 
 -- an event that makes none leaves their number
 pub same-number : (e : Event) (K : List Event) → makes e.what ≡ false → tasks_made (e ∷ K) ≡ tasks_made K

@@ -3,13 +3,11 @@
 use Rattle.std.proofs.Common.{◌≡◌, ℕ, true, false, None, refl, ap, ◌∙◌}
 use Rattle.hist_model.specs.Signals.{call_of}
 use Rattle.hist_model.specs.Steps.{deliver_or, living_step, owes_native}
-use Rattle.hist_model.specs.declared.event.What.TheVariants.{Native}
 use Rattle.tasks.proofs.Told.{steps-living}
 use Rattle.tasks.proofs.Named.{name-made}
-use Rattle.model_kernel.specs.Kernels.{past, system}
+use Rattle.model_kernel.proofs.Words.{due_step, Kernel, MayStep, named, Native, past, signal_due, system}
 use Rattle.model_kernel.specs.Ready.{own_step}
-use Rattle.model_kernel.specs.Steps.{IsDeliveredFirst, MayStep, delivered, due_step, named, signal_due}
-use Rattle.model_kernel.specs.declared.kernel.Kernel.{Kernel}
+use Rattle.model_kernel.specs.Steps.{IsDeliveredFirst, delivered}
 
 due-outside : (k : Kernel) (o : ℕ) → MayStep k o → call_of (past k) (named k o) ≡ None → due_step k o ≡ living_step (system k) (past k) (named k o) None
 due-outside k o m none = steps-living (system k) (past k) (named k o) (name-made (past k) o m.made) m.lives ∙ ap (living_step (system k) (past k) (named k o)) none

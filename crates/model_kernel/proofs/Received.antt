@@ -1,7 +1,6 @@
 -- The answers of the listener: the notification that a worker receives is that of the oldest call that wasn't received.
 -- By the queue's answer, since a listed call's task waits in it.
-use Rattle.std.proofs.Common.{◌≡◌, ℕ, ℤ, ◌<◌, Bool, true, false, List, Some, refl, sym, ap, ◌∙◌, arith}
-use Rattle.std.specs.Prelude.{Ok, Err, Result, if◌then◌else◌, not}
+use Rattle.std.proofs.Common.{◌≡◌, ℕ, ℤ, ◌<◌, Bool, true, false, List, Some, refl, sym, ap, ◌∙◌, arith, Ok, Err, Result, if◌then◌else◌, not}
 use Rattle.std.proofs.lemmas.Bool.{and_parts, ne_eqb}
 use Rattle.hist_model.specs.Calls.{caller, count, id, listed}
 use Rattle.hist_model.specs.Deeds.{Deed}
@@ -10,16 +9,13 @@ use Rattle.hist_model.specs.Look.{event_at}
 use Rattle.hist_model.specs.Signals.{call_of}
 use Rattle.hist_model.specs.Steps.{args_in, deed_step, notif, nr_in, oldest_unfetched, pid_named, recv_answer}
 use Rattle.hist_model.specs.Systems.{System}
-use Rattle.hist_model.specs.declared.event.Event.{Event}
-use Rattle.hist_model.specs.declared.event.What.TheVariants.{Recv, Skip}
 use Rattle.hist_model.specs.declared.notification.Fetched.{Fetched}
 use Rattle.hist_model.proofs.Look.{oldest-some}
 use Rattle.sys_abi.specs.Errnos.{ebadf}
 use Rattle.sys_abi.specs.declared.wire.Notif.{Notif}
 use Rattle.listener.specs.Stands.{IsNext}
 use Rattle.listener.proofs.Stand.{waits-here}
-use Rattle.model_kernel.specs.Kernels.{IsKernel, past}
-use Rattle.model_kernel.specs.declared.kernel.Kernel.{Kernel}
+use Rattle.model_kernel.proofs.Words.{Event, IsKernel, Kernel, past, Recv, Skip}
 
 -- the task of the next call waits in it
 pub next-waits : (k : Kernel) (call : Fetched) → IsKernel k → (next : IsNext (past k) call) → call_of (past k) (caller (past k) next.place) ≡ Some next.place

@@ -1,20 +1,14 @@
 -- The table of requests has one of a worker exactly where the history has one that was put and not taken.
 -- By the lemma of `listener` on the requests of one that stands for its history.
-use Rattle.std.proofs.Common.{◌≡◌, ℕ, Bool, true, false, Option, Some, None, refl, sym, ap, ◌∙◌}
+use Rattle.std.proofs.Common.{◌≡◌, ℕ, true, false, Option, Some, None, refl, sym, ap, ◌∙◌, is_some}
 use Rattle.listener.specs.Requests.{has_request}
 use Rattle.listener.proofs.Stand.{asks}
-use Rattle.std.specs.Prelude.{is_some}
 use Rattle.hist_model.specs.Steps.{request_of}
-use Rattle.model_kernel.specs.Kernels.{IsKernel, past}
-use Rattle.model_kernel.specs.declared.kernel.Kernel.{Kernel}
+use Rattle.model_kernel.proofs.Words.{IsKernel, Kernel, past}
 
 is-asking : (o : Option ℕ) → (o ≡ None → ⊥) → is_some o ≡ true
 is-asking None some = absurd (some refl)
 is-asking (Some r) some = refl
-
-asks-nothing : (o : Option ℕ) → is_some o ≡ false → o ≡ None
-asks-nothing None h = refl
-asks-nothing (Some r) h = cc
 
 module _ (k : Kernel) (w : ℕ) (i : IsKernel k) where
   same : has_request k.resources.listener.requests w ≡ is_some (request_of (past k) w)
@@ -25,9 +19,3 @@ module _ (k : Kernel) (w : ℕ) (i : IsKernel k) where
 
   pub has-none : request_of (past k) w ≡ None → has_request k.resources.listener.requests w ≡ false
   has-none none = same ∙ ap is_some none
-
-  pub asked-one : has_request k.resources.listener.requests w ≡ true → request_of (past k) w ≡ None → ⊥
-  asked-one h none = let no = has-none none in cc
-
-  pub asked-none : has_request k.resources.listener.requests w ≡ false → request_of (past k) w ≡ None
-  asked-none h = asks-nothing (request_of (past k) w) (sym same ∙ h)

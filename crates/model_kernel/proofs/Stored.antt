@@ -1,14 +1,12 @@
 -- What a task's next instruction stores, it stores at mapped addresses.
 -- By the rule of scripts on all their programs, of which each task's is one.
-use Rattle.std.proofs.Common.{◌≡◌, ℕ, zero, suc, List, [], ◌∷◌, Option, Some, None, refl}
-use Rattle.std.specs.Prelude.{Bool, true, slice_get, length, ◌-◌}
+use Rattle.std.proofs.Common.{◌≡◌, ℕ, zero, suc, List, [], ◌∷◌, Option, Some, None, refl, Bool, true, slice_get, length, ◌-◌}
 use Rattle.std.specs.List.{list_all}
 use Rattle.std.proofs.lemmas.Bool.{and_parts}
-use Rattle.hist_model.specs.Look.{Name}
 use Rattle.hist_model.specs.Programs.{nth_started, program, program_at, program_from}
 use Rattle.hist_model.specs.ScriptRules.{IsScript}
 use Rattle.hist_model.specs.declared.script.Instr.{Instr}
-use Rattle.hist_model.specs.declared.script.Script.{Script}
+use Rattle.model_kernel.proofs.Words.{Name, Script}
 use Rattle.model_kernel.specs.Mapped.{stores_each_mapped}
 use Rattle.model_kernel.proofs.MappedRanges.{stores_where_mapped}
 

@@ -1,44 +1,21 @@
--- A kernel after a worker opened, read or did something.
--- By the resources, which took the step with the same answer, and since the groups of living tasks are live.
-use Rattle.std.proofs.Common.{◌≡◌, ℕ, suc, ◌+◌, ◌<◌, ◌≤◌, ◌^◌, Bool, true, false, List, [], ◌∷◌, length, Option, Some, None, refl, sym, ap, ◌∙◌, arith, ℤ, if◌then◌else◌}
-use Rattle.std.specs.Prelude.{Ok, Err, not}
+-- The group of a living task, and what is answered to a worker that opens a base.
+-- By the counts of living tasks, and by cases on whether a task lives.
+use Rattle.std.proofs.Common.{◌≡◌, ℕ, suc, ◌+◌, ◌<◌, ◌≤◌, ◌^◌, Bool, true, false, List, [], ◌∷◌, length, Option, Some, None, refl, sym, ap, ◌∙◌, arith, ℤ, if◌then◌else◌, Ok, Err, Result, not}
 use Rattle.hist_model.specs.Files.{files}
 use Rattle.hist_model.specs.Legal.{is_there, system_of}
-use Rattle.hist_model.specs.Look.{ev}
 use Rattle.hist_model.specs.Natives.{base_of}
 use Rattle.hist_model.specs.Steps.{base_answer, group, lives, opened}
 use Rattle.hist_model.specs.Tasks.{ended, holder, name_of}
-use Rattle.hist_model.specs.declared.event.Actor.TheVariants.{Worker}
-use Rattle.hist_model.specs.declared.event.Event.{Event}
-use Rattle.hist_model.specs.declared.event.What.{What}
-use Rattle.hist_model.specs.declared.script.Script.{Script}
 use Rattle.history_frames.specs.Ordinals.{count_of, group_of, place_of, task_name_of, tasks_made}
-use Rattle.kernel_resources.specs.Stands as resources
-use Rattle.kernel_resources.specs.Stands.{base_found}
-use Rattle.kernel_resources.specs.declared.resources.Resources.{Resources}
-use Rattle.kernel_resources.proofs.Opened.{live}
+use Rattle.model_kernel.proofs.Words.{Event, IsKernel, Kernel, living_in, past, Script, Tasks, What}
+use Rattle.model_kernel.proofs.Opened.{live}
 use Rattle.tasks.specs.Stands as tasks
-use Rattle.tasks.specs.Stands.{IsHolder, ended_at, group_at, living_in, made}
-use Rattle.tasks.specs.declared.table.Tasks.{Tasks}
+use Rattle.tasks.specs.Stands.{IsHolder, ended_at, group_at, made}
 use Rattle.tasks.proofs.Told.{made-is, place-is}
 use Rattle.sys_abi.specs.Errnos.{ebadf, esrch}
 use Rattle.task_groups.specs.Groups.{IsLive}
 use Rattle.tasks.specs.Fold.{IsGroupOf}
 use Rattle.tasks.proofs.Counted.{living_in-most, living_in-some}
-use Rattle.model_kernel.specs.Kernels.{IsAfter, IsKernel, past}
-use Rattle.model_kernel.specs.Kinds.{is_worker_step}
-use Rattle.model_kernel.specs.declared.kernel.Kernel.{Kernel}
-use Rattle.model_kernel.proofs.Workers.{noted}
-
--- ---- After a step
-
--- the kernel after a step that the resources took, which tells the answer that they gave
-pub taken : {A : Type 0} (old new : Kernel) (w : ℕ) (tells : A → What) (expected answer told : A) (R : Resources) → IsKernel old → is_worker_step (tells told) ≡ true → told ≡ answer → answer ≡ expected
-    → past new ≡ ev (Worker w) (tells told) ∷ past old → new ≡ record old { resources = R; history = new.history }
-    → ((e : Event) → e.who ≡ Worker w → e.what ≡ tells answer → resources.StandsFor old.script (e ∷ past old) (living_in old.tasks) R)
-    → IsAfter old (ev (Worker w) (tells expected)) new
-taken old new w tells expected answer told R k is_step t a events same step =
-    noted old new w (tells expected) (tells told) R k is_step (ap tells (t ∙ a)) events same (step (ev (Worker w) (tells told)) refl (ap tells t))
 
 -- ---- The group of a living task
 
@@ -59,7 +36,7 @@ group-live k o i lives few =
     let most = living_in-most k.tasks (group_at k.tasks o) in
     let made : made k.tasks ≡ tasks_made (past k) = made-is k.script (past k) k.tasks i.tasks in
     let events : tasks_made (past k) ≤ length (past k) = count-most _ (past k) in
-    live k.script (past k) (living_in k.tasks) k.resources (group_at k.tasks o) i.resources some (omega (arith, most, made, events, few))
+    live k.script (past k) (living_in k.tasks) k.resources i.resources (group_at k.tasks o) some (omega (arith, most, made, events, few))
 
 -- it is the group that is opened by the number that the task holds
 pub group-opened : (S : Script) (K : List Event) (T : Tasks) (p o g : ℕ) → tasks.StandsFor S K T → IsHolder K p o → IsGroupOf K (task_name_of K o) g → (m : ℕ) × (opened K (holder K p) ≡ Some m) × (group_of K g ≡ Some m)
@@ -79,7 +56,11 @@ if-so : {A : Type 0} (b : Bool) (x y : A) → not b ≡ false → x ≡ (if b th
 if-so true x y h = refl
 if-so false x y h = cc
 
--- the answer of the opening of a base, in either form
+-- the answer of the opening of a base: EBADF where there is none
+abbrev pub base_found : Option ℕ → Result (Unit {0}) ℕ
+base_found (Some n) = Ok tt
+base_found None = Err ebadf
+
 base-found : (b : Option ℕ) → base_found b ≡ (if is_there b then Ok tt else Err ebadf)
 base-found (Some n) = refl
 base-found None = refl

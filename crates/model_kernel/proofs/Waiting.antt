@@ -7,18 +7,15 @@ use Rattle.hist_model.specs.Look.{event_at}
 use Rattle.hist_model.specs.Memory.{group_named}
 use Rattle.hist_model.specs.Steps.{deliver_or, install_step, living_step, place_or, slot_answer}
 use Rattle.hist_model.specs.declared.event.Back.{Back}
-use Rattle.hist_model.specs.declared.event.What.TheVariants.{Install, Resume, Skip}
-use Rattle.hist_model.specs.declared.event.Actor.TheVariants.{Task}
 use Rattle.listener.proofs.Stand.{IsOldest, oldest-first, oldest-none}
 use Rattle.tasks.proofs.Told.{steps-living}
 use Rattle.listener.specs.Stands.{IsInstall, IsSettledBy, oldest_in}
 use Rattle.listener.proofs.Folds.{call-is}
 use Rattle.sys_abi.specs.declared.wire.Addfd.{Addfd}
-use Rattle.task_groups.specs.Groups.{IsInstall as IsGroupInstall}
+use Rattle.task_groups.specs.Stands.{IsInstall as IsGroupInstall}
 use Rattle.tasks.proofs.Named.{name-made}
-use Rattle.model_kernel.specs.Kernels.{past, system}
-use Rattle.model_kernel.specs.Steps.{IsDeliveredFirst, IsInstallDue, MayStep, WaitsIn, delivered, due_step, named, signal_due, step_by}
-use Rattle.model_kernel.specs.declared.kernel.Kernel.{Kernel}
+use Rattle.model_kernel.proofs.Words.{due_step, Install, Kernel, MayStep, named, past, Resume, signal_due, Skip, step_by, system, Task, WaitsIn}
+use Rattle.model_kernel.specs.Steps.{IsDeliveredFirst, IsInstallDue, delivered}
 
 -- the installation that is due, with its answer
 pub install-due : (k : Kernel) (o c x g : ℕ) (asked : Addfd) → IsInstallDue k o c x asked → group_named (past k) (named k o) ≡ Some g

@@ -10,7 +10,7 @@ use Rattle.hist_model.specs.declared.event.Event.{Event}
 use Rattle.hist_model.specs.declared.event.What.{What}
 use Rattle.hist_model.specs.declared.event.What.TheVariants.{AddfdTake, Skip}
 use Rattle.history_frames.specs.Ordinals.{tasks_made}
-use Rattle.kernel_resources.specs.Stands as resources
+use Rattle.model_kernel.specs.Stands as resources
 use Rattle.tasks.specs.Stands as tasks
 use Rattle.hist_model.specs.declared.script.Script.{Script}
 use Rattle.tasks.specs.declared.table.Tasks.{Tasks}

@@ -3,5 +3,8 @@ pub mod Kinds
 pub mod Mapped
 pub mod Reads
 pub mod Ready
+pub mod Rows
+pub mod Spent
+pub mod Stands
 pub mod Steps
 pub mod Wire

@@ -7,7 +7,7 @@ use Rattle.hist_model.specs.Tasks.{ended}
 use Rattle.hist_model.specs.declared.event.What.{What}
 use Rattle.hist_model.specs.declared.script.Instr.{Instr}
 use Rattle.hist_model.specs.declared.script.Instr.TheVariants as instr
-use Rattle.kernel_resources.specs.Stands.{HasNativeRoom}
+use Rattle.model_kernel.specs.Stands.{HasNativeRoom}
 use Rattle.tasks.specs.Stands.{HasRoom as HasTaskRoom, name_at, group_at}
 use Rattle.native_calls.specs.Stands.{IsEntered}
 use Rattle.native_calls.specs.declared.call.NativeCall.{NativeCall}

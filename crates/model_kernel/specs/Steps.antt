@@ -6,7 +6,7 @@ use Rattle.hist_model.specs.Signals.{call_of, next_signal}
 use Rattle.hist_model.specs.Calls.{id, queue, settled}
 use Rattle.hist_model.specs.Steps.{deliver_or, install_step, task_step}
 use Rattle.hist_model.specs.Tasks.{ended, disposition}
-use Rattle.hist_model.specs.declared.event.Actor.TheVariants.{Task}
+use Rattle.hist_model.specs.declared.event.Actor.TheVariants.{Task, Worker}
 use Rattle.hist_model.specs.declared.event.Delivered.{Delivered}
 use Rattle.hist_model.specs.declared.event.Entered.{Entered}
 use Rattle.hist_model.specs.declared.event.Entered.TheVariants.{Kill, Notify}
@@ -16,10 +16,10 @@ use Rattle.hist_model.specs.declared.event.What.TheVariants.{Skip}
 use Rattle.history_frames.specs.Ordinals.{tasks_made, task_name_of}
 use Rattle.listener.specs.Stands.{oldest_in}
 use Rattle.sys_abi.specs.declared.wire.Addfd.{Addfd}
-use Rattle.kernel_resources.specs.Stands as resources
+use Rattle.model_kernel.specs.Stands as resources
 use Rattle.tasks.specs.Stands.{effect_of, living_in}
 use Rattle.tasks.specs.Stands as tasks
-use Rattle.task_groups.specs.Groups.{one_less}
+use Rattle.task_groups.specs.State.{one_less}
 use Rattle.model_kernel.specs.declared.steps.CannotStep.{CannotStep}
 use Rattle.model_kernel.specs.Kernels.{IsAfter, IsKernel, past, system}
 use Rattle.model_kernel.specs.declared.kernel.Kernel.{Kernel}
@@ -51,6 +51,11 @@ pub record Acts (old : Kernel) (o : ℕ) (w : What) (new : Kernel) : Type 0 wher
   pub tasks : tasks.StandsFor old.script (step_by old o w ∷ past old) new.tasks
   pub resources : resources.StandsFor old.script (step_by old o w ∷ past old) (living_in new.tasks) new.resources
   pub number : tasks_made (step_by old o w ∷ past old) < 2 ^ 32
+
+-- the tables have taken a worker's step, which is this, and the history hasn't
+pub record IsServed (old : Kernel) (w : ℕ) (what : What) (new : Kernel) : Type 0 where
+  pub rest : new ≡ record old { resources = new.resources }
+  pub resources : resources.StandsFor old.script (ev (Worker w) what ∷ past old) (living_in old.tasks) new.resources
 
 -- the task waits in the listed call at a place, which has this id
 pub record WaitsIn (k : Kernel) (o c x : ℕ) : Type 0 where

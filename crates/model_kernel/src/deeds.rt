@@ -1,20 +1,21 @@
 //! What workers open, read and do.
 
-ghost use Rattle.std.specs.Prelude.{◌≡◌, ℕ, ◌^◌, length, ◌<◌, ◌≤◌, true, false, List, Result, Ok, Err, Some, None, IfSome, IfNone, OnOk, if◌then◌else◌, vec_capacity};
+ghost use Rattle.std.specs.Prelude.{◌≡◌, ℕ, ◌^◌, length, ◌<◌, ◌≤◌, true, false, List, Result, Ok, Err, Some, None, IfSome, IfNone, if◌then◌else◌, vec_capacity};
 ghost use Rattle.std.specs.Result.{result_and};
 ghost use Rattle.hist_model.specs.Deeds as deed;
 ghost use Rattle.hist_model.specs.Effects.{effect};
 ghost use Rattle.hist_model.specs.Steps.{base_answer, is_spent, lives, mem, opened, read_answer};
 ghost use Rattle.hist_model.specs.Tasks.{holder};
+ghost use Rattle.hist_model.specs.declared.event.What.TheVariants.{Act, OpenBase, Plant};
 ghost use Rattle.history_frames.specs.Ordinals.{group_of};
-ghost use Rattle.kernel_resources.specs.Stands.{HasPlantRoom};
 ghost use Rattle.path_walk.specs.Performed.{room_wanted};
 ghost use Rattle.sys_abi.specs.Errnos.{edquot, efault, esrch};
 ghost use Rattle.sys_abi.specs.Memory.{lacked_memory};
-ghost use Rattle.task_groups.specs.Groups.{IsLive};
-ghost use Rattle.task_memory.specs.Stands.{IsReadAnswer};
-ghost use Rattle.worker_rows.specs.Spent.{HasRoom as HasSpentRoom};
+ghost use Rattle.task_groups.specs.Groups.{IsLive, IsReadAnswer};
 ghost use Rattle.model_kernel.specs.Kernels.{DoesDeed, IsKernel, past, system};
+ghost use Rattle.model_kernel.specs.Spent.{HasRoom as HasSpentRoom};
+ghost use Rattle.model_kernel.specs.Stands.{HasPlantRoom};
+ghost use Rattle.model_kernel.specs.Steps.{IsServed};
 
 use crate::kernel::{Kernel, same};
 use hist_model::boxed::Boxed;
@@ -22,29 +23,37 @@ use hist_model::event::What;
 use hist_model::policy::Cap;
 use hist_model::request::{Fault, Request};
 use hist_model::text::Text;
+use path_walk::effects::perform_request;
 use sys_abi::errno::Errno;
-use sys_abi::memory::{NoMemory, OrNoMemory};
+use sys_abi::memory::OrNoMemory;
 
 impl Kernel {
-    /// Makes room for one `act` with a request under a cap, but for its event.
-    pub fn ready_act(&mut self, request: &Request, cap: Option<Cap>) -> Result<(), NoMemory>
-        requires { IsKernel self.old }
-        ensures spent { OnOk result (HasSpentRoom self.new.resources.spent cap) }
-        ensures tree { OnOk result (room_wanted (effect request.now) ≤ self.new.resources.tree.spare) }
-        ensures kernel { IsKernel self.new }
-        ensures same { self.new ≡ record self.old { resources = self.new.resources } }
+    /// What is answered to a worker that does what a request asks for, before that is noted.
+    fn effect(&mut self, worker: u8, request: &Request, cap: Option<Cap>) -> Result<(), Errno>
+        requires kernel { IsKernel self.old }
+        requires spent { HasSpentRoom self.old.resources.spent cap }
+        requires tree { room_wanted (effect request.now) ≤ self.old.resources.tree.spare }
+        ensures answer { result ≡ (if is_spent (past self.old) cap then Err edquot else (system self.old).outcome (past self.old) worker request.now) }
+        ensures served { IsServed self.old worker (Act request.now cap result) self.new }
     {
-        self.resources.ready_act(request, cap)
-    }
-
-    /// Makes room for one `plant` of a worker under a cap, but for its event.
-    pub fn ready_plant(&mut self, worker: u8, cap: Option<Cap>) -> Result<(), NoMemory>
-        requires { IsKernel self.old }
-        ensures room { OnOk result (HasPlantRoom self.new.resources worker cap) }
-        ensures kernel { IsKernel self.new }
-        ensures same { self.new ≡ record self.old { resources = self.new.resources } }
-    {
-        self.resources.ready_plant(worker, cap)
+        if self.resources.spent.is_spent(cap) {
+            return Err(Errno::EDQUOT);
+        }
+        let base = self.resources.workers.base(worker);
+        match perform_request(
+            &mut self.resources.tree,
+            self.resources.container.root,
+            base,
+            request,
+            &mut self.resources.walk,
+        ) {
+            Ok(()) => {
+                self.resources.spent.spend(cap);
+                Ok(())
+            }
+            Err(OrNoMemory::Refused(errno)) => Err(errno),
+            Err(OrNoMemory::NoMemory) => unreachable!(),
+        }
     }
 
     /// A worker does what a request asks for in the tree, as often as the cap of the granting rule allows: EDQUOT where its
@@ -62,7 +71,7 @@ impl Kernel {
         ensures deed { DoesDeed self.old worker (deed.Act request cap) self.new }
         ensures answer { result ≡ (if is_spent (past self.old) cap then Err edquot else (system self.old).outcome (past self.old) worker request) }
     {
-        let answer = self.resources.act(worker, request.get(), cap);
+        let answer = self.effect(worker, request.get(), cap);
         let told = same(&answer);
         self.note(
             worker,
@@ -73,6 +82,35 @@ impl Kernel {
             },
         );
         answer
+    }
+
+    /// What is answered to a worker that stores the answer of sysinfo, before that is noted.
+    fn stored(
+        &mut self,
+        worker: u8,
+        addr: u64,
+        bytes: &[u8; 112],
+        cap: Option<Cap>,
+    ) -> Result<(), Errno>
+        requires kernel { IsKernel self.old }
+        requires memory { mem (past self.old) worker ≡ None → ⊥ }
+        requires room { HasPlantRoom self.old.resources worker cap }
+        ensures answer { result ≡ (if is_spent (past self.old) cap then Err edquot else (if (system self.old).writable addr then Ok tt else Err efault)) }
+        ensures served { IsServed self.old worker (Plant addr bytes.now cap result) self.new }
+    {
+        if self.resources.spent.is_spent(cap) {
+            return Err(Errno::EDQUOT);
+        }
+        let Some(group) = self.resources.workers.memory(worker) else {
+            unreachable!()
+        };
+        match self.resources.groups.store(group, addr, bytes) {
+            Ok(()) => {
+                self.resources.spent.spend(cap);
+                Ok(())
+            }
+            Err(Fault) => Err(Errno::EFAULT),
+        }
     }
 
     /// A worker stores the answer of sysinfo in the memory that it has open, as often as the cap of the granting rule allows:
@@ -91,7 +129,7 @@ impl Kernel {
         ensures deed { DoesDeed self.old worker (deed.Plant addr bytes cap) self.new }
         ensures answer { result ≡ (if is_spent (past self.old) cap then Err edquot else (if (system self.old).writable addr then Ok tt else Err efault)) }
     {
-        let answer = self.resources.plant(worker, addr, bytes.get(), cap);
+        let answer = self.stored(worker, addr, bytes.get(), cap);
         let told = same(&answer);
         self.note(
             worker,
@@ -125,7 +163,8 @@ impl Kernel {
             );
             return Err(Errno::ESRCH);
         };
-        self.resources.open_memory(worker, group);
+        self.resources.groups.opened(group);
+        self.resources.workers.opened_memory(worker, group);
         self.note(
             worker,
             What::OpenMem {
@@ -133,6 +172,23 @@ impl Kernel {
                 answer: Ok(()),
             },
         );
+        Ok(())
+    }
+
+    /// What is answered to a worker that opens a base, before that is noted.
+    fn based(&mut self, worker: u8, pid: u32, dirfd: i32) -> Result<(), Errno>
+        requires kernel { IsKernel self.old }
+        requires worker { worker ≤ 16 }
+        ensures answer { result ≡ base_answer (system self.old) (past self.old) (holder (past self.old) pid) dirfd }
+        ensures served { IsServed self.old worker (OpenBase pid dirfd result) self.new }
+    {
+        let Some(group) = self.living_group(pid) else {
+            return Err(Errno::ESRCH);
+        };
+        let Some(base) = self.resources.base_in(group, dirfd) else {
+            return Err(Errno::EBADF);
+        };
+        self.resources.workers.opened_base(worker, Some(base));
         Ok(())
     }
 
@@ -145,18 +201,7 @@ impl Kernel {
         ensures deed { DoesDeed self.old worker (deed.OpenBase pid dirfd) self.new }
         ensures answer { result ≡ base_answer (system self.old) (past self.old) (holder (past self.old) pid) dirfd }
     {
-        let Some(group) = self.living_group(pid) else {
-            self.note(
-                worker,
-                What::OpenBase {
-                    pid,
-                    dirfd,
-                    answer: Err(Errno::ESRCH),
-                },
-            );
-            return Err(Errno::ESRCH);
-        };
-        let answer = self.resources.open_base(worker, group, dirfd);
+        let answer = self.based(worker, pid, dirfd);
         let told = same(&answer);
         self.note(
             worker,
@@ -167,6 +212,24 @@ impl Kernel {
             },
         );
         answer
+    }
+
+    /// Reads the memory that a worker has open, as `read` has it, into `out`: a fault where it answers EFAULT.
+    fn peek(
+        &self,
+        worker: u8,
+        addr: u64,
+        len: u16,
+        out: &mut Vec<u8>,
+    ) -> Result<(), OrNoMemory<Fault>>
+        requires { IsKernel self.now }
+        ensures answer { IsReadAnswer result out.new.items (read_answer (system self.now) (past self.now) (mem (past self.now) worker) addr len) }
+        ensures room { len ≤ vec_capacity out.old → lacked_memory result ≡ false }
+    {
+        match self.resources.workers.memory(worker) {
+            Some(group) => self.resources.groups.read(group, addr, len, out),
+            None => Err(OrNoMemory::Refused(Fault)),
+        }
     }
 
     /// A worker reads the memory that it has open from an address on, up to the first byte that isn't mapped, and at most
@@ -180,7 +243,7 @@ impl Kernel {
         ensures answer { result ≡ result_and (read_answer (system self.old) (past self.old) (mem (past self.old) worker) addr len) (Ok tt) }
     {
         let mut bytes = room;
-        let found = self.resources.read(worker, addr, len, &mut bytes);
+        let found = self.peek(worker, addr, len, &mut bytes);
         let answer = text_read(found, bytes);
         let outcome = without_bytes(&answer);
         self.note(worker, What::Read { addr, len, answer });

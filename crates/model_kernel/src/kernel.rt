@@ -6,10 +6,10 @@ ghost use Rattle.hist_model.specs.declared.event.Actor.TheVariants.{Listener, Wo
 ghost use Rattle.hist_model.specs.declared.event.What.TheVariants.{Close, Skip};
 ghost use Rattle.model_kernel.specs.Kernels.{IsAfter, IsKernel, past};
 
+use crate::resources::Resources;
 use hist_model::event::{Actor, Event, What};
 use hist_model::history::History;
 use hist_model::script::{Figures, Script};
-use kernel_resources::Resources;
 use sys_abi::errno::Errno;
 use sys_abi::memory::NoMemory;
 use tasks::Tasks;

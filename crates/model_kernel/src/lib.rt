@@ -1,19 +1,25 @@
 //! A container's kernel: its tasks, what they and the workers of its broker use, and the history of what has happened.
 //!
-//! Its model is a history of a script: `IsKernel` says that the tasks and the resources stand for the kernel's own. Each act is
-//! one event, with the answer that the definitions of `hist_model` give after the history before it (`IsAfter`, `DoesDeed`); what
-//! appends none says so. What workers ask of the listener is asked by values (`receive`, `send`, `put`), and by the structures
-//! of seccomp_unotify(2) as they lie in memory (`recv`, `notif_send`, `addfd_put`).
+//! Its model is a history of a script: `IsKernel` says that all tables stand for the kernel's own. Each act is one event, with
+//! the answer that the definitions of `hist_model` give after the history before it (`IsAfter`, `DoesDeed`); what appends none
+//! says so. What workers ask of the listener is asked by values (`receive`, `send`, `put`), and by the structures of
+//! seccomp_unotify(2) as they lie in memory (`recv`, `notif_send`, `addfd_put`).
 //!
-//! Below stand `tasks` and `kernel_resources`, each with its own part of the state.
+//! Below stand the tables: `tasks`, `task_groups`, `listener`, and the tree with its walk and the native calls. What the
+//! workers have open and how often the caps were spent are rows of the kernel's own.
 #![tactic(auto)]
 
 mod deeds;
 mod kernel;
 pub mod laws;
 mod listening;
+mod natives;
 mod reads;
 mod ready;
+mod resources;
+mod rooms;
+mod rows;
+mod spent;
 mod start;
 mod steps;
 mod wire;

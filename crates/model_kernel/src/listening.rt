@@ -14,8 +14,11 @@ ghost use Rattle.hist_model.specs.declared.event.Event.{Event};
 ghost use Rattle.hist_model.specs.declared.event.What.TheVariants.{AddfdPut, Skip};
 ghost use Rattle.hist_model.specs.declared.script.Script.{Script};
 ghost use Rattle.history_frames.specs.Ordinals.{task_name_of, tasks_made};
-ghost use Rattle.kernel_resources.specs.Stands.{StandsFor as ResourcesStandFor};
-ghost use Rattle.tasks.specs.Stands.{StandsFor as TasksStandFor, living_in};
+ghost use Rattle.tasks.specs.Stands.{StandsFor as TasksStandFor};
+ghost use Rattle.task_groups.specs.Groups.{Holds, HasRow};
+ghost use Rattle.task_groups.specs.State.{State};
+ghost use Rattle.model_kernel.specs.Stands.{IsOneOf, without};
+ghost use Rattle.model_kernel.specs.Steps.{IsServed};
 ghost use Rattle.listener.specs.Stands.{IsNext, take_of};
 ghost use Rattle.listener.specs.declared.queue.FetchError.TheVariants.{Empty, Gone};
 ghost use Rattle.model_kernel.specs.Kernels.{DoesDeed, IsKernel, past, system, taken_step};
@@ -26,6 +29,7 @@ use hist_model::notification::Fetched;
 use listener::{FetchError, TakeError};
 use sys_abi::errno::Errno;
 use sys_abi::wire::{AUDIT_ARCH_X86_64, Addfd, Notif, SeccompData};
+use task_groups::Groups;
 
 impl Kernel {
     /// The number and the arguments of the call in which a task waits.
@@ -73,8 +77,9 @@ impl Kernel {
         ensures none { result ≡ Err Empty → count (past self.old) ≡ 0 }
         ensures same { result ≡ Err Empty → self.new ≡ self.old }
     {
-        match self.resources.receive(worker) {
+        match self.resources.listener.receive() {
             Ok(call) => {
+                self.resources.workers.received(worker);
                 let notif = self.notification(call);
                 self.note(worker, What::Recv { answer: Ok(notif) });
                 Ok(notif)
@@ -100,7 +105,7 @@ impl Kernel {
         ensures answer { result ≡ check_answer (past self.old) (named (past self.old) id) }
         ensures done { DoesDeed self.old worker (deed.Check id) self.new }
     {
-        let answer = self.resources.check(id);
+        let answer = self.resources.listener.check(id);
         let told = same(&answer);
         self.note(worker, What::Check { id, answer: told });
         answer
@@ -114,7 +119,7 @@ impl Kernel {
         ensures answer { result ≡ send_answer (past self.old) (named (past self.old) id) }
         ensures done { DoesDeed self.old worker (deed.Send id back.now) self.new }
     {
-        let answer = self.resources.send(id, *back);
+        let answer = self.resources.listener.send(id, *back);
         let told = same(&answer);
         self.note(
             worker,
@@ -144,11 +149,10 @@ impl Kernel {
         requires worker { worker ≤ 16 }
         requires free { has_request self.old.resources.listener.requests worker ≡ false }
         ensures answer { AddfdPut asked result ≡ deed_step (system self.old) (past self.old) worker (deed.AddfdPut asked) }
-        ensures step { ResourcesStandFor self.old.script (ev (Worker worker) (AddfdPut asked result) ∷ past self.old) (living_in self.old.tasks) self.new.resources }
-        ensures same { self.new ≡ record self.old { resources = self.new.resources } }
+        ensures served { IsServed self.old worker (AddfdPut asked result) self.new }
     {
         if self.is_source(asked.srcfd) {
-            self.resources.put(worker, asked)
+            self.resources.listener.put(worker, asked)
         } else {
             Err(Errno::EBADF)
         }
@@ -190,7 +194,7 @@ impl Kernel {
         ensures done { (result ≡ Err Pending → ⊥) → DoesDeed self.old worker deed.AddfdTake self.new }
         ensures same { result ≡ Err Pending → self.new ≡ self.old }
     {
-        let taken = self.resources.take(worker);
+        let taken = self.resources.listener.take(worker);
         if let Some(answer) = answer_of(&taken) {
             self.note(worker, What::AddfdTake { answer });
         }
@@ -204,8 +208,20 @@ impl Kernel {
         requires room { 0 < self.old.history.spare }
         ensures { DoesDeed self.old worker deed.LetGo self.new }
     {
-        self.resources.let_go(worker);
+        let group = self.resources.workers.memory(worker);
+        close(&mut self.resources.groups, group);
+        self.resources.workers.let_go(worker);
         self.note(worker, What::LetGo);
+    }
+}
+
+/// Closes the memory of a group, if there is one.
+fn close(groups: &mut Groups, group: Option<u32>)
+    requires { (g : ℕ) → group ≡ Some g → HasRow groups.old g }
+    ensures { (s : State) → Holds s groups.old → IsOneOf s.handles group → Holds (record s { handles = without s.handles group }) groups.new }
+{
+    if let Some(group) = group {
+        groups.closed(group);
     }
 }
 

@@ -13,6 +13,7 @@ ghost use Rattle.model_kernel.specs.Ready.{HasNextRoom, IsNext, IsOwed, IsReadyF
 ghost use Rattle.model_kernel.specs.Steps.{MayStep, named};
 
 use crate::kernel::Kernel;
+use crate::rooms::ready_entry;
 use arg_capture::Capture;
 use hist_model::script::{Instr, Script};
 use hist_model::text::{TaskName, Text};
@@ -155,9 +156,9 @@ impl Kernel {
         let group = self.tasks.group(task);
         match next {
             Next::Ended => Ok(()),
-            Next::Waiting(_) => self.resources.ready(group, 0),
+            Next::Waiting(_) => ready_entry(&mut self.resources, group, 0),
             Next::Owed(call) => self.resources.ready_native(group, call),
-            Next::Runs { bytes, .. } => self.resources.ready(group, size(bytes)?),
+            Next::Runs { bytes, .. } => ready_entry(&mut self.resources, group, size(bytes)?),
         }
     }
 

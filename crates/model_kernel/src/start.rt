@@ -13,11 +13,11 @@ ghost use Rattle.listener.specs.Stands.{IsCaller};
 ghost use Rattle.model_kernel.specs.Kernels.{HasFirst, IsBegun, IsKernel, past};
 
 use crate::kernel::Kernel;
+use crate::resources::Resources;
 use hist_model::event::{Actor, Event, SpawnKind, What};
 use hist_model::history::History;
 use hist_model::script::Script;
 use hist_model::text::TaskName;
-use kernel_resources::Resources;
 use std::alloc::Global;
 use sys_abi::memory::{NoMemory, OrNoMemory};
 use tasks::Tasks;
@@ -68,7 +68,7 @@ impl Kernel {
     {
         let history = first_history(alloc, &script)?;
         let tasks = first_tasks(alloc, &script)?;
-        let resources = Resources::new(alloc, &script)?.first()?;
+        let resources = Resources::new(alloc, &script)?;
         Ok(Kernel {
             script,
             history,
@@ -105,7 +105,7 @@ impl Kernel {
         ensures some { IfSome result (λ o. IsKernel self.now → IsCaller (past self.now) id o) }
         ensures none { IfNone result (IsKernel self.now → named (past self.now) id ≡ None) }
     {
-        self.resources.listener().caller(id)
+        self.resources.listener.caller(id)
     }
 
     /// The count of the listener's requests: how many more calls were listed than receives were answered. While it isn't 0, no
@@ -113,7 +113,7 @@ impl Kernel {
     pub fn request_count(&self) -> u64
         ensures { IsKernel self.now → result ≡ count (past self.now) }
     {
-        self.resources.listener().count()
+        self.resources.listener.count()
     }
 
     /// The name of the task of an ordinal; empty where no task has it.
@@ -127,7 +127,7 @@ impl Kernel {
     pub fn holds_mem(&self, worker: u8) -> bool
         ensures { IsKernel self.now → result ≡ is_some (mem (past self.now) worker) }
     {
-        self.resources.holds_memory(worker)
+        self.resources.workers.memory(worker).is_some()
     }
 
     /// Whether a worker has a request for a descriptor: one that was put and not taken.
@@ -135,7 +135,7 @@ impl Kernel {
         ensures some { IsKernel self.now → result ≡ true → request_of (past self.now) worker ≡ None → ⊥ }
         ensures none { IsKernel self.now → result ≡ false → request_of (past self.now) worker ≡ None }
     {
-        self.resources.has_request(worker)
+        self.resources.listener.has_request(worker)
     }
 
     /// Whether nothing is left to do: every task has ended, no call is listed, and each worker has let go.
@@ -143,6 +143,8 @@ impl Kernel {
         requires { IsKernel self.now }
         ensures { 0 < length (past self.now) → (result ≡ true) ↔ Finished (past self.now) }
     {
-        self.tasks.living() == 0 && self.resources.is_idle() && self.resources.are_workers_idle()
+        self.tasks.living() == 0
+            && self.resources.listener.is_idle()
+            && self.resources.workers.open_sessions() == 0
     }
 }

@@ -15,7 +15,8 @@ ghost use Rattle.hist_model.specs.Kinds.{ends, exits, makes};
 ghost use Rattle.hist_model.specs.declared.event.Event.{Event};
 ghost use Rattle.hist_model.specs.declared.script.Script.{Script};
 ghost use Rattle.history_frames.specs.Ordinals.{groups_made, tasks_made};
-ghost use Rattle.task_groups.specs.Groups.{HasRoomFor, IsCopyOf, IsLive, one_more};
+ghost use Rattle.task_groups.specs.Groups.{Holds, HasRoomFor, IsLive};
+ghost use Rattle.task_groups.specs.State.{State, with_copy, with_joined};
 ghost use Rattle.listener.specs.Stands.{IsListedAs};
 ghost use Rattle.hist_model.specs.Calls.{calls, fetched};
 ghost use Rattle.hist_model.specs.declared.event.Entered.TheVariants.{Notify};
@@ -25,8 +26,7 @@ ghost use Rattle.native_calls.specs.Stands.{IsEntered};
 ghost use Rattle.hist_model.specs.declared.event.SpawnKind.TheVariants.{Copied, Shared};
 ghost use Rattle.hist_model.specs.declared.script.Instr.TheVariants.{Spawn as InstrSpawn, Thread};
 ghost use Rattle.tasks.specs.Stands.{HasRoom as HasTaskRoom, name_at, group_at};
-ghost use Rattle.kernel_resources.specs.Stands.{HasNativeRoom, IsThread};
-ghost use Rattle.kernel_resources.specs.Stands as resources_stand;
+ghost use Rattle.model_kernel.specs.Stands.{HasNativeRoom};
 
 use crate::kernel::Kernel;
 use crate::ready::{Next, ReadyTask, keeps_rules};
@@ -35,9 +35,10 @@ use hist_model::event::{Actor, Back, Delivered, Disposition, Entered, Event, Spa
 use hist_model::request::TaskRef;
 use hist_model::script::Instr;
 use hist_model::text::{TaskName, Text};
-use kernel_resources::Resources;
 use native_calls::NativeCall;
+use sys_abi::errno::Errno;
 use sys_abi::wire::Addfd;
+use task_groups::Groups;
 use thiserror::Error;
 
 /// The task can't step: it has ended, or waits.
@@ -67,7 +68,7 @@ impl Kernel {
     {
         let what = What::Resume { back };
         self.tasks.stepped(task, &what);
-        self.resources.leave(id);
+        self.resources.listener.leave(id);
         what
     }
 
@@ -99,7 +100,7 @@ impl Kernel {
     {
         let group = self.tasks.group(task);
         self.tasks.exit(task, &what);
-        leave_group(&mut self.resources, group, &what);
+        leave_group(&mut self.resources.groups, group, &what);
         what
     }
 
@@ -127,7 +128,7 @@ impl Kernel {
         requires due { due_step self.old task ≡ Enter nr args.now (Notify ((self.old.script.firstid + calls (past self.old)) % 2 ^ 64)) }
         ensures { Acts self.old task result self.new }
     {
-        let id = self.resources.enter(TaskRef {
+        let id = self.resources.listener.enter(TaskRef {
             slot: 0,
             ordinal: task,
         });
@@ -141,7 +142,7 @@ impl Kernel {
     }
 
     /// A task, which waits in the listed call with this id, installs the call's oldest request, for which there is room in its
-    /// group. The errors are those of `Resources::install`.
+    /// group. The errors are those of `Groups::install`.
     fn install(&mut self, task: u32, id: u64, asked: &Addfd) -> What
         requires ready { MayStep self.old task }
         requires room { HasRoomFor self.old.resources.groups (group_at self.old.tasks task) 0 }
@@ -149,7 +150,10 @@ impl Kernel {
         ensures { Acts self.old task result self.new }
     {
         let group = self.tasks.group(task);
-        let answer = self.resources.install(group, id, asked);
+        let answer = self.resources.groups.install(group, asked);
+        self.resources
+            .listener
+            .installed(id, asked, same_number(&answer));
         let what = What::Install { answer };
         self.tasks.stepped(task, &what);
         what
@@ -165,13 +169,13 @@ impl Kernel {
         ensures step { IfSome result (λ w. Acts self.old task w self.new) }
         ensures none { IfNone result ((self.new ≡ self.old) × (due_step self.old task ≡ Skip)) }
     {
-        if let Some(back) = self.resources.settled_back(id) {
+        if let Some(back) = self.resources.listener.settled_back(id) {
             return Some(self.resume(task, id, back));
         }
         if let Some(what) = self.deliver_inside(task, id) {
             return Some(what);
         }
-        let asked = self.resources.next_request(id)?;
+        let asked = self.resources.listener.next_request(id)?;
         Some(self.install(task, id, &asked))
     }
 
@@ -235,7 +239,7 @@ impl Kernel {
         ensures { Acts self.old task result self.new }
     {
         let group = self.tasks.group(task);
-        let Ok(()) = self.resources.poke(group, addr, bytes.items()) else {
+        let Ok(()) = self.resources.groups.store(group, addr, bytes.items()) else {
             unreachable!()
         };
         let what = What::Poke { addr, bytes };
@@ -256,7 +260,7 @@ impl Kernel {
         let what = self
             .tasks
             .spawn(task, SpawnKind::Shared, group, program, room);
-        join_group(&mut self.resources, group, &what);
+        join_group(&mut self.resources.groups, group, &what);
         what
     }
 
@@ -272,11 +276,11 @@ impl Kernel {
         ensures { Acts self.old task result self.new }
     {
         let group = self.tasks.group(task);
-        let copy = self.resources.groups_made() as u32;
+        let copy = self.resources.groups.made() as u32;
         let what = self
             .tasks
             .spawn(task, SpawnKind::Copied, copy, program, room);
-        copy_group(&mut self.resources, group, &what);
+        copy_group(&mut self.resources.groups, group, &what);
         what
     }
 
@@ -291,7 +295,7 @@ impl Kernel {
     {
         let group = self.tasks.group(task);
         let what = self.tasks.deliver(task, false, false)?;
-        leave_group(&mut self.resources, group, &what);
+        leave_group(&mut self.resources.groups, group, &what);
         Some(what)
     }
 
@@ -300,7 +304,7 @@ impl Kernel {
         requires { IsKernel self.now }
         ensures { (c : ℕ) → IsListedAs (past self.now) c id → result ≡ (self.now.script.killable && fetched (past self.now) c) }
     {
-        self.script.killable && self.resources.was_received(id)
+        self.script.killable && self.resources.listener.was_received(id)
     }
 
     /// Delivers the signal that is due next to a task, which waits in the listed call with this id, and ends its wait. None
@@ -315,8 +319,8 @@ impl Kernel {
         let group = self.tasks.group(task);
         let held = self.holds_back(id);
         let what = self.tasks.deliver(task, held, true)?;
-        leave_group(&mut self.resources, group, &what);
-        self.resources.leave(id);
+        leave_group(&mut self.resources.groups, group, &what);
+        self.resources.listener.leave(id);
         Some(what)
     }
 
@@ -428,6 +432,16 @@ impl Kernel {
     }
 }
 
+/// A copy of this answer.
+fn same_number(answer: &Result<u32, Errno>) -> Result<u32, Errno>
+    ensures { result ≡ answer.now }
+{
+    match answer {
+        Ok(number) => Ok(*number),
+        Err(errno) => Err(*errno),
+    }
+}
+
 /// Whether a step ends the task that takes it.
 fn is_end(what: &What) -> bool
     ensures { result ≡ ends what.now }
@@ -447,12 +461,12 @@ fn is_end(what: &What) -> bool
 }
 
 /// A task of a group takes this step, and leaves the group where the step ends it.
-fn leave_group(resources: &mut Resources, group: u32, what: &What)
-    requires { IsLive resources.old.groups group }
-    ensures { (S : Script) (K : List Event) (living : ℕ → ℕ) → resources_stand.StandsFor S K living resources.old → resources_stand.StandsFor S K (left_by what.now living group) resources.new }
+fn leave_group(groups: &mut Groups, group: u32, what: &What)
+    requires { IsLive groups.old group }
+    ensures { (s : State) → Holds s groups.old → Holds (record s { living = left_by what.now s.living group }) groups.new }
 {
     if is_end(what) {
-        resources.left(group);
+        groups.left(group);
     }
 }
 
@@ -464,24 +478,24 @@ fn is_made(what: &What) -> bool
 }
 
 /// A task of a group takes this step, which is to make a thread, and which the group joins where it was made.
-fn join_group(resources: &mut Resources, group: u32, what: &What)
-    requires { IsLive resources.old.groups group }
-    ensures made { makes what.now ≡ true → (S : Script) (K : List Event) (living : ℕ → ℕ) (e : Event) → resources_stand.StandsFor S K living resources.old → IsThread e → resources_stand.StandsFor S (e ∷ K) (one_more living group) resources.new }
-    ensures refused { makes what.now ≡ false → resources.new ≡ resources.old }
+fn join_group(groups: &mut Groups, group: u32, what: &What)
+    requires { IsLive groups.old group }
+    ensures made { makes what.now ≡ true → (s : State) → Holds s groups.old → Holds (with_joined group s) groups.new }
+    ensures refused { makes what.now ≡ false → groups.new ≡ groups.old }
 {
     if is_made(what) {
-        resources.joined(group);
+        groups.joined(group);
     }
 }
 
 /// A task of a group takes this step, which is to make a task with a copy of the group, and which copies it where it was made.
-fn copy_group(resources: &mut Resources, group: u32, what: &What)
-    requires live { IsLive resources.old.groups group }
-    requires room { HasRoomFor resources.old.groups group 0 }
-    ensures made { makes what.now ≡ true → (S : Script) (K : List Event) (living : ℕ → ℕ) (e : Event) → resources_stand.StandsFor S K living resources.old → IsCopyOf K e group → resources_stand.StandsFor S (e ∷ K) (one_more living (groups_made K)) resources.new }
-    ensures refused { makes what.now ≡ false → resources.new ≡ resources.old }
+fn copy_group(groups: &mut Groups, group: u32, what: &What)
+    requires live { IsLive groups.old group }
+    requires room { HasRoomFor groups.old group 0 }
+    ensures made { makes what.now ≡ true → (s : State) → Holds s groups.old → Holds (with_copy group s) groups.new }
+    ensures refused { makes what.now ≡ false → groups.new ≡ groups.old }
 {
     if is_made(what) {
-        resources.copied(group);
+        groups.copied(group);
     }
 }

@@ -1,7 +1,6 @@
 use Rattle.std.proofs.Common.{subst, sym, ◌≡◌}
+use Rattle.model_kernel.proofs.Words.{due_step, Kernel}
 use Rattle.model_kernel.specs.Ready.{own_step}
-use Rattle.model_kernel.specs.Steps.{due_step}
-use Rattle.model_kernel.specs.declared.kernel.Kernel.{Kernel}
 use Rattle.model_kernel.proofs.Outside.{due-own, due-signal}
 use Rattle.model_kernel.proofs.kernel.Kernel.go_on.Goals as goal
 

@@ -1,6 +1,6 @@
 -- What is left of the events has the read that is asked for.
 use Rattle.std.proofs.Common.{◌≡◌, length, reverse}
-use Rattle.model_kernel.specs.Kernels.{past}
+use Rattle.model_kernel.proofs.Words.{past}
 use Rattle.model_kernel.specs.Reads.{last_read}
 use Rattle.model_kernel.proofs.kernel.Kernel.last_read.Given as goal
 

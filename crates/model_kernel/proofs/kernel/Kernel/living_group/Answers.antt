@@ -1,5 +1,5 @@
 use Rattle.std.proofs.Common.{◌∙◌, arith, sym}
-use Rattle.model_kernel.specs.Kernels.{past}
+use Rattle.model_kernel.proofs.Words.{past}
 use Rattle.model_kernel.proofs.Taken.{group-live, group-opened}
 use Rattle.model_kernel.proofs.kernel.Kernel.living_group.Goals as goal
 

@@ -3,11 +3,8 @@ use Rattle.hist_model.specs.Steps.{next_child}
 use Rattle.hist_model.specs.Tasks.{next_pid}
 use Rattle.hist_model.specs.declared.event.SpawnKind.TheVariants.{Shared}
 use Rattle.hist_model.specs.declared.script.Instr.TheVariants.{Thread}
-use Rattle.tasks.specs.Stands.{living_in}
-use Rattle.model_kernel.specs.Kernels.{past}
-use Rattle.model_kernel.specs.Steps.{named, step_by}
-use Rattle.model_kernel.proofs.Numbers.{one-number, room-number}
-use Rattle.model_kernel.proofs.TaskSteps.{own, counts, spawn-made, spawned}
+use Rattle.model_kernel.proofs.Words.{groups_after, memories_in, named, past, step_by}
+use Rattle.model_kernel.proofs.TaskSteps.{own, counts, spawn-made, spawned, thread-joins}
 use Rattle.model_kernel.proofs.kernel.Kernel.make_thread.Goals as goal
 
 pub join_group-requires : goal.join_group-requires
@@ -22,13 +19,8 @@ returns c =
     let n = named k c.args.task in
     let d = next_pid k.script.pidbase k.script.pidmax (past k) in
     let answer = c.spawn-what.ensures.answer k.script (past k) m.kernel.tasks m.made in
-    let due = c.requires.due ∙ sym answer in
-    record {
-      due = due;
-      steps = rw answer refl;
-      rest = refl;
-      tasks = c.spawn-what.ensures.stands k.script (past k) e m.kernel.tasks (record { own = own k c.args.task w m due; instr = Thread c.args.program; next = c.requires.next; starts_is = refl; group_is = c.group-group.ensures.group k.script (past k) m.kernel.tasks m.made }) refl;
-      resources = spawned k e c.spawn-what.new.self c.join_group.new.resources c.group-group.result (next_child (past k) n) d Shared m.kernel answer c.spawn-what.ensures.count
-          (λ h. c.join_group.ensures.made h k.script (past k) (living_in k.tasks) e m.kernel.resources (spawn-made e (next_child (past k) n) d Shared answer h)) c.join_group.ensures.refused;
-      number = one-number e (past k) (room-number k.script (past k) k.tasks c.args.task m.kernel.tasks c.requires.tasks);
-    }
+    spawned k c.args.task w c.spawn-what.new.self c.join_group.new.groups c.group-group.result (next_child (past k) n) d Shared m c.requires.tasks (c.requires.due ∙ sym answer) answer
+    (c.spawn-what.ensures.stands k.script (past k) e m.kernel.tasks (record { own = own k c.args.task w m (c.requires.due ∙ sym answer); instr = Thread c.args.program; next = c.requires.next; starts_is = refl; group_is = c.group-group.ensures.group k.script (past k) m.kernel.tasks m.made }) refl)
+    c.spawn-what.ensures.count
+    (λ h. thread-joins k.script (past k) e _ (memories_in k.resources.workers) c.join_group.new.groups (spawn-made e (next_child (past k) n) d Shared answer h)
+    (c.join_group.ensures.made h (groups_after k (past k)) m.kernel.resources.groups)) c.join_group.ensures.refused

@@ -1,7 +1,6 @@
-use Rattle.std.proofs.Common.{[], refl}
+use Rattle.std.proofs.Common.{refl}
 use Rattle.model_kernel.proofs.Starts.{begun}
 use Rattle.model_kernel.proofs.kernel.Kernel.new.Goals as goal
 
 pub returns : goal.returns
-returns c = begun c.args.script _ refl c.in_ok-history.ensures c.in_ok-tasks.ensures
-    (λ e fresh. c.in_ok-resources.ensures c.args.script [] (λ o. 0) e c.in_ok-new.ensures fresh)
+returns c = begun c.args.script _ refl c.in_ok-history.ensures c.in_ok-tasks.ensures c.in_ok-resources.ensures

@@ -1,7 +1,6 @@
 use Rattle.std.proofs.Common.{refl}
 use Rattle.tasks.proofs.Told.{skips-gone}
-use Rattle.model_kernel.specs.Kernels.{past, system}
-use Rattle.model_kernel.specs.Steps.{named}
+use Rattle.model_kernel.proofs.Words.{named, past, system}
 use Rattle.model_kernel.proofs.Outside.{due-native}
 use Rattle.model_kernel.proofs.kernel.Kernel.next_step.Goals as goal
 

@@ -1,5 +1,5 @@
 use Rattle.std.proofs.Common.{◌≡◌, rules, to_z, of_z, w32}
-use Rattle.model_kernel.specs.Kernels.{past}
+use Rattle.model_kernel.proofs.Words.{past}
 use Rattle.model_kernel.proofs.NextSteps.{owed-if}
 use Rattle.model_kernel.proofs.TaskSteps.{counts}
 use Rattle.model_kernel.proofs.kernel.Kernel.owed_call.Goals as goal

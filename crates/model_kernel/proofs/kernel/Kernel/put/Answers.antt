@@ -1,9 +1,5 @@
-use Rattle.std.proofs.Common.{◌∷◌, refl, ap, ◌∙◌}
-use Rattle.hist_model.specs.Look.{ev}
-use Rattle.hist_model.specs.declared.event.Actor.TheVariants.{Worker}
-use Rattle.hist_model.specs.declared.event.What.TheVariants.{AddfdPut}
-use Rattle.model_kernel.specs.Kernels.{past}
-use Rattle.model_kernel.specs.declared.kernel.Kernel.{Kernel}
+use Rattle.std.proofs.Common.{refl, ap, ◌∙◌}
+use Rattle.model_kernel.proofs.Words.{AddfdPut}
 use Rattle.model_kernel.proofs.Requested.{has-none}
 use Rattle.model_kernel.proofs.Workers.{noted}
 use Rattle.model_kernel.proofs.kernel.Kernel.put.Goals as goal
@@ -13,7 +9,5 @@ ask-answer-requires-clause-free c = has-none c.args.self.now c.args.worker c.req
 
 pub returns-clause-done : goal.returns-clause-done
 returns-clause-done c =
-    let asked = c.ask-answer.new.self in
-    noted c.args.self.now c.note.new.self c.args.worker _ _ asked.resources c.requires.kernel refl (ap (λ a. AddfdPut c.args.asked a) c.same-told.ensures ∙ c.ask-answer.ensures.answer)
-    (c.note.ensures.events ∙ ap (λ (k : Kernel). ev (Worker c.args.worker) (AddfdPut c.args.asked c.same-told.result) ∷ past k) c.ask-answer.ensures.same) (c.note.ensures.same ∙ ap (λ (k : Kernel). record k { history = c.note.new.self.history }) c.ask-answer.ensures.same)
-    (rw c.same-told.ensures c.ask-answer.ensures.step)
+    noted c.args.self.now c.ask-answer.new.self c.note.new.self c.args.worker _ (AddfdPut c.args.asked c.same-told.result) c.requires.kernel refl (ap (λ a. AddfdPut c.args.asked a) c.same-told.ensures ∙ c.ask-answer.ensures.answer)
+    (rw c.same-told.ensures c.ask-answer.ensures.served) c.note.ensures.events c.note.ensures.same

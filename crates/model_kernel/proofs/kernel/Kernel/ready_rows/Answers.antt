@@ -1,5 +1,5 @@
 use Rattle.std.proofs.Common.{refl}
-use Rattle.model_kernel.specs.Kernels.{past}
+use Rattle.model_kernel.proofs.Words.{past}
 use Rattle.model_kernel.proofs.NextSteps.{roomier}
 use Rattle.model_kernel.proofs.kernel.Kernel.ready_rows.Goals as goal
 

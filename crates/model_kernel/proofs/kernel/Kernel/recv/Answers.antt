@@ -1,7 +1,7 @@
 use Rattle.std.proofs.Common.{Ok, Err, refl, ap, ◌∙◌}
 use Rattle.hist_model.specs.Steps.{recv_answer}
 use Rattle.sys_abi.specs.Errnos.{enoent}
-use Rattle.model_kernel.specs.Kernels.{past}
+use Rattle.model_kernel.proofs.Words.{past}
 use Rattle.model_kernel.proofs.Buffers.{answered, buffer-filled, told-answer, told-empty}
 use Rattle.model_kernel.proofs.kernel.Kernel.recv.Goals as goal
 

@@ -1,4 +1,4 @@
-use Rattle.model_kernel.specs.Kernels.{past}
+use Rattle.model_kernel.proofs.Words.{past}
 use Rattle.model_kernel.proofs.NextSteps.{fill-mapped, poke-mapped}
 use Rattle.model_kernel.proofs.kernel.Kernel.run.Goals as goal
 

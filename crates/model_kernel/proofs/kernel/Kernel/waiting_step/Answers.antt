@@ -1,9 +1,7 @@
 use Rattle.std.proofs.Common.{sym, subst}
-use Rattle.kernel_resources.specs.Stands.{StandsFor}
-use Rattle.tasks.specs.Stands.{living_in}
-use Rattle.model_kernel.specs.Kernels.{past}
+use Rattle.listener.specs.Stands.{StandsFor}
+use Rattle.model_kernel.proofs.Words.{Kernel, past}
 use Rattle.model_kernel.specs.Steps.{IsInstallDue}
-use Rattle.model_kernel.specs.declared.kernel.Kernel.{Kernel}
 use Rattle.model_kernel.proofs.TaskSteps.{listed-as}
 use Rattle.model_kernel.proofs.Waiting.{due-resume, due-later, due-install, due-none}
 use Rattle.model_kernel.proofs.kernel.Kernel.waiting_step.Goals as goal
@@ -13,14 +11,14 @@ resume-requires-clause-due c =
     let k = c.args.self.now in
     let m = c.requires.ready in
     let (place, waits) = c.requires.waits in
-    due-resume k c.args.task place c.args.id c.in-Some.back m waits (c.in-Some.ensures k.script (past k) (living_in k.tasks) place m.kernel.resources (listed-as k c.args.task place c.args.id waits))
+    due-resume k c.args.task place c.args.id c.in-Some.back m waits (c.in-Some.ensures k.script.firstid (past k) place m.kernel.resources.listener (listed-as k c.args.task place c.args.id waits))
 
 pub deliver_inside-requires-clause-due : goal.deliver_inside-requires-clause-due
 deliver_inside-requires-clause-due c =
     let k = c.args.self.now in
     let m = c.requires.ready in
     let (place, waits) = c.requires.waits in
-    due-later k c.args.task place c.args.id m waits (c.in_default.ensures k.script (past k) (living_in k.tasks) place m.kernel.resources (listed-as k c.args.task place c.args.id waits))
+    due-later k c.args.task place c.args.id m waits (c.in_default.ensures k.script.firstid (past k) place m.kernel.resources.listener (listed-as k c.args.task place c.args.id waits))
 
 pub returns-in_err-asked-clause-none : goal.returns-in_err-asked-clause-none
 returns-in_err-asked-clause-none c =
@@ -28,10 +26,10 @@ returns-in_err-asked-clause-none c =
     let m = c.requires.ready in
     let (place, waits) = c.requires.waits in
     let listed = listed-as k c.args.task place c.args.id waits in
-    let unsettled = c.in_default.ensures k.script (past k) (living_in k.tasks) place m.kernel.resources listed in
+    let unsettled = c.in_default.ensures k.script.firstid (past k) place m.kernel.resources.listener listed in
     let none = c.in_default-deliver_inside.ensures.none in
-    let stand = subst (λ (x : Kernel). StandsFor k.script (past k) (living_in k.tasks) x.resources) (sym none.0) m.kernel.resources in
-    rw c.from_residual.ensures (none.0, due-none k c.args.task place c.args.id m waits unsettled none.1 (sym (c.in_err-asked.ensures k.script (past k) (living_in k.tasks) place stand listed)))
+    let stand = subst (λ (x : Kernel). StandsFor k.script.firstid (past k) x.resources.listener) (sym none.0) m.kernel.resources.listener in
+    rw c.from_residual.ensures (none.0, due-none k c.args.task place c.args.id m waits unsettled none.1 (sym (c.in_err-asked.ensures k.script.firstid (past k) place stand listed)))
 
 pub install-requires-clause-due : goal.install-requires-clause-due
 install-requires-clause-due c =
@@ -39,13 +37,13 @@ install-requires-clause-due c =
     let m = c.requires.ready in
     let (place, waits) = c.requires.waits in
     let listed = listed-as k c.args.task place c.args.id waits in
-    let unsettled = c.in_default.ensures k.script (past k) (living_in k.tasks) place m.kernel.resources listed in
+    let unsettled = c.in_default.ensures k.script.firstid (past k) place m.kernel.resources.listener listed in
     let none = c.in_default-deliver_inside.ensures.none in
-    let stand = subst (λ (x : Kernel). StandsFor k.script (past k) (living_in k.tasks) x.resources) (sym none.0) m.kernel.resources in
+    let stand = subst (λ (x : Kernel). StandsFor k.script.firstid (past k) x.resources.listener) (sym none.0) m.kernel.resources.listener in
     let here : IsInstallDue k c.args.task place c.args.id c.in_ok-asked.asked = record {
       waits = waits;
       unsettled = unsettled;
-      oldest = sym (c.in_ok-asked.ensures k.script (past k) (living_in k.tasks) place stand listed);
+      oldest = sym (c.in_ok-asked.ensures k.script.firstid (past k) place stand listed);
       due = due-install k c.args.task place c.args.id m waits unsettled none.1;
     } in
     (place, subst (λ (x : Kernel). IsInstallDue x c.args.task place c.args.id c.in_ok-asked.asked) (sym none.0) here)

@@ -1,4 +1,0 @@
-pub mod Frames
-pub mod Kept
-pub mod Counted
-pub mod Times
