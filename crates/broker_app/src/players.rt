@@ -7,8 +7,7 @@ ghost use Rattle.handover.specs.Keeping.{all_handed};
 ghost use Rattle.broker_app.specs.Runs.{ByLanes};
 ghost use Rattle.worker_gate.specs.Endings.{HasEnded};
 
-use handover::{HandedPlay, play_handing};
-use handover_gate::play_handing_in_turns;
+use handover_gate::{HandedPlay, play_handing, play_handing_in_turns};
 use hist_model::policy::Policy;
 use hist_model::script::Script;
 use lane_gate::{LaneServed, OpenLanes, serve_lanes};
@@ -18,7 +17,7 @@ use std::sync::Wait;
 use std::thread::Threads;
 use sys_abi::memory::NoMemory;
 use turn_lock::TurnLock;
-use worker_gate::{Gate, Played, Served, play, play_schedule, schedule_of, serve_hands};
+use worker_gate::{Gate, Played, Served, play, play_in_turns, serve_hands};
 use worker_ledger::successor::Heirs;
 
 /// Who plays the schedule of a script.
@@ -64,15 +63,7 @@ impl Player for LoneThread {
         script: Script,
         every: u32,
     ) -> Result<HandedPlay, NoMemory> {
-        let schedule = schedule_of(alloc, &script)?;
-        play_handing(
-            alloc,
-            policy,
-            script,
-            schedule.as_slice(),
-            every,
-            &mut Heirs,
-        )
+        play_handing(alloc, policy, script, every, Heirs)
     }
 
     fn let_go<T: Drop>(&self, printed: T) {
@@ -98,33 +89,12 @@ impl<'a, R: Wait> Player for TurnTaker<'a, R> {
         script: Script,
         every: u32,
     ) -> Result<HandedPlay, NoMemory> {
-        let schedule = schedule_of(alloc, &script)?;
-        play_handing_in_turns(self.rt, alloc, policy, script, schedule.as_slice(), every)
+        play_handing_in_turns(self.rt, alloc, policy, script, every)
     }
 
     fn let_go<T: Drop>(&self, printed: T) {
         mem::forget(printed)
     }
-}
-
-/// Plays the schedule of a script through a lock of its own.
-fn play_in_turns<R: Wait>(
-    rt: &R,
-    alloc: Global,
-    policy: Policy,
-    script: Script,
-) -> Result<Played, NoMemory>
-    ensures events { IfOk result (λ p. p.history.events ≡ played policy script) }
-    ensures policy { IfOk result (λ p. p.policy ≡ policy) }
-    ensures script { IfOk result (λ p. p.script ≡ script) }
-{
-    let schedule = schedule_of(alloc, &script)?;
-    let served = Served::new(alloc, policy, script, None)?;
-    let Ok((lock, mut pass)) = TurnLock::new(alloc, served) else {
-        return Err(NoMemory);
-    };
-    play_schedule(rt, alloc, &lock, &mut pass, schedule.as_slice())?;
-    lock.close(pass).finish()
 }
 
 /// Serves the container of a script with threads until nothing is left to do, and closes the listener.

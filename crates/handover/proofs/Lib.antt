@@ -5,4 +5,3 @@ pub mod Newest
 pub mod Kept
 pub mod Replaced
 pub mod Turned
-pub mod Played

@@ -12,8 +12,6 @@
 
 pub mod laws;
 mod ledgers;
-mod play;
 mod replacing;
 
 pub use ledgers::{Handover, Ledgers};
-pub use play::{HandedPlay, play_handing};

@@ -1,4 +1,4 @@
-//! The state behind the lock.
+//! The machine whose workers are replaced, and who makes its steps.
 
 ghost use Rattle.std.specs.Prelude.{◌≡◌, ◌∷◌, false, None, OnOk, OnErr, IfOk};
 ghost use Rattle.broker_machine.specs.Serving.{IsFound, IsServed, after_step};
@@ -7,8 +7,8 @@ ghost use Rattle.hist_model.specs.Look.{ev};
 ghost use Rattle.hist_model.specs.declared.event.Actor.TheVariants.{Listener};
 ghost use Rattle.hist_model.specs.declared.event.What.TheVariants.{Close};
 ghost use Rattle.mediation.specs.Scheduled.{IsScheduled};
-ghost use Rattle.model_kernel.specs.Kernels.{IsKernel, past};
-ghost use Rattle.worker_gate.specs.Scheduling.{IsKnown};
+ghost use Rattle.model_kernel.specs.Kernels.{past};
+ghost use Rattle.worker_gate.specs.Scheduling.{IsLineAt};
 ghost use Rattle.handover.specs.Keeping.{AreLedgers, IsLeft};
 
 use broker_machine::Machine;
@@ -20,7 +20,8 @@ use hist_model::script::Script;
 use std::alloc::Global;
 use std::marker::Model;
 use sys_abi::memory::NoMemory;
-use worker_ledger::successor::Heirs;
+use worker_gate::{Line, Stepper, line_at};
+use worker_ledger::successor::Heir;
 
 /// A machine, and the policy by which its workers serve. Once a turn found no memory a worker may be missing.
 #[derive(Drop)]
@@ -31,33 +32,31 @@ pub(crate) struct Serving {
 }
 
 impl Serving {
-    /// The ordinal of the task that an actor is, if it is one and was made: the known one, or else the one that is found.
-    fn ordinal(&self, who: &Actor, known: Option<u32>) -> Option<u32>
-        requires kernel { IsKernel self.now.machine.kernel }
-        requires known { IsKnown (past self.now.machine.kernel) who.now known }
-        ensures { IsFound (past self.now.machine.kernel) who.now result }
+    /// The line at an index of the schedule; none behind the last one.
+    fn line(&self, alloc: Global, index: usize) -> Result<Option<Line>, NoMemory>
+        requires served { self.now.lacks_memory ≡ false → IsServed self.now.policy self.now.machine }
+        ensures { IfOk result (λ line. IsLineAt self.now.machine.kernel.script (past self.now.machine.kernel) index line) }
     {
-        match known {
-            Some(task) => Some(task),
-            None => self.machine.task_of(who),
+        if self.lacks_memory {
+            return Err(NoMemory);
         }
+        line_at(alloc, &self.machine, index)
     }
 
-    /// An actor's step, or a `Skip` where it can't step; the worker that took it is replaced where that is due. What is known of the
-    /// actor is kept for its next step.
-    pub(crate) fn step(
+    /// An actor's step, or a `Skip` where it can't step; the worker that took it is replaced where that is due.
+    fn step<H: Heir>(
         &mut self,
         alloc: Global,
         who: &Actor,
-        known: &mut Option<u32>,
+        task: Option<u32>,
         ledgers: &mut Ledgers,
+        heir: &mut H,
     ) -> Result<(), NoMemory>
         requires served { self.old.lacks_memory ≡ false → IsServed self.old.policy self.old.machine }
         requires scheduled { IsScheduled who.now }
-        requires known { IsKnown (past self.old.machine.kernel) who.now known.old }
+        requires found { IsFound (past self.old.machine.kernel) who.now task }
         requires ledgers { AreLedgers (past self.old.machine.kernel) ledgers.old }
         ensures done { OnOk result (past self.new.machine.kernel ≡ after_step self.old.policy self.old.machine who.now) }
-        ensures known { OnOk result (IsKnown (past self.new.machine.kernel) who.now known.new) }
         ensures ledgers { OnOk result (AreLedgers (past self.new.machine.kernel) ledgers.new) }
         ensures left { OnErr result (IsLeft self.old.policy self.old.machine who.now self.new.machine) }
         ensures script { self.new.machine.kernel.script ≡ self.old.machine.kernel.script }
@@ -68,22 +67,14 @@ impl Serving {
         if self.lacks_memory {
             return Err(NoMemory);
         }
-        let task = self.ordinal(who, *known);
-        *known = task;
-        let stepped = ledgers.turn(
-            alloc,
-            &self.policy,
-            &mut self.machine,
-            who,
-            task,
-            &mut Heirs,
-        );
+        let stepped = ledgers.turn(alloc, &self.policy, &mut self.machine, who, task, heir);
         self.lacks_memory = stepped.is_err();
         stepped
     }
 }
 
-/// The state behind the lock: a machine and a policy, whose history is legal and still goes on, unless a turn found no memory.
+/// The state that is played, behind a lock or not: a machine and a policy, whose history is legal and still goes on, unless a step
+/// found no memory.
 ///
 /// It is one box, so that a turn moves a pointer out of the lock and back.
 #[derive(Drop)]
@@ -144,5 +135,33 @@ impl Served {
         } = Box::into_inner(self.serving);
         let (script, history) = machine.closed()?;
         Ok((policy, script, history))
+    }
+}
+
+/// Makes steps, and replaces workers from their ledgers, which it keeps up.
+#[derive(Drop)]
+pub(crate) struct ReplacingSteps<H> {
+    pub(crate) ledgers: Ledgers,
+    pub(crate) heir: H,
+}
+
+impl<H: Heir> Stepper<Served> for ReplacingSteps<H> {
+    ghost keeps = { λ t K. AreLedgers K t.ledgers };
+
+    ghost stays = { λ t. t.ledgers.every };
+
+    fn line(&self, alloc: Global, state: &Served, index: usize) -> Result<Option<Line>, NoMemory> {
+        state.serving.line(alloc, index)
+    }
+
+    fn step(
+        &mut self,
+        alloc: Global,
+        state: &mut Served,
+        who: &Actor,
+        task: Option<u32>,
+    ) -> Result<(), NoMemory> {
+        let ReplacingSteps { ledgers, heir } = self;
+        state.serving.step(alloc, who, task, ledgers, heir)
     }
 }

@@ -5,7 +5,7 @@ use Rattle.std.proofs.lemmas.List.{append-nil, map-append}
 use Rattle.std.proofs.lemmas.List.Elements.{All-tail}
 use Rattle.std.specs.List.{AllZip, remove}
 use Rattle.turn_lock.specs.Facts.{IsPassOf, LockFacts, PassFacts, first_pass}
-use Rattle.worker_gate.specs.declared.schedule.Played.{Played}
+use Rattle.worker_gate.specs.declared.served.Played.{Played}
 use Rattle.pod_broker.specs.Locks.{AreOf, IsServedBehind, Key, container_of, key, key_of_pass}
 use Rattle.pod_broker.specs.declared.container.Container.{Container}
 

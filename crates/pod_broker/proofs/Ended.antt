@@ -12,7 +12,7 @@ use Rattle.turn_lock.specs.Facts.{LockFacts}
 use Rattle.worker_gate.proofs.Endings.{has_ended}
 use Rattle.worker_gate.specs.Endings.{ClosesBehind, HasEnded}
 use Rattle.worker_gate.specs.Hands.{Ends}
-use Rattle.worker_gate.specs.declared.schedule.Played.{Played}
+use Rattle.worker_gate.specs.declared.served.Played.{Played}
 use Rattle.pod_broker.proofs.Ranges.{not-shared}
 use Rattle.pod_broker.specs.Locks.{HasLimit, IsLimited, IsServedBehind, container_of}
 use Rattle.pod_broker.specs.Pods.{AllApart, Apart, GivesInRange, NoneOverlap, overlap, was_given}

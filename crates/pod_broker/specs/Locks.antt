@@ -4,7 +4,7 @@ use Rattle.atomic_table.specs.Seated.{TableId}
 use Rattle.hist_model.specs.declared.history.Setup.{Setup}
 use Rattle.turn_lock.specs.Facts.{LockFacts, PassFacts}
 use Rattle.worker_gate.specs.Keeping.{MayServe}
-use Rattle.worker_gate.specs.declared.schedule.Played.{Played}
+use Rattle.worker_gate.specs.declared.served.Played.{Played}
 use Rattle.pod_broker.specs.Serving.{IsServedTo}
 use Rattle.pod_broker.specs.declared.container.Container.{Container}
 

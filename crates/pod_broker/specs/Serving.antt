@@ -4,7 +4,7 @@ use Rattle.std.specs.List.{AllZip}
 use Rattle.hist_model.specs.declared.event.Event.{Event}
 use Rattle.hist_model.specs.declared.script.Script.{Script}
 use Rattle.worker_gate.specs.Endings.{HasEnded}
-use Rattle.worker_gate.specs.declared.schedule.Played.{Played}
+use Rattle.worker_gate.specs.declared.served.Played.{Played}
 use Rattle.pod_broker.specs.Pods.{in_range, was_given}
 use Rattle.pod_broker.specs.declared.container.Container.{Container}
 

@@ -4,7 +4,7 @@
 //! play in which workers are replaced does ask for each successor, and that a ledger which somebody has damaged is refused where there
 //! is memory. There is no code but tests: the model, the ledgers of a history, stands in `handover` and `worker_ledger`.
 //!
-//! Below stand the play (`handover`), the ledger (`worker_ledger`), and the readers of policies and scripts (`policy_reader`,
+//! Below stand the play (`handover_gate`), the ledger (`worker_ledger`), and the readers of policies and scripts (`policy_reader`,
 //! `script_reader`); nothing stands above.
 #![tactic(auto)]
 

@@ -3,15 +3,15 @@
 ghost use Rattle.std.specs.Prelude.{◌<◌};
 
 use broker_core::deed::Got;
-use handover::play_handing;
+use handover_gate::play_handing;
 use hist_model::policy::Policy;
 use hist_model::script::Figures;
 use policy_reader::read_policy;
 use script_reader::read_script;
 use std::alloc::Global;
+use std::cell::Cell;
 use std::test::Fail;
 use sys_abi::memory::OrNoMemory;
-use worker_gate::schedule_of;
 use worker_ledger::successor::{Heir, LedgerError, Successor, take_over};
 
 const POLICY: &str = "{\"config\":{\"security.syscalls.intercept.mknod\":\"true\"}}";
@@ -26,11 +26,11 @@ const STEPS: u32 = 9;
 
 /// Takes over by `take_over`, and counts how often.
 #[derive(Drop)]
-struct Counting {
-    calls: u32,
+struct Counting<'a> {
+    calls: &'a Cell<u32>,
 }
 
-impl Heir for Counting {
+impl<'a> Heir for Counting<'a> {
     fn take_over(
         &mut self,
         alloc: Global,
@@ -41,7 +41,7 @@ impl Heir for Counting {
         taken: u64,
         last: Option<&Got<'_>>,
     ) -> Result<Successor, OrNoMemory<LedgerError>> {
-        self.calls = self.calls.saturating_add(1);
+        self.calls.set(self.calls.get().saturating_add(1));
         take_over(alloc, bytes, policy, figures, no, taken, last)
     }
 }
@@ -53,10 +53,9 @@ fn replaced(alloc: Global, every: u32) -> Result<(u32, usize, usize), Fail>
 {
     let policy = read_policy(alloc, POLICY.as_bytes())?;
     let script = read_script(alloc, SCRIPT.as_bytes())?;
-    let schedule = schedule_of(alloc, &script)?;
-    let mut heir = Counting { calls: 0 };
-    let played = play_handing(alloc, policy, script, schedule.as_slice(), every, &mut heir)?;
-    Ok((heir.calls, played.handed.len(), played.history.len()))
+    let calls = Cell::new(0);
+    let played = play_handing(alloc, policy, script, every, Counting { calls: &calls })?;
+    Ok((calls.get(), played.handed.len(), played.history.len()))
 }
 
 #[test]

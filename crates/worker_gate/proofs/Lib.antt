@@ -1,5 +1,5 @@
 pub mod Schedules
-pub mod KnownTasks
+pub mod Stepped
 pub mod Kept
 pub mod Continuing
 pub mod Whole

@@ -1,8 +1,8 @@
--- The turns of a schedule, one after another, and what they come to.
--- By arithmetic on the turns that are left, the lemmas on `drop`, and the definition of what is played.
-use Rattle.std.proofs.Common.{◌≡◌, ℕ, suc, ◌+◌, ◌-◌, ◌<◌, ◌≤◌, List, [], ◌∷◌, ◌++◌, length, drop, take, get_or, refl, sym, ap, add-one, drop-cons, arith, Some}
+-- The places of a schedule that is played, and what is played at its end.
+-- By the definition of what a schedule plays, from the steps of a line and the lines that are left.
+use Rattle.std.proofs.Common.{◌≡◌, ℕ, suc, ◌+◌, ◌-◌, ◌<◌, ◌≤◌, true, false, List, ◌∷◌, length, drop, get_or, refl, sym, ap, add-one, drop-cons, arith, Some, None}
 use Rattle.std.specs.Prelude.{slice_get}
-use Rattle.std.proofs.lemmas.List.{drop_all, take_more}
+use Rattle.std.proofs.lemmas.List.{drop_all}
 use Rattle.std.proofs.lemmas.Option.{get_or_from_slice_get, slice_get_within}
 use Rattle.hist_model.specs.Legal.{played, started, with_schedule, with_step, with_steps}
 use Rattle.hist_model.specs.Look.{ev}
@@ -11,55 +11,76 @@ use Rattle.hist_model.specs.declared.event.Actor.{Actor}
 use Rattle.hist_model.specs.declared.event.Actor.TheVariants.{Listener}
 use Rattle.hist_model.specs.declared.event.Event.{Event}
 use Rattle.hist_model.specs.declared.event.What.TheVariants.{Close}
+use Rattle.hist_model.specs.declared.history.Setup.{Setup}
 use Rattle.hist_model.specs.declared.policy.Policy.{Policy}
 use Rattle.hist_model.specs.declared.script.Script.{Script}
 use Rattle.hist_model.specs.declared.script.Step.{Step}
-use Rattle.model_kernel.specs.Kernels.{past}
-use Rattle.broker_machine.specs.Serving.{IsAt, Reaches}
-use Rattle.broker_machine.specs.declared.machine.Machine.{Machine}
-use Rattle.worker_gate.specs.Scheduling.{after_schedule, after_steps}
+use Rattle.broker_machine.proofs.Tasks.{found_still}
+use Rattle.worker_gate.specs.Scheduling.{IsLine, IsLineAt, IsPlace, Moves, with_rest}
+use Rattle.worker_gate.specs.declared.schedule.Line.{Line}
+use Rattle.worker_gate.specs.declared.scheduled.Place.{Place}
 
 module _ (P : Policy) (S : Script) where
-  -- one turn less is left
-  pub steps_left : (a : Actor) (i n : ℕ) (K M : List Event) → i < n → with_steps P S a (n - i) K ≡ M → with_steps P S a (n - (i + 1)) (with_step P S a K) ≡ M
+  -- a step of the line in hand
+  step_less : (lines : List Step) (a : Actor) (n : ℕ) (K : List Event) → 0 < n → with_schedule P S lines (with_steps P S a (n - 1) (with_step P S a K)) ≡ with_schedule P S lines (with_steps P S a n K)
   unfolding with_steps
-  steps_left a i n K M h q = let s : n - i ≡ suc (n - (i + 1)) = omega arith in rw s at q
+  step_less lines a n K h = let s : n ≡ suc (n - 1) = omega arith in ap (λ (m : ℕ). with_schedule P S lines (with_steps P S a m K)) (sym s)
+
+  -- behind it the next one
+  line_less : (lines : List Step) (i : ℕ) (s : Step) (a : Actor) (n : ℕ) (K : List Event) → n ≡ 0 → slice_get lines i ≡ Some s → with_schedule P S (drop (i + 1) lines) (with_steps P S s.who s.count K) ≡ with_schedule P S (drop i lines) (with_steps P S a n K)
+  unfolding with_schedule with_steps
+  line_less lines i s a n K none is =
+      let inside : i < length lines = slice_get_within lines i s is in
+      let same : get_or lines i s ≡ s = get_or_from_slice_get lines i s s is in
+      let rest : drop i lines ≡ s ∷ drop (i + 1) lines = rw (add-one, drop-cons lines i s) (ap (λ (t : Step). t ∷ drop (suc i) lines) same) in
+      rw (none, rest) refl
 
   -- none is left
-  pub steps_done : (a : Actor) (i n : ℕ) (K M : List Event) → n ≤ i → with_steps P S a (n - i) K ≡ M → K ≡ M
+  none_left : (lines : List Step) (i : ℕ) (a : Actor) (n : ℕ) (K : List Event) → n ≡ 0 → length lines ≤ i → with_schedule P S (drop i lines) (with_steps P S a n K) ≡ K
+  unfolding with_schedule with_steps
+  none_left lines i a n K none over = rw (none, drop_all i lines over) refl
+
+  -- all are left
+  pub all_left : (a : Actor) (K : List Event) → with_schedule P S (drop 0 S.schedule) (with_steps P S a 0 K) ≡ with_schedule P S S.schedule K
   unfolding with_steps
-  steps_done a i n K M h q = let s : n - i ≡ 0 = omega arith in rw s at q
+  all_left a K = refl
 
-  -- one line less is left
-  pub lines_left_at : (steps : List Step) (i : ℕ) (s : Step) (K M : List Event) → i < length steps → s ≡ get_or steps i s → with_schedule P S (drop i steps) K ≡ M → with_schedule P S (drop (i + 1) steps) (with_steps P S s.who s.count K) ≡ M
-  unfolding with_schedule
-  lines_left_at steps i s K M inside is q =
-      let rest : drop i steps ≡ s ∷ drop (i + 1) steps = rw (add-one, drop-cons steps i s) (ap (λ (t : Step). t ∷ drop (suc i) steps) (sym is)) in
-      rw rest at q
+module _ (made : Setup) (p : Place) (K : List Event) (here : IsPlace made K p) where
+  -- a turn that makes a step
+  pub step_moves : (H : List Event) → 0 < p.line.left → H ≡ with_step made.policy made.script p.line.who K → Moves made p K (record p { line = record p.line { left = p.line.left - 1 } }) H
+  step_moves H left is = record {
+    place = record { scheduled = here.scheduled; found = rw is (found_still _ _ K p.line.who p.line.task here.found); over = λ o. (omega (arith, (here.over o).0), (here.over o).1) };
+    rest = rw is (step_less made.policy made.script (drop p.next made.script.schedule) p.line.who p.line.left K left);
+    fewer = omega arith;
+  }
 
-  pub lines_left : (steps : List Step) (i : ℕ) (s : Step) (K M : List Event) → slice_get steps i ≡ Some s → with_schedule P S (drop i steps) K ≡ M → with_schedule P S (drop (i + 1) steps) (with_steps P S s.who s.count K) ≡ M
-  lines_left steps i s K M is = lines_left_at steps i s K M (slice_get_within steps i s is) (sym (get_or_from_slice_get steps i s s is))
+  module _ (done : p.line.left ≡ 0) (goes_on : p.over ≡ false) where
+    -- one that takes the next line
+    pub line_moves : (l : Line) → IsLine made.script K p.next l → Moves made p K (record p { line = l; next = p.next + 1 }) K
+    line_moves l is = record {
+      place = record { scheduled = is.scheduled; found = is.found; over = λ o. cc };
+      rest = line_less made.policy made.script made.script.schedule p.next _ p.line.who p.line.left K done is.line;
+      fewer = let inside = slice_get_within made.script.schedule p.next _ is.line in omega arith;
+    }
 
-  -- none is left
-  pub lines_done : (steps : List Step) (i : ℕ) (K M : List Event) → length steps ≤ i → with_schedule P S (drop i steps) K ≡ M → K ≡ M
-  unfolding with_schedule
-  lines_done steps i K M h q = rw (drop_all i steps h) at q
+    -- and one that finds none
+    pub end_moves : IsLineAt made.script K p.next None → Moves made p K (record p { over = true }) K
+    end_moves over = record {
+      place = record { scheduled = here.scheduled; found = here.found; over = λ o. (done, over) };
+      rest = refl;
+      fewer = rw goes_on (omega arith);
+    }
 
--- a line more was copied
-pub lines_copied : (steps : List Step) (i : ℕ) (s : Step) → slice_get steps i ≡ Some s → take (i + 1) steps ≡ take i steps ++ s ∷ []
-lines_copied steps i s is =
-    let inside : i < length steps = slice_get_within steps i s is in
-    rw (take_more steps i s inside, get_or_from_slice_get steps i s s is) refl
-
--- the turns of a machine that has come from another are those of the script of the first
-pub steps_more : (P : Policy) (old mid new : Machine) (r : Reaches P old (past mid.kernel) mid) (a : Actor) (n : ℕ) → Reaches P mid (after_steps P mid a n) new → past new.kernel ≡ with_steps P old.kernel.script a n (past mid.kernel)
-steps_more P old mid new r a n s = rw r.script at s.events
+  -- where the schedule is over, all of it was played
+  pub over_played : p.over ≡ true → with_rest made p K ≡ K
+  over_played o = let e = here.over o in none_left made.policy made.script made.script.schedule p.next p.line.who p.line.left K e.0 e.1
 
 -- the schedule's steps after the start, and the close, are what is played
-pub closed_is_played : (P : Policy) (S : Script) (K : List Event) → K ≡ with_schedule P S S.schedule (started S) → ev Listener Close ∷ K ≡ played P S
+closed_is_played : (P : Policy) (S : Script) (K : List Event) → K ≡ with_schedule P S S.schedule (started S) → ev Listener Close ∷ K ≡ played P S
 unfolding step
 closed_is_played P S K is = ap (λ (H : List Event). ev Listener Close ∷ H) is
 
--- and so are the turns of a machine
-pub played_to_end : (P : Policy) (S : Script) (s t : Machine) → IsAt P S (started S) s → Reaches P s (after_schedule P s) t → ev Listener Close ∷ past t.kernel ≡ played P S
-played_to_end P S s t a r = closed_is_played P S (past t.kernel) (rw (a.script, a.events) at r.events)
+-- where a state was made with this setup, at the script's start
+pub turns_played : (P : Policy) (S : Script) (made : Setup) (opening K : List Event) → made ≡ record { policy = P; script = S; limit = None } → opening ≡ started S → K ≡ with_schedule made.policy made.script made.script.schedule opening
+    → ev Listener Close ∷ K ≡ played P S
+turns_played P S made opening K m o is = closed_is_played P S K (rw (m, o) at is)

@@ -1,6 +1,6 @@
 -- A turn whose only event is a worker's step, a task's, or none, adds one event at most.
 -- By what the steps of the state behind the lock are said to add.
-use Rattle.std.proofs.Common.{◌≡◌, Bool, true, false, List, [], ◌∷◌, arith, ⊎_elim}
+use Rattle.std.proofs.Common.{◌≡◌, Bool, true, false, [], ◌∷◌, arith, ⊎_elim}
 use Rattle.hist_model.specs.Look.{Name, ev}
 use Rattle.hist_model.specs.declared.event.Actor.{Actor}
 use Rattle.hist_model.specs.declared.event.Actor.TheVariants.{Task}

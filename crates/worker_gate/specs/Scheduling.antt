@@ -1,33 +1,47 @@
--- The turns of a schedule: what they make of a machine's history, what a turn of a scheduled actor comes to, and what it is asked of.
-use Rattle.std.specs.Prelude.{◌≡◌, ℕ, Bool, true, false, List, Option, Some, None, ⊤}
-use Rattle.hist_model.specs.Legal.{with_schedule, with_step, with_steps}
+-- The lines of a schedule, the steps that are left at a place of it, and what a turn of it comes to.
+use Rattle.std.specs.Prelude.{◌≡◌, ℕ, ◌+◌, ◌-◌, ◌*◌, ◌^◌, ◌<◌, ◌≤◌, true, List, length, drop, Option, Some, None, cond, slice_get}
+use Rattle.hist_model.specs.Legal.{with_schedule, with_steps}
 use Rattle.hist_model.specs.declared.event.Actor.{Actor}
 use Rattle.hist_model.specs.declared.event.Event.{Event}
 use Rattle.hist_model.specs.declared.history.Setup.{Setup}
-use Rattle.hist_model.specs.declared.policy.Policy.{Policy}
+use Rattle.hist_model.specs.declared.script.Script.{Script}
 use Rattle.mediation.specs.Scheduled.{IsScheduled}
-use Rattle.model_kernel.specs.Kernels.{past}
 use Rattle.broker_machine.specs.Serving.{IsFound}
-use Rattle.broker_machine.specs.declared.machine.Machine.{Machine}
+use Rattle.worker_gate.specs.declared.schedule.Line.{Line}
+use Rattle.worker_gate.specs.declared.scheduled.Place.{Place}
 
--- a machine's history with so many more steps of an actor
-abbrev pub after_steps : Policy → Machine → Actor → ℕ → List Event
-after_steps P m a n = with_steps P m.kernel.script a n (past m.kernel)
+-- the line is the one at an index of a script's schedule, with all of its steps; its actor may be scheduled, and was found
+pub record IsLine (S : Script) (K : List Event) (i : ℕ) (l : Line) : Type 0 where
+  pub line : slice_get S.schedule i ≡ Some (record { who = l.who; count = l.left })
+  pub scheduled : IsScheduled l.who
+  pub found : IsFound K l.who l.task
+  pub few : (l.left < 2 ^ 32) × (i + 1 < 2 ^ 64)
 
--- with the steps of the script's schedule
-abbrev pub after_schedule : Policy → Machine → List Event
-after_schedule P m = with_schedule P m.kernel.script m.kernel.script.schedule (past m.kernel)
+-- there is none behind the last one
+abbrev pub IsLineAt : Script → List Event → ℕ → Option Line → Type 0
+IsLineAt S K i None = length S.schedule ≤ i
+IsLineAt S K i (Some l) = IsLine S K i l
 
--- what is known of an actor: nothing, or the ordinal of the task that it is
-abbrev pub IsKnown : List Event → Actor → Option ℕ → Type 0
-IsKnown K who None = ⊤
-IsKnown K who (Some task) = IsFound K who (Some task)
-
--- any worker may be served, the actor may be scheduled, and what is known of it is so
+-- any worker may be served, the actor may be scheduled, and it was found
 abbrev pub MayStep : Setup → List Event → Actor → Option ℕ → Type 0
-MayStep made K who task = (made.limit ≡ None) × IsScheduled who × IsKnown K who task
+MayStep made K who task = (made.limit ≡ None) × IsScheduled who × IsFound K who task
 
--- where the step was made, the history has it as its newest event, and what is known of the actor is so still; else the history is as it was
-abbrev pub Steps : Setup → List Event → Actor → Bool → List Event → Option ℕ → Type 0
-Steps made K who true H task = (H ≡ with_step made.policy made.script who K) × IsKnown H who task
-Steps made K who false H task = H ≡ K
+-- the actor in hand may be scheduled and was found, and where the schedule is over no step is left
+pub record IsPlace (made : Setup) (K : List Event) (p : Place) : Type 0 where
+  pub scheduled : IsScheduled p.line.who
+  pub found : IsFound K p.line.who p.line.task
+  pub over : p.over ≡ true → (p.line.left ≡ 0) × (length made.script.schedule ≤ p.next)
+
+-- a history with the steps that are left at a place: those of the line in hand, and those of the lines behind it
+abbrev pub with_rest : Setup → Place → List Event → List Event
+with_rest made p K = with_schedule made.policy made.script (drop p.next made.script.schedule) (with_steps made.policy made.script p.line.who p.line.left K)
+
+-- how many turns are left at most, where a line has fewer than 2^32 steps
+abbrev pub turns_left : Setup → Place → ℕ
+turns_left made p = (length made.script.schedule - p.next) * 2 ^ 32 + p.line.left + cond p.over 0 1
+
+-- with the steps that are left then, a history comes to the same as before, and fewer turns are left
+pub record Moves (made : Setup) (p : Place) (K : List Event) (q : Place) (H : List Event) : Type 0 where
+  pub place : IsPlace made H q
+  pub rest : with_rest made q H ≡ with_rest made p K
+  pub fewer : turns_left made q < turns_left made p

@@ -6,14 +6,14 @@ ghost use Rattle.hist_model.specs.Look.{ev};
 ghost use Rattle.hist_model.specs.declared.event.Actor.TheVariants.{Listener};
 ghost use Rattle.hist_model.specs.declared.event.What.TheVariants.{Close};
 ghost use Rattle.mediation.specs.Scheduled.{IsScheduled, IsUnclosed};
-ghost use Rattle.model_kernel.specs.Kernels.{IsKernel, past};
+ghost use Rattle.model_kernel.specs.Kernels.{past};
 ghost use Rattle.worker_gate.specs.Endings.{ClosesBehind};
 ghost use Rattle.worker_gate.specs.Keeping.{IsKept};
-ghost use Rattle.worker_gate.specs.Scheduling.{IsKnown};
 ghost use Rattle.broker_machine.specs.Serving.{IsFound, Reaches, after_step};
 
 use crate::runnable::Runnable;
-use crate::schedule::Played;
+use crate::schedule::{Line, line_at};
+use crate::stepper::Stepper;
 use broker_machine::Machine;
 use hist_model::event::Actor;
 use hist_model::history::{History, Journalled};
@@ -22,6 +22,14 @@ use hist_model::script::Script;
 use std::alloc::Global;
 use std::marker::Model;
 use sys_abi::memory::NoMemory;
+
+/// What was played: the history, with the policy and the script of which it is one.
+#[derive(Drop)]
+pub struct Played {
+    pub policy: Policy,
+    pub script: Script,
+    pub history: History,
+}
 
 /// A machine, the policy by which its workers serve, and the number of the last worker that may, where not all may.
 pub(crate) struct Serving {
@@ -48,37 +56,17 @@ impl Drop for Serving {
 }
 
 impl Serving {
-    /// The ordinal of the task that an actor is, if it is one and was made: the known one, or else the one that is found.
-    fn ordinal(&self, who: &Actor, known: Option<u32>) -> Option<u32>
-        requires kernel { IsKernel self.now.machine.kernel }
-        requires known { IsKnown (past self.now.machine.kernel) who.now known }
-        ensures { IsFound (past self.now.machine.kernel) who.now result }
-    {
-        match known {
-            Some(task) => Some(task),
-            None => self.machine.task_of(who),
-        }
-    }
-
-    /// An actor's step, or a `Skip` where it can't step. What is known of the actor is kept for its next step.
-    pub(crate) fn step(
-        &mut self,
-        alloc: Global,
-        who: &Actor,
-        known: &mut Option<u32>,
-    ) -> Result<(), NoMemory>
+    /// An actor's step, or a `Skip` where it can't step.
+    fn step(&mut self, alloc: Global, who: &Actor, task: Option<u32>) -> Result<(), NoMemory>
         requires kept { IsKept self.old.policy self.old.limit self.old.machine }
         requires unlimited { self.old.limit ≡ None }
         requires scheduled { IsScheduled who.now }
-        requires known { IsKnown (past self.old.machine.kernel) who.now known.old }
+        requires found { IsFound (past self.old.machine.kernel) who.now task }
         ensures done { OnOk result (Reaches self.old.policy self.old.machine (after_step self.old.policy self.old.machine who.now) self.new.machine) }
-        ensures known { OnOk result (IsKnown (past self.new.machine.kernel) who.now known.new) }
         ensures same { OnErr result (Reaches self.old.policy self.old.machine (past self.old.machine.kernel) self.new.machine) }
         ensures kept { IsKept self.new.policy self.new.limit self.new.machine }
         ensures setup { (self.new.policy ≡ self.old.policy) × (self.new.limit ≡ self.old.limit) }
     {
-        let task = self.ordinal(who, *known);
-        *known = task;
         self.machine.found_turn(alloc, &self.policy, who, task)
     }
 
@@ -179,5 +167,29 @@ impl Served {
         // There are fewer than 2^64 events, as a legal history has.
         let _events = played.history.len();
         Ok(played)
+    }
+}
+
+/// Makes steps, and keeps nothing.
+#[derive(Drop)]
+pub struct PlainSteps;
+
+impl Stepper<Served> for PlainSteps {
+    ghost keeps = { λ t K. Unit {0} };
+
+    ghost stays = { λ t. 0 };
+
+    fn line(&self, alloc: Global, state: &Served, index: usize) -> Result<Option<Line>, NoMemory> {
+        line_at(alloc, &state.serving.machine, index)
+    }
+
+    fn step(
+        &mut self,
+        alloc: Global,
+        state: &mut Served,
+        who: &Actor,
+        task: Option<u32>,
+    ) -> Result<(), NoMemory> {
+        state.serving.step(alloc, who, task)
     }
 }

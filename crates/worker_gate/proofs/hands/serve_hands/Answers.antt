@@ -1,4 +1,3 @@
-use Rattle.std.proofs.Common.{◌≡◌}
 use Rattle.turn_lock.specs.Lists.{Begins}
 use Rattle.turn_lock.proofs.Lists.{begins_trans}
 use Rattle.worker_gate.proofs.hands.serve_hands.Goals as goal

@@ -1,9 +1,0 @@
-use Rattle.std.proofs.lemmas.Result.{on_ok_weaker}
-use Rattle.worker_gate.proofs.KnownTasks.{known_still}
-use Rattle.worker_gate.proofs.served.Serving.step.Goals as goal
-
-pub returns-clause-known : goal.returns-clause-known
-returns-clause-known c =
-    on_ok_weaker c.found_turn.result
-    (known_still c.args.self.now.policy c.args.self.now.machine _ c.args.who.now c.ordinal-task.result c.ordinal-task.ensures)
-    c.found_turn.ensures.done
