@@ -4,7 +4,7 @@ use Rattle.std.proofs.Common.{◌≡◌, ℕ, ◌+◌, ◌-◌, ◌*◌, ◌<◌
 use Rattle.std.specs.Prelude.{Result, Ok, Err, OnOk}
 use Rattle.std.specs.List.{slice_range}
 use Rattle.std.proofs.lemmas.Grind.{flat_map-append, take-set_at}
-use Rattle.std.proofs.lemmas.List.{length-drop, length-set, take-append-drop, take_all, take_more}
+use Rattle.std.proofs.lemmas.List.{length-append, length-drop, length-set, take-append-drop, take_all, take_at, take_more}
 use Rattle.std.proofs.Math.Seq.{take-add}
 use Rattle.hist_model.specs.ReportWords.{hex, hex_byte}
 use Rattle.sys_abi.specs.declared.memory.NoMemory.{NoMemory}
@@ -71,3 +71,20 @@ rest_pushed start old new bytes at (Ok u) q n =
     let rest : slice_range bytes at (length bytes) ≡ drop at bytes = take_all (length bytes - at) (drop at bytes) (omega (arith, length-drop at bytes)) in
     let whole : hex bytes ≡ hex (take at bytes) ++ hex (drop at bytes) = ap hex (sym (take-append-drop at bytes)) ∙ flat_map-append hex_byte (take at bytes) (drop at bytes) in
     n ∙ ap (λ xs. old ++ hex xs) rest ∙ ap (λ xs. xs ++ hex (drop at bytes)) q ∙ append_assoc start (hex (take at bytes)) (hex (drop at bytes)) ∙ ap (λ xs. start ++ xs) (sym whole)
+
+-- ---- Less than a piece
+
+length-hex : (bytes : List ℕ) → length (hex bytes) ≡ 2 * length bytes
+length-hex [] = refl
+length-hex (b ∷ bytes) = omega (arith, length-append (hex_byte b) (hex bytes), length-hex bytes, length-byte b)
+  where
+    length-byte : (b : ℕ) → length (hex_byte b) ≡ 2
+    length-byte b = refl
+
+-- the digits of the bytes in front of what is padded to a piece
+pub padded_front : (bytes text more digits old new : List ℕ) (r : Result (Unit {0}) NoMemory) → text ≡ bytes → digits ≡ hex (text ++ more) → OnOk r (new ≡ old ++ take (2 * length bytes) digits)
+    → OnOk r (new ≡ old ++ hex bytes)
+padded_front bytes text more digits old new (Err e) p d n = tt
+padded_front bytes text more digits old new (Ok u) p d n =
+    let whole : digits ≡ hex bytes ++ hex more = d ∙ ap (λ xs. hex (xs ++ more)) p ∙ flat_map-append hex_byte bytes more in
+    n ∙ ap (λ xs. old ++ xs) (ap (take (2 * length bytes)) whole ∙ take_at (hex bytes) (hex more) (2 * length bytes) (length-hex bytes))

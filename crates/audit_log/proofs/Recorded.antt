@@ -1,7 +1,8 @@
 -- The records of a history tell of its calls: one more event changes the record of its task's newest call alone, and adds its own.
 -- By cases on whether the event is the last one, and by `newest_own`: the newest call of a task is its own.
 use Rattle.std.proofs.Common.{◌≡◌, inl, inr, ℕ, ◌+◌, ◌<◌, ◌≤◌, Bool, true, false, ◌&&◌, List, [], ◌∷◌, ◌++◌, length, get_or, Option, Some, None, refl, sym, ap, ◌∙◌, subst, append_assoc, arith}
-use Rattle.std.specs.Prelude.{◌==◌}
+use Rattle.std.specs.Prelude.{◌==◌, Result, Ok, Err, OnOk}
+use Rattle.sys_abi.specs.declared.memory.NoMemory.{NoMemory}
 use Rattle.std.proofs.lemmas.Bool.{and_parts, cases_Bool, eqb-true, eq-eqb, ne_eqb}
 use Rattle.std.proofs.lemmas.List.{length-append, get_or_at, get_or_append_left, get_or-set_other}
 use Rattle.std.proofs.Math.ListN.{length-set}
@@ -171,3 +172,8 @@ pass_more K e place old new before after l m t k q h =
       subst (Tells (e ∷ K)) (sym r) (tells_more K e before (m ∙ sym l) t),
       λ n. h n ∙ ap (task_after place e n) (k n) ∙ ap (λ p. task_after p e n (task_facts K n)) (sym l) ∙ sym (known_more n e K),
     )
+
+-- what holds where there was memory for a step, by what the step made
+pub where_ok : {A B : Type 0} (r : Result (Unit {0}) NoMemory) → (A → B) → OnOk r A → OnOk r B
+where_ok (Err e) f a = tt
+where_ok (Ok u) f a = f a

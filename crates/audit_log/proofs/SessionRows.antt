@@ -1,11 +1,10 @@
--- A table of sessions stands for them with one more step of a worker, and with one more session.
+-- A table of sessions stands for them with one more step of a worker, with one more session, and with more workers.
 -- By cases on whether a worker, or a session, is the one that the step is of.
-use Rattle.std.proofs.Common.{inl, inr, ◌≡◌, ℕ, zero, suc, ◌+◌, ◌<◌, true, false, List, [], ◌∷◌, ◌++◌, length, get_or, set, Option, Some, None, refl, sym, ap, subst, ◌∙◌, append-nil, arith}
+use Rattle.std.proofs.Common.{inl, inr, ◌≡◌, ℕ, zero, suc, ◌+◌, ◌<◌, ◌≤◌, true, false, List, [], ◌∷◌, ◌++◌, length, get_or, set, Option, Some, None, refl, sym, ap, subst, ◌∙◌, append-nil, arith}
 use Rattle.std.specs.Prelude.{◌==◌, Result, Ok, Err, OnOk, map}
 use Rattle.std.proofs.lemmas.Bool.{cases_Bool, cases_order, eqb-true, eq-eqb, ne_eqb}
-use Rattle.std.proofs.lemmas.List.{length-append, length-map, get_or-map, get_or_at, get_or_append_left, get_or-set_other, map-append, map-set}
+use Rattle.std.proofs.lemmas.List.{length-append, length-map, get_or-map, get_or_at, get_or_append_left, get_or_past, get_or-set_other, map-append, map-set}
 use Rattle.std.proofs.lemmas.Grind.{get_or-set_at}
-use Rattle.std.proofs.Math.ListN.{length-set}
 use Rattle.hist_model.specs.Look.{ev}
 use Rattle.hist_model.specs.Kinds.{skips}
 use Rattle.hist_model.specs.Copies.{heard, plan}
@@ -22,7 +21,7 @@ use Rattle.arg_capture.specs.Captures.{Captured, Follows}
 use Rattle.audit_log.specs.Begun.{Begun, IsRead, told, with_step}
 use Rattle.audit_log.specs.SessionStages.{no_stages}
 use Rattle.audit_log.specs.Sessions.{after_event, begun, started, with_event}
-use Rattle.audit_log.specs.SessionTable.{AllShut, IsRowStepped, IsStepped, StandsFor, current, no_row, no_session, nobody, session_in}
+use Rattle.audit_log.specs.SessionTable.{AllShut, IsGrown, IsRowStepped, IsSame, IsStepped, StandsFor, current, no_row, no_session, nobody, session_in}
 use Rattle.audit_log.specs.declared.session.SessionRecord.{SessionRecord}
 use Rattle.audit_log.specs.declared.session_table.Current.{Current}
 use Rattle.audit_log.specs.declared.session_table.SessionTable.{SessionTable}
@@ -46,14 +45,35 @@ map_set f (s ∷ S) (suc i) l h =
 
 -- ---- One more step of a worker
 
+-- a session that isn't the worker's current one stays
+stays_other : (rules : List Rule) (S : List Begun) (t : SessionTable) (place w : ℕ) (a : What) → StandsFor rules S t → (j : ℕ) → j < length S → ((current t w).row ≡ Some j → ⊥)
+    → with_event place (ev (Worker w) a) (session_in S j) ≡ session_in S j
+stays_other rules S t place w a k j l n = elim (cases_Bool (is_shut (session_in S j).steps)) [
+  | inl y ↦ over_stays place (ev (Worker w) a) (session_in S j) y
+  | inr o ↦ elim (cases_Bool (w == (session_in S j).worker)) [
+    | inl y ↦
+        let e : w ≡ (session_in S j).worker = eqb-true w (session_in S j).worker y in
+        absurd (n (ap (λ v. (current t v).row) e ∙ k.newest j l o))
+    | inr m ↦ other_stays place (ev (Worker w) a) (session_in S j) m
+  ]
+]
+
+-- a worker that began no session has none
+pub idle_ok : (rules : List Rule) (S : List Begun) (t : SessionTable) (place w number : ℕ) (a : What) → StandsFor rules S t → number ≡ w → length t.workers.items ≤ number
+    → StandsFor rules (map (with_event place (ev (Worker w) a)) S) t
+idle_ok rules S t place w number a k e past =
+    let idle : current t w ≡ nobody = get_or_past t.workers.items w nobody (omega arith) in
+    let none : (j : ℕ) → (current t w).row ≡ Some j → ⊥ = (λ j p. let q : None ≡ Some j = ap (λ (c : Current). c.row) (sym idle) ∙ p in cc q) in
+    subst (λ xs. StandsFor rules xs t) (sym (map_fixed (with_event place (ev (Worker w) a)) S (λ j l. stays_other rules S t place w a k j l (none j)))) k
+
 module _ (rules : List Rule) (S : List Begun) (t u : SessionTable) (place w : ℕ) (a : What) (x : Current)
-    (k : StandsFor rules S t) (small : w < 256) (runs : skips a ≡ false)
+    (k : StandsFor rules S t) (inside : w < length t.workers.items) (runs : skips a ≡ false)
     (g : IsStepped rules place a (current t w) x t.rows.items u.rows.items) (ws : u.workers.items ≡ set t.workers.items w x) where
   abbrev pub f : Begun → Begun
   f = with_event place (ev (Worker w) a)
 
   at-own : current u w ≡ x
-  at-own = let l : w < length t.workers.items = omega (arith, k.workers) in ap (λ xs. get_or xs w nobody) ws ∙ get_or-set_at t.workers.items w w x nobody refl l
+  at-own = ap (λ xs. get_or xs w nobody) ws ∙ get_or-set_at t.workers.items w w x nobody refl inside
 
   at-other : (v : ℕ) → (v ≡ w → ⊥) → current u v ≡ current t v
   at-other v n = ap (λ xs. get_or xs v nobody) ws ∙ get_or-set_other t.workers.items w v x nobody n
@@ -64,17 +84,8 @@ module _ (rules : List Rule) (S : List Begun) (t u : SessionTable) (place w : �
     | inr n ↦ ap (λ (c : Current). c.row) (at-other v (λ e. cc (n, eq-eqb v w e)))
   ]
 
-  -- a session that isn't the worker's current one stays
   stays : (j : ℕ) → j < length S → ((current t w).row ≡ Some j → ⊥) → f (session_in S j) ≡ session_in S j
-  stays j l n = elim (cases_Bool (is_shut (session_in S j).steps)) [
-    | inl y ↦ over_stays place (ev (Worker w) a) (session_in S j) y
-    | inr o ↦ elim (cases_Bool (w == (session_in S j).worker)) [
-      | inl y ↦
-          let e : w ≡ (session_in S j).worker = eqb-true w (session_in S j).worker y in
-          absurd (n (ap (λ v. (current t v).row) e ∙ k.newest j l o))
-      | inr m ↦ other_stays place (ev (Worker w) a) (session_in S j) m
-    ]
-  ]
+  stays j l n = stays_other rules S t place w a k j l n
 
   after-at : (j : ℕ) → j < length S → session_in (map f S) j ≡ f (session_in S j)
   after-at j l = get_or-map f S j no_session no_session l
@@ -132,7 +143,6 @@ module _ (rules : List Rule) (S : List Begun) (t u : SessionTable) (place w : �
   pub advanced : StandsFor rules (map f S) u
   advanced = record {
     rows = rows-after (current t w).row refl;
-    workers = ap length ws ∙ length-set t.workers.items w x ∙ k.workers;
     newest = λ j l o.
         let m : j < length S = omega (arith, length-map S f) in
         let is = after-at j m in
@@ -148,7 +158,7 @@ module _ (rules : List Rule) (S : List Begun) (t u : SessionTable) (place w : �
 -- ---- One more session
 
 module _ (rules : List Rule) (S : List Begun) (t u : SessionTable) (place w : ℕ) (n : Notif) (x : Current)
-    (k : StandsFor rules S t) (over : AllShut w S) (small : w < 256) where
+    (k : StandsFor rules S t) (over : AllShut w S) (inside : w < length t.workers.items) where
   abbrev pub started-one : Begun
   started-one = record { place = place; worker = w; notif = n; steps = Recv (Ok n) ∷ []; stages = no_stages }
 
@@ -159,7 +169,6 @@ module _ (rules : List Rule) (S : List Begun) (t u : SessionTable) (place w : �
       let one = started-one in
       let long : length t.rows.items ≡ length S = ap length k.rows ∙ length-map S (told (judging_by rules)) in
       let mine : x.row ≡ Some (length S) = row ∙ ap Some long in
-      let inside : w < length t.workers.items = omega (arith, k.workers) in
       let at-own : current u w ≡ x = ap (λ xs. get_or xs w nobody) ws ∙ get_or-set_at t.workers.items w w x nobody refl inside in
       let at-other : (v : ℕ) → (v ≡ w → ⊥) → current u v ≡ current t v = (λ v d. ap (λ xs. get_or xs v nobody) ws ∙ get_or-set_other t.workers.items w v x nobody d) in
       let last : session_in (S ++ one ∷ []) (length S) ≡ one = get_or_at S one [] no_session (length S) refl in
@@ -169,7 +178,6 @@ module _ (rules : List Rule) (S : List Begun) (t u : SessionTable) (place w : �
       (λ j o. let z : Some (length S) ≡ Some j = sym mine ∙ ap (λ (c : Current). c.row) (sym at-own) ∙ o in cc z) in
       record {
         rows = rs ∙ ap (λ xs. xs ++ told (judging_by rules) one ∷ []) k.rows ∙ sym (map-append (told (judging_by rules)) S (one ∷ []));
-        workers = ap length ws ∙ length-set t.workers.items w x ∙ k.workers;
         newest = λ j l o. elim (cases_order j (length S)) [
           | inl q ↦
               let is : session_in (S ++ one ∷ []) j ≡ one = ap (session_in (S ++ one ∷ [])) q ∙ last in
@@ -236,23 +244,58 @@ row_ok (Ok v) rules rows i place a c after old new d is g = λ l s p q.
 
 -- the table with one more step of a worker, where there was memory for it
 pub advanced_ok : (r : Result (Unit {0}) NoMemory) (rules : List Rule) (S : List Begun) (t u : SessionTable) (place w number : ℕ) (a : What) (old x d : Current)
-    → StandsFor rules S t → w < 256 → number ≡ w → skips a ≡ false → old ≡ get_or t.workers.items number d
+    → StandsFor rules S t → number < length t.workers.items → number ≡ w → skips a ≡ false → old ≡ get_or t.workers.items number d
     → OnOk r (IsStepped rules place a old x t.rows.items u.rows.items) → u.workers.items ≡ set t.workers.items number x → OnOk r (StandsFor rules (map (with_event place (ev (Worker w) a)) S) u)
 advanced_ok (Err e) rules S t u place w number a old x d k small e1 runs is g ws = tt
 advanced_ok (Ok v) rules S t u place w number a old x d k small e1 runs is g ws =
-    let l : w < length t.workers.items = omega (arith, k.workers) in
+    let l : w < length t.workers.items = omega arith in
     let q : old ≡ current t w = is ∙ ap (λ i. get_or t.workers.items i d) e1 ∙ any_default t.workers.items w d nobody l in
-    advanced rules S t u place w a x k small runs (subst (λ o. IsStepped rules place a o x t.rows.items u.rows.items) q g) (ws ∙ ap (λ i. set t.workers.items i x) e1)
+    advanced rules S t u place w a x k l runs (subst (λ o. IsStepped rules place a o x t.rows.items u.rows.items) q g) (ws ∙ ap (λ i. set t.workers.items i x) e1)
 
 -- and with one more session
 pub begun_ok : (r : Result (Unit {0}) NoMemory) (rules : List Rule) (S : List Begun) (t u : SessionTable) (place w number row : ℕ) (n : Notif) (x : Current)
-    → StandsFor rules S t → AllShut w S → w < 256 → number ≡ w → row ≡ length t.rows.items
+    → StandsFor rules S t → AllShut w S → number < length t.workers.items → number ≡ w → row ≡ length t.rows.items
     → u.rows.items ≡ t.rows.items ++ told (judging_by rules) (record { place = place; worker = w; notif = n; steps = Recv (Ok n) ∷ []; stages = no_stages }) ∷ [] → u.workers.items ≡ set t.workers.items number x
     → OnOk r (x.row ≡ Some row) → OnOk r (Follows (plan n.call.nr n.call.args) [] x.capture)
     → OnOk r (StandsFor rules (S ++ (record { place = place; worker = w; notif = n; steps = Recv (Ok n) ∷ []; stages = no_stages }) ∷ []) u)
 begun_ok (Err e) rules S t u place w number row n x k over small e1 e2 rs ws o f = tt
 begun_ok (Ok v) rules S t u place w number row n x k over small e1 e2 rs ws o f =
-    joined_by rules S t u place w n x k over small rs (ws ∙ ap (λ i. set t.workers.items i x) e1) (o ∙ ap Some e2) f
+    let l : w < length t.workers.items = omega arith in
+    joined_by rules S t u place w n x k over l rs (ws ∙ ap (λ i. set t.workers.items i x) e1) (o ∙ ap Some e2) f
+
+-- ---- More workers
+
+-- each worker is as it was
+pub all_same : (xs : List Current) → IsGrown xs xs
+all_same xs w = record { row = refl; capture = λ j p. refl }
+
+-- one more worker, without a session
+pub one_grown : (old xs : List Current) (x : Current) → IsGrown old xs → x.row ≡ None → IsGrown old (xs ++ x ∷ [])
+one_grown old xs x g none w = elim (cases_order w (length xs)) [
+  | inl q ↦
+      let before : get_or xs w nobody ≡ nobody = get_or_past xs w nobody (omega arith) in
+      let now : get_or (xs ++ x ∷ []) w nobody ≡ x = ap (λ n. get_or (xs ++ x ∷ []) n nobody) q ∙ get_or_at xs x [] nobody (length xs) refl in
+      let was : (get_or old w nobody).row ≡ None = sym (g w).row ∙ ap (λ (c : Current). c.row) before in
+      record { row = ap (λ (c : Current). c.row) now ∙ none ∙ sym was; capture = λ j p. let z : None ≡ Some j = sym was ∙ p in cc z }
+  | inr o ↦ elim o [
+    | inl m ↦ subst (IsSame (get_or old w nobody)) (sym (get_or_append_left xs (x ∷ []) nobody w m)) (g w)
+    | inr m ↦
+        let before : get_or xs w nobody ≡ nobody = get_or_past xs w nobody (omega arith) in
+        let now : get_or (xs ++ x ∷ []) w nobody ≡ nobody = get_or_past (xs ++ x ∷ []) w nobody (omega (arith, length-append xs (x ∷ []))) in
+        subst (IsSame (get_or old w nobody)) (before ∙ sym now) (g w)
+  ]
+]
+
+-- the table with more workers
+pub grown_stands : (rules : List Rule) (S : List Begun) (t u : SessionTable) → StandsFor rules S t → u.rows.items ≡ t.rows.items → IsGrown t.workers.items u.workers.items → StandsFor rules S u
+grown_stands rules S t u k rs g = record {
+  rows = rs ∙ k.rows;
+  newest = λ j l o. (g (session_in S j).worker).row ∙ k.newest j l o;
+  own = λ w j o. k.own w j (sym (g w).row ∙ o);
+  read = λ w j o.
+      let old : (current t w).row ≡ Some j = sym (g w).row ∙ o in
+      subst (IsRead (session_in S j)) (sym ((g w).capture j old)) (k.read w j old);
+}
 
 -- a worker that received, and begins a session
 pub received_ok : (r : Result (Unit {0}) NoMemory) (rules : List Rule) (S : List Begun) (mid new : SessionTable) (place w : ℕ) (a : What) (n : Notif) → fetched_by a ≡ Some n

@@ -1,6 +1,9 @@
 -- Bytes without the zero bytes at their end.
 -- By induction on the bytes before the last one, and by `take_more`, which gives the last byte of a front.
-use Rattle.std.proofs.Common.{◌≡◌, ℕ, zero, suc, ◌+◌, ◌-◌, ◌<◌, ◌≤◌, List, [], ◌∷◌, ◌++◌, length, take, get_or, refl, ap, ◌∙◌, arith}
+use Rattle.std.proofs.Common.{◌≡◌, ℕ, zero, suc, ◌+◌, ◌-◌, ◌<◌, ◌≤◌, List, [], ◌∷◌, ◌++◌, length, take, drop, get_or, refl, sym, ap, ◌∙◌, append_assoc, append-nil, arith}
+use Rattle.std.specs.Prelude.{replicate}
+use Rattle.std.specs.List.{slice_range}
+use Rattle.std.proofs.Math.Seq.{take-add}
 use Rattle.std.proofs.lemmas.List.{take_more}
 use Rattle.std.proofs.lemmas.Bool.{ne_eqb}
 use Rattle.hist_model.specs.ReportWords.{trimmed, trim_onto}
@@ -9,6 +12,19 @@ use Rattle.hist_model.specs.ReportWords.{trimmed, trim_onto}
 zero-last : (xs : List ℕ) → trimmed (xs ++ 0 ∷ []) ≡ trimmed xs
 zero-last [] = refl
 zero-last (x ∷ xs) = ap (trim_onto x) (zero-last xs)
+
+-- and so are more
+zeros-last : (n : ℕ) (xs : List ℕ) → trimmed (xs ++ replicate n 0) ≡ trimmed xs
+zeros-last zero xs = ap trimmed (append-nil xs)
+zeros-last (suc n) xs = ap trimmed (sym (append_assoc xs (0 ∷ []) (replicate n 0))) ∙ zeros-last n (xs ++ 0 ∷ []) ∙ zero-last xs
+
+-- a front that ends with so many zero bytes
+pub trimmed_zeros : (xs : List ℕ) (n : ℕ) → 64 ≤ n → n ≤ length xs → slice_range xs (n - 64) n ≡ replicate 64 0 → trimmed (take (n - 64) xs) ≡ trimmed (take n xs)
+trimmed_zeros xs n low high is =
+    let size : n - (n - 64) ≡ 64 = omega arith in
+    let end : take 64 (drop (n - 64) xs) ≡ replicate 64 0 = ap (λ k. take k (drop (n - 64) xs)) (sym size) ∙ is in
+    let whole : take n xs ≡ take (n - 64) xs ++ take 64 (drop (n - 64) xs) = ap (λ k. take k xs) (omega arith) ∙ take-add (n - 64) 64 xs in
+    sym (ap trimmed (whole ∙ ap (λ ys. take (n - 64) xs ++ ys) end) ∙ zeros-last 64 (take (n - 64) xs))
 
 onto-full : (x b : ℕ) (xs : List ℕ) → trim_onto x (xs ++ b ∷ []) ≡ x ∷ (xs ++ b ∷ [])
 onto-full x b [] = refl

@@ -1,9 +1,11 @@
 pub mod Audited
 pub mod Begun
 pub mod ByPlace
+pub mod CallPass
 pub mod CallTable
 pub mod Counts
 pub mod Laws
+pub mod Pass
 pub mod Received
 pub mod Records
 pub mod Requests

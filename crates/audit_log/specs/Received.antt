@@ -1,7 +1,6 @@
 -- What is kept of ids while the events are gone through: the newest call with each, and of each notification the call that it names.
-use Rattle.std.specs.Prelude.{◌≡◌, ℕ, List, Option, None, Ok}
-use Rattle.std.specs.BTreeMap.{get}
-use Rattle.std.specs.Ordering.{nat_cmp}
+use Rattle.std.specs.Prelude.{◌≡◌, ℕ, ◌==◌, if◌then◌else◌, nat_eq, List, Option, Some, None, Ok}
+use Rattle.std.specs.HashMap.{get}
 use Rattle.hist_model.specs.ReportAudit.{call_with_id}
 use Rattle.hist_model.specs.declared.event.Event.{Event}
 use Rattle.hist_model.specs.declared.event.What.{What}
@@ -9,9 +8,14 @@ use Rattle.hist_model.specs.declared.event.What.TheVariants.{Recv}
 use Rattle.audit_log.specs.ByPlace.{ByPlace}
 use Rattle.audit_log.specs.declared.received.Ids.{Ids}
 
+-- the place of the call, where the last one that was listed has this id, or else another one
+abbrev pub last_or : Option (ℕ × ℕ) → ℕ → Option ℕ → Option ℕ
+last_or None x other = other
+last_or (Some (id, place)) x other = if id == x then Some place else other
+
 -- the place of the newest call with this id, by the table
 abbrev pub place_in : Ids → ℕ → Option ℕ
-place_in t x = get nat_cmp t.places x
+place_in t x = last_or t.last x (get nat_eq t.places x)
 
 -- the table tells of each id in these events
 abbrev pub Names : List Event → Ids → Type 0

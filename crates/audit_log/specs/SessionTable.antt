@@ -41,7 +41,6 @@ IsStepped rules place a old new before after = (new.row ≡ old.row) × IsRowSte
 -- an open session is its worker's current one, and what is read in it goes through that worker's capture
 pub record StandsFor (rules : List Rule) (S : List Begun) (t : SessionTable) : Type 0 where
   pub rows : t.rows.items ≡ map (told (judging_by rules)) S
-  pub workers : length t.workers.items ≡ 256
   pub newest : (j : ℕ) → j < length S → is_shut (session_in S j).steps ≡ false → (current t (session_in S j).worker).row ≡ Some j
   pub own : (w j : ℕ) → (current t w).row ≡ Some j → (j < length S) × ((session_in S j).worker ≡ w)
   pub read : (w j : ℕ) → (current t w).row ≡ Some j → IsRead (session_in S j) (current t w).capture
@@ -50,6 +49,11 @@ pub record StandsFor (rules : List Rule) (S : List Begun) (t : SessionTable) : T
 abbrev pub AllShut : ℕ → List Begun → Type 0
 AllShut w S = (j : ℕ) → j < length S → (session_in S j).worker ≡ w → is_shut (session_in S j).steps ≡ true
 
--- so many workers, each without a session
-abbrev pub IsIdle : ℕ → List Current → Type 0
-IsIdle n workers = (length workers ≡ n) × ((w : ℕ) → (get_or workers w nobody).row ≡ None)
+-- the worker is in the same row, and what is read in the session there goes through the same capture
+pub record IsSame (old new : Current) : Type 0 where
+  pub row : new.row ≡ old.row
+  pub capture : (j : ℕ) → old.row ≡ Some j → new.capture ≡ old.capture
+
+-- each worker is, and those that weren't there have no session
+abbrev pub IsGrown : List Current → List Current → Type 0
+IsGrown old new = (w : ℕ) → IsSame (get_or old w nobody) (get_or new w nobody)

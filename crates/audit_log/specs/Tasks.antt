@@ -23,10 +23,10 @@ facts_or_none None = no_task
 abbrev pub row_of : TaskRecords → Name → TaskFacts
 row_of t n = facts_or_none (get_by (λ key. name_eq n key.items) t.rows)
 
--- what the table has of task n; under the name that has no number it stands apart
+-- what the table has of task n; under the name that has no number it stands apart, and so does that of one task
 abbrev pub facts_in : TaskRecords → Name → TaskFacts
 facts_in t [] = t.unnamed
-facts_in t (x ∷ n) = row_of t (x ∷ n)
+facts_in t (x ∷ n) = if name_eq t.last_name (x ∷ n) then t.last else row_of t (x ∷ n)
 
 -- of task n in these events
 abbrev pub task_facts : List Event → Name → TaskFacts

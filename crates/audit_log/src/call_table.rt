@@ -1,7 +1,9 @@
-//! What is kept of the calls of a history, in one pass over its events.
+//! What is kept of the calls of a history.
 
-ghost use Rattle.std.specs.Prelude.{◌≡◌, IfOk, get_or, reverse};
-ghost use Rattle.audit_log.specs.CallTable.{TellsCalls, number_in};
+ghost use Rattle.std.specs.Prelude.{◌≡◌, ◌∷◌, [], List, length, IfOk, OnOk, get_or};
+ghost use Rattle.hist_model.specs.declared.event.Event.{Event};
+ghost use Rattle.audit_log.specs.CallTable.{number_in};
+ghost use Rattle.audit_log.specs.CallPass.{TellsPast};
 ghost use Rattle.audit_log.specs.Records.{no_record, number_at};
 
 use crate::answer::{answered_call, pending_call};
@@ -25,36 +27,54 @@ pub struct CallTable {
     pub(crate) answered: Vec<Option<usize>>,
 }
 
-impl CallTable {
-    /// Of a history.
+/// The calls while the events are gone through.
+#[derive(Drop)]
+pub(crate) struct CallPass {
+    tasks: TaskRecords,
+    ids: Ids,
+    requests: PendingRequests,
+    pub(crate) table: CallTable,
+}
+
+impl CallPass {
+    /// Before all events, with room for so many.
     #[tactic(auto, using(crate::proofs::Recorded::none_told, crate::proofs::Recorded::known_none, crate::proofs::ReceivedCalls::none_received, crate::proofs::ReceivedCalls::none_named, crate::proofs::Answered::none_asked, crate::proofs::Answered::none_installed))]
-    pub fn of(alloc: Global, events: &[Event]) -> Result<CallTable, NoMemory>
-        ensures { IfOk result (λ t. TellsCalls (reverse events.now) t) }
+    pub(crate) fn new(alloc: Global, room: usize) -> Result<CallPass, NoMemory>
+        ensures { IfOk result (λ pass. TellsPast [] pass) }
     {
-        let mut tasks = TaskRecords::new(alloc);
-        let mut ids = Ids::new(alloc);
-        let mut requests = PendingRequests::new(alloc);
-        let mut records = Vec::with_capacity(alloc, events.len())?;
-        let mut received = Vec::with_capacity(alloc, events.len())?;
-        let mut answered = Vec::with_capacity(alloc, events.len())?;
-        for place in 0..events.len() {
-            let event = &events[place];
-            let facts = tasks.of_actor(&event.who);
-            let call = pending_call(records.as_slice(), facts.newest);
-            answered.push(answered_call(&requests, call, &event.what))?;
-            received.push(ids.received(&event.what))?;
-            requests.note(call, &ids, &event.what)?;
-            record(&mut records, facts, &event.what)?;
-            tasks.note(place, event)?;
-            ids.note(place, &event.what)?;
-        }
-        Ok(CallTable {
-            records,
-            received,
-            answered,
+        let records = Vec::with_capacity(alloc, room)?;
+        let received = Vec::with_capacity(alloc, room)?;
+        let answered = Vec::with_capacity(alloc, room)?;
+        Ok(CallPass {
+            tasks: TaskRecords::new(alloc),
+            ids: Ids::new(alloc),
+            requests: PendingRequests::new(alloc),
+            table: CallTable {
+                records,
+                received,
+                answered,
+            },
         })
     }
 
+    /// One more event, which has this place.
+    pub(crate) fn note(&mut self, place: usize, event: &Event) -> Result<(), NoMemory>
+        ensures { (K : List Event) → length K ≡ place → TellsPast K self.old → OnOk result (TellsPast (event.now ∷ K) self.new) }
+    {
+        let facts = self.tasks.of_actor(&event.who);
+        let call = pending_call(self.table.records.as_slice(), facts.newest);
+        self.table
+            .answered
+            .push(answered_call(&self.requests, call, &event.what))?;
+        self.table.received.push(self.ids.received(&event.what))?;
+        self.requests.note(call, &self.ids, &event.what)?;
+        record(&mut self.table.records, facts, &event.what)?;
+        self.tasks.note(place, event)?;
+        self.ids.note(place, &event.what)
+    }
+}
+
+impl CallTable {
     /// The call of the notification that each event receives, by its place.
     pub fn received(&self) -> &[Option<usize>]
         ensures { result.now ≡ self.now.received.items }

@@ -1,6 +1,6 @@
 //! What happened in an event, in words.
 
-ghost use Rattle.std.specs.Prelude.{◌≡◌, ◌++◌, OnOk, codes, decimal, take, length, ◌≤◌};
+ghost use Rattle.std.specs.Prelude.{◌≡◌, ◌++◌, OnOk, codes, decimal, replicate, take, true, length, ◌≤◌};
 ghost use Rattle.hist_model.specs.ReportWords.{number_text, result_text, trimmed};
 ghost use Rattle.hist_model.specs.ReportJournal.{request_text, spawn_kind_text, spawned_text, disposition_text, entered_text, args_text, delivered_text, reaped_text, received_text, read_text, asked_text, what_text};
 
@@ -16,6 +16,11 @@ use hist_model::text::{TaskName, Text};
 use sys_abi::errno::Errno;
 use sys_abi::memory::NoMemory;
 use sys_abi::wire::{Addfd, Notif};
+
+/// How many zero bytes are passed at a time at the end of what was read.
+const PASSED: usize = 64;
+
+const ZEROS: [u8; PASSED] = [0; PASSED];
 
 /// Adds what happened, in words.
 pub fn push_what(line: &mut LineBuffer, what: &What) -> Result<(), NoMemory>
@@ -319,13 +324,32 @@ fn push_bytes_read(line: &mut LineBuffer, answer: &Result<Text, Errno>) -> Resul
     }
 }
 
+/// Whether so many bytes are zero.
+fn are_zero(bytes: &[u8]) -> bool
+    ensures { result ≡ true → bytes.now ≡ replicate 64 0 }
+{
+    bytes == &ZEROS[..]
+}
+
+/// How many bytes are left where zero bytes at the end are passed, so many at a time.
+fn without_zeros(bytes: &[u8]) -> usize
+    ensures bound { result ≤ length bytes.now }
+    ensures same { trimmed (take result bytes.now) ≡ trimmed bytes.now }
+{
+    let mut len = bytes.len();
+    while len >= PASSED && are_zero(&bytes[len - PASSED..len]) {
+        len -= PASSED;
+    }
+    len
+}
+
 /// How many bytes there are up to the last one that isn't zero.
 #[tactic(auto, using(crate::proofs::Trimmed::trimmed_zero, crate::proofs::Trimmed::trimmed_full))]
 fn trimmed_len(bytes: &[u8]) -> usize
     ensures bound { result ≤ length bytes.now }
     ensures front { take result bytes.now ≡ trimmed bytes.now }
 {
-    let mut len = bytes.len();
+    let mut len = without_zeros(bytes);
     while len > 0 && bytes[len - 1] == 0 {
         len -= 1;
     }

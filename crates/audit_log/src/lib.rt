@@ -2,8 +2,8 @@
 //!
 //! The writers' model is the text that `hist_model` defines for any list of events. Each writes its part to a sink, line by
 //! line, one write for each; after any error the sink took a prefix of that part. What the calls, the audit and the summary
-//! have in common is found once (`tables`), also for who writes more of the same history: of the calls in one pass over the events
-//! (`call_table`), and of the sessions in another (`session_table`). Which session a call had is told by both (`served`).
+//! have in common is found once (`tables`), also for who writes more of the same history: in one pass over the events, which keeps
+//! what came of the calls (`call_table`) and of the sessions (`session_table`). Which session a call had is told by both (`served`).
 //!
 //! A worker is in one session at most, so one more event changes what is kept of one session at most (`session`): what its
 //! steps tell (`session_facts`), where they stand (`session_stages`), and what the policy makes of what was read in it
@@ -36,7 +36,7 @@ pub mod session;
 pub mod session_facts;
 mod session_judgement;
 mod session_stages;
-pub mod session_table;
+mod session_table;
 mod step;
 pub mod summary;
 pub mod tables;

@@ -1,6 +1,6 @@
 //! A line of a report, as it is put together.
 
-ghost use Rattle.std.specs.Prelude.{◌≡◌, ℕ, ◌+◌, ◌≤◌, ◌++◌, [], OnOk, decimal, length, take};
+ghost use Rattle.std.specs.Prelude.{◌≡◌, ℕ, ◌+◌, ◌<◌, ◌≤◌, ◌++◌, [], OnOk, decimal, length, take};
 ghost use Rattle.std.specs.Fmt.{signed_decimal};
 ghost use Rattle.hist_model.specs.ReportWords.{hex, quoted};
 
@@ -179,17 +179,17 @@ impl LineBuffer {
             self.push_bytes(&hex_piece(&bytes[at..at + PIECE]))?;
             at += PIECE;
         }
-        self.push_hex_each(&bytes[at..])
+        self.push_hex_rest(&bytes[at..])
     }
 
-    /// The same, byte by byte.
-    fn push_hex_each(&mut self, bytes: &[u8]) -> Result<(), NoMemory>
+    /// The same, of fewer bytes than are stored at a time.
+    fn push_hex_rest(&mut self, bytes: &[u8]) -> Result<(), NoMemory>
+        requires { length bytes.now < 16 }
         ensures { OnOk result (self.new ≡ self.old ++ hex bytes.now) }
     {
-        for byte in bytes {
-            self.push_bytes(&hex_byte(*byte))?;
-        }
-        Ok(())
+        let mut piece = [0; PIECE];
+        piece[..bytes.len()].copy_from_slice(bytes);
+        self.push_first(&hex_piece(&piece), 2 * bytes.len())
     }
 
     /// Adds a text between quotes.

@@ -1,18 +1,22 @@
 //! The call of each received notification.
 
-ghost use Rattle.std.specs.Prelude.{◌≡◌, ℕ, OnOk, None, Some, if◌then◌else◌};
+ghost use Rattle.std.specs.Prelude.{◌≡◌, ℕ, OnOk, None, Some, if◌then◌else◌, nat_eq};
+ghost use Rattle.std.specs.HashMap.{get};
 ghost use Rattle.hist_model.specs.ReportAudit.{is_notified};
 ghost use Rattle.audit_log.specs.Received.{place_in, received_by};
 
 use hist_model::event::{Entered, What};
 use std::alloc::Global;
-use std::collections::BTreeMap;
+use std::collections::HashMap;
 use sys_abi::memory::NoMemory;
 
 /// The newest call with each id.
 #[derive(Drop)]
 pub(crate) struct Ids {
-    places: BTreeMap<u64, usize>,
+    /// The id of the last call that was listed, and its place. It is mostly this one that is received next.
+    last: Option<(u64, usize)>,
+    /// The places of those before, by their ids.
+    places: HashMap<u64, usize>,
 }
 
 impl Ids {
@@ -21,7 +25,8 @@ impl Ids {
         ensures { (x : ℕ) → place_in result x ≡ None }
     {
         Ids {
-            places: BTreeMap::new(alloc),
+            last: None,
+            places: HashMap::new(alloc),
         }
     }
 
@@ -34,7 +39,18 @@ impl Ids {
             ..
         } = what
         {
-            self.places.insert(*id, place)?;
+            self.put_last()?;
+            self.last = Some((*id, place));
+        }
+        Ok(())
+    }
+
+    /// Puts the last call that was listed to those before.
+    fn put_last(&mut self) -> Result<(), NoMemory>
+        ensures { OnOk result ((x : ℕ) → get nat_eq self.new.places x ≡ place_in self.old x) }
+    {
+        if let Some((id, place)) = self.last {
+            self.places.insert(id, place)?;
         }
         Ok(())
     }
@@ -43,7 +59,10 @@ impl Ids {
     pub(crate) fn named(&self, id: u64) -> Option<usize>
         ensures { result ≡ place_in self.now id }
     {
-        self.places.get(&id).copied()
+        match self.last {
+            Some((last, place)) if last == id => Some(place),
+            _ => self.places.get(&id).copied(),
+        }
     }
 
     /// The call of the notification that a step receives.

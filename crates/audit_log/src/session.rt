@@ -7,7 +7,7 @@ ghost use Rattle.hist_model.specs.declared.report.Finding.TheVariants.{Open};
 ghost use Rattle.arg_capture.specs.Captures.{Follows};
 ghost use Rattle.audit_log.specs.Begun.{Begun, IsRead, finding_in, spent, told, with_step};
 
-use crate::session_facts::{Facts, back_after};
+use crate::session_facts::{Facts, note_back};
 use crate::session_judgement::{hear, judged};
 use crate::session_stages::Stages;
 use arg_capture::Capture;
@@ -99,17 +99,14 @@ impl SessionRecord {
             return Ok(());
         }
         let judged = self.facts.checked_twice;
-        let facts = self.facts.with(what);
-        let stages = self.stages.with(place, &facts, what);
-        let back = back_after(self.back, what);
-        self.facts = facts;
-        self.stages = stages;
-        self.back = back;
+        self.facts.note(what);
+        self.stages.note(place, &self.facts, what);
+        note_back(&mut self.back, what);
         if judged {
             return Ok(());
         }
         hear(capture, what)?;
-        let found = found_where(facts.checked_twice, policy, &self.notif, capture);
+        let found = found_where(self.facts.checked_twice, policy, &self.notif, capture);
         self.found = found;
         Ok(())
     }

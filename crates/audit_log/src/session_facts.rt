@@ -111,13 +111,13 @@ pub fn is_sent(what: &What) -> bool
     matches!(what, What::Send { answer: Ok(()), .. })
 }
 
-/// What was sent last, with one more step.
-pub(crate) fn back_after(before: Option<Back>, what: &What) -> Option<Back>
-    ensures { result ≡ or_back (back_in what.now) before }
+/// One more step, where `kept` is what was sent last.
+#[inline(always)]
+pub(crate) fn note_back(kept: &mut Option<Back>, what: &What)
+    ensures { kept.new ≡ or_back (back_in what.now) kept.old }
 {
-    match what {
-        What::Send { back, .. } => Some(*back),
-        _ => before,
+    if let What::Send { back, .. } = what {
+        *kept = Some(*back);
     }
 }
 
@@ -133,78 +133,61 @@ impl Facts {
         lost: false,
     };
 
-    /// With one more step, where the session isn't shut. By its kind, as each kind tells of few of the facts.
-    pub(crate) fn with(self, what: &What) -> Facts
-        ensures { result ≡ facts_with self what.now }
+    /// One more step, where the session isn't shut. By its kind, as each kind tells of few of the facts.
+    pub(crate) fn note(&mut self, what: &What)
+        ensures { self.new ≡ facts_with self.old what.now }
     {
-        let open = Facts {
-            shut: false,
-            ..self
-        };
+        self.shut = false;
         match what {
-            What::Recv { .. } => Facts {
-                shut: starts(what),
-                ..open
-            },
-            What::LetGo => Facts { shut: true, ..open },
-            What::OpenMem { .. } => open.gone_by(what),
-            What::OpenBase { .. } => open.gone_by(what),
-            What::Check { .. } => open.checked_by(what),
-            What::Act { .. } => open.spent_by(what),
-            What::Plant { .. } => open.spent_by(what),
-            What::AddfdPut { .. } => open.lost_by(what),
-            What::AddfdTake { .. } => open.lost_by(what),
-            What::Send { .. } => Facts {
-                sent: is_sent(what) | self.sent,
-                ..open.lost_by(what)
-            },
-            _ => open,
+            What::Recv { .. } => self.shut = starts(what),
+            What::LetGo => self.shut = true,
+            What::OpenMem { .. } => self.note_gone(what),
+            What::OpenBase { .. } => self.note_gone(what),
+            What::Check { .. } => self.note_check(what),
+            What::Act { .. } => self.note_spent(what),
+            What::Plant { .. } => self.note_spent(what),
+            What::AddfdPut { .. } => self.note_lost(what),
+            What::AddfdTake { .. } => self.note_lost(what),
+            What::Send { .. } => {
+                self.sent = is_sent(what) | self.sent;
+                self.note_lost(what)
+            }
+            _ => (),
         }
     }
 
-    /// With a step that may find the caller, or its call, gone.
+    /// A step that may find the caller, or its call, gone.
     #[inline(always)]
-    fn gone_by(self, what: &What) -> Facts
-        ensures { result ≡ gone_by self what.now }
+    fn note_gone(&mut self, what: &What)
+        ensures { self.new ≡ gone_by self.old what.now }
     {
-        Facts {
-            gone: is_gone(what) | self.gone,
-            ..self
-        }
+        self.gone = is_gone(what) | self.gone;
     }
 
-    /// With a step that asks whether the notification is valid.
+    /// A step that asks whether the notification is valid.
     #[inline(always)]
-    fn checked_by(self, what: &What) -> Facts
-        ensures { result ≡ checked_by self what.now }
+    fn note_check(&mut self, what: &What)
+        ensures { self.new ≡ checked_by self.old what.now }
     {
         let good = is_good_check(what);
-        Facts {
-            checked: good | self.checked,
-            checked_twice: (good & self.checked) | self.checked_twice,
-            ..self.gone_by(what)
-        }
+        self.checked_twice = (good & self.checked) | self.checked_twice;
+        self.checked = good | self.checked;
+        self.note_gone(what)
     }
 
-    /// With a step that may be refused since the rule's times were spent.
+    /// A step that may be refused since the rule's times were spent.
     #[inline(always)]
-    fn spent_by(self, what: &What) -> Facts
-        ensures { result ≡ spent_by self what.now }
+    fn note_spent(&mut self, what: &What)
+        ensures { self.new ≡ spent_by self.old what.now }
     {
-        Facts {
-            spent: is_spent(what) | self.spent,
-            ..self
-        }
+        self.spent = is_spent(what) | self.spent;
     }
 
-    /// With a step that may find no listed call.
+    /// A step that may find no listed call.
     #[inline(always)]
-    fn lost_by(self, what: &What) -> Facts
-        ensures { result ≡ lost_by self what.now }
+    fn note_lost(&mut self, what: &What)
+        ensures { self.new ≡ lost_by self.old what.now }
     {
-        Facts {
-            lost: misses_call(what) | self.lost,
-            ..self
-        }
+        self.lost = misses_call(what) | self.lost;
     }
 }

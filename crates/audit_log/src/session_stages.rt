@@ -29,11 +29,14 @@ fn is_done(what: &What) -> bool
     )
 }
 
-/// The place, where it is one of these steps.
-fn place_if(test: bool, place: usize) -> Option<usize>
-    ensures { result ≡ place_if test place }
+/// The place of one of these steps, where it is the first.
+#[inline(always)]
+fn keep_first(kept: &mut Option<usize>, test: bool, place: usize)
+    ensures { kept.new ≡ or_else kept.old (place_if test place) }
 {
-    if test { Some(place) } else { None }
+    if test && kept.is_none() {
+        *kept = Some(place);
+    }
 }
 
 impl Stages {
@@ -44,16 +47,14 @@ impl Stages {
         sent: None,
     };
 
-    /// With one more step of the open session, which has this place, and with which it has these facts.
-    pub(crate) fn with(self, place: usize, facts: &Facts, what: &What) -> Stages
-        ensures valid { result.valid ≡ or_else self.valid (place_if facts.now.checked_twice place) }
-        ensures effect { result.effect ≡ or_else self.effect (place_if (is_done what.now) place) }
-        ensures sent { result.sent ≡ or_else self.sent (place_if (is_sent what.now) place) }
+    /// One more step of the open session, which has this place, and with which it has these facts.
+    pub(crate) fn note(&mut self, place: usize, facts: &Facts, what: &What)
+        ensures valid { self.new.valid ≡ or_else self.old.valid (place_if facts.now.checked_twice place) }
+        ensures effect { self.new.effect ≡ or_else self.old.effect (place_if (is_done what.now) place) }
+        ensures sent { self.new.sent ≡ or_else self.old.sent (place_if (is_sent what.now) place) }
     {
-        Stages {
-            valid: self.valid.or(place_if(facts.checked_twice, place)),
-            effect: self.effect.or(place_if(is_done(what), place)),
-            sent: self.sent.or(place_if(is_sent(what), place)),
-        }
+        keep_first(&mut self.valid, facts.checked_twice, place);
+        keep_first(&mut self.effect, is_done(what), place);
+        keep_first(&mut self.sent, is_sent(what), place);
     }
 }

@@ -1,18 +1,17 @@
-//! The table of sessions, and the pass over the events.
+//! The table of sessions while the events are gone through.
 
-ghost use Rattle.std.specs.Prelude.{◌≡◌, ◌++◌, [], false, List, Some, IfOk, OnOk, Ok, map, reverse};
+ghost use Rattle.std.specs.Prelude.{◌≡◌, ◌<◌, ◌++◌, [], false, length, List, Some, OnOk, Ok, map};
 ghost use Rattle.hist_model.specs.Copies.{plan};
 ghost use Rattle.hist_model.specs.Kinds.{skips};
 ghost use Rattle.hist_model.specs.Look.{ev};
-ghost use Rattle.hist_model.specs.ReportAudit.{judging_by};
 ghost use Rattle.hist_model.specs.Sessions.{fetched_by};
 ghost use Rattle.hist_model.specs.declared.event.Actor.TheVariants.{Worker};
 ghost use Rattle.hist_model.specs.declared.event.What.TheVariants.{Recv};
 ghost use Rattle.hist_model.specs.declared.policy.Rule.{Rule};
 ghost use Rattle.arg_capture.specs.Captures.{Follows};
-ghost use Rattle.audit_log.specs.Begun.{Begun, told};
-ghost use Rattle.audit_log.specs.Sessions.{after_event, begun, started, with_event};
-ghost use Rattle.audit_log.specs.SessionTable.{AllShut, IsIdle, IsRowStepped, IsStepped, StandsFor};
+ghost use Rattle.audit_log.specs.Begun.{Begun};
+ghost use Rattle.audit_log.specs.Sessions.{after_event, started, with_event};
+ghost use Rattle.audit_log.specs.SessionTable.{AllShut, IsGrown, IsRowStepped, IsStepped, StandsFor};
 
 use crate::session::SessionRecord;
 use crate::session_facts::Facts;
@@ -25,9 +24,6 @@ use std::alloc::Global;
 use sys_abi::memory::NoMemory;
 use sys_abi::wire::Notif;
 
-/// How many numbers workers may have: those of a byte.
-const WORKERS: usize = 256;
-
 /// What a worker is in.
 #[derive(Drop)]
 struct Current {
@@ -39,10 +35,10 @@ struct Current {
 
 /// The sessions that were begun, from the oldest on, and which of them each worker is in.
 #[derive(Drop)]
-struct SessionTable {
+pub(crate) struct SessionTable {
     alloc: Global,
-    rows: Vec<SessionRecord>,
-    /// By the worker's number.
+    pub(crate) rows: Vec<SessionRecord>,
+    /// By the worker's number, up to the greatest of those that began a session.
     workers: Vec<Current>,
 }
 
@@ -109,30 +105,30 @@ impl Current {
     }
 }
 
-/// Every worker before its first session.
-fn idle_workers(alloc: Global) -> Result<Vec<Current>, NoMemory>
-    ensures { IfOk result (λ v. IsIdle 256 v.items) }
+/// Gives each worker up to this number a place among the workers. Most histories have few of them.
+fn reach(alloc: Global, workers: &mut Vec<Current>, number: usize) -> Result<(), NoMemory>
+    ensures grown { OnOk result (IsGrown workers.old.items workers.new.items) }
+    ensures there { OnOk result (number < length workers.new.items) }
 {
-    let mut workers = Vec::new(alloc);
-    for _ in 0..WORKERS {
+    while workers.len() <= number {
         workers.push(Current {
             row: None,
             capture: Capture::nothing(alloc),
         })?;
     }
-    Ok(workers)
+    Ok(())
 }
 
 impl SessionTable {
     /// Before all events.
-    fn new(alloc: Global) -> Result<SessionTable, NoMemory>
-        ensures { IfOk result (λ table. (rules : List Rule) → StandsFor rules [] table) }
+    pub(crate) fn new(alloc: Global) -> SessionTable
+        ensures { (rules : List Rule) → StandsFor rules [] result }
     {
-        Ok(SessionTable {
+        SessionTable {
             alloc,
             rows: Vec::new(alloc),
-            workers: idle_workers(alloc)?,
-        })
+            workers: Vec::new(alloc),
+        }
     }
 
     /// One more step of a worker, which has this place and is no skip, in the session that it is in.
@@ -159,9 +155,7 @@ impl SessionTable {
         ensures { (rules : List Rule) (S : List Begun) → StandsFor rules S self.old → AllShut worker S → OnOk result (StandsFor rules (S ++ started place (Worker worker) (Recv (Ok notif.now))) self.new) }
     {
         let number = usize::from(worker);
-        if number >= self.workers.len() {
-            return Ok(());
-        }
+        reach(self.alloc, &mut self.workers, number)?;
         let row = self.rows.len();
         let facts = Facts::BEGUN;
         let back: Option<Back> = None;
@@ -199,7 +193,12 @@ impl SessionTable {
     }
 
     /// One more event, which has this place.
-    fn note(&mut self, policy: &Policy, place: usize, event: &Event) -> Result<(), NoMemory>
+    pub(crate) fn note(
+        &mut self,
+        policy: &Policy,
+        place: usize,
+        event: &Event,
+    ) -> Result<(), NoMemory>
         ensures { (S : List Begun) → StandsFor policy.now.rules S self.old → OnOk result (StandsFor policy.now.rules (after_event place event.now S) self.new) }
     {
         match &event.who {
@@ -207,19 +206,4 @@ impl SessionTable {
             _ => Ok(()),
         }
     }
-}
-
-/// The outcome of each session of a history, the oldest first, in one pass over its events.
-pub fn sessions(
-    alloc: Global,
-    policy: &Policy,
-    events: &[Event],
-) -> Result<Vec<SessionRecord>, NoMemory>
-    ensures { IfOk result (λ found. found.items ≡ map (told (judging_by policy.now.rules)) (begun (reverse events.now) (reverse events.now))) }
-{
-    let mut table = SessionTable::new(alloc)?;
-    for place in 0..events.len() {
-        table.note(policy, place, &events[place])?;
-    }
-    Ok(table.rows)
 }

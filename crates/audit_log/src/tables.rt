@@ -1,11 +1,15 @@
 //! What the parts of a report have in common.
 
-ghost use Rattle.std.specs.Prelude.{IfOk};
+ghost use Rattle.std.specs.Prelude.{◌≡◌, ◌∷◌, [], List, length, IfOk, OnOk, reverse};
+ghost use Rattle.hist_model.specs.declared.event.Event.{Event};
+ghost use Rattle.hist_model.specs.declared.policy.Rule.{Rule};
+ghost use Rattle.audit_log.specs.Pass.{HasPast};
 ghost use Rattle.audit_log.specs.Tables.{TellsTables};
 
-use crate::call_table::CallTable;
+use crate::call_table::{CallPass, CallTable};
 use crate::session::SessionRecord;
-use crate::session_table::sessions;
+use crate::session_table::SessionTable;
+use hist_model::event::Event;
 use hist_model::history::History;
 use hist_model::policy::Policy;
 use std::alloc::Global;
@@ -20,14 +24,54 @@ pub struct Tables {
     pub sessions: Vec<SessionRecord>,
 }
 
+/// The calls and the sessions while the events are gone through, so that each event is looked at once.
+#[derive(Drop)]
+struct Pass {
+    calls: CallPass,
+    sessions: SessionTable,
+}
+
+impl Pass {
+    /// Before all events, with room for so many.
+    fn new(alloc: Global, room: usize) -> Result<Pass, NoMemory>
+        ensures { IfOk result (λ pass. (rules : List Rule) → HasPast rules [] pass) }
+    {
+        Ok(Pass {
+            calls: CallPass::new(alloc, room)?,
+            sessions: SessionTable::new(alloc),
+        })
+    }
+
+    /// One more event, which has this place.
+    fn note(&mut self, policy: &Policy, place: usize, event: &Event) -> Result<(), NoMemory>
+        ensures { (K : List Event) → length K ≡ place → HasPast policy.now.rules K self.old → OnOk result (HasPast policy.now.rules (event.now ∷ K) self.new) }
+    {
+        self.calls.note(place, event)?;
+        self.sessions.note(policy, place, event)
+    }
+
+    /// All events, from the oldest on.
+    fn note_all(&mut self, policy: &Policy, events: &[Event]) -> Result<(), NoMemory>
+        ensures { HasPast policy.now.rules [] self.old → OnOk result (HasPast policy.now.rules (reverse events.now) self.new) }
+    {
+        for place in 0..events.len() {
+            self.note(policy, place, &events[place])?;
+        }
+        Ok(())
+    }
+}
+
 impl Tables {
     /// Of a history, by the policy that its workers had.
     pub fn of(alloc: Global, policy: &Policy, history: &History) -> Result<Tables, NoMemory>
         ensures { IfOk result (TellsTables policy.now.rules history.now.events) }
     {
-        let events = history.events();
-        let calls = CallTable::of(alloc, events)?;
-        let sessions = sessions(alloc, policy, events)?;
-        Ok(Tables { calls, sessions })
+        let mut pass = Pass::new(alloc, history.len())?;
+        pass.note_all(policy, history.events())?;
+        let Pass { calls, sessions } = pass;
+        Ok(Tables {
+            calls: calls.table,
+            sessions: sessions.rows,
+        })
     }
 }

@@ -1,10 +1,11 @@
 //! What is kept of each task while the events are gone through.
 
-ghost use Rattle.std.specs.Prelude.{◌≡◌, ◌&&◌, ℕ, List, OnOk, Some, if◌then◌else◌};
+ghost use Rattle.std.specs.Prelude.{◌≡◌, ◌&&◌, ◌∷◌, ℕ, List, OnOk, Some, if◌then◌else◌};
 ghost use Rattle.hist_model.specs.Look.{is_task, name_eq, or_else};
 ghost use Rattle.audit_log.specs.Tasks.{facts_in, facts_of, no_task, row_of, task_after};
 
 use hist_model::event::{Actor, Event, What};
+use hist_model::text::TaskName;
 use std::alloc::Global;
 use std::collections::HashMap;
 use sys_abi::memory::NoMemory;
@@ -29,11 +30,16 @@ impl TaskFacts {
 /// The tasks of which something was seen, by their names.
 ///
 /// Most events are of workers. What is kept under the name that has no number, as for them, stands apart, so that it is there without
-/// being looked up.
+/// being looked up. So does what is kept of the task that was last given a PID or entered a call, since mostly its own step is the
+/// next one of a task.
 #[derive(Drop)]
 pub(crate) struct TaskRecords {
     alloc: Global,
     unnamed: TaskFacts,
+    /// The name of that task.
+    last_name: TaskName,
+    /// What is kept of it; what the rows may have of it is older.
+    last: TaskFacts,
     rows: HashMap<Vec<u32>, TaskFacts>,
 }
 
@@ -45,6 +51,8 @@ impl TaskRecords {
         TaskRecords {
             alloc,
             unnamed: TaskFacts::NONE,
+            last_name: TaskName::new(Vec::new(alloc)),
+            last: TaskFacts::NONE,
             rows: HashMap::new(alloc),
         }
     }
@@ -55,6 +63,8 @@ impl TaskRecords {
     {
         if name.is_empty() {
             self.unnamed
+        } else if name == self.last_name.items() {
+            self.last
         } else {
             self.row(name)
         }
@@ -91,6 +101,31 @@ impl TaskRecords {
             self.unnamed = facts;
             return Ok(());
         }
+        if name != self.last_name.items() {
+            self.put_last()?;
+            self.last_name = TaskName::of(self.alloc, name)?;
+        }
+        self.last = facts;
+        Ok(())
+    }
+
+    /// Puts what stands apart of a task into its row, if there is such a task.
+    fn put_last(&mut self) -> Result<(), NoMemory>
+        ensures unnamed { self.new.unnamed ≡ self.old.unnamed }
+        ensures row { OnOk result ((x : ℕ) (n : List ℕ) → row_of self.new (x ∷ n) ≡ facts_in self.old (x ∷ n)) }
+    {
+        if self.last_name.items().is_empty() {
+            return Ok(());
+        }
+        let name = self.last_name.copied(self.alloc)?;
+        self.put_row(name.items(), self.last)
+    }
+
+    /// Keeps this in the row of the task with this name.
+    fn put_row(&mut self, name: &[u32], facts: TaskFacts) -> Result<(), NoMemory>
+        ensures unnamed { self.new.unnamed ≡ self.old.unnamed }
+        ensures row { OnOk result ((n : List ℕ) → row_of self.new n ≡ (if name_eq name.now n then facts else row_of self.old n)) }
+    {
         if self.change_row(name, facts) {
             return Ok(());
         }

@@ -6,10 +6,9 @@ ghost use Rattle.outcome_text.specs.Outcomes.{result_of};
 
 use crate::calls::Kept;
 use crate::names::task_names;
-use audit_log::call_table::CallTable;
 use audit_log::line::LineBuffer;
 use audit_log::served::served_calls;
-use audit_log::session_table::sessions;
+use audit_log::tables::Tables;
 use hist_model::history::History;
 use hist_model::policy::Policy;
 use std::alloc::Global;
@@ -21,15 +20,16 @@ pub fn outcome_of(alloc: Global, policy: &Policy, history: &History) -> Result<V
     ensures { IfOk result (λ text. text.items ≡ result_of (judging_by policy.now.rules) history.now.events) }
 {
     let events = history.events();
-    let calls = CallTable::of(alloc, events)?;
-    let sessions = sessions(alloc, policy, events)?;
-    let served = served_calls(alloc, events.len(), calls.received(), sessions.as_slice())?;
+    let tables = Tables::of(alloc, policy, history)?;
+    let calls = &tables.calls;
+    let sessions = tables.sessions.as_slice();
+    let served = served_calls(alloc, events.len(), calls.received(), sessions)?;
     let names = task_names(alloc, events)?;
     let kept = Kept {
         policy,
         events,
-        calls: &calls,
-        sessions: sessions.as_slice(),
+        calls,
+        sessions,
         served: served.as_slice(),
     };
     let mut line = LineBuffer::new(alloc);

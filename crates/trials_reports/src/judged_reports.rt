@@ -2,7 +2,7 @@
 
 use crate::events::{add, asked, check, read, worker};
 use crate::texts::text;
-use audit_log::session_table::sessions;
+use audit_log::tables::Tables;
 use hist_model::event::Actor;
 use hist_model::history::History;
 use hist_model::policy::Policy;
@@ -23,8 +23,8 @@ fn checked(alloc: Global) -> Result<History, Fail> {
 
 /// What the first session came to.
 fn finding(alloc: Global, policy: &Policy, history: &History) -> Result<Option<Finding>, Fail> {
-    let found = sessions(alloc, policy, history.events())?;
-    match found.first() {
+    let tables = Tables::of(alloc, policy, history)?;
+    match tables.sessions.first() {
         Some(session) => Ok(Some(session.finding())),
         None => Ok(None),
     }

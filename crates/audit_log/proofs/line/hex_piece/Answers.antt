@@ -1,5 +1,5 @@
 -- One more byte is stored: by `stored_more`.
-use Rattle.std.proofs.Common.{refl, arith}
+use Rattle.std.proofs.Common.{refl}
 use Rattle.audit_log.proofs.Hexed.{all_stored, stored_more}
 use Rattle.audit_log.proofs.line.hex_piece.Goals as goal
 

@@ -13,4 +13,4 @@ loop-at-preserved c = record {
 
 pub returns : goal.returns
 returns c =
-    rest_pushed c.args.self.now c.loop-at.self c.push_hex_each.new.self c.args.bytes.now c.loop-at.at c.push_hex_each.result c.loop-at.invariant.so_far c.push_hex_each.ensures
+    rest_pushed c.args.self.now c.loop-at.self c.push_hex_rest.new.self c.args.bytes.now c.loop-at.at c.push_hex_rest.result c.loop-at.invariant.so_far c.push_hex_rest.ensures

@@ -1,13 +1,14 @@
--- By `begun_ok`.
-use Rattle.std.proofs.Common.{◌≡◌, length, refl, arith}
+-- By `begun_ok`, once the worker has a place.
+use Rattle.std.proofs.Common.{◌≡◌, length, refl}
 use Rattle.std.specs.Vec.{with_item}
-use Rattle.audit_log.proofs.SessionRows.{begun_ok}
+use Rattle.audit_log.proofs.SessionRows.{begun_ok, grown_stands}
 use Rattle.audit_log.specs.declared.session_table.SessionTable.{SessionTable}
 use Rattle.audit_log.proofs.session_table.SessionTable.begin.Goals as goal
 
 pub returns : goal.returns
 returns c = λ rules S k over.
-    let u : SessionTable = record { alloc = c.args.self.now.alloc; rows = c.push.new.self; workers = with_item c.args.self.now.workers c.from-number.result c.begin.new.self } in
+    let t : SessionTable = record { alloc = c.args.self.now.alloc; rows = c.args.self.now.rows; workers = c.reach.new.workers } in
+    let u : SessionTable = record { alloc = c.args.self.now.alloc; rows = c.push.new.self; workers = with_item c.reach.new.workers c.from-number.result c.begin.new.self } in
     let long : c.len-row.result ≡ length c.args.self.now.rows.items = search rules in
-    begun_ok c.begin.result rules S c.args.self.now u c.args.place c.args.worker c.from-number.result c.len-row.result c.args.notif.now c.begin.new.self
-    k over (omega arith) c.from-number.ensures long c.in_ok-push.ensures.items refl c.begin.ensures.row c.begin.ensures.follows
+    begun_ok c.begin.result rules S t u c.args.place c.args.worker c.from-number.result c.len-row.result c.args.notif.now c.begin.new.self
+    (grown_stands rules S c.args.self.now t k refl c.in_ok-reach.ensures.grown) over c.in_ok-reach.ensures.there c.from-number.ensures long c.in_ok-push.ensures.items refl c.begin.ensures.row c.begin.ensures.follows
