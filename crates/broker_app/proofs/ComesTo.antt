@@ -1,22 +1,29 @@
--- Each legal history that is explored without a bound has one of the printed outcomes, where no history is left.
--- By induction on the histories: an outcome that is there stays there, and that of a history that is counted comes there.
-use Rattle.std.proofs.Common.{◌≡◌, ℕ, ◌≤◌, Bool, true, false, List, [], ◌∷◌, ◌⊎◌, inl, inr, refl, sym, ap, subst, arith}
-use Rattle.std.specs.Prelude.{Contains, Option, Some, None, bytes_eq, if◌then◌else◌, map}
+-- Each legal and finished history has one of the printed outcomes, where there is no bound and no history is left.
+-- By induction on the histories: an outcome that is there stays there, and that of a history that is counted comes there; and receives that find nothing change none.
+use Rattle.std.proofs.Common.{◌≡◌, ℕ, zero, suc, ◌≤◌, Bool, true, false, List, [], ◌∷◌, ◌⊎◌, inl, inr, refl, sym, ap, subst, ◌∙◌, arith}
+use Rattle.std.specs.Prelude.{Err, Contains, Option, Some, None, bytes_eq, if◌then◌else◌, map}
 use Rattle.std.proofs.lemmas.List.Elements.{Contains-append_cases, Contains-append_left, Contains-append_right, Contains-push, Contains-push_cases}
 use Rattle.std.proofs.lemmas.Slice.Eq.{bytes_eq-Decides}
 use Rattle.delay_bounded.specs.Explored.{bound_of, explored}
-use Rattle.delay_bounded.specs.Laws.{IsComplete}
+use Rattle.delay_bounded.specs.Laws.{IsCompleteOfFinished, with_empty_receives}
 use Rattle.explorer.proofs.Taking.{taken_whole}
-use Rattle.explorer.specs.Taken.{event_limit, none_left, taken}
+use Rattle.explorer.specs.Taken.{event_limit, taken}
 use Rattle.explorer.specs.Tallies.{CountedOutcome, added, of_one, outcomes, tallied, with_more}
-use Rattle.hist_model.specs.Legal.{with_step}
+use Rattle.hist_model.specs.Calls.{count}
+use Rattle.hist_model.specs.Legal.{is_open_session, with_step}
+use Rattle.hist_model.specs.Look.{ev}
 use Rattle.hist_model.specs.ReportAudit.{Judging, judging_by}
-use Rattle.hist_model.specs.declared.event.Actor.TheVariants.{Listener}
+use Rattle.hist_model.specs.Sessions.{session}
+use Rattle.hist_model.specs.Steps.{step}
+use Rattle.hist_model.specs.declared.event.Actor.TheVariants.{Listener, Worker}
 use Rattle.hist_model.specs.declared.event.Event.{Event}
+use Rattle.hist_model.specs.declared.event.What.TheVariants.{Close, Recv}
 use Rattle.hist_model.specs.declared.policy.Policy.{Policy}
 use Rattle.hist_model.specs.declared.script.Script.{Script}
+use Rattle.outcome_text.proofs.Idle.{close_idle, comes_to_same, empty_idle, still_let_go}
 use Rattle.outcome_text.specs.Outcomes.{result_of}
-use Rattle.broker_app.specs.Explorations.{EachHasOutcome, IsWhole}
+use Rattle.sys_abi.specs.Errnos.{enoent}
+use Rattle.broker_app.specs.Explorations.{IsWhole}
 
 -- ---- Elements of lists
 
@@ -81,14 +88,35 @@ counted J H os (G ∷ more) there =
       | inr behind ↦ counted J H (added (of_one J G) os) more behind
     ]
 
+-- ---- What changes no outcome
+
+module _ (J : Judging) where
+  -- receives that find nothing
+  receives_change_none : (n : ℕ) (K : List Event) → ((w : ℕ) → is_open_session (session K w) ≡ false) → result_of J (with_empty_receives n K) ≡ result_of J K
+  unfolding with_empty_receives
+  receives_change_none zero K let_go = refl
+  receives_change_none (suc n) K let_go =
+      receives_change_none n (ev (Worker 0) (Recv (Err enoent)) ∷ K) (still_let_go K 0 enoent let_go) ∙ comes_to_same J K (ev (Worker 0) (Recv (Err enoent))) (empty_idle K 0 enoent let_go)
+
+  close_changes_none : (K : List Event) → result_of J (ev Listener Close ∷ K) ≡ result_of J K
+  close_changes_none K = comes_to_same J K (ev Listener Close) (close_idle K)
+
+  -- so what is explored comes to what the finished history came to
+  same_outcome : (P : Policy) (S : Script) (n : ℕ) (K : List Event) → ((w : ℕ) → is_open_session (session K w) ≡ false)
+      → result_of J (with_step P S Listener (with_empty_receives n K)) ≡ result_of J (with_step P S Listener K)
+  unfolding step
+  same_outcome P S n K let_go = close_changes_none (with_empty_receives n K) ∙ (receives_change_none n K let_go ∙ sym (close_changes_none K))
+
 -- ---- In all
 
 -- without a bound each has its outcome, where no history is left
-pub is_whole : (P : Policy) (S : Script) (W : ℕ) → W ≤ 16 → IsComplete → (delays : Option ℕ) → IsWhole W delays P S
+pub is_whole : (P : Policy) (S : Script) (W : ℕ) → W ≤ 16 → IsCompleteOfFinished → (delays : Option ℕ) → IsWhole W delays P S
 is_whole P S W few complete (Some d) = tt
-is_whole P S W few complete None = λ whole K counts walked over.
+is_whole P S W few complete None = λ whole K counts walked finished.
     let L = explored P S W (bound_of None) in
+    let J = judging_by P.rules in
     let all : L ≡ taken event_limit L = sym (taken_whole event_limit L whole) in
-    let H = with_step P S Listener K in
-    subst (λ (M : List (List Event)). Contains (texts (outcomes (judging_by P.rules) M)) (result_of (judging_by P.rules) H)) all
-    (counted (judging_by P.rules) H [] L (complete P S W K few counts walked over))
+    let H = with_step P S Listener (with_empty_receives (count K) K) in
+    let there : Contains (texts (outcomes J (taken event_limit L))) (result_of J H) =
+    subst (λ (M : List (List Event)). Contains (texts (outcomes J M)) (result_of J H)) all (counted J H [] L (complete P S W K few counts walked finished)) in
+    subst (λ text. Contains (texts (outcomes J (taken event_limit L))) text) (same_outcome J P S (count K) K finished.sessions) there

@@ -15,7 +15,7 @@ use Rattle.hist_model.specs.declared.script.Script.{Script}
 use Rattle.pod_broker.specs.Pods.{NoneOverlap, overlap}
 use Rattle.pod_broker.specs.Serving.{AreServed, scripts}
 use Rattle.pod_broker.specs.declared.container.Container.{Container}
-use Rattle.worker_gate.specs.declared.schedule.Played.{Played}
+use Rattle.worker_gate.specs.declared.served.Played.{Played}
 use Rattle.broker_app.proofs.Reading.{input_before, policy_is_before, script_is_before}
 use Rattle.broker_app.specs.Answers.{Printed, status_of}
 use Rattle.broker_app.specs.Forms.{texts}

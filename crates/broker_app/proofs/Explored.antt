@@ -7,11 +7,12 @@ use Rattle.audit_log.proofs.Writing.{wrote_front, wrote_more, wrote_nothing}
 use Rattle.audit_log.specs.Written.{Wrote}
 use Rattle.audit_log.specs.declared.error.ReportError.{ReportError}
 use Rattle.delay_bounded.specs.Explored.{bound_of}
-use Rattle.delay_bounded.specs.Laws.{AreFinished, AreLegal, IsComplete}
+use Rattle.delay_bounded.specs.Laws.{AreFinished, AreLegal, IsCompleteOfFinished}
 use Rattle.explorer.specs.Printed.{blocks, outcome_block, printed}
 use Rattle.explorer.specs.Tallies.{CountedOutcome}
 use Rattle.explorer.specs.Telling.{TellsFirst}
 use Rattle.explorer.specs.declared.exploring.Exploration.{Exploration}
+use Rattle.hist_model.specs.ScriptRules.{IsScript}
 use Rattle.hist_model.specs.declared.event.Event.{Event}
 use Rattle.hist_model.specs.declared.policy.Policy.{Policy}
 use Rattle.hist_model.specs.declared.script.Script.{Script}
@@ -88,13 +89,13 @@ ends_found P L x old new r t p = subst (λ text. Printed text old new r) (same_t
 
 -- what two files come to was printed, or a part of it
 pub explore_ends : (files after : FileState) (old new : SinkState) (policy script : List ℕ) (W : ℕ) (delays : Option ℕ) (P : Policy) (S : Script) (r : Result (Unit {0}) Status) → W ≤ 15
-    → PolicyIs files policy (Ok P) → ScriptIs files script (Ok S) → AreLegal → AreFinished → IsComplete → Printed (explored_text W delays P S) old new r → ExploreEnds files after old new policy script W delays (status_of r)
-explore_ends files after old new policy script W delays P S r few policy_is script_is legal finished complete printed = by r printed
+    → PolicyIs files policy (Ok P) → ScriptIs files script (Ok S) → IsScript S → AreLegal → AreFinished → IsCompleteOfFinished → Printed (explored_text W delays P S) old new r → ExploreEnds files after old new policy script W delays (status_of r)
+explore_ends files after old new policy script W delays P S r few policy_is script_is rules legal finished complete printed = by r printed
   where
     laws : ExploredLaws W delays P S
     laws = record {
       each = legal P S W (bound_of delays) (omega (arith, few));
-      finished = finished P S W (bound_of delays) (omega (arith, few));
+      finished = finished P S W (bound_of delays) rules (omega (arith, few));
       whole = is_whole P S W (omega (arith, few)) complete delays;
     }
 

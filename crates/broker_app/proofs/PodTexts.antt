@@ -11,7 +11,7 @@ use Rattle.audit_log.specs.declared.error.ReportError.{ReportError}
 use Rattle.audit_log.specs.declared.error.ReportError.TheVariants.{NoMemory}
 use Rattle.audit_log.specs.declared.summary.Counts.{Counts}
 use Rattle.io_edge.specs.SinkState.{SinkState}
-use Rattle.worker_gate.specs.declared.schedule.Played.{Played}
+use Rattle.worker_gate.specs.declared.served.Played.{Played}
 use Rattle.broker_app.specs.PodText.{counts_in, part, parts, sums_on}
 
 -- ---- The parts

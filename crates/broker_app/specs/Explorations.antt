@@ -1,12 +1,13 @@
 -- What the answer of an exploration of two files means: what is printed of the explored histories, and why it stopped.
-use Rattle.std.specs.Prelude.{◌≡◌, ℕ, ◌<◌, ◌^◌, ◌++◌, ◌⊎◌, true, All, Contains, List, length, map, Ok, Option, Some, None}
+use Rattle.std.specs.Prelude.{◌≡◌, ℕ, ◌+◌, ◌<◌, ◌^◌, ◌++◌, ◌⊎◌, true, All, Contains, List, length, map, Ok, Option, Some, None}
 use Rattle.delay_bounded.specs.Explored.{bound_of, explored}
-use Rattle.delay_bounded.specs.Laws.{AreNamed, ClosesFinished, IsExplored, IsOver, IsWalked}
+use Rattle.delay_bounded.specs.Laws.{ClosesFinished, IsExplored, IsWalked}
 use Rattle.explorer.specs.Printed.{blocks, counts_line, printed}
 use Rattle.explorer.specs.Taken.{event_limit, none_left, taken}
 use Rattle.explorer.specs.Tallies.{CountedOutcome, outcomes}
 use Rattle.explorer.specs.declared.exploring.Exploration.{Exploration}
-use Rattle.hist_model.specs.Legal.{with_step}
+use Rattle.hist_model.specs.Calls.{count}
+use Rattle.hist_model.specs.Legal.{Finished, with_step}
 use Rattle.hist_model.specs.ReportAudit.{judging_by}
 use Rattle.hist_model.specs.declared.event.Actor.TheVariants.{Listener}
 use Rattle.hist_model.specs.declared.event.Event.{Event}
@@ -37,9 +38,10 @@ printed_outcomes P histories = map (λ (o : CountedOutcome). o.text) (outcomes (
 
 -- ---- What holds of it
 
--- a legal history in which of the idle workers the lowest receives, without a Skip and by workers up to W, at whose end nobody is able to step, comes to one of the printed outcomes
+-- a legal and finished history in which of the idle workers the lowest receives, without a Skip and by workers up to W, comes to one of the printed outcomes; it can be counted with the
+-- receives that may follow and find nothing
 abbrev pub EachHasOutcome : ℕ → Policy → Script → Type 0
-EachHasOutcome W P S = (K : List Event) → length K < 2 ^ 64 → IsWalked P S W K → IsOver P S W K
+EachHasOutcome W P S = (K : List Event) → length K + count K < 2 ^ 64 → IsWalked P S W K → Finished K
     → Contains (printed_outcomes P (explored P S W (bound_of None))) (result_of (judging_by P.rules) (with_step P S Listener K))
 
 -- so it is without a bound, where no history is left
@@ -47,10 +49,10 @@ abbrev pub IsWhole : ℕ → Option ℕ → Policy → Script → Type 0
 IsWhole W None P S = none_left event_limit (explored P S W (bound_of None)) ≡ true → EachHasOutcome W P S
 IsWhole W (Some d) P S = Unit {0}
 
--- each explored history is legal and mediated, and its schedule plays it; where its tasks have names of the form, it is finished before its close; and without a bound each has its outcome
+-- each explored history is legal and mediated, its schedule plays it, and it was finished before its close; and without a bound each has its outcome
 pub record ExploredLaws (W : ℕ) (delays : Option ℕ) (P : Policy) (S : Script) : Type 0 where
   pub each : All (IsExplored P S W) (explored P S W (bound_of delays))
-  pub finished : All (λ H. length H < 2 ^ 64 → AreNamed H → ClosesFinished H) (explored P S W (bound_of delays))
+  pub finished : All (λ H. length H < 2 ^ 64 → ClosesFinished H) (explored P S W (bound_of delays))
   pub whole : IsWhole W delays P S
 
 -- these are the policy and the script of the named files, and so is what is explored of them

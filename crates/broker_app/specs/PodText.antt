@@ -4,7 +4,7 @@ use Rattle.audit_log.specs.Counts.{counts_of, counts_words, no_counts, plus}
 use Rattle.audit_log.specs.declared.summary.Counts.{Counts}
 use Rattle.hist_model.specs.Report.{report}
 use Rattle.hist_model.specs.ReportAudit.{judging_by}
-use Rattle.worker_gate.specs.declared.schedule.Played.{Played}
+use Rattle.worker_gate.specs.declared.served.Played.{Played}
 
 -- the line above a container's report: its number, counted from 0
 abbrev pub container_title : ℕ → List ℕ

@@ -7,7 +7,7 @@ use Rattle.io_edge.specs.SinkState.{SinkState, AddsPrefix}
 use Rattle.pod_broker.specs.Pods.{AllApart, overlap}
 use Rattle.pod_broker.specs.Serving.{histories}
 use Rattle.pod_broker.specs.declared.container.Container.{Container}
-use Rattle.worker_gate.specs.declared.schedule.Played.{Played}
+use Rattle.worker_gate.specs.declared.served.Played.{Played}
 use Rattle.broker_app.specs.Inputs.{PolicyIs, ScriptIs}
 use Rattle.broker_app.specs.PodText.{pod_text}
 use Rattle.broker_app.specs.Refusals.{InputRefused, Stands, TookNothing}

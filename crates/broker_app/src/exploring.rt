@@ -5,12 +5,13 @@ ghost use Rattle.audit_log.specs.Written.{Wrote};
 ghost use Rattle.broker_app.specs.Answers.{Printed, status_of};
 ghost use Rattle.broker_app.specs.Explorations.{ExploreEnds, exploration_text, explored_text};
 ghost use Rattle.broker_app.specs.Refusals.{Stands};
+ghost use Rattle.hist_model.specs.ScriptRules.{IsScript};
 
 use crate::inputs::read_inputs;
 use crate::outcomes::write_exploration;
 use crate::status::Status;
 use audit_log::error::ReportError;
-use delay_bounded::laws::{all_is_complete, explored_are_finished, explored_are_legal};
+use delay_bounded::laws::{all_finished_is_complete, explored_are_finished, explored_are_legal};
 use explorer::{Exploration, explore};
 use hist_model::policy::Policy;
 use hist_model::script::Script;
@@ -59,6 +60,13 @@ fn print_explored<O: Sink>(
     print_exploration(alloc, &found, out)
 }
 
+/// A script keeps the rules of its format.
+fn keeps_rules(script: &Script)
+    ensures { IsScript script.now }
+{
+    let _base = script.pidbase;
+}
+
 /// Explores the script in one file under the policy in another, and prints what was found.
 #[tactic(auto, using(crate::proofs::Explored::explore_stops))]
 pub(crate) fn explore_files<F: Files, O: Sink>(
@@ -76,6 +84,7 @@ pub(crate) fn explore_files<F: Files, O: Sink>(
     let (policy, script) = read_inputs(alloc, files, policy, script)?;
     explored_are_legal();
     explored_are_finished();
-    all_is_complete();
+    all_finished_is_complete();
+    keeps_rules(&script);
     print_explored(alloc, &policy, script, workers, delays, out)
 }

@@ -131,7 +131,7 @@ takes : (R : Rules) (own : List What) → any_of is_letgo own ≡ false → deed
 unfolding deed
 takes R own l d = grind arith
 
-receives : (R : Rules) (own : List What) → (notif_of own ≡ None) ⊎ (any_of is_letgo own ≡ true) → deed R own ≡ Deed.Recv
+pub receives : (R : Rules) (own : List What) → (notif_of own ≡ None) ⊎ (any_of is_letgo own ≡ true) → deed R own ≡ Deed.Recv
 unfolding deed
 receives R own h = grind arith
 
@@ -168,7 +168,7 @@ open_shut : (own : List What) → is_open_session own ≡ true → any_of is_let
 open_shut [] o g = cc
 open_shut (a ∷ own) o g = let z = rw g at o in cc
 
-not_open : (own : List What) → is_open_session own ≡ false → (notif_of own ≡ None) ⊎ (any_of is_letgo own ≡ true)
+pub not_open : (own : List What) → is_open_session own ≡ false → (notif_of own ≡ None) ⊎ (any_of is_letgo own ≡ true)
 not_open own h = grind arith
 
 is_open_with : (own : List What) (n : Notif) → notif_of own ≡ Some n → any_of is_letgo own ≡ false → is_open_session own ≡ false → ⊥

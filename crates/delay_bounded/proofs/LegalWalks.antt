@@ -5,8 +5,8 @@ use Rattle.std.proofs.lemmas.List.Elements.{All-append, All-cons, All-filter, Al
 use Rattle.std.proofs.lemmas.Bool.{and_parts}
 use Rattle.hist_model.specs.Legal.{IsWithin, rules_of, started, system_of, with_step}
 use Rattle.hist_model.specs.Look.{Name}
+use Rattle.hist_model.specs.ScriptRules.{IsScript}
 use Rattle.hist_model.specs.Steps.{IsLegal, step}
-use Rattle.hist_model.specs.Tasks.{is_made}
 use Rattle.hist_model.specs.declared.event.Actor.{Actor}
 use Rattle.hist_model.specs.declared.event.Actor.TheVariants.{Listener, Start, Task, Worker}
 use Rattle.hist_model.specs.declared.event.Event.{Event}
@@ -19,9 +19,10 @@ use Rattle.mediation.proofs.Played.{goes_on-start, goes_on-step}
 use Rattle.delay_bounded.specs.Circle.{able, at_place, is_able, may_step, places, round, with_turn}
 use Rattle.delay_bounded.specs.Explored.{Walk, by_delays, closed, explored, is_spent, most_events, or_over, walks, with_delays}
 use Rattle.delay_bounded.proofs.Rounds.{round_inside, round_splits}
-use Rattle.delay_bounded.specs.Laws.{AreNamed, ClosesFinished, IsExplored, IsLowest, IsOver, IsWalked}
+use Rattle.delay_bounded.specs.Laws.{ClosesFinished, IsExplored, IsLowest, IsOver, IsWalked}
 use Rattle.delay_bounded.specs.Schedules.{schedule_of}
 use Rattle.delay_bounded.proofs.Finishing.{finished}
+use Rattle.delay_bounded.proofs.MadeNames.{made_named}
 use Rattle.delay_bounded.proofs.Schedules.{plays}
 use Rattle.delay_bounded.proofs.Turns.{turn_by_turn}
 
@@ -136,18 +137,14 @@ module _ (P : Policy) (S : Script) (W : ℕ) (few : W ≤ 16) where
   filled [] u = absurd u
   filled (e ∷ K) u = omega arith
 
-  unmade_by_close : (K : List Event) → AreNamed (with_step P S Listener K) → AreNamed K
-  unfolding step is_made
-  unmade_by_close K named n made = named n made
-
   -- a history that can be counted
   abbrev EndsFinished : List Event → Type 0
-  EndsFinished H = length H < 2 ^ 64 → AreNamed H → ClosesFinished H
+  EndsFinished H = length H < 2 ^ 64 → ClosesFinished H
 
-  ends_finished : (w : Walk) → Good w → EndsFinished (closed P S w)
+  ends_finished : IsScript S → (w : Walk) → Good w → EndsFinished (closed P S w)
   unfolding step
-  ends_finished w (k, over) few_events named =
-      (w.events, refl, finished P S W w.events k.goes_on.legal (omega arith) k.within (unmade_by_close w.events named) (over (omega arith)) (filled w.events k.goes_on.unclosed))
+  ends_finished rules w (k, over) few_events =
+      (w.events, refl, finished P S W w.events k.goes_on.legal (omega arith) k.within (made_named S (rules_of P S.figures) rules w.events k.goes_on.legal) (over (omega arith)) (filled w.events k.goes_on.unclosed))
 
   module _ (Q : List Event → Type 0) (good : (w : Walk) → Good w → Q (closed P S w)) where
     all_with : (d : ℕ) → All Q (with_delays P S W d)
@@ -165,5 +162,5 @@ module _ (P : Policy) (S : Script) (W : ℕ) (few : W ≤ 16) where
   pub all_explored : (d : ℕ) → All (IsExplored P S W) (explored P S W d)
   all_explored d = all_of (IsExplored P S W) ends d
 
-  pub all_finished : (d : ℕ) → All EndsFinished (explored P S W d)
-  all_finished d = all_of EndsFinished ends_finished d
+  pub all_finished : IsScript S → (d : ℕ) → All EndsFinished (explored P S W d)
+  all_finished rules d = all_of EndsFinished (ends_finished rules) d

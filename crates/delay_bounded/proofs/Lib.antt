@@ -1,7 +1,10 @@
 mod Complete
+mod Extending
 mod Finishing
 pub mod Left
 mod LegalWalks
+mod MadeNames
+mod ProgramDepths
 mod Requests
 pub mod Rounds
 mod Schedules

@@ -1,14 +1,18 @@
 -- What the explored histories are, whichever they are.
-use Rattle.std.specs.Prelude.{◌≡◌, ℕ, suc, ◌+◌, ◌<◌, ◌≤◌, ◌^◌, true, false, ◌||◌, List, [], ◌∷◌, ◌++◌, length, reverse, All, Contains, None}
-use Rattle.hist_model.specs.Legal.{Finished, Legal, NoSkip, NoWorkerAbove, started, with_schedule, with_step}
+use Rattle.std.specs.Prelude.{◌≡◌, ℕ, zero, suc, ◌+◌, ◌<◌, ◌≤◌, ◌^◌, true, false, ◌||◌, List, [], ◌∷◌, ◌++◌, length, reverse, All, Contains, None, Err}
+use Rattle.sys_abi.specs.Errnos.{enoent}
+use Rattle.hist_model.specs.Calls.{count}
+use Rattle.hist_model.specs.Legal.{Finished, Legal, NoSkip, NoWorkerAbove, rules_of, started, system_of, with_schedule, with_step}
 use Rattle.hist_model.specs.Look.{Name, ev}
 use Rattle.hist_model.specs.Mediated.{Mediated}
 use Rattle.hist_model.specs.Names.{is_task_name}
+use Rattle.hist_model.specs.ScriptRules.{IsScript}
+use Rattle.hist_model.specs.Steps.{IsLegal}
 use Rattle.hist_model.specs.Tasks.{is_made}
 use Rattle.hist_model.specs.declared.event.Actor.{Actor}
 use Rattle.hist_model.specs.declared.event.Actor.TheVariants.{Listener, Worker}
 use Rattle.hist_model.specs.declared.event.Event.{Event}
-use Rattle.hist_model.specs.declared.event.What.TheVariants.{Close}
+use Rattle.hist_model.specs.declared.event.What.TheVariants.{Close, Recv}
 use Rattle.mediation.specs.Scheduled.{GoesOn}
 use Rattle.hist_model.specs.declared.policy.Policy.{Policy}
 use Rattle.hist_model.specs.declared.script.Script.{Script}
@@ -79,9 +83,13 @@ IsOver P S W K = (q : ℕ) → q < places W K → is_able P S K (at_place K q) �
 abbrev pub AreNamed : List Event → Type 0
 AreNamed K = (n : Name) → is_made K n ≡ true → is_task_name n ≡ true
 
--- nobody can be stuck: where nobody is able to step after such a history, it is finished
+-- so it is in each legal history of a script, whose programs nest no deeper and start no more tasks than names have room for
+abbrev pub NamesHaveForm : Type 0
+NamesHaveForm = (P : Policy) (S : Script) (K : List Event) → IsScript S → IsLegal (system_of S) (rules_of P S.figures) K → AreNamed K
+
+-- nobody can be stuck: where nobody is able to step after such a history of a script, it is finished
 abbrev pub EndsFinished : Type 0
-EndsFinished = (P : Policy) (S : Script) (W : ℕ) (K : List Event) → length K < 2 ^ 64 → IsWalked P S W K → AreNamed K → IsOver P S W K → Finished K
+EndsFinished = (P : Policy) (S : Script) (W : ℕ) (K : List Event) → IsScript S → length K < 2 ^ 64 → IsWalked P S W K → IsOver P S W K → Finished K
 
 -- the history was finished when the listener was closed at its end
 abbrev pub ClosesFinished : List Event → Type 0
@@ -89,8 +97,29 @@ ClosesFinished H = (K : List Event) × (H ≡ ev Listener Close ∷ K) × Finish
 
 -- so is each explored one that can be counted
 abbrev pub AreFinished : Type 0
-AreFinished = (P : Policy) (S : Script) (W d : ℕ) → W ≤ 16 → All (λ H. length H < 2 ^ 64 → AreNamed H → ClosesFinished H) (explored P S W d)
+AreFinished = (P : Policy) (S : Script) (W d : ℕ) → IsScript S → W ≤ 16 → All (λ H. length H < 2 ^ 64 → ClosesFinished H) (explored P S W d)
 
 -- without a bound, each such history is explored at whose end nobody is able to step; the listener is closed there
 abbrev pub IsComplete : Type 0
 IsComplete = (P : Policy) (S : Script) (W : ℕ) (K : List Event) → W ≤ 16 → length K < 2 ^ 64 → IsWalked P S W K → IsOver P S W K → Contains (explored P S W (bound_of None)) (with_step P S Listener K)
+
+-- one worker alone is always the lowest
+abbrev pub OneIsLowest : Type 0
+OneIsLowest = (K : List Event) → NoWorkerAbove 0 K → StepsAsLowest K
+
+-- ---- Histories that are finished, and may go on
+
+-- the first worker finds nothing to receive, so many times
+unfoldable pub with_empty_receives : ℕ → List Event → List Event
+with_empty_receives zero K = K
+with_empty_receives (suc n) K = with_empty_receives n (ev (Worker 0) (Recv (Err enoent)) ∷ K)
+
+-- the finished history, with as many receives that find nothing as there were more notified calls than receives; then nobody is able to step
+abbrev pub GoesOver : Type 0
+GoesOver = (P : Policy) (S : Script) (W : ℕ) (K : List Event) → IsWalked P S W K → Finished K
+    → IsWalked P S W (with_empty_receives (count K) K) × IsOver P S W (with_empty_receives (count K) K)
+
+-- without a bound, each such history that is finished is explored, with those receives behind it
+abbrev pub IsCompleteOfFinished : Type 0
+IsCompleteOfFinished = (P : Policy) (S : Script) (W : ℕ) (K : List Event) → W ≤ 16 → length K + count K < 2 ^ 64 → IsWalked P S W K → Finished K
+    → Contains (explored P S W (bound_of None)) (with_step P S Listener (with_empty_receives (count K) K))

@@ -1,7 +1,7 @@
 //! What the explored histories are, whichever they are.
 
 ghost use Rattle.delay_bounded.specs.Examples.{WithOneDelay, WithoutDelays};
-ghost use Rattle.delay_bounded.specs.Laws.{AreFinished, AreLegal, Begins, EndsFinished, HasNoGap, IsAll, IsComplete, IsOneAlone, IsWithinMore};
+ghost use Rattle.delay_bounded.specs.Laws.{AreFinished, AreLegal, Begins, EndsFinished, GoesOver, HasNoGap, IsAll, IsComplete, IsCompleteOfFinished, IsOneAlone, IsWithinMore, NamesHaveForm, OneIsLowest};
 
 /// The list for a bound begins the list for the next one.
 pub fn bounds_begin()
@@ -40,14 +40,34 @@ pub fn all_is_complete()
     ensures { IsComplete }
 {}
 
-/// Where nobody is able to step after a legal history without a `Skip`, whose tasks have names of the form, every task has ended, no
-/// call is listed, and no worker has a notification in hand: nobody can be stuck.
+/// With one worker that is so of each of its steps.
+pub fn one_is_lowest()
+    ensures { OneIsLowest }
+{}
+
+/// A finished history goes on to where nobody is able to step: the first worker still finds nothing to receive, as many times as
+/// there were more notified calls than receives, and nothing else happens.
+pub fn finished_goes_over()
+    ensures { GoesOver }
+{}
+
+/// Without a bound, each finished one of these histories is explored, with these receives behind it.
+pub fn all_finished_is_complete()
+    ensures { IsCompleteOfFinished }
+{}
+
+/// Each task that a legal history of a script makes has a name of the form.
+pub fn names_have_form()
+    ensures { NamesHaveForm }
+{}
+
+/// Where nobody is able to step after a legal history of a script without a `Skip`, every task has ended, no call is listed, and no
+/// worker has a notification in hand: nobody can be stuck.
 pub fn ends_finished()
     ensures { EndsFinished }
 {}
 
-/// So each explored history that can be counted was finished when the listener was closed at its end, if its tasks have names of the
-/// form.
+/// So each explored history of a script that can be counted was finished when the listener was closed at its end.
 pub fn explored_are_finished()
     ensures { AreFinished }
 {}

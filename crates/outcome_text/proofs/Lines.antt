@@ -16,7 +16,6 @@ use Rattle.hist_model.specs.declared.event.Actor.TheVariants.{Worker}
 use Rattle.hist_model.specs.declared.event.Event.{Event}
 use Rattle.hist_model.specs.declared.event.What.{What}
 use Rattle.hist_model.specs.declared.event.What.TheVariants.{Recv}
-use Rattle.hist_model.specs.declared.report.Outcome.{Outcome}
 use Rattle.audit_log.specs.Begun.{Begun, told}
 use Rattle.audit_log.specs.CallTable.{TellsCalls}
 use Rattle.audit_log.specs.Records.{no_record}
@@ -25,12 +24,12 @@ use Rattle.audit_log.specs.SessionStages.{stages_at}
 use Rattle.audit_log.specs.Sessions.{begun}
 use Rattle.audit_log.specs.declared.call_table.CallTable.{CallTable}
 use Rattle.audit_log.specs.declared.session.SessionRecord.{SessionRecord}
-use Rattle.audit_log.proofs.Past.{length_taken, past_more}
+use Rattle.audit_log.proofs.Past.{past_more}
 use Rattle.audit_log.proofs.Recorded.{task_of}
 use Rattle.audit_log.proofs.ServedCalls.{session_row}
 use Rattle.audit_log.proofs.SessionFound.{finding_told}
-use Rattle.outcome_text.specs.Outcomes.{audit_text, call_lines, calls_of, did, entry_of, is_call_of, result_of, session_text, task_names}
-use Rattle.outcome_text.specs.Tables.{kept_text, lines_at, lines_by}
+use Rattle.outcome_text.specs.Outcomes.{call_lines, calls_of, entry_of, is_call_of, result_of, session_text, task_names}
+use Rattle.outcome_text.specs.Tables.{kept_text, lines_by}
 
 -- ---- The steps of a session
 

@@ -6,7 +6,7 @@ use Rattle.std.proofs.lemmas.Bool.{eq-eqb, ne_eqb}
 use Rattle.std.proofs.lemmas.List.{length-append, length-reverse, reverse-append, take-append-drop, take_all}
 use Rattle.hist_model.specs.Kinds.{is_letgo, skips, starts}
 use Rattle.hist_model.specs.Look.{is_worker}
-use Rattle.hist_model.specs.ReportAudit.{has_begun, is_shut, joined, session_at, session_step}
+use Rattle.hist_model.specs.ReportAudit.{has_begun, is_shut, session_at, session_step}
 use Rattle.hist_model.specs.declared.event.Event.{Event}
 use Rattle.hist_model.specs.declared.event.What.{What}
 use Rattle.audit_log.proofs.Past.{length_taken, past_more}
@@ -23,7 +23,7 @@ first-step : (w r : ℕ) (K : List Event) (e : Event) → length K ≡ r → ses
 unfolding session_at
 first-step w r K e q = rw (eq-eqb (length K) r q) refl
 
-later-step : (w r : ℕ) (K : List Event) (e : Event) → r < length K → session_at w r (e ∷ K) ≡ session_step false (is_own w e) (session_at w r K) e.what
+pub later-step : (w r : ℕ) (K : List Event) (e : Event) → r < length K → session_at w r (e ∷ K) ≡ session_step false (is_own w e) (session_at w r K) e.what
 unfolding session_at
 later-step w r K e l = let n : (length K ≡ r → ⊥) = (λ q. omega arith) in rw (ne_eqb (length K) r n) refl
 
@@ -39,7 +39,7 @@ none-begun w r (e ∷ K) l =
     let n : (length K ≡ r → ⊥) = (λ q. omega arith) in
     rw (ne_eqb (length K) r n, none-begun w r K (omega arith)) (no-step (is_own w e) e.what)
 
-shut-stays : (b : Bool) (own : List What) (a : What) → is_shut own ≡ true → session_step false b own a ≡ own
+pub shut-stays : (b : Bool) (own : List What) (a : What) → is_shut own ≡ true → session_step false b own a ≡ own
 shut-stays true own a h = shut_joined own a h
 shut-stays false own a h = refl
 

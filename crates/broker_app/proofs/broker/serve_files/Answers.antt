@@ -3,7 +3,7 @@ use Rattle.std.proofs.Common.{rules, ◌≡◌, List, Err, subst}
 use Rattle.pod_broker.specs.Pods.{NoneOverlap}
 use Rattle.pod_broker.specs.Serving.{scripts}
 use Rattle.pod_broker.specs.declared.container.Container.{Container}
-use Rattle.worker_gate.specs.declared.schedule.Played.{Played}
+use Rattle.worker_gate.specs.declared.served.Played.{Played}
 use Rattle.broker_app.proofs.Containers.{have_ended, pod_ends, ranges_stop}
 use Rattle.broker_app.specs.Answers.{Printed}
 use Rattle.broker_app.specs.Forms.{texts}

@@ -5,4 +5,4 @@ pub returns : goal.returns
 returns g c =
     explore_ends (g.F.Files.state c.args.files.now) (g.F.Files.state c.read_inputs.new.files) (g.O.Sink.state c.args.out.now) (g.O.Sink.state c.print_explored.new.out) c.args.policy.now c.args.script.now
     c.args.workers c.args.delays c.in_ok-policy.policy c.in_ok-policy.script c.print_explored.result c.requires c.in_ok-policy.ensures.policy c.in_ok-policy.ensures.script
-    c.explored_are_legal.ensures c.explored_are_finished.ensures c.all_is_complete.ensures c.print_explored.ensures
+    c.keeps_rules.ensures c.explored_are_legal.ensures c.explored_are_finished.ensures c.all_finished_is_complete.ensures c.print_explored.ensures

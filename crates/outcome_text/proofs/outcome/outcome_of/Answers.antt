@@ -1,5 +1,5 @@
 -- What is kept of the calls and the sessions gives the lines: by `result_same`.
-use Rattle.std.proofs.Common.{◌≡◌, ◌++◌, length, map, reverse, sym, ap, subst, ◌∙◌}
+use Rattle.std.proofs.Common.{◌≡◌, ◌++◌, length, map, reverse, refl, sym, ap, subst, ◌∙◌}
 use Rattle.std.specs.List.{flat_map}
 use Rattle.std.proofs.lemmas.List.{length-reverse}
 use Rattle.hist_model.specs.ReportAudit.{judging_by}
@@ -7,6 +7,7 @@ use Rattle.hist_model.specs.ReportJournal.{lines_of}
 use Rattle.audit_log.specs.Begun.{told}
 use Rattle.audit_log.specs.Served.{TellsSessions}
 use Rattle.audit_log.specs.Sessions.{begun}
+use Rattle.audit_log.specs.Tables.{TellsTables}
 use Rattle.audit_log.proofs.ServedCalls.{same_sessions}
 use Rattle.outcome_text.specs.Outcomes.{result_of, task_names}
 use Rattle.outcome_text.specs.Tables.{lines_by}
@@ -18,17 +19,18 @@ returns c =
     let J = judging_by c.args.policy.now.rules in
     let xs = c.events-events.result.now in
     let H = reverse xs in
-    let calls = c.in_ok-calls.calls in
-    let rows = c.as_slice-2.result.now in
-    let served = c.as_slice-3.result.now in
-    let names = c.as_slice-4.result.now in
-    let kept : rows ≡ map (told J) (begun H H) = c.as_slice-2.ensures.value ∙ c.in_ok-sessions.ensures in
+    let tables = c.in_ok-tables.tables in
+    let rows = c.as_slice-sessions.result.now in
+    let served = c.as_slice.result.now in
+    let names = c.as_slice-2.result.now in
+    let tells : TellsTables c.args.policy.now.rules H tables = subst (λ K. TellsTables c.args.policy.now.rules K tables) c.events-events.ensures c.in_ok-tables.ensures in
+    let kept : rows ≡ map (told J) (begun H H) = c.as_slice-sessions.ensures.value ∙ tells.sessions in
     let found : TellsSessions c.received.result.now rows (length H) served =
-    same_sessions c.received.result.now c.as_slice.result.now rows (length xs) (length H) c.in_ok-served.served.items served (c.as_slice.ensures.value ∙ sym c.as_slice-2.ensures.value)
-    (sym (length-reverse xs)) (sym c.as_slice-3.ensures.value) c.in_ok-served.ensures in
-    let sessions : TellsSessions calls.received.items rows (length H) served = subst (λ received. TellsSessions received rows (length H) served) c.received.ensures found in
-    let ordered : names ≡ task_names H = c.as_slice-4.ensures.value ∙ c.in_ok-names.ensures in
+    same_sessions c.received.result.now rows rows (length xs) (length H) c.in_ok-served.served.items served refl
+    (sym (length-reverse xs)) (sym c.as_slice.ensures.value) c.in_ok-served.ensures in
+    let sessions : TellsSessions tables.calls.received.items rows (length H) served = subst (λ received. TellsSessions received rows (length H) served) c.received.ensures found in
+    let ordered : names ≡ task_names H = c.as_slice-2.ensures.value ∙ c.in_ok-names.ensures in
     c.into_bytes.ensures
     ∙ (c.in_ok-push_all.ensures
-    ∙ (ap (λ text. text ++ flat_map (λ n. lines_of (lines_by J H calls rows served n) H) names) c.new-line.ensures
-    ∙ (result_same J H calls rows served c.in_ok-calls.ensures kept sessions names ordered ∙ ap (result_of J) (sym c.events-events.ensures))))
+    ∙ (ap (λ text. text ++ flat_map (λ n. lines_of (lines_by J H tables.calls rows served n) H) names) c.new-line.ensures
+    ∙ (result_same J H tables.calls rows served tells.calls kept sessions names ordered ∙ ap (result_of J) (sym c.events-events.ensures))))
