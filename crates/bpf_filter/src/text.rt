@@ -10,14 +10,14 @@ use hist_model::script::Insn;
 use lex_core::{Line, Reason, Token, read_number};
 
 /// Whether a token stands between quotes.
-fn is_quoted(token: &Token) -> bool
+fn is_quoted(token: &Token<'_>) -> bool
     ensures { result ≡ is_quoted token.now }
 {
     matches!(token, Token::Quoted(_))
 }
 
 /// The number that a bare token is.
-fn number(token: &Token) -> Option<i128>
+fn number(token: &Token<'_>) -> Option<i128>
     ensures { result ≡ number token.now }
 {
     match token {
@@ -27,7 +27,7 @@ fn number(token: &Token) -> Option<i128>
 }
 
 /// The number at a place among the operands, and 0 behind the last one and where a text or another word stands.
-pub fn number_at(operands: &[Token], place: usize) -> i128
+pub fn number_at(operands: &[Token<'_>], place: usize) -> i128
     ensures { result ≡ number_at operands.now place }
 {
     match operands.get(place) {
@@ -37,7 +37,7 @@ pub fn number_at(operands: &[Token], place: usize) -> i128
 }
 
 /// The instruction of these operands, each of which is a number: K, JT and JF, of which those that are missing are 0.
-fn insn_of(code: u16, operands: &[Token]) -> Result<Insn, Reason>
+fn insn_of(code: u16, operands: &[Token<'_>]) -> Result<Insn, Reason>
     ensures { result ≡ insn_of code operands.now }
 {
     match (
@@ -51,21 +51,21 @@ fn insn_of(code: u16, operands: &[Token]) -> Result<Insn, Reason>
 }
 
 /// Whether one of the operands stands between quotes.
-fn any_is_quoted(operands: &[Token]) -> bool
+fn any_is_quoted(operands: &[Token<'_>]) -> bool
     ensures { result ≡ list_any is_quoted operands.now }
 {
     operands.iter().any(|operand| is_quoted(operand))
 }
 
 /// Whether one of the operands is no number.
-fn any_is_no_number(operands: &[Token]) -> bool
+fn any_is_no_number(operands: &[Token<'_>]) -> bool
     ensures { result ≡ list_any (λ operand. is_none (number operand)) operands.now }
 {
     operands.iter().any(|operand| number(operand).is_none())
 }
 
 /// The instruction of this code, behind whose word so many operands belong.
-fn operands_insn(code: u16, count: usize, operands: &[Token]) -> Result<Insn, Reason>
+fn operands_insn(code: u16, count: usize, operands: &[Token<'_>]) -> Result<Insn, Reason>
     ensures { result ≡ operands_insn code count operands.now }
 {
     if operands.len() != count {
@@ -86,7 +86,7 @@ fn operands_insn(code: u16, count: usize, operands: &[Token]) -> Result<Insn, Re
 /// that belongs elsewhere, `WrongCount` for too few or too many operands, `WrongForm` for one between quotes, `BadNumber` for
 /// one that is no number, and `OutOfRange` for a K outside 0 to 2^32 - 1 and a JT or JF outside 0 to 255. Where several hold,
 /// the reason is the one named first here, whichever operand it is for.
-pub fn read_text(line: &Line) -> Result<Insn, Reason>
+pub fn read_text(line: &Line<'_>) -> Result<Insn, Reason>
     ensures { result ≡ insn_text line.now.tokens }
 {
     let Some((Token::Bare(word), operands)) = line.tokens.items().split_first() else {

@@ -1,12 +1,12 @@
 -- Lemmas on how a line is read.
 -- By induction on the bytes with cases on the first one (blank, quote or byte of a bare token), and by unfolding `tokens`.
 use Rattle.std.proofs.Common.{◌≡◌, ◌≢◌, ℕ, zero, suc, ◌+◌, ◌<◌, ◌≤◌, List, [], ◌∷◌, ◌++◌, length, take, drop, Bool, true, false, Option, Some, None, Result, Ok, Err, refl, inl, inr, ap, sym, subst, ◌∙◌, arith, append-nil, append_assoc, length-drop}
-use Rattle.std.specs.Prelude.{◌==◌}
+use Rattle.std.specs.Prelude.{◌==◌, nat_lt}
 use Rattle.std.specs.List.{prefix_len}
 use Rattle.std.proofs.lemmas.Bool.{cases_Bool}
-use Rattle.lex_core.specs.Lexical.{Within, is_blank, is_bare, fault_behind, tokens, bare, quoted, ended, begun, with_byte}
+use Rattle.lex_core.specs.Lexical.{Within, is_blank, is_bare, fault_behind, tokens, bare, quoted, after, ended, begun, with_byte}
 use Rattle.lex_core.specs.Lines.{is_skipped}
-use Rattle.lex_core.specs.Steps.{past_blanks, with_bytes, with_tokens, IsPastBlanks, EndsToken, Refuses, touching}
+use Rattle.lex_core.specs.Steps.{past_blanks, is_plain, with_bytes, with_tokens, IsPastBlanks, EndsToken, Refuses, touching}
 use Rattle.lex_core.specs.declared.line.Token.{Token}
 use Rattle.lex_core.specs.declared.line.Token.TheVariants.{Bare, Quoted}
 use Rattle.lex_core.specs.declared.reason.Reason.{Reason}
@@ -137,6 +137,55 @@ prefix_within p (x ∷ xs) = elim (cases_Bool (p x)) [
   | inr h ↦ rw h (omega arith)
 ]
 
+-- ---- a quoted token
+
+quoted-more : (b : ℕ) (bs : List ℕ) → is_plain b ≡ true → quoted (b ∷ bs) ≡ with_byte b (quoted bs)
+unfolding tokens
+quoted-more b bs h =
+    let q : (b == 34) ≡ false = grind (arith, nat_tests) in
+    let s : (b == 92) ≡ false = grind (arith, nat_tests) in
+    let l : nat_lt b 32 ≡ false = grind (arith, nat_tests) in
+    rw (q, s, l) refl
+
+-- the bytes up to the first that doesn't stand for itself
+pub quoted_taken : (text : List ℕ) → quoted text ≡ with_bytes (take (prefix_len is_plain text) text) (quoted (drop (prefix_len is_plain text) text))
+quoted_taken [] = sym (with_bytes-none _)
+quoted_taken (b ∷ bs) = elim (cases_Bool (is_plain b)) [
+  | inl h ↦ rw h (rw (take-next, drop-next) (quoted-more b bs h ∙ ap (with_byte b) (quoted_taken bs) ∙ with_byte-bytes b _ _))
+  | inr h ↦ rw h (sym (with_bytes-none _))
+]
+
+with_bytes-bytes : (front more : List ℕ) (left : Within) → with_bytes front (with_bytes more left) ≡ with_bytes (front ++ more) left
+with_bytes-bytes front more (Ok left) = ap (λ bytes. Ok (bytes, left.1)) (sym (append_assoc front more left.0))
+with_bytes-bytes front more (Err reason) = refl
+
+with_byte-one : (b : ℕ) (left : Within) → with_byte b left ≡ with_bytes (b ∷ []) left
+with_byte-one b (Ok left) = refl
+with_byte-one b (Err reason) = refl
+
+-- one more byte, and those behind it that stand for themselves
+pub plain_added : (left : Within) (bytes plain rest next more : List ℕ) (b : ℕ) → left ≡ with_bytes bytes (quoted rest) → quoted rest ≡ with_byte b (quoted next)
+    → quoted next ≡ with_bytes plain (quoted more) → left ≡ with_bytes ((bytes ++ b ∷ []) ++ plain) (quoted more)
+plain_added left bytes plain rest next more b e h q =
+    e ∙ ap (with_bytes bytes) (h ∙ ap (with_byte b) q ∙ with_byte-one b _) ∙ with_bytes-bytes bytes (b ∷ []) _ ∙ with_bytes-bytes (bytes ++ b ∷ []) plain _
+
+quoted-closed : (behind : List ℕ) → quoted (34 ∷ behind) ≡ ended (after behind)
+unfolding tokens
+quoted-closed behind = refl
+
+closed-quote : (rest behind : List ℕ) (b : ℕ) → rest ≡ b ∷ behind → b ≡ 34 → quoted rest ≡ ended (after behind)
+closed-quote rest behind b e q = ap quoted (e ∙ ap (λ c. c ∷ behind) q) ∙ quoted-closed behind
+
+-- a quoted token without an escape
+pub plain_closed : (text plain rest behind : List ℕ) (b : ℕ) → quoted text ≡ with_bytes plain (quoted rest) → rest ≡ b ∷ behind → b ≡ 34 → after behind ≡ tokens behind
+    → quoted text ≡ with_bytes plain (ended (tokens behind))
+plain_closed text plain rest behind b e r q h = e ∙ ap (with_bytes plain) (closed-quote rest behind b r q) ∙ ap (λ later. with_bytes plain (ended later)) h
+
+-- one that another token touches
+pub plain_refused : (text plain rest behind : List ℕ) (b : ℕ) (e : OrNoMemory Reason) → quoted text ≡ with_bytes plain (quoted rest) → rest ≡ b ∷ behind → b ≡ 34 → Refuses e (after behind) → Refuses e (quoted text)
+plain_refused text plain rest behind b NoMemory w r q h = tt
+plain_refused text plain rest behind b (Refused reason) w r q h = w ∙ ap (with_bytes plain) (closed-quote rest behind b r q) ∙ ap (λ later. with_bytes plain (ended later)) h
+
 touching-end : (b : ℕ) → touching [] ≡ Some b → ⊥
 touching-end b e = cc
 
@@ -199,8 +248,8 @@ quoted_refused text inner b e i q h = begun_refused e Quoted (quoted inner) (tok
 pub bare_read : (text inner bytes : List ℕ) (b : ℕ) (later : Result (List Token) Reason) → text ≡ b ∷ inner → IsPastBlanks text → b ≢ 34 → bare text ≡ with_bytes bytes (ended later) → tokens text ≡ with_tokens (Bare bytes ∷ []) later
 bare_read text inner bytes b later e t q h = tokens_bare text inner b e t q ∙ ap (begun Bare) h ∙ begun_ended Bare bytes later
 
-pub word_refused : (text inner : List ℕ) (b : ℕ) (e : OrNoMemory Reason) → text ≡ b ∷ inner → IsPastBlanks text → b ≢ 34 → Refuses e (bare text) → Refuses e (tokens text)
-word_refused text inner b e i t q h = begun_refused e Bare (bare text) (tokens text) (tokens_bare text inner b i t q) h
+pub word_refused : (text inner : List ℕ) (b : ℕ) (reason : Reason) → text ≡ b ∷ inner → IsPastBlanks text → b ≢ 34 → bare text ≡ Err reason → tokens text ≡ Err reason
+word_refused text inner b reason i t q h = tokens_bare text inner b i t q ∙ ap (begun Bare) h
 
 -- ---- one token after another
 

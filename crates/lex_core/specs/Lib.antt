@@ -1,3 +1,4 @@
+pub mod Stored
 pub mod Lexical
 pub mod Steps
 pub mod Given

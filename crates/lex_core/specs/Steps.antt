@@ -1,5 +1,5 @@
 -- How the steps of the lexer go on.
-use Rattle.std.specs.Prelude.{◌≡◌, ℕ, ◌++◌, List, [], ◌∷◌, Option, Some, None, Result, Ok, Err, true, false, if◌then◌else◌, ⊤}
+use Rattle.std.specs.Prelude.{◌≡◌, ℕ, ◌++◌, Bool, ◌&&◌, not, nat_le, ◌==◌, List, [], ◌∷◌, Option, Some, None, Result, Ok, Err, true, false, if◌then◌else◌, ⊤}
 use Rattle.std.specs.Borrow.{Bor}
 use Rattle.lex_core.specs.declared.line.Token.{Token}
 use Rattle.lex_core.specs.declared.reason.Reason.{Reason}
@@ -21,6 +21,10 @@ with_bytes bytes (Err reason) = Err reason
 abbrev pub with_tokens : List Token → Result (List Token) Reason → Result (List Token) Reason
 with_tokens front (Ok more) = Ok (front ++ more)
 with_tokens front (Err reason) = Err reason
+
+-- a byte within quotes that stands for itself
+abbrev pub is_plain : ℕ → Bool
+is_plain b = nat_le 32 b && not (b == 34) && not (b == 92)
 
 -- a quoted token goes on with a byte, or ends
 abbrev pub after_byte : Option ℕ → List ℕ → Within

@@ -2,7 +2,7 @@
 
 ghost use Rattle.std.specs.Prelude.{◌≡◌, IfNone};
 ghost use Rattle.lex_core.specs.Lexical.{begins_token, escaped, fault_behind, hex_digit, is_bare, is_blank};
-ghost use Rattle.lex_core.specs.Steps.{touching, EndsToken};
+ghost use Rattle.lex_core.specs.Steps.{is_plain, touching, EndsToken};
 
 use crate::reason::Reason;
 
@@ -18,6 +18,13 @@ pub fn is_bare(byte: u8) -> bool
     ensures { result ≡ is_bare byte }
 {
     byte > b' ' && byte < 0x7f && byte != b'"' && byte != b'\\'
+}
+
+/// Whether a byte within quotes stands for itself.
+pub fn is_plain(byte: u8) -> bool
+    ensures { result ≡ is_plain byte }
+{
+    byte >= b' ' && byte != b'"' && byte != b'\\'
 }
 
 /// The byte that a backslash and this letter stand for.

@@ -4,11 +4,12 @@ ghost use Rattle.std.specs.Prelude.{◌≡◌, ◌<◌, ◌≤◌, ◌+◌, ◌^
 ghost use Rattle.lex_core.specs.Lines.{is_skipped, lines_after, split, without_return, numbered};
 ghost use Rattle.lex_core.specs.Given.{refused_at, GivesFirst, RefusesFirst};
 
-use crate::line::Line;
+use crate::line::{Line, Token, Tokens};
 use crate::reason::{LexError, Reason};
 use crate::tokens::{is_skipped, read_tokens};
 use std::alloc::Global;
 use std::marker::Model;
+use std::mem;
 use sys_abi::memory::OrNoMemory;
 
 /// The lines of a script that have tokens, from the first on. Contracts see those that are left, each with
@@ -19,6 +20,8 @@ pub struct Lines<'a> {
     rest: &'a [u8],
     /// How many lines stand before `rest`.
     number: u32,
+    /// Memory for the tokens of the next line.
+    room: Vec<Token<'a>>,
 }
 
 impl<'a> Model for Lines<'a> {
@@ -113,6 +116,7 @@ impl<'a> Lines<'a> {
             alloc,
             rest: bytes,
             number: 0,
+            room: Vec::new(alloc),
         }
     }
 
@@ -121,7 +125,7 @@ impl<'a> Lines<'a> {
     /// `BadByte` and `BadQuote` come where they are the first fault of that line, with its number. After
     /// an error the line is still the next one.
     #[tactic(auto, using(crate::proofs::Splits::first_refused, crate::proofs::Readings::tokens_some))]
-    pub fn next(&mut self) -> Result<Option<Line>, OrNoMemory<LexError>>
+    pub fn next(&mut self) -> Result<Option<Line<'a>>, OrNoMemory<LexError>>
         ensures line { IfOk result (λ line. GivesFirst self.old line self.new) }
         ensures some { IfOk result (λ line. IfSome line (λ l. 0 < length l.tokens)) }
         ensures refused { IfErr result (λ e. RefusesFirst self.old e) }
@@ -131,7 +135,8 @@ impl<'a> Lines<'a> {
             return Ok(None);
         };
         let Found { number, line, rest } = found;
-        match read_tokens(self.alloc, line) {
+        let room = mem::replace(&mut self.room, Vec::new(self.alloc));
+        match read_tokens(self.alloc, room, line) {
             Ok(tokens) => {
                 self.number = number;
                 self.rest = rest;
@@ -139,5 +144,12 @@ impl<'a> Lines<'a> {
             }
             Err(cause) => Err(refused_at(number, cause)),
         }
+    }
+
+    /// Takes back the tokens of a line that was read: the next line's stand in their memory.
+    pub fn reuse(&mut self, tokens: Tokens<'a>)
+        ensures { self.new ≡ self.old }
+    {
+        self.room = tokens.into_items();
     }
 }

@@ -3,9 +3,11 @@
 ghost use Rattle.std.specs.Prelude.{◌≡◌, ◌<◌, ◌≤◌, length, IfOk, IfErr, OnOk};
 ghost use Rattle.lex_core.specs.Lexical as definitions;
 ghost use Rattle.lex_core.specs.Lexical.{after, ended, escape, hex, quoted, tokens, with_escape};
-ghost use Rattle.lex_core.specs.Steps.{after_escape, after_piece, with_bytes, Refuses};
+ghost use Rattle.lex_core.specs.Steps.{after_escape, after_piece, is_plain, with_bytes, Refuses};
+ghost use Rattle.std.specs.List.{prefix_len};
 
-use crate::bytes::{escaped, fault_behind, hex_digit, touching};
+use crate::bytes::{escaped, fault_behind, hex_digit, is_plain, touching};
+use crate::line::TokenBytes;
 use crate::reason::Reason;
 use std::alloc::Global;
 use sys_abi::memory::OrNoMemory;
@@ -90,23 +92,72 @@ fn expect_end(rest: &[u8]) -> Result<(), OrNoMemory<Reason>>
     }
 }
 
-/// The bytes that a quoted token stands for, and what follows it. The opening quote stands before `text`.
-pub fn read_quoted(alloc: Global, text: &[u8]) -> Result<(Vec<u8>, &[u8]), OrNoMemory<Reason>>
-    ensures reading { IfOk result (λ found. quoted text.now ≡ with_bytes found.0.items (ended (tokens found.1.now))) }
+/// How many bytes a text within quotes begins with that stand for themselves.
+fn plain_len(text: &[u8]) -> usize
+    ensures { result ≡ prefix_len is_plain text.now }
+{
+    let mut rest = text;
+    while let Some((&byte, more)) = rest.split_first() {
+        if !is_plain(byte) {
+            break;
+        }
+        rest = more;
+    }
+    text.len() - rest.len()
+}
+
+/// The bytes that a text within quotes begins with and that stand for themselves, and what follows them.
+#[tactic(auto, using(crate::proofs::Readings::quoted_taken, crate::proofs::Readings::prefix_within))]
+fn split_plain(text: &[u8]) -> (&[u8], &[u8])
+    ensures reading { quoted text.now ≡ with_bytes result.0.now (quoted result.1.now) }
+    ensures shorter { length result.1.now ≤ length text.now }
+{
+    text.split_at(plain_len(text))
+}
+
+/// The bytes that a quoted token with escapes stands for, and what follows it. Before `text` stand the opening quote and these
+/// first bytes of it.
+#[tactic(auto, using(crate::proofs::Readings::plain_added))]
+fn read_escaped<'a>(
+    alloc: Global,
+    first: &[u8],
+    text: &'a [u8],
+) -> Result<(Vec<u8>, &'a [u8]), OrNoMemory<Reason>>
+    ensures reading { IfOk result (λ found. with_bytes first.now (quoted text.now) ≡ with_bytes found.0.items (ended (tokens found.1.now))) }
     ensures shorter { IfOk result (λ found. length found.1.now < length text.now) }
     ensures refused { IfErr result (λ e. Refuses e (quoted text.now)) }
 {
-    let mut bytes = Vec::new(alloc);
+    let mut bytes = Vec::from_slice(alloc, first)?;
     let mut rest = text;
     loop {
         let (byte, next) = piece(rest).map_err(OrNoMemory::Refused)?;
-        rest = next;
-        match byte {
-            Some(byte) => bytes.push(byte)?,
-            None => {
-                expect_end(rest)?;
-                return Ok((bytes, rest));
-            }
-        }
+        let Some(byte) = byte else {
+            expect_end(next)?;
+            return Ok((bytes, next));
+        };
+        bytes.push(byte)?;
+        let (plain, more) = split_plain(next);
+        bytes.extend_from_slice(plain)?;
+        rest = more;
     }
+}
+
+/// The bytes that a quoted token stands for, and what follows it. The opening quote stands before `text`. They are a piece of
+/// it where no escape is among them.
+#[tactic(auto, using(crate::proofs::Readings::plain_closed, crate::proofs::Readings::plain_refused))]
+pub fn read_quoted(
+    alloc: Global,
+    text: &[u8],
+) -> Result<(TokenBytes<'_>, &[u8]), OrNoMemory<Reason>>
+    ensures reading { IfOk result (λ found. quoted text.now ≡ with_bytes found.0 (ended (tokens found.1.now))) }
+    ensures shorter { IfOk result (λ found. length found.1.now < length text.now) }
+    ensures refused { IfErr result (λ e. Refuses e (quoted text.now)) }
+{
+    let (plain, rest) = split_plain(text);
+    if let Some((b'"', behind)) = rest.split_first() {
+        expect_end(behind)?;
+        return Ok((TokenBytes::in_line(plain), behind));
+    }
+    let (bytes, behind) = read_escaped(alloc, plain, rest)?;
+    Ok((TokenBytes::own(bytes), behind))
 }

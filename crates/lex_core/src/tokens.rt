@@ -55,22 +55,22 @@ fn bare_len(text: &[u8]) -> usize
 
 /// The bytes of the bare token that `text` begins with, and what follows it.
 #[tactic(auto, using(crate::proofs::Readings::bare_taken, crate::proofs::Readings::bare_refused, crate::proofs::Readings::prefix_within, crate::proofs::Readings::token_is_some))]
-fn read_bare(alloc: Global, text: &[u8]) -> Result<(Vec<u8>, &[u8]), OrNoMemory<Reason>>
+fn read_bare(text: &[u8]) -> Result<(&[u8], &[u8]), Reason>
     requires { IsPastBlanks text.now }
-    ensures reading { IfOk result (λ found. bare text.now ≡ with_bytes found.0.items (ended (tokens found.1.now))) }
+    ensures reading { IfOk result (λ found. bare text.now ≡ with_bytes found.0.now (ended (tokens found.1.now))) }
     ensures shorter { IfOk result (λ found. length found.1.now < length text.now) }
-    ensures refused { IfErr result (λ e. Refuses e (bare text.now)) }
+    ensures refused { IfErr result (λ reason. bare text.now ≡ Err reason) }
 {
     let (front, rest) = text.split_at(bare_len(text));
     match touching(rest) {
-        Some(byte) => Err(OrNoMemory::Refused(fault_behind(byte))),
-        None => Ok((Vec::from_slice(alloc, front)?, rest)),
+        Some(byte) => Err(fault_behind(byte)),
+        None => Ok((front, rest)),
     }
 }
 
 /// The token that `text` begins with, and what follows it.
-#[tactic(auto, using(crate::proofs::Readings::quoted_read, crate::proofs::Readings::quoted_refused, crate::proofs::Readings::bare_read, crate::proofs::Readings::word_refused))]
-fn read_token(alloc: Global, text: &[u8]) -> Result<(Token, &[u8]), OrNoMemory<Reason>>
+#[tactic(auto, using(crate::proofs::Readings::quoted_read, crate::proofs::Readings::quoted_refused, crate::proofs::Readings::bare_read))]
+fn read_token(alloc: Global, text: &[u8]) -> Result<(Token<'_>, &[u8]), OrNoMemory<Reason>>
     requires { IsPastBlanks text.now }
     ensures reading { IfOk result (λ found. tokens text.now ≡ with_tokens (found.0 ∷ []) (tokens found.1.now)) }
     ensures shorter { IfOk result (λ found. length found.1.now < length text.now) }
@@ -81,20 +81,27 @@ fn read_token(alloc: Global, text: &[u8]) -> Result<(Token, &[u8]), OrNoMemory<R
     };
     if first == b'"' {
         let (bytes, rest) = read_quoted(alloc, inner)?;
-        Ok((Token::Quoted(TokenBytes::new(bytes)), rest))
+        Ok((Token::Quoted(bytes), rest))
     } else {
-        let (bytes, rest) = read_bare(alloc, text)?;
-        Ok((Token::Bare(TokenBytes::new(bytes)), rest))
+        match read_bare(text) {
+            Ok((bytes, rest)) => Ok((Token::Bare(TokenBytes::in_line(bytes)), rest)),
+            Err(reason) => Err(OrNoMemory::Refused(reason)),
+        }
     }
 }
 
-/// The tokens of a line, from left to right, or its first fault.
+/// The tokens of a line, from left to right, or its first fault. They stand in the memory of `room`, whose tokens go away.
 #[tactic(auto, using(crate::proofs::Readings::token_added, crate::proofs::Readings::tokens_refused, crate::proofs::Readings::tokens_begin, crate::proofs::Readings::tokens_end, crate::proofs::Readings::begins_past, crate::proofs::Readings::past_shorter))]
-pub fn read_tokens(alloc: Global, line: &[u8]) -> Result<Tokens, OrNoMemory<Reason>>
+pub fn read_tokens<'a>(
+    alloc: Global,
+    room: Vec<Token<'a>>,
+    line: &'a [u8],
+) -> Result<Tokens<'a>, OrNoMemory<Reason>>
     ensures reading { IfOk result (λ found. tokens line.now ≡ Ok found) }
     ensures refused { IfErr result (λ e. Refuses e (tokens line.now)) }
 {
-    let mut found = Vec::new(alloc);
+    let mut found = room;
+    found.clear();
     let mut rest = past_blanks(line);
     while !rest.is_empty() {
         let (token, more) = read_token(alloc, rest)?;

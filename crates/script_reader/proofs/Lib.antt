@@ -1,5 +1,6 @@
 mod WorkedScripts
 pub mod OperandFaults
+pub mod FirstTask
 pub mod Maps
 pub mod Counts
 pub mod Tables

@@ -1,9 +1,9 @@
--- A line without a fault of its operands keeps their limits; and the tokens of a line are the first one and the others.
+-- A line without a fault of its operands keeps their limits.
 -- By cases on the word of the line and on its first operand, and by induction on the numbers of a task's name.
-use Rattle.std.proofs.Common.{◌≡◌, ℕ, ◌^◌, ◌<◌, ◌≤◌, ◌∙◌, List, [], ◌∷◌, length, get_or, Option, Some, None, refl, ap, sym, subst, inl, inr, arith, map, unwrap_or, if◌then◌else◌}
+use Rattle.std.proofs.Common.{◌≡◌, ℕ, ◌^◌, ◌<◌, ◌≤◌, ◌∙◌, List, [], ◌∷◌, length, Option, Some, None, refl, sym, subst, inl, inr, arith, map, unwrap_or, if◌then◌else◌}
 use Rattle.std.specs.Prelude.{Bool, true, false, nat_le, nat_lt, ◌&&◌, not, ℤ, pos, negsuc, int_le, int_lt, bytes_eq}
 use Rattle.std.specs.Option.{option_map}
-use Rattle.std.specs.List.{list_all, remove}
+use Rattle.std.specs.List.{list_all}
 use Rattle.std.proofs.lemmas.List.{length-map}
 use Rattle.std.proofs.lemmas.Bool.{cases_Bool, and_from, and_parts, both_ways, leb-true, le-leb, lt-ltb, eqb-true}
 use Rattle.std.proofs.lemmas.Bool.Decides.{nat_tests}
@@ -463,7 +463,3 @@ sound_statement part base_is_stated word.Exit operands place h = (belonging part
 sound_statement part base_is_stated word.Task operands place h = (task-named operands h, task-count operands h)
 sound_statement part base_is_stated word.Worker operands place h = (worker-range operands h, worker-count operands h)
 sound_statement part base_is_stated w operands place h = tt
-
-pub first_removed : (tokens : List Token) (first : Token) → 0 < length tokens → first ≡ get_or tokens 0 first → tokens ≡ first ∷ remove tokens 0
-first_removed [] first h e = absurd (omega arith)
-first_removed (t ∷ ts) first h e = ap (λ x. x ∷ ts) (sym e)

@@ -34,12 +34,6 @@ begins_number (b ∷ bs) = (b == 45) || (nat_le 48 b && nat_le b 57)
 abbrev pub number_in : List Token → ℕ → Option ℤ
 number_in operands place = option_and_then text.number (slice_get operands place)
 
--- the numbers that the first seven operands are
-abbrev pub first_numbers : List Token → List (Option ℤ)
-first_numbers operands =
-    number_in operands 0 ∷ number_in operands 1 ∷ number_in operands 2 ∷ number_in operands 3
-    ∷ number_in operands 4 ∷ number_in operands 5 ∷ number_in operands 6 ∷ []
-
 -- the call that is named so; what begins as a number is no name
 abbrev pub named_call : List ℕ → Option ℤ
 named_call name = if begins_number name then None else call_number_of name

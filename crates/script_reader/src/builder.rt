@@ -20,7 +20,7 @@ use crate::word::{Part, in_block};
 use hist_model::request::{Node, NodeRef};
 use hist_model::script::{Figures, Insn, Instr, MapRange, Script, Step};
 use hist_model::text::{Sequence, Text};
-use lex_core::{Line, Reason, TokenBytes};
+use lex_core::{Line, Reason};
 use std::alloc::Global;
 use sys_abi::memory::{NoMemory, OrNoMemory};
 
@@ -43,7 +43,7 @@ pub struct Builder {
 type Admitted = Result<(), OrNoMemory<Fault>>;
 
 /// Whether a statement opens a block.
-fn opens(statement: &Statement) -> bool
+fn opens(statement: &Statement<'_>) -> bool
     ensures { result ≡ opens statement.now }
 {
     matches!(
@@ -136,25 +136,25 @@ impl Builder {
         Ok(())
     }
 
-    fn root(&mut self, path: TokenBytes) -> Admitted
-        ensures { Admits (statement_fault (states.Root path) (above_in self.old)) (with_statement (states.Root path) (above_in self.old)) result (above_in self.new) }
+    fn root(&mut self, path: &[u8]) -> Admitted
+        ensures { Admits (statement_fault (states.Root path.now) (above_in self.old)) (with_statement (states.Root path.now) (above_in self.old)) result (above_in self.new) }
     {
-        wrong_if(!self.tree.leads_to_directory(path.items()), Reason::BadPath).map_err(
+        wrong_if(!self.tree.leads_to_directory(path), Reason::BadPath).map_err(
             OrNoMemory::Refused,
         )?;
         refuse_again(self.settings.root.is_some()).map_err(OrNoMemory::Refused)?;
-        self.settings.root = Some(self.tree.node_at(path.items()));
+        self.settings.root = Some(self.tree.node_at(path));
         Ok(())
     }
 
-    fn node(&mut self, path: TokenBytes, node: Node) -> Admitted
-        ensures { Admits (statement_fault (states.Node path node) (above_in self.old)) (with_statement (states.Node path node) (above_in self.old)) result (above_in self.new) }
+    fn node(&mut self, path: &[u8], node: Node) -> Admitted
+        ensures { Admits (statement_fault (states.Node path.now node) (above_in self.old)) (with_statement (states.Node path.now node) (above_in self.old)) result (above_in self.new) }
     {
         self.tree.add_node(self.alloc, path, node)
     }
 
-    fn attr(&mut self, path: TokenBytes, name: Text, value: Text) -> Admitted
-        ensures { Admits (statement_fault (states.Attr path name value) (above_in self.old)) (with_statement (states.Attr path name value) (above_in self.old)) result (above_in self.new) }
+    fn attr(&mut self, path: &[u8], name: Text, value: Text) -> Admitted
+        ensures { Admits (statement_fault (states.Attr path.now name value) (above_in self.old)) (with_statement (states.Attr path.now name value) (above_in self.old)) result (above_in self.new) }
     {
         self.tree.add_attr(path, name, value)
     }
@@ -197,8 +197,8 @@ impl Builder {
         Ok(())
     }
 
-    fn prog(&mut self, name: TokenBytes) -> Admitted
-        ensures { Admits (statement_fault (states.Prog name) (above_in self.old)) (with_statement (states.Prog name) (above_in self.old)) result (above_in self.new) }
+    fn prog(&mut self, name: &[u8]) -> Admitted
+        ensures { Admits (statement_fault (states.Prog name.now) (above_in self.old)) (with_statement (states.Prog name.now) (above_in self.old)) result (above_in self.new) }
     {
         self.programs.open(name)?;
         self.part = Part::Program;
@@ -215,10 +215,10 @@ impl Builder {
         Ok(())
     }
 
-    fn starts(&mut self, thread: bool, name: TokenBytes) -> Admitted
-        ensures { Admits (statement_fault (states.Starts thread name) (above_in self.old)) (with_statement (states.Starts thread name) (above_in self.old)) result (above_in self.new) }
+    fn starts(&mut self, thread: bool, name: &[u8]) -> Admitted
+        ensures { Admits (statement_fault (states.Starts thread name.now) (above_in self.old)) (with_statement (states.Starts thread name.now) (above_in self.old)) result (above_in self.new) }
     {
-        self.programs.push_start(thread, name.items())
+        self.programs.push_start(thread, name)
     }
 
     fn schedule(&mut self) -> Admitted
@@ -271,9 +271,9 @@ impl Builder {
     }
 
     /// One more statement, or its fault beside the lines above. After an error nothing is said of the builder.
-    fn admit(&mut self, statement: Statement) -> Admitted
+    fn admit(&mut self, statement: Statement<'_>) -> Admitted
         requires { IsSound self.old.part (is_some self.old.settings.pidbase) statement }
-        ensures { Admits (statement_fault statement (above_in self.old)) (with_statement statement (above_in self.old)) result (above_in self.new) }
+        ensures { Admits (statement_fault statement.entry (above_in self.old)) (with_statement statement.entry (above_in self.old)) result (above_in self.new) }
     {
         match statement {
             Statement::Pidmax(n) => self.pidmax(n),
@@ -281,9 +281,9 @@ impl Builder {
             Statement::Firstid(n) => self.firstid(n),
             Statement::Rlimit(n) => self.rlimit(n),
             Statement::Killable => self.killable(),
-            Statement::Node { path, node } => self.node(path, node),
-            Statement::Attr { path, name, value } => self.attr(path, name, value),
-            Statement::Root { path } => self.root(path),
+            Statement::Node { path, node } => self.node(path.items(), node),
+            Statement::Attr { path, name, value } => self.attr(path.items(), name, value),
+            Statement::Root { path } => self.root(path.items()),
             Statement::Broker(n) => self.broker(n),
             Statement::Map(range) => self.map(range),
             Statement::Cgroup { memory, swap } => self.cgroup(memory, swap),
@@ -291,9 +291,9 @@ impl Builder {
             Statement::Notify(calls) => self.notify(calls.items()),
             Statement::Filter { listener } => self.filter(listener),
             Statement::Insn(insn) => self.insn(insn),
-            Statement::Prog { name } => self.prog(name),
+            Statement::Prog { name } => self.prog(name.items()),
             Statement::Does(instr) => self.does(instr),
-            Statement::Starts { thread, name } => self.starts(thread, name),
+            Statement::Starts { thread, name } => self.starts(thread, name.items()),
             Statement::Schedule => self.schedule(),
             Statement::Takes(step) => self.takes(step),
             Statement::End => self.end(),
@@ -325,9 +325,9 @@ impl Builder {
     ghost use Rattle.script_reader.specs.Views.{above_in};
 
     /// A line with this number joins those above, where its statement has no fault beside them.
-    fn join(&mut self, number: u32, statement: Statement) -> Admitted
+    fn join(&mut self, number: u32, statement: Statement<'_>) -> Admitted
         requires { IsSound self.old.part (is_some self.old.settings.pidbase) statement }
-        ensures becomes { Becomes (with_reading number (unless_faulty (statement_fault statement (above_in self.old)) statement) (above_in self.old)) result (above_in self.new) }
+        ensures becomes { Becomes (with_reading number (unless_faulty (statement_fault statement.entry (above_in self.old)) statement.entry) (above_in self.old)) result (above_in self.new) }
         ensures kept { OnOk result (IsKept (above_in self.old) → IsKept (above_in self.new)) }
     {
         let opens = opens(&statement);
@@ -337,14 +337,14 @@ impl Builder {
     }
 
     /// Reads a line behind those above. After an error nothing is said of the builder.
-    pub fn read(&mut self, line: Line) -> Admitted
-        ensures becomes { Becomes (with_reading line.number (line_statement (above_in self.old) (Ok line.tokens)) (above_in self.old)) result (above_in self.new) }
+    #[inline(always)]
+    pub fn read(&mut self, line: &Line<'_>) -> Admitted
+        ensures becomes { Becomes (with_reading line.now.number (line_statement (above_in self.old) (Ok line.now.tokens)) (above_in self.old)) result (above_in self.new) }
         ensures kept { OnOk result (IsKept (above_in self.old) → IsKept (above_in self.new)) }
     {
-        let number = line.number;
         let base_is_stated = self.settings.pidbase.is_some();
         let statement = read_line(self.alloc, self.part, base_is_stated, line)?;
-        self.join(number, statement)
+        self.join(line.number, statement)
     }
 
     /// The script that the lines make, where all blocks are closed and there is a program.

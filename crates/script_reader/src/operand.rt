@@ -82,7 +82,7 @@ fn addressee_of(word: &[u8]) -> Addressee
 }
 
 /// Whom the first of the operands of a `kill` names.
-pub fn addressee_in(operands: &[Token]) -> Addressee
+pub fn addressee_in(operands: &[Token<'_>]) -> Addressee
     ensures { result ≡ definitions.addressee_in operands.now }
 {
     match operands.first() {
@@ -103,7 +103,7 @@ fn kill_counts(whom: Addressee) -> (usize, usize)
 }
 
 /// How many operands stand behind a word, at least and at most.
-fn counts(word: Word, operands: &[Token]) -> (usize, usize)
+fn counts(word: Word, operands: &[Token<'_>]) -> (usize, usize)
     ensures { result ≡ definitions.counts word operands.now }
 {
     match word {
@@ -121,7 +121,7 @@ fn counts(word: Word, operands: &[Token]) -> (usize, usize)
 }
 
 /// Whether there are neither too few nor too many operands.
-fn is_counted(word: Word, operands: &[Token]) -> bool
+fn is_counted(word: Word, operands: &[Token<'_>]) -> bool
     ensures { result ≡ definitions.is_counted word operands.now }
 {
     let (least, most) = counts(word, operands);
@@ -171,7 +171,7 @@ fn kill_number(whom: Addressee) -> Operand
 }
 
 /// What an operand of `kill` has to be. The signal comes last.
-fn kill_operand(operands: &[Token], place: usize) -> Operand
+fn kill_operand(operands: &[Token<'_>], place: usize) -> Operand
     requires { place ≤ length operands.now }
     ensures { result ≡ definitions.kill_operand operands.now place }
 {
@@ -231,7 +231,7 @@ fn first_or(place: usize, first: Operand, other: Operand) -> Operand
 }
 
 /// What the operand at a place behind a word has to be.
-fn operand_at(word: Word, operands: &[Token], place: usize) -> Operand
+fn operand_at(word: Word, operands: &[Token<'_>], place: usize) -> Operand
     requires { place ≤ length operands.now }
     ensures { result ≡ definitions.operand_at word operands.now place }
 {
@@ -283,6 +283,7 @@ fn operand_at(word: Word, operands: &[Token], place: usize) -> Operand
     }
 }
 
+#[inline(always)]
 fn fault_unless(right: bool, reason: Reason) -> Option<Reason>
     ensures { result ≡ definitions.fault_unless right reason }
 {
@@ -322,6 +323,7 @@ fn is_sent_signal(number: Option<u64>) -> bool
 }
 
 /// Whether a number may stand where such an operand belongs.
+#[inline(always)]
 fn is_allowed(kind: Operand, number: i128) -> bool
     ensures { result ≡ definitions.is_allowed kind number }
 {
@@ -335,6 +337,7 @@ fn is_allowed(kind: Operand, number: i128) -> bool
     }
 }
 
+#[inline(always)]
 fn number_fault(kind: Operand, number: Option<i128>) -> Option<Reason>
     ensures { result ≡ definitions.number_fault kind number }
 {
@@ -386,12 +389,13 @@ fn call_fault(word: &[u8], number: Option<i128>, call: Option<i32>) -> Option<Re
     }
 }
 
-/// The fault of the operand at a place, which is this word.
-fn word_fault(kind: Operand, word: &[u8], operands: &Operands, place: usize) -> Option<Reason>
+/// The fault of the operand at a place, which is this word. A text belongs between quotes.
+fn word_fault(kind: Operand, word: &[u8], operands: &Operands<'_>, place: usize) -> Option<Reason>
     requires { slice_get operands.now place ≡ Some (Bare word.now) }
-    ensures { result ≡ definitions.word_fault kind word.now }
+    ensures { result ≡ definitions.operand_fault kind (Bare word.now) }
 {
     match kind {
+        Operand::Path | Operand::Root | Operand::Text { .. } => Some(Reason::WrongForm),
         Operand::Program => fault_unless(word.len() <= 64, Reason::OutOfRange),
         Operand::CallName => fault_unless(is_call_name(word), Reason::UnknownName),
         Operand::Call => call_fault(word, operands.number(place), operands.call(place)),
@@ -418,19 +422,11 @@ fn text_fault(kind: Operand, bytes: &[u8]) -> Option<Reason>
     }
 }
 
-/// Whether such an operand belongs between quotes.
-fn is_text(kind: Operand) -> bool
-    ensures { result ≡ definitions.is_text kind }
-{
-    matches!(kind, Operand::Path | Operand::Root | Operand::Text { .. })
-}
-
 /// The fault that the operand at a place shows by itself; none behind the last one.
-fn operand_fault(kind: Operand, operands: &Operands, place: usize) -> Option<Reason>
+fn operand_fault(kind: Operand, operands: &Operands<'_>, place: usize) -> Option<Reason>
     ensures { result ≡ definitions.fault_at kind operands.now place }
 {
     match operands.tokens().get(place) {
-        Some(Token::Bare(_)) if is_text(kind) => Some(Reason::WrongForm),
         Some(Token::Bare(word)) => word_fault(kind, word.items(), operands, place),
         Some(Token::Quoted(bytes)) => text_fault(kind, bytes.items()),
         None => None,
@@ -469,7 +465,7 @@ fn earlier(one: Option<Reason>, other: Option<Reason>) -> Option<Reason>
 
 /// The first fault that the operands show by themselves.
 #[tactic(auto, using(crate::proofs::OperandFaults::faults_end))]
-fn fault_among(word: Word, operands: &Operands) -> Option<Reason>
+fn fault_among(word: Word, operands: &Operands<'_>) -> Option<Reason>
     ensures { result ≡ definitions.fault_from word operands.now 0 operands.now }
 {
     let mut found = None;
@@ -486,7 +482,7 @@ fn fault_among(word: Word, operands: &Operands) -> Option<Reason>
 
 /// The fault that a line's operands show by themselves: their count, and then, whichever operand it is for, the reason that
 /// stands first in the table.
-pub fn operands_fault(word: Word, operands: &Operands) -> Option<Reason>
+pub fn operands_fault(word: Word, operands: &Operands<'_>) -> Option<Reason>
     ensures { result ≡ definitions.operands_fault word operands.now }
 {
     if is_counted(word, operands.tokens()) {

@@ -1,39 +1,41 @@
-//! The operands of a line, each read once.
+//! The operands of a line, with what the first of them say.
 
 ghost use Rattle.std.specs.Prelude.{◌≡◌};
 ghost use Rattle.bpf_filter.specs.Text.{number_at};
-ghost use Rattle.script_reader.specs.Operands.{call_in, first_numbers, named_call, number_in, token_bytes};
+ghost use Rattle.script_reader.specs.Operands.{call_in, named_call, number_in, token_bytes};
 
 use crate::operand::begins_number;
 use lex_core::{Token, read_number};
 use std::marker::Model;
 use sys_abi::calls::call_number;
 
-/// The operands of a line, with what they say. A line of numbers has at most seven of them: a call's, with its six arguments.
-/// Contracts see the tokens.
+/// The operands of a line, with what the first of them say. Most lines have at most two: the numbers of others are read where
+/// they are asked for. Contracts see the tokens.
 #[derive(Drop)]
-pub struct Operands {
-    tokens: Vec<Token>,
-    /// The number that each of the first seven is.
-    numbers: [Option<i128>; 7],
+pub struct Operands<'a> {
+    tokens: &'a [Token<'a>],
+    /// The number that the first one is.
+    first: Option<i128>,
+    /// The number that the second one is.
+    second: Option<i128>,
     /// The call that the first one names.
     call: Option<i32>,
 }
 
-impl Model for Operands {
+impl<'a> Model for Operands<'a> {
     ghost use Rattle.std.specs.Prelude.{◌≡◌, List};
     ghost use Rattle.lex_core.specs.declared.line.Token.{Token};
-    ghost use Rattle.script_reader.specs.Operands.{call_in, first_numbers};
+    ghost use Rattle.script_reader.specs.Operands.{call_in, number_in};
 
     ghost Value = { List Token };
 
-    ghost view = { λ o. o.tokens.items };
+    ghost view = { λ o. o.tokens.now };
 
-    ghost invariant = { λ o. (o.numbers ≡ first_numbers o.tokens.items) × (o.call ≡ call_in o.tokens.items 0) };
+    ghost invariant = { λ o. (o.first ≡ number_in o.tokens.now 0) × (o.second ≡ number_in o.tokens.now 1) × (o.call ≡ call_in o.tokens.now 0) };
 }
 
 /// The bytes that a token stands for.
-pub fn token_bytes(token: &Token) -> &[u8]
+pub fn token_bytes<'a>(token: &'a Token<'_>) -> &'a [u8]
     ensures { result.now ≡ token_bytes token.now }
 {
     match token {
@@ -43,27 +45,13 @@ pub fn token_bytes(token: &Token) -> &[u8]
 }
 
 /// The number that the token at a place is.
-fn number_in(tokens: &[Token], place: usize) -> Option<i128>
+fn number_in(tokens: &[Token<'_>], place: usize) -> Option<i128>
     ensures { result ≡ number_in tokens.now place }
 {
     match tokens.get(place) {
         Some(Token::Bare(word)) => read_number(word.items()),
         _ => None,
     }
-}
-
-fn first_numbers(tokens: &[Token]) -> [Option<i128>; 7]
-    ensures { result ≡ first_numbers tokens.now }
-{
-    [
-        number_in(tokens, 0),
-        number_in(tokens, 1),
-        number_in(tokens, 2),
-        number_in(tokens, 3),
-        number_in(tokens, 4),
-        number_in(tokens, 5),
-        number_in(tokens, 6),
-    ]
 }
 
 /// The call that is named so. What begins as a number is no name.
@@ -78,7 +66,7 @@ fn named_call(name: &[u8]) -> Option<i32>
 }
 
 /// The call that the token at a place names.
-fn call_in(tokens: &[Token], place: usize) -> Option<i32>
+fn call_in(tokens: &[Token<'_>], place: usize) -> Option<i32>
     ensures { result ≡ call_in tokens.now place }
 {
     match tokens.get(place) {
@@ -87,46 +75,33 @@ fn call_in(tokens: &[Token], place: usize) -> Option<i32>
     }
 }
 
-impl Operands {
+impl<'a> Operands<'a> {
     /// Reads these tokens.
-    pub fn new(tokens: Vec<Token>) -> Operands
-        ensures { result ≡ tokens.items }
+    pub fn new(tokens: &'a [Token<'a>]) -> Operands<'a>
+        ensures { result ≡ tokens.now }
     {
-        let numbers = first_numbers(&tokens);
-        let call = call_in(&tokens, 0);
         Operands {
             tokens,
-            numbers,
-            call,
+            first: number_in(tokens, 0),
+            second: number_in(tokens, 1),
+            call: call_in(tokens, 0),
         }
     }
 
-    pub fn tokens(&self) -> &[Token]
+    pub fn tokens(&self) -> &'a [Token<'a>]
         ensures { result.now ≡ self.now }
     {
-        self.tokens.as_slice()
-    }
-
-    /// The tokens, given back without taking memory.
-    pub fn into_tokens(self) -> Vec<Token>
-        ensures { result.items ≡ self }
-    {
-        let Operands {
-            tokens,
-            numbers: _,
-            call: _,
-        } = self;
-        tokens
+        self.tokens
     }
 
     /// The number that the operand at a place is.
     pub fn number(&self, place: usize) -> Option<i128>
         ensures { result ≡ number_in self.now place }
     {
-        if place < 7 {
-            self.numbers[place]
-        } else {
-            number_in(&self.tokens, place)
+        match place {
+            0 => self.first,
+            1 => self.second,
+            _ => number_in(self.tokens, place),
         }
     }
 
@@ -144,7 +119,7 @@ impl Operands {
         if place == 0 {
             self.call
         } else {
-            call_in(&self.tokens, place)
+            call_in(self.tokens, place)
         }
     }
 }

@@ -3,8 +3,10 @@
 ghost use Rattle.std.specs.Prelude.{◌≡◌, ◌≤◌, ◌<◌, length, reverse, position, IfOk, map};
 ghost use Rattle.script_reader.specs.Paths as definitions;
 
+use hist_model::text::TaskName;
 use lex_core::read_number;
 use std::alloc::{AllocError, Global};
+use sys_abi::memory::NoMemory;
 
 /// The path of the root of the host's tree.
 pub const ROOT: &[u8] = b"/";
@@ -133,10 +135,22 @@ pub fn is_task_text(text: &[u8]) -> bool
 }
 
 /// The numbers of a task's name.
-pub fn task_numbers(alloc: Global, text: &[u8]) -> Result<Vec<u32>, AllocError>
+fn task_numbers(alloc: Global, text: &[u8]) -> Result<Vec<u32>, AllocError>
     ensures { IfOk result (λ numbers. numbers.items ≡ definitions.task_numbers text.now) }
 {
     text.split(|byte| *byte == b'.')
         .map(|number| number_or_zero(number))
         .collect(alloc)
+}
+
+/// The name of the task that a text names. That of the first task, which most lines name, takes no memory.
+#[tactic(auto, using(crate::proofs::FirstTask::first_task))]
+pub fn task_name(alloc: Global, text: &[u8]) -> Result<TaskName, NoMemory>
+    ensures { IfOk result (λ name. name ≡ definitions.task_numbers text.now) }
+{
+    if text == b"0".as_slice() {
+        TaskName::of(alloc, &[0])
+    } else {
+        Ok(TaskName::new(task_numbers(alloc, text)?))
+    }
 }

@@ -12,7 +12,7 @@ use crate::ranges::are_mapped;
 use crate::totals::{NOTHING, added_by, are_too_many, with_end, with_totals};
 use hist_model::script::{Instr, MapRange, Totals};
 use hist_model::text::Sequence;
-use lex_core::{Reason, TokenBytes};
+use lex_core::Reason;
 use std::alloc::Global;
 use std::collections::BTreeMap;
 use std::mem;
@@ -99,17 +99,18 @@ impl Programs {
     }
 
     /// Opens the block of a program.
-    pub fn open(&mut self, name: TokenBytes) -> Result<(), OrNoMemory<Fault>>
-        ensures { Admits (definitions.prog_fault (programs_in self.old) name) (definitions.open_program name (programs_in self.old)) result (programs_in self.new) }
+    pub fn open(&mut self, name: &[u8]) -> Result<(), OrNoMemory<Fault>>
+        ensures { Admits (definitions.prog_fault (programs_in self.old) name.now) (definitions.open_program name.now (programs_in self.old)) result (programs_in self.new) }
     {
-        self.refuse_prog(name.items()).map_err(OrNoMemory::Refused)?;
-        self.name = name.into_items();
+        self.refuse_prog(name).map_err(OrNoMemory::Refused)?;
+        self.name = Vec::from_slice(self.alloc, name)?;
         self.body = Vec::new(self.alloc);
         self.running = NOTHING;
         Ok(())
     }
 
     /// Adds an instruction to the program that is open.
+    #[inline(always)]
     #[tactic(auto, using(crate::proofs::Counts::totals_more))]
     pub fn push(&mut self, instr: Instr) -> Result<(), NoMemory>
         ensures { OnOk result (programs_in self.new ≡ definitions.with_instr instr (programs_in self.old)) }

@@ -26,7 +26,7 @@ fn refusal(line: u32, fault: Fault) -> ScriptError
 }
 
 /// The next line that has tokens.
-fn next_line(lines: &mut Lines<'_>) -> Result<Option<Line>, OrNoMemory<ScriptError>>
+fn next_line<'a>(lines: &mut Lines<'a>) -> Result<Option<Line<'a>>, OrNoMemory<ScriptError>>
     ensures line { IfOk result (λ line. GivesFirst lines.old line lines.new) }
     ensures refused { IfErr result (λ e. FirstRefused lines.old e) }
 {
@@ -41,8 +41,8 @@ fn next_line(lines: &mut Lines<'_>) -> Result<Option<Line>, OrNoMemory<ScriptErr
 }
 
 /// Reads a line behind those that were read.
-fn read_line(builder: &mut Builder, line: Line) -> Result<(), OrNoMemory<ScriptError>>
-    ensures goes_on { GoesOn line.number (with_reading line.number (line_statement (above_in builder.old) (Ok line.tokens)) (above_in builder.old)) result (above_in builder.new) }
+fn read_line(builder: &mut Builder, line: &Line<'_>) -> Result<(), OrNoMemory<ScriptError>>
+    ensures goes_on { GoesOn line.now.number (with_reading line.now.number (line_statement (above_in builder.old) (Ok line.now.tokens)) (above_in builder.old)) result (above_in builder.new) }
     ensures kept { OnOk result (IsKept (above_in builder.old) → IsKept (above_in builder.new)) }
 {
     let number = line.number;
@@ -63,9 +63,10 @@ pub fn read_script(alloc: Global, bytes: &[u8]) -> Result<Script, OrNoMemory<Scr
     let mut lines = Lines::new(alloc, bytes);
     let mut builder = Builder::new(alloc)?;
     while let Some(line) = next_line(&mut lines)? {
-        if let Err(error) = read_line(&mut builder, line) {
+        if let Err(error) = read_line(&mut builder, &line) {
             return Err(error);
         }
+        lines.reuse(line.tokens);
     }
     builder.finish()
 }

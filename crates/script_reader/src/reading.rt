@@ -47,14 +47,14 @@ fn other_word(word: &[u8]) -> Reason
 }
 
 /// What a line with this word states.
-fn word_statement(
+fn word_statement<'a>(
     alloc: Global,
     part: Part,
     base_is_stated: bool,
     word: Word,
-    operands: Vec<Token>,
-) -> Result<Statement, OrNoMemory<Fault>>
-    ensures reading { States (definitions.word_statement part base_is_stated word operands.items) result }
+    operands: &'a [Token<'a>],
+) -> Result<Statement<'a>, OrNoMemory<Fault>>
+    ensures reading { States (definitions.word_statement part base_is_stated word operands.now) result }
     ensures sound { IfOk result (λ s. IsSound part base_is_stated s) }
 {
     if !is_in_place(part, base_is_stated, word) {
@@ -64,18 +64,18 @@ fn word_statement(
     if let Some(reason) = operands_fault(word, &operands) {
         return Err(OrNoMemory::Refused(Fault::Wrong(reason)));
     }
-    Ok(statement_of(alloc, word, operands)?)
+    Ok(statement_of(alloc, word, &operands)?)
 }
 
 /// What a line states with this word and these operands.
-fn bytes_statement(
+fn bytes_statement<'a>(
     alloc: Global,
     part: Part,
     base_is_stated: bool,
     bytes: &[u8],
-    operands: Vec<Token>,
-) -> Result<Statement, OrNoMemory<Fault>>
-    ensures reading { States (definitions.bytes_statement part base_is_stated (word_of bytes.now) bytes.now operands.items) result }
+    operands: &'a [Token<'a>],
+) -> Result<Statement<'a>, OrNoMemory<Fault>>
+    ensures reading { States (definitions.bytes_statement part base_is_stated (word_of bytes.now) bytes.now operands.now) result }
     ensures sound { IfOk result (λ s. IsSound part base_is_stated s) }
 {
     match word_of(bytes) {
@@ -85,14 +85,14 @@ fn bytes_statement(
 }
 
 /// What a line states with this first token and these operands.
-fn token_statement(
+fn token_statement<'a>(
     alloc: Global,
     part: Part,
     base_is_stated: bool,
-    first: &Token,
-    operands: Vec<Token>,
-) -> Result<Statement, OrNoMemory<Fault>>
-    ensures reading { States (definitions.plain_statement part base_is_stated (first.now ∷ operands.items)) result }
+    first: &Token<'_>,
+    operands: &'a [Token<'a>],
+) -> Result<Statement<'a>, OrNoMemory<Fault>>
+    ensures reading { States (definitions.plain_statement part base_is_stated (first.now ∷ operands.now)) result }
     ensures sound { IfOk result (λ s. IsSound part base_is_stated s) }
 {
     match first {
@@ -104,22 +104,19 @@ fn token_statement(
 }
 
 /// What a line states that is no instruction of a filter.
-#[tactic(auto, using(crate::proofs::SoundStatements::first_removed))]
-fn plain_statement(
+fn plain_statement<'a>(
     alloc: Global,
     part: Part,
     base_is_stated: bool,
-    tokens: Vec<Token>,
-) -> Result<Statement, OrNoMemory<Fault>>
-    ensures reading { States (definitions.plain_statement part base_is_stated tokens.items) result }
+    tokens: &'a [Token<'a>],
+) -> Result<Statement<'a>, OrNoMemory<Fault>>
+    ensures reading { States (definitions.plain_statement part base_is_stated tokens.now) result }
     ensures sound { IfOk result (λ s. IsSound part base_is_stated s) }
 {
-    let mut operands = tokens;
-    if operands.is_empty() {
-        return Err(OrNoMemory::Refused(Fault::Wrong(Reason::UnknownWord)));
+    match tokens.split_first() {
+        Some((first, operands)) => token_statement(alloc, part, base_is_stated, first, operands),
+        None => Err(OrNoMemory::Refused(Fault::Wrong(Reason::UnknownWord))),
     }
-    let first = operands.remove(0);
-    token_statement(alloc, part, base_is_stated, &first, operands)
 }
 
 fn is_end(word: Option<Word>) -> bool
@@ -129,7 +126,7 @@ fn is_end(word: Option<Word>) -> bool
 }
 
 /// Whether a line says that a block ends.
-fn ends_block(tokens: &[Token]) -> bool
+fn ends_block(tokens: &[Token<'_>]) -> bool
     ensures { result ≡ definitions.ends_block tokens.now }
 {
     match tokens.first() {
@@ -139,7 +136,7 @@ fn ends_block(tokens: &[Token]) -> bool
 }
 
 /// What a line of a filter's block states.
-fn insn_statement(line: &Line) -> Result<Statement, OrNoMemory<Fault>>
+fn insn_statement<'a>(line: &'a Line<'a>) -> Result<Statement<'a>, OrNoMemory<Fault>>
     ensures reading { States (definitions.insn_statement (insn_text line.now.tokens)) result }
     ensures sound { IfOk result (λ s. (p : Part) (base_is_stated : Bool) → IsSound p base_is_stated s) }
 {
@@ -157,17 +154,17 @@ fn in_filter(part: Part) -> bool
 
 /// What a line states by itself, where it stands in a part and `base_is_stated` is whether a `pidbase` stands above. Its faults
 /// are those that it shows without the lines above.
-pub fn read_line(
+pub fn read_line<'a>(
     alloc: Global,
     part: Part,
     base_is_stated: bool,
-    line: Line,
-) -> Result<Statement, OrNoMemory<Fault>>
-    ensures reading { States (definitions.tokens_statement part base_is_stated line.tokens) result }
+    line: &'a Line<'a>,
+) -> Result<Statement<'a>, OrNoMemory<Fault>>
+    ensures reading { States (definitions.tokens_statement part base_is_stated line.now.tokens) result }
     ensures sound { IfOk result (λ s. IsSound part base_is_stated s) }
 {
     if in_filter(part) && !ends_block(line.tokens.items()) {
-        return insn_statement(&line);
+        return insn_statement(line);
     }
-    plain_statement(alloc, part, base_is_stated, line.tokens.into_items())
+    plain_statement(alloc, part, base_is_stated, line.tokens.items())
 }

@@ -1,27 +1,26 @@
 //! What lines state.
 
-ghost use Rattle.std.specs.Prelude.{◌≡◌, ◌≢◌, ℕ, pos, IfOk, map};
+ghost use Rattle.std.specs.Prelude.{◌≡◌, pos, IfOk, map};
 ghost use Rattle.script_reader.specs.Statements as definitions;
 ghost use Rattle.hist_model.specs.declared.event.Actor.TheVariants.{Task, Worker};
 ghost use Rattle.script_reader.specs.declared.statement.Statement.TheVariants.{Takes};
 
 use crate::operand::{Addressee, addressee_in, begins_number};
 use crate::operands::{Operands, token_bytes};
-use crate::paths::task_numbers;
+use crate::paths::task_name;
 use crate::word::Word;
 use hist_model::event::{Actor, Disposition};
 use hist_model::request::Node;
 use hist_model::script::{Figures, Insn, Instr, MapRange, Step, Whom};
-use hist_model::text::{Sequence, TaskName, Text};
+use hist_model::text::{Sequence, Text};
 use lex_core::{Token, TokenBytes};
 use std::alloc::{AllocError, Global};
-use std::mem;
 use sys_abi::calls::call_number;
 use sys_abi::memory::NoMemory;
 
 /// What a line states, from its own tokens alone. Numbers keep the ranges of their operands.
 #[derive(Drop)]
-pub enum Statement {
+pub enum Statement<'a> {
     /// `pidmax`, 1 to 4194304.
     Pidmax(u32),
     /// `pidbase`, 0 to 4194303.
@@ -34,18 +33,18 @@ pub enum Statement {
     Killable,
     /// A node of the tree.
     Node {
-        path: TokenBytes,
+        path: TokenBytes<'a>,
         node: Node,
     },
     /// `attr`, an attribute of a stated node.
     Attr {
-        path: TokenBytes,
+        path: TokenBytes<'a>,
         name: Text,
         value: Text,
     },
     /// `root`, the container's root.
     Root {
-        path: TokenBytes,
+        path: TokenBytes<'a>,
     },
     /// `broker`, a descriptor that is open in the broker.
     Broker(u32),
@@ -68,14 +67,14 @@ pub enum Statement {
     Insn(Insn),
     /// `prog`, which opens the block of a program.
     Prog {
-        name: TokenBytes,
+        name: TokenBytes<'a>,
     },
     /// An instruction of the program that is open, but for those that start programs.
     Does(Instr),
     /// `spawn`, or `thread`.
     Starts {
         thread: bool,
-        name: TokenBytes,
+        name: TokenBytes<'a>,
     },
     /// `schedule`, which opens the block of the schedule.
     Schedule,
@@ -85,18 +84,8 @@ pub enum Statement {
     End,
 }
 
-/// The bytes that a token stands for.
-fn into_bytes(token: Token) -> TokenBytes
-    ensures { result ≡ definitions.token_bytes token }
-{
-    match token {
-        Token::Bare(bytes) => bytes,
-        Token::Quoted(bytes) => bytes,
-    }
-}
-
 /// The bytes of the operand at a place; none behind the last one.
-fn bytes_at(operands: &Operands, place: usize) -> &[u8]
+fn bytes_at<'a>(operands: &Operands<'a>, place: usize) -> &'a [u8]
     ensures { result.now ≡ definitions.bytes_at operands.now place }
 {
     match operands.tokens().get(place) {
@@ -105,56 +94,43 @@ fn bytes_at(operands: &Operands, place: usize) -> &[u8]
     }
 }
 
-/// Takes the bytes of the operand at a place; none behind the last one.
-fn take_bytes(alloc: Global, operands: &mut Vec<Token>, place: usize) -> TokenBytes
-    ensures taken { result ≡ definitions.bytes_at operands.old.items place }
-    ensures others { (k : ℕ) → k ≢ place → definitions.bytes_at operands.new.items k ≡ definitions.bytes_at operands.old.items k }
+/// A copy of the bytes of the operand at a place; none behind the last one.
+fn text_at(alloc: Global, operands: &Operands<'_>, place: usize) -> Result<Text, AllocError>
+    ensures { IfOk result (λ text. text ≡ definitions.bytes_at operands.now place) }
 {
-    let none = TokenBytes::new(Vec::new(alloc));
-    if place >= operands.len() {
-        return none;
-    }
-    into_bytes(mem::replace(&mut operands[place], Token::Bare(none)))
-}
-
-/// Takes the text of the operand at a place; none behind the last one.
-fn take_text(alloc: Global, operands: &mut Vec<Token>, place: usize) -> Text
-    ensures taken { result ≡ definitions.bytes_at operands.old.items place }
-    ensures others { (k : ℕ) → k ≢ place → definitions.bytes_at operands.new.items k ≡ definitions.bytes_at operands.old.items k }
-{
-    Text::new(take_bytes(alloc, operands, place).into_items())
+    Ok(Text::new(Vec::from_slice(alloc, bytes_at(operands, place))?))
 }
 
 /// The number of 8 bits at a place, and 0 where there is none.
-fn byte_at(operands: &Operands, place: usize) -> u8
+fn byte_at(operands: &Operands<'_>, place: usize) -> u8
     ensures { result ≡ definitions.byte_at operands.now place }
 {
     u8::try_from(operands.number_at(place)).unwrap_or(0)
 }
 
 /// The number of 16 bits at a place, and 0 where there is none.
-fn half_at(operands: &Operands, place: usize) -> u16
+fn half_at(operands: &Operands<'_>, place: usize) -> u16
     ensures { result ≡ definitions.half_at operands.now place }
 {
     u16::try_from(operands.number_at(place)).unwrap_or(0)
 }
 
 /// The number of 32 bits at a place, and 0 where there is none.
-fn word_at(operands: &Operands, place: usize) -> u32
+fn word_at(operands: &Operands<'_>, place: usize) -> u32
     ensures { result ≡ definitions.word_at operands.now place }
 {
     u32::try_from(operands.number_at(place)).unwrap_or(0)
 }
 
 /// The number of 64 bits at a place, and 0 where there is none.
-fn wide_at(operands: &Operands, place: usize) -> u64
+fn wide_at(operands: &Operands<'_>, place: usize) -> u64
     ensures { result ≡ definitions.wide_at operands.now place }
 {
     u64::try_from(operands.number_at(place)).unwrap_or(0)
 }
 
 /// An argument of a call, modulo 2^64; 0 where it is missing.
-fn argument_at(operands: &Operands, place: usize) -> u64
+fn argument_at(operands: &Operands<'_>, place: usize) -> u64
     ensures { result ≡ definitions.argument_at operands.now place }
 {
     (operands.number_at(place).cast_unsigned() % (1 << 64)) as u64
@@ -168,7 +144,7 @@ fn call_named(name: &[u8]) -> i32
 }
 
 /// The number of a call at a place, below 2^31, and 0 where there is none.
-fn call_number_at(operands: &Operands, place: usize) -> i32
+fn call_number_at(operands: &Operands<'_>, place: usize) -> i32
     ensures { result ≡ pos (definitions.limited_at (2147483648) operands.now place) }
 {
     match u32::try_from(operands.number_at(place)) {
@@ -178,7 +154,7 @@ fn call_number_at(operands: &Operands, place: usize) -> i32
 }
 
 /// The number of the call that the first operand states by its number or its name.
-fn first_call(operands: &Operands) -> i32
+fn first_call(operands: &Operands<'_>) -> i32
     ensures { result ≡ definitions.call_at operands.now 0 }
 {
     if begins_number(bytes_at(operands, 0)) {
@@ -189,7 +165,7 @@ fn first_call(operands: &Operands) -> i32
 }
 
 /// How often an actor of the schedule steps.
-fn count_at(operands: &Operands, place: usize) -> u32
+fn count_at(operands: &Operands<'_>, place: usize) -> u32
     ensures { result ≡ definitions.count_at operands.now place }
 {
     if operands.tokens().len() == 1 {
@@ -211,7 +187,7 @@ fn disposition_of(name: &[u8]) -> Disposition
     }
 }
 
-fn kill(operands: &Operands) -> Instr
+fn kill(operands: &Operands<'_>) -> Instr
     ensures { result ≡ definitions.kill_of (definitions.addressee_in operands.now) operands.now }
 {
     let (whom, sig) = match addressee_in(operands.tokens()) {
@@ -223,7 +199,7 @@ fn kill(operands: &Operands) -> Instr
     Instr::Kill { whom, sig }
 }
 
-fn figures(operands: &Operands) -> Figures
+fn figures(operands: &Operands<'_>) -> Figures
     ensures { result ≡ definitions.stated_figures operands.now }
 {
     Figures {
@@ -240,7 +216,7 @@ fn figures(operands: &Operands) -> Figures
     }
 }
 
-fn arguments(operands: &Operands) -> [u64; 6]
+fn arguments(operands: &Operands<'_>) -> [u64; 6]
     ensures { result ≡ definitions.arguments operands.now }
 {
     [
@@ -253,7 +229,7 @@ fn arguments(operands: &Operands) -> [u64; 6]
     ]
 }
 
-fn call(operands: &Operands) -> Instr
+fn call(operands: &Operands<'_>) -> Instr
     ensures { result ≡ definitions.call_of operands.now }
 {
     Instr::Call {
@@ -262,52 +238,48 @@ fn call(operands: &Operands) -> Instr
     }
 }
 
-/// Takes the bytes of the first operand; none where there is none.
-fn take_first(alloc: Global, operands: Operands) -> TokenBytes
-    ensures { result ≡ definitions.bytes_at operands 0 }
+/// The bytes of the first operand, where they stand; none where there is none.
+fn first_bytes<'a>(operands: &Operands<'a>) -> TokenBytes<'a>
+    ensures { result ≡ definitions.bytes_at operands.now 0 }
 {
-    take_bytes(alloc, &mut operands.into_tokens(), 0)
+    TokenBytes::in_line(bytes_at(operands, 0))
 }
 
-fn node(alloc: Global, operands: Operands, node: Node) -> Statement
-    ensures { result ≡ definitions.node_stated operands node }
+fn node<'a>(operands: &Operands<'a>, node: Node) -> Statement<'a>
+    ensures { result ≡ definitions.node_stated operands.now node }
 {
     Statement::Node {
-        path: take_first(alloc, operands),
+        path: first_bytes(operands),
         node,
     }
 }
 
-fn link(alloc: Global, operands: Operands) -> Statement
-    ensures { result ≡ definitions.link_stated operands }
+fn link<'a>(alloc: Global, operands: &Operands<'a>) -> Result<Statement<'a>, AllocError>
+    ensures { IfOk result (λ s. s ≡ definitions.link_stated operands.now) }
 {
-    let mut tokens = operands.into_tokens();
-    let target = take_text(alloc, &mut tokens, 1);
-    Statement::Node {
-        path: take_bytes(alloc, &mut tokens, 0),
-        node: Node::Link(target),
-    }
+    Ok(node(operands, Node::Link(text_at(alloc, operands, 1)?)))
 }
 
-fn attr(alloc: Global, operands: Operands) -> Statement
-    ensures { result ≡ definitions.attr_stated operands }
+fn attr<'a>(alloc: Global, operands: &Operands<'a>) -> Result<Statement<'a>, AllocError>
+    ensures { IfOk result (λ s. s ≡ definitions.attr_stated operands.now) }
 {
-    let mut tokens = operands.into_tokens();
-    let value = take_text(alloc, &mut tokens, 2);
-    let name = take_text(alloc, &mut tokens, 1);
-    let path = take_bytes(alloc, &mut tokens, 0);
-    Statement::Attr { path, name, value }
+    Ok(Statement::Attr {
+        path: first_bytes(operands),
+        name: text_at(alloc, operands, 1)?,
+        value: text_at(alloc, operands, 2)?,
+    })
 }
 
-fn poke(alloc: Global, operands: Operands) -> Instr
-    ensures { result ≡ definitions.poke_of operands }
+fn poke(alloc: Global, operands: &Operands<'_>) -> Result<Instr, AllocError>
+    ensures { IfOk result (λ i. i ≡ definitions.poke_of operands.now) }
 {
-    let addr = wide_at(&operands, 0);
-    let bytes = take_text(alloc, &mut operands.into_tokens(), 1);
-    Instr::Poke { addr, bytes }
+    Ok(Instr::Poke {
+        addr: wide_at(operands, 0),
+        bytes: text_at(alloc, operands, 1)?,
+    })
 }
 
-fn call_numbers(alloc: Global, names: &[Token]) -> Result<Vec<i32>, AllocError>
+fn call_numbers(alloc: Global, names: &[Token<'_>]) -> Result<Vec<i32>, AllocError>
     ensures { IfOk result (λ numbers. numbers.items ≡ definitions.calls_named names.now) }
 {
     names
@@ -319,14 +291,13 @@ fn call_numbers(alloc: Global, names: &[Token]) -> Result<Vec<i32>, AllocError>
 fn task_step(alloc: Global, operands: &Operands) -> Result<Step, NoMemory>
     ensures { IfOk result (λ step. step ≡ definitions.task_step operands.now) }
 {
-    let name = TaskName::new(task_numbers(alloc, bytes_at(operands, 0))?);
     Ok(Step {
-        who: Actor::Task(name),
+        who: Actor::Task(task_name(alloc, bytes_at(operands, 0))?),
         count: count_at(operands, 1),
     })
 }
 
-fn worker_step(operands: &Operands) -> Step
+fn worker_step(operands: &Operands<'_>) -> Step
     ensures { result ≡ definitions.worker_step operands.now }
 {
     Step {
@@ -335,75 +306,79 @@ fn worker_step(operands: &Operands) -> Step
     }
 }
 
-/// What a line with this word states, where its operands have no fault. Texts are moved.
-pub fn statement_of(alloc: Global, word: Word, operands: Operands) -> Result<Statement, NoMemory>
-    ensures { IfOk result (λ s. s ≡ definitions.statement word operands) }
+/// What a line with this word states, where its operands have no fault. Texts that the script keeps are copied, but for paths and names.
+pub fn statement_of<'a>(
+    alloc: Global,
+    word: Word,
+    operands: &Operands<'a>,
+) -> Result<Statement<'a>, NoMemory>
+    ensures { IfOk result (λ s. s ≡ definitions.statement word operands.now) }
 {
     Ok(match word {
-        Word::Pidmax => Statement::Pidmax(word_at(&operands, 0)),
-        Word::Pidbase => Statement::Pidbase(word_at(&operands, 0)),
-        Word::Firstid => Statement::Firstid(wide_at(&operands, 0)),
-        Word::Rlimit => Statement::Rlimit(word_at(&operands, 0)),
+        Word::Pidmax => Statement::Pidmax(word_at(operands, 0)),
+        Word::Pidbase => Statement::Pidbase(word_at(operands, 0)),
+        Word::Firstid => Statement::Firstid(wide_at(operands, 0)),
+        Word::Rlimit => Statement::Rlimit(word_at(operands, 0)),
         Word::Killable => Statement::Killable,
-        Word::Dir => node(alloc, operands, Node::Dir),
-        Word::Reg => node(alloc, operands, Node::Reg),
-        Word::Fifo => node(alloc, operands, Node::Fifo),
-        Word::Sock => node(alloc, operands, Node::Sock),
-        Word::Link => link(alloc, operands),
+        Word::Dir => node(operands, Node::Dir),
+        Word::Reg => node(operands, Node::Reg),
+        Word::Fifo => node(operands, Node::Fifo),
+        Word::Sock => node(operands, Node::Sock),
+        Word::Link => link(alloc, operands)?,
         Word::Chr => {
-            let device = Node::Chr(word_at(&operands, 1), word_at(&operands, 2));
-            node(alloc, operands, device)
+            let device = Node::Chr(word_at(operands, 1), word_at(operands, 2));
+            node(operands, device)
         }
         Word::Blk => {
-            let device = Node::Blk(word_at(&operands, 1), word_at(&operands, 2));
-            node(alloc, operands, device)
+            let device = Node::Blk(word_at(operands, 1), word_at(operands, 2));
+            node(operands, device)
         }
-        Word::Attr => attr(alloc, operands),
+        Word::Attr => attr(alloc, operands)?,
         Word::Root => Statement::Root {
-            path: take_first(alloc, operands),
+            path: first_bytes(operands),
         },
-        Word::Broker => Statement::Broker(word_at(&operands, 0)),
+        Word::Broker => Statement::Broker(word_at(operands, 0)),
         Word::Map => Statement::Map(MapRange {
-            start: wide_at(&operands, 0),
-            pages: word_at(&operands, 1),
+            start: wide_at(operands, 0),
+            pages: word_at(operands, 1),
         }),
         Word::Cgroup => Statement::Cgroup {
-            memory: wide_at(&operands, 0),
-            swap: wide_at(&operands, 1),
+            memory: wide_at(operands, 0),
+            swap: wide_at(operands, 1),
         },
-        Word::Figures => Statement::Figures(figures(&operands)),
+        Word::Figures => Statement::Figures(figures(operands)),
         Word::Notify => Statement::Notify(Sequence::new(call_numbers(alloc, operands.tokens())?)),
         Word::Filter => Statement::Filter {
             listener: !operands.tokens().is_empty(),
         },
         Word::Prog => Statement::Prog {
-            name: take_first(alloc, operands),
+            name: first_bytes(operands),
         },
-        Word::Poke => Statement::Does(poke(alloc, operands)),
+        Word::Poke => Statement::Does(poke(alloc, operands)?),
         Word::Fill => Statement::Does(Instr::Fill {
-            addr: wide_at(&operands, 0),
-            len: word_at(&operands, 1),
-            byte: byte_at(&operands, 2),
+            addr: wide_at(operands, 0),
+            len: word_at(operands, 1),
+            byte: byte_at(operands, 2),
         }),
-        Word::Call => Statement::Does(call(&operands)),
+        Word::Call => Statement::Does(call(operands)),
         Word::Spawn => Statement::Starts {
             thread: false,
-            name: take_first(alloc, operands),
+            name: first_bytes(operands),
         },
         Word::Thread => Statement::Starts {
             thread: true,
-            name: take_first(alloc, operands),
+            name: first_bytes(operands),
         },
-        Word::Kill => Statement::Does(kill(&operands)),
+        Word::Kill => Statement::Does(kill(operands)),
         Word::Handler => Statement::Does(Instr::Handler {
-            sig: byte_at(&operands, 0),
-            disposition: disposition_of(bytes_at(&operands, 1)),
+            sig: byte_at(operands, 0),
+            disposition: disposition_of(bytes_at(operands, 1)),
         }),
         Word::Wait => Statement::Does(Instr::Wait),
         Word::Exit => Statement::Does(Instr::Exit),
         Word::Schedule => Statement::Schedule,
-        Word::Task => Statement::Takes(task_step(alloc, &operands)?),
-        Word::Worker => Statement::Takes(worker_step(&operands)),
+        Word::Task => Statement::Takes(task_step(alloc, operands)?),
+        Word::Worker => Statement::Takes(worker_step(operands)),
         Word::End => Statement::End,
     })
 }

@@ -10,7 +10,7 @@ use crate::settings::Found;
 use hist_model::request::{Node, NodeRef};
 use hist_model::script::TreeLine;
 use hist_model::text::Text;
-use lex_core::{Reason, TokenBytes};
+use lex_core::Reason;
 use std::alloc::Global;
 use std::collections::BTreeMap;
 use sys_abi::memory::{NoMemory, OrNoMemory};
@@ -156,16 +156,16 @@ impl StatedTree {
     pub fn add_node(
         &mut self,
         alloc: Global,
-        path: TokenBytes,
+        path: &[u8],
         node: Node,
     ) -> Result<(), OrNoMemory<Fault>>
-        ensures { Admits (definitions.node_fault (tree_in self.old) path) (definitions.with_node path node (tree_in self.old)) result (tree_in self.new) }
+        ensures { Admits (definitions.node_fault (tree_in self.old) path.now) (definitions.with_node path.now node (tree_in self.old)) result (tree_in self.new) }
     {
-        match self.refuse_node(path.items()) {
+        match self.refuse_node(path) {
             Ok(()) => {
                 let directory = is_directory(&node);
-                let line = self.made(alloc, path.items(), node)?;
-                self.state_node(path.into_items(), directory, line)?;
+                let line = self.made(alloc, path, node)?;
+                self.state_node(Vec::from_slice(alloc, path)?, directory, line)?;
                 Ok(())
             }
             Err(fault) => Err(OrNoMemory::Refused(fault)),
@@ -175,14 +175,14 @@ impl StatedTree {
     /// States an attribute. `BadPath` comes where the path isn't stated.
     pub fn add_attr(
         &mut self,
-        path: TokenBytes,
+        path: &[u8],
         name: Text,
         value: Text,
     ) -> Result<(), OrNoMemory<Fault>>
-        ensures { Admits (definitions.attr_fault (tree_in self.old) path) (definitions.with_attr path name value (tree_in self.old)) result (tree_in self.new) }
+        ensures { Admits (definitions.attr_fault (tree_in self.old) path.now) (definitions.with_attr path.now name value (tree_in self.old)) result (tree_in self.new) }
     {
-        self.refuse_attr(path.items()).map_err(OrNoMemory::Refused)?;
-        let on = self.node_at(path.items());
+        self.refuse_attr(path).map_err(OrNoMemory::Refused)?;
+        let on = self.node_at(path);
         self.push(TreeLine::Attr { on, name, value })?;
         Ok(())
     }

@@ -136,6 +136,7 @@ fn word_at(table: &[Row], place: usize, bytes: &[u8]) -> Option<Word>
 }
 
 /// The word that is written so. It is the one with the slot of these bytes, or none.
+#[inline(always)]
 pub fn word_of(bytes: &[u8]) -> Option<Word>
     ensures { result ≡ word_of bytes.now }
 {

@@ -9,10 +9,10 @@ use Rattle.script_reader.proofs.builder.Builder.read.Goals as goal
 pub returns-clause-becomes : goal.returns-clause-becomes
 returns-clause-becomes c =
     let A = above_in c.args.self.now in
-    let stated : tokens_statement c.args.self.now.part (is_some c.args.self.now.settings.pidbase) c.args.line.tokens ≡ Ok c.in_ok-statement.statement =
-    subst (λ b. tokens_statement c.args.self.now.part b c.args.line.tokens ≡ Ok c.in_ok-statement.statement) c.is_some-base_is_stated.ensures c.in_ok-statement.ensures.reading
+    let stated : tokens_statement c.args.self.now.part (is_some c.args.self.now.settings.pidbase) c.args.line.now.tokens ≡ Ok c.in_ok-statement.statement =
+    subst (λ b. tokens_statement c.args.self.now.part b c.args.line.now.tokens ≡ Ok c.in_ok-statement.statement) c.is_some-base_is_stated.ensures c.in_ok-statement.ensures.reading
     in
-    subst (λ r. Becomes (with_reading c.args.line.number (beside A r) A) c.join.result (above_in c.join.new.self)) (sym stated) c.join.ensures.becomes
+    subst (λ r. Becomes (with_reading c.args.line.now.number (beside A r) A) c.join.result (above_in c.join.new.self)) (sym stated) c.join.ensures.becomes
 
 pub returns-clause-kept : goal.returns-clause-kept
 returns-clause-kept c = c.join.ensures.kept
