@@ -1,5 +1,6 @@
-pub mod InOrder
 pub mod Places
+pub mod Newest
+pub mod Chained
 pub mod Walks
 pub mod Attributes
 pub mod Found

@@ -1,4 +1,5 @@
 pub mod Keys
+pub mod Chains
 pub mod Places
 pub mod Changes
 pub mod Stacks

@@ -3,7 +3,7 @@
 ghost use Rattle.std.specs.Prelude.{◌≡◌};
 ghost use Rattle.mount_tree.specs.Keys.{node_key, attr_key, mount_key, covered_key, alike_key};
 
-use crate::table::Row;
+use crate::keys::Row;
 use hist_model::request::MountRow;
 use hist_model::tree::{AttrRow, Mounted, NodeRow};
 use std::alloc::Global;

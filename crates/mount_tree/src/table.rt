@@ -1,81 +1,24 @@
 //! Rows that are found by their keys.
 
-ghost use Rattle.std.specs.Prelude.{◌≡◌, ℕ, List, ◌∷◌, ◌+◌, ◌<◌, ◌≤◌, ◌^◌, [], true, false, length, reverse, None, Some, IfOk, IfSome, IfNone, OnOk, OnErr};
-ghost use Rattle.mount_tree.specs.Keys as definitions;
-ghost use Rattle.std.specs.Ordering.{is_eq};
-ghost use Rattle.mount_tree.specs.Keys.{Key, key_cmp, rank, key_of, key_in, newest, newest_row, IsOrder, IsEnd};
+ghost use Rattle.std.specs.Prelude.{◌≡◌, ℕ, List, ◌∷◌, ◌<◌, ◌^◌, [], true, false, length, reverse, None, Some, IfSome, IfNone, OnOk, OnErr};
+ghost use Rattle.mount_tree.specs.Keys.{key_of, newest, newest_row};
 
-use crate::keys::key_order;
+use crate::index::Index;
+use crate::keys::Row;
 use hist_model::text::Text;
 use hist_model::tree::{AttrRow, NodeRow};
 use std::alloc::Global;
-use std::cmp::Ordering;
 use std::marker::Model;
 use sys_abi::memory::NoMemory;
 
 /// As many rows as a table has at most.
 const MAX_ROWS: usize = 4_294_967_295;
 
-/// A row that is found by its key: its owner, if it has one, and its name.
-pub trait Row {
-    /// Its key.
-    ghost key: { Self → Key };
-
-    /// The ordinal of its owner.
-    fn owner(&self) -> Option<u32>
-        ensures { rank result ≡ (key self.now).owner };
-
-    /// Its name.
-    fn name(&self) -> &[u8]
-        ensures { result.now ≡ (key self.now).name };
-
-    /// Gives it memory for its texts and no more. After `NoMemory` it is as it was.
-    fn make_exact(&mut self, alloc: Global) -> Result<(), NoMemory>
-        ensures { self.new ≡ self.old };
-}
-
-/// How the key of the row with this ordinal stands to another one. Where there is no such row, it has no owner and no name.
-#[tactic(auto, using(crate::proofs::InOrder::past_keyed, crate::proofs::InOrder::none_keyed))]
-fn row_order<T: Row>(rows: &[T], n: u32, owner: Option<u32>, name: &[u8]) -> Ordering
-    ensures { result ≡ key_cmp (key_in T.key (reverse rows.now) n) (key_of owner name.now) }
-{
-    let n = n as usize;
-    if n >= rows.len() {
-        return key_order(None, &[], owner, name);
-    }
-    let row = &rows[n];
-    key_order(row.owner(), row.name(), owner, name)
-}
-
-/// Whether the key of the row with this ordinal isn't above another one.
-fn is_up_to<T: Row>(rows: &[T], n: u32, owner: Option<u32>, name: &[u8]) -> bool
-    ensures { result ≡ definitions.is_up_to (key_in T.key (reverse rows.now)) (key_of owner name.now) n }
-{
-    !row_order(rows, n, owner, name).is_gt()
-}
-
-/// Whether the row with this ordinal has this key.
-fn is_key<T: Row>(rows: &[T], n: u32, owner: u32, name: &[u8]) -> bool
-    ensures { result ≡ is_eq (key_cmp (key_in T.key (reverse rows.now) n) (key_of (Some owner) name.now)) }
-{
-    row_order(rows, n, Some(owner), name).is_eq()
-}
-
-/// The place behind the rows whose keys aren't above this one.
-fn end<T: Row>(rows: &[T], order: &[u32], owner: Option<u32>, name: &[u8]) -> usize
-    ensures bound { result ≤ length order.now }
-    ensures parted { IsOrder (key_in T.key (reverse rows.now)) (length (reverse rows.now)) order.now
-        → IsEnd (key_in T.key (reverse rows.now)) (key_of owner name.now) order.now result }
-{
-    order.partition_point(|n| is_up_to(rows, *n, owner, name))
-}
-
-/// Rows that are kept the oldest first, with their ordinals in the order of the keys. Contracts see them the newest first.
+/// Rows that are kept the oldest first, with an index of their keys. Contracts see them the newest first.
 #[derive(Drop)]
 pub struct Table<T: Row> {
     rows: Vec<T>,
-    /// The ordinals in the order of the keys, and under one key the oldest first.
-    order: Vec<u32>,
+    index: Index,
     /// There is room for one more row.
     roomy: bool,
     /// The row that may have more memory than its texts need.
@@ -83,16 +26,17 @@ pub struct Table<T: Row> {
 }
 
 impl<T: Row> Model for Table<T> {
-    ghost use Rattle.std.specs.Prelude.{◌≡◌, ◌<◌, ◌≤◌, true, length, reverse, vec_capacity, vec_len};
-    ghost use Rattle.mount_tree.specs.Keys.{Kept, key_in, IsOrder};
+    ghost use Rattle.std.specs.Prelude.{◌≡◌, ◌<◌, ◌≤◌, true, map, reverse, vec_capacity, vec_len};
+    ghost use Rattle.mount_tree.specs.Keys.{Kept};
+    ghost use Rattle.mount_tree.specs.Chains.{FollowKeys, HaveRoom};
 
     ghost Value = { Kept T };
 
     ghost view = { λ t. record { rows = reverse t.rows.items; roomy = t.roomy } };
 
-    ghost invariant = { λ t. IsOrder (key_in T.key (reverse t.rows.items)) (length (reverse t.rows.items)) t.order.items × (vec_len t.rows ≤ 4294967295)
+    ghost invariant = { λ t. FollowKeys (map T.key t.rows.items) t.index × (vec_len t.rows ≤ 4294967295)
         × (t.roomy ≡ true → vec_len t.rows < 4294967295) × (t.roomy ≡ true → vec_len t.rows < vec_capacity t.rows)
-        × (t.roomy ≡ true → vec_len t.order < vec_capacity t.order) };
+        × (t.roomy ≡ true → HaveRoom t.index) };
 }
 
 impl<T: Row + Drop> Table<T> {
@@ -102,7 +46,7 @@ impl<T: Row + Drop> Table<T> {
     {
         Table {
             rows: Vec::new(alloc),
-            order: Vec::new(alloc),
+            index: Index::new(alloc),
             roomy: false,
             loose: None,
         }
@@ -118,7 +62,8 @@ impl<T: Row + Drop> Table<T> {
             return Err(NoMemory);
         }
         self.rows.reserve(1)?;
-        self.order.reserve(1)?;
+        let alloc = *self.rows.allocator();
+        self.index.reserve(alloc, self.rows.as_slice())?;
         self.roomy = true;
         Ok(())
     }
@@ -163,21 +108,7 @@ impl<T: Row + Drop> Table<T> {
         ensures found { result ≡ newest T.key self.now.rows (key_of (Some owner) name.now) }
         ensures below { IfSome result (λ n. n < length self.now.rows) }
     {
-        let place = end(
-            self.rows.as_slice(),
-            self.order.as_slice(),
-            Some(owner),
-            name,
-        );
-        if place == 0 {
-            return None;
-        }
-        let n = self.order[place - 1];
-        if is_key(self.rows.as_slice(), n, owner, name) {
-            Some(n)
-        } else {
-            None
-        }
+        self.index.find(self.rows.as_slice(), owner, name)
     }
 
     /// The newest row of an owner under a name, itself.
@@ -198,15 +129,7 @@ impl<T: Row + Drop> Table<T> {
         ensures rows { self.new ≡ record { rows = row ∷ self.old.rows; roomy = false } }
     {
         let n = self.rows.len();
-        let place = end(
-            self.rows.as_slice(),
-            self.order.as_slice(),
-            row.owner(),
-            row.name(),
-        );
-        let Ok(()) = self.order.insert(place, n as u32) else {
-            unreachable!()
-        };
+        self.index.push(&row);
         self.rows.push_reserved(row);
         self.roomy = false;
         self.loose = Some(n);

@@ -1,6 +1,6 @@
 use Rattle.std.proofs.Common.{◌∙◌, ap, sym, Some}
 use Rattle.mount_tree.specs.Keys.{key_of}
-use Rattle.mount_tree.proofs.InOrder.{newest_past, newest_absent}
+use Rattle.mount_tree.proofs.Newest.{newest_past, newest_absent}
 use Rattle.mount_tree.proofs.table.Table.find_row.Goals as goal
 
 pub returns-in-Some-clause-some : goal.returns-in-Some-clause-some
