@@ -1,6 +1,6 @@
 -- The tables after a step that leaves some of them as they are.
 -- By the law of each table on events that are other for it, and by cases on the step.
-use Rattle.std.proofs.Common.{◌≡◌, ℕ, true, false, List, [], ◌∷◌, None, refl, sym, ◌∙◌, Ok, Err}
+use Rattle.std.proofs.Common.{◌≡◌, ℕ, true, List, [], ◌∷◌, None, refl, sym, ◌∙◌, Ok, Err}
 use Rattle.std.proofs.lemmas.Bool.{and_parts, not-true}
 use Rattle.hist_model.specs.Files.{files, files_after}
 use Rattle.hist_model.specs.Legal.{tree}

@@ -1,6 +1,6 @@
 -- The table of requests has one of a worker exactly where the history has one that was put and not taken.
 -- By the lemma of `listener` on the requests of one that stands for its history.
-use Rattle.std.proofs.Common.{◌≡◌, ℕ, true, false, Option, Some, None, refl, sym, ap, ◌∙◌, is_some}
+use Rattle.std.proofs.Common.{◌≡◌, ℕ, true, false, Option, Some, None, refl, ap, ◌∙◌, is_some}
 use Rattle.listener.specs.Requests.{has_request}
 use Rattle.listener.proofs.Stand.{asks}
 use Rattle.hist_model.specs.Steps.{request_of}

@@ -1,6 +1,6 @@
 -- A kernel after a step of a task.
 -- By the tasks and the other tables, which all took the step.
-use Rattle.std.proofs.Common.{◌≡◌, ◌+◌, ◌-◌, ◌<◌, ◌==◌, ◌&&◌, ◌^◌, ℕ, Bool, true, false, not, if◌then◌else◌, List, ◌∷◌, Some, None, Option, refl, sym, ap, ◌∙◌, arith, subst, ℤ}
+use Rattle.std.proofs.Common.{◌≡◌, ◌+◌, ◌<◌, ◌==◌, ◌&&◌, ◌^◌, ℕ, Bool, true, false, not, if◌then◌else◌, List, ◌∷◌, Some, None, Option, refl, sym, ap, ◌∙◌, arith, subst, ℤ}
 use Rattle.hist_model.specs.Calls.{id, fetched}
 use Rattle.hist_model.specs.Kinds.{ends, exits, leaves, makes, skips}
 use Rattle.hist_model.specs.declared.event.Delivered.{Delivered}

@@ -41,6 +41,16 @@ names_child (Some (instr.Thread program)) = true
 names_child (Some instr.Wait) = true
 names_child i = false
 
+-- the instruction makes a child
+abbrev pub makes_child : Option Instr → Bool
+makes_child (Some (instr.Spawn program)) = true
+makes_child (Some (instr.Thread program)) = true
+makes_child i = false
+
+-- where the next instruction of the task makes a child, that takes no memory
+abbrev pub HasChildRoom : Kernel → ℕ → Type 0
+HasChildRoom k o = makes_child (own_instr k o) ≡ true → HasTaskRoom k.tasks o
+
 -- the next instruction of the task stores these bytes, and where it names a child, so many numbers are enough for its name
 pub record IsSupplied (k : Kernel) (o : ℕ) (bytes : List ℕ) (numbers : ℕ) : Type 0 where
   pub bytes_are : stored_by (own_instr k o) ≡ bytes
@@ -75,7 +85,7 @@ pub record IsReadyFor (k : Kernel) (o : ℕ) (r : ReadyTask) : Type 0 where
   pub few : length (past k) < 2 ^ 64
   pub event : 0 < k.history.spare
   pub name : r.name ≡ named k o
-  pub tasks : HasTaskRoom k.tasks o
+  pub tasks : HasChildRoom k o
   pub next : IsNext k o r.next
   pub resources : HasNextRoom k o r.next
 

@@ -71,6 +71,11 @@ abbrev pub IsStepped : Kernel → ℕ → Result (Unit {0}) CannotStep → Kerne
 IsStepped old o (Ok u) new = TakesStep old o new × (skips (due_step old o) ≡ false)
 IsStepped old o (Err e) new = (new ≡ old) × (due_step old o ≡ Skip)
 
+-- where the task's next step is one, it was taken; else all is as it was, and the task's name is given back
+abbrev pub IsTried : Kernel → ℕ → Result (Unit {0}) Name → Kernel → Type 0
+IsTried old o (Ok u) new = TakesStep old o new × (skips (due_step old o) ≡ false)
+IsTried old o (Err name) new = (new ≡ old) × (due_step old o ≡ Skip) × (name ≡ named old o)
+
 -- the signal that is due next for a task
 abbrev pub signal_due : Kernel → ℕ → Option ℕ
 signal_due k o = next_signal k.script.killable (past k) (named k o)

@@ -7,9 +7,9 @@ ghost use Rattle.hist_model.specs.Signals.{call_of};
 ghost use Rattle.hist_model.specs.Steps.{next_instr, owes_native};
 ghost use Rattle.hist_model.specs.Tasks.{ended};
 ghost use Rattle.history_frames.specs.Ordinals.{tasks_made};
-ghost use Rattle.tasks.specs.Stands.{HasRoom as HasTaskRoom, ended_at};
+ghost use Rattle.tasks.specs.Stands.{ended_at};
 ghost use Rattle.model_kernel.specs.Kernels.{IsKernel, past, system};
-ghost use Rattle.model_kernel.specs.Ready.{HasNextRoom, IsNext, IsOwed, IsReadyFor, IsSame, names_child, stored_by};
+ghost use Rattle.model_kernel.specs.Ready.{HasChildRoom, HasNextRoom, IsNext, IsOwed, IsReadyFor, IsSame, makes_child, names_child, stored_by};
 ghost use Rattle.model_kernel.specs.Steps.{MayStep, named};
 
 use crate::kernel::Kernel;
@@ -73,6 +73,13 @@ fn names_child(instr: Option<&Instr>) -> bool
         instr,
         Some(Instr::Spawn { .. } | Instr::Thread { .. } | Instr::Wait)
     )
+}
+
+/// Whether an instruction makes a child.
+fn makes_child(instr: Option<&Instr>) -> bool
+    ensures { result ≡ makes_child (option_copied instr.entry) }
+{
+    matches!(instr, Some(Instr::Spawn { .. } | Instr::Thread { .. }))
 }
 
 /// Room for the name of a child of the task with this name, if an instruction names one.
@@ -162,16 +169,21 @@ impl Kernel {
         }
     }
 
-    /// Makes room in the history for one more event, and in the tables of the tasks for one more child of a task.
+    /// Makes room in the history for one more event, and in the tables of the tasks for a child of a task, if its next
+    /// instruction makes one.
     fn ready_rows(&mut self, task: u32) -> Result<(), NoMemory>
-        requires { IsKernel self.old }
+        requires kernel { IsKernel self.old }
+        requires made { task < tasks_made (past self.old) }
         ensures kernel { IsKernel self.new }
         ensures past { past self.new ≡ past self.old }
         ensures same { self.new ≡ record self.old { history = self.new.history; tasks = self.new.tasks } }
         ensures event { OnOk result (0 < self.new.history.spare) }
-        ensures tasks { OnOk result (HasTaskRoom self.new.tasks task) }
+        ensures tasks { OnOk result (HasChildRoom self.new task) }
     {
         self.history.ready(1)?;
+        if !makes_child(self.tasks.next_instr(&self.script, task)) {
+            return Ok(());
+        }
         self.tasks.ready(task)
     }
 
@@ -182,7 +194,7 @@ impl Kernel {
         ensures same { IsSame self.old self.new }
         ensures few { length (past self.new) < 2 ^ 64 }
         ensures event { IfOk result (λ next. 0 < self.new.history.spare) }
-        ensures tasks { IfOk result (λ next. HasTaskRoom self.new.tasks task) }
+        ensures tasks { IfOk result (λ next. HasChildRoom self.new task) }
         ensures next { IfOk result (λ next. IsNext self.new task next) }
         ensures resources { IfOk result (λ next. HasNextRoom self.new task next) }
     {

@@ -1,6 +1,6 @@
 //! What tasks do next (seccomp(2), clone(2), wait(2), kill(2), sigaction(2), signal(7)).
 
-ghost use Rattle.std.specs.Prelude.{◌≡◌, ℕ, ◌<◌, ◌+◌, ◌%◌, ◌^◌, ◌∷◌, List, length, Some, vec_capacity, None, true, false, ◌&&◌, IfSome, IfNone};
+ghost use Rattle.std.specs.Prelude.{◌≡◌, ℕ, ◌<◌, ◌+◌, ◌%◌, ◌^◌, ◌∷◌, List, length, Some, Ok, vec_capacity, None, true, false, ◌&&◌, IfSome, IfNone};
 ghost use Rattle.hist_model.specs.Look.{ev, oldest};
 ghost use Rattle.hist_model.specs.Signals.{call_of};
 ghost use Rattle.hist_model.specs.Steps.{found, is_child, is_ended_child, next_child, next_instr, owes_native, spawn_answer, wait_step, with_id};
@@ -8,9 +8,9 @@ ghost use Rattle.hist_model.specs.Tasks.{holder, next_pid};
 ghost use Rattle.hist_model.specs.declared.event.Actor.TheVariants.{Task};
 ghost use Rattle.hist_model.specs.declared.event.What.TheVariants.{Enter, Handler, Native, Poke, Resume, Signal, Skip, Spawn};
 ghost use Rattle.model_kernel.specs.Kernels.{IsAfter, IsKernel, past, system};
-ghost use Rattle.model_kernel.specs.Ready.{HasNextRoom, IsNext, IsReadyFor, IsSupplied, own_step};
+ghost use Rattle.model_kernel.specs.Ready.{HasChildRoom, HasNextRoom, IsNext, IsReadyFor, IsSupplied, own_step};
 ghost use Rattle.model_kernel.specs.declared.ready.Next.TheVariants.{Runs};
-ghost use Rattle.model_kernel.specs.Steps.{Acts, IsStepped, IsDeliveredFirst, IsInstallDue, MayStep, TakesStep, WaitsIn, due_step, is_unlisted, left_by, named, signal_due};
+ghost use Rattle.model_kernel.specs.Steps.{Acts, IsStepped, IsDeliveredFirst, IsInstallDue, MayStep, IsTried, TakesStep, WaitsIn, due_step, is_unlisted, left_by, named, signal_due};
 ghost use Rattle.hist_model.specs.Kinds.{ends, exits, makes};
 ghost use Rattle.hist_model.specs.declared.event.Event.{Event};
 ghost use Rattle.hist_model.specs.declared.script.Script.{Script};
@@ -48,6 +48,8 @@ pub struct CannotStep;
 
 impl Kernel {
     /// Appends a step of a task, for which there is room.
+    // (a step's variant is known where it is noted, so that each is written into the history as it is made)
+    #[inline(always)]
     fn note_step(&mut self, name: TaskName, what: What)
         requires { 0 < self.old.history.spare }
         ensures events { past self.new ≡ ev (Task name) what ∷ past self.old }
@@ -57,6 +59,18 @@ impl Kernel {
             who: Actor::Task(name),
             what,
         });
+    }
+
+    /// Appends a step of a task, for which there is room, so that no name is given back.
+    #[inline(always)]
+    fn take_step(&mut self, name: TaskName, what: What) -> Result<(), TaskName>
+        requires { 0 < self.old.history.spare }
+        ensures ok { result ≡ Ok tt }
+        ensures events { past self.new ≡ ev (Task name) what ∷ past self.old }
+        ensures same { self.new ≡ record self.old { history = self.new.history } }
+    {
+        self.note_step(name, what);
+        Ok(())
     }
 
     /// The listed call with this id, in which a task waits, returns.
@@ -159,24 +173,29 @@ impl Kernel {
         what
     }
 
-    /// The step of a task that waits in the listed call with this id: the call returns where it was settled, else a due
-    /// signal is delivered, else the oldest request of the call is installed, for which there is room. None exactly where
-    /// there is nothing of these, which leaves all as it was.
-    fn waiting_step(&mut self, task: u32, id: u64) -> Option<What>
+    /// Takes the step of a task that waits in the listed call with this id: the call returns where it was settled, else a due
+    /// signal is delivered, else the oldest request of the call is installed, for which there is room. The name is given back
+    /// exactly where there is nothing of these, which leaves all as it was.
+    fn waiting_step(&mut self, task: u32, name: TaskName, id: u64) -> Result<(), TaskName>
         requires ready { MayStep self.old task }
+        requires event { 0 < self.old.history.spare }
+        requires name { name ≡ named self.old task }
         requires waits { (c : ℕ) × WaitsIn self.old task c id }
         requires room { HasRoomFor self.old.resources.groups (group_at self.old.tasks task) 0 }
-        ensures step { IfSome result (λ w. Acts self.old task w self.new) }
-        ensures none { IfNone result ((self.new ≡ self.old) × (due_step self.old task ≡ Skip)) }
+        ensures { IsTried self.old task result self.new }
     {
         if let Some(back) = self.resources.listener.settled_back(id) {
-            return Some(self.resume(task, id, back));
+            let what = self.resume(task, id, back);
+            return self.take_step(name, what);
         }
         if let Some(what) = self.deliver_inside(task, id) {
-            return Some(what);
+            return self.take_step(name, what);
         }
-        let asked = self.resources.listener.next_request(id)?;
-        Some(self.install(task, id, &asked))
+        let Some(asked) = self.resources.listener.next_request(id) else {
+            return Err(name);
+        };
+        let what = self.install(task, id, &asked);
+        self.take_step(name, what)
     }
 
     /// A task runs the native call that it owes, for which there is room. The answers are those of `Resources::run`.
@@ -325,69 +344,112 @@ impl Kernel {
     }
 
     /// Takes the step of a task's next instruction, with the bytes that it stores and room for the name of a child. The tables
-    /// have room for it. None exactly where that is a wait for children of which none has ended, which leaves all as it was.
-    fn run(&mut self, task: u32, bytes: Text, room: Vec<u32>) -> Option<What>
+    /// have room for it. The name is given back exactly where that is a wait for children of which none has ended, which
+    /// leaves all as it was.
+    fn run(
+        &mut self,
+        task: u32,
+        name: TaskName,
+        bytes: Text,
+        room: Vec<u32>,
+    ) -> Result<(), TaskName>
         requires ready { MayStep self.old task }
+        requires event { 0 < self.old.history.spare }
+        requires name { name ≡ named self.old task }
         requires outside { call_of (past self.old) (named self.old task) ≡ None }
         requires supplied { IsSupplied self.old task bytes (vec_capacity room) }
         requires due { due_step self.old task ≡ own_step self.old task }
-        requires tasks { HasTaskRoom self.old.tasks task }
+        requires tasks { HasChildRoom self.old task }
         requires resources { HasNextRoom self.old task (Runs bytes room) }
-        ensures step { IfSome result (λ w. Acts self.old task w self.new) }
-        ensures none { IfNone result ((self.new ≡ self.old) × (due_step self.old task ≡ Skip)) }
+        ensures { IsTried self.old task result self.new }
     {
         keeps_rules(&self.script);
         match self.tasks.next_instr(&self.script, task) {
-            None | Some(Instr::Exit) => Some(self.exit(task, What::Exit)),
-            Some(&Instr::Poke { addr, .. }) => Some(self.store(task, addr, bytes)),
-            Some(&Instr::Fill { addr, .. }) => Some(self.store(task, addr, bytes)),
-            Some(&Instr::Call { nr, args }) => Some(self.enter(task, nr, &args)),
-            Some(&Instr::Spawn { program }) => Some(self.make_process(task, program, room)),
-            Some(&Instr::Thread { program }) => Some(self.make_thread(task, program, room)),
+            None | Some(Instr::Exit) => {
+                let what = self.exit(task, What::Exit);
+                self.take_step(name, what)
+            }
+            Some(&Instr::Poke { addr, .. }) => {
+                let what = self.store(task, addr, bytes);
+                self.take_step(name, what)
+            }
+            Some(&Instr::Fill { addr, .. }) => {
+                let what = self.store(task, addr, bytes);
+                self.take_step(name, what)
+            }
+            Some(&Instr::Call { nr, args }) => {
+                let what = self.enter(task, nr, &args);
+                self.take_step(name, what)
+            }
+            Some(&Instr::Spawn { program }) => {
+                let what = self.make_process(task, program, room);
+                self.take_step(name, what)
+            }
+            Some(&Instr::Thread { program }) => {
+                let what = self.make_thread(task, program, room);
+                self.take_step(name, what)
+            }
             Some(&Instr::Kill { whom, sig }) => {
                 let pid = self.tasks.signalled(task, whom);
-                Some(self.send_signal(task, pid, sig))
+                let what = self.send_signal(task, pid, sig);
+                self.take_step(name, what)
             }
-            Some(&Instr::Handler { sig, disposition }) => Some(self.handle(task, sig, disposition)),
-            Some(Instr::Wait) => self.wait(task, room),
+            Some(&Instr::Handler { sig, disposition }) => {
+                let what = self.handle(task, sig, disposition);
+                self.take_step(name, what)
+            }
+            Some(Instr::Wait) => {
+                let Some(what) = self.wait(task, room) else {
+                    return Err(name);
+                };
+                self.take_step(name, what)
+            }
         }
     }
 
-    /// The step of a task that waits in no listed call and owes no native call, with what its next instruction needs of memory:
-    /// a due signal is delivered, else its program goes on. None exactly where it waits for children, which leaves all as it
-    /// was.
-    fn go_on(&mut self, task: u32, bytes: Text, room: Vec<u32>) -> Option<What>
+    /// Takes the step of a task that waits in no listed call and owes no native call, with what its next instruction needs of
+    /// memory: a due signal is delivered, else its program goes on. The name is given back exactly where it waits for
+    /// children, which leaves all as it was.
+    fn go_on(
+        &mut self,
+        task: u32,
+        name: TaskName,
+        bytes: Text,
+        room: Vec<u32>,
+    ) -> Result<(), TaskName>
         requires ready { MayStep self.old task }
+        requires event { 0 < self.old.history.spare }
+        requires name { name ≡ named self.old task }
         requires outside { call_of (past self.old) (named self.old task) ≡ None }
         requires owes { owes_native (past self.old) (named self.old task) ≡ false }
         requires supplied { IsSupplied self.old task bytes (vec_capacity room) }
-        requires tasks { HasTaskRoom self.old.tasks task }
+        requires tasks { HasChildRoom self.old task }
         requires resources { HasNextRoom self.old task (Runs bytes room) }
-        ensures step { IfSome result (λ w. Acts self.old task w self.new) }
-        ensures none { IfNone result ((self.new ≡ self.old) × (due_step self.old task ≡ Skip)) }
+        ensures { IsTried self.old task result self.new }
     {
         if let Some(what) = self.deliver_outside(task) {
-            return Some(what);
+            return self.take_step(name, what);
         }
-        self.run(task, bytes, room)
+        self.run(task, name, bytes, room)
     }
 
-    /// The step that a task has next. None exactly where it can't step, which leaves all as it was.
-    fn next_step(&mut self, task: u32, next: Next) -> Option<What>
+    /// Takes the step that a task has next, which was made ready. The name is given back exactly where it can't step, which
+    /// leaves all as it was.
+    fn next_step(&mut self, task: u32, ready: ReadyTask) -> Result<(), TaskName>
         requires kernel { IsKernel self.old }
         requires made { task < tasks_made (past self.old) }
-        requires few { length (past self.old) < 2 ^ 64 }
-        requires next { IsNext self.old task next }
-        requires tasks { HasTaskRoom self.old.tasks task }
-        requires resources { HasNextRoom self.old task next }
-        ensures step { IfSome result (λ w. Acts self.old task w self.new) }
-        ensures none { IfNone result ((self.new ≡ self.old) × (due_step self.old task ≡ Skip)) }
+        requires ready { IsReadyFor self.old task ready }
+        ensures { IsTried self.old task result self.new }
     {
+        let ReadyTask { name, next } = ready;
         match next {
-            Next::Ended => None,
-            Next::Waiting(id) => self.waiting_step(task, id),
-            Next::Owed(call) => Some(self.run_native(task, call)),
-            Next::Runs { bytes, room } => self.go_on(task, bytes, room),
+            Next::Ended => Err(name),
+            Next::Waiting(id) => self.waiting_step(task, name, id),
+            Next::Owed(call) => {
+                let what = self.run_native(task, call);
+                self.take_step(name, what)
+            }
+            Next::Runs { bytes, room } => self.go_on(task, name, bytes, room),
         }
     }
 
@@ -400,12 +462,10 @@ impl Kernel {
         requires ready { IsReadyFor self.old task ready }
         ensures { IsStepped self.old task result self.new }
     {
-        let ReadyTask { name, next } = ready;
-        let Some(what) = self.next_step(task, next) else {
-            return Err(CannotStep);
-        };
-        self.note_step(name, what);
-        Ok(())
+        match self.next_step(task, ready) {
+            Ok(()) => Ok(()),
+            Err(_) => Err(CannotStep),
+        }
     }
 
     /// A task's turn: it takes its next step, which was made ready, or gives a `Skip` where it can't step.
@@ -415,10 +475,8 @@ impl Kernel {
         requires ready { IsReadyFor self.old task ready }
         ensures { TakesStep self.old task self.new }
     {
-        let ReadyTask { name, next } = ready;
-        match self.next_step(task, next) {
-            Some(what) => self.note_step(name, what),
-            None => self.skip_task(name),
+        if let Err(name) = self.next_step(task, ready) {
+            self.skip_task(name);
         }
     }
 

@@ -1,5 +1,6 @@
 pub mod Lists
 pub mod Ranges
+pub mod PageBytes
 pub mod Shares
 pub mod Rising
 pub mod Sets

@@ -1,30 +1,17 @@
 -- Pages, and what lists of them have.
 -- By arithmetic on the counts of the pages, by `stored-cases` for each byte, and by induction on the bytes that are read.
 use Rattle.std.proofs.Common.{◌≡◌, ◌≢◌, ◌⊎◌, inl, inr, ℕ, zero, suc, ◌+◌, ◌-◌, ◌*◌, ◌/◌, ◌%◌, ◌<◌, ◌≤◌, List, [], ◌∷◌, ◌++◌, length, get_or, take, drop, Option, Some, None, refl, sym, ap, ◌∙◌, arith, add-zero, zero-add, min, append_assoc, append-nil, length-append}
-use Rattle.std.specs.Prelude.{slice_index, replicate}
+use Rattle.std.specs.Prelude.{slice_index}
 use Rattle.std.proofs.lemmas.Bool.{cases_eq, cases_lt, le-leb, lt-leb}
 use Rattle.std.proofs.Math.Seq.{take-add}
 use Rattle.std.proofs.lemmas.List.{drop-drop, get_or-drop, get_or-take, get_or_append_left, get_or-append_right, length-take-le}
 use Rattle.std.proofs.lemmas.Option.{slice_get_past, slice_get-get_or}
-use Rattle.slab.specs.Slab.{get}
 use Rattle.hist_model.specs.Memory.{byte_or, byte_stored}
 use Rattle.task_groups.specs.declared.list.PageEntry.{PageEntry}
 use Rattle.task_groups.specs.declared.pages.Pages.{Pages}
 use Rattle.task_groups.specs.Lists.{IsListed, slot_of, uses_in, one_if, one_if_some}
 use Rattle.task_groups.specs.Pages.{count_at, bytes_at, bytes_at_some, byte_in, bytes_from, IsStore, IsList, IsApart, HasPages, pages_touched, IsLeft, IsLeftBySome, IsPageAdded, IsOwned, IsPut, IsStored, IsSharedOnce, IsShared, IsLeftByAll}
 use Rattle.task_groups.proofs.Lists.{slot-uses, some-uses, two-numbers, one-same, one-other, uses-push, uses-none}
-
--- each byte of zeros
-pub zero_of_zeros : (n i : ℕ) → ◌≡◌ {A = ℕ} (get_or (replicate {A = ℕ} n 0) i 0) 0
-zero_of_zeros zero i = refl
-zero_of_zeros (suc n) zero = refl
-zero_of_zeros (suc n) (suc i) = zero_of_zeros n i
-
-pub no-page : (P : Pages) (o : Option ℕ) (i : ℕ) → o ≡ None → ◌≡◌ {A = ℕ} (slice_index (bytes_at_some P o) i) 0
-no-page P o i h = rw h refl
-
-pub lost-page : (P : Pages) (o : Option ℕ) (s i : ℕ) → o ≡ Some s → get P.slots s ≡ None → ◌≡◌ {A = ℕ} (slice_index (bytes_at_some P o) i) 0
-lost-page P o s i h g = rw (h, g) refl
 
 -- bytes are the same where the pages that are listed have the same
 pub same-bytes : (P Q : Pages) (xs : List PageEntry) → ((p : ℕ) → 0 < uses_in xs p → bytes_at Q p ≡ bytes_at P p) → (b : ℕ) → byte_in Q xs b ≡ byte_in P xs b

@@ -12,7 +12,7 @@ count_in (Some page) = page.shares
 count_in None = 0
 
 abbrev pub bytes_in : Option Page → List ℕ
-bytes_in (Some page) = page.bytes.value
+bytes_in (Some page) = page.bytes
 bytes_in None = []
 
 -- how many entries of lists have the page of a slot, and its bytes

@@ -15,7 +15,8 @@ ghost use Rattle.task_groups.specs.State.{State, IsSetTo, no_groups, read_from, 
 use crate::descriptors::{self, Descriptor};
 use crate::list::PageEntry;
 use crate::map;
-use crate::pages::{PAGE, Pages};
+use crate::page_bytes::PAGE;
+use crate::pages::Pages;
 use hist_model::request::{Fault, Obj};
 use hist_model::script::{MapRange, Script};
 use std::alloc::Global;

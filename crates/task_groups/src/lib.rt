@@ -17,6 +17,7 @@ mod groups;
 pub mod laws;
 mod list;
 mod map;
+mod page_bytes;
 mod pages;
 
 pub use groups::{Groups, NR_OPEN, NotOpen, OverLimit};

@@ -4,7 +4,7 @@ ghost use Rattle.std.specs.Prelude.{◌≡◌, ◌+◌, ◌<◌, ◌≤◌, ℕ,
 ghost use Rattle.hist_model.specs.Memory.{is_mapped};
 ghost use Rattle.task_groups.specs.Ranges.{AllEndLow, IsMappedFor};
 
-use crate::pages::PAGE;
+use crate::page_bytes::PAGE;
 use hist_model::script::MapRange;
 
 /// How many addresses of a range there are from an address on; 0 where the range doesn't have the address.

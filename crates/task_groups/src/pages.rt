@@ -7,21 +7,16 @@ ghost use Rattle.task_groups.specs.Lists.{NumbersRise, slot_of};
 ghost use Rattle.task_groups.specs.Pages.{count_at, bytes_at_some, byte_in, bytes_from, IsStore, IsList, HasPages, pages_touched, IsLeft, IsLeftBySome, IsPageAdded, IsOwned, IsPut, IsStored, IsSharedOnce, IsShared, IsLeftByAll};
 
 use crate::list::{self, PageEntry};
+use crate::page_bytes::{PAGE, PageBytes, append_zeros, part};
 use slab::Slab;
 use std::alloc::Global;
 use sys_abi::memory::NoMemory;
-
-/// How many bytes a page has.
-pub const PAGE: usize = 4096;
-
-/// A page that was never written.
-const ZEROS: [u8; PAGE] = [0; PAGE];
 
 /// A page, and how many entries of lists have it.
 #[derive(Drop)]
 pub struct Page {
     shares: u64,
-    bytes: Box<[u8; PAGE]>,
+    bytes: PageBytes,
 }
 
 /// The pages that were written, in slots that are used again.
@@ -29,7 +24,7 @@ pub struct Page {
 pub struct Pages {
     slots: Slab<Page>,
     /// Room for pages that are made later, with any bytes.
-    stock: Vec<Box<[u8; PAGE]>>,
+    stock: Vec<PageBytes>,
     alloc: Global,
 }
 
@@ -53,8 +48,8 @@ impl Pages {
     {
         self.slots.reserve(count)?;
         while self.stock.len() < count {
-            let buffer = Box::new(self.alloc, ZEROS)?;
-            self.stock.push(buffer)?;
+            let page = PageBytes::new(self.alloc)?;
+            self.stock.push(page)?;
         }
         Ok(())
     }
@@ -69,16 +64,17 @@ impl Pages {
         }
     }
 
-    /// The bytes of the page of a slot; zeros where there is none.
-    fn bytes(&self, slot: Option<usize>) -> &[u8; PAGE]
-        ensures { (i : ℕ) → slice_index result.now i ≡ slice_index (bytes_at_some self.now slot) i }
+    /// The bytes of the page of a slot, up to the last one that was written; none where there is no page.
+    fn bytes(&self, slot: Option<usize>) -> &[u8]
+        ensures bytes { result.now ≡ bytes_at_some self.now slot }
+        ensures most { length result.now ≤ 4096 }
     {
         let Some(slot) = slot else {
-            return &ZEROS;
+            return &[];
         };
         match self.slots.get(slot) {
-            Some(page) => &page.bytes,
-            None => &ZEROS,
+            Some(page) => page.bytes.written(),
+            None => &[],
         }
     }
 
@@ -92,8 +88,18 @@ impl Pages {
         let Some(mut bytes) = self.stock.pop() else {
             unreachable!()
         };
-        *bytes = *self.bytes(like);
+        bytes.copy_from(self.bytes(like));
         self.slots.insert_reserved(Page { shares: 1, bytes })
+    }
+
+    /// Puts the room of a page that was given up into the stock, unless that is full.
+    fn stock_up(&mut self, bytes: PageBytes)
+        ensures slots { self.new.slots ≡ self.old.slots }
+        ensures stock { vec_len self.old.stock ≤ vec_len self.new.stock }
+    {
+        if self.stock.len() < self.stock.capacity() {
+            self.stock.push_reserved(bytes);
+        }
     }
 
     /// One entry less has the page of a slot, which is given up with the last one.
@@ -107,8 +113,8 @@ impl Pages {
         };
         if page.shares > 1 {
             page.shares -= 1;
-        } else {
-            self.slots.try_remove(slot);
+        } else if let Some(page) = self.slots.try_remove(slot) {
+            self.stock_up(page.bytes);
         }
     }
 
@@ -162,7 +168,7 @@ impl Pages {
         ensures room { (k : ℕ) → HasPages self.old k → HasPages self.new k }
     {
         if let Some(page) = self.slots.get_mut(slot) {
-            write_at(&mut page.bytes, offset, piece);
+            page.bytes.write(offset, piece);
         }
     }
 
@@ -212,10 +218,11 @@ impl Pages {
         ensures len { vec_len out.new ≡ vec_len out.old + count }
         ensures capacity { vec_capacity out.old ≤ vec_capacity out.new }
     {
-        let page = self.bytes(list::find(list, number));
-        let Ok(()) = out.extend_from_slice(part(page, offset, count)) else {
+        let written = part(self.bytes(list::find(list, number)), offset, count);
+        let Ok(()) = out.extend_from_slice(written) else {
             unreachable!()
         };
+        append_zeros(out, count - written.len());
     }
 
     /// Appends so many bytes of a space, from an address on. There is room for them.
@@ -265,21 +272,4 @@ impl Pages {
             self.leave(entry.slot);
         }
     }
-}
-
-/// Writes a piece into the bytes of a page.
-fn write_at(bytes: &mut [u8; PAGE], offset: usize, piece: &[u8])
-    requires { offset + length piece.now ≤ 4096 }
-    ensures { (i : ℕ) → slice_index bytes.new i ≡ byte_or (byte_stored (Some (offset, piece.now)) i) (slice_index bytes.old i) }
-{
-    bytes[offset..offset + piece.len()].copy_from_slice(piece);
-}
-
-/// Some bytes of a page.
-fn part(page: &[u8; PAGE], offset: usize, count: usize) -> &[u8]
-    requires { offset + count ≤ 4096 }
-    ensures len { length result.now ≡ count }
-    ensures bytes { (i : ℕ) → i < count → slice_index result.now i ≡ slice_index page.now (offset + i) }
-{
-    &page[offset..offset + count]
 }

@@ -6,8 +6,8 @@ use Rattle.model_kernel.proofs.TaskSteps.{listed-as}
 use Rattle.model_kernel.proofs.Waiting.{due-resume, due-later, due-install, due-none}
 use Rattle.model_kernel.proofs.kernel.Kernel.waiting_step.Goals as goal
 
-pub resume-requires-clause-due : goal.resume-requires-clause-due
-resume-requires-clause-due c =
+pub resume-what-requires-clause-due : goal.resume-what-requires-clause-due
+resume-what-requires-clause-due c =
     let k = c.args.self.now in
     let m = c.requires.ready in
     let (place, waits) = c.requires.waits in
@@ -20,8 +20,8 @@ deliver_inside-requires-clause-due c =
     let (place, waits) = c.requires.waits in
     due-later k c.args.task place c.args.id m waits (c.in_default.ensures k.script.firstid (past k) place m.kernel.resources.listener (listed-as k c.args.task place c.args.id waits))
 
-pub returns-in_err-asked-clause-none : goal.returns-in_err-asked-clause-none
-returns-in_err-asked-clause-none c =
+pub returns-in_default-next_request : goal.returns-in_default-next_request
+returns-in_default-next_request c =
     let k = c.args.self.now in
     let m = c.requires.ready in
     let (place, waits) = c.requires.waits in
@@ -29,10 +29,10 @@ returns-in_err-asked-clause-none c =
     let unsettled = c.in_default.ensures k.script.firstid (past k) place m.kernel.resources.listener listed in
     let none = c.in_default-deliver_inside.ensures.none in
     let stand = subst (λ (x : Kernel). StandsFor k.script.firstid (past k) x.resources.listener) (sym none.0) m.kernel.resources.listener in
-    rw c.from_residual.ensures (none.0, due-none k c.args.task place c.args.id m waits unsettled none.1 (sym (c.in_err-asked.ensures k.script.firstid (past k) place stand listed)))
+    (none.0, due-none k c.args.task place c.args.id m waits unsettled none.1 (sym (c.in_default-next_request.ensures k.script.firstid (past k) place stand listed)), c.requires.name)
 
-pub install-requires-clause-due : goal.install-requires-clause-due
-install-requires-clause-due c =
+pub install-what-requires-clause-due : goal.install-what-requires-clause-due
+install-what-requires-clause-due c =
     let k = c.args.self.now in
     let m = c.requires.ready in
     let (place, waits) = c.requires.waits in
@@ -40,10 +40,10 @@ install-requires-clause-due c =
     let unsettled = c.in_default.ensures k.script.firstid (past k) place m.kernel.resources.listener listed in
     let none = c.in_default-deliver_inside.ensures.none in
     let stand = subst (λ (x : Kernel). StandsFor k.script.firstid (past k) x.resources.listener) (sym none.0) m.kernel.resources.listener in
-    let here : IsInstallDue k c.args.task place c.args.id c.in_ok-asked.asked = record {
+    let here : IsInstallDue k c.args.task place c.args.id c.in-Some-next_request.asked = record {
       waits = waits;
       unsettled = unsettled;
-      oldest = sym (c.in_ok-asked.ensures k.script.firstid (past k) place stand listed);
+      oldest = sym (c.in-Some-next_request.ensures k.script.firstid (past k) place stand listed);
       due = due-install k c.args.task place c.args.id m waits unsettled none.1;
     } in
-    (place, subst (λ (x : Kernel). IsInstallDue x c.args.task place c.args.id c.in_ok-asked.asked) (sym none.0) here)
+    (place, subst (λ (x : Kernel). IsInstallDue x c.args.task place c.args.id c.in-Some-next_request.asked) (sym none.0) here)
