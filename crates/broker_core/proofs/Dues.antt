@@ -106,11 +106,11 @@ can-take G F c s (Deed.Read addr len) NotYet t r f g = absurd f
 can-take G F c s d a t r f g = tt
 
 -- a session can take an answer that the due deed can have
-pub can_take : (w : Worker) (s : Session) (d : Named) (a : Answer) → w.session ≡ Some s → d ≡ due w → IsReady w → Fits (due w) a → is_let_go d ≡ false → CanTake d a w.capture s.stage
+pub can_take : (w : Worker) (s : Session) (d : Named) (a : Answer) → w.session ≡ Some s → d ≡ due w → IsReady w → Fits d a → is_let_go d ≡ false → CanTake d a w.capture s.stage
 can_take w s d a e h r f g =
     let r' : IsReadyIf w.capture (Some s) = rw e at r in
     let h' : d ≡ shown (session_deed own_request w.figures w.capture s) = rw e at h in
-    let f' : Fits (shown (session_deed own_request w.figures w.capture s)) a = rw e at f in
+    let f' : Fits (shown (session_deed own_request w.figures w.capture s)) a = rw h' at f in
     rw h' (can-take own_request w.figures w.capture s (session_deed own_request w.figures w.capture s) a (told_session own_request w.figures w.capture s) r' f' (rw h' at g))
 
 -- ---- Room

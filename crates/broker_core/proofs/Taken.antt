@@ -60,6 +60,16 @@ plain-step q d a h = grind arith
 
 -- ---- The fields that a step changes
 
+-- the step tells nothing that is noted
+abbrev TellsNothing : Deed → Type 0
+TellsNothing Recv = Unit {0}
+TellsNothing (Read addr len) = Unit {0}
+TellsNothing LetGo = Unit {0}
+TellsNothing _ = ⊥
+
+pub tells_nothing : (q : Request) (d : Deed) (a : Answer) (s : Session) → TellsNothing d → Noted (step_of (deed_of q d) a) s s
+tells_nothing q d a s h = grind arith
+
 -- what a step makes of the stage
 record Staged (rules : List Rule) (own : List What) (what : What) (c : Captured) (s : Session) (stage : Stage) : Type 0 where
   good : number_of is_good_check (what ∷ own) ≡ good_checks stage

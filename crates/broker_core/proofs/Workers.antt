@@ -9,7 +9,7 @@ use Rattle.hist_model.specs.Deeds.{Deed}
 use Rattle.hist_model.specs.Kinds.{checks}
 use Rattle.hist_model.specs.Legal.{rules_of, copied, copy_fault, cloexec_of, decision, grant_decision, judged}
 use Rattle.hist_model.specs.Requests.{base_dirfd, request}
-use Rattle.hist_model.specs.Sessions.{Rules, deed_for, notif_of, deed, any_of, number_of, reads_of, copied_deed, decided_deed, judged_deed, based_deed as based, checked_deed as checked}
+use Rattle.hist_model.specs.Sessions.{Rules, after_act, deed_for, notif_of, deed, any_of, number_of, reads_of, copied_deed, decided_deed, judged_deed, based_deed as based, checked_deed as checked}
 use Rattle.hist_model.specs.declared.event.What.{What}
 use Rattle.hist_model.specs.declared.policy.Cap.{Cap}
 use Rattle.hist_model.specs.declared.policy.Policy.{Policy}
@@ -22,7 +22,7 @@ use Rattle.hist_model.specs.declared.script.Figures.{Figures}
 use Rattle.arg_capture.specs.Captures.{Captured, continued, wanted}
 use Rattle.sys_abi.specs.declared.wire.Notif.{Notif}
 use Rattle.broker_core.specs.Answers.{shown}
-use Rattle.broker_core.specs.Deeds.{Granting, grant_deed, verdict_deed, found_deed, piece_deed, stage_deed, based_deed, session_deed, worker_deed}
+use Rattle.broker_core.specs.Deeds.{Granting, own_request, due, grant_deed, verdict_deed, found_deed, piece_deed, stage_deed, based_deed, session_deed, worker_deed}
 use Rattle.broker_core.specs.Judged.{request_as, judgement_as}
 use Rattle.broker_core.specs.Remembered.{Knows, KnowsIf, Remembers, Idle, IsAtStage, IsEffect, IsFound, good_checks}
 use Rattle.broker_core.specs.declared.deed.Deed.{Deed as Named}
@@ -170,9 +170,44 @@ pub worker_known : (P : Policy) (F : Figures) (own : List What) (c : Captured) (
 worker_known P F own c None h = sym (idle-deed (rules_of P F) own h)
 worker_known P F own c (Some s) k = sym (known_deed P F own c s k)
 
-pub due_deed : (P : Policy) (own : List What) (w : Worker) (d : Named) → ((G : Granting) → d ≡ shown (worker_deed G w.figures w.capture w.session)) → Remembers P own w
-    → d ≡ shown (deed (rules_of P w.figures) own)
-due_deed P own w d h k = h (granting P.rules) ∙ ap shown (worker_known P w.figures own w.capture w.session k)
+-- which request is granted doesn't change what the worker names
+module _ (G H : Granting) (F : Figures) (c : Captured) where
+  alike-if : (b : Bool) (x y z : Deed) → shown y ≡ shown z → shown (if b then x else y) ≡ shown (if b then x else z)
+  alike-if true x y z h = refl
+  alike-if false x y z h = h
+
+  alike-act : (id : ℕ) (o : Option (Result (Unit {0}) ℕ)) (e f : Request) (cap : Option Cap) → shown (after_act id o (Deed.Act e cap)) ≡ shown (after_act id o (Deed.Act f cap))
+  alike-act id None e f cap = refl
+  alike-act id (Some r) e f cap = refl
+
+  module _ (s : Session) where
+    alike-grant : (cap : Option Cap) (e f q : Request) → shown (grant_deed F s cap e q) ≡ shown (grant_deed F s cap f q)
+    alike-grant cap e f (Sysinfo addr) = refl
+    alike-grant cap e f q = alike-act s.notif.id s.outcome e f cap
+
+    alike-verdict : (j : Judgement) (v : Verdict) → shown (verdict_deed G F s j v) ≡ shown (verdict_deed H F s j v)
+    alike-verdict j Grant = alike-grant j.cap (G j) (H j) j.request
+    alike-verdict j v = refl
+
+    alike-stage : (stage : Stage) → shown (stage_deed G F c s stage) ≡ shown (stage_deed H F c s stage)
+    alike-stage (Confirmed (Ok j)) = alike-verdict j j.verdict
+    alike-stage (Confirmed (Err e)) = refl
+    alike-stage stage = refl
+
+    alike-based : (d : Option ℤ) → shown (based_deed G F c s d) ≡ shown (based_deed H F c s d)
+    alike-based None = alike-stage s.stage
+    alike-based (Some d) = alike-if (not s.based) (Deed.OpenBase s.notif.pid d) _ _ (alike-stage s.stage)
+
+    alike-session : shown (session_deed G F c s) ≡ shown (session_deed H F c s)
+    alike-session = alike-if s.gave_up Deed.LetGo _ _ (alike-if (not s.opened) (Deed.OpenMem s.notif.pid) _ _ (alike-based (base_dirfd s.notif.call.nr s.notif.call.args)))
+
+  alike : (o : Option Session) → shown (worker_deed G F c o) ≡ shown (worker_deed H F c o)
+  alike None = refl
+  alike (Some s) = alike-session s
+
+-- what is due is the deed by the steps
+pub due_deed : (P : Policy) (own : List What) (w : Worker) (d : Named) → d ≡ due w → Remembers P own w → d ≡ shown (deed (rules_of P w.figures) own)
+due_deed P own w d h k = h ∙ alike own_request (granting P.rules) w.figures w.capture w.session ∙ ap shown (worker_known P w.figures own w.capture w.session k)
 
 -- where no session is open a receive is due
 pub receives_next : (P : Policy) (F : Figures) (own : List What) (c : Captured) (o : Option Session) → o ≡ None → KnowsIf P.rules own c o → deed (rules_of P F) own ≡ Deed.Recv

@@ -91,7 +91,7 @@ impl Got<'_> {
 }
 
 /// The answer of a call of the kernel that gives nothing but that it was done.
-pub fn done_or_fault<'a>(answer: Result<(), Errno>) -> Got<'a>
+fn done_or_fault<'a>(answer: Result<(), Errno>) -> Got<'a>
     ensures { told result ≡ done_or_failed answer }
 {
     match answer {

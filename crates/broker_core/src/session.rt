@@ -7,7 +7,7 @@ ghost use Rattle.hist_model.specs.Legal.{cloexec_of};
 ghost use Rattle.hist_model.specs.Sessions.{after_act, inject_deed, addfd_of, back_of_outcome};
 ghost use Rattle.hist_model.specs.declared.request.Request.{Request};
 ghost use Rattle.broker_core.specs.Answers.{shown};
-ghost use Rattle.broker_core.specs.Deeds.{Granting, grant_deed, verdict_deed, found_deed, stage_deed, session_deed};
+ghost use Rattle.broker_core.specs.Deeds.{own_request, grant_deed, verdict_deed, stage_deed, session_deed};
 ghost use Rattle.broker_core.specs.Taking.{Begins, confirmed_request};
 
 use crate::deed::Deed;
@@ -102,11 +102,11 @@ fn injection(id: u64, src: u32, at: Option<u32>, newfd_flags: u32) -> Addfd
 
 impl Session {
     /// The start of a session.
-    pub(crate) fn begun(notif: Notif) -> Session
-        ensures { Begins notif result }
+    pub(crate) fn begun(notif: &Notif) -> Session
+        ensures { Begins notif.now result }
     {
         Session {
-            notif,
+            notif: *notif,
             gave_up: false,
             opened: false,
             based: false,
@@ -168,7 +168,7 @@ impl Session {
 
     /// The deed that a judgement leads to.
     fn judged_deed(&self, figures: &Figures, judgement: &Judgement) -> Deed
-        ensures { (G : Granting) → result ≡ shown (verdict_deed G figures.now self.now judgement.now judgement.now.verdict) }
+        ensures { result ≡ shown (verdict_deed own_request figures.now self.now judgement.now judgement.now.verdict) }
     {
         let id = self.notif.id;
         match judgement.verdict {
@@ -189,7 +189,7 @@ impl Session {
 
     /// The deed after the openings.
     fn checked_deed(&self, figures: &Figures, capture: &Capture) -> Deed
-        ensures { (G : Granting) → result ≡ shown (stage_deed G figures.now capture.now self.now self.now.stage) }
+        ensures { result ≡ shown (stage_deed own_request figures.now capture.now self.now self.now.stage) }
     {
         let id = self.notif.id;
         match &self.stage {
@@ -208,7 +208,7 @@ impl Session {
 
     /// The next deed.
     pub(crate) fn next(&self, figures: &Figures, capture: &Capture) -> Deed
-        ensures { (G : Granting) → result ≡ shown (session_deed G figures.now capture.now self.now) }
+        ensures { result ≡ shown (session_deed own_request figures.now capture.now self.now) }
     {
         let pid = self.notif.pid;
         if self.gave_up {

@@ -10,13 +10,12 @@ ghost use Rattle.arg_capture.specs.Captures.{Captured, continued, wanted, Follow
 ghost use Rattle.broker_core.specs.Answers.{deed_of, step_of, told};
 ghost use Rattle.broker_core.specs.Judged.{judgement_as};
 ghost use Rattle.broker_core.specs.Remembered.{IsFound, IsReadyAt, IsReadyToAct, Knows};
-ghost use Rattle.broker_core.specs.Taking.{Advances, CanFeed, CanTake, Noted, confirmed, heard, is_reading};
+ghost use Rattle.broker_core.specs.Taking.{Advances, CanFeed, CanTake, confirmed, heard, is_reading};
 ghost use Rattle.broker_core.specs.declared.session.Stage.TheVariants.{Reading};
 
 use crate::deed::{Deed, Got};
 use crate::judgement::{Judgement, judge};
 use crate::session::{Session, Stage};
-use crate::steps::{gives_up, opens, opens_base, outcome_in, put_in, take_in};
 use arg_capture::{Capture, Fault};
 use hist_model::boxed::Boxed;
 use hist_model::policy::{Policy, Verdict};
@@ -179,18 +178,6 @@ impl Session {
             }
             _ => {}
         }
-    }
-
-    /// Notes what an answer tells, but for the stage.
-    fn note(&mut self, deed: &Deed, got: &Got<'_>)
-        ensures { (q : Request) → Noted (step_of (deed_of q deed.now) (told got.now)) self.old self.new }
-    {
-        self.gave_up = gives_up(deed, got) || self.gave_up;
-        self.opened = opens(deed, got) || self.opened;
-        self.based = opens_base(deed, got) || self.based;
-        self.outcome = outcome_in(deed, got).or(self.outcome);
-        self.put = put_in(deed, got).or(self.put);
-        self.take = take_in(deed, got).or(self.take);
     }
 
     /// Takes the answer to a deed that neither begins the session nor ends it.

@@ -123,10 +123,10 @@ impl Worker {
     }
 
     /// Begins the session of a notification.
-    fn begin(&mut self, notif: Notif)
+    fn begin(&mut self, notif: &Notif)
         requires room { HasRoomForAny self.old.capture.reached }
-        ensures begun { BeginsIf notif self.new.session }
-        ensures follows { Follows (plan notif.call.nr notif.call.args) [] self.new.capture }
+        ensures begun { BeginsIf notif.now self.new.session }
+        ensures follows { Follows (plan notif.now.call.nr notif.now.call.args) [] self.new.capture }
         ensures figures { self.new.figures ≡ self.old.figures }
     {
         self.capture
@@ -143,29 +143,29 @@ impl Worker {
         ensures figures { self.new.figures ≡ self.old.figures }
     {
         if let Got::Notif(notif) = got {
-            self.begin(*notif);
+            self.begin(notif);
         }
     }
 
-    /// Takes the answer to the deed that is due, for which `ready` made room since the last answer. It takes no memory.
-    /// Where there is no answer yet, nothing changes.
-    pub fn took(&mut self, got: &Got<'_>)
+    /// Takes the answer to the deed that is due, which `next` gave and for which `ready` made room since the last answer. It
+    /// takes no memory. Where there is no answer yet, nothing changes.
+    pub fn took(&mut self, next: &Deed, got: &Got<'_>)
         requires ready { IsReady self.old }
-        requires fits { Fits (due self.old) (told got.now) }
+        requires due { next.now ≡ due self.old }
+        requires fits { Fits next.now (told got.now) }
         ensures known { (P : Policy) (own : List What) → Remembers P own self.old → Remembers P (with_step (step_of (deed (rules_of P self.old.figures) own) (told got.now)) own) self.new }
         ensures figures { self.new.figures ≡ self.old.figures }
     {
         if got.is_not_yet() {
             return;
         }
-        let deed = self.next();
-        if deed.is_let_go() {
+        if next.is_let_go() {
             self.session = None;
             return;
         }
         match &mut self.session {
             None => self.receive(got),
-            Some(session) => session.took(&mut self.capture, &deed, got),
+            Some(session) => session.took(&mut self.capture, next, got),
         }
     }
 }

@@ -1,88 +1,39 @@
--- What the kernel answers a deed, and what a worker that takes the answer remembers then.
--- By cases on whether there is an answer yet, and by `Fitting`, since the deed is that of the session which the worker remembers.
-use Rattle.std.proofs.Common.{◌≡◌, ℕ, Bool, true, false, List, ◌∷◌, refl, sym, ap, ◌∙◌}
-use Rattle.std.specs.Prelude.{not, Result, Ok, Err}
-use Rattle.std.specs.Result.{result_and}
-use Rattle.std.proofs.lemmas.Bool.{eq-eqb}
+-- What a worker that takes the kernel's answer remembers, and which step the history has of it then.
+-- By cases on whether a step was made, and by `Fitting`, since the deed is that of the session which the worker remembers.
+use Rattle.std.proofs.Common.{◌≡◌, ◌<◌, ℕ, suc, Bool, true, false, List, [], ◌∷◌, ◌++◌, length, reverse, sym, ap, ◌∙◌, arith}
+use Rattle.std.proofs.lemmas.List.{reverse-append}
 use Rattle.hist_model.specs.Deeds.{Deed}
-use Rattle.hist_model.specs.Kinds.{skips}
 use Rattle.hist_model.specs.Legal.{rules_of}
-use Rattle.hist_model.specs.Sessions.{deed, session}
 use Rattle.hist_model.specs.Look.{ev}
-use Rattle.hist_model.specs.Steps.{deed_step, mem, read_answer}
+use Rattle.hist_model.specs.Sessions.{deed, session}
+use Rattle.hist_model.specs.Steps.{deed_step}
 use Rattle.hist_model.specs.declared.event.Actor.TheVariants.{Worker as WorkerActor}
 use Rattle.hist_model.specs.declared.event.Event.{Event}
 use Rattle.hist_model.specs.declared.event.What.{What}
-use Rattle.hist_model.specs.declared.event.What.TheVariants.{Read, Skip}
 use Rattle.hist_model.specs.declared.policy.Policy.{Policy}
-use Rattle.broker_core.specs.Answers.{Answer, Bytes, Done, Failed, NotYet, Fits, answer_of, done_or_failed, is_not_yet, shown, step_of, with_step}
+use Rattle.broker_core.specs.Answers.{Answer, Fits, answer_of, shown, step_of, with_step}
 use Rattle.broker_core.specs.Deeds.{due}
 use Rattle.broker_core.specs.Remembered.{Remembers}
 use Rattle.broker_core.specs.declared.deed.Deed.{Deed as Named}
 use Rattle.broker_core.specs.declared.worker.Worker.{Worker}
-use Rattle.model_kernel.specs.Kernels.{DoesDeed, past, system}
-use Rattle.model_kernel.specs.Reads.{last_read}
+use Rattle.model_kernel.specs.Kernels.{past, system}
 use Rattle.model_kernel.specs.Ready.{IsSame}
 use Rattle.model_kernel.specs.declared.kernel.Kernel.{Kernel}
-use Rattle.broker_machine.specs.Workers.{HasAnswer, IsAnswered, KeepsOn, TriesDeed, TriesStep, next_of}
+use Rattle.broker_machine.specs.Workers.{HasTried, KeepsOn, TriesDeed, TriesStep, next_of}
 use Rattle.broker_machine.proofs.Fitting.{fits_due, own-step, remembers_turn, step_of_deed}
 use Rattle.broker_machine.proofs.Rooms.{does-same, same-still}
 
--- ---- The kernel's answer
-
--- a step with an answer is no skip
-answer-steps : (what : What) → is_not_yet (answer_of what) ≡ false → skips what ≡ false
-answer-steps Skip h = cc
-answer-steps what h = refl
-
--- the newest read of a worker, where its step is the newest
-newest-read : (n addr len : ℕ) (bytes : List ℕ) (K : List Event) → last_read n (ev (WorkerActor n) (Read addr len (Ok bytes)) ∷ K) ≡ bytes
-unfolding last_read
-newest-read n addr len bytes K = rw (eq-eqb n n refl) refl
-
--- what a read answers beside the bytes
-abbrev read-result : Result (List ℕ) ℕ → Result (Unit {0}) ℕ
-read-result r = result_and r (Ok tt)
-
--- an error is no success
-error-is-none : (e : ℕ) (r : Result (Unit {0}) ℕ) → r ≡ Err e → r ≡ Ok tt → ⊥
-error-is-none e r failed done = let no = sym failed ∙ done in cc
-
-module _ (old new : Kernel) (n : ℕ) (d : Deed) where
-  -- a deed that was done, and has an answer
-  pub answered : (a : Answer) → is_not_yet a ≡ false → a ≡ answer_of (deed_step (system old) (past old) n d) → DoesDeed old n d new → IsAnswered old n d a new
-  answered a come is does = record { answer = is; tries = rw come (does, answer-steps _ (rw is at come)) }
-
-  -- one of which nothing comes but that it was done
-  pub done-answered : (r : Result (Unit {0}) ℕ) → done_or_failed r ≡ answer_of (deed_step (system old) (past old) n d) → DoesDeed old n d new → IsAnswered old n d (done_or_failed r) new
-  done-answered (Ok u) is does = answered Done refl is does
-  done-answered (Err e) is does = answered (Failed e) refl is does
-
-  -- a read of bytes, which are the last that the worker read
-  pub read-answered : (addr len : ℕ) → read-result (read_answer (system old) (past old) (mem (past old) n) addr len) ≡ Ok tt → d ≡ Deed.Read addr len → DoesDeed old n d new → IsAnswered old n d (Bytes (last_read n (past new))) new
-  read-answered addr len ok is does = by (read_answer (system old) (past old) (mem (past old) n) addr len) refl
-    where
-      by : (r : Result (List ℕ) ℕ) → read_answer (system old) (past old) (mem (past old) n) addr len ≡ r → IsAnswered old n d (Bytes (last_read n (past new))) new
-      by (Ok bytes) q =
-          let step : deed_step (system old) (past old) n d ≡ Read addr len (Ok bytes) = ap (deed_step (system old) (past old) n) is ∙ ap (Read addr len) q in
-          let read : last_read n (past new) ≡ bytes =
-          ap (last_read n) does.events ∙ ap (λ w. last_read n (ev (WorkerActor n) w ∷ past old)) step ∙ newest-read n addr len bytes (past old) in
-          answered (Bytes (last_read n (past new))) refl (ap Bytes read ∙ sym (ap answer_of step)) does
-      by (Err e) q = absurd (error-is-none e _ (ap read-result q) ok)
-
-  -- one that waits
-  pub not-yet : deed_step (system old) (past old) n d ≡ Skip → IsSame old new → IsAnswered old n d NotYet new
-  not-yet due same = record { answer = rw due refl; tries = (same, due) }
+-- the newest event stands behind the others
+pub newest_of : (events older : List Event) (newest e : Event) (K : List Event) → events ≡ older ++ newest ∷ [] → reverse events ≡ e ∷ K → newest.what ≡ e.what
+newest_of events older newest e K h is = ap (λ (x : Event). x.what) (first (sym (reverse-append older (newest ∷ [])) ∙ ap reverse (sym h) ∙ is))
+  where
+    first : newest ∷ reverse older ≡ e ∷ K → newest ≡ e
+    first q = cc
 
 -- a kernel that was made ready tries a deed as before
 tries-same : (old mid new : Kernel) (n : ℕ) (d : Deed) (b : Bool) → IsSame old mid → TriesDeed mid n d b new → TriesDeed old n d b new
 tries-same old mid new n d true s t = (does-same old mid new n d s t.0, rw (s.script, s.past_is) at t.1)
 tries-same old mid new n d false s t = (same-still old mid new s t.0, rw (s.script, s.past_is) at t.1)
-
-pub answered-same : (old mid new : Kernel) (n : ℕ) (d : Deed) (a : Answer) → IsSame old mid → IsAnswered mid n d a new → IsAnswered old n d a new
-answered-same old mid new n d a s h = record { answer = rw (s.script, s.past_is) at h.answer; tries = tries-same old mid new n d _ s h.tries }
-
--- ---- The worker that takes it
 
 module _ (P : Policy) (old : Kernel) (n : ℕ) where
   abbrev own : List What
@@ -91,33 +42,46 @@ module _ (P : Policy) (old : Kernel) (n : ℕ) where
   abbrev next : What
   next = deed_step (system old) (past old) n (next_of P old n)
 
-  -- what was due was answered by a kernel that was made ready
-  pub has-answer : (mid new : Kernel) (x y : Worker) (d : Named) (a : Answer) → IsSame old mid → Remembers P own x → x.figures ≡ old.script.figures → d ≡ due x → d ≡ shown (deed (rules_of P x.figures) own) → KeepsOn x y
-      → IsAnswered mid n (deed (rules_of P x.figures) own) a new → HasAnswer P old n a new y
-  has-answer mid new x y d a s r f is e keeps h = record {
-    answered = answered-same old mid new n _ a s (rw f at h);
+  -- what was due was tried by a kernel that was made ready
+  pub has-tried : (mid new : Kernel) (x y : Worker) (d : Named) (b : Bool) → IsSame old mid → Remembers P own x → x.figures ≡ old.script.figures → d ≡ due x → d ≡ shown (deed (rules_of P x.figures) own) → KeepsOn x y
+      → TriesDeed mid n (deed (rules_of P x.figures) own) b new → HasTried P old n d b new y
+  has-tried mid new x y d b s r f is e keeps h = record {
+    tries = tries-same old mid new n _ b s (rw f at h);
     remembers = keeps.known P own r;
     figures = keeps.figures ∙ f;
-    due = keeps.same ∙ sym is ∙ rw f at e;
+    due = is ∙ sym keeps.same;
+    next = rw f at e;
   }
 
-  -- it was tried, or it waits
-  tries-step : (new : Kernel) (b : Bool) → TriesDeed old n (next_of P old n) b new → TriesStep P old n b new
-  tries-step new true t = (rw (step_of_deed P old.script (past old) n) t.0, rw (step_of_deed P old.script (past old) n) t.1)
-  tries-step new false t = (t.0, rw (step_of_deed P old.script (past old) n) t.1)
+  module _ (new : Kernel) (d : Named) (b : Bool) (x : Worker) (h : HasTried P old n d b new x) where
+    -- it made its step, or it waits
+    pub tries-step : TriesStep P old n b new
+    tries-step = by b h.tries
+      where
+        by : (b : Bool) → TriesDeed old n (next_of P old n) b new → TriesStep P old n b new
+        by true t = (rw (step_of_deed P old.script (past old) n) t.0, rw (step_of_deed P old.script (past old) n) t.1)
+        by false t = (t.0, rw (step_of_deed P old.script (past old) n) t.1)
 
-  -- and its step joins the session, unless it is a skip
-  joins : (new : Kernel) (b : Bool) → TriesDeed old n (next_of P old n) b new → session (past new) n ≡ with_step next own
-  joins new true t = rw t.0.events (own-step (past old) n next)
-  joins new false t = rw (t.0.past_is, t.1) refl
+  -- where it waits it remembers its session as before
+  pub waits-on : (new : Kernel) (d : Named) (x : Worker) → HasTried P old n d false new x → Remembers P (session (past new) n) x
+  waits-on new d x h = rw h.tries.0.past_is h.remembers
 
-  module _ (a : Answer) (new : Kernel) (x : Worker) (h : HasAnswer P old n a new x) where
-    pub answer-fits : Fits (due x) a
-    answer-fits = fits_due P old.script (past old) n x a h.answered.answer h.due
+  -- where a step was made the history has one
+  pub some-step : (new : Kernel) (d : Named) (x : Worker) → HasTried P old n d true new x → 0 < length (past new)
+  some-step new d x h = let some : 0 < suc (length (past old)) = omega arith in rw h.tries.0.events some
 
-    pub answer-tries : TriesStep P old n (not (is_not_yet a)) new
-    answer-tries = tries-step new _ h.answered.tries
+  -- the newest step of the history is the deed's
+  pub newest-step : (new : Kernel) (d : Named) (x : Worker) (what : What) → HasTried P old n d true new x
+      → ((e : Event) (K : List Event) → past new ≡ e ∷ K → what ≡ e.what) → what ≡ next
+  newest-step new d x what h is = is (ev (WorkerActor n) next) (past old) h.tries.0.events
 
-    -- with the answer the worker remembers its session
-    pub answer-remembered : (y : Worker) → ((Q : Policy) (own : List What) → Remembers Q own x → Remembers Q (with_step (step_of (deed (rules_of Q x.figures) own) a) own) y) → Remembers P (session (past new) n) y
-    answer-remembered y k = rw (joins new _ h.answered.tries) (remembers_turn P old.script (past old) n x y a h.figures h.answered.answer h.remembers k)
+  -- it has an answer that the deed can have
+  pub step-fits : (new : Kernel) (d : Named) (x : Worker) (a : Answer) → HasTried P old n d true new x → a ≡ answer_of next → Fits d a
+  step-fits new d x a h is = fits_due P old.script (past old) n d a is h.next
+
+  -- with which the worker remembers its session
+  pub step-remembered : (new : Kernel) (d : Named) (x y : Worker) (a : Answer) → HasTried P old n d true new x → a ≡ answer_of next
+      → ((Q : Policy) (own : List What) → Remembers Q own x → Remembers Q (with_step (step_of (deed (rules_of Q x.figures) own) a) own) y) → Remembers P (session (past new) n) y
+  step-remembered new d x y a h is k =
+      let joins : session (past new) n ≡ with_step next own = rw h.tries.0.events (own-step (past old) n next) in
+      rw joins (remembers_turn P old.script (past old) n x y a h.figures is h.remembers k)

@@ -26,7 +26,6 @@ use Rattle.sys_abi.specs.declared.wire.Addfd.{Addfd}
 use Rattle.hist_model.proofs.Fitting.{IsSized, deed_sized, step_fits}
 use Rattle.arg_capture.proofs.Answering.{fit_answers, fit_fault}
 use Rattle.broker_core.specs.Answers.{Answer, Fits, shown, deed_of, answer_of, step_of, with_step}
-use Rattle.broker_core.specs.Deeds.{due}
 use Rattle.broker_core.specs.Remembered.{Remembers}
 use Rattle.broker_core.specs.declared.worker.Worker.{Worker}
 use Rattle.broker_core.specs.declared.deed.Deed.{Deed as Named}
@@ -141,8 +140,8 @@ module _ (P : Policy) (S : Script) (K : List Event) (n : ℕ) where
   answered = answers S K n next_deed (deed_sized P S.figures (session K n))
 
   -- the kernel's answer is one that the deed can have
-  pub fits_due : (x : Worker) (a : Answer) → a ≡ answer_of next_step → due x ≡ shown next_deed → Fits (due x) a
-  fits_due x a q d = rw (d, q) answered.fits
+  pub fits_due : (d : Named) (a : Answer) → a ≡ answer_of next_step → d ≡ shown next_deed → Fits d a
+  fits_due d a q e = rw (e, q) answered.fits
 
   -- and what is remembered then is the session with that step
   pub remembers_turn : (x y : Worker) (a : Answer) → x.figures ≡ S.figures → a ≡ answer_of next_step → Remembers P (session K n) x

@@ -1,5 +1,5 @@
 -- What the workers of a broker remember, and what the kernel knows of a worker before a deed and after it.
-use Rattle.std.specs.Prelude.{◌≡◌, ◌<◌, ℕ, Bool, true, false, not, List, length, get_or, Option, Some, None, ⊤}
+use Rattle.std.specs.Prelude.{◌≡◌, ◌<◌, ℕ, Bool, true, false, List, length, get_or, None, ⊤}
 use Rattle.listener.specs.Puts.{is_known}
 use Rattle.hist_model.specs.Legal.{rules_of}
 use Rattle.hist_model.specs.Sessions.{deed, session}
@@ -13,15 +13,13 @@ use Rattle.hist_model.specs.declared.event.What.{What}
 use Rattle.hist_model.specs.declared.event.What.TheVariants.{Skip}
 use Rattle.hist_model.specs.declared.policy.Policy.{Policy}
 use Rattle.hist_model.specs.declared.script.Figures.{Figures}
-use Rattle.broker_core.specs.Answers.{Answer, Bytes, answer_of, is_not_yet, shown, told}
+use Rattle.broker_core.specs.Answers.{shown}
 use Rattle.broker_core.specs.Deeds.{due}
 use Rattle.broker_core.specs.Remembered.{IsReady, Remembers}
 use Rattle.broker_core.specs.declared.deed.Deed.{Deed}
-use Rattle.broker_core.specs.declared.deed.Got.{Got}
-use Rattle.broker_core.specs.declared.deed.Deed.TheVariants.{Act, AddfdPut, AddfdTake, OpenMem, Plant, Read, Recv}
+use Rattle.broker_core.specs.declared.deed.Deed.TheVariants.{AddfdPut, AddfdTake, OpenMem, Plant}
 use Rattle.broker_core.specs.declared.worker.Worker.{Worker}
 use Rattle.model_kernel.specs.Kernels.{DoesDeed, IsAfter, past, system}
-use Rattle.model_kernel.specs.Reads.{last_read}
 use Rattle.model_kernel.specs.Ready.{IsSame}
 use Rattle.model_kernel.specs.declared.kernel.Kernel.{Kernel}
 use Rattle.broker_machine.specs.declared.deeds.Outcome.{Outcome}
@@ -34,15 +32,6 @@ AllRemember P F K workers = (w : ℕ) (d : Worker) → w < length workers → Re
 -- each worker but this one does, and knows them
 abbrev pub OthersRemember : Policy → Figures → List Event → ℕ → List Worker → Type 0
 OthersRemember P F K n workers = (w : ℕ) (d : Worker) → w < length workers → (w ≡ n → ⊥) → Remembers P (session K w) (get_or workers w d) × ((get_or workers w d).figures ≡ F)
-
--- the deed never waits, and takes no memory but for its event
-abbrev pub IsPlain : Deed → Type 0
-IsPlain Recv = ⊥
-IsPlain AddfdTake = ⊥
-IsPlain (Read addr len) = ⊥
-IsPlain (Act cap) = ⊥
-IsPlain (Plant addr bytes cap) = ⊥
-IsPlain _ = ⊤
 
 -- the worker opens no second memory, plants into one that it has open, has no request when it puts one, and has the one that it takes
 abbrev pub Allows : List Event → ℕ → Deed → Type 0
@@ -68,22 +57,13 @@ abbrev pub TriesDeed : Kernel → ℕ → definition.Deed → Bool → Kernel �
 TriesDeed old n d true new = DoesDeed old n d new × (skips (deed_step (system old) (past old) n d) ≡ false)
 TriesDeed old n d false new = IsSame old new × (deed_step (system old) (past old) n d ≡ Skip)
 
--- this is the kernel's answer to a deed, which was done, unless there is none yet
-pub record IsAnswered (old : Kernel) (n : ℕ) (d : definition.Deed) (a : Answer) (new : Kernel) : Type 0 where
-  pub answer : a ≡ answer_of (deed_step (system old) (past old) n d)
-  pub tries : TriesDeed old n d (not (is_not_yet a)) new
-
--- what a worker is told by a kernel: this answer, or else the bytes that it read last
-abbrev pub told_by : Kernel → ℕ → Option Got → Answer
-told_by k n (Some got) = told got
-told_by k n None = Bytes (last_read n (past k))
-
--- the kernel answered what was due for the worker, which still remembers its session, and has not taken the answer
-pub record HasAnswer (P : Policy) (old : Kernel) (n : ℕ) (a : Answer) (new : Kernel) (worker : Worker) : Type 0 where
-  pub answered : IsAnswered old n (next_of P old n) a new
+-- what was due for the worker was tried; the worker still remembers its session, and has not taken the answer
+pub record HasTried (P : Policy) (old : Kernel) (n : ℕ) (d : Deed) (stepped : Bool) (new : Kernel) (worker : Worker) : Type 0 where
+  pub tries : TriesDeed old n (next_of P old n) stepped new
   pub remembers : Remembers P (session (past old) n) worker
   pub figures : worker.figures ≡ old.script.figures
-  pub due : due worker ≡ shown (next_of P old n)
+  pub due : d ≡ due worker
+  pub next : d ≡ shown (next_of P old n)
 
 -- the step that a worker has next, by the definitions
 abbrev pub step_due : Policy → Kernel → ℕ → What

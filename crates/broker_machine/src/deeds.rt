@@ -1,166 +1,147 @@
 //! A worker's turn: the deed that is due, on the kernel, and the kernel's answer to it.
 
-ghost use Rattle.std.specs.Prelude.{◌≡◌, ◌<◌, ◌≤◌, List, Option, Some, None, true, not, OnOk, OnErr, IfOk};
-ghost use Rattle.broker_core.specs.Answers.{deed_of, is_not_yet, shown, told};
-ghost use Rattle.broker_core.specs.Deeds.{due};
+ghost use Rattle.std.specs.Prelude.{◌≡◌, ◌<◌, ◌≤◌, ◌∷◌, List, Option, None, length, true, OnOk, OnErr, IfOk};
+ghost use Rattle.broker_core.specs.Answers.{shown};
 ghost use Rattle.broker_core.specs.Remembered.{HasEffect, Remembers};
 ghost use Rattle.broker_core.specs.declared.deed.Deed.TheVariants.{Act};
 ghost use Rattle.hist_model.specs.Deeds as definition;
 ghost use Rattle.hist_model.specs.Legal.{rules_of};
 ghost use Rattle.hist_model.specs.Sessions.{deed, session};
 ghost use Rattle.hist_model.specs.Steps.{IsLegal, mem, request_of};
+ghost use Rattle.hist_model.specs.declared.event.Event.{Event};
 ghost use Rattle.hist_model.specs.declared.event.What.{What};
 ghost use Rattle.hist_model.specs.declared.policy.Cap.{Cap as CapValue};
 ghost use Rattle.hist_model.specs.declared.policy.Policy.{Policy as PolicyValue};
-ghost use Rattle.hist_model.specs.declared.request.Request.{Request as Asked};
-ghost use Rattle.model_kernel.specs.Kernels.{IsKernel, past, system};
+ghost use Rattle.model_kernel.specs.Kernels.{DoesDeed, IsKernel, past, system};
 ghost use Rattle.model_kernel.specs.Ready.{IsSame};
-ghost use Rattle.broker_machine.specs.Workers.{Allows, IsAnswered, IsPlain, KeepsOn, TriesStep, is_step, told_by};
+ghost use Rattle.broker_machine.specs.Workers.{Allows, KeepsOn, TriesDeed, TriesStep, is_step};
 
-use broker_core::deed::{Deed, Got, done_or_fault};
+use broker_core::deed::{Deed, answer_of};
 use broker_core::worker::Worker;
 use hist_model::boxed::Boxed;
+use hist_model::event::What;
 use hist_model::policy::{Cap, Policy};
 use hist_model::request::Request;
 use listener::{FetchError, TakeError};
 use model_kernel::Kernel;
 use std::alloc::Global;
-use sys_abi::errno::Errno;
 use sys_abi::memory::NoMemory;
 
-/// A worker receives a notification, or finds its call gone. There is no answer yet while no call is there to receive.
-fn receive<'a>(kernel: &mut Kernel, number: u8) -> Got<'a>
+/// A worker receives a notification, or finds its call gone; says whether it does. It waits while no call is there to receive.
+fn receive(kernel: &mut Kernel, number: u8) -> bool
     requires kernel { IsKernel kernel.old }
     requires number { number ≤ 16 }
     requires room { 0 < kernel.old.history.spare }
-    ensures { IsAnswered kernel.old number definition.Recv (told result) kernel.new }
+    ensures { TriesDeed kernel.old number definition.Recv result kernel.new }
 {
     match kernel.receive(number) {
-        Ok(notif) => Got::Notif(notif),
-        Err(FetchError::Gone) => Got::Fault(Errno::ENOENT),
-        Err(FetchError::Empty) => Got::NotYet,
+        Ok(_) | Err(FetchError::Gone) => true,
+        Err(FetchError::Empty) => false,
     }
 }
 
-/// A worker takes what came of its request, which it has. There is no answer yet while nothing has come.
-fn take<'a>(kernel: &mut Kernel, number: u8) -> Got<'a>
+/// A worker takes what came of its request, which it has; says whether it does. It waits while nothing has come.
+fn take(kernel: &mut Kernel, number: u8) -> bool
     requires kernel { IsKernel kernel.old }
     requires asked { request_of (past kernel.old) number ≡ None → ⊥ }
     requires room { 0 < kernel.old.history.spare }
-    ensures { IsAnswered kernel.old number definition.AddfdTake (told result) kernel.new }
+    ensures { TriesDeed kernel.old number definition.AddfdTake result kernel.new }
 {
-    match &kernel.take(number) {
-        Ok(descriptor) => Got::Number(*descriptor),
-        Err(TakeError::Fault(errno)) => Got::Fault(*errno),
-        Err(TakeError::Pending) => Got::NotYet,
+    match kernel.take(number) {
+        Ok(_) | Err(TakeError::Fault(_)) => true,
+        Err(TakeError::Pending) => false,
     }
 }
 
-/// A worker reads the memory that it has open. There is no answer beside the bytes that it reads, which the kernel keeps.
-fn read<'a>(
-    alloc: Global,
-    kernel: &mut Kernel,
-    number: u8,
-    addr: u64,
-    len: u16,
-) -> Result<Option<Got<'a>>, NoMemory>
+/// A worker reads the memory that it has open.
+fn read(alloc: Global, kernel: &mut Kernel, number: u8, addr: u64, len: u16) -> Result<(), NoMemory>
     requires kernel { IsKernel kernel.old }
     requires room { 0 < kernel.old.history.spare }
-    ensures done { IfOk result (λ answer. IsAnswered kernel.old number (definition.Read addr len) (told_by kernel.new number answer) kernel.new) }
+    ensures done { OnOk result (DoesDeed kernel.old number (definition.Read addr len) kernel.new) }
     ensures same { OnErr result (IsSame kernel.old kernel.new) }
 {
     let room = Vec::with_capacity(alloc, usize::from(len))?;
-    match kernel.read(number, addr, len, room) {
-        Ok(()) => Ok(None),
-        Err(errno) => Ok(Some(Got::Fault(errno))),
-    }
+    let _answer = kernel.read(number, addr, len, room);
+    Ok(())
 }
 
 /// A worker stores the answer of sysinfo in the memory that it has open.
-fn plant<'a>(
+fn plant(
     alloc: Global,
     kernel: &mut Kernel,
     number: u8,
     addr: u64,
     bytes: &[u8; 112],
     cap: Option<Cap>,
-) -> Result<Option<Got<'a>>, NoMemory>
+) -> Result<(), NoMemory>
     requires kernel { IsKernel kernel.old }
     requires memory { mem (past kernel.old) number ≡ None → ⊥ }
     requires room { 0 < kernel.old.history.spare }
-    ensures done { IfOk result (λ answer. IsAnswered kernel.old number (definition.Plant addr bytes.now cap) (told_by kernel.new number answer) kernel.new) }
+    ensures done { OnOk result (DoesDeed kernel.old number (definition.Plant addr bytes.now cap) kernel.new) }
     ensures same { OnErr result (IsSame kernel.old kernel.new) }
 {
     let bytes = Boxed::new(alloc, *bytes)?;
     kernel.ready_plant(number, cap)?;
-    Ok(Some(done_or_fault(kernel.plant(number, addr, bytes, cap))))
+    let _answer = kernel.plant(number, addr, bytes, cap);
+    Ok(())
 }
 
 /// A worker does what a request asks for.
-fn act<'a>(
+fn act(
     kernel: &mut Kernel,
     number: u8,
     request: Boxed<Request>,
     cap: Option<Cap>,
-) -> Result<Option<Got<'a>>, NoMemory>
+) -> Result<(), NoMemory>
     requires kernel { IsKernel kernel.old }
     requires room { 0 < kernel.old.history.spare }
-    ensures done { IfOk result (λ answer. IsAnswered kernel.old number (definition.Act request cap) (told_by kernel.new number answer) kernel.new) }
+    ensures done { OnOk result (DoesDeed kernel.old number (definition.Act request cap) kernel.new) }
     ensures same { OnErr result (IsSame kernel.old kernel.new) }
 {
     kernel.ready_act(request.get(), cap)?;
-    Ok(Some(done_or_fault(kernel.act(number, request, cap))))
+    let _answer = kernel.act(number, request, cap);
+    Ok(())
 }
 
-/// A worker does a deed that doesn't wait, and takes no memory but for its event.
-fn do_plain<'a>(kernel: &mut Kernel, number: u8, deed: &Deed) -> Got<'a>
-    requires kernel { IsKernel kernel.old }
-    requires number { number ≤ 16 }
-    requires plain { IsPlain deed.now }
-    requires allows { Allows (past kernel.old) number deed.now }
-    requires room { 0 < kernel.old.history.spare }
-    ensures { (q : Asked) → IsAnswered kernel.old number (deed_of q deed.now) (told result) kernel.new }
+/// A worker did a deed, whatever came of it, which the history tells.
+fn stepped<T: Copy>(_answer: T) -> bool
+    ensures { result ≡ true }
 {
-    match deed {
-        Deed::OpenMem { pid } => done_or_fault(kernel.open_mem(number, *pid)),
-        Deed::OpenBase { pid, dirfd } => done_or_fault(kernel.open_base(number, *pid, *dirfd)),
-        Deed::Check { id } => done_or_fault(kernel.check(number, *id)),
-        Deed::AddfdPut(asked) => done_or_fault(kernel.put(number, *asked)),
-        Deed::Send { id, back } => done_or_fault(kernel.send(number, *id, back)),
-        Deed::LetGo => {
-            kernel.let_go(number);
-            Got::Ok
-        }
-        Deed::Recv | Deed::AddfdTake => unreachable!(),
-        Deed::Read { .. } | Deed::Act { .. } | Deed::Plant { .. } => unreachable!(),
-    }
+    true
 }
 
-/// A worker does this deed, for whose event there is room, unless it waits. There is no answer beside bytes that it reads, which
-/// the kernel keeps.
-fn do_deed<'a>(
+/// A worker does this deed, for whose event there is room, unless it waits; says whether it does. Its answer stands in the
+/// history.
+fn do_deed(
     alloc: Global,
     kernel: &mut Kernel,
     number: u8,
     worker: &mut Worker,
-    next: Deed,
-) -> Result<Option<Got<'a>>, NoMemory>
+    next: &Deed,
+) -> Result<bool, NoMemory>
     requires kernel { IsKernel kernel.old }
     requires number { number ≤ 16 }
     requires room { 0 < kernel.old.history.spare }
-    requires allows { Allows (past kernel.old) number next }
-    requires effect { (cap : Option CapValue) → next ≡ Act cap → HasEffect worker.old }
-    ensures done { (P : PolicyValue) (own : List What) → Remembers P own worker.old → next ≡ shown (deed (rules_of P worker.old.figures) own) → IfOk result (λ answer. IsAnswered kernel.old number (deed (rules_of P worker.old.figures) own) (told_by kernel.new number answer) kernel.new) }
+    requires allows { Allows (past kernel.old) number next.now }
+    requires effect { (cap : Option CapValue) → next.now ≡ Act cap → HasEffect worker.old }
+    ensures done { (P : PolicyValue) (own : List What) → Remembers P own worker.old → next.now ≡ shown (deed (rules_of P worker.old.figures) own) → IfOk result (λ stepped. TriesDeed kernel.old number (deed (rules_of P worker.old.figures) own) stepped kernel.new) }
     ensures same { OnErr result (IsSame kernel.old kernel.new) }
     ensures keeps { KeepsOn worker.old worker.new }
 {
     match next {
-        Deed::Recv => Ok(Some(receive(kernel, number))),
-        Deed::AddfdTake => Ok(Some(take(kernel, number))),
-        Deed::Read { addr, len } => read(alloc, kernel, number, addr, len),
-        Deed::Plant { addr, bytes, cap } => plant(alloc, kernel, number, addr, &bytes, cap),
-        Deed::Act { cap } => act(kernel, number, worker.take_effect(), cap),
-        _ => Ok(Some(do_plain(kernel, number, &next))),
+        Deed::Recv => Ok(receive(kernel, number)),
+        Deed::OpenMem { pid } => Ok(stepped(kernel.open_mem(number, *pid))),
+        Deed::OpenBase { pid, dirfd } => Ok(stepped(kernel.open_base(number, *pid, *dirfd))),
+        Deed::Check { id } => Ok(stepped(kernel.check(number, *id))),
+        Deed::Read { addr, len } => Ok(stepped(read(alloc, kernel, number, *addr, *len)?)),
+        Deed::Act { cap } => Ok(stepped(act(kernel, number, worker.take_effect(), *cap)?)),
+        Deed::Plant { addr, bytes, cap } => {
+            Ok(stepped(plant(alloc, kernel, number, *addr, bytes, *cap)?))
+        }
+        Deed::AddfdPut(asked) => Ok(stepped(kernel.put(number, *asked))),
+        Deed::AddfdTake => Ok(take(kernel, number)),
+        Deed::Send { id, back } => Ok(stepped(kernel.send(number, *id, back))),
+        Deed::LetGo => Ok(stepped(kernel.let_go(number))),
     }
 }
 
@@ -188,37 +169,27 @@ impl Outcome {
     }
 }
 
-/// What comes of a deed that is done.
-fn done_by(deed: &Deed) -> Outcome
+/// What came of a deed that was done, by the step that the history has of it.
+fn outcome_of(step: &What) -> Outcome
     ensures { is_step result ≡ true }
 {
-    match deed {
-        Deed::Check { id } => Outcome::Valid(*id),
-        Deed::Send { id, .. } => Outcome::Sent(*id),
+    match step {
+        What::Recv { answer: Ok(notif) } => Outcome::Received(notif.id),
+        What::Check { id, answer: Ok(()) } => Outcome::Valid(*id),
+        What::Send { id, .. } => Outcome::Sent(*id),
         _ => Outcome::Other,
     }
 }
 
-/// What comes of a deed that fails, given what would come of it: an id isn't found valid, and an answer was sent all the same.
-fn failed(done: Outcome) -> Outcome
-    ensures { is_step result ≡ is_step done }
+/// The newest step of the history.
+#[tactic(auto, using(crate::proofs::Answered::newest_of))]
+fn newest(kernel: &Kernel) -> &What
+    requires { 0 < length (past kernel.now) }
+    ensures { (e : Event) (K : List Event) → past kernel.now ≡ e ∷ K → result.now ≡ e.what }
 {
-    match done {
-        Outcome::Valid(_) => Outcome::Other,
-        _ => done,
-    }
-}
-
-/// What came of a deed with this answer, given what comes of it when it is done.
-fn outcome_of(done: Outcome, got: &Got<'_>) -> Outcome
-    requires { is_step done ≡ true }
-    ensures { is_step result ≡ not (is_not_yet (told got.now)) }
-{
-    match got {
-        Got::NotYet => Outcome::Waits,
-        Got::Notif(notif) => Outcome::Received(notif.id),
-        Got::Fault(_) => failed(done),
-        _ => done,
+    match kernel.history().events().split_last() {
+        Some((event, _)) => &event.what,
+        None => unreachable!(),
     }
 }
 
@@ -244,17 +215,11 @@ pub(crate) fn worker_turn(
     kernel.has_few_events();
     worker.ready(policy)?;
     let next = worker.next();
-    let done = done_by(&next);
     kernel.ready_event()?;
-    match do_deed(alloc, kernel, number, worker, next) {
-        Ok(Some(got)) => {
-            worker.took(&got);
-            Ok(outcome_of(done, &got))
-        }
-        Ok(None) => {
-            worker.took(&Got::Bytes(kernel.last_read(number)));
-            Ok(Outcome::Other)
-        }
-        Err(NoMemory) => Err(NoMemory),
+    if !do_deed(alloc, kernel, number, worker, &next)? {
+        return Ok(Outcome::Waits);
     }
+    let step = newest(kernel);
+    worker.took(&next, &answer_of(step));
+    Ok(outcome_of(step))
 }

@@ -97,10 +97,11 @@ fn replay_one(policy: &Policy, worker: &mut Worker, got: &Got<'_>) -> Result<boo
     ensures figures { worker.new.figures ≡ worker.old.figures }
 {
     worker.ready(policy)?;
-    if !may_stand(&worker.next(), got) {
+    let deed = worker.next();
+    if !may_stand(&deed, got) {
         return Ok(false);
     }
-    worker.took(got);
+    worker.took(&deed, got);
     Ok(true)
 }
 
@@ -147,7 +148,7 @@ impl Successor {
         if !is_answer_to(&deed, got) {
             return Ok(false);
         }
-        self.worker.took(got);
+        self.worker.took(&deed, got);
         self.ledger.note(alloc, is_let_go(&deed), got)?;
         Ok(true)
     }
