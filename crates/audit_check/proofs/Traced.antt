@@ -22,21 +22,21 @@ use Rattle.audit_check.specs.Traced.{TellsAnswers, trace_of, traced_line}
 -- ---- The loop
 
 -- the events so far
-abbrev pub answers : List (Option ℕ) → ℕ → ℕ → Bool
-answers answered c j = is_place (get_or answered j None) c
+abbrev pub answers : (ℕ → Option ℕ) → ℕ → ℕ → Bool
+answers answered c j = is_place (answered j) c
 
-pub record Answered (answered : List (Option ℕ)) (room i : ℕ) (found : List (Option ℕ)) : Type 0 where
+pub record Answered (answered : ℕ → Option ℕ) (room i : ℕ) (found : List (Option ℕ)) : Type 0 where
   pub number : length found ≡ room
   pub tells : (c : ℕ) → c < room → get_or found c None ≡ newest (answers answered c) i
 
-pub none_answered : (answered found : List (Option ℕ)) (room : ℕ) → found ≡ replicate room None → Answered answered room 0 found
+pub none_answered : (answered : ℕ → Option ℕ) (found : List (Option ℕ)) (room : ℕ) → found ≡ replicate room None → Answered answered room 0 found
 unfolding newest
 none_answered answered found room q = record { number = ap length q ∙ length-replicate room None; tells = λ c h. ap (λ xs. get_or xs c None) q ∙ none_at room c }
 
-pub answered_more : (answered : List (Option ℕ)) (room i : ℕ) (found : List (Option ℕ)) → Answered answered room i found → Answered answered room (i + 1) (noted (get_or answered i None) i found)
+pub answered_more : (answered : ℕ → Option ℕ) (room i : ℕ) (found : List (Option ℕ)) → Answered answered room i found → Answered answered room (i + 1) (noted (answered i) i found)
 unfolding newest
 answered_more answered room i found h =
-    let o = get_or answered i None in
+    let o = answered i in
     record {
       number = length_noted o i found ∙ h.number;
       tells = λ c k.
@@ -45,14 +45,14 @@ answered_more answered room i found h =
     }
 
 -- the newest of all events
-newest-is : (answered : List (Option ℕ)) (H later K : List Event) (c : ℕ) → H ≡ later ++ K → TellsInstalled H answered → newest (answers answered c) (length K) ≡ installation c K
+newest-is : (answered : ℕ → Option ℕ) (H later K : List Event) (c : ℕ) → H ≡ later ++ K → TellsInstalled H answered → newest (answers answered c) (length K) ≡ installation c K
 unfolding newest installation
 newest-is answered H later [] c q t = refl
 newest-is answered H later (e ∷ K) c q t =
     let whole : H ≡ (later ++ e ∷ []) ++ K = q ∙ sym (append_assoc later (e ∷ []) K) in
     ap₂ (λ o old. if is_place o c then Some (length K) else old) (t later K e q) (newest-is answered H (later ++ e ∷ []) K c whole t)
 
-pub all_answered : (answered : List (Option ℕ)) (room i : ℕ) (found : List (Option ℕ)) → i ≡ room → Answered answered room i found
+pub all_answered : (answered : ℕ → Option ℕ) (room i : ℕ) (found : List (Option ℕ)) → i ≡ room → Answered answered room i found
     → (H : List Event) → length H ≡ room → TellsInstalled H answered → TellsAnswers H room found
 all_answered answered room i found q h H l t c k = h.tells c k ∙ (ap (newest (answers answered c)) (q ∙ sym l) ∙ newest-is answered H [] H c refl t)
 
@@ -65,7 +65,7 @@ trace-same : (J : Judging) (s : Option Begun) (n : Option ℕ) → trace_of (opt
 trace-same J None n = refl
 trace-same J (Some s) n = rw (finding_told J s) refl
 
-module _ (J : Judging) (H : List Event) (rows : List SessionRecord) (calls served installed : List (Option ℕ)) (kept : rows ≡ map (told J) (begun H H)) (received : TellsReceived H calls)
+module _ (J : Judging) (H : List Event) (rows : List SessionRecord) (calls : ℕ → Option ℕ) (served installed : List (Option ℕ)) (kept : rows ≡ map (told J) (begun H H)) (received : TellsReceived H calls)
     (sessions : TellsSessions calls rows (length H) served) (answers : TellsAnswers H (length H) installed) where
   line-same : (later K : List Event) (e : Event) → H ≡ later ++ e ∷ K → traced_line J rows served installed K e ≡ trail_line J H K e
   line-same later K e q =

@@ -3,6 +3,7 @@
 ghost use Rattle.std.specs.Prelude.{◌≡◌, ◌<◌, ℕ, List, IfOk, None, OnOk, get_or, length, option_copied, reverse};
 ghost use Rattle.hist_model.specs.ReportAudit.{judging_by};
 ghost use Rattle.hist_model.specs.declared.event.Event.{Event};
+ghost use Rattle.audit_log.specs.Places.{call_in};
 ghost use Rattle.audit_log.specs.Requests.{TellsInstalled};
 ghost use Rattle.audit_log.specs.Tables.{TellsTables};
 ghost use Rattle.audit_log.specs.Written.{Wrote};
@@ -11,6 +12,7 @@ ghost use Rattle.audit_log.specs.Served.{row_at};
 ghost use Rattle.audit_check.specs.Traced.{TellsAnswers};
 
 use crate::trace::{push_trace, trace_of};
+use audit_log::call_table::CallTable;
 use audit_log::error::ReportError;
 use audit_log::line::LineBuffer;
 use audit_log::part::{Part, write_lines};
@@ -40,8 +42,8 @@ pub fn write_trail<O: Sink>(
 {
     let events = history.events();
     let sessions = tables.sessions.as_slice();
-    let served = served_calls(alloc, events.len(), tables.calls.received(), sessions)?;
-    let installed = answered_calls(alloc, events.len(), tables.calls.answered())?;
+    let served = served_calls(alloc, events.len(), &tables.calls, sessions)?;
+    let installed = answered_calls(alloc, events.len(), &tables.calls)?;
     let part = Trail {
         policy,
         sessions,
@@ -52,18 +54,18 @@ pub fn write_trail<O: Sink>(
     write_lines(&part, &mut line, events, out)
 }
 
-/// Of each place below `room`, the newest event that answered the call there by an installation, by the calls that events
-/// answer so.
+/// Of each place below `room`, the newest event that answered the call there by an installation, by what is kept of
+/// the calls.
 fn answered_calls(
     alloc: Global,
     room: usize,
-    answered: &[Option<usize>],
+    calls: &CallTable,
 ) -> Result<Vec<Option<usize>>, NoMemory>
-    ensures { IfOk result (λ found. (H : List Event) → length H ≡ room → TellsInstalled H answered.now → TellsAnswers H room found.items) }
+    ensures { IfOk result (λ found. (H : List Event) → length H ≡ room → TellsInstalled H (call_in calls.now.answered) → TellsAnswers H room found.items) }
 {
     let mut found = none_found(alloc, room)?;
     for place in 0..room {
-        note(&mut found, place_at(answered, place), place);
+        note(&mut found, calls.answered(place), place);
     }
     Ok(found)
 }

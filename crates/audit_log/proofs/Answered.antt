@@ -1,7 +1,7 @@
 -- What is kept of the requests of each call tells of them, event by event, and so of which events are answers.
 -- By cases on whether the place is one of the events so far, by `newest_own` and by `named_own`: an id's newest call has this id.
-use Rattle.std.proofs.Common.{◌≡◌, inl, inr, ℕ, ◌+◌, ◌<◌, ◌≤◌, Bool, true, false, ◌&&◌, ◌||◌, List, [], ◌∷◌, ◌++◌, length, get_or, Option, Some, None, refl, sym, ap, ◌∙◌, subst, arith}
-use Rattle.std.specs.Prelude.{if◌then◌else◌, ◌==◌, Ok, is_some}
+use Rattle.std.proofs.Common.{◌≡◌, inl, inr, ℕ, ◌+◌, ◌<◌, ◌≤◌, Bool, true, false, ◌&&◌, ◌||◌, List, [], ◌∷◌, ◌++◌, length, Option, Some, None, refl, sym, ap, ◌∙◌, subst, arith}
+use Rattle.std.specs.Prelude.{if◌then◌else◌, ◌==◌, Ok, Err, is_some}
 use Rattle.std.proofs.lemmas.Bool.{cases_Bool, cases_order, eqb-true, eq-eqb}
 use Rattle.hist_model.specs.Calls.{actor_in, caller, id, id_in, notify_id}
 use Rattle.hist_model.specs.Kinds.{enters, gave, is_sent}
@@ -14,11 +14,11 @@ use Rattle.hist_model.specs.declared.event.Actor.TheVariants.{Start, Task, Worke
 use Rattle.hist_model.specs.declared.event.Entered.TheVariants.{Notify}
 use Rattle.hist_model.specs.declared.event.Event.{Event}
 use Rattle.hist_model.specs.declared.event.What.{What}
-use Rattle.hist_model.specs.declared.event.What.TheVariants.{AddfdPut, Enter, Install}
+use Rattle.hist_model.specs.declared.event.What.TheVariants.{AddfdPut, Enter, Install, Send}
 use Rattle.hist_model.proofs.Look.{event_at-older, name_eq-refl}
 use Rattle.audit_log.specs.Received.{Names, place_in}
-use Rattle.audit_log.specs.Records.{Tells, no_record}
-use Rattle.audit_log.specs.Requests.{TellsInstalled, TellsRequests, answered_call, first_at, installed_for, pending_call, queued}
+use Rattle.audit_log.specs.Records.{Tells}
+use Rattle.audit_log.specs.Requests.{TellsInstalled, TellsRequests, answered_call, first_at, for_install, installed_for, pending_call, queued}
 use Rattle.audit_log.specs.Tasks.{Knows, call_of, facts_in, task_facts}
 use Rattle.audit_log.specs.declared.received.Ids.{Ids}
 use Rattle.audit_log.specs.declared.records.CallRecord.{CallRecord}
@@ -26,7 +26,7 @@ use Rattle.audit_log.specs.declared.tasks.TaskRecords.{TaskRecords}
 use Rattle.audit_log.proofs.ByPlace.{by_place_more, none_by_place}
 use Rattle.audit_log.proofs.Newest.{elsewhere, newest_below, newest_not_past, newest_passes}
 use Rattle.audit_log.proofs.ReceivedCalls.{at_place, newest_named}
-use Rattle.audit_log.proofs.Recorded.{and_false, in_call, newest_entered, newest_own, not_yet, task_of}
+use Rattle.audit_log.proofs.Recorded.{and_false, in_call, newest_entered, newest_enters, newest_own, not_yet, task_of}
 
 -- ---- Ids
 
@@ -81,11 +81,11 @@ step_told (AddfdPut asked (Ok u)) x call named c queue inside newest i n = rw (n
 step_told _ x call named c queue inside newest i n = refl
 
 -- the call at a place, while nothing came of it
-pending-is : (o : Option ℕ) (records : List CallRecord) (c : ℕ) → is_place (pending_call o records) c ≡ (is_place o c && is_pending (get_or records c no_record).outcome)
-pending-is None records c = refl
-pending-is (Some k) records c = elim (cases_Bool (k == c)) [
-  | inl h ↦ let q : k ≡ c = eqb-true k c h in rw (h, q) (same (is_pending (get_or records c no_record).outcome))
-  | inr h ↦ rw h (other (is_pending (get_or records k no_record).outcome) h)
+pending-is : (o : Option ℕ) (kept : ℕ → CallRecord) (c : ℕ) → is_place (pending_call o kept) c ≡ (is_place o c && is_pending (kept c).outcome)
+pending-is None kept c = refl
+pending-is (Some k) kept c = elim (cases_Bool (k == c)) [
+  | inl h ↦ let q : k ≡ c = eqb-true k c h in rw (h, q) (same (is_pending (kept c).outcome))
+  | inr h ↦ rw h (other (is_pending (kept k).outcome) h)
 ]
   where
     same : (b : Bool) → is_place (if b then Some c else None) c ≡ b
@@ -103,52 +103,68 @@ none-of Start c K l = refl
 none-of (Worker w) c K l = refl
 none-of Listener c K l = refl
 
+-- the event at the place of an actor's newest call enters it
+call_enters : (who : Actor) (later M : List Event) (f : Event) → is_place (call_of who (task_facts (later ++ f ∷ M))) (length M) ≡ true → enters f.what ≡ true
+call_enters (Task m) later M f h = newest_enters m later M f (place_is (newest_call m (later ++ f ∷ M)) (length M) h)
+  where
+    place_is : (o : Option ℕ) (c : ℕ) → is_place o c ≡ true → o ≡ Some c
+    place_is None c h = cc
+    place_is (Some k) c h = ap Some (eqb-true k c h)
+call_enters Start later M f h = cc
+call_enters (Worker w) later M f h = cc
+call_enters Listener later M f h = cc
+
 -- the requests at place c with one more event, by the call of its actor and the call that each id names
-abbrev after : List CallRecord → List Event → Event → ℕ → List Bool → List Bool
-after records K e c queue = queued e.what (pending_call (call_of e.who (task_facts K)) records) (λ y. call_with_id y K) c queue
+abbrev after : (ℕ → CallRecord) → List Event → Event → ℕ → List Bool → List Bool
+after kept K e c queue = queued e.what (pending_call (call_of e.who (task_facts K)) kept) (λ y. call_with_id y K) c queue
 
 -- at a place past the events
-later_told : (x : ℕ) (n : Name) (records : List CallRecord) (K : List Event) (e : Event) (c : ℕ) → length K ≤ c
-    → after records K e c (requests x n c K) ≡ requests x n c (e ∷ K)
+later_told : (x : ℕ) (n : Name) (kept : ℕ → CallRecord) (K : List Event) (e : Event) (c : ℕ) → length K ≤ c
+    → after kept K e c (requests x n c K) ≡ requests x n c (e ∷ K)
 unfolding requests
-later_told x n records K e c l =
+later_told x n kept K e c l =
     let o = call_of e.who (task_facts K) in
-    let inside : is_place (pending_call o records) c ≡ is_inside n c K e =
-    pending-is o records c
-    ∙ ap (λ b. b && is_pending (get_or records c no_record).outcome) (none-of e.who c K l)
+    let inside : is_place (pending_call o kept) c ≡ is_inside n c K e =
+    pending-is o kept c
+    ∙ ap (λ b. b && is_pending (kept c).outcome) (none-of e.who c K l)
     ∙ sym (ap (λ b. (is_task e.who n && b) && is_pending (outcome n c K)) (not_yet n c K l) ∙ ap (λ b. b && is_pending (outcome n c K)) (and_false (is_task e.who n)))
     in
     let named : (y : ℕ) → is_place (call_with_id y K) c ≡ (is_place (call_with_id x K) c && (y == x)) =
     (λ y. none-named y c K l ∙ sym (ap (λ b. b && (y == x)) (none-named x c K l)))
     in
-    step_told e.what x (pending_call o records) (λ y. call_with_id y K) c (requests x n c K) (is_inside n c K e) (is_place (call_with_id x K) c) inside named
+    step_told e.what x (pending_call o kept) (λ y. call_with_id y K) c (requests x n c K) (is_inside n c K e) (is_place (call_with_id x K) c) inside named
 
 -- at the place of an earlier event, f
-earlier_told : (records : List CallRecord) (later M : List Event) (f e : Event) → let K = later ++ f ∷ M in
-    (get_or records (length M) no_record).outcome ≡ outcome (task_name f.who) (length M) K
-    → after records K e (length M) (requests (notify_id f.what) (task_name f.who) (length M) K) ≡ requests (notify_id f.what) (task_name f.who) (length M) (e ∷ K)
+earlier_told : (kept : ℕ → CallRecord) (later M : List Event) (f e : Event) → let K = later ++ f ∷ M in
+    (enters f.what ≡ true → (kept (length M)).outcome ≡ outcome (task_name f.who) (length M) K)
+    → after kept K e (length M) (requests (notify_id f.what) (task_name f.who) (length M) K) ≡ requests (notify_id f.what) (task_name f.who) (length M) (e ∷ K)
 unfolding requests
-earlier_told records later M f e r =
+earlier_told kept later M f e r =
     let K = later ++ f ∷ M in
     let c = length M in
     let n = task_name f.who in
     let x = notify_id f.what in
     let o = call_of e.who (task_facts K) in
     let own = in_call e.who n c K (λ q. task_of f.who (task_name e.who) (newest_own (task_name e.who) later M f q)) in
-    let inside : is_place (pending_call o records) c ≡ is_inside n c K e =
-    pending-is o records c
-    ∙ ap (λ out. is_place o c && is_pending out) r
+    let inside : is_place (pending_call o kept) c ≡ is_inside n c K e =
+    pending-is o kept c
+    ∙ came (is_place o c) (λ q. r (call_enters e.who later M f q))
     ∙ ap (λ b. b && is_pending (outcome n c K)) (sym own)
     in
     let named : (y : ℕ) → is_place (call_with_id y K) c ≡ (is_place (call_with_id x K) c && (y == x)) =
     (λ y. named-same x y c K (λ q. named_own y later M f q))
     in
-    step_told e.what x (pending_call o records) (λ y. call_with_id y K) c (requests x n c K) (is_inside n c K e) (is_place (call_with_id x K) c) inside named
+    step_told e.what x (pending_call o kept) (λ y. call_with_id y K) c (requests x n c K) (is_inside n c K e) (is_place (call_with_id x K) c) inside named
+  where
+    came : (b : Bool) → (b ≡ true → (kept (length M)).outcome ≡ outcome (task_name f.who) (length M) (later ++ f ∷ M))
+        → (b && is_pending (kept (length M)).outcome) ≡ (b && is_pending (outcome (task_name f.who) (length M) (later ++ f ∷ M)))
+    came true q = ap is_pending (q refl)
+    came false q = refl
 
 -- with one more event
-pub requests_more : (K : List Event) (e : Event) (records : List CallRecord) → Tells K records
-    → (c : ℕ) → after records K e c (requests (id K c) (caller K c) c K) ≡ requests (id (e ∷ K) c) (caller (e ∷ K) c) c (e ∷ K)
-requests_more K e records t c = elim (cases_order c (length K)) [
+pub requests_more : (K : List Event) (e : Event) (kept : ℕ → CallRecord) → Tells K kept
+    → (c : ℕ) → after kept K e c (requests (id K c) (caller K c) c K) ≡ requests (id (e ∷ K) c) (caller (e ∷ K) c) c (e ∷ K)
+requests_more K e kept t c = elim (cases_order c (length K)) [
   | inl q ↦ past (omega arith)
   | inr o ↦ elim o [
     | inl m ↦ within m
@@ -156,24 +172,24 @@ requests_more K e records t c = elim (cases_order c (length K)) [
   ]
 ]
   where
-    past : length K ≤ c → after records K e c (requests (id K c) (caller K c) c K) ≡ requests (id (e ∷ K) c) (caller (e ∷ K) c) c (e ∷ K)
+    past : length K ≤ c → after kept K e c (requests (id K c) (caller K c) c K) ≡ requests (id (e ∷ K) c) (caller (e ∷ K) c) c (e ∷ K)
     past l =
-        ap (after records K e c) (no-requests (id K c) (caller K c) c K l ∙ sym (no-requests (id (e ∷ K) c) (caller (e ∷ K) c) c K l))
-        ∙ later_told (id (e ∷ K) c) (caller (e ∷ K) c) records K e c l
+        ap (after kept K e c) (no-requests (id K c) (caller K c) c K l ∙ sym (no-requests (id (e ∷ K) c) (caller (e ∷ K) c) c K l))
+        ∙ later_told (id (e ∷ K) c) (caller (e ∷ K) c) kept K e c l
 
-    within : c < length K → after records K e c (requests (id K c) (caller K c) c K) ≡ requests (id (e ∷ K) c) (caller (e ∷ K) c) c (e ∷ K)
+    within : c < length K → after kept K e c (requests (id K c) (caller K c) c K) ≡ requests (id (e ∷ K) c) (caller (e ∷ K) c) c (e ∷ K)
     within m =
         let (later, f, M, p, n, v) = at_place K c m in
         let old : event_at (e ∷ K) c ≡ Some f = event_at-older e K c m ∙ v in
-        let record_is : (get_or records (length M) no_record).outcome ≡ outcome (task_name f.who) (length M) K = ap (λ r. r.outcome) (t later M f p) in
+        let record_is : enters f.what ≡ true → (kept (length M)).outcome ≡ outcome (task_name f.who) (length M) K = (λ enter. ap (λ r. r.outcome) (t later M f p enter)) in
         let told =
-        earlier_told records later M f e (subst (λ H. (get_or records (length M) no_record).outcome ≡ outcome (task_name f.who) (length M) H) p record_is) in
-        let whole : after records K e (length M) (requests (notify_id f.what) (task_name f.who) (length M) K) ≡ requests (notify_id f.what) (task_name f.who) (length M) (e ∷ K) =
-        subst (λ H. after records H e (length M) (requests (notify_id f.what) (task_name f.who) (length M) H) ≡ requests (notify_id f.what) (task_name f.who) (length M) (e ∷ H)) (sym p) told in
-        let here : after records K e c (requests (notify_id f.what) (task_name f.who) c K) ≡ requests (notify_id f.what) (task_name f.who) c (e ∷ K) =
-        subst (λ k. after records K e k (requests (notify_id f.what) (task_name f.who) k K) ≡ requests (notify_id f.what) (task_name f.who) k (e ∷ K)) n whole in
-        subst (λ g. after records K e c (requests (id K c) (caller K c) c K) ≡ requests (id_in g) (actor_in g) c (e ∷ K)) (sym old)
-        (subst (λ g. after records K e c (requests (id_in g) (actor_in g) c K) ≡ requests (notify_id f.what) (task_name f.who) c (e ∷ K)) (sym v) here)
+        earlier_told kept later M f e (subst (λ H. enters f.what ≡ true → (kept (length M)).outcome ≡ outcome (task_name f.who) (length M) H) p record_is) in
+        let whole : after kept K e (length M) (requests (notify_id f.what) (task_name f.who) (length M) K) ≡ requests (notify_id f.what) (task_name f.who) (length M) (e ∷ K) =
+        subst (λ H. after kept H e (length M) (requests (notify_id f.what) (task_name f.who) (length M) H) ≡ requests (notify_id f.what) (task_name f.who) (length M) (e ∷ H)) (sym p) told in
+        let here : after kept K e c (requests (notify_id f.what) (task_name f.who) c K) ≡ requests (notify_id f.what) (task_name f.who) c (e ∷ K) =
+        subst (λ k. after kept K e k (requests (notify_id f.what) (task_name f.who) k K) ≡ requests (notify_id f.what) (task_name f.who) k (e ∷ K)) n whole in
+        subst (λ g. after kept K e c (requests (id K c) (caller K c) c K) ≡ requests (id_in g) (actor_in g) c (e ∷ K)) (sym old)
+        (subst (λ g. after kept K e c (requests (id_in g) (actor_in g) c K) ≡ requests (notify_id f.what) (task_name f.who) c (e ∷ K)) (sym v) here)
 
 -- ---- Answers
 
@@ -183,63 +199,74 @@ no_task_installs who a K None h = refl
 no_task_installs who a K (Some c) h = rw h refl
 
 -- an installation is one for a request with SEND
-send_told : (who : Actor) (a : What) (K : List Event) (records : List CallRecord) (queue : ℕ → List Bool) → Tells K records → TellsRequests K queue
-    → first_at (pending_call (call_of who (task_facts K)) records) queue ≡ installs_for_send K (record { who = who; what = a }) (newest_call (task_name who) K)
-send_told (Task m) a K records queue t r = by (newest_call m K) refl
+send_told : (who : Actor) (a : What) (K : List Event) (kept : ℕ → CallRecord) (queue : ℕ → List Bool) → Tells K kept → TellsRequests K queue
+    → first_at (pending_call (call_of who (task_facts K)) kept) queue ≡ installs_for_send K (record { who = who; what = a }) (newest_call (task_name who) K)
+send_told (Task m) a K kept queue t r = by (newest_call m K) refl
   where
-    by : (o : Option ℕ) → newest_call m K ≡ o → first_at (pending_call o records) queue ≡ installs_for_send K (record { who = Task m; what = a }) o
+    by : (o : Option ℕ) → newest_call m K ≡ o → first_at (pending_call o kept) queue ≡ installs_for_send K (record { who = Task m; what = a }) o
     by None q = refl
     by (Some c) q =
         let (later, f, M, p, n, v) = at_place K c (newest_below (λ e. is_task e.who m && enters e.what) (newest_call m) (newest_entered m) c K q) in
-        let mine : is_task f.who m ≡ true = newest_own m later M f (ap (newest_call m) (sym p) ∙ q ∙ ap Some (sym n)) in
+        let newest : newest_call m (later ++ f ∷ M) ≡ Some (length M) = ap (newest_call m) (sym p) ∙ q ∙ ap Some (sym n) in
+        let mine : is_task f.who m ≡ true = newest_own m later M f newest in
         let name : task_name f.who ≡ m = task_of f.who m mine in
         let who : caller K c ≡ m = ap actor_in v ∙ name in
-        let out : (get_or records c no_record).outcome ≡ outcome m c K =
-        subst (λ k. (get_or records k no_record).outcome ≡ outcome m k K) n (ap (λ r. r.outcome) (t later M f p) ∙ ap (λ y. outcome y (length M) K) name) in
+        let out : (kept c).outcome ≡ outcome m c K =
+        subst (λ k. (kept k).outcome ≡ outcome m k K) n (ap (λ r. r.outcome) (t later M f p (newest_enters m later M f newest)) ∙ ap (λ y. outcome y (length M) K) name) in
         let asked : queue c ≡ requests (id K c) m c K = r c ∙ ap (λ y. requests (id K c) y c K) who in
         rw (q, name_eq-refl m, eq-eqb c c refl, out, ← asked) (chosen (is_pending (outcome m c K)) c)
       where
         chosen : (b : Bool) (c : ℕ) → first_at (if b then Some c else None) queue ≡ (b && first_has_send (queue c))
         chosen true c = refl
         chosen false c = refl
-send_told Start a K records queue t r = no_task_installs Start a K (newest_call [] K) refl
-send_told (Worker w) a K records queue t r = no_task_installs (Worker w) a K (newest_call [] K) refl
-send_told Listener a K records queue t r = no_task_installs Listener a K (newest_call [] K) refl
+send_told Start a K kept queue t r = no_task_installs Start a K (newest_call [] K) refl
+send_told (Worker w) a K kept queue t r = no_task_installs (Worker w) a K (newest_call [] K) refl
+send_told Listener a K kept queue t r = no_task_installs Listener a K (newest_call [] K) refl
 
 -- the call that an installation answers is its task's newest one
-answered_told : (K : List Event) (e : Event) (records : List CallRecord) (queue : ℕ → List Bool) → Tells K records → TellsRequests K queue
-    → answered_call e.what (pending_call (call_of e.who (task_facts K)) records) queue ≡ installed_for K e
-answered_told K e records queue t r = by (gave e.what) (call_of e.who (task_facts K)) (newest_call (task_name e.who) K) refl (send_told e.who e.what K records queue t r) (own e.who)
+answered_told : (K : List Event) (e : Event) (kept : ℕ → CallRecord) (queue : ℕ → List Bool) → Tells K kept → TellsRequests K queue
+    → answered_call e.what (pending_call (call_of e.who (task_facts K)) kept) queue ≡ installed_for K e
+answered_told K e kept queue t r = by (gave e.what) (call_of e.who (task_facts K)) (newest_call (task_name e.who) K) refl (send_told e.who e.what K kept queue t r) (own e.who)
   where
-    own : (who : Actor) → first_at (pending_call (call_of who (task_facts K)) records) queue ≡ true → call_of who (task_facts K) ≡ newest_call (task_name who) K
+    own : (who : Actor) → first_at (pending_call (call_of who (task_facts K)) kept) queue ≡ true → call_of who (task_facts K) ≡ newest_call (task_name who) K
     own (Task m) h = refl
     own Start h = cc
     own (Worker w) h = cc
     own Listener h = cc
 
-    pending : (o : Option ℕ) → first_at (pending_call o records) queue ≡ true → pending_call o records ≡ o
+    pending : (o : Option ℕ) → first_at (pending_call o kept) queue ≡ true → pending_call o kept ≡ o
     pending None h = cc
-    pending (Some c) h = chosen (is_pending (get_or records c no_record).outcome) h
+    pending (Some c) h = chosen (is_pending (kept c).outcome) h
       where
         chosen : (b : Bool) → first_at (if b then Some c else None) queue ≡ true → (if b then Some c else None) ≡ Some c
         chosen true h = refl
         chosen false h = cc
 
-    by : (g : Bool) (o n : Option ℕ) → newest_call (task_name e.who) K ≡ n → first_at (pending_call o records) queue ≡ installs_for_send K e n
-        → (first_at (pending_call o records) queue ≡ true → o ≡ n)
-        → (if g && first_at (pending_call o records) queue then pending_call o records else None) ≡ (if g && installs_for_send K e n then n else None)
+    by : (g : Bool) (o n : Option ℕ) → newest_call (task_name e.who) K ≡ n → first_at (pending_call o kept) queue ≡ installs_for_send K e n
+        → (first_at (pending_call o kept) queue ≡ true → o ≡ n)
+        → (if g && first_at (pending_call o kept) queue then pending_call o kept else None) ≡ (if g && installs_for_send K e n then n else None)
     by false o n q h same = refl
-    by true o n q h same = elim (cases_Bool (first_at (pending_call o records) queue)) [
+    by true o n q h same = elim (cases_Bool (first_at (pending_call o kept) queue)) [
       | inl y ↦ let s : installs_for_send K e n ≡ true = sym h ∙ y in rw (y, s) (pending o y ∙ same y)
       | inr f ↦ let s : installs_for_send K e n ≡ false = sym h ∙ f in rw (f, s) refl
     ]
 
 -- the call that an installation is for, by what is kept of the tasks
-call-is : (K : List Event) (e : Event) (tasks : TaskRecords) (records : List CallRecord) (call : Option ℕ) → Knows K tasks
-    → call ≡ pending_call (call_of e.who (facts_in tasks)) records → call ≡ pending_call (call_of e.who (task_facts K)) records
-call-is K e tasks records call k q =
+call-is : (K : List Event) (e : Event) (tasks : TaskRecords) (kept : ℕ → CallRecord) → Knows K tasks
+    → pending_call (call_of e.who (facts_in tasks)) kept ≡ pending_call (call_of e.who (task_facts K)) kept
+call-is K e tasks kept k =
     let f : facts_in tasks ≡ task_facts K = λ i. λ n. k n i in
-    q ∙ ap (λ facts. pending_call (call_of e.who facts) records) f
+    ap (λ facts. pending_call (call_of e.who facts) kept) f
+
+-- only an installation asks for it
+pub queued_for : (a : What) (o : Option ℕ) (named : ℕ → Option ℕ) (c : ℕ) (queue : List Bool) → queued a (for_install a o) named c queue ≡ queued a o named c queue
+queued_for (Install answer) o named c queue = refl
+queued_for (AddfdPut asked (Ok u)) o named c queue = refl
+queued_for _ o named c queue = refl
+
+pub answered_for : (a : What) (o : Option ℕ) (queue : ℕ → List Bool) → answered_call a (for_install a o) queue ≡ answered_call a o queue
+answered_for (Install answer) o queue = refl
+answered_for _ o queue = refl
 
 -- ---- The pass
 
@@ -254,49 +281,54 @@ unfolding answer_count
 none_answered = refl
 
 -- the requests with one more event
-pub asked_more : (K : List Event) (e : Event) (tasks : TaskRecords) (ids : Ids) (records : List CallRecord) (call : Option ℕ) (before new : ℕ → List Bool)
-    → Tells K records → Knows K tasks → Names K ids → TellsRequests K before → call ≡ pending_call (call_of e.who (facts_in tasks)) records
-    → ((c : ℕ) → new c ≡ queued e.what call (place_in ids) c (before c)) → TellsRequests (e ∷ K) new
-asked_more K e tasks ids records call before new t k n r q h =
+pub asked_more : (K : List Event) (e : Event) (tasks : TaskRecords) (ids : Ids) (kept : ℕ → CallRecord) (before new : ℕ → List Bool)
+    → Tells K kept → Knows K tasks → Names K ids → TellsRequests K before
+    → ((c : ℕ) → new c ≡ queued e.what (pending_call (call_of e.who (facts_in tasks)) kept) (place_in ids) c (before c)) → TellsRequests (e ∷ K) new
+asked_more K e tasks ids kept before new t k n r h =
     let g : place_in ids ≡ (λ x. call_with_id x K) = λ i. λ x. n x i in
-    let p = call-is K e tasks records call k q in
+    let p = call-is K e tasks kept k in
     λ c. h c
-    ∙ ap (queued e.what call (place_in ids) c) (r c)
+    ∙ ap (queued e.what (pending_call (call_of e.who (facts_in tasks)) kept) (place_in ids) c) (r c)
     ∙ ap (λ o. queued e.what o (place_in ids) c (requests (id K c) (caller K c) c K)) p
-    ∙ ap (λ named. queued e.what (pending_call (call_of e.who (task_facts K)) records) named c (requests (id K c) (caller K c) c K)) g
-    ∙ requests_more K e records t c
+    ∙ ap (λ named. queued e.what (pending_call (call_of e.who (task_facts K)) kept) named c (requests (id K c) (caller K c) c K)) g
+    ∙ requests_more K e kept t c
 
 -- the calls that are answered by installations, with one more event
-pub installed_more : (K : List Event) (e : Event) (place : ℕ) (tasks : TaskRecords) (records : List CallRecord) (call o : Option ℕ) (queue : ℕ → List Bool) (before after : List (Option ℕ))
-    → length K ≡ place → length before ≡ place → TellsInstalled K before → Tells K records → Knows K tasks → TellsRequests K queue
-    → call ≡ pending_call (call_of e.who (facts_in tasks)) records → o ≡ answered_call e.what call queue → after ≡ before ++ o ∷ []
-    → (length after ≡ place + 1) × TellsInstalled (e ∷ K) after
-installed_more K e place tasks records call o queue before after l m i t k r q h a =
-    by_place_more installed_for K e place o before after l m i
-    (h ∙ ap (λ c. answered_call e.what c queue) (call-is K e tasks records call k q) ∙ answered_told K e records queue t r) a
+pub installed_more : (K : List Event) (e : Event) (tasks : TaskRecords) (kept : ℕ → CallRecord) (queue : ℕ → List Bool) (before after : ℕ → Option ℕ)
+    → TellsInstalled K before → Tells K kept → Knows K tasks → TellsRequests K queue
+    → ((p : ℕ) → after p ≡ (if length K == p then answered_call e.what (pending_call (call_of e.who (facts_in tasks)) kept) queue else before p)) → TellsInstalled (e ∷ K) after
+installed_more K e tasks kept queue before after i t k r h =
+    let o = pending_call (call_of e.who (facts_in tasks)) kept in
+    by_place_more installed_for K e (answered_call e.what o queue) before after i (ap (λ c. answered_call e.what c queue) (call-is K e tasks kept k) ∙ answered_told K e kept queue t r) h
 
 -- before all events none is
-pub none_installed : (calls : List (Option ℕ)) (H : List Event) → H ≡ [] → TellsInstalled H calls
+pub none_installed : (calls : ℕ → Option ℕ) (H : List Event) → H ≡ [] → TellsInstalled H calls
 none_installed = none_by_place installed_for
 
 -- an answer is a send that was taken, or an installation that answers a call
-answer_is : (K : List Event) (e : Event) → (is_sent e.what || is_some (installed_for K e)) ≡ is_answer K e
-answer_is K e = by (gave e.what) (newest_call (task_name e.who) K)
+answer_is : (K : List Event) (e : Event) → (is_sent e.what || is_some (for_install e.what (installed_for K e))) ≡ is_answer K e
+answer_is K e = by e.what (newest_call (task_name e.who) K)
   where
     same : (b : Bool) (c : ℕ) → is_some (if b then Some c else None) ≡ b
     same true c = refl
     same false c = refl
 
-    by : (g : Bool) (n : Option ℕ) → (is_sent e.what || is_some (if g && installs_for_send K e n then n else None)) ≡ (is_sent e.what || (g && installs_for_send K e n))
-    by false n = refl
-    by true None = refl
-    by true (Some c) = ap (λ b. is_sent e.what || b) (same (installs_for_send K e (Some c)) c)
+    given : (g : Bool) (n : Option ℕ) → is_some (if g && installs_for_send K e n then n else None) ≡ (g && installs_for_send K e n)
+    given false n = refl
+    given true None = refl
+    given true (Some c) = same (installs_for_send K e (Some c)) c
+
+    by : (a : What) (n : Option ℕ) → (is_sent a || is_some (for_install a (if gave a && installs_for_send K e n then n else None))) ≡ (is_sent a || (gave a && installs_for_send K e n))
+    by (Install answer) n = given (gave (Install answer)) n
+    by (Send id back (Ok u)) n = refl
+    by (Send id back (Err error)) n = refl
+    by _ n = refl
 
 -- the count with one more event
-pub counted_more : (H later K : List Event) (e : Event) (calls : List (Option ℕ)) (place : ℕ) (b : Bool) (count : ℕ) → H ≡ later ++ e ∷ K → length K ≡ place → TellsInstalled H calls
-    → b ≡ (is_sent e.what || is_some (get_or calls place None)) → count ≡ answer_count K → count + (if b then 1 else 0) ≡ answer_count (e ∷ K)
+pub counted_more : (H later K : List Event) (e : Event) (calls : ℕ → Option ℕ) (place : ℕ) (b : Bool) (count : ℕ) → H ≡ later ++ e ∷ K → length K ≡ place → TellsInstalled H calls
+    → b ≡ (is_sent e.what || is_some (for_install e.what (calls place))) → count ≡ answer_count K → count + (if b then 1 else 0) ≡ answer_count (e ∷ K)
 unfolding answer_count
 counted_more H later K e calls place b count h l t q n =
-    let told : get_or calls place None ≡ installed_for K e = ap (λ p. get_or calls p None) (sym l) ∙ t later K e h in
-    let a : b ≡ is_answer K e = q ∙ (ap (λ o. is_sent e.what || is_some o) told ∙ answer_is K e) in
+    let told : calls place ≡ installed_for K e = ap calls (sym l) ∙ t later K e h in
+    let a : b ≡ is_answer K e = q ∙ (ap (λ o. is_sent e.what || is_some (for_install e.what o)) told ∙ answer_is K e) in
     ap (λ m. m + (if b then 1 else 0)) n ∙ ap (λ y. answer_count K + (if y then 1 else 0)) a

@@ -5,8 +5,11 @@ pub mod Counted
 pub mod Hexed
 pub mod Named
 pub mod Newest
+pub mod Numbers
 pub mod Opened
+pub mod Passed
 pub mod Past
+pub mod PlaceRows
 pub mod ReceivedCalls
 pub mod Recorded
 pub mod Room

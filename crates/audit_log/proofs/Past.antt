@@ -20,6 +20,3 @@ length_taken xs i h = simp (length-reverse, length-take) (omega arith)
 pub past_whole : (xs : List Event) (i : ℕ) (d : Event) → i < length xs → reverse xs ≡ reverse (drop (i + 1) xs) ++ get_or xs i d ∷ reverse (take i xs)
 past_whole xs i d h =
     ap reverse (sym (take-append-drop (i + 1) xs)) ∙ (reverse-append (take (i + 1) xs) (drop (i + 1) xs) ∙ ap (λ K. reverse (drop (i + 1) xs) ++ K) (past_more xs i d h))
-
-pub one_longer : (n : ℕ) (K : List Event) (e : Event) (place : ℕ) → length K ≡ place → n ≡ place + 1 → n ≡ length (e ∷ K)
-one_longer n K e place l h = omega arith

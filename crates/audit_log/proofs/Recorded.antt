@@ -1,7 +1,7 @@
--- The records of a history tell of its calls: one more event changes the record of its task's newest call alone, and adds its own.
+-- The records of a history tell of its calls: one more event changes the record of its task's newest call alone, or adds its own.
 -- By cases on whether the event is the last one, and by `newest_own`: the newest call of a task is its own.
-use Rattle.std.proofs.Common.{◌≡◌, inl, inr, ℕ, ◌+◌, ◌<◌, ◌≤◌, Bool, true, false, ◌&&◌, List, [], ◌∷◌, ◌++◌, length, get_or, Option, Some, None, refl, sym, ap, ◌∙◌, subst, append_assoc, arith}
-use Rattle.std.specs.Prelude.{◌==◌, Result, Ok, Err, OnOk}
+use Rattle.std.proofs.Common.{◌≡◌, inl, inr, ℕ, suc, ◌+◌, ◌<◌, ◌≤◌, Bool, true, false, ◌&&◌, List, [], ◌∷◌, ◌++◌, length, get_or, Option, Some, None, refl, sym, ap, ap₂, ◌∙◌, subst, append_assoc, arith}
+use Rattle.std.specs.Prelude.{◌==◌, if◌then◌else◌, Result, Ok, Err, OnOk}
 use Rattle.sys_abi.specs.declared.memory.NoMemory.{NoMemory}
 use Rattle.std.proofs.lemmas.Bool.{and_parts, cases_Bool, eqb-true, eq-eqb, ne_eqb}
 use Rattle.std.proofs.lemmas.List.{length-append, get_or_at, get_or_append_left, get_or-set_other}
@@ -11,17 +11,23 @@ use Rattle.hist_model.specs.Look.{Name, name_eq, is_task, is_place, task_name}
 use Rattle.hist_model.specs.Kinds.{enters}
 use Rattle.hist_model.specs.ReportJournal.{lines_of}
 use Rattle.hist_model.specs.ReportAudit.{installed, number_given}
-use Rattle.hist_model.specs.ReportCalls.{is_pending, call_line, call_line_by, first_pid, newest_call, outcome, outcome_step}
+use Rattle.hist_model.specs.ReportCalls.{is_pending, call_line, call_line_by, first_pid, newest_call, outcome, outcome_by, outcome_next, outcome_step}
 use Rattle.hist_model.specs.declared.event.Actor.{Actor}
 use Rattle.hist_model.specs.declared.event.Actor.TheVariants.{Start, Task, Worker, Listener}
 use Rattle.hist_model.specs.declared.event.Event.{Event}
 use Rattle.hist_model.specs.declared.event.What.{What}
-use Rattle.hist_model.specs.declared.event.What.TheVariants.{Enter}
+use Rattle.hist_model.specs.declared.event.What.TheVariants.{Deliver, Enter, Install, Native, Resume}
+use Rattle.hist_model.specs.declared.report.Outcome.{Outcome}
+use Rattle.hist_model.specs.declared.report.Outcome.TheVariants.{Open}
 use Rattle.hist_model.proofs.Look.{name_eq-true, name_eq-refl}
 use Rattle.audit_log.specs.Tasks.{Knows, call_of, facts_in, facts_of, task_facts, task_after}
-use Rattle.audit_log.specs.Records.{Tells, advanced, first_record, no_record, record_after, record_of, recorded, recorded_by, recorded_line}
+use Rattle.audit_log.specs.Places.{AreOrdered, Rise, row_in}
+use Rattle.audit_log.specs.Records.{HasEntries, Tells, advanced, entries, first_record, moves, no_record, placed, record_after, record_in, record_of, record_of_row, recorded, recorded_by, recorded_line, row_at}
 use Rattle.audit_log.specs.declared.records.CallRecord.{CallRecord}
+use Rattle.audit_log.specs.declared.records.CallRecords.{CallRecords}
+use Rattle.audit_log.specs.declared.tasks.TaskFacts.{TaskFacts}
 use Rattle.audit_log.specs.declared.tasks.TaskRecords.{TaskRecords}
+use Rattle.audit_log.proofs.PlaceRows.{none_ordered, ordered_more, ordered_push, past_row, row_has, row_kept, row_last}
 use Rattle.audit_log.proofs.Newest.{FindsNewest, elsewhere, newest_not_past, newest_passes}
 
 -- what is kept of a task, with one more event
@@ -41,6 +47,10 @@ newest_entered n = (refl, λ e K. refl)
 -- the event at the place of a task's newest call is its own
 pub newest_own : (n : Name) (later K : List Event) (f : Event) → newest_call n (later ++ f ∷ K) ≡ Some (length K) → is_task f.who n ≡ true
 newest_own n later K f h = (and_parts (is_task f.who n) (enters f.what) (newest_passes (λ e. is_task e.who n && enters e.what) (newest_call n) (newest_entered n) later K f h)).0
+
+-- and enters a call
+pub newest_enters : (n : Name) (later K : List Event) (f : Event) → newest_call n (later ++ f ∷ K) ≡ Some (length K) → enters f.what ≡ true
+newest_enters n later K f h = (and_parts (is_task f.who n) (enters f.what) (newest_passes (λ e. is_task e.who n && enters e.what) (newest_call n) (newest_entered n) later K f h)).1
 
 -- an actor that is the task of a name has this name
 pub task_of : (who : Actor) (n : Name) → is_task who n ≡ true → task_name who ≡ n
@@ -68,17 +78,49 @@ abbrev with_step : Bool → What → CallRecord → CallRecord
 with_step true a r = record_after a r
 with_step false a r = r
 
-advanced_at : (o : Option ℕ) (a : What) (records : List CallRecord) (c : ℕ) → c < length records
-    → get_or (advanced o a records) c no_record ≡ with_step (is_place o c) a (get_or records c no_record)
-advanced_at None a records c l = refl
-advanced_at (Some k) a records c l = elim (cases_Bool (k == c)) [
-  | inl h ↦ let q : k ≡ c = eqb-true k c h in rw (h, q) (get_or-set_at records c c (with_step true a (get_or records c no_record)) no_record refl l)
-  | inr h ↦ let n : (c ≡ k → ⊥) = (λ q. cc (h, eq-eqb k c (sym q))) in rw (h) (get_or-set_other records k c (with_step true a (get_or records k no_record)) no_record n)
-]
+-- a step that moves no call
+idle-outcome : (o : Outcome) (a : What) → moves a ≡ false → outcome_next o a ≡ o
+idle-outcome Open a h = pending a h
+  where
+    pending : (a : What) → moves a ≡ false → outcome_by a ≡ Open
+    pending (Native answer) h = cc
+    pending (Resume back) h = cc
+    pending (Deliver sig effect) h = cc
+    pending (Install answer) h = cc
+    pending _ h = refl
+idle-outcome _ a h = refl
 
-length-advanced : (o : Option ℕ) (a : What) (records : List CallRecord) → length (advanced o a records) ≡ length records
+idle-number : (b : Bool) (a : What) (n : Option ℕ) → moves a ≡ false → number_given b a n ≡ n
+idle-number true (Install answer) n h = cc
+idle-number true _ n h = refl
+idle-number false a n h = refl
+
+idle-step : (b : Bool) (a : What) (r : CallRecord) → moves a ≡ false → with_step b a r ≡ r
+idle-step true a r h = rw (idle-outcome r.outcome a h, idle-number (is_pending r.outcome) a r.number h) refl
+idle-step false a r h = refl
+
+-- in the row of a call
+advanced_at : (places : List ℕ) (records : List CallRecord) (o : Option ℕ) (a : What) (c i : ℕ) → row_in places c ≡ Some i → i < length records
+    → get_or (advanced (row_at places o) a records) i no_record ≡ with_step (is_place o c) a (get_or records i no_record)
+advanced_at places records None a c i r l = refl
+advanced_at places records (Some k) a c i r l = elim (cases_Bool (k == c)) [
+  | inl h ↦
+      let q : k ≡ c = eqb-true k c h in
+      rw (h, q, r) (get_or-set_at records i i (with_step true a (get_or records i no_record)) no_record refl l)
+  | inr h ↦ rw h (other (row_in places k) refl h)
+]
+  where
+    other : (row : Option ℕ) → row_in places k ≡ row → (k == c) ≡ false → get_or (advanced row a records) i no_record ≡ get_or records i no_record
+    other None q h = refl
+    other (Some j) q h =
+        let there : get_or places j 0 ≡ k = (row_has places k j q).1 in
+        let here : get_or places i 0 ≡ c = (row_has places c i r).1 in
+        let n : (i ≡ j → ⊥) = (λ s. let t : k ≡ c = sym there ∙ ap (λ x. get_or places x 0) (sym s) ∙ here in cc (h, eq-eqb k c t)) in
+        get_or-set_other records j i (with_step true a (get_or records j no_record)) no_record n
+
+length-advanced : (row : Option ℕ) (a : What) (records : List CallRecord) → length (advanced row a records) ≡ length records
 length-advanced None a records = refl
-length-advanced (Some c) a records = length-set records c (with_step true a (get_or records c no_record))
+length-advanced (Some i) a records = length-set records i (with_step true a (get_or records i no_record))
 
 -- a test that is joined to false is false
 pub and_false : (b : Bool) → (b && false) ≡ false
@@ -118,60 +160,147 @@ earlier later K f e =
     let own = in_call e.who (task_name f.who) (length K) H (λ q. task_of f.who (task_name e.who) (newest_own (task_name e.who) later K f q)) in
     rw (ne_eqb (length H) (length K) n, own) (stepped (is_place (call_of e.who (task_facts H)) (length K)) (record_of H K f) e.what)
 
-pub tells_more : (K : List Event) (e : Event) (records : List CallRecord) → length records ≡ length K → Tells K records → Tells (e ∷ K) (recorded e.what (facts_of e.who (task_facts K)) records)
-tells_more K e records l t [] M f h =
-    let p : f ≡ e = cc in
-    let q : M ≡ K = cc in
-    rw (p, q)
-    (get_or_at (advanced (call_of e.who (task_facts K)) e.what records) (first_record e.what (facts_of e.who (task_facts K))) [] no_record (length K) (length-advanced (call_of e.who (task_facts K)) e.what records ∙ l) ∙ here e K)
-tells_more K e records l t (x ∷ later) M f h =
-    let q : K ≡ later ++ f ∷ M = cc in
-    let o = call_of e.who (task_facts K) in
-    let m : length (later ++ f ∷ M) ≡ length later + length (f ∷ M) = length-append later (f ∷ M) in
-    let n : length K ≡ length (later ++ f ∷ M) = ap length q in
-    let b : length M < length records = omega arith in
-    let a : length M < length (advanced o e.what records) = omega (arith, length-advanced o e.what records) in
-    get_or_append_left (advanced o e.what records) (first_record e.what (facts_of e.who (task_facts K)) ∷ []) no_record (length M) a
-    ∙ advanced_at o e.what records (length M) b
-    ∙ ap (with_step (is_place o (length M)) e.what) (t later M f q)
-    ∙ subst (λ H. with_step (is_place (call_of e.who (task_facts H)) (length M)) e.what (record_of H M f) ≡ record_of (e ∷ H) M f) (sym q) (earlier later M f e)
+-- ---- Entries
+
+-- the rows of the events that enter a call
+pub entries_ordered : (K : List Event) → AreOrdered (length K) (entries K) (length (entries K))
+unfolding entries
+entries_ordered [] = none_ordered
+entries_ordered (e ∷ K) = by (enters e.what) (entries_ordered K)
+  where
+    by : (b : Bool) → AreOrdered (length K) (entries K) (length (entries K)) → AreOrdered (suc (length K)) (if b then entries K ++ length K ∷ [] else entries K) (length (if b then entries K ++ length K ∷ [] else entries K))
+    by true o =
+        let size : suc (length (entries K)) ≡ length (entries K ++ length K ∷ []) = (let s : length (entries K ++ length K ∷ []) ≡ length (entries K) + 1 = length-append (entries K) (length K ∷ []) in omega arith) in
+        subst (AreOrdered (suc (length K)) (entries K ++ length K ∷ [])) size (ordered_push (length K) (entries K) (length (entries K)) o)
+    by false o = ordered_more (length K) (entries K) (length (entries K)) o
+
+-- an event that enters a call has a row
+pub entry_row : (later M : List Event) (f : Event) → enters f.what ≡ true → (i : ℕ) × (row_in (entries (later ++ f ∷ M)) (length M) ≡ Some i)
+unfolding entries
+entry_row [] M f h =
+    (length (entries M), ap (λ b. row_in (if b then entries M ++ length M ∷ [] else entries M) (length M)) h ∙ row_last (entries M) (length M) (past_row (length M) (entries M) (length (entries M)) (entries_ordered M)))
+entry_row (e ∷ later) M f h =
+    let t = entry_row later M f h in
+    (t.0, by (enters e.what) t.0 t.1)
+  where
+    by : (b : Bool) (i : ℕ) → row_in (entries (later ++ f ∷ M)) (length M) ≡ Some i
+        → row_in (if b then entries (later ++ f ∷ M) ++ length (later ++ f ∷ M) ∷ [] else entries (later ++ f ∷ M)) (length M) ≡ Some i
+    by true i h = row_kept (entries (later ++ f ∷ M)) (length (later ++ f ∷ M)) (length M) i h
+    by false i h = h
+
+-- the places rise
+pub entries_rise : (K : List Event) (t : CallRecords) → HasEntries K t → Rise t.places.items
+entries_rise K t h = subst Rise (sym h.places) (entries_ordered K).rise
+
+-- ---- One more event
+
+-- in the row of an event, what one more event makes of its record
+record-more : (a : What) (facts : TaskFacts) (places : List ℕ) (records : List CallRecord) (c i n : ℕ) → row_in places c ≡ Some i → i < length records
+    → record_of_row (recorded a facts (row_at places facts.newest) records) (row_in (placed a n places) c) ≡ with_step (is_place facts.newest c) a (get_or records i no_record)
+record-more a facts places records c i n r l = by (enters a) (moves a) refl refl
+  where
+    none-enters : (a : What) → enters a ≡ true → moves a ≡ false
+    none-enters (Enter nr args verdict) h = refl
+    none-enters _ h = cc
+
+    by : (b m : Bool) → enters a ≡ b → moves a ≡ m
+        → record_of_row (if b then records ++ first_record a facts ∷ [] else (if m then advanced (row_at places facts.newest) a records else records)) (row_in (if b then places ++ n ∷ [] else places) c)
+        ≡ with_step (is_place facts.newest c) a (get_or records i no_record)
+    by true m e q =
+        ap (record_of_row (records ++ first_record a facts ∷ [])) (row_kept places n c i r)
+        ∙ get_or_append_left records (first_record a facts ∷ []) no_record i l
+        ∙ sym (idle-step (is_place facts.newest c) a (get_or records i no_record) (none-enters a e))
+    by false true e q = ap (record_of_row (advanced (row_at places facts.newest) a records)) r ∙ advanced_at places records facts.newest a c i r l
+    by false false e q = ap (record_of_row records) r ∙ sym (idle-step (is_place facts.newest c) a (get_or records i no_record) q)
+
+-- the rows with one more event
+pub entries_more : (K : List Event) (e : Event) (facts : TaskFacts) (old new : CallRecords) → HasEntries K old → new.places.items ≡ placed e.what (length K) old.places.items
+    → new.records.items ≡ recorded e.what facts (row_at old.places.items facts.newest) old.records.items → HasEntries (e ∷ K) new
+unfolding entries
+entries_more K e facts old new h p r = record {
+  places = p ∙ ap (placed e.what (length K)) h.places;
+  whole = ap length r ∙ by (enters e.what) (moves e.what) ∙ sym (ap length p);
+}
+  where
+    by : (b m : Bool)
+        → length (if b then old.records.items ++ first_record e.what facts ∷ [] else (if m then advanced (row_at old.places.items facts.newest) e.what old.records.items else old.records.items))
+        ≡ length (if b then old.places.items ++ length K ∷ [] else old.places.items)
+    by true m =
+        let a : length (old.records.items ++ first_record e.what facts ∷ []) ≡ length old.records.items + 1 = length-append old.records.items (first_record e.what facts ∷ []) in
+        let b : length (old.places.items ++ length K ∷ []) ≡ length old.places.items + 1 = length-append old.places.items (length K ∷ []) in
+        let w = h.whole in
+        omega (arith, a, b, w)
+    by false true = length-advanced (row_at old.places.items facts.newest) e.what old.records.items ∙ h.whole
+    by false false = h.whole
+
+pub tells_more : (K : List Event) (e : Event) (old new : CallRecords) → HasEntries K old → Tells K (record_in old) → new.places.items ≡ placed e.what (length K) old.places.items
+    → new.records.items ≡ recorded e.what (facts_of e.who (task_facts K)) (row_at old.places.items (call_of e.who (task_facts K))) old.records.items → Tells (e ∷ K) (record_in new)
+tells_more K e old new h t p r [] M f q enter =
+    let s : f ≡ e = cc in
+    let m : M ≡ K = cc in
+    let facts = facts_of e.who (task_facts K) in
+    let entering : enters e.what ≡ true = subst (λ g. enters g.what ≡ true) s enter in
+    let none : row_in old.places.items (length K) ≡ None = subst (λ xs. row_in xs (length K) ≡ None) (sym h.places) (past_row (length K) (entries K) (length (entries K)) (entries_ordered K)) in
+    let places : new.places.items ≡ old.places.items ++ length K ∷ [] = p ∙ ap (λ b. if b then old.places.items ++ length K ∷ [] else old.places.items) entering in
+    let records : new.records.items ≡ old.records.items ++ first_record e.what facts ∷ [] =
+    r ∙ ap (λ b. if b then old.records.items ++ first_record e.what facts ∷ [] else (if moves e.what then advanced (row_at old.places.items facts.newest) e.what old.records.items else old.records.items)) entering in
+    let row : row_in new.places.items (length K) ≡ Some (length old.places.items) = ap (λ xs. row_in xs (length K)) places ∙ row_last old.places.items (length K) none in
+    let found : record_in new (length K) ≡ record_of (e ∷ K) K e =
+    ap (record_of_row new.records.items) row ∙ ap (λ xs. get_or xs (length old.places.items) no_record) records
+    ∙ get_or_at old.records.items (first_record e.what facts) [] no_record (length old.places.items) h.whole
+    ∙ here e K in
+    subst (λ x. record_in new (length x) ≡ record_of (e ∷ K) x f) (sym m) (subst (λ g. record_in new (length K) ≡ record_of (e ∷ K) K g) (sym s) found)
+tells_more K e old new h t p r (x ∷ later) M f q enter =
+    let s : K ≡ later ++ f ∷ M = cc in
+    let facts = facts_of e.who (task_facts K) in
+    let c = length M in
+    let there = entry_row later M f enter in
+    let row : row_in old.places.items c ≡ Some there.0 = ap (λ xs. row_in xs c) (h.places ∙ ap entries s) ∙ there.1 in
+    let w = h.whole in
+    let b = (row_has old.places.items c there.0 row).0 in
+    let l : there.0 < length old.records.items = omega (arith, w, b) in
+    let before : get_or old.records.items there.0 no_record ≡ record_of K M f = sym (ap (record_of_row old.records.items) row) ∙ t later M f s enter in
+    ap (record_of_row new.records.items) (ap (λ xs. row_in xs c) p)
+    ∙ ap (λ xs. record_of_row xs (row_in (placed e.what (length K) old.places.items) c)) r
+    ∙ record-more e.what facts old.places.items old.records.items c there.0 (length K) row l
+    ∙ ap (with_step (is_place facts.newest c) e.what) before
+    ∙ subst (λ H. with_step (is_place (call_of e.who (task_facts H)) c) e.what (record_of H M f) ≡ record_of (e ∷ H) M f) (sym s) (earlier later M f e)
 
 -- the line of an event, by its record
 line_told : (H K : List Event) (who : Actor) (a : What) → recorded_by (record_of H K (record { who = who; what = a })) (length K) who a ≡ call_line_by H K who a
 line_told H K who (Enter nr args verdict) = refl
 line_told H K who _ = refl
 
-pub lines_told : (records : List CallRecord) (H later K : List Event) → Tells H records → H ≡ later ++ K → lines_of (recorded_line records) K ≡ lines_of (call_line H) K
-unfolding lines_of
-lines_told records H later [] t h = refl
-lines_told records H later (e ∷ K) t h =
-    let q : H ≡ (later ++ e ∷ []) ++ K = h ∙ sym (append_assoc later (e ∷ []) K) in
-    rw (lines_told records H (later ++ e ∷ []) K t q, t later K e h, line_told H K e.who e.what) refl
+line-same : (t : CallRecords) (H K : List Event) (e : Event) → (enters e.what ≡ true → record_in t (length K) ≡ record_of H K e) → recorded_line t K e ≡ call_line H K e
+line-same t H K e kept = by e.what refl
+  where
+    by : (a : What) → e.what ≡ a → recorded_by (record_in t (length K)) (length K) e.who a ≡ call_line_by H K e.who a
+    by (Enter nr args verdict) q =
+        ap (λ r. recorded_by r (length K) e.who (Enter nr args verdict)) (kept (ap enters q)) ∙ line_told H K e.who (Enter nr args verdict)
+    by _ q = refl
 
-pub lines_same : (records : List CallRecord) (H : List Event) → Tells H records → lines_of (recorded_line records) H ≡ lines_of (call_line H) H
-lines_same records H t = lines_told records H [] H t refl
+pub lines_told : (t : CallRecords) (H later K : List Event) → Tells H (record_in t) → H ≡ later ++ K → lines_of (recorded_line t) K ≡ lines_of (call_line H) K
+unfolding lines_of
+lines_told t H later [] tells h = refl
+lines_told t H later (e ∷ K) tells h =
+    let q : H ≡ (later ++ e ∷ []) ++ K = h ∙ sym (append_assoc later (e ∷ []) K) in
+    ap₂ (λ text line. text ++ line) (lines_told t H (later ++ e ∷ []) K tells q) (line-same t H K e (tells later K e h))
+
+pub lines_same : (t : CallRecords) (H : List Event) → Tells H (record_in t) → lines_of (recorded_line t) H ≡ lines_of (call_line H) H
+lines_same t H tells = lines_told t H [] H tells refl
 
 -- of no event
-pub none_told : (records : List CallRecord) (H : List Event) → H ≡ [] → Tells H records
-none_told records H q [] K e h = let n : [] ≡ e ∷ K = sym q ∙ h in cc
-none_told records H q (x ∷ later) K e h = let n : [] ≡ x ∷ (later ++ e ∷ K) = sym q ∙ h in cc
+pub none_told : (kept : ℕ → CallRecord) (H : List Event) → H ≡ [] → Tells H kept
+none_told kept H q [] K e h enter = let n : [] ≡ e ∷ K = sym q ∙ h in cc
+none_told kept H q (x ∷ later) K e h enter = let n : [] ≡ x ∷ (later ++ e ∷ K) = sym q ∙ h in cc
 
--- with one more event, which has this place
-pub pass_more : (K : List Event) (e : Event) (place : ℕ) (old new : TaskRecords) (before after : List CallRecord) → length K ≡ place → length before ≡ place
-    → Tells K before → Knows K old → after ≡ recorded e.what (facts_of e.who (facts_in old)) before → ((n : Name) → facts_in new n ≡ task_after place e n (facts_in old n))
-    → (length after ≡ place + 1) × Tells (e ∷ K) after × Knows (e ∷ K) new
-pass_more K e place old new before after l m t k q h =
-    let f : facts_in old ≡ task_facts K = λ i. λ n. k n i in
-    let r : after ≡ recorded e.what (facts_of e.who (task_facts K)) before = q ∙ ap (λ facts. recorded e.what (facts_of e.who facts) before) f in
-    let o = call_of e.who (task_facts K) in
-    let first = first_record e.what (facts_of e.who (task_facts K)) in
-    let a : length (advanced o e.what before ++ first ∷ []) ≡ length (advanced o e.what before) + length (first ∷ []) = length-append (advanced o e.what before) (first ∷ []) in
-    let b = length-advanced o e.what before in
-    let c : length after ≡ length (advanced o e.what before ++ first ∷ []) = ap length r in (
-      omega arith,
-      subst (Tells (e ∷ K)) (sym r) (tells_more K e before (m ∙ sym l) t),
-      λ n. h n ∙ ap (task_after place e n) (k n) ∙ ap (λ p. task_after p e n (task_facts K n)) (sym l) ∙ sym (known_more n e K),
-    )
+pub none_entered : entries [] ≡ []
+unfolding entries
+none_entered = refl
+
+-- what is kept of tasks with one more event, which has this place
+pub knows_more : (K : List Event) (e : Event) (old new : TaskRecords) → Knows K old → ((n : Name) → facts_in new n ≡ task_after (length K) e n (facts_in old n)) → Knows (e ∷ K) new
+knows_more K e old new k h = λ n. h n ∙ ap (task_after (length K) e n) (k n) ∙ sym (known_more n e K)
 
 -- what holds where there was memory for a step, by what the step made
 pub where_ok : {A B : Type 0} (r : Result (Unit {0}) NoMemory) → (A → B) → OnOk r A → OnOk r B

@@ -64,18 +64,18 @@ latest-push test xs x = latest-append test xs (x ∷ []) ∙ by (test x)
 -- ---- The loop
 
 -- the rows so far
-pub record Served (calls : List (Option ℕ)) (rows : List SessionRecord) (room i : ℕ) (found : List (Option ℕ)) : Type 0 where
+pub record Served (calls : ℕ → Option ℕ) (rows : List SessionRecord) (room i : ℕ) (found : List (Option ℕ)) : Type 0 where
   pub number : length found ≡ room
   pub tells : (c : ℕ) → c < room → row_at rows (get_or found c None) ≡ latest (is_for calls c) (take i rows)
 
-pub none_served : (calls : List (Option ℕ)) (rows : List SessionRecord) (room : ℕ) (found : List (Option ℕ)) → found ≡ replicate room None → Served calls rows room 0 found
+pub none_served : (calls : ℕ → Option ℕ) (rows : List SessionRecord) (room : ℕ) (found : List (Option ℕ)) → found ≡ replicate room None → Served calls rows room 0 found
 none_served calls rows room found q = record { number = ap length q ∙ length-replicate room None; tells = λ c h. ap (λ xs. row_at rows (get_or xs c None)) q ∙ ap (row_at rows) (none_at room c) }
 
-pub served_more : (calls : List (Option ℕ)) (rows : List SessionRecord) (room i : ℕ) (found : List (Option ℕ)) (d : SessionRecord) → i < length rows → Served calls rows room i found
-    → Served calls rows room (i + 1) (noted (get_or calls (get_or rows i d).place None) i found)
+pub served_more : (calls : ℕ → Option ℕ) (rows : List SessionRecord) (room i : ℕ) (found : List (Option ℕ)) (d : SessionRecord) → i < length rows → Served calls rows room i found
+    → Served calls rows room (i + 1) (noted (calls (get_or rows i d).place) i found)
 served_more calls rows room i found d l h =
     let x = get_or rows i d in
-    let o = get_or calls x.place None in
+    let o = calls x.place in
     record {
       number = length_noted o i found ∙ h.number;
       tells = λ c k.
@@ -89,17 +89,17 @@ served_more calls rows room i found d l h =
     by o c true x q old = q
     by o c false x q old = old
 
-pub all_served : (calls : List (Option ℕ)) (rows : List SessionRecord) (room i : ℕ) (found : List (Option ℕ)) → length rows ≤ i → Served calls rows room i found → TellsSessions calls rows room found
+pub all_served : (calls : ℕ → Option ℕ) (rows : List SessionRecord) (room i : ℕ) (found : List (Option ℕ)) → length rows ≤ i → Served calls rows room i found → TellsSessions calls rows room found
 all_served calls rows room i found l h c k = h.tells c k ∙ ap (latest (is_for calls c)) (take_all i rows l)
 
-pub same_sessions : (calls : List (Option ℕ)) (rows others : List SessionRecord) (room size : ℕ) (found same : List (Option ℕ)) → rows ≡ others → room ≡ size → found ≡ same
+pub same_sessions : (calls : ℕ → Option ℕ) (rows others : List SessionRecord) (room size : ℕ) (found same : List (Option ℕ)) → rows ≡ others → room ≡ size → found ≡ same
     → TellsSessions calls rows room found → TellsSessions calls others size same
 same_sessions calls rows others room size found same p q r h = rw (← p, ← q, ← r) h
 
 -- ---- Sessions
 
 -- what is kept of the session that a step begins, where that is for the call
-one-begun : (J : Judging) (calls : List (Option ℕ)) (H K : List Event) (c : ℕ) (who : Actor) (a : What) → ((notif : Notif) → a ≡ Recv (Ok notif) → get_or calls (length K) None ≡ call_with_id notif.id K)
+one-begun : (J : Judging) (calls : ℕ → Option ℕ) (H K : List Event) (c : ℕ) (who : Actor) (a : What) → ((notif : Notif) → a ≡ Recv (Ok notif) → calls (length K) ≡ call_with_id notif.id K)
     → latest (is_for calls c) (map (told J) (begun_by H K who a)) ≡ option_map (told J) (session_by H c K who a)
 one-begun J calls H K c (Worker w) (Recv (Ok notif)) named =
     let s : Begun = record { place = length K; worker = w; notif = notif; steps = session_at w (length K) H; stages = stages_at w (length K) H } in
@@ -114,7 +114,7 @@ or-map : {A B : Type 0} (f : A → B) (a b : Option A) → or_some (option_map f
 or-map f None b = refl
 or-map f (Some a) b = refl
 
-pub sessions_are : (J : Judging) (calls : List (Option ℕ)) (H later K : List Event) (c : ℕ) → H ≡ later ++ K → TellsReceived H calls
+pub sessions_are : (J : Judging) (calls : ℕ → Option ℕ) (H later K : List Event) (c : ℕ) → H ≡ later ++ K → TellsReceived H calls
     → latest (is_for calls c) (map (told J) (begun H K)) ≡ option_map (told J) (session_for H c K)
 unfolding begun session_for
 sessions_are J calls H later [] c q t = refl
@@ -126,6 +126,6 @@ sessions_are J calls H later (e ∷ K) c q t =
     ∙ (ap₂ or_some here (sessions_are J calls H (later ++ e ∷ []) K c whole t) ∙ or-map (told J) (session_by H c K e.who e.what) (session_for H c K)))
 
 -- by the row that is kept for the call at a place
-pub session_row : (J : Judging) (calls : List (Option ℕ)) (H : List Event) (rows : List SessionRecord) (served : List (Option ℕ)) → rows ≡ map (told J) (begun H H) → TellsReceived H calls
+pub session_row : (J : Judging) (calls : ℕ → Option ℕ) (H : List Event) (rows : List SessionRecord) (served : List (Option ℕ)) → rows ≡ map (told J) (begun H H) → TellsReceived H calls
     → TellsSessions calls rows (length H) served → (c : ℕ) → c < length H → row_at rows (get_or served c None) ≡ option_map (told J) (session_for H c H)
 session_row J calls H rows served kept received sessions c l = sessions c l ∙ (ap (latest (is_for calls c)) kept ∙ sessions_are J calls H [] H c refl received)

@@ -1,6 +1,6 @@
 -- A table of sessions stands for them with one more step of a worker, with one more session, and with more workers.
 -- By cases on whether a worker, or a session, is the one that the step is of.
-use Rattle.std.proofs.Common.{inl, inr, ◌≡◌, ℕ, zero, suc, ◌+◌, ◌<◌, ◌≤◌, true, false, List, [], ◌∷◌, ◌++◌, length, get_or, set, Option, Some, None, refl, sym, ap, subst, ◌∙◌, append-nil, arith}
+use Rattle.std.proofs.Common.{inl, inr, ◌≡◌, ℕ, ℤ, zero, suc, ◌+◌, ◌<◌, ◌≤◌, true, false, List, [], ◌∷◌, ◌++◌, length, get_or, set, Option, Some, None, refl, sym, ap, subst, ◌∙◌, append-nil, arith}
 use Rattle.std.specs.Prelude.{◌==◌, Result, Ok, Err, OnOk, map}
 use Rattle.std.proofs.lemmas.Bool.{cases_Bool, cases_order, eqb-true, eq-eqb, ne_eqb}
 use Rattle.std.proofs.lemmas.List.{length-append, length-map, get_or-map, get_or_at, get_or_append_left, get_or_past, get_or-set_other, map-append, map-set}
@@ -15,10 +15,12 @@ use Rattle.hist_model.specs.declared.event.Event.{Event}
 use Rattle.hist_model.specs.declared.event.What.{What}
 use Rattle.hist_model.specs.declared.event.What.TheVariants.{Recv}
 use Rattle.hist_model.specs.declared.policy.Rule.{Rule}
+use Rattle.hist_model.specs.declared.report.Finding.TheVariants.{Open}
 use Rattle.sys_abi.specs.declared.memory.NoMemory.{NoMemory}
 use Rattle.sys_abi.specs.declared.wire.Notif.{Notif}
 use Rattle.arg_capture.specs.Captures.{Captured, Follows}
 use Rattle.audit_log.specs.Begun.{Begun, IsRead, told, with_step}
+use Rattle.audit_log.specs.SessionFacts.{facts_of}
 use Rattle.audit_log.specs.SessionStages.{no_stages}
 use Rattle.audit_log.specs.Sessions.{after_event, begun, started, with_event}
 use Rattle.audit_log.specs.SessionTable.{AllShut, IsGrown, IsRowStepped, IsSame, IsStepped, StandsFor, current, no_row, no_session, nobody, session_in}
@@ -92,16 +94,16 @@ module _ (rules : List Rule) (S : List Begun) (t u : SessionTable) (place w : �
 
   rows-none : (current t w).row ≡ None → u.rows.items ≡ map (told (judging_by rules)) (map f S)
   rows-none o =
-      let h : u.rows.items ≡ t.rows.items = subst (λ z. IsRowStepped rules place a (current t w).capture x.capture t.rows.items u.rows.items z) o g.1 in
+      let h : u.rows.items ≡ t.rows.items = subst (λ z. IsRowStepped rules place a (current t w).notif x.notif (current t w).capture x.capture t.rows.items u.rows.items z) o g.1 in
       h ∙ k.rows ∙ ap (map (told (judging_by rules))) (sym (map_fixed f S (λ j l. stays j l (λ q. cc (q, o)))))
 
-  stepped : (i : ℕ) → (current t w).row ≡ Some i → (u.rows.items ≡ set t.rows.items i (told (judging_by rules) (with_step place a (session_in S i)))) × IsRead (with_step place a (session_in S i)) x.capture
+  stepped : (i : ℕ) → (current t w).row ≡ Some i → (u.rows.items ≡ set t.rows.items i (told (judging_by rules) (with_step place a (session_in S i)))) × IsRead (with_step place a (session_in S i)) x.notif x.capture
   stepped i o =
       let own = k.own w i o in
       let long : length t.rows.items ≡ length S = ap length k.rows ∙ length-map S (told (judging_by rules)) in
       let l : i < length t.rows.items = omega (arith, own.0) in
       let is : get_or t.rows.items i no_row ≡ told (judging_by rules) (session_in S i) = ap (λ xs. get_or xs i no_row) k.rows ∙ get_or-map (told (judging_by rules)) S i no_session no_row own.0 in
-      subst (λ z. IsRowStepped rules place a (current t w).capture x.capture t.rows.items u.rows.items z) o g.1 l (session_in S i) is (k.read w i o)
+      subst (λ z. IsRowStepped rules place a (current t w).notif x.notif (current t w).capture x.capture t.rows.items u.rows.items z) o g.1 l (session_in S i) is (k.read w i o)
 
   own-is : (i : ℕ) → (current t w).row ≡ Some i → f (session_in S i) ≡ with_step place a (session_in S i)
   own-is i o = let own = k.own w i o in own_step place w a (session_in S i) own.1 runs
@@ -120,7 +122,7 @@ module _ (rules : List Rule) (S : List Begun) (t u : SessionTable) (place w : �
   rows-after None o = rows-none o
   rows-after (Some i) o = rows-some i o
 
-  read-after : (v j : ℕ) → (current u v).row ≡ Some j → IsRead (session_in (map f S) j) (current u v).capture
+  read-after : (v j : ℕ) → (current u v).row ≡ Some j → IsRead (session_in (map f S) j) (current u v).notif (current u v).capture
   read-after v j o =
       let old : (current t v).row ≡ Some j = sym (same-row v) ∙ o in
       let own = k.own v j old in
@@ -130,14 +132,13 @@ module _ (rules : List Rule) (S : List Begun) (t u : SessionTable) (place w : �
             let mine : (current t w).row ≡ Some j = ap (λ z. (current t z).row) (sym e) ∙ old in
             let st = stepped j mine in
             let is : session_in (map f S) j ≡ with_step place a (session_in S j) = after-at j own.0 ∙ own-is j mine in
-            let c : (current u v).capture ≡ x.capture = ap (λ z. (current u z).capture) e ∙ ap (λ (z : Current). z.capture) at-own in
-            subst (λ s. IsRead s (current u v).capture) (sym is) (subst (λ z. IsRead (with_step place a (session_in S j)) z) (sym c) st.1)
+            let c : current u v ≡ x = ap (current u) e ∙ at-own in
+            subst (λ s. IsRead s (current u v).notif (current u v).capture) (sym is) (subst (λ (z : Current). IsRead (with_step place a (session_in S j)) z.notif z.capture) (sym c) st.1)
         | inr n ↦
             let d : (v ≡ w → ⊥) = (λ e. cc (n, eq-eqb v w e)) in
             let m : (w ≡ (session_in S j).worker → ⊥) = (λ e. d (sym own.1 ∙ sym e)) in
             let is : session_in (map f S) j ≡ session_in S j = after-at j own.0 ∙ other_stays place (ev (Worker w) a) (session_in S j) (ne_eqb w (session_in S j).worker m) in
-            let c : (current u v).capture ≡ (current t v).capture = ap (λ (z : Current). z.capture) (at-other v d) in
-            subst (λ s. IsRead s (current u v).capture) (sym is) (subst (λ z. IsRead (session_in S j) z) (sym c) (k.read v j old))
+            subst (λ s. IsRead s (current u v).notif (current u v).capture) (sym is) (subst (λ (z : Current). IsRead (session_in S j) z.notif z.capture) (sym (at-other v d)) (k.read v j old))
       ]
 
   pub advanced : StandsFor rules (map f S) u
@@ -163,9 +164,9 @@ module _ (rules : List Rule) (S : List Begun) (t u : SessionTable) (place w : �
   started-one = record { place = place; worker = w; notif = n; steps = Recv (Ok n) ∷ []; stages = no_stages }
 
   pub joined_by : u.rows.items ≡ t.rows.items ++ told (judging_by rules) started-one ∷ [] → u.workers.items ≡ set t.workers.items w x
-      → x.row ≡ Some (length t.rows.items) → Follows (plan n.call.nr n.call.args) [] x.capture → StandsFor rules (S ++ started-one ∷ []) u
+      → x.row ≡ Some (length t.rows.items) → x.notif ≡ n → Follows (plan n.call.nr n.call.args) [] x.capture → StandsFor rules (S ++ started-one ∷ []) u
   unfolding heard
-  joined_by rs ws row fresh =
+  joined_by rs ws row named fresh =
       let one = started-one in
       let long : length t.rows.items ≡ length S = ap length k.rows ∙ length-map S (told (judging_by rules)) in
       let mine : x.row ≡ Some (length S) = row ∙ ap Some long in
@@ -205,15 +206,14 @@ module _ (rules : List Rule) (S : List Begun) (t u : SessionTable) (place w : �
               let e : v ≡ w = eqb-true v w y in
               let q : j ≡ length S = own-row j (ap (λ z. (current u z).row) (sym e) ∙ o) in
               let is : session_in (S ++ one ∷ []) j ≡ one = ap (session_in (S ++ one ∷ [])) q ∙ last in
-              let c : (current u v).capture ≡ x.capture = ap (λ z. (current u z).capture) e ∙ ap (λ (z : Current). z.capture) at-own in
-              let read-one : IsRead one x.capture = (λ h. fresh) in
-              subst (λ s. IsRead s (current u v).capture) (sym is) (subst (λ z. IsRead one z) (sym c) read-one)
+              let c : current u v ≡ x = ap (current u) e ∙ at-own in
+              let read-one : IsRead one x.notif x.capture = subst (λ m. IsRead one m x.capture) (sym named) (refl, λ h. fresh) in
+              subst (λ s. IsRead s (current u v).notif (current u v).capture) (sym is) (subst (λ (z : Current). IsRead one z.notif z.capture) (sym c) read-one)
           | inr m ↦
               let other = at-other v (λ e. cc (m, eq-eqb v w e)) in
               let old : (current t v).row ≡ Some j = ap (λ (c : Current). c.row) (sym other) ∙ o in
               let own = k.own v j old in
-              let c : (current u v).capture ≡ (current t v).capture = ap (λ (z : Current). z.capture) other in
-              subst (λ s. IsRead s (current u v).capture) (sym (older j own.0)) (subst (λ z. IsRead (session_in S j) z) (sym c) (k.read v j old))
+              subst (λ s. IsRead s (current u v).notif (current u v).capture) (sym (older j own.0)) (subst (λ (z : Current). IsRead (session_in S j) z.notif z.capture) (sym other) (k.read v j old))
         ];
       }
 
@@ -234,11 +234,11 @@ any_default (x ∷ xs) zero d e l = refl
 any_default (x ∷ xs) (suc i) d e l = any_default xs i d e (omega arith)
 
 -- one more step of the session in a row, where there was memory for it
-pub row_ok : (r : Result (Unit {0}) NoMemory) (rules : List Rule) (rows : List SessionRecord) (i place : ℕ) (a : What) (c after : Captured) (old new d : SessionRecord) → old ≡ get_or rows i d
-    → OnOk r ((s : Begun) → old ≡ told (judging_by rules) s → IsRead s c → (new ≡ told (judging_by rules) (with_step place a s)) × IsRead (with_step place a s) after)
-    → OnOk r (IsRowStepped rules place a c after rows (set rows i new) (Some i))
-row_ok (Err e) rules rows i place a c after old new d is g = tt
-row_ok (Ok v) rules rows i place a c after old new d is g = λ l s p q.
+pub row_ok : (r : Result (Unit {0}) NoMemory) (rules : List Rule) (rows : List SessionRecord) (i place : ℕ) (a : What) (n : Notif) (c after : Captured) (old new d : SessionRecord) → old ≡ get_or rows i d
+    → OnOk r ((s : Begun) → old ≡ told (judging_by rules) s → IsRead s n c → (new ≡ told (judging_by rules) (with_step place a s)) × IsRead (with_step place a s) n after)
+    → OnOk r (IsRowStepped rules place a n n c after rows (set rows i new) (Some i))
+row_ok (Err e) rules rows i place a n c after old new d is g = tt
+row_ok (Ok v) rules rows i place a n c after old new d is g = λ l s p q.
     let st = g s (is ∙ any_default rows i d no_row l ∙ p) q in
     (ap (set rows i) st.0, st.1)
 
@@ -252,22 +252,26 @@ advanced_ok (Ok v) rules S t u place w number a old x d k small e1 runs is g ws 
     let q : old ≡ current t w = is ∙ ap (λ i. get_or t.workers.items i d) e1 ∙ any_default t.workers.items w d nobody l in
     advanced rules S t u place w a x k l runs (subst (λ o. IsStepped rules place a o x t.rows.items u.rows.items) q g) (ws ∙ ap (λ i. set t.workers.items i x) e1)
 
+-- the row of a session that has just begun, where this is the number of its call
+abbrev pub first_row : ℕ → ℕ → Notif → ℤ → SessionRecord
+first_row place w n nr = record { place = place; worker = w; id = n.id; nr = nr; facts = facts_of (Recv (Ok n) ∷ []); back = None; found = Open; stages = no_stages }
+
 -- and with one more session
 pub begun_ok : (r : Result (Unit {0}) NoMemory) (rules : List Rule) (S : List Begun) (t u : SessionTable) (place w number row : ℕ) (n : Notif) (x : Current)
     → StandsFor rules S t → AllShut w S → number < length t.workers.items → number ≡ w → row ≡ length t.rows.items
     → u.rows.items ≡ t.rows.items ++ told (judging_by rules) (record { place = place; worker = w; notif = n; steps = Recv (Ok n) ∷ []; stages = no_stages }) ∷ [] → u.workers.items ≡ set t.workers.items number x
-    → OnOk r (x.row ≡ Some row) → OnOk r (Follows (plan n.call.nr n.call.args) [] x.capture)
+    → OnOk r (x.row ≡ Some row) → OnOk r (x.notif ≡ n) → OnOk r (Follows (plan n.call.nr n.call.args) [] x.capture)
     → OnOk r (StandsFor rules (S ++ (record { place = place; worker = w; notif = n; steps = Recv (Ok n) ∷ []; stages = no_stages }) ∷ []) u)
-begun_ok (Err e) rules S t u place w number row n x k over small e1 e2 rs ws o f = tt
-begun_ok (Ok v) rules S t u place w number row n x k over small e1 e2 rs ws o f =
+begun_ok (Err e) rules S t u place w number row n x k over small e1 e2 rs ws o named f = tt
+begun_ok (Ok v) rules S t u place w number row n x k over small e1 e2 rs ws o named f =
     let l : w < length t.workers.items = omega arith in
-    joined_by rules S t u place w n x k over l rs (ws ∙ ap (λ i. set t.workers.items i x) e1) (o ∙ ap Some e2) f
+    joined_by rules S t u place w n x k over l rs (ws ∙ ap (λ i. set t.workers.items i x) e1) (o ∙ ap Some e2) named f
 
 -- ---- More workers
 
 -- each worker is as it was
 pub all_same : (xs : List Current) → IsGrown xs xs
-all_same xs w = record { row = refl; capture = λ j p. refl }
+all_same xs w = record { row = refl; same = λ j p. refl }
 
 -- one more worker, without a session
 pub one_grown : (old xs : List Current) (x : Current) → IsGrown old xs → x.row ≡ None → IsGrown old (xs ++ x ∷ [])
@@ -276,7 +280,7 @@ one_grown old xs x g none w = elim (cases_order w (length xs)) [
       let before : get_or xs w nobody ≡ nobody = get_or_past xs w nobody (omega arith) in
       let now : get_or (xs ++ x ∷ []) w nobody ≡ x = ap (λ n. get_or (xs ++ x ∷ []) n nobody) q ∙ get_or_at xs x [] nobody (length xs) refl in
       let was : (get_or old w nobody).row ≡ None = sym (g w).row ∙ ap (λ (c : Current). c.row) before in
-      record { row = ap (λ (c : Current). c.row) now ∙ none ∙ sym was; capture = λ j p. let z : None ≡ Some j = sym was ∙ p in cc z }
+      record { row = ap (λ (c : Current). c.row) now ∙ none ∙ sym was; same = λ j p. let z : None ≡ Some j = sym was ∙ p in cc z }
   | inr o ↦ elim o [
     | inl m ↦ subst (IsSame (get_or old w nobody)) (sym (get_or_append_left xs (x ∷ []) nobody w m)) (g w)
     | inr m ↦
@@ -294,7 +298,7 @@ grown_stands rules S t u k rs g = record {
   own = λ w j o. k.own w j (sym (g w).row ∙ o);
   read = λ w j o.
       let old : (current t w).row ≡ Some j = sym (g w).row ∙ o in
-      subst (IsRead (session_in S j)) (sym ((g w).capture j old)) (k.read w j old);
+      subst (λ (z : Current). IsRead (session_in S j) z.notif z.capture) (sym ((g w).same j old)) (k.read w j old);
 }
 
 -- a worker that received, and begins a session

@@ -1,6 +1,6 @@
 -- What is kept of a session with one more step of its worker: its facts, what is read in it, and what the policy makes of it.
 -- By cases on whether the session is over, and on whether its second check was good; its steps then are the new one and those before.
-use Rattle.std.proofs.Common.{◌≡◌, ℕ, Bool, true, false, ◌&&◌, List, [], ◌∷◌, ◌++◌, refl, sym, ap, subst, ◌∙◌}
+use Rattle.std.proofs.Common.{◌≡◌, ℕ, ℤ, Bool, true, false, ◌&&◌, List, [], ◌∷◌, ◌++◌, refl, sym, ap, subst, ◌∙◌}
 use Rattle.std.specs.Prelude.{◌||◌, if◌then◌else◌, Option, Result}
 use Rattle.std.specs.List.{list_any}
 use Rattle.hist_model.specs.Kinds.{is_good_check, is_sent, starts}
@@ -57,9 +57,9 @@ found-later J n own a h = rw (h, or_true (is_good_check a && list_any is_good_ch
 reads-more : (own : List What) (a : What) → checked_twice own ≡ false → reads (a ∷ own) ≡ reads own ++ read_in a
 reads-more own a h = rw h refl
 
-same-session : (p q : ℕ) (w v : ℕ) (n m : Notif) (f g : Facts) (x y : Option Back) (j k : Finding) (t u : Stages) → p ≡ q → w ≡ v → n ≡ m → f ≡ g → x ≡ y → j ≡ k → t ≡ u
-    → ◌≡◌ {A = SessionRecord} (record { place = p; worker = w; notif = n; facts = f; back = x; found = j; stages = t }) (record { place = q; worker = v; notif = m; facts = g; back = y; found = k; stages = u })
-same-session p q w v n m f g x y j k t u a b c d e h i = rw (a, b, c, d, e, h, i) refl
+same-session : (p q : ℕ) (w v : ℕ) (n m : ℕ) (a b : ℤ) (f g : Facts) (x y : Option Back) (j k : Finding) (t u : Stages) → p ≡ q → w ≡ v → n ≡ m → a ≡ b → f ≡ g → x ≡ y → j ≡ k → t ≡ u
+    → ◌≡◌ {A = SessionRecord} (record { place = p; worker = w; id = n; nr = a; facts = f; back = x; found = j; stages = t }) (record { place = q; worker = v; id = m; nr = b; facts = g; back = y; found = k; stages = u })
+same-session p q w v n m a b f g x y j k t u c d e h i l o r = rw (c, d, e, h, i, l, o, r) refl
 
 -- ---- Where the steps stand
 
@@ -77,9 +77,9 @@ back-cons : (own : List What) (a : What) → is_shut own ≡ false → or_back (
 back-cons own a h = ap sent_back (sym (open_joined own a h))
 
 -- of a session that is over
-pub after_shut : (rules : List Rule) (s : Begun) (x : SessionRecord) (place : ℕ) (a : What) (c : Captured) → x ≡ told (judging_by rules) s → x.facts.shut ≡ true → IsRead s c
-    → (x ≡ told (judging_by rules) (with_step place a s)) × IsRead (with_step place a s) c
-after_shut rules s x place a c p over r =
+pub after_shut : (rules : List Rule) (s : Begun) (x : SessionRecord) (place : ℕ) (a : What) (n : Notif) (c : Captured) → x ≡ told (judging_by rules) s → x.facts.shut ≡ true → IsRead s n c
+    → (x ≡ told (judging_by rules) (with_step place a s)) × IsRead (with_step place a s) n c
+after_shut rules s x place a n c p over r =
     let shut : is_shut s.steps ≡ true = sym (ap (λ (r : SessionRecord). r.facts.shut) p) ∙ over in
     rw (shut_joined s.steps a shut, stages-shut place s.steps a s.stages shut) (p, r)
 
@@ -102,39 +102,36 @@ module _ (rules : List Rule) (s : Begun) (x : SessionRecord) (place : ℕ) (a : 
       stages-open place s.steps a s.stages t is-open (rw (← st, ← twice) ve) (rw (← st) ee) (rw (← st) se)
 
   with-found : (j : Finding) → j ≡ found_so_far (judging_by rules) s.notif (joined s.steps a)
-      → ◌≡◌ {A = SessionRecord} (record { place = x.place; worker = x.worker; notif = x.notif; facts = f; back = back; found = j; stages = t }) (told (judging_by rules) (with_step place a s))
-  with-found j e = same-session x.place s.place x.worker s.worker x.notif s.notif f (facts_of (joined s.steps a)) back (sent_back (joined s.steps a)) j (found_so_far (judging_by rules) s.notif (joined s.steps a))
-      t (stages_joined place s.steps a s.stages) (ap (λ (r : SessionRecord). r.place) p) (ap (λ (r : SessionRecord). r.worker) p) (ap (λ (r : SessionRecord). r.notif) p) facts-are back-is e stages-are
+      → ◌≡◌ {A = SessionRecord} (record { place = x.place; worker = x.worker; id = x.id; nr = x.nr; facts = f; back = back; found = j; stages = t }) (told (judging_by rules) (with_step place a s))
+  with-found j e = same-session x.place s.place x.worker s.worker x.id s.notif.id x.nr s.notif.call.nr f (facts_of (joined s.steps a)) back (sent_back (joined s.steps a)) j (found_so_far (judging_by rules) s.notif (joined s.steps a))
+      t (stages_joined place s.steps a s.stages) (ap (λ (r : SessionRecord). r.place) p) (ap (λ (r : SessionRecord). r.worker) p) (ap (λ (r : SessionRecord). r.id) p) (ap (λ (r : SessionRecord). r.nr) p) facts-are back-is e stages-are
 
   -- of a session that was judged
-  pub after_judged : (c : Captured) → x.facts.checked_twice ≡ true
-      → ◌≡◌ {A = SessionRecord} (record { place = x.place; worker = x.worker; notif = x.notif; facts = f; back = back; found = x.found; stages = t }) (told (judging_by rules) (with_step place a s)) × IsRead (with_step place a s) c
-  after_judged c twice =
+  pub after_judged : (n : Notif) (c : Captured) → s.notif ≡ n → x.facts.checked_twice ≡ true
+      → ◌≡◌ {A = SessionRecord} (record { place = x.place; worker = x.worker; id = x.id; nr = x.nr; facts = f; back = back; found = x.found; stages = t }) (told (judging_by rules) (with_step place a s)) × IsRead (with_step place a s) n c
+  after_judged n c named twice =
       let before : checked_twice s.steps ≡ true = sym (ap (λ (r : SessionRecord). r.facts.checked_twice) p) ∙ twice in
       let q : joined s.steps a ≡ a ∷ s.steps = open_joined s.steps a is-open in
       let m : checked_twice (joined s.steps a) ≡ true = ap checked_twice q ∙ twice-later s.steps a before in
       let j : x.found ≡ found_so_far (judging_by rules) s.notif (joined s.steps a) =
       ap (λ (r : SessionRecord). r.found) p ∙ found-later (judging_by rules) s.notif s.steps a before ∙ ap (found_so_far (judging_by rules) s.notif) (sym q) in
-      (with-found x.found j, λ h. absurd (cc (m, h)))
+      (with-found x.found j, (named, λ h. absurd (cc (m, h))))
 
   -- of one that wasn't, whose capture takes the step, and which is judged where this was its second good check
-  pub after_heard : (old mid new : Captured) (j : Finding) → x.facts.checked_twice ≡ false → IsRead s old
+  pub after_heard : (n : Notif) (old mid new : Captured) (j : Finding) → x.facts.checked_twice ≡ false → IsRead s n old
       → ((parts : _) (answers : List (Result (List ℕ) ℕ)) → Follows parts (heard parts [] answers) old → Follows parts (heard parts [] (answers ++ read_in a)) mid)
-      → ((answers : List (Result (List ℕ) ℕ)) → Follows (plan x.notif.call.nr x.notif.call.args) answers mid
-      → j ≡ (if f.checked_twice then finding_of (judged_by rules x.notif (progress (plan x.notif.call.nr x.notif.call.args) answers)) false else Open))
+      → ((answers : List (Result (List ℕ) ℕ)) → Follows (plan n.call.nr n.call.args) answers mid
+      → j ≡ (if f.checked_twice then finding_of (judged_by rules n (progress (plan n.call.nr n.call.args) answers)) false else Open))
       → (f.checked_twice ≡ false → new ≡ mid)
-      → ◌≡◌ {A = SessionRecord} (record { place = x.place; worker = x.worker; notif = x.notif; facts = f; back = back; found = j; stages = t }) (told (judging_by rules) (with_step place a s)) × IsRead (with_step place a s) new
-  after_heard old mid new j twice read hears judges kept =
+      → ◌≡◌ {A = SessionRecord} (record { place = x.place; worker = x.worker; id = x.id; nr = x.nr; facts = f; back = back; found = j; stages = t }) (told (judging_by rules) (with_step place a s)) × IsRead (with_step place a s) n new
+  after_heard n old mid new j twice read hears judges kept =
       let before : checked_twice s.steps ≡ false = sym (ap (λ (r : SessionRecord). r.facts.checked_twice) p) ∙ twice in
       let q : joined s.steps a ≡ a ∷ s.steps = open_joined s.steps a is-open in
-      let parts = plan s.notif.call.nr s.notif.call.args in
+      let parts = plan n.call.nr n.call.args in
       let more : reads (joined s.steps a) ≡ reads s.steps ++ read_in a = ap reads q ∙ reads-more s.steps a before in
-      let told-mid : Follows parts (heard parts [] (reads s.steps ++ read_in a)) mid = hears parts (reads s.steps) (read before) in
+      let told-mid : Follows parts (heard parts [] (reads s.steps ++ read_in a)) mid = hears parts (reads s.steps) (read.1 before) in
       let follows : Follows parts (heard parts [] (reads (joined s.steps a))) mid = subst (λ xs. Follows parts (heard parts [] xs) mid) (sym more) told-mid in
-      let n-is : x.notif ≡ s.notif = ap (λ (r : SessionRecord). r.notif) p in
-      let judges-s : (answers : List (Result (List ℕ) ℕ)) → Follows parts answers mid → j ≡ (if f.checked_twice then finding_of (judged_by rules s.notif (progress parts answers)) false else Open) =
-      subst (λ (n : Notif). (answers : List (Result (List ℕ) ℕ)) → Follows (plan n.call.nr n.call.args) answers mid → j ≡ (if f.checked_twice then finding_of (judged_by rules n (progress (plan n.call.nr n.call.args) answers)) false else Open)) n-is judges in
       let due : f.checked_twice ≡ checked_twice (joined s.steps a) = ap (λ (g : Facts). g.checked_twice) facts-are in
-      let j-is : j ≡ found_so_far (judging_by rules) s.notif (joined s.steps a) =
-      judges-s (heard parts [] (reads (joined s.steps a))) follows ∙ ap (λ b. if b then finding_of (judged_by rules s.notif (progress parts (heard parts [] (reads (joined s.steps a))))) false else Open) due in
-      (with-found j j-is, λ h. subst (λ c. Follows parts (heard parts [] (reads (joined s.steps a))) c) (sym (kept (due ∙ h))) follows)
+      let j-is : j ≡ found_so_far (judging_by rules) n (joined s.steps a) =
+      judges (heard parts [] (reads (joined s.steps a))) follows ∙ ap (λ b. if b then finding_of (judged_by rules n (progress parts (heard parts [] (reads (joined s.steps a))))) false else Open) due in
+      (with-found j (j-is ∙ ap (λ m. found_so_far (judging_by rules) m (joined s.steps a)) (sym read.0)), (read.0, λ h. subst (λ c. Follows parts (heard parts [] (reads (joined s.steps a))) c) (sym (kept (due ∙ h))) follows))

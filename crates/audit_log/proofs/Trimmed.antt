@@ -4,7 +4,7 @@ use Rattle.std.proofs.Common.{◌≡◌, ℕ, zero, suc, ◌+◌, ◌-◌, ◌<�
 use Rattle.std.specs.Prelude.{replicate}
 use Rattle.std.specs.List.{slice_range}
 use Rattle.std.proofs.Math.Seq.{take-add}
-use Rattle.std.proofs.lemmas.List.{take_more}
+use Rattle.std.proofs.lemmas.List.{take_more, take-take}
 use Rattle.std.proofs.lemmas.Bool.{ne_eqb}
 use Rattle.hist_model.specs.ReportWords.{trimmed, trim_onto}
 
@@ -19,12 +19,16 @@ zeros-last zero xs = ap trimmed (append-nil xs)
 zeros-last (suc n) xs = ap trimmed (sym (append_assoc xs (0 ∷ []) (replicate n 0))) ∙ zeros-last n (xs ++ 0 ∷ []) ∙ zero-last xs
 
 -- a front that ends with so many zero bytes
-pub trimmed_zeros : (xs : List ℕ) (n : ℕ) → 64 ≤ n → n ≤ length xs → slice_range xs (n - 64) n ≡ replicate 64 0 → trimmed (take (n - 64) xs) ≡ trimmed (take n xs)
-trimmed_zeros xs n low high is =
-    let size : n - (n - 64) ≡ 64 = omega arith in
-    let end : take 64 (drop (n - 64) xs) ≡ replicate 64 0 = ap (λ k. take k (drop (n - 64) xs)) (sym size) ∙ is in
-    let whole : take n xs ≡ take (n - 64) xs ++ take 64 (drop (n - 64) xs) = ap (λ k. take k xs) (omega arith) ∙ take-add (n - 64) 64 xs in
-    sym (ap trimmed (whole ∙ ap (λ ys. take (n - 64) xs ++ ys) end) ∙ zeros-last 64 (take (n - 64) xs))
+pub trimmed_zeros : (k : ℕ) (xs : List ℕ) (n : ℕ) → k ≤ n → n ≤ length xs → slice_range xs (n - k) n ≡ replicate k 0 → trimmed (take (n - k) xs) ≡ trimmed (take n xs)
+trimmed_zeros k xs n low high is =
+    let size : n - (n - k) ≡ k = omega arith in
+    let end : take k (drop (n - k) xs) ≡ replicate k 0 = ap (λ m. take m (drop (n - k) xs)) (sym size) ∙ is in
+    let whole : take n xs ≡ take (n - k) xs ++ take k (drop (n - k) xs) = ap (λ m. take m xs) (omega arith) ∙ take-add (n - k) k xs in
+    sym (ap trimmed (whole ∙ ap (λ ys. take (n - k) xs ++ ys) end) ∙ zeros-last k (take (n - k) xs))
+
+-- what is left of a front is a front
+pub trimmed_twice : (xs : List ℕ) (m n : ℕ) → n ≤ m → trimmed (take n (take m xs)) ≡ trimmed (take m xs) → trimmed (take m xs) ≡ trimmed xs → trimmed (take n xs) ≡ trimmed xs
+trimmed_twice xs m n le second first = ap trimmed (sym (take-take n m xs le)) ∙ second ∙ first
 
 onto-full : (x b : ℕ) (xs : List ℕ) → trim_onto x (xs ++ b ∷ []) ≡ x ∷ (xs ++ b ∷ [])
 onto-full x b [] = refl

@@ -1,20 +1,35 @@
 -- What is kept of the calls while the events are gone through.
-use Rattle.std.specs.Prelude.{◌≡◌, List, length}
+use Rattle.std.specs.Prelude.{Bool, true, false, List, length, Ok}
 use Rattle.hist_model.specs.declared.event.Event.{Event}
+use Rattle.hist_model.specs.declared.event.What.{What}
+use Rattle.hist_model.specs.declared.event.What.TheVariants.{AddfdPut, Deliver, Enter, Install, Native, Recv, Resume, Spawn}
+use Rattle.audit_log.specs.Places.{AreOrdered, call_in}
 use Rattle.audit_log.specs.Received.{Names, TellsReceived}
-use Rattle.audit_log.specs.Records.{Tells}
+use Rattle.audit_log.specs.Records.{HasEntries, Tells, record_in}
 use Rattle.audit_log.specs.Requests.{TellsInstalled, TellsRequests, queue_in}
 use Rattle.audit_log.specs.Tasks.{Knows}
-use Rattle.audit_log.specs.declared.call_table.CallPass.{CallPass}
+use Rattle.audit_log.specs.declared.call_pass.CallPass.{CallPass}
 
 -- it is so of these events
 pub record TellsPast (K : List Event) (p : CallPass) : Type 0 where
-  pub len : length p.table.records.items ≡ length K
-  pub tells : Tells K p.table.records.items
+  pub entries : HasEntries K p.entered
+  pub tells : Tells K (record_in p.entered)
   pub knows : Knows K p.tasks
   pub names : Names K p.ids
   pub asked : TellsRequests K (queue_in p.requests)
-  pub count : length p.table.received.items ≡ length K
-  pub received : TellsReceived K p.table.received.items
-  pub number : length p.table.answered.items ≡ length K
-  pub answered : TellsInstalled K p.table.answered.items
+  pub receipts : AreOrdered (length K) p.received.places.items (length p.received.calls.items)
+  pub received : TellsReceived K (call_in p.received)
+  pub answers : AreOrdered (length K) p.answered.places.items (length p.answered.calls.items)
+  pub answered : TellsInstalled K (call_in p.answered)
+
+-- a step may tell something of a call
+abbrev pub concerns_calls : What → Bool
+concerns_calls (Spawn child (Ok a)) = true
+concerns_calls (Enter nr args verdict) = true
+concerns_calls (Native answer) = true
+concerns_calls (Install answer) = true
+concerns_calls (Resume back) = true
+concerns_calls (Deliver sig effect) = true
+concerns_calls (Recv (Ok notif)) = true
+concerns_calls (AddfdPut asked (Ok u)) = true
+concerns_calls _ = false

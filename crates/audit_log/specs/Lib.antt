@@ -6,6 +6,7 @@ pub mod CallTable
 pub mod Counts
 pub mod Laws
 pub mod Pass
+pub mod Places
 pub mod Received
 pub mod Records
 pub mod Requests

@@ -27,5 +27,5 @@ received_by call (Recv (Ok notif)) = call notif.id
 received_by call _ = None
 
 -- the calls of what was received, by the place of the event that received it
-abbrev pub TellsReceived : List Event → List (Option ℕ) → Type 0
+abbrev pub TellsReceived : List Event → (ℕ → Option ℕ) → Type 0
 TellsReceived H calls = ByPlace (λ K e. received_by (λ x. call_with_id x K) e.what) H calls

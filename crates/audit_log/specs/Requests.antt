@@ -1,6 +1,6 @@
 -- What is kept of requests for descriptors while the events are gone through: those of each call that have no installation yet, the oldest
 -- first, each by whether it has SEND.
-use Rattle.std.specs.Prelude.{◌≡◌, ℕ, Bool, false, ◌&&◌, if◌then◌else◌, List, [], ◌∷◌, ◌++◌, Option, Some, None, Ok, get_or}
+use Rattle.std.specs.Prelude.{◌≡◌, ℕ, Bool, true, false, ◌&&◌, if◌then◌else◌, List, [], ◌∷◌, ◌++◌, Option, Some, None, Ok}
 use Rattle.std.specs.BTreeMap.{get}
 use Rattle.std.specs.Global.{Global}
 use Rattle.std.specs.Ordering.{nat_cmp}
@@ -14,7 +14,6 @@ use Rattle.hist_model.specs.declared.event.Event.{Event}
 use Rattle.hist_model.specs.declared.event.What.{What}
 use Rattle.hist_model.specs.declared.event.What.TheVariants.{AddfdPut, Install}
 use Rattle.audit_log.specs.ByPlace.{ByPlace}
-use Rattle.audit_log.specs.Records.{no_record}
 use Rattle.audit_log.specs.declared.records.CallRecord.{CallRecord}
 use Rattle.audit_log.specs.declared.requests.PendingRequests.{PendingRequests}
 
@@ -32,9 +31,18 @@ abbrev pub TellsRequests : List Event → (ℕ → List Bool) → Type 0
 TellsRequests K queue = (c : ℕ) → queue c ≡ requests (id K c) (caller K c) c K
 
 -- the call at a place, if there is one, while nothing came of it
-abbrev pub pending_call : Option ℕ → List CallRecord → Option ℕ
-pending_call None records = None
-pending_call (Some c) records = if is_pending (get_or records c no_record).outcome then Some c else None
+abbrev pub pending_call : Option ℕ → (ℕ → CallRecord) → Option ℕ
+pending_call None kept = None
+pending_call (Some c) kept = if is_pending (kept c).outcome then Some c else None
+
+-- the step installs a descriptor for its task, whether or not it gets one
+abbrev pub installs : What → Bool
+installs (Install answer) = true
+installs _ = false
+
+-- this call, where the step installs
+abbrev pub for_install : What → Option ℕ → Option ℕ
+for_install a call = if installs a then call else None
 
 -- the first request of a call has SEND, if there is a call
 abbrev pub first_at : Option ℕ → (ℕ → List Bool) → Bool
@@ -50,7 +58,7 @@ abbrev pub installed_for : List Event → Event → Option ℕ
 installed_for K e = if gave e.what && installs_for_send K e (newest_call (task_name e.who) K) then newest_call (task_name e.who) K else None
 
 -- the calls that are answered so, by the place of the event that answers them
-abbrev pub TellsInstalled : List Event → List (Option ℕ) → Type 0
+abbrev pub TellsInstalled : List Event → (ℕ → Option ℕ) → Type 0
 TellsInstalled H calls = ByPlace installed_for H calls
 
 -- the requests at place c with one more step, where an installation is one for this call, by the call that each id names

@@ -33,8 +33,8 @@ latest test [] = None
 latest test (x ∷ xs) = or_some (latest test xs) (if test x then Some x else None)
 
 -- the session received the notification of the call at place c, by the calls of what was received
-abbrev pub is_for : List (Option ℕ) → ℕ → SessionRecord → Bool
-is_for calls c x = is_place (get_or calls x.place None) c
+abbrev pub is_for : (ℕ → Option ℕ) → ℕ → SessionRecord → Bool
+is_for calls c x = is_place (calls x.place) c
 
 -- with one more number for a call, if it is for one
 abbrev pub noted : Option ℕ → ℕ → List (Option ℕ) → List (Option ℕ)
@@ -47,5 +47,5 @@ row_at rows None = None
 row_at rows (Some i) = slice_get rows i
 
 -- of each call, by its place, the row of its last session
-abbrev pub TellsSessions : List (Option ℕ) → List SessionRecord → ℕ → List (Option ℕ) → Type 0
+abbrev pub TellsSessions : (ℕ → Option ℕ) → List SessionRecord → ℕ → List (Option ℕ) → Type 0
 TellsSessions calls rows room found = (c : ℕ) → c < room → row_at rows (get_or found c None) ≡ latest (is_for calls c) rows

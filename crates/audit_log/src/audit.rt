@@ -6,7 +6,7 @@ ghost use Rattle.hist_model.specs.Decisions.{rule_name};
 ghost use Rattle.hist_model.specs.ReportJournal.{title};
 ghost use Rattle.hist_model.specs.ReportWords.{call_text};
 ghost use Rattle.hist_model.specs.ReportAudit.{answer_of, answer_text, arrival_of, arrival_text, audit, audit_line_of, finding_text, judging_by, rule_of, rule_text};
-ghost use Rattle.audit_log.specs.Audited.{audited, session_line};
+ghost use Rattle.audit_log.specs.Audited.{audited, named, session_line};
 ghost use Rattle.audit_log.specs.Written.{Wrote};
 
 use crate::call_table::CallTable;
@@ -25,7 +25,6 @@ use io_edge::sink::Sink;
 use policy_eval::rule_name;
 use std::alloc::Global;
 use sys_abi::memory::NoMemory;
-use sys_abi::wire::Notif;
 
 impl Report<'_> {
     /// Writes the audit.
@@ -71,23 +70,25 @@ fn write_sessions<O: Sink>(
     ensures { Wrote (O.state out.old) (flat_map (session_line (judging_by policy.now.rules) calls.now) sessions.now) result (O.state out.new) }
 {
     for row in 0..sessions.len() {
-        write_session(policy, calls, &sessions[row], line, out)?;
+        write_session(policy, calls, &sessions[row], row, line, out)?;
     }
     Ok(())
 }
 
-/// Writes the line of a session.
+/// Writes the line of a session, which has this row.
 fn write_session<O: Sink>(
     policy: &Policy,
     calls: &CallTable,
     session: &SessionRecord,
+    row: usize,
     line: &mut LineBuffer,
     out: &mut O,
 ) -> Result<(), ReportError>
     ensures { Wrote (O.state out.old) (session_line (judging_by policy.now.rules) calls.now session.now) result (O.state out.new) }
 {
     line.clear();
-    push_session(line, policy, session, calls.number_received(session.place))?;
+    let number = calls.number_received(session.place, row);
+    push_session(line, policy, session, number)?;
     write_line(line, out)
 }
 
@@ -122,9 +123,9 @@ fn push_session(
     session: &SessionRecord,
     number: Option<u32>,
 ) -> Result<(), NoMemory>
-    ensures { OnOk result (line.new ≡ line.old ++ audit_line_of (judging_by policy.now.rules) session.now.place session.now.worker session.now.notif (audited number session.now)) }
+    ensures { OnOk result (line.new ≡ line.old ++ audit_line_of (judging_by policy.now.rules) session.now.place session.now.worker (named session.now.id session.now.nr) (audited number session.now)) }
 {
-    push_notified(line, session.place, session.worker, &session.notif)?;
+    push_notified(line, session.place, session.worker, session.id, session.nr)?;
     push_finding(line, policy, session.finding())?;
     push_reply(
         line,
@@ -163,17 +164,18 @@ fn push_notified(
     line: &mut LineBuffer,
     place: usize,
     worker: u8,
-    notif: &Notif,
+    id: u64,
+    nr: i32,
 ) -> Result<(), NoMemory>
-    ensures { OnOk result (line.new ≡ line.old ++ (decimal place ++ codes " w" ++ decimal worker ++ codes " id=" ++ decimal notif.now.id ++ codes " " ++ call_text notif.now.call.nr)) }
+    ensures { OnOk result (line.new ≡ line.old ++ (decimal place ++ codes " w" ++ decimal worker ++ codes " id=" ++ decimal id ++ codes " " ++ call_text nr)) }
 {
     line.push_number(place as u64)?;
     line.push(" w")?;
     line.push_number(u64::from(worker))?;
     line.push(" id=")?;
-    line.push_number(notif.id)?;
+    line.push_number(id)?;
     line.push(" ")?;
-    push_call(line, notif.call.nr)
+    push_call(line, nr)
 }
 
 /// The place of the rule that decided.

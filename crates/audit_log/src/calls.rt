@@ -4,11 +4,11 @@ ghost use Rattle.std.specs.Prelude.{◌≡◌, ◌++◌, OnOk};
 ghost use Rattle.hist_model.specs.ReportCalls.{call_line_of, calls, outcome_text};
 ghost use Rattle.audit_log.specs.Written.{Wrote};
 
+use crate::call_table::CallTable;
 use crate::count::entered;
 use crate::error::ReportError;
 use crate::line::LineBuffer;
 use crate::part::{Part, write_part};
-use crate::records::{CallRecord, record_at};
 use crate::report::Report;
 use crate::words::{push_actor, push_call, push_errno};
 use hist_model::event::{Actor, Event, What};
@@ -25,7 +25,7 @@ impl Report<'_> {
     {
         let events = self.history.events();
         let part = Calls {
-            records: self.tables.calls.records.as_slice(),
+            calls: &self.tables.calls,
         };
         write_part(alloc, &part, "calls", entered(events), events, out)
     }
@@ -34,15 +34,15 @@ impl Report<'_> {
 /// The calls as a part of the report.
 #[derive(Drop)]
 struct Calls<'a> {
-    /// Of each event of the history, by its place.
-    records: &'a [CallRecord],
+    calls: &'a CallTable,
 }
 
 impl Part for Calls<'_> {
     ghost use Rattle.audit_log.specs.Records.{recorded_line};
 
-    ghost text = { λ c. recorded_line c.records.now };
+    ghost text = { λ c. recorded_line c.calls.now.entered };
 
+    #[inline(always)]
     #[tactic(auto, using(crate::proofs::Past::length_past))]
     fn push_line(
         &self,
@@ -53,7 +53,7 @@ impl Part for Calls<'_> {
         let place = before.len();
         match &event.what {
             What::Enter { nr, .. } => {
-                let record = record_at(self.records, place);
+                let record = self.calls.entered.record_at(place);
                 let pid = record.pid.unwrap_or(0);
                 push_call_line(line, place, &event.who, pid, *nr, record.outcome)
             }
@@ -62,7 +62,8 @@ impl Part for Calls<'_> {
     }
 }
 
-/// Adds the line of a call.
+/// Adds the line of a call. Apart from the loop, which asks this of few events.
+#[inline(never)]
 fn push_call_line(
     line: &mut LineBuffer,
     place: usize,

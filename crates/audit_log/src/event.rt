@@ -1,6 +1,6 @@
 //! What happened in an event, in words.
 
-ghost use Rattle.std.specs.Prelude.{◌≡◌, ◌++◌, OnOk, codes, decimal, replicate, take, true, length, ◌≤◌};
+ghost use Rattle.std.specs.Prelude.{◌≡◌, ◌++◌, OnOk, codes, decimal, replicate, take, true, length, ◌<◌, ◌≤◌};
 ghost use Rattle.hist_model.specs.ReportWords.{number_text, result_text, trimmed};
 ghost use Rattle.hist_model.specs.ReportJournal.{request_text, spawn_kind_text, spawned_text, disposition_text, entered_text, args_text, delivered_text, reaped_text, received_text, read_text, asked_text, what_text};
 
@@ -16,11 +16,6 @@ use hist_model::text::{TaskName, Text};
 use sys_abi::errno::Errno;
 use sys_abi::memory::NoMemory;
 use sys_abi::wire::{Addfd, Notif};
-
-/// How many zero bytes are passed at a time at the end of what was read.
-const PASSED: usize = 64;
-
-const ZEROS: [u8; PASSED] = [0; PASSED];
 
 /// Adds what happened, in words.
 pub fn push_what(line: &mut LineBuffer, what: &What) -> Result<(), NoMemory>
@@ -263,6 +258,7 @@ fn push_recv(line: &mut LineBuffer, answer: &Result<Notif, Errno>) -> Result<(),
 }
 
 /// Adds a word, a number and `ok` or an error.
+#[inline(always)]
 fn push_numbered(
     line: &mut LineBuffer,
     word: &str,
@@ -325,22 +321,35 @@ fn push_bytes_read(line: &mut LineBuffer, answer: &Result<Text, Errno>) -> Resul
 }
 
 /// Whether so many bytes are zero.
-fn are_zero(bytes: &[u8]) -> bool
-    ensures { result ≡ true → bytes.now ≡ replicate 64 0 }
+#[inline(always)]
+fn are_zero<const N: usize>(bytes: &[u8]) -> bool
+    requires { N ≤ 64 }
+    ensures { result ≡ true → bytes.now ≡ replicate N 0 }
 {
-    bytes == &ZEROS[..]
+    bytes == &[0; N][..]
 }
 
 /// How many bytes are left where zero bytes at the end are passed, so many at a time.
-fn without_zeros(bytes: &[u8]) -> usize
+#[inline(always)]
+fn without_zeros<const N: usize>(bytes: &[u8]) -> usize
+    requires { (0 < N) × (N ≤ 64) }
     ensures bound { result ≤ length bytes.now }
     ensures same { trimmed (take result bytes.now) ≡ trimmed bytes.now }
 {
     let mut len = bytes.len();
-    while len >= PASSED && are_zero(&bytes[len - PASSED..len]) {
-        len -= PASSED;
+    while len >= N && are_zero::<N>(&bytes[len - N..len]) {
+        len -= N;
     }
     len
+}
+
+/// How many bytes are left where most of the zero bytes at the end are passed: a buffer's end is mostly long.
+fn without_most_zeros(bytes: &[u8]) -> usize
+    ensures bound { result ≤ length bytes.now }
+    ensures same { trimmed (take result bytes.now) ≡ trimmed bytes.now }
+{
+    let len = without_zeros::<64>(bytes);
+    without_zeros::<8>(&bytes[..len])
 }
 
 /// How many bytes there are up to the last one that isn't zero.
@@ -349,7 +358,7 @@ fn trimmed_len(bytes: &[u8]) -> usize
     ensures bound { result ≤ length bytes.now }
     ensures front { take result bytes.now ≡ trimmed bytes.now }
 {
-    let mut len = without_zeros(bytes);
+    let mut len = without_most_zeros(bytes);
     while len > 0 && bytes[len - 1] == 0 {
         len -= 1;
     }

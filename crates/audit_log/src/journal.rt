@@ -43,6 +43,7 @@ impl Part for Journal {
 
     ghost text = { λ _. journal_line };
 
+    #[inline(always)]
     #[tactic(auto, using(crate::proofs::Past::length_past))]
     fn push_line(
         &self,
@@ -55,6 +56,7 @@ impl Part for Journal {
 }
 
 /// Adds the line of the event at a place.
+#[inline(always)]
 pub fn push_event(line: &mut LineBuffer, place: usize, event: &Event) -> Result<(), NoMemory>
     ensures { OnOk result (line.new ≡ line.old ++ event_line place event.now) }
 {

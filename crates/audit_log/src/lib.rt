@@ -16,9 +16,11 @@
 
 mod answer;
 pub mod audit;
+mod call_pass;
 pub mod call_table;
 pub mod calls;
 mod count;
+mod digits;
 pub mod error;
 pub mod event;
 pub mod journal;
@@ -26,6 +28,7 @@ pub mod laws;
 pub mod line;
 mod outcome;
 pub mod part;
+mod places;
 mod received;
 mod records;
 pub mod report;

@@ -4,14 +4,11 @@ ghost use Rattle.std.specs.Prelude.{◌≡◌, ℕ, ◌+◌, ◌<◌, ◌≤◌,
 ghost use Rattle.std.specs.Fmt.{signed_decimal};
 ghost use Rattle.hist_model.specs.ReportWords.{hex, quoted};
 
-use itoa::{Buffer, write_digits};
+use crate::digits::{Digits, FEW_DIGITS, place_digits};
 use plain_words::{hex_byte, push_quoted};
 use std::alloc::Global;
 use std::marker::Model;
 use sys_abi::memory::NoMemory;
-
-/// How many digits a number may have.
-const DIGITS: usize = 20;
 
 /// How many bytes are stored as digits of base 16 at a time.
 const PIECE: usize = 16;
@@ -55,20 +52,6 @@ fn lengthen(room: &mut Vec<u8>, bytes: &[u8]) -> Result<(), NoMemory>
     Ok(())
 }
 
-/// Makes room for these bytes behind the first `len` bytes of a room, which stay.
-#[inline(always)]
-fn make_room(room: &mut Vec<u8>, len: usize, bytes: &[u8]) -> Result<(), NoMemory>
-    requires { len ≤ length room.old.items }
-    ensures kept { take len room.new.items ≡ take len room.old.items }
-    ensures within { len ≤ length room.new.items }
-    ensures fits { OnOk result (len + length bytes.now ≤ length room.new.items) }
-{
-    if bytes.len() <= room.len() - len {
-        return Ok(());
-    }
-    lengthen(room, bytes)
-}
-
 /// Stores bytes at a place in a room, and returns where they end.
 #[inline(always)]
 fn place(room: &mut [u8], at: usize, bytes: &[u8]) -> usize
@@ -87,6 +70,8 @@ fn place(room: &mut [u8], at: usize, bytes: &[u8]) -> usize
 fn place_first(room: &mut [u8], at: usize, bytes: &[u8], count: usize) -> usize
     requires fits { at + length bytes.now ≤ length room.old }
     requires few { count ≤ length bytes.now }
+    ensures moved { result ≡ at + count }
+    ensures len { length room.new ≡ length room.old }
     ensures within { result ≤ length room.new }
     ensures front { take result room.new ≡ take at room.old ++ take count bytes.now }
 {
@@ -149,7 +134,21 @@ impl LineBuffer {
         requires { count ≤ length bytes.now }
         ensures { OnOk result (self.new ≡ self.old ++ take count bytes.now) }
     {
-        make_room(&mut self.room, self.len, bytes)?;
+        if bytes.len() > self.room.len() - self.len {
+            return self.push_beyond(bytes, count);
+        }
+        self.len = place_first(self.room.as_mut_slice(), self.len, bytes, count);
+        Ok(())
+    }
+
+    /// The same, where there is too little room. Apart from the usual way, so that this one keeps nothing for it.
+    #[cold]
+    #[inline(never)]
+    fn push_beyond(&mut self, bytes: &[u8], count: usize) -> Result<(), NoMemory>
+        requires { count ≤ length bytes.now }
+        ensures { OnOk result (self.new ≡ self.old ++ take count bytes.now) }
+    {
+        lengthen(&mut self.room, bytes)?;
         self.len = place_first(self.room.as_mut_slice(), self.len, bytes, count);
         Ok(())
     }
@@ -205,6 +204,7 @@ impl LineBuffer {
     }
 
     /// Adds a number.
+    #[inline(always)]
     #[tactic(auto, using(std::proofs::lemmas::Fmt::decimal_digit))]
     pub fn push_number(&mut self, n: u64) -> Result<(), NoMemory>
         ensures { OnOk result (self.new ≡ self.old ++ decimal n) }
@@ -215,21 +215,48 @@ impl LineBuffer {
         self.push_digits(n)
     }
 
-    /// The same, of any number of digits. As many bytes are stored as it may have digits, and those that it has count.
-    #[tactic(auto, using(crate::proofs::Room::window_shows))]
+    /// The same, of more than one digit.
+    #[inline(never)]
     fn push_digits(&mut self, n: u64) -> Result<(), NoMemory>
+        requires { 10 ≤ n }
         ensures { OnOk result (self.new ≡ self.old ++ decimal n) }
     {
-        let mut digits = [b'0'; 2 * DIGITS];
-        let start = write_digits(n, &mut digits, DIGITS);
-        self.push_first(&digits[start..start + DIGITS], DIGITS - start)
+        if n < 100_000_000 {
+            self.push_few_digits(n)
+        } else {
+            self.push_any_digits(n)
+        }
+    }
+
+    /// The same, of two to eight digits. They are written where they stay, since it is seen before how many there are.
+    #[inline(always)]
+    fn push_few_digits(&mut self, n: u64) -> Result<(), NoMemory>
+        requires { (10 ≤ n) × (n < 100000000) }
+        ensures { OnOk result (self.new ≡ self.old ++ decimal n) }
+    {
+        if self.room.len() - self.len < FEW_DIGITS {
+            return self.push_any_digits(n);
+        }
+        self.len = place_digits(self.room.as_mut_slice(), self.len, n);
+        Ok(())
+    }
+
+    /// The same, of any number. As many bytes are stored as it may have digits, and those that it has count.
+    #[inline(never)]
+    fn push_any_digits(&mut self, n: u64) -> Result<(), NoMemory>
+        ensures { OnOk result (self.new ≡ self.old ++ decimal n) }
+    {
+        let digits = Digits::of(n);
+        self.push_first(&digits.text, digits.count)
     }
 
     /// Adds a number that may be negative.
     pub(crate) fn push_signed(&mut self, n: i64) -> Result<(), NoMemory>
         ensures { OnOk result (self.new ≡ self.old ++ signed_decimal n) }
     {
-        let mut buffer = Buffer::new();
-        self.push(buffer.format(n))
+        if n < 0 {
+            self.push("-")?;
+        }
+        self.push_number(n.unsigned_abs())
     }
 }

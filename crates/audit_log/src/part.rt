@@ -30,6 +30,7 @@ pub trait Part {
 }
 
 /// Writes a line, in one write; nothing where it is empty.
+#[inline(always)]
 pub fn write_line<O: Sink>(line: &LineBuffer, out: &mut O) -> Result<(), ReportError>
     ensures { Wrote (O.state out.old) line.now result (O.state out.new) }
 {

@@ -1,8 +1,10 @@
 //! The session of each call.
 
 ghost use Rattle.std.specs.Prelude.{◌≡◌, IfOk, None, get_or, replicate};
+ghost use Rattle.audit_log.specs.Places.{call_in};
 ghost use Rattle.audit_log.specs.Served.{TellsSessions, noted};
 
+use crate::call_table::CallTable;
 use crate::session::SessionRecord;
 use std::alloc::Global;
 use sys_abi::memory::NoMemory;
@@ -30,18 +32,19 @@ pub fn none_found(alloc: Global, room: usize) -> Result<Vec<Option<usize>>, NoMe
     Ok(found)
 }
 
-/// Of each place below `room`, the row of the last session for the call there, by the calls of what was received.
+/// Of each place below `room`, the row of the last session for the call there, by what is kept of the calls.
 pub fn served_calls(
     alloc: Global,
     room: usize,
-    received: &[Option<usize>],
+    calls: &CallTable,
     sessions: &[SessionRecord],
 ) -> Result<Vec<Option<usize>>, NoMemory>
-    ensures { IfOk result (λ found. TellsSessions received.now sessions.now room found.items) }
+    ensures { IfOk result (λ found. TellsSessions (call_in calls.now.received) sessions.now room found.items) }
 {
     let mut found = none_found(alloc, room)?;
     for row in 0..sessions.len() {
-        note(&mut found, place_at(received, sessions[row].place), row);
+        let call = calls.received_near(sessions[row].place, row);
+        note(&mut found, call, row);
     }
     Ok(found)
 }

@@ -24,8 +24,10 @@ pub struct SessionRecord {
     pub place: usize,
     /// The number of its worker.
     pub worker: u8,
-    /// The notification that it received.
-    pub notif: Notif,
+    /// The id of the notification that it received.
+    pub id: u64,
+    /// The number of the call that waits for its answer.
+    pub nr: i32,
     /// What its steps tell.
     pub facts: Facts,
     /// What was sent last.
@@ -85,15 +87,16 @@ fn found_where(due: bool, policy: &Policy, notif: &Notif, capture: &mut Capture)
 }
 
 impl SessionRecord {
-    /// One more step of its worker, which has this place, and which the capture of its reads takes too.
+    /// One more step of its worker, which has this place, and which the capture of its reads takes too. The notification is the one that it received.
     pub(crate) fn step(
         &mut self,
         policy: &Policy,
         place: usize,
+        notif: &Notif,
         capture: &mut Capture,
         what: &What,
     ) -> Result<(), NoMemory>
-        ensures { OnOk result ((s : Begun) → self.old ≡ told (judging_by policy.now.rules) s → IsRead s capture.old → (self.new ≡ told (judging_by policy.now.rules) (with_step place what.now s)) × IsRead (with_step place what.now s) capture.new) }
+        ensures { OnOk result ((s : Begun) → self.old ≡ told (judging_by policy.now.rules) s → IsRead s notif.now capture.old → (self.new ≡ told (judging_by policy.now.rules) (with_step place what.now s)) × IsRead (with_step place what.now s) notif.now capture.new) }
     {
         if self.facts.shut {
             return Ok(());
@@ -106,7 +109,7 @@ impl SessionRecord {
             return Ok(());
         }
         hear(capture, what)?;
-        let found = found_where(self.facts.checked_twice, policy, &self.notif, capture);
+        let found = found_where(self.facts.checked_twice, policy, notif, capture);
         self.found = found;
         Ok(())
     }

@@ -22,13 +22,15 @@ use hist_model::policy::Policy;
 use hist_model::report::Finding;
 use std::alloc::Global;
 use sys_abi::memory::NoMemory;
-use sys_abi::wire::Notif;
+use sys_abi::wire::{Notif, SeccompData};
 
 /// What a worker is in.
 #[derive(Drop)]
 struct Current {
     /// The row of the session that its newest notification began.
     row: Option<usize>,
+    /// That notification.
+    notif: Notif,
     /// What is read in that session.
     capture: Capture,
 }
@@ -59,22 +61,23 @@ fn received(what: &What) -> Option<Notif>
     }
 }
 
-/// One more step, which has this place, in the session of a row, whose reads the capture takes.
+/// One more step, which has this place, in the session of a row, which received the notification, and whose reads the capture takes.
 fn advance_row(
     policy: &Policy,
     place: usize,
     rows: &mut Vec<SessionRecord>,
     row: usize,
+    notif: &Notif,
     capture: &mut Capture,
     what: &What,
 ) -> Result<(), NoMemory>
-    ensures { OnOk result (IsRowStepped policy.now.rules place what.now capture.old capture.new rows.old.items rows.new.items (Some row)) }
+    ensures { OnOk result (IsRowStepped policy.now.rules place what.now notif.now notif.now capture.old capture.new rows.old.items rows.new.items (Some row)) }
 {
     if row >= rows.len() {
         return Ok(());
     }
     let session = &mut rows[row];
-    session.step(policy, place, capture, what)
+    session.step(policy, place, notif, capture, what)
 }
 
 impl Current {
@@ -89,7 +92,15 @@ impl Current {
         ensures { OnOk result (IsStepped policy.now.rules place what.now self.old self.new rows.old.items rows.new.items) }
     {
         match self.row {
-            Some(row) => advance_row(policy, place, rows, row, &mut self.capture, what),
+            Some(row) => advance_row(
+                policy,
+                place,
+                rows,
+                row,
+                &self.notif,
+                &mut self.capture,
+                what,
+            ),
             None => Ok(()),
         }
     }
@@ -97,13 +108,28 @@ impl Current {
     /// The worker begins a session, which has a row, with a notification.
     fn begin(&mut self, alloc: Global, row: usize, notif: &Notif) -> Result<(), NoMemory>
         ensures row { OnOk result (self.new.row ≡ Some row) }
+        ensures notif { OnOk result (self.new.notif ≡ notif.now) }
         ensures follows { OnOk result (Follows (plan notif.now.call.nr notif.now.call.args) [] self.new.capture) }
     {
         self.capture = Capture::new(alloc, Plan::of(notif.call.nr, &notif.call.args))?;
+        self.notif = *notif;
         self.row = Some(row);
         Ok(())
     }
 }
+
+/// Stands for the notification of a worker that received none.
+const NO_NOTIF: Notif = Notif {
+    id: 0,
+    pid: 0,
+    flags: 0,
+    call: SeccompData {
+        nr: 0,
+        arch: 0,
+        ip: 0,
+        args: [0; 6],
+    },
+};
 
 /// Gives each worker up to this number a place among the workers. Most histories have few of them.
 fn reach(alloc: Global, workers: &mut Vec<Current>, number: usize) -> Result<(), NoMemory>
@@ -113,6 +139,7 @@ fn reach(alloc: Global, workers: &mut Vec<Current>, number: usize) -> Result<(),
     while workers.len() <= number {
         workers.push(Current {
             row: None,
+            notif: NO_NOTIF,
             capture: Capture::nothing(alloc),
         })?;
     }
@@ -162,7 +189,8 @@ impl SessionTable {
         self.rows.push(SessionRecord {
             place,
             worker,
-            notif: *notif,
+            id: notif.id,
+            nr: notif.call.nr,
             facts,
             back,
             found: Finding::Open,

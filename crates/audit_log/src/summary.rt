@@ -6,6 +6,7 @@ ghost use Rattle.hist_model.specs.Report.{audits, summary};
 ghost use Rattle.audit_log.specs.Audited.{audited};
 ghost use Rattle.audit_log.specs.CallTable.{number_in};
 ghost use Rattle.audit_log.specs.Counts.{counted, counts_of, counts_words, event_words, finding_words, no_counts, plus, summary_words};
+ghost use Rattle.audit_log.specs.Places.{call_in};
 ghost use Rattle.audit_log.specs.Requests.{TellsInstalled};
 ghost use Rattle.audit_log.specs.Written.{Wrote};
 
@@ -114,11 +115,7 @@ impl Report<'_> {
         ensures { IfOk result (λ c. c ≡ counts_of (judging_by self.now.policy.now.rules) self.now.history.now.events) }
     {
         let found = self.audits(alloc)?;
-        Ok(counted(
-            self.tables.calls.answered(),
-            self.history.events(),
-            found.as_slice(),
-        ))
+        Ok(counted(&self.tables.calls, self.history.events(), found.as_slice()))
     }
 
     /// The outcome of each session, the oldest first.
@@ -140,7 +137,8 @@ fn audits_of(
     let mut found = Vec::new(alloc);
     for row in 0..sessions.len() {
         let session = &sessions[row];
-        push_audit(&mut found, session, calls.number_received(session.place))?;
+        let number = calls.number_received(session.place, row);
+        push_audit(&mut found, session, number)?;
     }
     Ok(found)
 }
@@ -162,17 +160,17 @@ fn push_audit(
     Ok(())
 }
 
-/// The counts of events and of what sessions came to, by the calls that events answered by an installation.
+/// The counts of events and of what sessions came to, by what is kept of the calls.
 #[tactic(auto, using(crate::proofs::Past::length_past))]
-fn counted(installed: &[Option<usize>], events: &[Event], found: &[Audit]) -> Counts
-    requires { TellsInstalled (reverse events.now) installed.now }
+fn counted(calls: &CallTable, events: &[Event], found: &[Audit]) -> Counts
+    requires { TellsInstalled (reverse events.now) (call_in calls.now.answered) }
     ensures { result ≡ counted (reverse events.now) found.now }
 {
     Counts {
         events: events.len() as u64,
         calls: entered(events) as u64,
         notified: notified(events) as u64,
-        answered: answered(installed, events) as u64,
+        answered: answered(calls, events) as u64,
         granted: granted(found) as u64,
         denied: denied(found) as u64,
         passed: passed(found) as u64,

@@ -6,7 +6,8 @@ ghost use Rattle.hist_model.specs.declared.policy.Rule.{Rule};
 ghost use Rattle.audit_log.specs.Pass.{HasPast};
 ghost use Rattle.audit_log.specs.Tables.{TellsTables};
 
-use crate::call_table::{CallPass, CallTable};
+use crate::call_pass::CallPass;
+use crate::call_table::CallTable;
 use crate::session::SessionRecord;
 use crate::session_table::SessionTable;
 use hist_model::event::Event;
@@ -32,14 +33,14 @@ struct Pass {
 }
 
 impl Pass {
-    /// Before all events, with room for so many.
-    fn new(alloc: Global, room: usize) -> Result<Pass, NoMemory>
-        ensures { IfOk result (λ pass. (rules : List Rule) → HasPast rules [] pass) }
+    /// Before all events.
+    fn new(alloc: Global) -> Pass
+        ensures { (rules : List Rule) → HasPast rules [] result }
     {
-        Ok(Pass {
-            calls: CallPass::new(alloc, room)?,
+        Pass {
+            calls: CallPass::new(alloc),
             sessions: SessionTable::new(alloc),
-        })
+        }
     }
 
     /// One more event, which has this place.
@@ -66,11 +67,11 @@ impl Tables {
     pub fn of(alloc: Global, policy: &Policy, history: &History) -> Result<Tables, NoMemory>
         ensures { IfOk result (TellsTables policy.now.rules history.now.events) }
     {
-        let mut pass = Pass::new(alloc, history.len())?;
+        let mut pass = Pass::new(alloc);
         pass.note_all(policy, history.events())?;
         let Pass { calls, sessions } = pass;
         Ok(Tables {
-            calls: calls.table,
+            calls: calls.table(),
             sessions: sessions.rows,
         })
     }

@@ -2,8 +2,10 @@
 
 ghost use Rattle.std.specs.Prelude.{◌≡◌, ◌&&◌, ◌∷◌, ℕ, List, OnOk, Some, if◌then◌else◌};
 ghost use Rattle.hist_model.specs.Look.{is_task, name_eq, or_else};
+ghost use Rattle.hist_model.specs.ReportCalls.{pid_given};
 ghost use Rattle.audit_log.specs.Tasks.{facts_in, facts_of, no_task, row_of, task_after};
 
+use crate::count::enters;
 use hist_model::event::{Actor, Event, What};
 use hist_model::text::TaskName;
 use std::alloc::Global;
@@ -168,37 +170,46 @@ impl TaskRecords {
         self.put(name, facts)
     }
 
-    /// A task entered a call.
-    fn put_call(&mut self, name: &[u32], place: usize) -> Result<(), NoMemory>
-        ensures { OnOk result ((n : List ℕ) → facts_in self.new n ≡ (if name_eq name.now n then record { pid = (facts_in self.old name.now).pid; newest = Some place } else facts_in self.old n)) }
+    /// With one more event, which has this place, by what is kept of its actor.
+    pub(crate) fn note(
+        &mut self,
+        place: usize,
+        event: &Event,
+        facts: TaskFacts,
+    ) -> Result<(), NoMemory>
+        ensures { facts ≡ facts_of event.now.who (facts_in self.old) → OnOk result ((n : List ℕ) → facts_in self.new n ≡ task_after place event.now n (facts_in self.old n)) }
     {
-        let facts = TaskFacts {
-            newest: Some(place),
-            ..self.get(name)
-        };
-        self.put(name, facts)
+        if enters(&event.what) {
+            return self.note_call(place, &event.who, facts);
+        }
+        self.note_pid(&event.what)
     }
 
-    /// With one more event, which has this place.
-    pub(crate) fn note(&mut self, place: usize, event: &Event) -> Result<(), NoMemory>
-        ensures { OnOk result ((n : List ℕ) → facts_in self.new n ≡ task_after place event.now n (facts_in self.old n)) }
+    /// A step may give a task its PID.
+    fn note_pid(&mut self, what: &What) -> Result<(), NoMemory>
+        ensures { OnOk result ((n : List ℕ) → facts_in self.new n ≡ record { pid = or_else (facts_in self.old n).pid (pid_given what.now n); newest = (facts_in self.old n).newest }) }
     {
-        match &event.what {
+        match what {
             What::Spawn {
                 child,
                 answer: Ok((pid, _)),
             } => self.put_pid(child.items(), *pid),
-            What::Enter { .. } => self.note_call(place, &event.who),
             _ => Ok(()),
         }
     }
 
     /// A task entered a call; of another actor nothing is kept.
-    fn note_call(&mut self, place: usize, who: &Actor) -> Result<(), NoMemory>
-        ensures { OnOk result ((n : List ℕ) → facts_in self.new n ≡ record { pid = (facts_in self.old n).pid; newest = if is_task who.now n then Some place else (facts_in self.old n).newest }) }
+    fn note_call(&mut self, place: usize, who: &Actor, facts: TaskFacts) -> Result<(), NoMemory>
+        ensures { facts ≡ facts_of who.now (facts_in self.old) → OnOk result ((n : List ℕ) → facts_in self.new n ≡ record { pid = (facts_in self.old n).pid; newest = if is_task who.now n then Some place else (facts_in self.old n).newest }) }
     {
         match who {
-            Actor::Task(name) => self.put_call(name.items(), place),
+            Actor::Task(name) => {
+                let entered = TaskFacts {
+                    newest: Some(place),
+                    ..facts
+                };
+                self.put(name.items(), entered)
+            }
             _ => Ok(()),
         }
     }

@@ -34,6 +34,7 @@ pub(crate) fn push_or_dash(line: &mut LineBuffer, text: &[u8]) -> Result<(), NoM
 }
 
 /// Adds a task's name: its numbers, with points between them.
+#[inline(always)]
 pub fn push_name(line: &mut LineBuffer, name: &TaskName) -> Result<(), NoMemory>
     ensures { OnOk result (line.new ≡ line.old ++ name_text name.now) }
 {
@@ -41,6 +42,7 @@ pub fn push_name(line: &mut LineBuffer, name: &TaskName) -> Result<(), NoMemory>
 }
 
 /// Adds numbers with points between them.
+#[inline(always)]
 fn push_numbers(line: &mut LineBuffer, numbers: &[u32]) -> Result<(), NoMemory>
     ensures { OnOk result (line.new ≡ line.old ++ name_text numbers.now) }
 {
@@ -54,6 +56,7 @@ fn push_numbers(line: &mut LineBuffer, numbers: &[u32]) -> Result<(), NoMemory>
 }
 
 /// Adds numbers with a point before each.
+#[inline(never)]
 fn push_pointed(line: &mut LineBuffer, numbers: &[u32]) -> Result<(), NoMemory>
     ensures { OnOk result (line.new ≡ line.old ++ flat_map (λ n. codes "." ++ decimal n) numbers.now) }
 {
@@ -65,6 +68,7 @@ fn push_pointed(line: &mut LineBuffer, numbers: &[u32]) -> Result<(), NoMemory>
 }
 
 /// Adds an error's name, or `E` and its number.
+#[inline(never)]
 pub(crate) fn push_errno(line: &mut LineBuffer, error: Errno) -> Result<(), NoMemory>
     ensures { OnOk result (line.new ≡ line.old ++ errno_text error) }
 {
@@ -88,6 +92,7 @@ pub fn push_call(line: &mut LineBuffer, nr: i32) -> Result<(), NoMemory>
 }
 
 /// Adds `ok`, or an error.
+#[inline(always)]
 pub fn push_result(line: &mut LineBuffer, answer: &Result<(), Errno>) -> Result<(), NoMemory>
     ensures { OnOk result (line.new ≡ line.old ++ result_text answer.now) }
 {
@@ -122,6 +127,7 @@ pub(crate) fn push_back(line: &mut LineBuffer, back: Back) -> Result<(), NoMemor
 }
 
 /// Adds who takes a step.
+#[inline(always)]
 pub(crate) fn push_actor(line: &mut LineBuffer, who: &Actor) -> Result<(), NoMemory>
     ensures { OnOk result (line.new ≡ line.old ++ actor_text who.now) }
 {

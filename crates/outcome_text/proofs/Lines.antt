@@ -18,7 +18,8 @@ use Rattle.hist_model.specs.declared.event.What.{What}
 use Rattle.hist_model.specs.declared.event.What.TheVariants.{Recv}
 use Rattle.audit_log.specs.Begun.{Begun, told}
 use Rattle.audit_log.specs.CallTable.{TellsCalls}
-use Rattle.audit_log.specs.Records.{no_record}
+use Rattle.audit_log.specs.Places.{call_in}
+use Rattle.audit_log.specs.Records.{record_in}
 use Rattle.audit_log.specs.Served.{TellsSessions, row_at, session_by, session_for}
 use Rattle.audit_log.specs.SessionStages.{stages_at}
 use Rattle.audit_log.specs.Sessions.{begun}
@@ -64,7 +65,7 @@ session-kept J H number None own = refl
 session-kept J H number (Some s) own = rw (finding_told J s, ← own s refl) refl
 
 module _ (J : Judging) (H : List Event) (calls : CallTable) (rows : List SessionRecord) (served : List (Option ℕ))
-    (tells : TellsCalls H calls) (kept : rows ≡ map (told J) (begun H H)) (sessions : TellsSessions calls.received.items rows (length H) served) where
+    (tells : TellsCalls H calls) (kept : rows ≡ map (told J) (begun H H)) (sessions : TellsSessions (call_in calls.received) rows (length H) served) where
   line-same : (n : Name) (later K : List Event) (e : Event) → H ≡ later ++ e ∷ K → lines_by J H calls rows served n K e ≡ call_lines J H n K e
   line-same n later K e q = by (is_call_of n e) refl
     where
@@ -73,25 +74,28 @@ module _ (J : Judging) (H : List Event) (calls : CallTable) (rows : List Session
 
       session : (number : Option ℕ) → kept_text J H number (row_at rows (get_or served (length K) None)) ≡ session_text J number (session_for H (length K) H)
       session number =
-          ap (kept_text J H number) (session_row J calls.received.items H rows served kept tells.received sessions (length K) (omega (arith, size)))
+          ap (kept_text J H number) (session_row J (call_in calls.received) H rows served kept tells.received sessions (length K) (omega (arith, size)))
           ∙ session-kept J H number (session_for H (length K) H) (session-steps H (length K) H)
 
       own : is_call_of n e ≡ true → task_name e.who ≡ n
       own h = task_of e.who n (and_parts (is_task e.who n) (enters e.what) h).0
 
+      entering : is_call_of n e ≡ true → enters e.what ≡ true
+      entering h = (and_parts (is_task e.who n) (enters e.what) h).1
+
       by : (b : Bool) → is_call_of n e ≡ b
           → (if b
-          then entry_of n (calls_of n K + 1) e.what (get_or calls.records.items (length K) no_record).outcome
-          ++ kept_text J H (get_or calls.records.items (length K) no_record).number (row_at rows (get_or served (length K) None))
+          then entry_of n (calls_of n K + 1) e.what (record_in calls.entered (length K)).outcome
+          ++ kept_text J H (record_in calls.entered (length K)).number (row_at rows (get_or served (length K) None))
           else [])
           ≡ (if b
           then entry_of n (calls_of n K + 1) e.what (outcome n (length K) H) ++ session_text J (installed n (length K) H) (session_for H (length K) H)
           else [])
       by true h =
-          let came : (get_or calls.records.items (length K) no_record).outcome ≡ outcome n (length K) H = ap (λ r. r.outcome) (tells.records later K e q) ∙ ap (λ m. outcome m (length K) H) (own h) in
-          let number : (get_or calls.records.items (length K) no_record).number ≡ installed n (length K) H = ap (λ r. r.number) (tells.records later K e q) ∙ ap (λ m. installed m (length K) H) (own h) in
+          let came : (record_in calls.entered (length K)).outcome ≡ outcome n (length K) H = ap (λ r. r.outcome) (tells.records later K e q (entering h)) ∙ ap (λ m. outcome m (length K) H) (own h) in
+          let number : (record_in calls.entered (length K)).number ≡ installed n (length K) H = ap (λ r. r.number) (tells.records later K e q (entering h)) ∙ ap (λ m. installed m (length K) H) (own h) in
           ap₂ (λ text more. text ++ more) (ap (entry_of n (calls_of n K + 1) e.what) came)
-          (session (get_or calls.records.items (length K) no_record).number ∙ ap (λ m. session_text J m (session_for H (length K) H)) number)
+          (session (record_in calls.entered (length K)).number ∙ ap (λ m. session_text J m (session_for H (length K) H)) number)
       by false h = refl
 
   lines-from : (n : Name) (later K : List Event) → H ≡ later ++ K → lines_of (lines_by J H calls rows served n) K ≡ lines_of (call_lines J H n) K

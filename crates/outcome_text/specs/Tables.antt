@@ -4,7 +4,7 @@ use Rattle.hist_model.specs.Look.{Name}
 use Rattle.hist_model.specs.ReportAudit.{Judging, session_at}
 use Rattle.hist_model.specs.declared.event.Event.{Event}
 use Rattle.audit_log.specs.Audited.{audited}
-use Rattle.audit_log.specs.Records.{no_record}
+use Rattle.audit_log.specs.Records.{record_in}
 use Rattle.audit_log.specs.Served.{row_at}
 use Rattle.audit_log.specs.declared.call_table.CallTable.{CallTable}
 use Rattle.audit_log.specs.declared.session.SessionRecord.{SessionRecord}
@@ -19,8 +19,8 @@ kept_text J H number (Some x) = audit_text J (audited number x) ++ did (session_
 abbrev pub lines_at : Judging → List Event → CallTable → List SessionRecord → List (Option ℕ) → Name → ℕ → ℕ → Event → List ℕ
 lines_at J H calls rows served n place before e =
     if is_call_of n e
-    then entry_of n (before + 1) e.what (get_or calls.records.items place no_record).outcome
-    ++ kept_text J H (get_or calls.records.items place no_record).number (row_at rows (get_or served place None))
+    then entry_of n (before + 1) e.what (record_in calls.entered place).outcome
+    ++ kept_text J H (record_in calls.entered place).number (row_at rows (get_or served place None))
     else []
 
 -- of the event that comes after K

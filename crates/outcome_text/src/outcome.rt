@@ -23,7 +23,7 @@ pub fn outcome_of(alloc: Global, policy: &Policy, history: &History) -> Result<V
     let tables = Tables::of(alloc, policy, history)?;
     let calls = &tables.calls;
     let sessions = tables.sessions.as_slice();
-    let served = served_calls(alloc, events.len(), calls.received(), sessions)?;
+    let served = served_calls(alloc, events.len(), calls, sessions)?;
     let names = task_names(alloc, events)?;
     let kept = Kept {
         policy,

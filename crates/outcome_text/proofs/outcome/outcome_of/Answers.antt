@@ -5,6 +5,7 @@ use Rattle.std.proofs.lemmas.List.{length-reverse}
 use Rattle.hist_model.specs.ReportAudit.{judging_by}
 use Rattle.hist_model.specs.ReportJournal.{lines_of}
 use Rattle.audit_log.specs.Begun.{told}
+use Rattle.audit_log.specs.Places.{call_in}
 use Rattle.audit_log.specs.Served.{TellsSessions}
 use Rattle.audit_log.specs.Sessions.{begun}
 use Rattle.audit_log.specs.Tables.{TellsTables}
@@ -25,10 +26,9 @@ returns c =
     let names = c.as_slice-2.result.now in
     let tells : TellsTables c.args.policy.now.rules H tables = subst (λ K. TellsTables c.args.policy.now.rules K tables) c.events-events.ensures c.in_ok-tables.ensures in
     let kept : rows ≡ map (told J) (begun H H) = c.as_slice-sessions.ensures.value ∙ tells.sessions in
-    let found : TellsSessions c.received.result.now rows (length H) served =
-    same_sessions c.received.result.now rows rows (length xs) (length H) c.in_ok-served.served.items served refl
+    let sessions : TellsSessions (call_in tables.calls.received) rows (length H) served =
+    same_sessions (call_in tables.calls.received) rows rows (length xs) (length H) c.in_ok-served.served.items served refl
     (sym (length-reverse xs)) (sym c.as_slice.ensures.value) c.in_ok-served.ensures in
-    let sessions : TellsSessions tables.calls.received.items rows (length H) served = subst (λ received. TellsSessions received rows (length H) served) c.received.ensures found in
     let ordered : names ≡ task_names H = c.as_slice-2.ensures.value ∙ c.in_ok-names.ensures in
     c.into_bytes.ensures
     ∙ (c.in_ok-push_all.ensures

@@ -1,7 +1,7 @@
 -- A number of 64 bits has at most 20 digits.
 use Rattle.std.proofs.Common.{arith, rules}
 use Rattle.std.proofs.lemmas.Fmt.{length-decimal-le}
-use Rattle.audit_log.proofs.line.LineBuffer.push_digits.Goals as goal
+use Rattle.audit_log.proofs.digits.Digits.of.Goals as goal
 
 pub write_digits-start-requires : goal.write_digits-start-requires
-write_digits-start-requires c = (omega (arith, length-decimal-le 20 c.args.n (omega arith) (omega arith) c.ranges.n.fits), search rules)
+write_digits-start-requires c = (omega (arith, length-decimal-le 20 c.args.number (omega arith) (omega arith) c.ranges.number.fits), search rules)
