@@ -1,6 +1,6 @@
 //! The machine's files and writers. What they hold isn't known to any proof: this is the trusted edge.
 
-ghost use Rattle.std.specs.Prelude.{◌≡◌, ◌≤◌, List, [], None, false, option_map, ℕ, vec_len, vec_capacity, IfOk, OnErr, is_ok};
+ghost use Rattle.std.specs.Prelude.{◌≡◌, ◌≤◌, List, [], None, false, option_map, ℕ, length, IfOk, OnErr, is_ok};
 ghost use Rattle.io_edge.specs.Faults.{Rose};
 
 use crate::fault::Failed;
@@ -95,13 +95,15 @@ const GATHERED: usize = 65536;
 #[derive(Drop)]
 pub struct RealSink<W: Write + Drop> {
     inner: W,
-    // what was taken and not written yet
-    gathered: Vec<u8>,
+    // what was taken and not written yet, and room for more behind it
+    room: Vec<u8>,
+    // how many bytes of the room those are
+    len: usize,
     // something was taken since the last good flush
     pending: bool,
     faults: u64,
-    ghost reserved: { 65536 ≤ vec_capacity gathered },
-    ghost within: { vec_len gathered ≤ 65536 },
+    ghost size: { length room.items ≡ 65536 },
+    ghost within: { len ≤ 65536 },
 }
 
 impl<W: Write + Drop> RealSink<W> {
@@ -110,10 +112,11 @@ impl<W: Write + Drop> RealSink<W> {
         ensures { IfOk result (λ sink. ⟦<RealSink<W> as Sink>⟧.state sink
             ≡ record { tells = false; taken = []; faults = 0; pending = false }) }
     {
-        let gathered = Vec::with_capacity(alloc, GATHERED)?;
+        let room = vec![in alloc; 0; GATHERED]?;
         Ok(RealSink {
             inner,
-            gathered,
+            room,
+            len: 0,
             pending: false,
             faults: 0,
         })
@@ -123,11 +126,11 @@ impl<W: Write + Drop> RealSink<W> {
     fn write_gathered(&mut self) -> Result<(), Failed>
         ensures faults { self.old.faults ≤ self.new.faults }
         ensures cause { OnErr result (Rose self.old.faults self.new.faults) }
-        ensures emptied { self.new.gathered.items ≡ [] }
+        ensures emptied { self.new.len ≡ 0 }
         ensures pending { self.new.pending ≡ self.old.pending }
     {
-        let written = write_whole(&mut self.inner, self.gathered.as_slice());
-        self.gathered.clear();
+        let written = write_whole(&mut self.inner, &self.room[..self.len]);
+        self.len = 0;
         counted(written, &mut self.faults)
     }
 }
@@ -164,13 +167,15 @@ impl<W: Write + Drop> Sink for RealSink<W> {
 
     fn write(&mut self, piece: &[u8]) -> Result<(), Failed> {
         self.pending = true;
-        if piece.len() > GATHERED - self.gathered.len() {
+        if piece.len() > GATHERED - self.len {
             self.write_gathered()?;
         }
         if piece.len() > GATHERED {
             return counted(write_whole(&mut self.inner, piece), &mut self.faults);
         }
-        self.gathered.extend_from_slice(piece).unwrap();
+        let end = self.len + piece.len();
+        self.room[self.len..end].copy_from_slice(piece);
+        self.len = end;
         Ok(())
     }
 
