@@ -1,5 +1,5 @@
 """The areas that scripts are drawn from, and the differences that scripts of an area may not show."""
-from on_linux import comparison, drawn_files, drawn_orders, drawn_scripts, journal, script_text
+from on_linux import comparison, drawn_files, drawn_orders, drawn_scripts, journal
 from on_linux.folders import Pair
 
 AREAS = {
@@ -23,7 +23,7 @@ EXCLUDED = dict.fromkeys(("plain-mounts", "plain-paths"), ("trailing-slash", "do
 def pair(bench, area, seed, number):
     """A drawn policy and script, without most of the steps that change nothing."""
     draft, chance = drawn_scripts.drawn(AREAS, area, seed, number)
-    policy, script = draft.policy(), script_text.with_high_pids(draft.script())
+    policy, script = draft.policy(), draft.script()
     status, report, _ = comparison.played(bench, policy, script)
     if status == 0:
         script = drawn_scripts.without_skips(script, list(map(journal.event, journal.journal(report))), chance)

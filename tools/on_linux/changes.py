@@ -38,6 +38,7 @@ def agreed(bench):
     for number in range(SCRIPTS):
         for area in AREAS:
             pair = areas.pair(bench, area, SEED, number)
+            pair = pair._replace(script=comparison.ways(pair.script)[-1].script)
             result = comparison.compare(bench, pair.policy, pair.script)
             if not (result.refused or result.differences or result.stopped):
                 yield pair, result.journal

@@ -3,6 +3,7 @@ import subprocess
 import time
 import traceback
 from dataclasses import dataclass, field
+from typing import NamedTuple
 
 from on_linux import apart, journal, machine, script_text
 from on_linux.machine import Stop
@@ -48,16 +49,31 @@ def played(bench, policy, script):
     return ended.returncode, ended.stdout, ended.stderr.decode(errors="replace").strip()
 
 
-def compare(bench, policy, script, change=None):
-    """Compares a script step by step. `change` may change the lines of the journal, to try whether that is found."""
-    script = script_text.with_high_pids(script) if is_readable(script) else script
+class Way(NamedTuple):
+    """A way in which a script is compared."""
+
+    said: str  # behind the script's name
+    script: bytes
+    as_init: bool
+
+
+def ways(script):
+    """The ways in which a script is compared: as it stands, and with other PIDs where its first task would be PID 1."""
+    if not is_readable(script) or script_text.settings(script).pidbase:
+        return [Way("", script, False)]
+    return [Way("", script, True), Way(f" with {script_text.HIGH_PIDS.decode()}", script_text.with_high_pids(script), False)]
+
+
+def compare(bench, policy, script, change=None, as_init=False):
+    """Compares a script step by step. `change` may change the lines of the journal, to try whether that is found. `as_init` says that its
+    first task is PID 1 of a namespace; else its PIDs have to be such as both kernels can give."""
     status, report, line = played(bench, policy, script)
     if status:
         return Result(refused=line.splitlines()[-1] if line else f"status {status}")
     lines = journal.journal(report)
     lines = change(lines) if change else lines
     begun = time.monotonic()
-    told = compare_there(bench, script_text.settings(script), list(map(journal.event, lines)))
+    told = compare_there(bench, script_text.settings(script), list(map(journal.event, lines)), as_init)
     time.sleep(0.005 + (time.monotonic() - begun) / 8)  # the processor is left to others for a while
     differences = [Difference(*difference) for difference in told.pop("differences")]
     return Result(differences=differences, journal=lines, **told)
@@ -72,17 +88,17 @@ def is_readable(script):
         return False
 
 
-def compare_there(bench, settings, events):
+def compare_there(bench, settings, events, as_init):
     """Compares in namespaces of its own."""
     try:
-        told = apart.in_namespaces(lambda: compare_here(bench, settings, events), LIMIT_SECONDS)
+        told = apart.in_namespaces(lambda: compare_here(bench, settings, events, as_init), LIMIT_SECONDS)
     except TimeoutError:
         return dict(differences=[], compared=0, stopped="it took too long")
     return told or dict(differences=[], compared=0, stopped="the process that compares ended")
 
 
-def compare_here(bench, settings, events):
-    stage = Stage(settings, bench.stand_in, bench.room, bench.processor)
+def compare_here(bench, settings, events, as_init):
+    stage = Stage(settings, bench.stand_in, bench.room, bench.processor, as_init)
     play, stopped = Play(stage, events), ""
     try:
         stage.build(journal.workers(events))

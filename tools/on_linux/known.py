@@ -8,7 +8,14 @@ from on_linux.machine import CALLS, KINDS
 
 WALK = ("ENOENT", "ENOTDIR", "ELOOP", "ENAMETOOLONG", "EFAULT")
 TEXTS = ("EFAULT", "ENAMETOOLONG", "ERANGE")
-NAMESPACES = (b"user.", b"trusted.", b"security.")
+ACLS = (b"system.posix_acl_access", b"system.posix_acl_default")
+CAPABILITY = b"security.capability"
+# names that Linux lets be set without CAP_SYS_ADMIN; the last one where no module of that name is loaded
+WITHOUT_RIGHTS = (*ACLS, CAPABILITY, b"security.selinux")
+NAMESPACES = (b"user.", b"trusted.", b"security.", *ACLS)
+BARE = (b"user.", b"trusted.", b"security.")
+NO_NAMESPACE = ("ENOTSUP", "EOPNOTSUPP")
+REFUSED = ("EPERM", "EACCES", "EINVAL", "ERANGE", "ENOSPC", *NO_NAMESPACE)
 OF_PROBES = (335, 336)
 FIRST_FLAGS = 15  # read-only, and no set-user-id, devices and programs
 END_OF_ADDRESSES = 2**47
@@ -48,13 +55,31 @@ def of_mount(arguments, linux, here):
 def of_setxattr(arguments, name, linux, here):
     if here in TEXTS and linux in (*TEXTS, "EINVAL", "E2BIG"):
         return Known("setxattr-order")
-    if here == "E2BIG" and arguments[3] > 4096:
+    if here == "E2BIG" and 4096 < arguments[3] <= 65536:
         return Known("attribute-size", linux == "0")
-    if here == "EPERM" and not name.startswith(b"user.") or here == "EINVAL" and arguments[4] & 0xFFFFFFFC:
+    if here == "EPERM" and linux == "0":
+        return Known("attribute-without-rights", True) if name in WITHOUT_RIGHTS else None
+    bad_flags = here == "EINVAL" and arguments[4] & 0xFFFFFFFC
+    if (here == "EPERM" and not name.startswith(b"user.") or bad_flags) and linux in (*WALK, *REFUSED, "E2BIG"):
         return Known("setxattr-order")
-    if name in (b"", b"user.") or linux == "EPERM":
-        return Known("attribute-names", True) if here == "0" else Known("setxattr-order")
-    return None
+    return of_attribute(name, linux, here, "0")
+
+
+def of_attribute(name, linux, here, done):
+    """Of an attribute that Linux refuses to set for its name or its value. `done` is the answer of one that was set."""
+    if not (here == done or here in ("EEXIST", "ENODATA") or linux == "ERANGE" and here in WALK):
+        return None
+    of_name = {
+        "ERANGE": name == b"", "EINVAL": name == b"user.", "EPERM": name.startswith(b"user."),
+        **dict.fromkeys(NO_NAMESPACE, not name.startswith(NAMESPACES)),
+    }
+    if of_name.get(linux):
+        return Known("attribute-names", here == done)
+    of_value = {
+        "EINVAL": name in (*BARE, *ACLS, CAPABILITY), "EACCES": name == ACLS[1], "ENOSPC": True,
+        **dict.fromkeys(NO_NAMESPACE, name in ACLS),
+    }
+    return Known("attribute-values", True) if of_value.get(linux) and here == done else None
 
 
 def of_mknod(arguments, linux, here):
@@ -110,17 +135,31 @@ def of_act(request, linux, here, play):
     """Of what came of a worker's effect. `request` is the tokens of it."""
     if linux == "EROFS":
         return Known("mount-options", True)
-    if request[0] == "setxattr":
-        name = request[2]
-        if name in (b"", b"user.") or not name.startswith(NAMESPACES) or len(name) > 255 or linux == "EPERM":
-            return Known("attribute-names", True)
+    if request[0] == "setxattr" and (found := of_attribute(request[2], linux, here, "ok")):
+        return found
     if request[0] == "mount":
-        if not request[3]:
-            return Known("mount-without-type")
+        if not request[3] and here == "EINVAL":
+            return Known("mount-without-type") if linux in (*WALK, "ENODEV") else None
         if int(request[4].removeprefix("flags=")) & ~FIRST_FLAGS:
             return Known("mount-flags", True)
     path = request[2] if request[0] in ("mknodat", "mount") else request[1]
     return of_path(path, "ok" in (linux, here), play)
+
+
+def of_spawn(linux, here):
+    """Of the numbers of processes where those of the script run out: they are given again, or none is left."""
+    number = linux.removeprefix("pid=")
+    given_again = here == "EAGAIN" or here.startswith("pid=") and number.isdigit() and int(here.removeprefix("pid=")) < int(number)
+    return Known("process-numbers", True) if number.isdigit() and given_again else None
+
+
+def of_kill(pid, linux, here):
+    """Of a signal to a number that kill(2) takes for more than one process: 0, and those that are negative in 32 bits."""
+    return Known("kill-of-a-group", True) if (linux, here) == ("ok", "ESRCH") and is_group(pid) else None
+
+
+def is_group(pid):
+    return pid == 0 or pid >= 2**31
 
 
 def of_installation(linux, here):

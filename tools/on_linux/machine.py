@@ -17,6 +17,7 @@ ALLOW, NOTIFY, KILL_PROCESS = 0x7FFF0000, 0x7FC00000, 0x80000000
 NEW_MOUNTS, NEW_NAMES, NEW_IPC, NEW_USERS, NEW_PIDS, NEW_NETWORK = 0x20000, 0x4000000, 0x8000000, 0x10000000, 0x20000000, 0x40000000
 SIGUSR2 = 12
 ALL_CHILDREN = 0x40000000
+EXITING = 4  # of the flags of a process (PF_EXITING)
 
 libc = ctypes.CDLL(None, use_errno=True)
 libc.syscall.restype = ctypes.c_long
@@ -74,6 +75,28 @@ def run_first(pid, priority=60):
         os.sched_setscheduler(pid, os.SCHED_FIFO, os.sched_param(priority))
     except ProcessLookupError:
         pass
+
+
+def is_exiting(pid):
+    """Whether a process is at its end, also where it still waits there."""
+    try:
+        with open(f"/proc/{pid}/stat") as file:
+            return bool(int(file.read().rpartition(")")[2].split()[6]) & EXITING)
+    except OSError:
+        return True
+
+
+def child_with_number(number):
+    """This process's number for the newest process that has a number in a namespace below."""
+    for pid in sorted((int(name) for name in os.listdir("/proc") if name.isdigit()), reverse=True):
+        try:
+            with open(f"/proc/{pid}/status") as file:
+                numbers = next(line for line in file if line.startswith("NSpid:")).split()[1:]
+        except (OSError, StopIteration):
+            continue
+        if len(numbers) > 1 and int(numbers[-1]) == number:
+            return pid
+    raise Stop(f"there is no process with the number {number}")
 
 
 def stand_still(pid):

@@ -19,25 +19,25 @@ class Outcome:
         self.lines = told
         self.counts, self.names, self.events = Counter(), Counter(), 0
 
-    def take(self, name, result, excluded=(), expected=None):
-        """Takes a result. `excluded` are differences that it may not show, and `expected` one that it has to."""
+    def take(self, name, result, excluded=(), unshown=None):
+        """Takes a result. `excluded` are differences that it may not show, and `unshown` one that it should show and doesn't."""
         self.events += result.compared
         unknown = [difference for difference in result.differences if not difference.name or difference.name in excluded]
-        unshown = expected is not None and expected not in result.names
         kind = self.kind(result, unknown, unshown)
         self.counts[kind] += 1
         self.names.update(result.names)
         if kind in self.lines:
-            self.print(name, kind, result, expected if unshown else None)
+            self.print(name, kind, result, unshown)
 
     def kind(self, result, unknown, unshown):
+        """A comparison that had to be stopped says nothing of what it didn't come to."""
         if result.refused:
             return "not played"
-        if unknown or unshown:
+        if unknown or unshown and not result.stopped:
             return "otherwise"
-        if result.names:
-            return "known"
-        return "stopped" if result.stopped else "equal"
+        if result.stopped:
+            return "stopped"
+        return "known" if result.names else "equal"
 
     def print(self, name, kind, result, unshown):
         texts = {"equal": "equal", "known": ", ".join(result.names), "otherwise": "DIFFERS", "stopped": "compared in part", "not played": result.refused}

@@ -83,7 +83,7 @@ class Play:
             if refused.end != known.END_OF_ADDRESSES:
                 raise
             self.differs("map", machine.error_name(refused.error), "mapped", known.Known("last-page", True))
-        self.same("PID of the first task", f"pid={task.pid}", self.event.fields[1])
+        self.same("PID of the first task", f"pid={task.number}", self.event.fields[1])
 
     def end(self):
         """Calls that were allowed, and whose answer no event tells, are made: no filter may stop them."""

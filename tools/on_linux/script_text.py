@@ -5,6 +5,7 @@ from on_linux.machine import ALLOW, CALLS, KILL_PROCESS, NOTIFY, X86_64
 
 # Above this number Linux gives PIDs cyclically, as a script's kernel does.
 FIRST_FREE_PID = 300
+HIGH_PIDS = b"pidbase %d" % (FIRST_FREE_PID - 1)
 ESCAPES = {b"0": b"\0", b"n": b"\n", b"\\": b"\\", b'"': b'"'}
 WORDS = {
     "ld": 0x20, "ldi": 0x00, "add": 0x04, "sub": 0x14, "or": 0x44, "and": 0x54, "xor": 0xA4, "lsh": 0x64, "rsh": 0x74, "neg": 0x84,
@@ -141,5 +142,5 @@ def with_high_pids(script):
         return script
     lines = script.split(b"\n")
     stated = [at for at, line in enumerate(lines) if line.split()[:1] == [b"pidmax"]]
-    lines.insert(stated[0] + 1 if stated else 0, b"pidbase %d" % (FIRST_FREE_PID - 1))
+    lines.insert(stated[0] + 1 if stated else 0, HIGH_PIDS)
     return b"\n".join(lines)

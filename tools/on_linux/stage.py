@@ -18,9 +18,9 @@ from on_linux.stand_in import FIRST_WORKER, MAILBOX, SLOTS, Order, Task, Worker
 # descriptors of the broker that no script's number reaches
 PROC, LISTENER, FIRST_OF_WORKERS = 1100, 1101, 1200
 MAILBOXES, PROGRAM, KEPT = 2000, 2001, 2010
-# changing owners, going past modes and owners of files, sending signals, changing ids: a container's root has more, but no call of a script
-# needs more, and the calls that a script makes by their numbers are done for real
-RIGHTS = sum(1 << capability for capability in range(8))
+# changing owners, going past modes and owners of files, sending signals, changing ids, setting capabilities of files: a container's root has
+# more, but no call of a script needs more, and the calls that a script makes by their numbers are done for real
+RIGHTS = sum(1 << capability for capability in (*range(8), 31))
 CLONE_VM, CLONE_FILES = 0x100, 0x400
 THREAD = CLONE_VM | CLONE_FILES
 FILTER_TEXT, CAPABILITIES = 8192, 4112
@@ -33,8 +33,10 @@ def device(major, minor):
 
 
 class Stage:
-    def __init__(self, settings, program, room, processor):
-        self.settings, self.program, self.room, self.processor = settings, program, room, processor
+    """`as_init` says that the first task is the first process of a PID namespace of its own: PID 1 there."""
+
+    def __init__(self, settings, program, room, processor, as_init=False):
+        self.settings, self.program, self.room, self.processor, self.as_init = settings, program, room, processor, as_init
         self.tasks, self.workers = {}, {}
         self.slots = 0
 
@@ -48,7 +50,8 @@ class Stage:
         self.make_broker()
         for number in sorted(workers):
             self.worker(number)
-        self.limit_process_numbers()
+        if not self.as_init:
+            self.limit_process_numbers(self.settings.pidbase)
 
     def make_file_systems(self):
         top = f"{self.room}/stage"
@@ -80,23 +83,44 @@ class Stage:
         self.boxes = mmap.mmap(self.boxes_file, MAILBOX * SLOTS)
         self.address = ctypes.addressof(ctypes.c_char.from_buffer(self.boxes))
 
-    def limit_process_numbers(self):
+    def limit_process_numbers(self, last):
+        """Limits the numbers of the namespace that the calling process is in, and says which one was given last."""
         highest = max(script_text.FIRST_FREE_PID + 1, self.settings.pidbase + self.settings.pidmax + 1)
-        for name, value in (("pid_max", highest), ("ns_last_pid", self.settings.pidbase)):
+        for name, value in (("pid_max", highest), ("ns_last_pid", last)):
             with open(f"/proc/sys/kernel/{name}", "w") as file:
                 file.write(str(value))
+
+    # ---- numbers of processes: those of the script, and those that this process and the workers have for them
+
+    def is_init(self, task):
+        return self.as_init and task.name == "0"
+
+    def own_number(self, number):
+        """This process's number for the process that has a number of the script, or one that nobody has."""
+        if not self.as_init:
+            return number
+        return next((task.pid for task in reversed(self.tasks.values()) if task.number == number and not task.reaped), 0)
+
+    def number_of(self, pid):
+        """The script's number for a process, by this process's number for it."""
+        return next((task.number for task in self.tasks.values() if task.pid == pid), pid)
 
     # ---- processes
 
     def launch(self, stand_in, openings):
         """Starts a stand-in in the container's root. `openings` makes its descriptors, by number."""
+        is_init = self.as_init and stand_in.slot < FIRST_WORKER
+        if is_init:
+            machine.unshare(machine.NEW_PIDS)
         pid = os.fork()
         if pid == 0:
             try:
+                if is_init:
+                    self.limit_process_numbers(1)
                 self.become(stand_in, openings)
             finally:
                 os._exit(98)
-        stand_in.started(pid)
+        stand_in.started(pid, 1 if is_init else pid)
         machine.run_first(pid)
         end = time.monotonic() + 2
         while "futex" not in stand_in.waits_in():

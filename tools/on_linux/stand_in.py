@@ -20,6 +20,7 @@ MAILBOXES = 0x200000000000
 RESULT, ARGUMENTS, LOG, ADDRESSES, TEXTS = 24, 32, 96, 1632, 4096
 # where longer texts go, one behind the other
 SECOND_TEXT, THIRD_TEXT = 12288, 20480
+RUNS = "0"  # what the kernel says of a process that waits in none of its functions
 
 
 class Order(IntEnum):
@@ -57,7 +58,7 @@ class StandIn:
         self.boxes, self.address, self.slot, self.name = boxes, address, slot, name
         self.at = slot * MAILBOX
         self.words = (ctypes.c_uint32 * 6).from_buffer(boxes, self.at)
-        self.pid = None
+        self.pid = self.number = None
         self.dead = False
 
     # ---- the mailbox: orders, done, order, handled, released, hold
@@ -100,8 +101,9 @@ class StandIn:
 
     # ---- what it is seen to do
 
-    def started(self, pid):
-        self.pid = pid
+    def started(self, pid, number=None):
+        """`pid` is this process's number for it, and `number` its own."""
+        self.pid, self.number = pid, pid if number is None else number
         self.poll = select.poll()
         self.poll.register(os.pidfd_open(pid), select.POLLIN)
 
@@ -133,6 +135,8 @@ class StandIn:
         if self.is_idle():
             return "idle"
         place = self.waits_in()
+        if ("zap_pid_ns" in place or "do_wait" in place) and machine.is_exiting(self.pid):
+            return "dead"  # the first process of a namespace, which waits until the others have ended
         return "notify" if "seccomp" in place or "recv_wait" in place else None
 
     # ---- its steps
@@ -146,6 +150,8 @@ class StandIn:
             state = self.state()
         if not self.dead and self.slot < FIRST_WORKER:
             machine.stand_still(self.pid)
+        if state is None and self.waits_in() == RUNS:
+            raise Stop(f"{self.name} ran for {seconds} s: the machine is too busy")
         return state or f"busy in {self.waits_in()}"
 
     def leave_handler(self):
@@ -170,6 +176,7 @@ class Task(StandIn):
         self.call = None  # the number and arguments of the call in which it is
         self.notification = None  # the id of it, as the journal says it
         self.saved = None  # an answer that was seen before the event that tells it
+        self.modes = {}  # what it does at each signal for which it has said so
         self.compared = 0  # how many of its handlers were compared
         self.restarts = False  # its handler returns into the call, which is entered again
         self.call_is_late = False  # the call was allowed, and is made at the event of its answer
@@ -186,4 +193,5 @@ class Worker(StandIn):
         super().__init__(boxes, address, FIRST_WORKER + number, f"w{number}")
         self.memory = self.base = None  # its descriptors of the caller's memory and of a directory
         self.caller = None  # the PID of the notification
+        self.notification = None  # its id, as the journal says it
         self.requested = None  # the PID and the id of a request for a descriptor that isn't taken

@@ -2,6 +2,7 @@
 import ctypes
 import os
 import signal
+import time
 from bisect import bisect_right
 
 from on_linux import known, machine
@@ -12,6 +13,8 @@ from on_linux.stage import CLONE_FILES, CLONE_VM
 from on_linux.stand_in import Order
 
 MODES = {"default": 0, "restart": 1, "plain": 2}
+EVERYBODY = 2**32 - 1  # -1 as kill(2) takes it
+SECONDS_TO_END = 0.05
 # all steps of a task but a native call and a skip
 STEPS = ("spawn", "poke", "handler", "call", "install", "resume", "kill", "deliver", "wait", "exit")
 TO_RETURN = "a signal was delivered at the return of a call, before its step"
@@ -40,12 +43,36 @@ class TaskEvents:
         if event.what == "deliver" and not task.ended:
             if event.fields[1] != "end":
                 self.differs("deliver", "dead", f"signal {event.fields[0]}", Known("fatal-signal-at-once", True))
-            task.ended = True
+            self.note_end(task)
             return
         self.same("ended", "skip", event.what)
 
+    def note_end(self, task):
+        task.ended = True
+        if self.stage.is_init(task):
+            self.compare_end_of_init()
+
+    def compare_end_of_init(self):
+        """With the first process of a namespace the kernel ends all others."""
+        others = [task for task in self.tasks.values() if not task.ended and not task.is_dead()]
+        for task in others:
+            machine.run_first(task.pid)
+        end = time.monotonic() + SECONDS_TO_END
+        while not all(task.is_dead() for task in others) and time.monotonic() < end:
+            pass
+        if others:
+            ended = all(task.is_dead() for task in others)
+            self.same("the other tasks at the end of PID 1", "ended" if ended else "alive", "alive", Known("init-ends", True))
+
+    def orphan(self, number, task):
+        """The ended task with that number that isn't a child of this one in the script, or None."""
+        found = [other for name, other in self.tasks.items() if other.number == number and not other.reaped and name.rpartition(".")[0] != task.name]
+        return found[-1] if found and self.stage.as_init else None
+
     def reap_orphans(self):
-        """Ended tasks without a parent are reaped at once."""
+        """Ended tasks without a parent are reaped at once, but for those that are the children of the script's own PID 1."""
+        if self.stage.as_init:
+            return
         for name, task in list(self.tasks.items()):
             if task.ended and task.is_dead() and not task.reaped:
                 parent = self.tasks.get(name.rpartition(".")[0])
@@ -107,7 +134,7 @@ class TaskEvents:
     # ---- what the journal tells later
 
     def is_signalled_before_native(self, task):
-        native, kill = self.next_place(f"t{task.name}", "native"), self.next_place("kill", str(task.pid))
+        native, kill = self.next_place(f"t{task.name}", "native"), self.next_place("kill", str(task.number))
         return kill is not None and (native is None or kill < native)
 
     def next_place(self, *key):
@@ -129,7 +156,7 @@ class TaskEvents:
         step = self.play.events[min(coming)] if coming else None
         if step is None or step.what != "deliver" or step.fields[1] != "end":
             return False
-        return self.last_place("kill", str(task.pid)) > self.last_place(name, "call")
+        return self.last_place("kill", str(task.number)) > self.last_place(name, "call")
 
     # ---- steps outside of calls
 
@@ -145,6 +172,7 @@ class TaskEvents:
 
     def do_handler(self, task, number, mode):
         state = self.ordered(task, Order.HANDLE, int(number), MODES[mode])
+        task.modes[int(number)] = mode
         self.same("handler", answer(task.result()) if state == "idle" else state, "0")
 
     def do_spawn(self, task, name, came, kind=None):
@@ -154,26 +182,36 @@ class TaskEvents:
         self.ordered(task, Order.START, signal.SIGCHLD | (CLONE_VM | CLONE_FILES if shares else 0), child.slot)
         result = task.result()
         if result > 0:
-            child.started(result)
+            child.started(machine.child_with_number(result) if self.stage.as_init else result, result)
             self.tasks[name] = child
             child.settle()
-        self.same("spawn", f"pid={result}" if result > 0 else answer(result), came)
+        linux = f"pid={result}" if result > 0 else answer(result)
+        self.same("spawn", linux, came, known.of_spawn(linux, came) if self.stage.as_init else None)
 
     def do_kill(self, task, pid, number, came):
         pid, number = int(pid), int(number)
         for other in self.tasks.values():
-            if other.pid == pid and not other.dead and other.is_in_handler() and other.compared != other.handlers:
+            if other.number == pid and not other.dead and other.is_in_handler() and other.compared != other.handlers:
                 other.signalled_early = True
                 self.play.doubt = self.play.doubt or TO_RETURN
-        if (pid < FIRST_FREE_PID or pid >= 2**31) and all(other.pid != pid for other in self.tasks.values()):
-            return  # kill(2) means groups by 0 and by numbers below it, and the stage's own processes stand below the first
-        if pid == task.pid:  # sent from outside: a task that signals itself runs at once
+        if pid == EVERYBODY and not self.stage.as_init:
+            raise Stop("a signal to everybody would go to the stage's own processes")
+        if not self.stage.as_init and 0 < pid < FIRST_FREE_PID and all(other.number != pid for other in self.tasks.values()):
+            return  # the stage's own processes stand below the first
+        linux = self.kill(task, pid, number)
+        difference = known.of_kill(pid, linux, came)
+        if difference is None and (linux, came) == ("ok", "ESRCH") and self.orphan(pid, task):
+            difference = Known("init-reaps-orphans", True)
+        self.same("kill", linux, came, difference)
+
+    def kill(self, task, pid, number):
+        """What the signal is answered. A task that signals itself would run at once, so that signal is sent from outside, unless it is one
+        that PID 1 doesn't get. To a group no signal is sent; it is asked whether that could be done."""
+        if pid == task.number and not (self.stage.is_init(task) and task.modes.get(number, "default") == "default"):
             self.out_of_handler(task)
-            result = -ctypes.get_errno() if machine.libc.kill(pid, number) else 0
-        else:
-            state = self.ordered(task, Order.OWN_CALL, machine.KILL, pid, number)
-            result = task.result() if state == "idle" else 1000
-        self.same("kill", "ok" if result == 0 else answer(result), came)
+            return machine.error_name(ctypes.get_errno()) if machine.libc.kill(task.pid, number) else "ok"
+        state = self.ordered(task, Order.OWN_CALL, machine.KILL, pid, 0 if known.is_group(pid) else number)
+        return state if state != "idle" else "ok" if task.result() == 0 else answer(task.result())
 
     def wait_for_child(self, task):
         return self.ordered(task, Order.OWN_CALL, machine.WAIT4, -1, task.put(b""), machine.ALL_CHILDREN | os.WNOHANG, 0)
@@ -182,14 +220,14 @@ class TaskEvents:
         state = self.wait_for_child(task)
         result = task.result() if state == "idle" else state
         child = self.tasks.get(came)
+        told = "no child has ended" if result == 0 else result if isinstance(result, str) else answer(result)
+        self.same("wait", told, child.number if child else came, Known("init-reaps-orphans", True) if self.orphan(result, task) else None)
         if child is not None:
             child.reaped = True
-        told = "no child has ended" if result == 0 else result if isinstance(result, str) else answer(result)
-        self.same("wait", told, child.pid if child else came)
 
     def do_exit(self, task):
         self.same("exit", self.ordered(task, Order.OWN_CALL, machine.EXIT_GROUP, 0), "dead")
-        task.ended = True
+        self.note_end(task)
 
     def do_skip(self, task):
         if task.call and not task.restarts:
@@ -198,9 +236,10 @@ class TaskEvents:
             self.same("skip", state if task.handlers == before else "a signal", "notify")
             return
         state = self.wait_for_child(task)
-        if state == "idle" and any(child.pid == task.result() and not child.ended for child in self.tasks.values()):
+        if state == "idle" and any(child.number == task.result() and not child.ended for child in self.tasks.values()):
             raise Stop("a child died before the step that tells it")
-        self.same("skip of a wait", answer(task.result()) if state == "idle" else state, "0")
+        orphan = state == "idle" and self.orphan(task.result(), task)
+        self.same("skip of a wait", answer(task.result()) if state == "idle" else state, "0", Known("init-reaps-orphans", True) if orphan else None)
 
     # ---- calls
 
@@ -223,12 +262,12 @@ class TaskEvents:
         difference = known.of_verdict(number, self.play.settings.filters)
         if verdict.startswith("notify"):
             task.notification = int(verdict.split("=")[1])
-            self.play.entered[task.notification] = (number, arguments, task.pid)
+            self.play.entered[task.notification] = (number, arguments, task.number)
             self.same("verdict", state if state == "notify" else self.outcome(task, state), "notify", difference)
             return
         if verdict == "kill":
             self.same("verdict", state, "dead", difference)
-            task.ended = True
+            self.note_end(task)
             return
         error = 38 if verdict == "nosys" else int(verdict.split("=")[1])
         self.same("verdict", self.outcome(task, state), machine.error_name(error) if error else "0", difference)
@@ -284,7 +323,7 @@ class TaskEvents:
 
     def request_for(self, task):
         """The worker whose request for a descriptor waits for the task's call."""
-        waiting = [worker for worker in self.stage.workers.values() if worker.requested == (task.pid, task.notification)]
+        waiting = [worker for worker in self.stage.workers.values() if worker.requested == (task.number, task.notification)]
         return waiting[0] if waiting else None
 
     def do_install(self, task, came):
@@ -309,12 +348,14 @@ class TaskEvents:
 
     def compare_end(self, task, state):
         difference = None
-        if self.play.settings.killable and state == "notify":
+        if self.stage.is_init(task) and state != "dead":
+            difference = Known("init-is-killed-by-its-child", True)
+        elif self.play.settings.killable and state == "notify":
             difference = Known("second-fatal-signal", True)
         elif state == "handler" and self.request_for(task):
             difference = Known("descriptor-before-signal", True)
         self.same("deliver", f"handler of {task.handled(task.compared).signal}" if state == "handler" else state, "dead", difference)
-        task.ended = True
+        self.note_end(task)
 
     def compare_handler(self, task, state, number, effect):
         if state != "handler" or task.compared == task.handlers:

@@ -75,10 +75,11 @@ class WorkerEvents:
         if self.play.first_id is None:
             self.play.first_id = (got_id - (stated - self.settings.firstid)) % 2**64
         self.same("id", got_id, self.play.real_id(stated))
+        got_pid = self.stage.number_of(got_pid)
         self.same("PID", f"pid={got_pid}", pid)
         entered = self.play.entered[stated]
         self.same("call of the notification", (number, arguments, got_pid, architecture, flags), (*entered, X86_64, 0))
-        worker.caller = got_pid
+        worker.caller, worker.notification = got_pid, stated
 
     def do_check(self, worker, stated, came):
         self.ioctl(worker, ID_VALID, 8, struct.pack("<Q", self.play.real_id(int(stated))))
@@ -111,7 +112,7 @@ class WorkerEvents:
         state = "idle" if worker.is_idle() else worker.settle()
         if state != "idle" and came == "ENOENT":  # the call left the list: the request waits until its task has run
             for task in self.stage.tasks.values():
-                if task.pid == worker.caller and not task.is_dead():
+                if task.number == worker.caller and not task.is_dead():
                     task.settle()
             state = worker.settle()
         linux = answer(worker.result()) if state == "idle" else "waits"
@@ -122,7 +123,7 @@ class WorkerEvents:
         for descriptor in (worker.memory, worker.base):
             if descriptor is not None:
                 worker.own_call(CALLS["close"], descriptor)
-        worker.memory = worker.base = worker.caller = worker.requested = None
+        worker.memory = worker.base = worker.caller = worker.notification = worker.requested = None
 
     # ---- the caller's memory and its directories
 
@@ -138,13 +139,14 @@ class WorkerEvents:
         return kept
 
     def do_open_mem(self, worker, pid, came):
-        opened = self.kept_high(worker, self.open(worker, f"{pid}/mem", O_RDWR))
+        opened = self.kept_high(worker, self.open(worker, f"{self.stage.own_number(int(pid))}/mem", O_RDWR))
         if opened >= 0:
             worker.memory = opened
         gone = opened in (-2, -3)
         self.same("opening of the memory", "ok" if opened >= 0 else "ESRCH" if gone else answer(opened), came)
 
     def do_open_base(self, worker, pid, number, came):
+        pid = self.stage.own_number(int(pid))
         opened = self.open(worker, f"{pid}/root", O_PATH | 0o200000)
         gone = opened in (-2, -3, -13)
         if opened >= 0 and number != "-100":
@@ -172,7 +174,7 @@ class WorkerEvents:
     def do_plant(self, worker, address, came):
         figures = worker.put(self.figures(self.settings.cgroup))
         result = worker.own_call(machine.PWRITE, worker.memory, figures, SYSINFO, int(address))
-        if result == 0 and all(task.is_dead() for task in self.stage.tasks.values() if task.pid == worker.caller):
+        if result == 0 and all(task.is_dead() for task in self.stage.tasks.values() if task.number == worker.caller):
             self.same("write", "end of file", came, Known("memory-after-end"))
             return
         fault = self.is_fault(result, int(address))
@@ -210,9 +212,11 @@ class WorkerEvents:
         return worker.own_call(CALLS["mknodat"], base, worker.put(path + b"\0"), KINDS[kind] | 0o666, made)
 
     def mount(self, worker, request):
-        """Mounts an empty file system, whatever the type."""
+        """Mounts an empty file system, whatever the type. Where the call has no type or an empty one, the mount has the same."""
         source, target, kind, flags = request[1:5]
-        texts = (worker.put(source + b"\0"), worker.put(target + b"\0", SECOND_TEXT), worker.put(b"tmpfs\0" if kind else b"\0", THIRD_TEXT))
+        entered = self.play.entered.get(worker.notification)
+        has_type = entered is None or entered[1][2] != 0
+        texts = (worker.put(source + b"\0"), worker.put(target + b"\0", SECOND_TEXT), worker.put(b"tmpfs\0" if kind else b"\0", THIRD_TEXT) if has_type else 0)
         return worker.own_call(CALLS["mount"], *texts, int(flags.removeprefix("flags=")), 0)
 
     def setxattr(self, worker, request):
