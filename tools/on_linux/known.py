@@ -4,18 +4,11 @@ The rules are narrow: they look at the call, its arguments and both answers, so 
 """
 from typing import NamedTuple
 
+from on_linux import attributes
 from on_linux.machine import CALLS, KINDS
 
 WALK = ("ENOENT", "ENOTDIR", "ELOOP", "ENAMETOOLONG", "EFAULT")
 TEXTS = ("EFAULT", "ENAMETOOLONG", "ERANGE")
-ACLS = (b"system.posix_acl_access", b"system.posix_acl_default")
-CAPABILITY = b"security.capability"
-# names that Linux lets be set without CAP_SYS_ADMIN; the last one where no module of that name is loaded
-WITHOUT_RIGHTS = (*ACLS, CAPABILITY, b"security.selinux")
-NAMESPACES = (b"user.", b"trusted.", b"security.", *ACLS)
-BARE = (b"user.", b"trusted.", b"security.")
-NO_NAMESPACE = ("ENOTSUP", "EOPNOTSUPP")
-REFUSED = ("EPERM", "EACCES", "EINVAL", "ERANGE", "ENOSPC", *NO_NAMESPACE)
 OF_PROBES = (335, 336)
 FIRST_FLAGS = 15  # read-only, and no set-user-id, devices and programs
 END_OF_ADDRESSES = 2**47
@@ -58,9 +51,9 @@ def of_setxattr(arguments, name, linux, here):
     if here == "E2BIG" and 4096 < arguments[3] <= 65536:
         return Known("attribute-size", linux == "0")
     if here == "EPERM" and linux == "0":
-        return Known("attribute-without-rights", True) if name in WITHOUT_RIGHTS else None
+        return Known("attribute-without-rights", True) if name in attributes.WITHOUT_RIGHTS else None
     bad_flags = here == "EINVAL" and arguments[4] & 0xFFFFFFFC
-    if (here == "EPERM" and not name.startswith(b"user.") or bad_flags) and linux in (*WALK, *REFUSED, "E2BIG"):
+    if (here == "EPERM" and not name.startswith(b"user.") or bad_flags) and linux in (*WALK, *attributes.REFUSED, "E2BIG"):
         return Known("setxattr-order")
     return of_attribute(name, linux, here, "0")
 
@@ -69,17 +62,9 @@ def of_attribute(name, linux, here, done):
     """Of an attribute that Linux refuses to set for its name or its value. `done` is the answer of one that was set."""
     if not (here == done or here in ("EEXIST", "ENODATA") or linux == "ERANGE" and here in WALK):
         return None
-    of_name = {
-        "ERANGE": name == b"", "EINVAL": name == b"user.", "EPERM": name.startswith(b"user."),
-        **dict.fromkeys(NO_NAMESPACE, not name.startswith(NAMESPACES)),
-    }
-    if of_name.get(linux):
+    if attributes.is_refused_for_its_name(name, linux):
         return Known("attribute-names", here == done)
-    of_value = {
-        "EINVAL": name in (*BARE, *ACLS, CAPABILITY), "EACCES": name == ACLS[1], "ENOSPC": True,
-        **dict.fromkeys(NO_NAMESPACE, name in ACLS),
-    }
-    return Known("attribute-values", True) if of_value.get(linux) and here == done else None
+    return Known("attribute-values", True) if attributes.is_refused_for_its_value(name, linux) and here == done else None
 
 
 def of_mknod(arguments, linux, here):

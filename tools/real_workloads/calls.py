@@ -14,6 +14,7 @@ PARTS = {
 # arguments that strace leaves out where the call doesn't look at them
 OPTIONAL = {"mknod": 1, "mknodat": 1, "openat": 1}
 LIMITS = {"path": PATH_LIMIT, "type": PATH_LIMIT, "data": PATH_LIMIT, "name": NAME_LIMIT}
+ENDED_BY_ZERO = {"path", "name", "type"}
 HAS_BASE = {"mknod", "mknodat", "mount", "setxattr", "openat"}
 CURRENT_DIRECTORY = -100
 CLOSE_ON_EXEC = 0o2000000
@@ -69,6 +70,8 @@ def value_of(found, at, part, argument):
         return in_range(number(argument))
     value = text_or_address(argument)
     if isinstance(value, Text):
+        if part in ENDED_BY_ZERO and b"\0" in value.content:
+            raise Unreadable("a text with a zero byte in it")
         found.texts[at] = value
         found.is_cut = found.is_cut or value.is_cut and len(value.content) < LIMITS.get(part, VALUE_LIMIT) - 1
     return value

@@ -1,6 +1,6 @@
 """What the calls say of the tree that a script can't make: which paths they found, and of which kind these were."""
 from real_workloads.strace_text import IN_STRACES_NAMES, Text, Unreadable, descriptor, field, number, text_or_address
-from real_workloads.calls import CREATE, DIRECTORY, signed
+from real_workloads.calls import BIND, CREATE, DIRECTORY, MOVE, PROPAGATION, REMOUNT, signed
 from real_workloads.tree import MADE, MISSING, THERE, kind_of, place
 
 # where their paths stand: alone, or behind a directory's descriptor
@@ -21,6 +21,14 @@ SHOWS_MODE = {"stat": 1, "lstat": 1, "newfstatat": 2, "statx": 4, "fstat": 1}
 OF_DESCRIPTORS = {"fstat", "fchdir", "getdents", "getdents64"}
 NAMES = {*FINDERS, *MAKERS, *OF_DESCRIPTORS}
 MODE, DEVICE = "st_mode", "st_rdev"
+# what a successful call does to the paths that it names, and where these stand
+DEEDS = {
+    **{name: ("makes", [at]) for name, at in MAKERS.items()}, "link": ("makes", [(None, 1)]), "linkat": ("makes", [(2, 3)]),
+    "unlink": ("removes", [(None, 0)]), "rmdir": ("removes", [(None, 0)]), "unlinkat": ("removes", [(0, 1)]),
+    "rename": ("renames", [(None, 0), (None, 1)]), **dict.fromkeys(("renameat", "renameat2"), ("renames", [(0, 1), (2, 3)])),
+    "umount": ("unmounts", [(None, 0)]), "umount2": ("unmounts", [(None, 0)]),
+}
+MAKE_WITH_FLAG = {"open": (None, 0), "openat": (0, 1)}
 
 
 def kind_shown(text):
@@ -63,8 +71,24 @@ def learn(call, table, tree):
             path = path_of(call, arguments, *at, table)
             if path:
                 of_path(call, arguments, path, tree)
+            if call.answer.is_good:
+                deed, places = deed_of(call, arguments)
+                for place_of_path in places:
+                    tree.finds.change(call, deed, path_of(call, arguments, *place_of_path, table))
     except (Unreadable, IndexError, ValueError):
         pass
+
+
+def deed_of(call, arguments):
+    """What a successful call does to paths, and where these stand among its arguments."""
+    if call.name in MAKE_WITH_FLAG:
+        makes = len(arguments) > 1 and number(arguments[1 + (call.name == "openat")]) & CREATE
+        return "makes", [MAKE_WITH_FLAG[call.name]] if makes else []
+    if call.name == "mount":
+        flags = number(arguments[3])
+        changes_tree = flags & MOVE or not flags & (REMOUNT | PROPAGATION)
+        return ("binds" if flags & BIND else "mounts"), [(None, 1)] if changes_tree else []
+    return DEEDS.get(call.name, ("", []))
 
 
 def of_descriptor(call, arguments, table, tree):
@@ -87,7 +111,7 @@ def of_path(call, arguments, path, tree):
     if call.answer.error == "ENOENT":
         tree.say(path, MISSING)
     elif call.answer.is_good and is_made:
-        tree.say(path, MADE, ("dir",) if call.name in DIRECTORIES else None)
+        tree.say(path, MADE, kind_found(call, arguments))
     elif call.answer.is_good or call.answer.error == "EEXIST":
         tree.say(path, THERE)
         say_kind(tree, path, kind_found(call, arguments))
@@ -99,6 +123,9 @@ def kind_found(call, arguments):
         return kind_shown(arguments[SHOWS_MODE[call.name]])
     if call.name in DIRECTORIES:
         return ("dir",)
+    if call.name in ("symlink", "symlinkat"):
+        target = text_or_address(arguments[0])
+        return ("link", target.content) if isinstance(target, Text) and target.content and not target.is_cut else None
     if call.name in LINKS:
         target = text_or_address(arguments[1 + (call.name == "readlinkat")])
         return ("link", target.content) if isinstance(target, Text) and target.content and not target.is_cut else None

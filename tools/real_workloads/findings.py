@@ -42,7 +42,7 @@ def script(made, filters):
     """The lines of the script. `filters` are those of its filters."""
     lines = [f"# {it}" for it in findings(made)]
     tree = made.tree.lines()
-    lines += ["", *tree, *made.figures, *pages(made), *filters]
+    lines += ["", *tree, *made.tree.finds.lines(made.tree), *made.figures, *pages(made), *filters]
     for task in reversed(made.all):
         programs = f": {plain(', '.join(task.process.programs))}" if task.process and task.process.programs else ""
         lines += ["", *([f"# process {task.process.pid}{programs}"] if task.process else []), f"prog {task.program}", *task.lines, "end"]

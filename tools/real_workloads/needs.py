@@ -1,6 +1,6 @@
 """What a call of the script needs of the tree, for the answer that the traced one got."""
-from real_workloads.calls import CLOSE_ON_EXEC, DIRECTORY
-from real_workloads.tree import MADE, MISSING, THERE, place
+from real_workloads.calls import CLOSE_ON_EXEC, CREATE, DIRECTORY
+from real_workloads.tree import MADE, MISSING, THERE, place, text_of
 
 IS_DIRECTORY, IS_FILE = ("dir",), ("reg",)
 REPLACE = 2
@@ -23,6 +23,32 @@ def note(found, answer, path, tree):
     """Notes what the call needs."""
     if path:
         {"openat": of_openat, "mknod": of_mknod, "mknodat": of_mknod, "mount": of_mount, "setxattr": of_setxattr}[found.name](found, answer, path, tree)
+        if answer.error == "ENOENT":
+            tree.holders |= {path[:length] for length in range(1, len(path))}
+        elif answer.error == "ELOOP":
+            of_loop(found, path, tree)
+
+
+def note_left(found, descriptors, answer, tree):
+    """Notes the directories that a path leaves by `..`: they are walked through."""
+    base = () if found.directory is None else descriptors.place_of(*found.directory)
+    names = [] if found.path is None or base is None or found.path.startswith(b"/") else list(base)
+    if found.path is None or base is None or answer.error in OF_WALK:
+        return
+    for name in found.path.split(b"/"):
+        if name == b"..":
+            tree.say_directory(tuple(names), by_script=True)
+            names = names[:-1]
+        elif name not in (b"", b"."):
+            names.append(name)
+
+
+def of_loop(found, path, tree):
+    """A link that leads to itself, unless the trace has told of another one."""
+    at = path[:-1] if found.name in ("mknod", "mknodat") else path
+    if at:
+        tree.say(at, THERE, by_script=True)
+        tree.kinds.setdefault(at, ("link", text_of(at)))
 
 
 def of_openat(found, answer, path, tree):
@@ -30,10 +56,13 @@ def of_openat(found, answer, path, tree):
     if answer.is_good:
         tree.say(path, THERE, IS_DIRECTORY if flags & DIRECTORY else None, by_script=True)
         tree.followed.add(path)
+        if flags & CREATE:
+            tree.finds.change(found, "makes", path)
     elif answer.error == "ENOENT":
         tree.say(path, MISSING, by_script=True)
     elif answer.error == "ENOTDIR" and not flags & DIRECTORY:
         tree.say(path[:-1], THERE, IS_FILE, by_script=True)
+        tree.finds.is_file(path[:-1])
     elif answer.error not in OF_WALK:
         tree.say(path, THERE, IS_DIRECTORY if answer.error == "EISDIR" else None, by_script=True)
 
@@ -45,6 +74,8 @@ def of_mknod(found, answer, path, tree):
         tree.say(path, THERE, by_script=True)
     elif answer.error in ("ENOENT", "ENOTDIR") and len(path) > 1:
         tree.say(path[:-1], MISSING if answer.error == "ENOENT" else THERE, IS_FILE, by_script=True)
+        if answer.error == "ENOTDIR":
+            tree.finds.is_file(path[:-1])
     elif answer.error in NO_RIGHT:
         tree.say(path, MISSING, by_script=True)
         tree.say_directory(path[:-1], by_script=True)
@@ -57,6 +88,7 @@ def of_mount(found, answer, path, tree):
         tree.say(path, MISSING, by_script=True)
     elif answer.error == "ENOENT" or answer.error not in OF_WALK:
         tree.say(path, THERE, IS_DIRECTORY, by_script=True)
+        tree.followed.add(path)
 
 
 def of_setxattr(found, answer, path, tree):
@@ -64,6 +96,7 @@ def of_setxattr(found, answer, path, tree):
         tree.say(path, MISSING, by_script=True)
     elif answer.error not in OF_WALK:
         tree.say(path, THERE, by_script=True)
+        tree.followed.add(path)
     name = found.texts.get(1)
     if name and (answer.is_good or answer.error == "EEXIST"):
         tree.attribute(path, name.content, was_there=answer.error == "EEXIST" or found.number_of(4) == REPLACE)

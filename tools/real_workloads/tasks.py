@@ -6,6 +6,8 @@ from real_workloads.script_text import FIRST_ADDRESS, PAGE
 from real_workloads.tree import place
 
 CONSOLES = (0, 1, 2)
+# calls after which paths begin elsewhere than at the script's root
+MOVES = {"chdir", "fchdir", "chroot", "pivot_root"}
 PAGES_OF_A_TASK = 4
 MOST_SHARING = 16
 
@@ -85,11 +87,28 @@ class Task:
     has_ended: bool = False
     pending: list = field(default_factory=list)  # handled signals that it is to get
     modes: dict = field(default_factory=dict)  # what the trace says that signals do
+    has_other_directory: bool = False  # as the trace shows it, its working directory isn't the root
+    has_other_root: bool = False
 
     @property
     def memory(self):
         """Where its texts are stored."""
         return FIRST_ADDRESS + self.slot * PAGES_OF_A_TASK * PAGE
+
+    def move(self, call):
+        """Notes that its working directory or its root is another one from now on."""
+        if call.name in ("chroot", "pivot_root"):
+            self.has_other_root = True
+        self.has_other_directory = call.name != "chdir" or call.arguments[0] not in ('"/"', '"\\x2f"')
+
+    def begins_elsewhere(self, found):
+        """Whether the trace shows that the path of a call begins elsewhere than at the script's root."""
+        if found.path is None or found.path.startswith(b"/"):
+            return self.has_other_root
+        real, directory = found.directory or (CURRENT_DIRECTORY, None)
+        if real != CURRENT_DIRECTORY:
+            return False
+        return self.has_other_directory if directory is None else directory != b"/"
 
     def child(self, program, process, is_thread):
         """The task that its next `spawn` or `thread` makes."""
@@ -99,7 +118,7 @@ class Task:
         self.sharing[0] += is_thread
         self.children += 1
         made = Task(f"{self.name}.{self.children}", program, process, self, shared, slot, sharing, dict(self.handlers), depth=self.depth + 1,
-                    modes=dict(self.modes))
+                    modes=dict(self.modes), has_other_directory=self.has_other_directory, has_other_root=self.has_other_root)
         self.numbers |= {process.pid} | ({process.made_by.answer.value} if process.made_by else set())
         return made
 

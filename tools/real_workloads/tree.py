@@ -6,6 +6,7 @@ found. Where no call of the script says anything of a path, the first other call
 import stat
 from collections import defaultdict
 
+from real_workloads.finds import Finds
 from real_workloads.script_text import MOST_NODES, quoted
 
 LONGEST_PATH, LONGEST_NAME, LONGEST_TARGET = 4095, 255, 4095
@@ -48,7 +49,9 @@ class Tree:
     def __init__(self):
         self.needed, self.seen = defaultdict(list), {}
         self.kinds, self.attributes, self.set_by_calls, self.followed = {}, [], set(), set()
+        self.holders = set()  # paths below which something was looked for
         self.decided, self.left_out = {}, (0, 0)  # of those that are needed, and of the others
+        self.finds = Finds()
 
     def say(self, path, fact, kind=None, by_script=False):
         """Notes what a call says of a path, and with it of the directories in front."""
@@ -56,6 +59,7 @@ class Tree:
             self.kinds.setdefault(path, kind)
         if by_script:
             self.needed[path].append(fact)
+            self.finds.note(path, fact)
         elif path not in self.seen:
             self.seen[path] = fact
         if path and fact != MISSING:
@@ -104,15 +108,15 @@ class Tree:
 
     def kind(self, path):
         """The words that state the node, but for its path. What was opened through a link is stated in the link's place."""
-        kind = self.kinds.get(path, ("reg",))
+        kind = self.kinds.get(path) or (("dir",) if path in self.holders else ("reg",))
         return ("reg",) if kind[0] == "link" and path in self.followed else kind
 
     def lines(self):
         paths = self.chosen()
         there, parents = set(paths), {path[:-1] for path in paths}
-        found = []
+        found, self.stated = [], {}
         for path in paths:
-            word, *rest = ("dir",) if path in parents else self.kind(path)
+            word, *rest = self.stated[path] = ("dir",) if path in parents else self.kind(path)
             operands = [quoted(it) if isinstance(it, bytes) else str(it) for it in rest]
             found.append(" ".join([word, quoted(text_of(path)), *operands]))
         attributes = [key for key in self.attributes if key[0] in there]

@@ -9,7 +9,7 @@ from real_workloads.schedule import Schedule
 from real_workloads.script_lines import as_written, figures, shown, stores
 from real_workloads.script_text import CALLS, MOST_BYTES, MOST_CALLS, MOST_DEPTH, MOST_INSTRUCTIONS, MOST_STEPS, MOST_TASKS, PAGE, SIGNALS
 from real_workloads.strace_text import SIXTY_FOUR, Text, Unreadable, field as field_of, number
-from real_workloads.tasks import PAGES_OF_A_TASK, first_task
+from real_workloads.tasks import MOVES, PAGES_OF_A_TASK, first_task
 from real_workloads.tree import Tree, text_of
 
 WAITS = {"wait4": 0, "waitid": 1, "waitpid": 0}
@@ -20,7 +20,7 @@ OPENS = {"open", "openat2", "creat"}
 # kin of what a script has, which it has no form of: each gets a line in its place
 NO_FORM = {"umount", "umount2", "lsetxattr", "fsetxattr", "setxattrat", "fsopen", "fsconfig", "fsmount", "fspick", "move_mount", "open_tree",
            "mount_setattr", "chroot", "pivot_root", *OPENS}
-WANTED = {*CALLS, *WAITS, *KILLS, *COPIES, *NO_FORM, *MAKERS, *facts.NAMES, "execve", "rt_sigaction", "close_range"}
+WANTED = {*CALLS, *WAITS, *KILLS, *COPIES, *NO_FORM, *MAKERS, *MOVES, *facts.NAMES, "execve", "rt_sigaction", "close_range"}
 GUARD = PAGES_OF_A_TASK * PAGE - 1
 # what one item of the trace may come to at most: the limits are tested before each
 ROOM, ROOM_OF_CALLS, ROOM_OF_STEPS, ROOM_OF_BYTES = 16, 2, 120, 2_000_000
@@ -171,6 +171,8 @@ class Workload:
             task.descriptors.executed()
         elif call.name == "rt_sigaction":
             self.handler(call, task)
+        elif call.name in MOVES and call.answer.is_good:
+            task.move(call)
         elif call.name in COPIES | OPENS | {"openat", "close", "close_range"}:
             self.move_descriptors(call, task)
         if call.name in NO_FORM:
@@ -211,12 +213,14 @@ class Workload:
         """Writes a call and what it reads."""
         self.remarks["texts that strace cut"] += found.is_cut
         path = needs.where(found, task.descriptors)
+        self.tree.finds.line, self.tree.finds.is_elsewhere = call.first, task.begins_elsewhere(found)
         self.open_directory(found, task)
         if found.name == "close" and call.answer.error == "EBADF":
             task.descriptors.forget(found.arguments[0])
         if found.name == "sysinfo" and call.answer.is_good and not self.figures:
             self.figures = figures(call.text)
         self.put(task, f"# line {call.first}: {shown(call)}")
+        needs.note_left(found, task.descriptors, call.answer, self.tree)
         self.make_call(call, found, task, path)
         self.written[found.name] += 1
         needs.note(found, call.answer, path, self.tree)
