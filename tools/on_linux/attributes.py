@@ -6,6 +6,7 @@ CAPABILITY = b"security.capability"
 WITHOUT_RIGHTS = (*ACLS, CAPABILITY, b"security.selinux")
 NAMESPACES = (b"user.", b"trusted.", b"security.", *ACLS)
 BARE = (b"user.", b"trusted.", b"security.")
+MOST_OF_A_VALUE = 65536
 NO_NAMESPACE = ("ENOTSUP", "EOPNOTSUPP")
 # the errors of a name or a value that isn't set
 REFUSED = ("EPERM", "EACCES", "EINVAL", "ERANGE", "ENOSPC", *NO_NAMESPACE)

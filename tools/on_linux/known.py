@@ -48,7 +48,9 @@ def of_mount(arguments, linux, here):
 def of_setxattr(arguments, name, linux, here):
     if here in TEXTS and linux in (*TEXTS, "EINVAL", "E2BIG"):
         return Known("setxattr-order")
-    if here == "E2BIG" and 4096 < arguments[3] <= 65536:
+    if here == "E2BIG" and arguments[3] > attributes.MOST_OF_A_VALUE:
+        return Known("setxattr-order") if linux in (*TEXTS, "EINVAL") else None
+    if here == "E2BIG" and arguments[3] > 4096:
         return Known("attribute-size", linux == "0")
     if here == "EPERM" and linux == "0":
         return Known("attribute-without-rights", True) if name in attributes.WITHOUT_RIGHTS else None

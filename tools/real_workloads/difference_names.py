@@ -3,11 +3,12 @@
 Each name asks for the very pair of answers, and for what makes it so: in the call's arguments, in what the script says of the trace, in the audit of
 the report, or in an earlier call whose answer differed. A pair that none of them explains has no name.
 """
+from on_linux.attributes import MOST_OF_A_VALUE as MOST_OF_LINUX
 from on_linux.attributes import REFUSED, WITHOUT_RIGHTS, is_refused_for_its_name, is_refused_for_its_value
 from real_workloads.calls import BIND, CREATE, MOVE, PROPAGATION, REMOUNT
-from real_workloads.finds import BEHIND_A_FILE, IN_A_DIRECTORY, MISSING, THERE
+from real_workloads.finds import BEHIND_A_DIRECTORY, BEHIND_A_FILE, BELOW_MISSING, BELOW_THERE, MISSING, THERE
 from real_workloads.tree import place
-from real_workloads.answers import base_of, is_same, number_of, text_at, text_of
+from real_workloads.answers import OF_PATH, base_of, is_same, number_of, text_at, text_of
 
 WALK = ("ENOENT", "ENOTDIR", "ELOOP", "ENAMETOOLONG")
 NO_PERMISSION = ("EACCES", "EPERM")
@@ -19,7 +20,8 @@ OF_FLAGS = {"EISDIR": WRITES | CREATE, "ENOTDIR": ONLY_DIRECTORIES, "ELOOP": NO_
 OF_NODES = ("ENXIO", "ENODEV", "EOVERFLOW", "EWOULDBLOCK", "EAGAIN", "EOPNOTSUPP", "EINVAL")
 # errors of a file system that is to be mounted
 OF_FILE_SYSTEMS = ("ENODEV", "ENOTBLK", "ENXIO", "EINVAL", "EBUSY", "EIO", "EROFS")
-LONGEST_PATH, LONGEST_PART, LONGEST_NAME, MOST_OF_A_VALUE, MOST_OF_LINUX = 4096, 255, 255, 4096, 65536
+LONGEST_PATH, LONGEST_PART, LONGEST_NAME, MOST_OF_A_VALUE = 4096, 255, 255, 4096
+OF_EXISTENCE = (THERE, MISSING, BELOW_THERE, BELOW_MISSING)
 ANSWERED = ("grant", "deny", "spent", "inject", "fault")
 
 
@@ -80,7 +82,7 @@ class Naming:
         done = made.real.isdigit(), made.play.isdigit()
         if done[0] == done[1]:
             return
-        if made.name in ("mknod", "mknodat", "openat"):
+        if made.name in ("mknod", "mknodat") or made.name == "openat" and done[0] and made.numbers[2] & CREATE:
             self.changed[path] = MISSING if done[0] else THERE
         if made.name == "openat":
             self.opened.add(made.task)
@@ -99,18 +101,18 @@ class Naming:
         follows = what is not None and is_found(made, what)
         for length in range(1, len(path)):
             above = self.changed.get(path[:length])
-            follows = follows or above == MISSING and is_found(made, MISSING) or above == THERE and is_found(made, BEHIND_A_FILE)
-            follows = follows or path[:length] in self.covered and (is_found(made, MISSING) or is_found(made, THERE))
+            follows = follows or above == MISSING and is_found(made, BELOW_MISSING) or above == THERE and is_found(made, BEHIND_A_FILE)
+            follows = follows or path[:length] in self.covered and any(is_found(made, it) for it in OF_EXISTENCE)
         if made.name == "setxattr" and (path, text_at(made, 1)) in self.attributes:
-            follows = follows or (made.real, made.play) in (("EEXIST", "0"), ("0", "EEXIST"), ("ENODATA", "0"), ("0", "ENODATA"))
+            follows = follows or "0" in (made.real, made.play) and (made.real in of_flags(made) or made.play in of_flags(made))
         return "after-another" if follows else None
 
     def of_descriptor(self, made):
         """Of a number that isn't open in one of the two."""
-        if made.name not in ("close", "openat", "mknodat"):
+        if made.name != "close" and base_of(made) is None:
             return None
         if (made.real, made.play) == ("ENOTDIR", "EBADF"):
-            return "dirfd-not-a-directory" if made.is_open and not text_of(made).startswith(b"/") else None
+            return "dirfd-not-a-directory" if made.is_open and made.name != "close" else None
         shifted = any(made.task == it or made.task.startswith(f"{it}.") or it.startswith(f"{made.task}.") for it in self.opened)
         is_told = made.is_open if made.real == "EBADF" else made.is_open is False
         return "after-another" if shifted and is_told else None
@@ -119,7 +121,7 @@ class Naming:
         """Of a path that leads into a mount that the play made."""
         path = self.path_of(made) or ()
         above = [it for it in self.mounted if path[:len(it)] == it and path != it]
-        if not above or not is_found(made, MISSING):
+        if not above or not (is_found(made, MISSING) or is_found(made, BELOW_MISSING)):
             return None
         is_gone = any(place in above and self.mounted[place] < line < made.line for line, place in self.unmounted)
         return "unmounted" if is_gone else "behind-a-mount"
@@ -140,9 +142,15 @@ def is_done(made):
     """Whether the play's answer is that of a path that leads where it is to: done, or refused for want of rights."""
     if made.name == "mount":
         return made.play == ("0" if made.verdict == "grant" else "EPERM")
-    if made.play == "EPERM" and made.verdict != "grant":
-        return is_device(made) or made.name == "setxattr" and not text_at(made, 1).startswith(b"user.")
-    return made.play.isdigit()
+    if made.verdict != "grant" and (is_device(made) or made.name == "setxattr" and not text_at(made, 1).startswith(b"user.")):
+        return made.play == "EPERM"
+    return made.play.isdigit() if made.name == "openat" else made.play == "0"
+
+
+def of_flags(made):
+    """The errors of a setxattr that say whether the attribute is there."""
+    flags = made.numbers[4]
+    return ("EEXIST",) * (flags & 1 != 0) + ("ENODATA",) * (flags & 2 != 0)
 
 
 def is_found(made, what):
@@ -150,16 +158,16 @@ def is_found(made, what):
     real, play = made.real, made.play
     if what == BEHIND_A_FILE:
         return play == "ENOTDIR" and real != "ENOTDIR"
-    if what == IN_A_DIRECTORY:
-        return real == "ENOTDIR" and (play in ("ENOENT", "EEXIST") or is_done(made))
-    if made.name in ("mknod", "mknodat"):
-        if what == MISSING:
-            return real == "EEXIST" and is_done(made) or play == "ENOENT" and real not in WALK
-        is_free = real == "0" or real in (*NO_PERMISSION, "EROFS", "ENOSPC")
-        return play == "EEXIST" and is_free or real == "ENOENT" and (play == "EEXIST" or is_done(made))
-    if what == MISSING:
+    is_new = made.name in ("mknod", "mknodat")
+    if what == BEHIND_A_DIRECTORY:
+        return real == "ENOTDIR" and (play == "ENOENT" or is_new and play == "EEXIST" or is_done(made))
+    if is_new and what == MISSING:
+        return real == "EEXIST" and is_done(made)
+    if is_new and what == THERE:
+        return play == "EEXIST" and (real == "0" or real in (*NO_PERMISSION, "EROFS", "ENOSPC"))
+    if what in (MISSING, BELOW_MISSING):
         return play == "ENOENT" and real not in WALK
-    return real == "ENOENT" and (made.play in ("EEXIST", "ENODATA") or made.play.isdigit())
+    return real == "ENOENT" and (is_new and play == "EEXIST" or made.name == "setxattr" and play in of_flags(made) or is_done(made))
 
 
 # ---- each call by itself
@@ -191,7 +199,13 @@ def of_tree(made):
 
 def of_call(made):
     rule = {"mknod": of_mknod, "mknodat": of_mknod, "openat": of_openat, "mount": of_mount, "setxattr": of_setxattr}.get(made.name)
-    return (rule(made) or of_any(made)) if rule else None
+    return (rule(made) or of_any(made) or of_text(made)) if rule else None
+
+
+def of_text(made):
+    """Of a text that strace printed as an address: it prints so what it couldn't read, and what it doesn't take for a text."""
+    texts = {"mount": (0, 1, 2), "setxattr": (0, 1)}.get(made.name, (OF_PATH[made.name],))
+    return "text-not-told" if made.play == "EFAULT" and any(is_unreadable(made, at) for at in texts) else None
 
 
 def of_any(made):
@@ -226,7 +240,9 @@ def of_mknod(made):
     kind = mode_of(made) & KIND
     device = (made.numbers[made.name == "mknodat":] + [0, 0])[2]
     first = {"EPERM": kind == DIRECTORY_KIND, "EINVAL": kind not in (*KINDS, DIRECTORY_KIND)}.get(made.real, False)
-    if first and made.play in (*WALK, "EFAULT"):
+    path = text_at(made, int(made.name == "mknodat"), None)
+    faults = {"EFAULT": path is None, "ENOENT": path == b"", "ENAMETOOLONG": path is not None and len(path) >= LONGEST_PATH}
+    if first and faults.get(made.play):
         return "mknod-kind-first"
     if (made.real, made.play) == ("0", "EPERM") and is_device(made) and made.verdict != "grant":
         return "whiteout-device" if kind == CHARACTER and device & 0xFFFFFFFF == 0 else "no-rights"
@@ -268,18 +284,21 @@ def is_too_long(path):
 
 def of_attribute(made):
     """Of a name or a value that Linux refuses."""
-    if made.name != "setxattr" or made.play not in ("0", "EEXIST", "ENODATA"):
-        return None
     name = text_at(made, 1)
+    is_set = made.play == "0" and (made.verdict == "grant" or name.startswith(b"user."))
+    if made.name != "setxattr" or not is_set and made.play not in of_flags(made):
+        return None
     if is_refused_for_its_name(name, made.real):
         return "attribute-names"
-    return "attribute-values" if made.play == "0" and is_refused_for_its_value(name, made.real) else None
+    return "attribute-values" if is_set and is_refused_for_its_value(name, made.real) else None
 
 
 def of_setxattr(made):
     name, size, flags = text_at(made, 1), made.numbers[3], made.numbers[4] & 0xFFFFFFFF
     if made.play == "E2BIG":
-        return "attribute-size" if MOST_OF_A_VALUE < size <= MOST_OF_LINUX else None
+        if size > MOST_OF_LINUX:
+            return "setxattr-order" if made.real in ("EFAULT", "ENAMETOOLONG", "ERANGE", "EINVAL") else None
+        return "attribute-size" if size > MOST_OF_A_VALUE else None
     if made.play == "EPERM" and made.verdict != "grant" and not name.startswith(b"user."):
         if made.real == "0" and name in WITHOUT_RIGHTS:
             return "attribute-without-rights"

@@ -21,13 +21,14 @@ CLASSES = {
     "unmounted": "The trace unmounts what covers the path. In the play nothing is unmounted.",
     "links": "The path leads through a link. In the play it leads where its names say.",
     "begins-elsewhere": "The path begins at a working directory or a root of its own. In the play it begins at the container's root.",
+    "text-not-told": "strace printed an address in place of a text that Linux read. In the play nothing is mapped there.",
     "no-room": "The path has no room in the script's tree.",
     "no-free-descriptor": "The traced process had no number left for a descriptor. In the play it has.",
     "ended-meanwhile": "The traced process ended in the call, so nobody saw an answer.",
     "not-entered": "The task doesn't come to the call: an earlier one ended it or still waits, or the schedule ends before.",
     "owners-and-modes": "", "whiteout-device": "", "native-mount": "", "mount-without-type": "", "mount-data": "", "setxattr-order": "",
-    "attribute-names": "", "attribute-size": "", "attribute-values": "", "attribute-without-rights": "", "dirfd-not-a-directory": "", "openat-full-table": "", "mknod-kind-first": "", "trailing-slash": "",
-    "mount-options": "", "mount-source": "", "mount-flags": "",
+    "attribute-names": "", "attribute-size": "", "attribute-values": "", "attribute-without-rights": "", "dirfd-not-a-directory": "",
+    "openat-full-table": "", "mknod-kind-first": "", "trailing-slash": "", "mount-options": "", "mount-source": "", "mount-flags": "",
 }
 
 

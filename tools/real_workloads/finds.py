@@ -7,14 +7,15 @@ import re
 from dataclasses import dataclass
 
 # what a call finds in the script's tree
-THERE, MISSING, BEHIND_A_FILE, IN_A_DIRECTORY = "there", "missing", "behind a file", "in a directory"
+THERE, MISSING, BELOW_THERE, BELOW_MISSING = "there", "missing", "in a directory that is there", "in a missing directory"
+BEHIND_A_FILE, BEHIND_A_DIRECTORY = "behind a file", "behind a directory"
 # what the trace shows of a path, and the name of the difference that comes of it
 NAMES = {
     "makes": "made-meanwhile", "removes": "made-meanwhile", "renames": "renamed", "binds": "bind-mount", "mounts": "mounted-meanwhile",
     "unmounts": "unmounted",
 }
 ELSEWHERE, LINKS, BOTH_WAYS, NO_ROOM = "begins-elsewhere", "links", "made-meanwhile", "no-room"
-LINE = re.compile(r"# in the play line (\d+) finds its path (there|missing|behind a file|in a directory): ([a-z-]+)")
+LINE = re.compile(r"# in the play line (\d+) finds its path ([a-z ]+): ([a-z-]+)")
 
 
 @dataclass
@@ -24,6 +25,7 @@ class Found:
     line: int
     fact: str
     is_elsewhere: bool
+    is_above: bool  # the path is that of a directory in front of the call's own
 
 
 @dataclass
@@ -39,10 +41,14 @@ class Change:
 class Finds:
     def __init__(self):
         self.found, self.changes, self.files = {}, {}, []
-        self.line, self.is_elsewhere = 0, False  # of the call whose facts are noted
+        self.line, self.path, self.is_elsewhere = 0, None, False  # of the call whose facts are noted
+
+    def begin(self, line, path, is_elsewhere):
+        """What is noted from now on is what this call found."""
+        self.line, self.path, self.is_elsewhere = line, path, is_elsewhere
 
     def note(self, path, fact):
-        self.found.setdefault(path, []).append(Found(self.line, fact, self.is_elsewhere))
+        self.found.setdefault(path, []).append(Found(self.line, fact, self.is_elsewhere, path != self.path))
 
     def is_file(self, path):
         """A call found that a path leads through what is no directory."""
@@ -59,14 +65,15 @@ class Finds:
             self.tell_existence(tree, path, found, told)
         for path, line in self.files:
             if tree.stated.get(path, ("",))[0] == "dir":
-                told[line, IN_A_DIRECTORY] = self.reason(tree, path, line)
+                told[line, BEHIND_A_DIRECTORY] = self.reason(tree, path, line)
         return [f"# in the play line {line} finds its path {what}: {why}" for (line, what), why in sorted(told.items())]
 
     def tell_existence(self, tree, path, found, told):
         is_there = path == () or path in tree.stated
         for it in found:
             if (it.fact == "there") != is_there:
-                told[it.line, THERE if is_there else MISSING] = self.reason(tree, path, it.line)
+                what = (BELOW_THERE if is_there else BELOW_MISSING) if it.is_above else THERE if is_there else MISSING
+                told[it.line, what] = self.reason(tree, path, it.line, found_otherwise(it, found))
             elif not is_there:
                 self.tell_files(tree, path, it, told)
             is_there = is_there or it.fact == "made"
@@ -77,24 +84,43 @@ class Finds:
             if tree.stated.get(path[:length], ("dir",))[0] not in ("dir", "link"):
                 told[it.line, BEHIND_A_FILE] = self.reason(tree, path[:length], it.line)
 
-    def reason(self, tree, path, line):
-        """The name of what the trace shows of a path, or of a directory in front of it, and where."""
+    def reason(self, tree, path, line, others=None):
+        """The name of what the trace shows of a path, or of a directory in front of it, and where. `others` are the lines that found the path
+        there where this one found it missing, or the other way round, each with whether it was there: what changed it stands between."""
         if tree.starts_with(path) and path not in tree.stated:
             return f"{NO_ROOM}, in the tree of a script"
         places = [path[:length] for length in range(len(path), 0, -1)]
-        changes = [change for place in places for change in self.changes.get(place, [])]
+        changes = [change for place in places for change in self.changes.get(place, []) if is_between(change, path, line, others)]
         if changes:
-            before = [change for change in changes if change.line < line]
-            change = max(before, key=lambda it: it.line) if before else min(changes, key=lambda it: it.line)
-            return f"{NAMES[change.deed]}, line {change.line} {change.deed} it ({change.call})"
+            change = min(changes, key=lambda it: (it.path != path, abs(it.line - line), it.line > line))
+            return f"{NAMES[change.deed]}, line {change.line} {change.deed} {'it' if change.path == path else 'what is above it'} ({change.call})"
         elsewhere = next((it for it in self.found.get(path, []) if it.is_elsewhere), None)
         if elsewhere:
             return f"{ELSEWHERE}, line {elsewhere.line} doesn't begin at the root that the script has"
         link = next((place for place in places if tree.kinds.get(place, ("",))[0] == "link"), None)
         if link:
             return f"{LINKS}, one leads from it"
-        other = next((it.line for it in self.found.get(path, []) if it.line != line), line)
-        return f"{BOTH_WAYS}, line {other} found it otherwise"
+        return f"{BOTH_WAYS}, line {others[0][0] if others else line} found it otherwise"
+
+
+def found_otherwise(it, found):
+    """The lines of the calls that found a path there where this one found it missing, or the other way round, and whether it was there."""
+    is_there = it.fact == "there"
+    return [(other.line, not is_there) for other in found
+            if (other.fact == "there") != is_there or not is_there and other.fact == "made" and other.line < it.line]
+
+
+def is_between(change, path, line, others):
+    """Whether a change of a path, or of a directory in front of it, stands between two calls that found the path otherwise."""
+    if others is not None and not any(leads_over(change, line, other, was_there) for other, was_there in others):
+        return False
+    return change.path != path or change.deed not in ("binds", "mounts", "unmounts")
+
+
+def leads_over(change, line, other, was_there):
+    """Whether a change stands between a line and another one that found a path there, or found it missing, and makes the one of the other."""
+    is_made = was_there == (other > line)  # what is missing first is there later
+    return min(line, other) <= change.line <= max(line, other) and change.deed != ("removes" if is_made else "makes")
 
 
 def read(line):

@@ -1,9 +1,11 @@
 """What a call of the script needs of the tree, for the answer that the traced one got."""
+from on_linux.attributes import MOST_OF_A_VALUE
 from real_workloads.calls import CLOSE_ON_EXEC, CREATE, DIRECTORY
-from real_workloads.tree import MADE, MISSING, THERE, place, text_of
+from real_workloads.tree import MADE, MISSING, THERE, place
 
 IS_DIRECTORY, IS_FILE = ("dir",), ("reg",)
 REPLACE = 2
+KIND, KINDS = 0o170000, (0, 0o010000, 0o020000, 0o060000, 0o100000, 0o140000)
 # errors of a walk; each other one comes once the walk is done
 OF_WALK = {"ENOENT", "ENOTDIR", "ENAMETOOLONG", "EFAULT", "ELOOP", "EBADF", "EMFILE", "ENFILE"}
 NO_RIGHT = {"EPERM", "EACCES", "EROFS", "EINVAL", "ENOSPC"}
@@ -45,10 +47,17 @@ def note_left(found, descriptors, answer, tree):
 
 def of_loop(found, path, tree):
     """A link that leads to itself, unless the trace has told of another one."""
-    at = path[:-1] if found.name in ("mknod", "mknodat") else path
-    if at:
-        tree.say(at, THERE, by_script=True)
-        tree.kinds.setdefault(at, ("link", text_of(at)))
+    tree.loops.add(path[:-1] if found.name in ("mknod", "mknodat") else path)
+
+
+def ends_with_slash(found):
+    return found.path.endswith(b"/") and found.path.strip(b"/") != b""
+
+
+def is_refused_first(found):
+    """Whether Linux refuses a setxattr before it looks at the path."""
+    name = found.texts.get(1)
+    return found.number_of(4) & 0xFFFFFFFC != 0 or name is not None and name.content == b"" or found.number_of(3) > MOST_OF_A_VALUE
 
 
 def of_openat(found, answer, path, tree):
@@ -60,6 +69,8 @@ def of_openat(found, answer, path, tree):
             tree.finds.change(found, "makes", path)
     elif answer.error == "ENOENT":
         tree.say(path, MISSING, by_script=True)
+    elif answer.error == "ENOTDIR" and ends_with_slash(found):
+        tree.say(path, THERE, IS_FILE, by_script=True)
     elif answer.error == "ENOTDIR" and not flags & DIRECTORY:
         tree.say(path[:-1], THERE, IS_FILE, by_script=True)
         tree.finds.is_file(path[:-1])
@@ -68,8 +79,14 @@ def of_openat(found, answer, path, tree):
 
 
 def of_mknod(found, answer, path, tree):
+    kind = found.number_of(1 + (found.name == "mknodat")) & KIND
+    if answer.error in ("EPERM", "EINVAL") and kind not in KINDS:
+        return  # the kind is looked at before the path
     if answer.is_good:
         tree.say(path, MADE, by_script=True)
+    elif answer.error == "ENOENT" and ends_with_slash(found):
+        tree.say(path, MISSING, by_script=True)
+        tree.say_directory(path[:-1], by_script=True)
     elif answer.error == "EEXIST":
         tree.say(path, THERE, by_script=True)
     elif answer.error in ("ENOENT", "ENOTDIR") and len(path) > 1:
@@ -94,7 +111,7 @@ def of_mount(found, answer, path, tree):
 def of_setxattr(found, answer, path, tree):
     if answer.error == "ENOENT":
         tree.say(path, MISSING, by_script=True)
-    elif answer.error not in OF_WALK:
+    elif answer.error not in OF_WALK and not is_refused_first(found):
         tree.say(path, THERE, by_script=True)
         tree.followed.add(path)
     name = found.texts.get(1)

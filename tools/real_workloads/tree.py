@@ -50,6 +50,7 @@ class Tree:
         self.needed, self.seen = defaultdict(list), {}
         self.kinds, self.attributes, self.set_by_calls, self.followed = {}, [], set(), set()
         self.holders = set()  # paths below which something was looked for
+        self.loops = set()  # paths that lead nowhere, since they lead through a link to itself
         self.decided, self.left_out = {}, (0, 0)  # of those that are needed, and of the others
         self.finds = Finds()
 
@@ -90,10 +91,18 @@ class Tree:
         """Whether nothing in front of the path is missing."""
         return all(self.starts_with(path[:length]) for length in range(1, len(path)))
 
+    def links_to_themselves(self):
+        """The shortest of the paths that lead nowhere, unless they lead somewhere at another time."""
+        return {path for path in self.loops if path and path not in self.followed and self.writable(path)
+                and not any(path[:length] in self.loops for length in range(1, len(path)))}
+
     def chosen(self):
         """The paths that are in the tree, each behind its directory: those first that a call of the script needs."""
-        wanted = {path for path in [*self.needed, *self.seen] if path and self.starts_with(path) and self.writable(path)}
-        needed = {path for path in wanted if path in self.needed}
+        loops = self.links_to_themselves()
+        for path in loops:
+            self.kinds.setdefault(path, ("link", text_of(path)))
+        wanted = {path for path in [*self.needed, *self.seen] if path and self.starts_with(path) and self.writable(path)} | loops
+        needed = {path for path in wanted if path in self.needed} | loops
         paths = set()
         for path in [*sorted(needed), *sorted(wanted - needed)]:
             more = {path[:length] for length in range(1, len(path) + 1)} - paths

@@ -213,7 +213,7 @@ class Workload:
         """Writes a call and what it reads."""
         self.remarks["texts that strace cut"] += found.is_cut
         path = needs.where(found, task.descriptors)
-        self.tree.finds.line, self.tree.finds.is_elsewhere = call.first, task.begins_elsewhere(found)
+        self.tree.finds.begin(call.first, path, task.begins_elsewhere(found))
         self.open_directory(found, task)
         if found.name == "close" and call.answer.error == "EBADF":
             task.descriptors.forget(found.arguments[0])
