@@ -1,5 +1,6 @@
-"""Reads of a task's memory at odd addresses, wait(2) and signals, and what a container's root may mount."""
+"""Reads of a task's memory at odd addresses, wait(2) and signals, PIDs that run out, and what a container's root may mount."""
 import ctypes
+import os
 
 from on_linux import apart, machine
 from on_linux.machine import CALLS, answer
@@ -8,6 +9,7 @@ from on_linux.stage import PROC
 from on_linux.stand_in import Order
 
 START, END, TEXT = 0x1F000, 0x20000, b"abcdefgh" * 600
+GREATEST_PID = 320
 READS = ((0x1FFF0, 16), (0x1FFF0, 17), (0x1FFF0, 256), (0x1FFFF, 256), (0x1FF00, 256), (0x1F000, 4096), (0x1F000, 65535))
 
 
@@ -18,6 +20,7 @@ def run(bench, notes):
     reads(Scene(bench), note)
     for mode, name in ((2, "plain"), (1, "restarting")):
         note(f"a signal with a {name} handler during wait(2)", signalled_wait(Scene(bench, settings=SETTINGS), mode), "waits", "wait-interrupted")
+    note(f"the PID behind {GREATEST_PID}, the greatest, where no base is stated", apart.in_namespaces(number_given_again), 2, "process-numbers")
     for what, act in MOUNTS.items():
         note(f"{what} by the root of a user namespace", in_user_namespace(act), "EPERM", "user-namespace")
 
@@ -55,6 +58,21 @@ def signalled_wait(scene, mode):
     scene.task.settle(0.01)
     scene.task.leave_handler()
     return answer(scene.task.result()) if scene.task.settle(0.01) == "idle" else "waits"
+
+
+def number_given_again():
+    """The first PID that a namespace gives again, to children that are each reaped before the next is made."""
+    with open("/proc/sys/kernel/pid_max", "w") as file:
+        file.write(str(GREATEST_PID + 1))
+    last = os.getpid()
+    while True:
+        pid = os.fork()
+        if pid == 0:
+            os._exit(0)
+        os.waitpid(pid, 0)
+        if pid < last:
+            return pid
+        last = pid
 
 
 def mounted(kind, flags=0, source="none"):

@@ -5,10 +5,10 @@ the report, or in an earlier call whose answer differed. A pair that none of the
 """
 from on_linux.attributes import MOST_OF_A_VALUE as MOST_OF_LINUX
 from on_linux.attributes import REFUSED, WITHOUT_RIGHTS, is_refused_for_its_name, is_refused_for_its_value
+from real_workloads.answers import OF_PATH, base_of, is_same, number_of, text_at, text_of
 from real_workloads.calls import BIND, CREATE, MOVE, PROPAGATION, REMOUNT
 from real_workloads.finds import BEHIND_A_DIRECTORY, BEHIND_A_FILE, BELOW_MISSING, BELOW_THERE, MISSING, THERE
 from real_workloads.tree import place
-from real_workloads.answers import OF_PATH, base_of, is_same, number_of, text_at, text_of
 
 WALK = ("ENOENT", "ENOTDIR", "ELOOP", "ENAMETOOLONG")
 NO_PERMISSION = ("EACCES", "EPERM")
@@ -61,14 +61,12 @@ class Naming:
         text, base = text_of(made), base_of(made)
         if not text:
             return None
-        begin = () if base is None else (made.task.encode(), str(base).encode())
+        if base is None:
+            return place((), text)
         parts = made.task.split(".")
-        for length in range(len(parts), 0, -1) if base is not None else ():
-            found = self.descriptors.get((".".join(parts[:length]), base))
-            if found is not None:
-                begin = found
-                break
-        return place(begin, text)
+        holders = ((".".join(parts[:length]), base) for length in range(len(parts), 0, -1))  # the task, and those that it may have it from
+        known = next((self.descriptors[it] for it in holders if it in self.descriptors), None)
+        return place((made.task.encode(), str(base).encode()) if known is None else known, text)
 
     def note(self, made):
         """Remembers what a later call may follow from."""
