@@ -24,7 +24,6 @@ class Found:
 
     line: int
     fact: str
-    is_elsewhere: bool
     is_above: bool  # the path is that of a directory in front of the call's own
 
 
@@ -41,6 +40,7 @@ class Change:
 class Finds:
     def __init__(self):
         self.found, self.changes, self.files = {}, {}, []
+        self.elsewhere = {}  # the first lines whose paths begin elsewhere than at the script's root, by where these lead to from it
         self.line, self.path, self.is_elsewhere = 0, None, False  # of the call whose facts are noted
 
     def begin(self, line, path, is_elsewhere):
@@ -48,7 +48,9 @@ class Finds:
         self.line, self.path, self.is_elsewhere = line, path, is_elsewhere
 
     def note(self, path, fact):
-        self.found.setdefault(path, []).append(Found(self.line, fact, self.is_elsewhere, path != self.path))
+        self.found.setdefault(path, []).append(Found(self.line, fact, path != self.path))
+        if self.is_elsewhere:
+            self.elsewhere.setdefault(path, self.line)
 
     def is_file(self, path):
         """A call found that a path leads through what is no directory."""
@@ -70,10 +72,10 @@ class Finds:
 
     def tell_existence(self, tree, path, found, told):
         is_there = path == () or path in tree.stated
-        for it in found:
+        for it, others in zip(found, nearest_otherwise(found)):
             if (it.fact == "there") != is_there:
                 what = (BELOW_THERE if is_there else BELOW_MISSING) if it.is_above else THERE if is_there else MISSING
-                told[it.line, what] = self.reason(tree, path, it.line, found_otherwise(it, found))
+                told[it.line, what] = self.reason(tree, path, it.line, others)
             elif not is_there:
                 self.tell_files(tree, path, it, told)
             is_there = is_there or it.fact == "made"
@@ -85,8 +87,8 @@ class Finds:
                 told[it.line, BEHIND_A_FILE] = self.reason(tree, path[:length], it.line)
 
     def reason(self, tree, path, line, others=None):
-        """The name of what the trace shows of a path, or of a directory in front of it, and where. `others` are the lines that found the path
-        there where this one found it missing, or the other way round, each with whether it was there: what changed it stands between."""
+        """The name of what the trace shows of a path, or of a directory in front of it, and where. `others` are the nearest lines that found the
+        path there where this one found it missing, or the other way round, each with whether it was there: what changed it stands between."""
         if tree.starts_with(path) and path not in tree.stated:
             return f"{NO_ROOM}, in the tree of a script"
         places = [path[:length] for length in range(len(path), 0, -1)]
@@ -94,20 +96,26 @@ class Finds:
         if changes:
             change = min(changes, key=lambda it: (it.path != path, abs(it.line - line), it.line > line))
             return f"{NAMES[change.deed]}, line {change.line} {change.deed} {'it' if change.path == path else 'what is above it'} ({change.call})"
-        elsewhere = next((it for it in self.found.get(path, []) if it.is_elsewhere), None)
-        if elsewhere:
-            return f"{ELSEWHERE}, line {elsewhere.line} doesn't begin at the root that the script has"
+        if path in self.elsewhere:
+            return f"{ELSEWHERE}, line {self.elsewhere[path]} doesn't begin at the root that the script has"
         link = next((place for place in places if tree.kinds.get(place, ("",))[0] == "link"), None)
         if link:
             return f"{LINKS}, one leads from it"
         return f"{BOTH_WAYS}, line {others[0][0] if others else line} found it otherwise"
 
 
-def found_otherwise(it, found):
-    """The lines of the calls that found a path there where this one found it missing, or the other way round, and whether it was there."""
-    is_there = it.fact == "there"
-    return [(other.line, not is_there) for other in found
-            if (other.fact == "there") != is_there or not is_there and other.fact == "made" and other.line < it.line]
+def nearest_otherwise(found):
+    """For each of the calls that found a path, the nearest ones in front and behind that found it otherwise, and whether it was there."""
+    nearest = [[] for _ in found]
+    for step in (1, -1):
+        last = {}  # the line that was come to last at which the path was there, and at which it was missing
+        for at in range(len(found))[::step]:
+            it, is_there = found[at], found[at].fact == "there"
+            nearest[at] += [(last[not is_there], not is_there)] if (not is_there) in last else []
+            last[is_there] = it.line
+            if step > 0 and it.fact == "made":
+                last[True] = it.line
+    return nearest
 
 
 def is_between(change, path, line, others):
