@@ -1,4 +1,4 @@
-"""Plays scripts under policies, and checks reports, by the C library that tools/make-c-library makes: play(policy, script) gives a
+"""Plays scripts under policies, and checks reports, by the C library: play(policy, script) gives a
 Report, hand_over(policy, script, every) its text and the ledgers of workers that were replaced, check(policy, script, report) what is
 found of a report, and explore(policy, script, workers, delays) what can come of a script; all raise Refused."""
 import ctypes
@@ -7,8 +7,15 @@ import os
 from dataclasses import dataclass
 from pathlib import Path
 
-DIST = Path(__file__).resolve().parents[2] / "dist"
-LIBRARY = ctypes.CDLL(os.environ.get("SECCOMP_BROKER", str(DIST / "lib/libseccomp_broker.so")))
+
+def library():
+    """The library's file: the one that SECCOMP_BROKER names, the one beside this module, or the one of this checkout; else the system's."""
+    here = Path(__file__).resolve()
+    near = [here.with_name("libseccomp_broker.so"), here.parent.parent.parent / "dist/lib/libseccomp_broker.so"]
+    return os.environ.get("SECCOMP_BROKER") or next((str(it) for it in near if it.is_file()), "libseccomp_broker.so.1")
+
+
+LIBRARY = ctypes.CDLL(library())
 BYTES, SIZE, LENGTH = ctypes.c_char_p, ctypes.c_size_t, ctypes.POINTER(ctypes.c_size_t)
 LIBRARY.broker_play.argtypes = [BYTES, SIZE] * 2 + [SIZE, BYTES, SIZE, LENGTH, BYTES, SIZE, LENGTH]
 LIBRARY.broker_audit_check.argtypes = [BYTES, SIZE] * 3 + [SIZE, BYTES, SIZE, LENGTH, BYTES, SIZE, LENGTH]

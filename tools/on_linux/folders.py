@@ -51,5 +51,5 @@ def pairs(folder, room):
 
 
 def all_folders():
-    """Those of the repository."""
-    return [folder for kind in ("examples", "cases") for folder in sorted((TOP / kind).iterdir()) if folder.is_dir()]
+    """Those of the repository; an installed package has no cases."""
+    return [folder for kind in ("examples", "cases") if (TOP / kind).is_dir() for folder in sorted((TOP / kind).iterdir()) if folder.is_dir()]

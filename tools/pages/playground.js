@@ -114,7 +114,7 @@ class Playground {
       if (answer.ok) return told;
       this.tell("refused", make("p", {}, `The server refuses this: ${told.error}.`));
     } catch {
-      this.tell("refused", make("p", {}, "The server doesn't answer. Is tools/playground still running?"));
+      this.tell("refused", make("p", {}, "The server doesn't answer. Is the playground still running?"));
     } finally {
       document.body.classList.remove("busy");
       for (const button of document.querySelectorAll("[data-form]")) button.disabled = button.dataset.form === "audit-check" && this.report === null;
@@ -234,4 +234,4 @@ let playground = null;
 fetch("about").then((answer) => answer.json()).then((about) => {
   playground = new Playground(about);
   return playground.begin();
-}).catch(() => by("answer").append(make("p", {}, "The server doesn't answer. Is tools/playground still running?")));
+}).catch(() => by("answer").append(make("p", {}, "The server doesn't answer. Is the playground still running?")));

@@ -195,7 +195,7 @@ class Handler(BaseHTTPRequestHandler):
         """The scene of a report, or its page."""
         lines = report.count(b"\n")
         if lines > MOST_LINES:
-            return {"status": None, "line": f"The report has {lines:,} lines, and this page draws no more than {MOST_LINES:,}. tools/picture draws it.", "marked": None}
+            return {"status": None, "line": f"The report has {lines:,} lines, and this page draws no more than {MOST_LINES:,}. The tool `picture` draws it.", "marked": None}
         try:
             scene = scene_of(read(report))
         except NotAReport as fault:

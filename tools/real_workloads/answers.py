@@ -97,7 +97,7 @@ class Report:
         for found in filter(None, map(OUTCOME.match, calls)):
             if found[5] != "restarted":
                 verdict = verdicts[found[1]]
-                judgement = judged.get(verdict.removeprefix("notify id="))
+                judgement = judged.get(verdict.partition("notify id=")[2] or verdict)
                 self.of_task.setdefault(found[2], []).append((found[4], found[5], verdict, judgement, open_there.get(int(found[1]))))
 
 

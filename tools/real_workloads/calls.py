@@ -1,4 +1,6 @@
 """The calls that a script has, as a trace shows them: their texts, their numbers, and what a worker reads of them."""
+from __future__ import annotations
+
 from dataclasses import dataclass, field
 
 from real_workloads.script_text import END_OF_ADDRESSES, NAME_LIMIT, PATH_LIMIT, PIECE, VALUE_LIMIT

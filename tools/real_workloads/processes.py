@@ -3,6 +3,8 @@
 strace prints a new process's first lines before or behind the return of the call that made it. A call is known by the number that it returned.
 Where that is a number of another namespace and strace didn't translate it, the oldest call counts whose child is still looked for.
 """
+from __future__ import annotations
+
 from dataclasses import dataclass, field
 
 from real_workloads.strace_text import number, text_or_address, Text, Unreadable, field as field_of

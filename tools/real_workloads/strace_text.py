@@ -1,8 +1,11 @@
 """Reads what strace prints: calls, whole or in two parts, signals, and the ends of processes."""
+from __future__ import annotations
+
 import os
 import re
 import signal
 import stat
+import sys
 from dataclasses import dataclass
 from functools import lru_cache
 from typing import NamedTuple
@@ -45,6 +48,8 @@ CLONE_FLAGS = {
 }
 OTHER_NAMES = {"AT_FDCWD": -100, "NULL": 0, "XATTR_CREATE": 1, "XATTR_REPLACE": 2, "AT_EMPTY_PATH": 0x1000, "AT_SYMLINK_NOFOLLOW": 0x100,
                "SIG_DFL": 0, "SIG_IGN": 1, "SA_RESTART": 0x10000000, "F_DUPFD": 0, "F_SETFD": 2, "F_DUPFD_CLOEXEC": 1030, "FD_CLOEXEC": 1, "O_LARGEFILE": 0}
+# a trace has many records; Python 3.8 and 3.9 can't make them smaller
+SLOTS = {"slots": True} if sys.version_info >= (3, 10) else {}
 
 
 class Unreadable(Exception):
@@ -72,7 +77,7 @@ class Answer(NamedTuple):
         return "?" if self.value is None else self.error or str(self.value)
 
 
-@dataclass(slots=True)
+@dataclass(**SLOTS)
 class Call:
     """A call of the trace. What it gets when it is whole is filled in then."""
 

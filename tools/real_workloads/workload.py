@@ -1,4 +1,6 @@
 """Makes a script of a trace: its processes as programs, their calls in the order of the trace, and the paths that they found as the tree."""
+from __future__ import annotations
+
 from collections import Counter
 from dataclasses import dataclass, field
 

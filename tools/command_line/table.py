@@ -1,0 +1,40 @@
+"""The table of words in words.json: each word, its forms, what it takes, and its text."""
+import json
+import os
+
+FOLDER = os.path.dirname(os.path.realpath(__file__))
+# words of the command itself, beside those of the table
+HELP = "help"
+
+
+def read():
+    with open(f"{FOLDER}/words.json", encoding="utf-8") as file:
+        return json.load(file)
+
+
+def entry(table, word):
+    """The table's entry of a word, or None."""
+    return next((it for it in table["words"] if it["word"] == word), None)
+
+
+def names(table):
+    return [it["word"] for it in table["words"]] + [HELP]
+
+
+def distance(one, other):
+    """How many letters are left out, put in, changed, or exchanged with the next one, to make one word of the other."""
+    rows = [list(range(len(other) + 1))]
+    for at, letter in enumerate(one, 1):
+        row = [at]
+        for to, wanted in enumerate(other, 1):
+            least = min(rows[-1][to] + 1, row[-1] + 1, rows[-1][to - 1] + (letter != wanted))
+            if at > 1 and to > 1 and letter == other[to - 2] and one[at - 2] == wanted:
+                least = min(least, rows[-2][to - 2] + 1)
+            row.append(least)
+        rows.append(row)
+    return rows[-1][-1]
+
+
+def nearest(word, known):
+    """The known word that is nearest: the one that begins so, or the one with the fewest letters to change."""
+    return min(known, key=lambda it: (not (word and it.startswith(word)), distance(word, it)))

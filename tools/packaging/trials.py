@@ -1,0 +1,66 @@
+"""What the packages are tried with: commands, and what was passed, failed or not tried."""
+import os
+import shutil
+import subprocess
+import sys
+
+# a user without rights
+NOBODY = 65534
+
+
+class Trials:
+    def __init__(self):
+        self.passed, self.failed, self.left = 0, 0, []
+
+    def check(self, what, holds, said=""):
+        """Counts a check. One that fails has a line, and what was said."""
+        self.passed, self.failed = self.passed + bool(holds), self.failed + (not holds)
+        if not holds:
+            print(f"package: FAILED: {what}\n{str(said)[-2000:]}", flush=True)
+        return bool(holds)
+
+    def not_tried(self, what, why):
+        self.left.append(what)
+        print(f"package: not tried: {what}: {why}", flush=True)
+
+    def has(self, what, *commands):
+        """Whether commands are there; if one isn't, what needs it isn't tried."""
+        missing = [it for it in commands if shutil.which(it) is None]
+        if missing:
+            self.not_tried(what, f"{missing[0]} isn't there")
+        return not missing
+
+    def told(self):
+        left = f"; not tried: {', '.join(self.left)}" if self.left else ""
+        print(f"package: {self.passed} passed, {self.failed} failed{left}")
+        return 1 if self.failed else 0
+
+
+class Ended:
+    """What a command came to."""
+
+    def __init__(self, words, folder=None, environment=None, user=None, data=None, seconds=1800):
+        def drop_rights():
+            os.setgroups([])
+            os.setgid(user)
+            os.setuid(user)
+
+        try:
+            ended = subprocess.run(words, cwd=folder, env=environment, stdin=None if data is not None else subprocess.DEVNULL, input=data, stdout=subprocess.PIPE,
+                                   stderr=subprocess.PIPE, timeout=seconds, preexec_fn=drop_rights if user is not None else None)
+            self.status, self.out, self.said = ended.returncode, ended.stdout.decode(errors="replace"), ended.stderr.decode(errors="replace")
+        except subprocess.TimeoutExpired:
+            self.status, self.out, self.said = -1, "", f"{words[0]} hadn't ended after {seconds} seconds"
+
+    def __str__(self):
+        return f"status {self.status}\n{self.out[-900:]}\n{self.said[-900:]}"
+
+
+def plain_environment(path, **more):
+    """The environment of a user: nothing but a path and what is stated."""
+    return {"PATH": path, "HOME": "/nonexistent", "LC_ALL": "C.UTF-8", **more}
+
+
+def python():
+    """Debian's own Python, for environments of its own, else the one that runs this."""
+    return "/usr/bin/python3" if os.access("/usr/bin/python3", os.X_OK) else sys.executable
