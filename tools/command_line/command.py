@@ -6,6 +6,7 @@ import sys
 from command_line import pages, place, table
 
 WRONG_WORDS = 1
+HELP_OPTIONS = ("--help", "-h")
 
 
 def run(path, words):
@@ -20,11 +21,8 @@ def run(path, words):
 
 
 def run_program(words):
-    path = place.program()
-    if path is None:
-        return WRONG_WORDS
-    path = path or f"{place.HOME}/tools/try"
-    return run(path, [path, *words])
+    path = place.runnable()
+    return WRONG_WORDS if path is None else run(path, [path, *words])
 
 
 def run_tool(word, words):
@@ -41,6 +39,10 @@ def show(text):
     return 0
 
 
+def list_of(known):
+    return pages.list_page(known, place.command(), place.examples(), place.about() is None, place.documents())
+
+
 def unknown(known, word):
     command, is_checkout = place.command(), place.about() is None
     options = [name for it in known["options"] if is_checkout or "only" not in it for name in it["names"]]
@@ -51,29 +53,27 @@ def unknown(known, word):
 
 def help_of(known, words):
     """The list, or the page of one word."""
-    if not words or words == [table.HELP]:
-        is_checkout = place.about() is None
-        return show(pages.list_page(known, place.command(), place.examples(), is_checkout, place.documents()))
+    if not words or words[0] in (table.HELP, *HELP_OPTIONS):
+        return show(list_of(known))
     entry = table.entry(known, words[0])
     return show(pages.word_page(entry, place.command(), place.examples())) if entry else unknown(known, words[0])
 
 
 def main(words):
-    if not words:
-        # the program answers its own usage line
-        print(f"broker: {place.command()} help lists all words", file=sys.stderr, flush=True)
-        return run_program(words)
-    word, rest = words[0], words[1:]
-    if words == ["--version"]:
-        return show("\n".join(place.version_lines()) + "\n")
-    if words == ["--prove"] and place.about() is None:
-        return run(f"{place.HOME}/tools/prove", [f"{place.HOME}/tools/prove"])
     known = table.read()
-    if words == ["--help"] or word == table.HELP:
+    if not words:
+        print(list_of(known), end="", file=sys.stderr)
+        return WRONG_WORDS
+    word, rest = words[0], words[1:]
+    if word == "--version":
+        return show("\n".join(place.version_lines()) + "\n")
+    if word == "--prove" and place.about() is None:
+        return run(f"{place.HOME}/tools/prove", [f"{place.HOME}/tools/prove"])
+    if word in (table.HELP, *HELP_OPTIONS):
         return help_of(known, rest)
     entry = table.entry(known, word)
     if entry is None:
         return unknown(known, word)
-    if rest == ["--help"]:
+    if rest and rest[0] in HELP_OPTIONS:
         return help_of(known, [word])
     return run_program(words) if entry["kind"] == "program" else run_tool(word, rest)

@@ -53,6 +53,12 @@ def program():
     return os.fsdecode(found.stdout).rstrip("\n") if found.returncode == 0 else "" if found.returncode == 1 else None
 
 
+def runnable():
+    """The path by which the program is run: that of the program, or of what makes a trial build for each run. None where neither can be had."""
+    path = program()
+    return None if path is None else path or f"{HOME}/tools/try"
+
+
 def said_by(*words):
     """What a command prints, or None where it fails or isn't there."""
     try:

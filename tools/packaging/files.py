@@ -68,16 +68,23 @@ def examples():
     return found
 
 
+def files_of(module):
+    """The files of a module of the tools, which is a file or a folder."""
+    if os.path.isfile(f"{TOP}/tools/{module}"):
+        return [module]
+    names = sorted(os.listdir(f"{TOP}/tools/{module}"))
+    return [f"{module}/{name}" for name in names if os.path.isfile(f"{TOP}/tools/{module}/{name}") and name not in OF_TESTS]
+
+
 def tools(python):
     """The command's files: those of the tools in the table, with their modules."""
     entries = [it for it in table.read()["words"] if it["kind"] == "tool"]
     found = {"broker": read(f"{TOP}/broker")}
     for word in (it["word"] for it in entries):
         found[f"tools/{word}"] = read(f"{TOP}/tools/{word}")
-    for folder in sorted({"command_line", *(name for it in entries for name in it["modules"])}):
-        for name in sorted(os.listdir(f"{TOP}/tools/{folder}")):
-            if os.path.isfile(f"{TOP}/tools/{folder}/{name}") and name not in OF_TESTS:
-                found[f"tools/{folder}/{name}"] = read(f"{TOP}/tools/{folder}/{name}")._replace(mode=0o644)
+    for module in sorted({"command_line", *(name for it in entries for name in it["modules"])}):
+        for name in files_of(module):
+            found[f"tools/{name}"] = read(f"{TOP}/tools/{name}")._replace(mode=0o644)
     first = b"#!/usr/bin/env python3\n"
     return {name: entry._replace(data=entry.data.replace(first, b"#!%s\n" % python.encode(), 1)) if entry.data.startswith(first) else entry
             for name, entry in found.items()}

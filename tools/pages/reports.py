@@ -80,10 +80,10 @@ class NotAReport(Exception):
         self.line, self.why = line, why
 
 
-def lines_of(data):
+def lines_of(data, most):
     """The lines of a text, each of which ends with a newline."""
-    if len(data) > LIMIT:
-        raise NotAReport(1, f"a report has at most {LIMIT} bytes, and this has {len(data)}")
+    if len(data) > most:
+        raise NotAReport(1, f"a report has at most {most} bytes, and this has {len(data)}")
     try:
         text = data.decode("ascii")
     except UnicodeDecodeError as fault:
@@ -174,9 +174,9 @@ def listed_audit(lines, at, events):
     return audit, end
 
 
-def read(data):
-    """The report that these bytes are; raises NotAReport where they are none."""
-    lines = lines_of(data)
+def read(data, most=LIMIT):
+    """The report that these bytes are, which are so many at most; raises NotAReport where they are none."""
+    lines = lines_of(data, most)
     events, at = part(lines, 0, "journal", event_of)
     calls, at = listed_calls(lines, at, events)
     audit, at = listed_audit(lines, at, events)

@@ -40,7 +40,8 @@ class Program:
 
     def __init__(self, path, broker):
         self.path = path
-        said = subprocess.run([path], stdin=subprocess.DEVNULL, capture_output=True).stderr.decode("utf-8", "replace").splitlines()
+        # (a word without its operands, which the program answers by its usage line)
+        said = subprocess.run([path, "play"], stdin=subprocess.DEVNULL, capture_output=True).stderr.decode("utf-8", "replace").splitlines()
         usage = [line for line in said if line.startswith("usage: ")]
         if not usage:
             raise OSError(f"{path} didn't say what words it takes: {' '.join(said)[:300]}")
