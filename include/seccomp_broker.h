@@ -31,6 +31,9 @@
 extern "C" {
 #endif
 
+/* The version of the library that this header belongs to. */
+#define BROKER_VERSION "0.9.0"
+
 /* How a call ended. 0 to 9 are the program's exit statuses. With each but BROKER_DONE and BROKER_SHORT_BUFFER, `line` has the one
  * line that the program would print on standard error; with these two it is empty. */
 enum broker_status {
