@@ -1,5 +1,6 @@
 -- The text of an instruction: a word, and numbers behind it.
-use Rattle.std.specs.Prelude.{ℕ, ℤ, pos, negsuc, ◌^◌, Bool, true, false, ◌==◌, nat_lt, not, if◌then◌else◌, List, [], ◌∷◌, length, map, slice_index_or, Option, Some, None, is_none, unwrap_or, Result, Ok, Err}
+use Rattle.std.specs.Prelude.{ℕ, ℤ, pos, negsuc, ◌^◌, Bool, true, false, ◌==◌, nat_lt, not, if◌then◌else◌, List, [], ◌∷◌, length, map}
+use Rattle.std.specs.Prelude.{slice_index_or, Option, Some, None, is_none, unwrap_or, Result, Ok, Err}
 use Rattle.std.specs.List.{list_any}
 use Rattle.hist_model.specs.declared.script.Insn.{Insn}
 use Rattle.hist_model.specs.Filters.{insn}

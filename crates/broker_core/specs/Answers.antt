@@ -9,7 +9,8 @@ use Rattle.hist_model.specs.declared.request.Request.{Request}
 use Rattle.sys_abi.specs.Errnos.{enoent, efault}
 use Rattle.sys_abi.specs.declared.wire.Notif.{Notif}
 use Rattle.broker_core.specs.declared.deed.Deed.{Deed}
-use Rattle.broker_core.specs.declared.deed.Deed.TheVariants.{Recv, OpenMem, OpenBase, Check, Read, Act, Plant, AddfdPut, AddfdTake, Send, LetGo}
+use Rattle.broker_core.specs.declared.deed.Deed.TheVariants.{Recv, OpenMem, OpenBase, Check, Read, Act, Plant}
+use Rattle.broker_core.specs.declared.deed.Deed.TheVariants.{AddfdPut, AddfdTake, Send, LetGo}
 use Rattle.broker_core.specs.declared.deed.Got.{Got}
 use Rattle.broker_core.specs.declared.deed.Got.TheVariants as got
 

@@ -16,4 +16,5 @@ request_as false rules i q = q
 
 -- the judgement of a request, with the request as it is granted where it was
 abbrev pub judgement_as : Bool → List Rule → Request → Judgement
-judgement_as g rules q = let d = decide rules q in record { request = request_as g rules d.0 q; rule = d.0; verdict = d.1; cap = cap_of rules d.0 }
+judgement_as g rules q =
+    let d = decide rules q in record { request = request_as g rules d.0 q; rule = d.0; verdict = d.1; cap = cap_of rules d.0 }

@@ -1,5 +1,6 @@
 -- What a worker remembers of its session, against the session's own steps.
-use Rattle.std.specs.Prelude.{◌≡◌, ℕ, Bool, true, false, List, [], reverse, Option, Some, None, Result, Ok, Err, ◌⊎◌, ⊤, if◌then◌else◌, ◌==◌}
+use Rattle.std.specs.Prelude.{◌≡◌, ℕ, Bool, true, false, List, [], reverse, Option, Some, None, Result, Ok, Err}
+use Rattle.std.specs.Prelude.{◌⊎◌, ⊤, if◌then◌else◌, ◌==◌}
 use Rattle.hist_model.specs.Kinds.{is_letgo, gives_up, opens, opens_base, checks, is_good_check}
 use Rattle.hist_model.specs.Sessions.{any_of, number_of, first_some, notif_of, reads_of, outcome_in, put_in, take_in}
 use Rattle.hist_model.specs.Copies.{Progress, Complete, Faulty, plan}
@@ -94,7 +95,8 @@ IsReady w = IsReadyIf w.capture w.session
 
 -- where an act is due its request is there, granted, for the event
 abbrev pub IsReadyToAct : Session → Type 0
-IsReadyToAct s = (j : Judgement) → s.stage ≡ Confirmed (Ok j) → j.verdict ≡ Grant → s.outcome ≡ None → (s.granted ≡ true) × (s.effect ≡ Some j.request)
+IsReadyToAct s =
+    (j : Judgement) → s.stage ≡ Confirmed (Ok j) → j.verdict ≡ Grant → s.outcome ≡ None → (s.granted ≡ true) × (s.effect ≡ Some j.request)
 
 -- ---- The request
 

@@ -64,7 +64,8 @@ heard _ = []
 -- leaves both as they are
 abbrev pub Advances : Deed → Answer → Captured → Captured → Session → Session → Type 0
 Advances (Read addr len) a old new s t =
-    (t ≡ s) × ((parts : List Part) (answers : List (Result (List ℕ) ℕ)) → Follows parts answers old → Follows parts (answers ++ heard a) new)
+    (t ≡ s)
+    × ((parts : List Part) (answers : List (Result (List ℕ) ℕ)) → Follows parts answers old → Follows parts (answers ++ heard a) new)
 Advances (Check id) a old new s t = (t ≡ record s { stage = checked a s.stage }) × (new ≡ old)
 Advances _ a old new s t = (t ≡ s) × (new ≡ old)
 

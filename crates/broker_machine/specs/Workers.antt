@@ -27,11 +27,13 @@ use Rattle.broker_machine.specs.declared.deeds.Outcome.TheVariants.{Waits}
 
 -- each worker remembers its session, and knows the container's figures
 abbrev pub AllRemember : Policy → Figures → List Event → List Worker → Type 0
-AllRemember P F K workers = (w : ℕ) (d : Worker) → w < length workers → Remembers P (session K w) (get_or workers w d) × ((get_or workers w d).figures ≡ F)
+AllRemember P F K workers =
+    (w : ℕ) (d : Worker) → w < length workers → Remembers P (session K w) (get_or workers w d) × ((get_or workers w d).figures ≡ F)
 
 -- each worker but this one does, and knows them
 abbrev pub OthersRemember : Policy → Figures → List Event → ℕ → List Worker → Type 0
-OthersRemember P F K n workers = (w : ℕ) (d : Worker) → w < length workers → (w ≡ n → ⊥) → Remembers P (session K w) (get_or workers w d) × ((get_or workers w d).figures ≡ F)
+OthersRemember P F K n workers = (w : ℕ) (d : Worker) → w < length workers → (w ≡ n → ⊥)
+    → Remembers P (session K w) (get_or workers w d) × ((get_or workers w d).figures ≡ F)
 
 -- the worker opens no second memory, plants into one that it has open, has no request when it puts one, and has the one that it takes
 abbrev pub Allows : List Event → ℕ → Deed → Type 0

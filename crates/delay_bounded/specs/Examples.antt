@@ -29,7 +29,8 @@ two_tasks = record {
   broker = [];
   map = record { start = 65536; pages = 16 } ∷ [];
   filters = record { insns = notify_filter (pos nr_getpid ∷ []); listener = true } ∷ [];
-  programs = (Call (pos nr_getpid) (0 ∷ 0 ∷ 0 ∷ 0 ∷ 0 ∷ 0 ∷ []) ∷ []) ∷ (Spawn 0 ∷ Call (pos nr_getpid) (0 ∷ 0 ∷ 0 ∷ 0 ∷ 0 ∷ 0 ∷ []) ∷ []) ∷ [];
+  programs =
+      (Call (pos nr_getpid) (0 ∷ 0 ∷ 0 ∷ 0 ∷ 0 ∷ 0 ∷ []) ∷ []) ∷ (Spawn 0 ∷ Call (pos nr_getpid) (0 ∷ 0 ∷ 0 ∷ 0 ∷ 0 ∷ 0 ∷ []) ∷ []) ∷ [];
   schedule = [];
 }
 
@@ -47,7 +48,8 @@ worker n = record { who = Worker 0; count = n }
 abbrev pub WithoutDelays : Type 0
 WithoutDelays = map schedule_of (explored passing two_tasks 0 0) ≡ (second 3 ∷ first 3 ∷ worker 12 ∷ second 1 ∷ first 2 ∷ []) ∷ []
 
--- with a delay: of the first task on its return, of the worker once the first answer was sent, of the second task before its call, and of the first before its own
+-- with a delay: of the first task on its return, of the worker once the first answer was sent, of the second task before its call,
+-- and of the first before its own
 abbrev pub WithOneDelay : Type 0
 WithOneDelay = map schedule_of (explored passing two_tasks 0 1) ≡
     (second 3 ∷ first 3 ∷ worker 12 ∷ second 1 ∷ first 2 ∷ [])

@@ -12,7 +12,8 @@ pub record Walk : Type 0 where
   pub left : ℕ
   pub events : List Event
 
--- what comes after the turns of these places, with d delays at most: the first has its turn without a delay, each other one after one delay more
+-- what comes after the turns of these places, with d delays at most: the first has its turn without a delay,
+-- each other one after one delay more
 abbrev pub by_delays : (ℕ → ℕ → List Walk) → List ℕ → ℕ → List Walk
 by_delays f [] d = []
 by_delays f (p ∷ more) zero = f p zero
@@ -26,7 +27,8 @@ or_over (p ∷ more) over walks = walks
 -- how K goes on with d delays at most, where the actor at place p stepped last; it is cut off after n more steps
 unfoldable pub walks : Policy → Script → ℕ → ℕ → List Event → ℕ → ℕ → List Walk
 walks P S W zero K p d = record { left = d; events = K } ∷ []
-walks P S W (suc n) K p d = or_over (able P S W K p) (record { left = d; events = K }) (by_delays (λ q r. walks P S W n (with_turn P S K q) q r) (able P S W K p) d)
+walks P S W (suc n) K p d =
+    or_over (able P S W K p) (record { left = d; events = K }) (by_delays (λ q r. walks P S W n (with_turn P S K q) q r) (able P S W K p) d)
 
 -- more events than a machine can count
 abbrev pub most_events : ℕ

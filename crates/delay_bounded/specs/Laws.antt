@@ -1,5 +1,6 @@
 -- What the explored histories are, whichever they are.
-use Rattle.std.specs.Prelude.{◌≡◌, ℕ, zero, suc, ◌+◌, ◌<◌, ◌≤◌, ◌^◌, true, false, ◌||◌, List, [], ◌∷◌, ◌++◌, length, reverse, All, Contains, None, Err}
+use Rattle.std.specs.Prelude.{◌≡◌, ℕ, zero, suc, ◌+◌, ◌<◌, ◌≤◌, ◌^◌, true, false, ◌||◌, List, [], ◌∷◌, ◌++◌, length, reverse}
+use Rattle.std.specs.Prelude.{All, Contains, None, Err}
 use Rattle.sys_abi.specs.Errnos.{enoent}
 use Rattle.hist_model.specs.Calls.{count}
 use Rattle.hist_model.specs.Legal.{Finished, Legal, NoSkip, NoWorkerAbove, rules_of, started, system_of, with_schedule, with_step}
@@ -50,14 +51,16 @@ abbrev pub StepsAsLowest : List Event → Type 0
 StepsAsLowest [] = Unit {0}
 StepsAsLowest (e ∷ K) = IsLowest K e.who × StepsAsLowest K
 
--- the history is legal and goes on, none of its events is a Skip, none is a step of a worker above the limit, and of the idle workers the lowest steps
+-- the history is legal and goes on, none of its events is a Skip, none is a step of a worker above the limit,
+-- and of the idle workers the lowest steps
 pub record IsWalked (P : Policy) (S : Script) (W : ℕ) (K : List Event) : Type 0 where
   pub goes_on : GoesOn P S K
   pub no_skip : NoSkip K
   pub within : NoWorkerAbove W K
   pub lowest : StepsAsLowest K
 
--- the history, if it can be counted, is legal and mediated; none of its events is a Skip, and none is a step of a worker above the limit; its schedule plays it
+-- the history, if it can be counted, is legal and mediated; none of its events is a Skip, and none is a step of a worker
+-- above the limit; its schedule plays it
 pub record IsExplored (P : Policy) (S : Script) (W : ℕ) (H : List Event) : Type 0 where
   pub legal : length H < 2 ^ 64 → Legal P S H
   pub mediated : length H < 2 ^ 64 → Mediated P S H
@@ -73,7 +76,8 @@ AreLegal = (P : Policy) (S : Script) (W d : ℕ) → W ≤ 16 → All (IsExplore
 abbrev pub IsTurnByTurn : Policy → Script → ℕ → List Event → Type 0
 IsTurnByTurn P S W [] = ⊥
 IsTurnByTurn P S W (e ∷ []) = e ∷ [] ≡ started S
-IsTurnByTurn P S W (e ∷ f ∷ K) = (q : ℕ) × (q < places W (f ∷ K)) × (is_able P S (f ∷ K) (at_place (f ∷ K) q) ≡ true) × (e ∷ f ∷ K ≡ with_turn P S (f ∷ K) q) × IsTurnByTurn P S W (f ∷ K)
+IsTurnByTurn P S W (e ∷ f ∷ K) = (q : ℕ) × (q < places W (f ∷ K)) × (is_able P S (f ∷ K) (at_place (f ∷ K) q) ≡ true)
+    × (e ∷ f ∷ K ≡ with_turn P S (f ∷ K) q) × IsTurnByTurn P S W (f ∷ K)
 
 -- nobody is able to step
 abbrev pub IsOver : Policy → Script → ℕ → List Event → Type 0
@@ -89,7 +93,8 @@ NamesHaveForm = (P : Policy) (S : Script) (K : List Event) → IsScript S → Is
 
 -- nobody can be stuck: where nobody is able to step after such a history of a script, it is finished
 abbrev pub EndsFinished : Type 0
-EndsFinished = (P : Policy) (S : Script) (W : ℕ) (K : List Event) → IsScript S → length K < 2 ^ 64 → IsWalked P S W K → IsOver P S W K → Finished K
+EndsFinished =
+    (P : Policy) (S : Script) (W : ℕ) (K : List Event) → IsScript S → length K < 2 ^ 64 → IsWalked P S W K → IsOver P S W K → Finished K
 
 -- the history was finished when the listener was closed at its end
 abbrev pub ClosesFinished : List Event → Type 0
@@ -101,7 +106,8 @@ AreFinished = (P : Policy) (S : Script) (W d : ℕ) → IsScript S → W ≤ 16 
 
 -- without a bound, each such history is explored at whose end nobody is able to step; the listener is closed there
 abbrev pub IsComplete : Type 0
-IsComplete = (P : Policy) (S : Script) (W : ℕ) (K : List Event) → W ≤ 16 → length K < 2 ^ 64 → IsWalked P S W K → IsOver P S W K → Contains (explored P S W (bound_of None)) (with_step P S Listener K)
+IsComplete = (P : Policy) (S : Script) (W : ℕ) (K : List Event) → W ≤ 16 → length K < 2 ^ 64 → IsWalked P S W K → IsOver P S W K
+    → Contains (explored P S W (bound_of None)) (with_step P S Listener K)
 
 -- one worker alone is always the lowest
 abbrev pub OneIsLowest : Type 0
@@ -114,12 +120,14 @@ unfoldable pub with_empty_receives : ℕ → List Event → List Event
 with_empty_receives zero K = K
 with_empty_receives (suc n) K = with_empty_receives n (ev (Worker 0) (Recv (Err enoent)) ∷ K)
 
--- the finished history, with as many receives that find nothing as there were more notified calls than receives; then nobody is able to step
+-- the finished history, with as many receives that find nothing as there were more notified calls than receives;
+-- then nobody is able to step
 abbrev pub GoesOver : Type 0
 GoesOver = (P : Policy) (S : Script) (W : ℕ) (K : List Event) → IsWalked P S W K → Finished K
     → IsWalked P S W (with_empty_receives (count K) K) × IsOver P S W (with_empty_receives (count K) K)
 
 -- without a bound, each such history that is finished is explored, with those receives behind it
 abbrev pub IsCompleteOfFinished : Type 0
-IsCompleteOfFinished = (P : Policy) (S : Script) (W : ℕ) (K : List Event) → W ≤ 16 → length K + count K < 2 ^ 64 → IsWalked P S W K → Finished K
+IsCompleteOfFinished =
+    (P : Policy) (S : Script) (W : ℕ) (K : List Event) → W ≤ 16 → length K + count K < 2 ^ 64 → IsWalked P S W K → Finished K
     → Contains (explored P S W (bound_of None)) (with_step P S Listener (with_empty_receives (count K) K))

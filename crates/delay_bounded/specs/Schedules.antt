@@ -15,7 +15,8 @@ is_same _ _ = false
 -- a schedule's lines, the newest first, with one more step of an actor
 abbrev pub with_one : Actor → List Step → List Step
 with_one a [] = record { who = a; count = 1 } ∷ []
-with_one a (s ∷ more) = if is_same s.who a then record { who = s.who; count = s.count + 1 } ∷ more else record { who = a; count = 1 } ∷ s ∷ more
+with_one a (s ∷ more) =
+    if is_same s.who a then record { who = s.who; count = s.count + 1 } ∷ more else record { who = a; count = 1 } ∷ s ∷ more
 
 -- tasks and workers are scheduled
 abbrev pub with_step_of : Actor → List Step → List Step

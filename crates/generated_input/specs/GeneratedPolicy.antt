@@ -1,5 +1,5 @@
 -- The policy of generated input: mknod and sysinfo are intercepted, and one rule of its own stands before.
-use Rattle.std.specs.Prelude.{ℕ, true, false, List, [], ◌∷◌, codes, pos}
+use Rattle.std.specs.Prelude.{ℕ, true, false, List, [], ◌∷◌, ◌++◌, codes, pos}
 use Rattle.hist_model.specs.Decisions.{Switches, all_rules, plain_rule}
 use Rattle.hist_model.specs.Records.{PolicyRecord}
 use Rattle.hist_model.specs.declared.policy.Calls.TheVariants.{Named}
@@ -12,11 +12,14 @@ use Rattle.sys_abi.specs.Errnos.{eperm}
 
 -- as a file has it
 abbrev pub policy_text : List ℕ
-policy_text = codes "{\"config\":{\"security.syscalls.intercept.mknod\":\"true\",\"security.syscalls.intercept.sysinfo\":\"true\"},\"rules\":[{\"name\":\"no-mem\",\"call\":\"mknod\",\"when\":{\"dev\":\"1:1\"},\"then\":{\"deny\":\"EPERM\"}}]}"
+policy_text =
+    codes "{\"config\":{\"security.syscalls.intercept.mknod\":\"true\",\"security.syscalls.intercept.sysinfo\":\"true\"},"
+    ++ codes "\"rules\":[{\"name\":\"no-mem\",\"call\":\"mknod\",\"when\":{\"dev\":\"1:1\"},\"then\":{\"deny\":\"EPERM\"}}]}"
 
 -- the rules of mknod and sysinfo are made
 abbrev pub generated_switches : Switches
-generated_switches = record { profile = Plain; mknod = true; mount = false; shift = false; setxattr = false; sysinfo = true; fuse = []; allowed = [] }
+generated_switches =
+    record { profile = Plain; mknod = true; mount = false; shift = false; setxattr = false; sysinfo = true; fuse = []; allowed = [] }
 
 -- the rule that denies mknod of 1:1, the memory (mem(4))
 abbrev pub memory_rule : Rule

@@ -5,7 +5,8 @@ use Rattle.std.specs.Prelude.{ℤ, pos, negsuc, codes, replicate, map}
 use Rattle.std.specs.Fmt.{digits}
 use Rattle.sys_abi.specs.Wire.{sysinfo_bytes}
 use Rattle.hist_model.specs.Requests.{request, base_dirfd, kind_of, major_of, minor_of, granted}
-use Rattle.hist_model.specs.Decisions.{Switches, fits, decide, decide_from, rule_name, cap_of, lies_under, lxd_mknod_rules, default_rules, all_rules, plain_rule}
+use Rattle.hist_model.specs.Decisions.{Switches, fits, decide, decide_from, rule_name, cap_of, lies_under, lxd_mknod_rules, lxd_mount_rules, default_rules, all_rules, plain_rule}
+use Rattle.hist_model.specs.ReportWords.{program_text}
 use Rattle.hist_model.specs.Sysinfo.{container_sysinfo, host_sysinfo}
 use Rattle.hist_model.specs.declared.policy.Calls.TheVariants.{Named}
 use Rattle.hist_model.specs.declared.policy.Cond.TheVariants.{Dev}
@@ -136,23 +137,24 @@ deny_memory = plain_rule (codes "no-mem") (Named (pos 133 ∷ [])) (Dev 1 1 ∷ 
 boot_policy : List Rule
 boot_policy = all_rules (deny_memory ∷ []) boot
 
+mount : List ℕ → ℕ → Request
+mount fstype flags = Mount (codes "/dev/sda1") (codes "/mnt") fstype [] [] flags false
+
 ext4 : ℕ → Request
-ext4 flags = Mount (codes "/dev/sda1") (codes "/mnt") (codes "ext4") [] [] flags false
+ext4 flags = mount (codes "ext4") flags
 
 boot_decides : map (decide boot_policy) (mknod 8630 257 ∷ mknod 8630 259 ∷ ext4 0 ∷ ext4 4096 ∷ SetXattr (codes "/d") (codes "trusted.overlay.opaque") [] 0 ∷ SetXattr (codes "/d") (codes "user.a") [] 0 ∷ Sysinfo 0 ∷ [])
     ≡ (0, Deny 1) ∷ (4, Grant) ∷ (9, Grant) ∷ (18, Pass) ∷ (12, Grant) ∷ (19, Pass) ∷ (13, Grant) ∷ []
-unfolding decide decide_from fits boot boot_policy deny_memory mknod ext4
+unfolding decide decide_from fits boot boot_policy deny_memory mknod mount ext4
 boot_decides = refl
 
 boot_names : map (rule_name boot_policy) (0 ∷ 9 ∷ 10 ∷ 11 ∷ 12 ∷ 13 ∷ []) ≡ codes "no-mem" ∷ codes "lxd.mount.fuse.ext4" ∷ codes "lxd.mount.ext4" ∷ codes "lxd.mount.xfs" ∷ codes "lxd.setxattr.opaque" ∷ codes "lxd.sysinfo" ∷ []
 unfolding boot boot_policy deny_memory
 boot_names = refl
 
--- LXD grants no node from the directory of a descriptor, and none whose device number has a bit above the 32nd; the flag PRIVATE
--- mounts nothing, and the value n isn't the mark; the magic number of old programs is no flag
-private : Request
-private = ext4 262144
-
+-- LXD grants no node from the directory of a descriptor, and none whose device number has a bit above the 32nd; with the flag
+-- PRIVATE the kernel mounts nothing, and the value n isn't the mark; a program mounts with each flag, and the magic number of old
+-- programs is no flag
 opaque : List ℕ → Request
 opaque value = SetXattr (codes "/d") (codes "trusted.overlay.opaque") value 0
 
@@ -160,21 +162,57 @@ null_from : ℤ → Request
 null_from fd = Mknod (Some fd) (codes "/d") 8630 259
 
 differing : List Request
-differing = null_from (pos 3) ∷ mknod 8630 4294967555 ∷ private ∷ opaque (codes "n") ∷ []
+differing = null_from (pos 3) ∷ mknod 8630 4294967555 ∷ mount (codes "xfs") 262144 ∷ opaque (codes "n") ∷ []
 
 alike : List Request
-alike = null_from (negsuc 99) ∷ mknod 8630 259 ∷ ext4 1 ∷ ext4 3236757505 ∷ opaque (codes "y") ∷ Sysinfo 0 ∷ []
+alike = null_from (negsuc 99) ∷ mknod 8630 259 ∷ ext4 262144 ∷ ext4 3236757505 ∷ opaque (codes "y") ∷ Sysinfo 0 ∷ []
 
-boot_grants : map (decide boot_policy) (differing ++ alike) ≡ (4, Grant) ∷ (4, Grant) ∷ (9, Grant) ∷ (12, Grant) ∷ (4, Grant) ∷ (4, Grant) ∷ (9, Grant) ∷ (9, Grant) ∷ (12, Grant) ∷ (13, Grant) ∷ []
-unfolding decide decide_from fits boot boot_policy deny_memory mknod ext4 private opaque null_from differing alike
+boot_grants : map (decide boot_policy) (differing ++ alike) ≡ (4, Grant) ∷ (4, Grant) ∷ (11, Grant) ∷ (12, Grant) ∷ (4, Grant) ∷ (4, Grant) ∷ (9, Grant) ∷ (9, Grant) ∷ (12, Grant) ∷ (13, Grant) ∷ []
+unfolding decide decide_from fits boot boot_policy deny_memory mknod mount ext4 opaque null_from differing alike
 boot_grants = refl
 
 lxd_policy : List Rule
 lxd_policy = all_rules (deny_memory ∷ []) (record boot { profile = Lxd })
 
-lxd_grants : map (decide lxd_policy) (differing ++ alike) ≡ (21, Pass) ∷ (17, Pass) ∷ (18, Pass) ∷ (19, Pass) ∷ (4, Grant) ∷ (4, Grant) ∷ (9, Grant) ∷ (9, Grant) ∷ (12, Grant) ∷ (13, Grant) ∷ []
-unfolding decide decide_from fits boot lxd_policy deny_memory mknod ext4 private opaque null_from differing alike
+lxd_grants : map (decide lxd_policy) (differing ++ alike) ≡ (15, Pass) ∷ (14, Pass) ∷ (20, Pass) ∷ (24, Pass) ∷ (4, Grant) ∷ (4, Grant) ∷ (9, Grant) ∷ (9, Grant) ∷ (12, Grant) ∷ (13, Grant) ∷ []
+unfolding decide decide_from fits boot lxd_policy deny_memory mknod mount ext4 opaque null_from differing alike
 lxd_grants = refl
+
+-- what LXD passes has a reason's name; other calls have their defaults
+reason_of : Request → List ℕ
+reason_of q = rule_name lxd_policy (decide lxd_policy q).0
+
+device_reasons : map reason_of (mknod 8630 267 ∷ mknod 25014 259 ∷ mknod 4534 0 ∷ null_from (pos 3) ∷ Mknod (Some (negsuc 99)) (codes "/d") 8630 267 ∷ [])
+    ≡ codes "lxd.mknod.not-a-known-device" ∷ codes "lxd.mknod.not-a-known-device" ∷ codes "lxd.mknod.not-a-known-device" ∷ codes "lxd.mknodat.directory-descriptor" ∷ codes "lxd.mknod.not-a-known-device" ∷ []
+unfolding decide decide_from fits boot lxd_policy deny_memory mknod null_from reason_of
+device_reasons = refl
+
+mount_reasons : map reason_of (ext4 32 ∷ ext4 4096 ∷ ext4 8192 ∷ mount (codes "xfs") 131072 ∷ mount (codes "xfs") 262144 ∷ mount (codes "xfs") 524288 ∷ mount (codes "xfs") 1048576 ∷ mount (codes "btrfs") 0 ∷ mount [] 4096 ∷ [])
+    ≡ codes "lxd.mount.remount" ∷ codes "lxd.mount.bind" ∷ codes "lxd.mount.move" ∷ codes "lxd.mount.propagation" ∷ codes "lxd.mount.propagation" ∷ codes "lxd.mount.propagation" ∷ codes "lxd.mount.propagation" ∷ codes "lxd.mount.type" ∷ codes "lxd.mount.bind" ∷ []
+unfolding decide decide_from fits boot lxd_policy deny_memory mount ext4 reason_of
+mount_reasons = refl
+
+other_reasons : map reason_of (opaque (codes "n") ∷ SetXattr (codes "/d") (codes "user.a") [] 0 ∷ OpenAt (negsuc 99) (codes "/d") 0 ∷ Other (pos 60) ∷ [])
+    ≡ codes "lxd.setxattr.value" ∷ codes "lxd.setxattr.name" ∷ codes "default.openat" ∷ codes "default.other" ∷ []
+unfolding decide decide_from fits boot lxd_policy deny_memory opaque reason_of
+other_reasons = refl
+
+-- types as they stand, in names of rules as reports write them: a program mounts any of them, and the kernel those that are names;
+-- what the empty program serves is the kernel's
+odd : Switches
+odd = record boot { profile = Lxd; fuse = (codes "tmpfs ", codes "P") ∷ ([], codes "p") ∷ (codes "NTFS", []) ∷ (codes "tmpfs", []) ∷ []; allowed = codes "EXT4" ∷ codes "xfs" ∷ [] }
+
+odd_names : map (λ (rule : Rule). rule.name) (lxd_mount_rules odd) ≡ codes "lxd.mount.fuse.tmpfs\\x20" ∷ codes "lxd.mount.fuse." ∷ codes "lxd.mount.tmpfs" ∷ codes "lxd.mount.xfs" ∷ []
+unfolding boot odd
+odd_names = refl
+
+odd_programs : map (λ (rule : Rule). rule.via) (lxd_mount_rules odd) ≡ codes "P" ∷ codes "p" ∷ [] ∷ [] ∷ []
+unfolding boot odd
+odd_programs = refl
+
+programs : map program_text ([] ∷ codes "-" ∷ codes "fuse-2.fs" ∷ codes "/bin/P" ∷ (97 ∷ 10 ∷ 255 ∷ []) ∷ [])
+    ≡ codes "-" ∷ codes "\\x2d" ∷ codes "fuse-2.fs" ∷ codes "\\x2fbin\\x2f\\x50" ∷ codes "a\\x0a\\xff" ∷ []
+programs = refl
 
 once : Rule
 once = record { name = codes "one"; calls = Named (pos 133 ∷ []); conds = Dev 1 3 ∷ []; verdict = Grant; via = codes "fuse2fs"; shift = true; times = Some 1 }
@@ -184,7 +222,7 @@ unfolding deny_memory once
 caps = refl
 
 grants_by_program : granted once (ext4 1) ≡ Mount (codes "/dev/sda1") (codes "/mnt") (codes "ext4") [] (codes "fuse2fs") 1 true
-unfolding once ext4
+unfolding once mount ext4
 grants_by_program = refl
 
 grants_as_asked : granted once (mknod 8630 259) ≡ mknod 8630 259

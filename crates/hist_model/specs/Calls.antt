@@ -1,5 +1,6 @@
 -- States of calls, their ids and the request count (seccomp_unotify(2)).
-use Rattle.std.specs.Prelude.{ℕ, ◌+◌, ◌-◌, Bool, false, ◌&&◌, ◌||◌, not, if◌then◌else◌, ◌==◌, List, [], ◌∷◌, length, Option, Some, None, Ok, ◌++◌}
+use Rattle.std.specs.Prelude.{ℕ, ◌+◌, ◌-◌, Bool, false, ◌&&◌, ◌||◌, not, if◌then◌else◌, ◌==◌, List, [], ◌∷◌, length, Option}
+use Rattle.std.specs.Prelude.{Some, None, Ok, ◌++◌}
 use Rattle.hist_model.specs.Kinds.{notifies, leaves, closes, is_install, gave, has_send, receives}
 use Rattle.hist_model.specs.Look.{Name, is_task, task_name, event_at, oldest, is_place}
 use Rattle.hist_model.specs.declared.event.Event.{Event}

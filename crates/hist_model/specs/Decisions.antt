@@ -1,15 +1,19 @@
 -- Which rule of a policy decides a request, and the rules that the interception switches make
 -- (seccomp_unotify(2); LXD's "System call interception"). Conditions see the copied arguments alone, and follow no links.
-use Rattle.std.specs.Prelude.{ℕ, ◌+◌, ◌%◌, Bool, true, false, ◌&&◌, not, if◌then◌else◌, ◌==◌, List, [], ◌∷◌, ◌++◌, map, Option, Some, None, option_map, slice_get, ℤ, pos, negsuc, bit_and, bytes_eq, nat_eq, nat_lt, codes, decimal}
+use Rattle.std.specs.Prelude.{ℕ, ◌+◌, ◌%◌, Bool, true, false, ◌&&◌, not, if◌then◌else◌, ◌==◌, List, [], ◌∷◌, ◌++◌, map, Option, Some, None}
+use Rattle.std.specs.Prelude.{option_map, slice_get, ℤ, pos, negsuc, bit_and, bytes_eq, nat_eq, nat_lt, codes, decimal}
 use Rattle.std.specs.Ordering.{int_eq}
-use Rattle.std.specs.List.{list_any, list_all, slice_split, starts_with}
+use Rattle.std.specs.List.{flat_map, list_any, list_all, slice_split, starts_with}
 use Rattle.hist_model.specs.Paths.{is_dot_dot}
+use Rattle.hist_model.specs.ReportWords.{escaped}
 use Rattle.hist_model.specs.Requests.{call_of_request, granted, kind_of, low_32, major_of, minor_of}
+use Rattle.hist_model.specs.ShortNames.{is_short_name}
 use Rattle.hist_model.specs.declared.policy.Calls.{Calls}
 use Rattle.hist_model.specs.declared.policy.Calls.TheVariants.{Named, Other as OtherCalls}
 use Rattle.hist_model.specs.declared.policy.Cap.{Cap}
 use Rattle.hist_model.specs.declared.policy.Cond.{Cond}
-use Rattle.hist_model.specs.declared.policy.Cond.TheVariants.{Path, Under, Kind as OfKind, Dev, Fstype, Source, Name, Value, Dirfd, Flags, ShortDevice, PlainFlags}
+use Rattle.hist_model.specs.declared.policy.Cond.TheVariants.{Path, Under, Kind as OfKind, Dev, Fstype, Source, Name, Value}
+use Rattle.hist_model.specs.declared.policy.Cond.TheVariants.{Dirfd, Flags, ShortDevice, PlainFlags}
 use Rattle.hist_model.specs.declared.policy.Flag.{Flag}
 use Rattle.hist_model.specs.declared.policy.Flag.TheVariants as flag
 use Rattle.hist_model.specs.declared.policy.Profile.{Profile}
@@ -71,7 +75,8 @@ is_device _ = false
 
 -- the device that is asked for, character or block, has these numbers in the 32 bits of its argument that mknod takes
 abbrev pub asks_device : Request → ℕ → ℕ → Bool
-asks_device (Mknod dirfd path mode dev) major minor = is_device (kind_of mode) && ((major_of (low_32 dev) == major) && (minor_of (low_32 dev) == minor))
+asks_device (Mknod dirfd path mode dev) major minor =
+    is_device (kind_of mode) && ((major_of (low_32 dev) == major) && (minor_of (low_32 dev) == minor))
 asks_device _ major minor = false
 
 -- the type of file system of a mount, and its source
@@ -129,7 +134,8 @@ has_short_device _ = true
 
 -- the request isn't a mount that remounts (32), binds (4096) or moves (8192)
 abbrev pub has_plain_flags : Request → Bool
-has_plain_flags (Mount source target fstype options via flags shift) = (bit_and flags 32 == 0) && ((bit_and flags 4096 == 0) && (bit_and flags 8192 == 0))
+has_plain_flags (Mount source target fstype options via flags shift) =
+    (bit_and flags 32 == 0) && ((bit_and flags 4096 == 0) && (bit_and flags 8192 == 0))
 has_plain_flags _ = true
 
 -- the request meets the condition
@@ -151,7 +157,8 @@ meets PlainFlags q = has_plain_flags q
 
 -- the calls that have names: close, getpid, sysinfo, mknod, mount, setxattr, openat and mknodat
 abbrev pub named_calls : List ℤ
-named_calls = pos nr_close ∷ pos nr_getpid ∷ pos nr_sysinfo ∷ pos nr_mknod ∷ pos nr_mount ∷ pos nr_setxattr ∷ pos nr_openat ∷ pos nr_mknodat ∷ []
+named_calls =
+    pos nr_close ∷ pos nr_getpid ∷ pos nr_sysinfo ∷ pos nr_mknod ∷ pos nr_mount ∷ pos nr_setxattr ∷ pos nr_openat ∷ pos nr_mknodat ∷ []
 
 -- the number is in the list
 abbrev pub is_among : List ℤ → ℤ → Bool
@@ -204,16 +211,17 @@ granted_by rules i q = granted_where (slice_get rules i) q
 
 -- a rule without a program, a shift or a limit
 abbrev pub plain_rule : List ℕ → Calls → List Cond → Verdict → Rule
-plain_rule name calls conds verdict = record { name = name; calls = calls; conds = conds; verdict = verdict; via = []; shift = false; times = None }
+plain_rule name calls conds verdict =
+    record { name = name; calls = calls; conds = conds; verdict = verdict; via = []; shift = false; times = None }
 
 -- the devices that a container may make: each is harmless to the host, and 0:0 is the whiteout of an overlay
 abbrev pub safe_devices : List (ℕ × ℕ)
 safe_devices = (0, 0) ∷ (5, 1) ∷ (1, 7) ∷ (1, 3) ∷ (1, 8) ∷ (5, 0) ∷ (1, 9) ∷ (1, 5) ∷ []
 
--- the conditions that a rule has under LXD's profile alone
-abbrev pub in_profile : Profile → List Cond → List Cond
-in_profile Plain conds = []
-in_profile Lxd conds = conds
+-- what stands under LXD's profile alone
+abbrev pub in_profile : {A : Type 0} → Profile → List A → List A
+in_profile Plain xs = []
+in_profile Lxd xs = xs
 
 -- the conditions of one of them, a character device; LXD grants none from the directory of a descriptor, and reads 64 bits of
 -- the device number
@@ -222,7 +230,8 @@ device_conditions profile major minor = OfKind Chr ∷ Dev major minor ∷ in_pr
 
 -- the rule that grants one of them, named lxd.mknod.MAJOR:MINOR
 abbrev pub lxd_mknod_rule : Profile → ℕ × ℕ → Rule
-lxd_mknod_rule profile (major, minor) = plain_rule (codes "lxd.mknod." ++ decimal major ++ codes ":" ++ decimal minor) (Named (pos nr_mknod ∷ pos nr_mknodat ∷ [])) (device_conditions profile major minor) Grant
+lxd_mknod_rule profile (major, minor) = plain_rule (codes "lxd.mknod." ++ decimal major ++ codes ":" ++ decimal minor)
+    (Named (pos nr_mknod ∷ pos nr_mknodat ∷ [])) (device_conditions profile major minor) Grant
 
 abbrev pub lxd_mknod_rules : Profile → List Rule
 lxd_mknod_rules profile = map (λ p. lxd_mknod_rule profile p) safe_devices
@@ -231,17 +240,42 @@ lxd_mknod_rules profile = map (λ p. lxd_mknod_rule profile p) safe_devices
 abbrev pub propagation_flags : List Flag
 propagation_flags = flag.Mount 131072 ∷ flag.Mount 262144 ∷ flag.Mount 524288 ∷ flag.Mount 1048576 ∷ []
 
--- the conditions of a mount of one type of file system; with those flags LXD mounts nothing
+-- the conditions of a mount of one type of file system by a program, which LXD runs whatever flags of propagation there are
+abbrev pub fuse_conditions : List ℕ → List Cond
+fuse_conditions fstype = Fstype fstype ∷ PlainFlags ∷ []
+
+-- those of a mount by the kernel: with these flags it mounts nothing, and LXD hands them on
 abbrev pub mount_conditions : Profile → List ℕ → List Cond
 mount_conditions profile fstype = Fstype fstype ∷ PlainFlags ∷ in_profile profile (Flags [] propagation_flags ∷ [])
 
--- the rule that grants a mount of one type of file system by a program, named lxd.mount.fuse.TYPE
-abbrev pub lxd_fuse_rule : Profile → Bool → List ℕ × List ℕ → Rule
-lxd_fuse_rule profile shift (fstype, program) = record { name = codes "lxd.mount.fuse." ++ fstype; calls = Named (pos nr_mount ∷ []); conds = mount_conditions profile fstype; verdict = Grant; via = program; shift = shift; times = None }
+-- a grant of mounts of one type of file system, whose name has a front and the type as reports write it
+abbrev pub mount_rule : List ℕ → List ℕ → List Cond → List ℕ → Bool → Rule
+mount_rule front fstype conds program shift = record {
+  name = front ++ escaped fstype;
+  calls = Named (pos nr_mount ∷ []);
+  conds = conds;
+  verdict = Grant;
+  via = program;
+  shift = shift;
+  times = None;
+}
 
--- the rule that grants a mount of one type of file system, named lxd.mount.TYPE
+-- the rule that grants a mount of one type of file system by a program, named lxd.mount.fuse.TYPE
+abbrev pub lxd_fuse_rule : Bool → List ℕ → List ℕ → Rule
+lxd_fuse_rule shift fstype program = mount_rule (codes "lxd.mount.fuse.") fstype (fuse_conditions fstype) program shift
+
+-- the rule that grants a mount of one type of file system by the kernel, named lxd.mount.TYPE
 abbrev pub lxd_mount_rule : Profile → Bool → List ℕ → Rule
-lxd_mount_rule profile shift fstype = record { name = codes "lxd.mount." ++ fstype; calls = Named (pos nr_mount ∷ []); conds = mount_conditions profile fstype; verdict = Grant; via = []; shift = shift; times = None }
+lxd_mount_rule profile shift fstype = mount_rule (codes "lxd.mount.") fstype (mount_conditions profile fstype) [] shift
+
+-- the rules of a type that the kernel mounts: a text that is no name is the type of no file system, and makes none
+abbrev pub type_rules : Profile → Bool → List ℕ → List Rule
+type_rules profile shift fstype = if is_short_name fstype then lxd_mount_rule profile shift fstype ∷ [] else []
+
+-- the rules of a type with a program: with an empty one the kernel mounts it, as if the type stood in the other list
+abbrev pub pair_rules : Profile → Bool → List ℕ × List ℕ → List Rule
+pair_rules profile shift (fstype, []) = type_rules profile shift fstype
+pair_rules profile shift (fstype, b ∷ program) = lxd_fuse_rule shift fstype (b ∷ program) ∷ []
 
 -- the conditions of the mark of an opaque directory of an overlay; LXD sets it to the value y alone
 abbrev pub opaque_conditions : Profile → List Cond
@@ -255,7 +289,8 @@ lxd_setxattr_rule profile = plain_rule (codes "lxd.setxattr.opaque") (Named (pos
 abbrev pub lxd_sysinfo_rule : Rule
 lxd_sysinfo_rule = plain_rule (codes "lxd.sysinfo") (Named (pos nr_sysinfo ∷ [])) [] Grant
 
--- by whose rules the keys are read, the switches, and the two lists of file systems, of which the first has a program with each
+-- by whose rules the keys are read, the switches, and the two lists of types of file systems, of which the first has a program with
+-- each. Under LXD's profile types and programs are texts of any bytes, and a program may be empty
 pub record Switches : Type 0 where
   pub profile : Profile
   pub mknod : Bool
@@ -272,11 +307,51 @@ where_on true rules = rules
 where_on false rules = []
 
 abbrev pub lxd_mount_rules : Switches → List Rule
-lxd_mount_rules s = map (λ p. lxd_fuse_rule s.profile s.shift p) s.fuse ++ map (λ t. lxd_mount_rule s.profile s.shift t) s.allowed
+lxd_mount_rules s = flat_map (pair_rules s.profile s.shift) s.fuse ++ flat_map (type_rules s.profile s.shift) s.allowed
 
--- the rules that the switches make, in the order in which they are tried
+-- the rules by which the switches grant, in the order in which they are tried
+abbrev pub lxd_grants : Switches → List Rule
+lxd_grants s = where_on s.mknod (lxd_mknod_rules s.profile)
+    ++ (where_on s.mount (lxd_mount_rules s)
+    ++ (where_on s.setxattr (lxd_setxattr_rule s.profile ∷ []) ++ where_on s.sysinfo (lxd_sysinfo_rule ∷ [])))
+
+-- ---- Why LXD passes a call. These rules are tried behind the grants, so that each has what these and the rules before it leave.
+
+-- a rule that passes calls, named for the cause
+abbrev pub reason : List ℕ → List ℤ → List Cond → Rule
+reason name calls conds = plain_rule name (Named calls) conds Pass
+
+-- from AT_FDCWD what is left is none of the devices; and what is left then goes from a directory's descriptor
+abbrev pub mknod_reasons : List Rule
+mknod_reasons = reason (codes "lxd.mknod.not-a-known-device") (pos nr_mknod ∷ pos nr_mknodat ∷ []) (Dirfd (negsuc 99) ∷ [])
+    ∷ reason (codes "lxd.mknodat.directory-descriptor") (pos nr_mknodat ∷ []) [] ∷ []
+
+-- the flags that make mount(2) another operation, each with the reason's name: REMOUNT, BIND, MOVE, and those of propagation
+abbrev pub flag_reasons : List (List ℕ × ℕ)
+flag_reasons = (codes "lxd.mount.remount", 32) ∷ (codes "lxd.mount.bind", 4096) ∷ (codes "lxd.mount.move", 8192)
+    ∷ (codes "lxd.mount.propagation", 131072) ∷ (codes "lxd.mount.propagation", 262144)
+    ∷ (codes "lxd.mount.propagation", 524288) ∷ (codes "lxd.mount.propagation", 1048576) ∷ []
+
+abbrev pub flag_reason : List ℕ × ℕ → Rule
+flag_reason (name, bit) = reason name (pos nr_mount ∷ []) (Flags (flag.Mount bit ∷ []) [] ∷ [])
+
+-- one of these flags; and what is left then has a type that isn't mounted
+abbrev pub mount_reasons : List Rule
+mount_reasons = map flag_reason flag_reasons ++ reason (codes "lxd.mount.type") (pos nr_mount ∷ []) [] ∷ []
+
+-- the mark with another value; and what is left then has another name
+abbrev pub setxattr_reasons : List Rule
+setxattr_reasons = reason (codes "lxd.setxattr.value") (pos nr_setxattr ∷ []) (Name (codes "trusted.overlay.opaque") ∷ [])
+    ∷ reason (codes "lxd.setxattr.name") (pos nr_setxattr ∷ []) [] ∷ []
+
+-- the reasons of the calls whose switches are on
+abbrev pub lxd_reasons : Switches → List Rule
+lxd_reasons s =
+    in_profile s.profile (where_on s.mknod mknod_reasons ++ (where_on s.mount mount_reasons ++ where_on s.setxattr setxattr_reasons))
+
+-- the rules that the switches make
 abbrev pub lxd_rules : Switches → List Rule
-lxd_rules s = where_on s.mknod (lxd_mknod_rules s.profile) ++ (where_on s.mount (lxd_mount_rules s) ++ (where_on s.setxattr (lxd_setxattr_rule s.profile ∷ []) ++ where_on s.sysinfo (lxd_sysinfo_rule ∷ [])))
+lxd_rules s = lxd_grants s ++ lxd_reasons s
 
 -- the rule that passes one call, named default.CALL
 abbrev pub default_rule : List ℕ → ℤ → Rule
@@ -284,8 +359,10 @@ default_rule name nr = plain_rule (codes "default." ++ name) (Named (nr ∷ []))
 
 -- the rules that pass what no other rule decides: one for each call that has a name, and one for all others
 abbrev pub default_rules : List Rule
-default_rules = default_rule (codes "close") (pos nr_close) ∷ default_rule (codes "getpid") (pos nr_getpid) ∷ default_rule (codes "sysinfo") (pos nr_sysinfo) ∷ default_rule (codes "mknod") (pos nr_mknod)
-    ∷ default_rule (codes "mount") (pos nr_mount) ∷ default_rule (codes "setxattr") (pos nr_setxattr) ∷ default_rule (codes "openat") (pos nr_openat) ∷ default_rule (codes "mknodat") (pos nr_mknodat)
+default_rules = default_rule (codes "close") (pos nr_close) ∷ default_rule (codes "getpid") (pos nr_getpid)
+    ∷ default_rule (codes "sysinfo") (pos nr_sysinfo) ∷ default_rule (codes "mknod") (pos nr_mknod)
+    ∷ default_rule (codes "mount") (pos nr_mount) ∷ default_rule (codes "setxattr") (pos nr_setxattr)
+    ∷ default_rule (codes "openat") (pos nr_openat) ∷ default_rule (codes "mknodat") (pos nr_mknodat)
     ∷ plain_rule (codes "default.other") OtherCalls [] Pass ∷ []
 
 -- the whole list of a policy's rules: its own, those of the switches, and the defaults

@@ -9,7 +9,8 @@ use Rattle.hist_model.specs.declared.request.Request.TheVariants as request
 use Rattle.hist_model.specs.declared.request.MountRow.{MountRow}
 use Rattle.hist_model.specs.TreeOps.{TreeOp, Fail, Make, Mount, SetAttr, Open}
 use Rattle.hist_model.specs.Requests.{kind_of, low_32, major_of, minor_of}
-use Rattle.hist_model.specs.Trees.{Tree, is_dir_at, entry, attr, with_node, with_mount, with_attr, are_attr_flags, creates_attr, replaces_attr}
+use Rattle.hist_model.specs.Trees.{Tree, is_dir_at, entry, attr, with_node, with_mount}
+use Rattle.hist_model.specs.Trees.{with_attr, are_attr_flags, creates_attr, replaces_attr}
 use Rattle.hist_model.specs.Paths.{Follow, Create, Place, At, New, Refused, reaches}
 use Rattle.sys_abi.specs.Errnos.{eperm, enoent, eexist, enotdir, einval, enosys, enodata}
 

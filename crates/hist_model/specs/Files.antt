@@ -1,5 +1,7 @@
--- The tree and the descriptor tables after a history (path_resolution(7), open(2), close(2), seccomp_unotify(2) on SECCOMP_IOCTL_NOTIF_ADDFD).
-use Rattle.std.specs.Prelude.{ℕ, ◌%◌, Bool, ◌&&◌, if◌then◌else◌, ◌==◌, List, [], ◌∷◌, length, Option, Some, None, Result, Ok, Err, nat_le, nat_lt}
+-- The tree and the descriptor tables after a history (path_resolution(7), open(2), close(2),
+-- seccomp_unotify(2) on SECCOMP_IOCTL_NOTIF_ADDFD).
+use Rattle.std.specs.Prelude.{ℕ, ◌%◌, Bool, ◌&&◌, if◌then◌else◌, ◌==◌, List, [], ◌∷◌, length, Option, Some, None, Result}
+use Rattle.std.specs.Prelude.{Ok, Err, nat_le, nat_lt}
 use Rattle.hist_model.specs.Look.{event_at, task_name}
 use Rattle.hist_model.specs.Tasks.{holder}
 use Rattle.hist_model.specs.Signals.{call_of}
@@ -83,9 +85,13 @@ request_for K (Some c) = first_request K (queue K c)
 abbrev pub files_after : Script → List Event → Files → Actor → What → Files
 files_after S K F a (Spawn n (Ok made)) = after_spawn K F a made.1
 files_after S K F a (Native (Ok n)) = after_native F (own_group K a) (native_step S K F (task_name a))
-files_after S K F a (Install (Ok m)) = record F { slot = with_slot F.slot (own_group K a) m (Some (Broker (request_for K (call_of K (task_name a))).srcfd)) }
+files_after S K F a (Install (Ok m)) = record F {
+  slot = with_slot F.slot (own_group K a) m (Some (Broker (request_for K (call_of K (task_name a))).srcfd));
+}
 files_after S K F (Worker w) (Act q cap (Ok u)) = record F { tree = tree_or (perform F.tree (root S) (F.base w) (effect q)) F.tree }
-files_after S K F (Worker w) (OpenBase p d (Ok u)) = record F { base = with_base F.base w (base_of S F (place_or (opened K (holder K p))) d) }
+files_after S K F (Worker w) (OpenBase p d (Ok u)) = record F {
+  base = with_base F.base w (base_of S F (place_or (opened K (holder K p))) d);
+}
 files_after S K F (Worker w) LetGo = record F { base = with_base F.base w None }
 files_after S K F a _ = F
 

@@ -1,16 +1,20 @@
 -- Filters: the instructions of bpf(4) as seccomp(2) runs them on each call, and what their answers mean for the call.
-use Rattle.std.specs.Prelude.{ℕ, zero, suc, ◌+◌, ◌-◌, ◌*◌, ◌/◌, ◌%◌, ◌^◌, min, Bool, true, false, ◌||◌, not, if◌then◌else◌, ◌==◌, nat_lt, nat_le, List, [], ◌∷◌, length, map, reverse, slice_index_or, Option, Some, None, ℤ, bit_and, bit_or, bit_xor}
+use Rattle.std.specs.Prelude.{ℕ, zero, suc, ◌+◌, ◌-◌, ◌*◌, ◌/◌, ◌%◌, ◌^◌, min, Bool, true, false, ◌||◌, not, if◌then◌else◌, ◌==◌, nat_lt}
+use Rattle.std.specs.Prelude.{nat_le, List, [], ◌∷◌, length, map, reverse, slice_index_or, Option, Some, None, ℤ, bit_and, bit_or, bit_xor}
 use Rattle.std.specs.Int.{w32, cast_unsigned}
 use Rattle.sys_abi.specs.declared.wire.SeccompData.{SeccompData}
 use Rattle.hist_model.specs.declared.script.Insn.{Insn}
 use Rattle.hist_model.specs.declared.script.FilterLine.{FilterLine}
 use Rattle.hist_model.specs.declared.filter.Operation.{Operation}
-use Rattle.hist_model.specs.declared.filter.Operation.TheVariants.{Load, Immediate, Add, Subtract, Or, And, Xor, ShiftLeft, ShiftRight, Negate, Jump, JumpEqual, JumpGreater, JumpAtLeast, JumpSet, Return, Unknown}
+use Rattle.hist_model.specs.declared.filter.Operation.TheVariants.{Load, Immediate, Add, Subtract, Or, And, Xor, ShiftLeft}
+use Rattle.hist_model.specs.declared.filter.Operation.TheVariants.{ShiftRight, Negate, Jump, JumpEqual, JumpGreater}
+use Rattle.hist_model.specs.declared.filter.Operation.TheVariants.{JumpAtLeast, JumpSet, Return, Unknown}
 use Rattle.hist_model.specs.declared.filter.Effect.{Effect}
 use Rattle.hist_model.specs.declared.filter.Effect.TheVariants.{Answers, Goes}
 use Rattle.hist_model.specs.declared.filter.BadFilter.{BadFilter}
 use Rattle.hist_model.specs.declared.filter.FilterReason.{FilterReason}
-use Rattle.hist_model.specs.declared.filter.FilterReason.TheVariants.{Empty, TooMany, BadCode, BadLoad, BadShift, BadJump, BadAction, NoReturn}
+use Rattle.hist_model.specs.declared.filter.FilterReason.TheVariants.{Empty, TooMany, BadCode, BadLoad}
+use Rattle.hist_model.specs.declared.filter.FilterReason.TheVariants.{BadShift, BadJump, BadAction, NoReturn}
 use Rattle.hist_model.specs.declared.event.Entered.{Entered}
 use Rattle.hist_model.specs.declared.event.Entered.TheVariants.{Notify, Allow, Log, Fails, NoSys, Kill}
 

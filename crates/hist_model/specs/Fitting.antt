@@ -8,7 +8,8 @@ use Rattle.hist_model.specs.Deeds.{Deed}
 use Rattle.hist_model.specs.declared.event.Back.{Back}
 use Rattle.hist_model.specs.declared.event.Back.TheVariants.{Value, Fail, Continue}
 use Rattle.hist_model.specs.declared.event.What.{What}
-use Rattle.hist_model.specs.declared.event.What.TheVariants.{Recv, OpenMem, OpenBase, Check, Read, Act, Plant, AddfdPut, AddfdTake, Send, LetGo}
+use Rattle.hist_model.specs.declared.event.What.TheVariants.{Recv, OpenMem, OpenBase, Check, Read, Act, Plant}
+use Rattle.hist_model.specs.declared.event.What.TheVariants.{AddfdPut, AddfdTake, Send, LetGo}
 use Rattle.hist_model.specs.declared.policy.Cap.{Cap}
 use Rattle.hist_model.specs.declared.request.Request.{Request}
 use Rattle.hist_model.specs.declared.request.Request.TheVariants.{Mknod, Mount, SetXattr, OpenAt, Sysinfo, Other}
@@ -19,7 +20,9 @@ use Rattle.sys_abi.specs.declared.wire.Addfd.{Addfd}
 abbrev pub request_eq : Request → Request → Bool
 request_eq (Mknod dirfd path mode dev) (Mknod d p m v) = option_eq int_eq dirfd d && (bytes_eq path p && ((mode == m) && (dev == v)))
 request_eq (Mount source target fstype options via flags shift) (Mount s t f o v n b) =
-    bytes_eq source s && (bytes_eq target t && (bytes_eq fstype f && (bytes_eq options o && (bytes_eq via v && ((flags == n) && (if shift then b else not b))))))
+    bytes_eq source s
+    && (bytes_eq target t
+    && (bytes_eq fstype f && (bytes_eq options o && (bytes_eq via v && ((flags == n) && (if shift then b else not b))))))
 request_eq (SetXattr path name value flags) (SetXattr p n v f) = bytes_eq path p && (bytes_eq name n && (bytes_eq value v && (flags == f)))
 request_eq (OpenAt dirfd path flags) (OpenAt d p f) = int_eq dirfd d && (bytes_eq path p && (flags == f))
 request_eq (Sysinfo addr) (Sysinfo a) = addr == a
@@ -32,7 +35,8 @@ cap_eq a b = (a.rule == b.rule) && (a.times == b.times)
 
 -- two requests for a descriptor are one
 abbrev pub addfd_eq : Addfd → Addfd → Bool
-addfd_eq a b = (a.id == b.id) && ((a.flags == b.flags) && ((a.srcfd == b.srcfd) && ((a.newfd == b.newfd) && (a.newfd_flags == b.newfd_flags))))
+addfd_eq a b =
+    (a.id == b.id) && ((a.flags == b.flags) && ((a.srcfd == b.srcfd) && ((a.newfd == b.newfd) && (a.newfd_flags == b.newfd_flags))))
 
 -- two answers to a notification are one
 abbrev pub back_eq : Back → Back → Bool

@@ -6,7 +6,8 @@ use Rattle.hist_model.specs.declared.event.Entered.TheVariants.{Notify, Allow, L
 use Rattle.hist_model.specs.declared.event.SpawnKind.{SpawnKind}
 use Rattle.hist_model.specs.declared.event.SpawnKind.TheVariants.{Copied, Shared}
 use Rattle.hist_model.specs.declared.event.What.{What}
-use Rattle.hist_model.specs.declared.event.What.TheVariants.{Spawn, Enter, Resume, Install, Deliver, Exit, Recv, OpenMem, OpenBase, Check, Read, Act, Plant, AddfdPut, AddfdTake, Send, LetGo, Skip, Close}
+use Rattle.hist_model.specs.declared.event.What.TheVariants.{Spawn, Enter, Resume, Install, Deliver, Exit, Recv, OpenMem, OpenBase, Check}
+use Rattle.hist_model.specs.declared.event.What.TheVariants.{Read, Act, Plant, AddfdPut, AddfdTake, Send, LetGo, Skip, Close}
 use Rattle.sys_abi.specs.Errnos.{enoent, esrch, ebadf, ebusy, emfile, einprogress, edquot}
 use Rattle.sys_abi.specs.declared.wire.Addfd.{Addfd}
 
@@ -197,7 +198,8 @@ is_busy (Send x b (Err e)) = e == einprogress
 is_busy (AddfdPut q (Err e)) = (e == einprogress) || (e == ebusy)
 is_busy _ = false
 
--- of the errors of a worker's steps: ENOENT of a check and of an answer, EBADF too of a request for a descriptor, and EMFILE too of its take
+-- of the errors of a worker's steps: ENOENT of a check and of an answer, EBADF too of a request for a descriptor,
+-- and EMFILE too of its take
 abbrev pub is_known_error : What → Bool
 is_known_error (Check x (Err e)) = e == enoent
 is_known_error (Send x b (Err e)) = e == enoent

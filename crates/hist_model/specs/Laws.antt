@@ -44,7 +44,9 @@ empty_recvs (e ∷ K) = empty_recvs K + (if gets_nothing e.what then 1 else 0)
 
 -- the request count
 abbrev pub CountIs : List Event → Type 0
-CountIs K = count K + empty_recvs K ≡ count_below (λ c. listed K c && not (fetched K c)) (length K) + count_below (λ c. is_call K c && (not (listed K c) && not (fetched K c))) (length K)
+CountIs K = count K + empty_recvs K
+    ≡ count_below (λ c. listed K c && not (fetched K c)) (length K)
+    + count_below (λ c. is_call K c && (not (listed K c) && not (fetched K c))) (length K)
 
 abbrev pub worker_of : Actor → Option ℕ
 worker_of (Worker w) = Some w

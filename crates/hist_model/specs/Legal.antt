@@ -1,5 +1,6 @@
 -- Legal histories of a policy and a script, the history that a schedule plays, and finished histories.
-use Rattle.std.specs.Prelude.{◌≡◌, ℕ, zero, suc, ◌<◌, ◌≤◌, ◌^◌, ◌*◌, ◌/◌, ◌%◌, Bool, true, false, not, ◌==◌, List, [], ◌∷◌, length, reverse, Option, Some, None, Result, Ok, Err}
+use Rattle.std.specs.Prelude.{◌≡◌, ℕ, zero, suc, ◌<◌, ◌≤◌, ◌^◌, ◌*◌, ◌/◌, ◌%◌, Bool, true, false, not, ◌==◌, List, [], ◌∷◌, length, reverse}
+use Rattle.std.specs.Prelude.{Option, Some, None, Result, Ok, Err}
 use Rattle.std.specs.List.{list_any}
 use Rattle.hist_model.specs.Look.{Name, ev}
 use Rattle.hist_model.specs.Tasks.{ended, is_made}
@@ -7,7 +8,7 @@ use Rattle.hist_model.specs.Calls.{listed}
 use Rattle.hist_model.specs.Kinds.{skips, is_letgo}
 use Rattle.hist_model.specs.Sessions.{Rules, Decision, Denies, Passes, Acts, Plants, Injects, session, any_of}
 use Rattle.hist_model.specs.Systems.{System}
-use Rattle.hist_model.specs.Steps.{IsLegal, start, step}
+use Rattle.hist_model.specs.Steps.{IsLegal, IsOfKernel, start, step}
 use Rattle.hist_model.specs.Programs.{program}
 use Rattle.hist_model.specs.Memory.{bytes_read, all_mapped, sysinfo_size}
 use Rattle.hist_model.specs.Natives.{Files, root, base_of, native_step, native_answer}
@@ -116,9 +117,14 @@ rules_of P F = record {
   decide = λ n reads. judged P F n (copied n reads);
 }
 
--- the history has its first event, which is the script's start; each later event is the step of its actor after those before it, and nothing follows the close of the listener
+-- the history has its first event, which is the script's start; each later event is the step of its actor after those before it,
+-- and nothing follows the close of the listener
 abbrev pub Legal : Policy → Script → List Event → Type 0
 Legal P S K = IsLegal (system_of S) (rules_of P S.figures) K × (length K < 2 ^ 64) × (0 < length K)
+
+-- a history of the kernel that the script describes: its tasks step as they do in a legal one, and its workers are free to ask for anything
+abbrev pub OfKernel : Script → List Event → Type 0
+OfKernel S K = IsOfKernel (system_of S) K × (length K < 2 ^ 64) × (0 < length K)
 
 -- a history with one more step of an actor
 abbrev pub with_step : Policy → Script → Actor → List Event → List Event

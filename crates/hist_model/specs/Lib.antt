@@ -1,5 +1,6 @@
 pub mod Records
 pub mod RuleParts
+pub mod ShortNames
 pub mod PolicyRules
 pub mod Ranges
 pub mod Totals

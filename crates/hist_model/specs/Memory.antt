@@ -1,5 +1,7 @@
--- Memory of groups: a group is one address space together with one descriptor table, and is named by the place of the spawn that made it (clone(2), mmap(2)).
-use Rattle.std.specs.Prelude.{ℕ, zero, suc, ◌+◌, ◌-◌, ◌*◌, Bool, true, false, ◌&&◌, ◌||◌, if◌then◌else◌, ◌==◌, List, [], ◌∷◌, length, slice_get, Option, Some, None, Result, Ok, Err, ℤ, pos, negsuc, nat_le, nat_lt}
+-- Memory of groups: a group is one address space together with one descriptor table, and is named by the place
+-- of the spawn that made it (clone(2), mmap(2)).
+use Rattle.std.specs.Prelude.{ℕ, zero, suc, ◌+◌, ◌-◌, ◌*◌, Bool, true, false, ◌&&◌, ◌||◌, if◌then◌else◌, ◌==◌, List, [], ◌∷◌, length}
+use Rattle.std.specs.Prelude.{slice_get, Option, Some, None, Result, Ok, Err, ℤ, pos, negsuc, nat_le, nat_lt}
 use Rattle.hist_model.specs.Kinds.{enters, copies}
 use Rattle.hist_model.specs.Look.{Name, is_task, task_name, is_place}
 use Rattle.hist_model.specs.Steps.{task_place, opened, mem, place_or, number_entered, entered}

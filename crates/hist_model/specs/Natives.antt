@@ -1,5 +1,6 @@
 -- Calls that run natively, without rights (close(2), getpid(2), sysinfo(2), mknod(2), mount(2), setxattr(2), openat(2)).
-use Rattle.std.specs.Prelude.{ℕ, ◌%◌, ◌^◌, Bool, true, false, not, if◌then◌else◌, ◌==◌, List, Option, Some, None, Result, Ok, Err, ℤ, pos, negsuc, nat_eq, codes}
+use Rattle.std.specs.Prelude.{ℕ, ◌%◌, ◌^◌, Bool, true, false, not, if◌then◌else◌, ◌==◌, List, Option, Some, None, Result, Ok, Err, ℤ}
+use Rattle.std.specs.Prelude.{pos, negsuc, nat_eq, codes}
 use Rattle.std.specs.List.{starts_with}
 use Rattle.hist_model.specs.Look.{Name, oldest}
 use Rattle.hist_model.specs.Steps.{number_entered, entered, pid_named, place_or}
@@ -21,7 +22,8 @@ use Rattle.hist_model.specs.declared.script.Script.{Script}
 use Rattle.sys_abi.specs.Calls.{nr_close, nr_getpid, nr_sysinfo}
 use Rattle.sys_abi.specs.Errnos.{eperm, enoent, ebadf, efault, emfile, enosys}
 
--- what the tree and the descriptor tables are after a history: the tree, what a number of a group leads to, and the base that a worker has opened
+-- what the tree and the descriptor tables are after a history: the tree, what a number of a group leads to,
+-- and the base that a worker has opened
 pub record Files : Type 0 where
   pub tree : Tree
   pub slot : ℕ → ℕ → Option Obj
@@ -105,7 +107,8 @@ opened_place free (Refused e) = Fails e
 
 -- a request with its arguments read, from a base
 abbrev pub request_natively : Script → Files → ℕ → Option ℕ → Request → NativeStep
-request_natively S F g base (Mknod d path mode dev) = let op = effect (Mknod d path mode dev) in make_natively (is_device op) (perform F.tree (root S) base op)
+request_natively S F g base (Mknod d path mode dev) =
+    let op = effect (Mknod d path mode dev) in make_natively (is_device op) (perform F.tree (root S) base op)
 request_natively S F g base (SetXattr path name value flags) =
     let op = effect (SetXattr path name value flags) in
     set_natively (is_refused op) (starts_with nat_eq name (codes "user.")) (perform F.tree (root S) base op)
@@ -115,7 +118,8 @@ request_natively S F g base _ = Fails eperm
 abbrev pub copied_natively : Script → Files → ℕ → What → Result (List (List ℕ)) ℕ → NativeStep
 copied_natively S F g call (Err e) = Fails e
 copied_natively S F g call (Ok texts) =
-    request_natively S F g (base_for S F g (base_dirfd (number_entered call) (entered call))) (request (number_entered call) (entered call) texts)
+    request_natively S F g (base_for S F g (base_dirfd (number_entered call) (entered call)))
+    (request (number_entered call) (entered call) texts)
 
 abbrev pub close_natively : ℕ → Option Obj → NativeStep
 close_natively n None = Fails ebadf

@@ -7,4 +7,5 @@ use Rattle.hist_model.specs.declared.event.What.{What}
 -- each opening stands before the first good check, each read between the two, and each use after both
 abbrev pub InOrder : List What → Type 0
 InOrder [] = Unit {0}
-InOrder (a ∷ own) = (is_opening a ≡ true → number_of is_good_check own ≡ 0) × (is_read a ≡ true → number_of is_good_check own ≡ 1) × (uses_copy a ≡ true → number_of is_good_check own ≡ 2) × InOrder own
+InOrder (a ∷ own) = (is_opening a ≡ true → number_of is_good_check own ≡ 0)
+    × (is_read a ≡ true → number_of is_good_check own ≡ 1) × (uses_copy a ≡ true → number_of is_good_check own ≡ 2) × InOrder own

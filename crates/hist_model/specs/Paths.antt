@@ -1,5 +1,6 @@
 -- The walk of a path: path_resolution(7). It ends, since a link is followed at most 40 times, and each component is taken once.
-use Rattle.std.specs.Prelude.{ℕ, zero, suc, Bool, true, false, ◌&&◌, ◌||◌, not, if◌then◌else◌, ◌==◌, nat_lt, List, [], ◌∷◌, ◌++◌, length, filter, Option, Some, None, bytes_eq}
+use Rattle.std.specs.Prelude.{ℕ, zero, suc, Bool, true, false, ◌&&◌, ◌||◌, not, if◌then◌else◌, ◌==◌, nat_lt, List, [], ◌∷◌, ◌++◌, length}
+use Rattle.std.specs.Prelude.{filter, Option, Some, None, bytes_eq}
 use Rattle.hist_model.specs.declared.request.Node.{Node}
 use Rattle.hist_model.specs.declared.request.Node.TheVariants.{Link}
 use Rattle.hist_model.specs.Trees.{Tree, node_at, is_dir_at, entry, top, up}

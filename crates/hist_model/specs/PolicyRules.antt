@@ -1,9 +1,12 @@
 -- What every policy keeps.
-use Rattle.std.specs.Prelude.{◌<◌, ◌≤◌, ◌^◌, ◌≡◌, ◌&&◌, true, false, List, [], length, All}
+use Rattle.std.specs.Prelude.{◌<◌, ◌≤◌, ◌^◌, ◌≡◌, ◌&&◌, ℕ, Bool, true, false, List, [], length, All}
 use Rattle.std.specs.List.{list_any, list_all}
 use Rattle.hist_model.specs.Decisions.{Switches, all_rules}
 use Rattle.hist_model.specs.Records.{PolicyRecord}
-use Rattle.hist_model.specs.RuleParts.{are_own_calls, each_call, grants_mount, is_answer, is_condition, is_for, is_plain_flags, is_rule_name, is_short_name, may_answer, may_be_limited, named_once}
+use Rattle.hist_model.specs.RuleParts.{are_own_calls, each_call, grants_mount, is_answer, is_condition, is_for, is_plain_flags}
+use Rattle.hist_model.specs.RuleParts.{is_rule_name, is_short_name, may_answer, may_be_limited, named_once}
+use Rattle.hist_model.specs.declared.policy.Profile.{Profile}
+use Rattle.hist_model.specs.declared.policy.Profile.TheVariants.{Plain, Lxd}
 use Rattle.hist_model.specs.declared.policy.Rule.{Rule}
 
 -- a rule that a policy states of its own
@@ -35,11 +38,16 @@ pub record AreOwnRules (own : List Rule) : Type 0 where
   -- a name is used once
   pub names : named_once (λ (rule : Rule). rule.name) own ≡ true
 
--- the switches of the configuration: file systems and programs have names of 1 to 32 bytes, and a list names a file system once
+-- a name of 1 to 32 bytes, which LXD asks of no type and no program
+abbrev pub is_name_in : Profile → List ℕ → Bool
+is_name_in Plain name = is_short_name name
+is_name_in Lxd name = true
+
+-- the switches of the configuration: what its lists name, and each names a file system once
 pub record AreSwitches (s : Switches) : Type 0 where
-  pub allowed : list_all is_short_name s.allowed ≡ true
+  pub allowed : list_all (is_name_in s.profile) s.allowed ≡ true
   pub allowed_once : named_once (λ name. name) s.allowed ≡ true
-  pub fuse : list_all (λ pair. is_short_name pair.0 && is_short_name pair.1) s.fuse ≡ true
+  pub fuse : list_all (λ pair. is_name_in s.profile pair.0 && is_name_in s.profile pair.1) s.fuse ≡ true
   pub fuse_once : named_once (λ pair. pair.0) s.fuse ≡ true
 
 pub record IsPolicy (P : PolicyRecord) : Type 0 where

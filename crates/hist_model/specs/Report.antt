@@ -60,14 +60,18 @@ audits J H (e ∷ K) = audits J H K ++ audits_by J H K e.who e.what
 -- the first words of a summary: the number of events, of calls, of listed calls and of answers
 unfoldable pub counts_text : ℕ → ℕ → ℕ → ℕ → List ℕ
 counts_text events entered notified answered =
-    codes "summary events=" ++ decimal events ++ codes " calls=" ++ decimal entered ++ codes " notified=" ++ decimal notified ++ codes " answered=" ++ decimal answered
+    codes "summary events=" ++ decimal events ++ codes " calls=" ++ decimal entered ++ codes " notified=" ++ decimal notified
+    ++ codes " answered=" ++ decimal answered
 
 -- its other words: how many sessions came to what
 unfoldable pub findings_text : List Audit → List ℕ
 findings_text found =
-    codes " granted=" ++ decimal (count_by (λ a. grants a.finding) found) ++ codes " denied=" ++ decimal (count_by (λ a. denies a.finding) found)
-    ++ codes " passed=" ++ decimal (count_by (λ a. passes a.finding) found) ++ codes " injected=" ++ decimal (count_by (λ a. injects a.finding) found)
-    ++ codes " faults=" ++ decimal (count_by (λ a. faults a.finding) found) ++ codes " gone=" ++ decimal (count_by (λ a. is_gone_session a.finding) found)
+    codes " granted=" ++ decimal (count_by (λ a. grants a.finding) found)
+    ++ codes " denied=" ++ decimal (count_by (λ a. denies a.finding) found)
+    ++ codes " passed=" ++ decimal (count_by (λ a. passes a.finding) found)
+    ++ codes " injected=" ++ decimal (count_by (λ a. injects a.finding) found)
+    ++ codes " faults=" ++ decimal (count_by (λ a. faults a.finding) found)
+    ++ codes " gone=" ++ decimal (count_by (λ a. is_gone_session a.finding) found)
     ++ codes " lost=" ++ decimal (count_by (λ a. loses a.arrival) found) ++ codes "\n"
 
 -- the summary's line

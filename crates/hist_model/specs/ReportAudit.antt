@@ -1,5 +1,6 @@
 -- The audit of a report: one line for each session, with the rule that decided, what was answered, and whether that reached the call.
-use Rattle.std.specs.Prelude.{ℕ, Bool, true, false, ◌&&◌, ◌||◌, not, if◌then◌else◌, ◌==◌, List, [], ◌∷◌, ◌++◌, length, Option, Some, None, Result, Ok, pos, codes, decimal, count_by, is_some}
+use Rattle.std.specs.Prelude.{ℕ, Bool, true, false, ◌&&◌, ◌||◌, not, if◌then◌else◌, ◌==◌, List, [], ◌∷◌, ◌++◌, length, Option, Some, None}
+use Rattle.std.specs.Prelude.{Result, Ok, pos, codes, decimal, count_by, is_some}
 use Rattle.std.specs.List.{list_any}
 use Rattle.sys_abi.specs.declared.wire.Notif.{Notif}
 use Rattle.hist_model.specs.Look.{Name, is_worker}
@@ -48,7 +49,8 @@ judged_by rules notif (Broken e) = Faulty e
 -- what the rules make of a notification and of these answers. An answer that isn't one to the piece that is wanted counts for
 -- nothing; in a legal history every answer is.
 abbrev pub judged_after : List Rule → Notif → List (Result (List ℕ) ℕ) → Judged
-judged_after rules notif answers = let parts = plan notif.call.nr notif.call.args in judged_by rules notif (progress parts (heard parts [] answers))
+judged_after rules notif answers =
+    let parts = plan notif.call.nr notif.call.args in judged_by rules notif (progress parts (heard parts [] answers))
 
 -- the judging by the rules of a policy
 abbrev pub judging_by : List Rule → Judging
@@ -175,7 +177,8 @@ arrival own number = arrival_of (list_any is_sent own || is_some number) (list_a
 
 -- what a session with these steps came to, for whose call this number was installed
 abbrev pub audit_by : Judging → Notif → List What → Option ℕ → Audit
-audit_by J notif own number = record { finding = finding J notif own; answer = answer_of (sent_back own) number; arrival = arrival own number }
+audit_by J notif own number =
+    record { finding = finding J notif own; answer = answer_of (sent_back own) number; arrival = arrival own number }
 
 -- in the history H, what came of the session that worker w began with this notification after K
 abbrev pub audit_of : Judging → List Event → List Event → ℕ → Notif → Audit

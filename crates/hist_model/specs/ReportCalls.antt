@@ -1,5 +1,6 @@
 -- The calls of a report: one line for each call that a task entered, with what came of it.
-use Rattle.std.specs.Prelude.{ℕ, Bool, true, false, ◌&&◌, if◌then◌else◌, ◌==◌, min, List, [], ◌∷◌, ◌++◌, length, Option, Some, None, Ok, Err, ℤ, pos, codes, decimal, count_by}
+use Rattle.std.specs.Prelude.{ℕ, Bool, true, false, ◌&&◌, if◌then◌else◌, ◌==◌, min, List, [], ◌∷◌, ◌++◌, length, Option, Some, None, Ok}
+use Rattle.std.specs.Prelude.{Err, ℤ, pos, codes, decimal, count_by}
 use Rattle.std.specs.Fmt.{signed_decimal}
 use Rattle.hist_model.specs.Kinds.{enters}
 use Rattle.hist_model.specs.Look.{Name, name_eq, is_task, is_place, task_name, or_else}
@@ -99,7 +100,8 @@ or_zero None = 0
 -- the line of a call with this number, of which this came: its place, its task, and the task's PID
 abbrev pub call_line_of : ℕ → Actor → ℕ → ℤ → Outcome → List ℕ
 call_line_of c who pid nr out =
-    decimal c ++ codes " " ++ actor_text who ++ codes " pid=" ++ decimal pid ++ codes " " ++ call_text nr ++ codes " " ++ outcome_text out ++ codes "\n"
+    decimal c ++ codes " " ++ actor_text who ++ codes " pid=" ++ decimal pid ++ codes " " ++ call_text nr
+    ++ codes " " ++ outcome_text out ++ codes "\n"
 
 -- in the history H, the line of the step that comes after K, where it enters a call
 abbrev pub call_line_by : List Event → List Event → Actor → What → List ℕ

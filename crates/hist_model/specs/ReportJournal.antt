@@ -1,5 +1,6 @@
 -- The journal of a report: one line for each event.
-use Rattle.std.specs.Prelude.{ℕ, ◌%◌, Bool, true, false, ◌==◌, List, [], ◌∷◌, ◌++◌, length, Option, Some, None, Result, Ok, Err, ℤ, codes, decimal}
+use Rattle.std.specs.Prelude.{ℕ, ◌%◌, Bool, true, false, ◌==◌, List, [], ◌∷◌, ◌++◌, length, Option, Some, None, Result, Ok}
+use Rattle.std.specs.Prelude.{Err, ℤ, codes, decimal}
 use Rattle.std.specs.Fmt.{signed_decimal}
 use Rattle.std.specs.List.{flat_map}
 use Rattle.sys_abi.specs.Devices.{major_of, minor_of}
@@ -7,10 +8,13 @@ use Rattle.sys_abi.specs.declared.wire.Notif.{Notif}
 use Rattle.sys_abi.specs.declared.wire.Addfd.{Addfd}
 use Rattle.hist_model.specs.Look.{Name}
 use Rattle.hist_model.specs.Requests.{kind_of, low_32}
-use Rattle.hist_model.specs.ReportWords.{hex, hex_or_dash, trimmed, quoted, or_dash, name_text, errno_text, call_text, result_text, number_text, back_text, actor_text}
+use Rattle.hist_model.specs.ReportWords.{hex, hex_or_dash, trimmed, quoted, program_text, name_text, errno_text, call_text}
+use Rattle.hist_model.specs.ReportWords.{result_text, number_text, back_text, actor_text}
 use Rattle.hist_model.specs.declared.event.Event.{Event}
 use Rattle.hist_model.specs.declared.event.What.{What}
-use Rattle.hist_model.specs.declared.event.What.TheVariants.{Spawn, Poke, Handler, Enter, Native, Install, Resume, Signal, Deliver, Reap, Exit, Recv, OpenMem, OpenBase, Check, Read, Act, Plant, AddfdPut, AddfdTake, Send, LetGo, Skip, Close}
+use Rattle.hist_model.specs.declared.event.What.TheVariants.{Spawn, Poke, Handler, Enter, Native, Install, Resume, Signal, Deliver, Reap}
+use Rattle.hist_model.specs.declared.event.What.TheVariants.{Exit, Recv, OpenMem, OpenBase, Check, Read, Act, Plant, AddfdPut, AddfdTake}
+use Rattle.hist_model.specs.declared.event.What.TheVariants.{Send, LetGo, Skip, Close}
 use Rattle.hist_model.specs.declared.event.SpawnKind.{SpawnKind}
 use Rattle.hist_model.specs.declared.event.SpawnKind.TheVariants.{New, Copied, Shared}
 use Rattle.hist_model.specs.declared.event.Disposition.{Disposition}
@@ -96,7 +100,8 @@ abbrev pub request_text : Request → List ℕ
 request_text (Mknod dirfd path mode dev) = maker_text dirfd ++ quoted path ++ codes " " ++ node_text (kind_of mode) (low_32 dev)
 request_text (Mount source target fstype options via flags shift) =
     codes "mount " ++ quoted source ++ codes " " ++ quoted target ++ codes " " ++ quoted fstype
-    ++ codes " flags=" ++ decimal flags ++ codes " data=" ++ quoted options ++ codes " via=" ++ or_dash via ++ codes " shift=" ++ shift_text shift
+    ++ codes " flags=" ++ decimal flags ++ codes " data=" ++ quoted options ++ codes " via=" ++ program_text via
+    ++ codes " shift=" ++ shift_text shift
 request_text (SetXattr path name value flags) =
     codes "setxattr " ++ quoted path ++ codes " " ++ quoted name ++ codes " " ++ hex_or_dash value ++ codes " flags=" ++ decimal flags
 request_text (OpenAt dirfd path flags) = codes "openat"
@@ -109,7 +114,8 @@ target_text true newfd = decimal newfd
 target_text false newfd = codes "-"
 
 abbrev pub asked_text : Addfd → List ℕ
-asked_text asked = decimal asked.id ++ codes " src=" ++ decimal asked.srcfd ++ codes " at=" ++ target_text (asked.flags % 2 == 1) asked.newfd
+asked_text asked =
+    decimal asked.id ++ codes " src=" ++ decimal asked.srcfd ++ codes " at=" ++ target_text (asked.flags % 2 == 1) asked.newfd
 
 -- what happened, in words
 abbrev pub what_text : What → List ℕ
@@ -126,7 +132,8 @@ what_text (Reap answer) = codes "wait " ++ reaped_text answer
 what_text Exit = codes "exit"
 what_text (Recv answer) = codes "recv " ++ received_text answer
 what_text (OpenMem pid answer) = codes "open-mem " ++ decimal pid ++ codes " " ++ result_text answer
-what_text (OpenBase pid dirfd answer) = codes "open-base " ++ decimal pid ++ codes " " ++ signed_decimal dirfd ++ codes " " ++ result_text answer
+what_text (OpenBase pid dirfd answer) =
+    codes "open-base " ++ decimal pid ++ codes " " ++ signed_decimal dirfd ++ codes " " ++ result_text answer
 what_text (Check id answer) = codes "check " ++ decimal id ++ codes " " ++ result_text answer
 what_text (Read addr len answer) = codes "read " ++ decimal addr ++ codes " " ++ decimal len ++ codes " " ++ read_text answer
 what_text (Act request cap answer) = codes "act " ++ request_text request ++ codes " " ++ result_text answer

@@ -1,10 +1,12 @@
 -- The words of a report: numbers, names, errors, and bytes as text.
-use Rattle.std.specs.Prelude.{ℕ, ◌+◌, ◌/◌, ◌%◌, ◌&&◌, ◌||◌, if◌then◌else◌, ◌==◌, nat_lt, nat_le, List, [], ◌∷◌, ◌++◌, Option, Some, None, Result, Ok, Err, ℤ, codes, decimal}
+use Rattle.std.specs.Prelude.{ℕ, ◌+◌, ◌/◌, ◌%◌, ◌&&◌, ◌||◌, if◌then◌else◌, ◌==◌, nat_lt, nat_le, List, [], ◌∷◌, ◌++◌, Option, Some, None}
+use Rattle.std.specs.Prelude.{Result, Ok, Err, ℤ, bytes_eq, codes, decimal}
 use Rattle.std.specs.Fmt.{signed_decimal}
 use Rattle.std.specs.List.{flat_map, join_by}
 use Rattle.sys_abi.specs.Errnos.{errno_name}
 use Rattle.sys_abi.specs.Calls.{call_name_of}
 use Rattle.hist_model.specs.Look.{Name}
+use Rattle.hist_model.specs.ShortNames.{is_short_name_byte}
 use Rattle.hist_model.specs.declared.event.Actor.{Actor}
 use Rattle.hist_model.specs.declared.event.Actor.TheVariants.{Start, Task, Worker, Listener}
 use Rattle.hist_model.specs.declared.event.Back.{Back}
@@ -47,10 +49,22 @@ quoted_byte b =
 abbrev pub quoted : List ℕ → List ℕ
 quoted text = codes "\"" ++ flat_map quoted_byte text ++ codes "\""
 
--- a text as it is, or `-` where it is empty
-abbrev pub or_dash : List ℕ → List ℕ
-or_dash [] = codes "-"
-or_dash (b ∷ text) = b ∷ text
+-- a byte that names of file systems and programs have in a policy as it is, any other in base 16
+abbrev pub escaped_byte : ℕ → List ℕ
+escaped_byte b = if is_short_name_byte b then b ∷ [] else 92 ∷ 120 ∷ hex_byte b
+
+-- a text of any bytes in the place of such a name
+abbrev pub escaped : List ℕ → List ℕ
+escaped text = flat_map escaped_byte text
+
+-- the same, or `-` where it is empty
+abbrev pub escaped_or_dash : List ℕ → List ℕ
+escaped_or_dash [] = codes "-"
+escaped_or_dash (b ∷ text) = escaped (b ∷ text)
+
+-- the program that serves a mount, or `-` where none does: one of this name is written in base 16
+abbrev pub program_text : List ℕ → List ℕ
+program_text program = if bytes_eq program (codes "-") then codes "\\x2d" else escaped_or_dash program
 
 -- the numbers of a task's name, with points between them
 abbrev pub name_text : Name → List ℕ

@@ -1,13 +1,15 @@
 -- What the parts of a policy's rules may be: names, calls, conditions, answers, and how often a rule grants. Each test computes.
-use Rattle.std.specs.Prelude.{ℕ, ◌-◌, ◌^◌, Bool, true, false, ◌&&◌, ◌||◌, not, nat_le, nat_eq, List, [], ◌∷◌, length, Option, Some, None, is_some, ℤ, pos, bytes_eq, codes}
+use Rattle.std.specs.Prelude.{ℕ, ◌-◌, ◌^◌, Bool, true, false, ◌&&◌, ◌||◌, not, nat_le, nat_eq, List, [], ◌∷◌, length, Option, Some, None}
+use Rattle.std.specs.Prelude.{is_some, ℤ, pos, bytes_eq, codes}
 use Rattle.std.specs.List.{list_any, list_all, starts_with, ends_with}
 use Rattle.std.specs.Ordering.{int_eq}
 use Rattle.hist_model.specs.Decisions.{is_among, named_calls}
-use Rattle.hist_model.specs.Words.{is_digit}
+pub use Rattle.hist_model.specs.ShortNames.{is_filled, is_lower_or_digit, is_one_of, is_short_name, is_short_name_byte}
 use Rattle.hist_model.specs.declared.policy.Calls.{Calls}
 use Rattle.hist_model.specs.declared.policy.Calls.TheVariants.{Named, Other}
 use Rattle.hist_model.specs.declared.policy.Cond.{Cond}
-use Rattle.hist_model.specs.declared.policy.Cond.TheVariants.{Path, Under, Kind as OfKind, Dev, Fstype, Source, Name, Value, Dirfd, Flags, ShortDevice, PlainFlags}
+use Rattle.hist_model.specs.declared.policy.Cond.TheVariants.{Path, Under, Kind as OfKind, Dev, Fstype, Source, Name, Value}
+use Rattle.hist_model.specs.declared.policy.Cond.TheVariants.{Dirfd, Flags, ShortDevice, PlainFlags}
 use Rattle.hist_model.specs.declared.policy.Flag.{Flag}
 use Rattle.hist_model.specs.declared.policy.Flag.TheVariants as flag
 use Rattle.hist_model.specs.declared.policy.Verdict.{Verdict}
@@ -19,31 +21,14 @@ use Rattle.sys_abi.specs.Errnos.{errno_name}
 
 -- ---- Names
 
--- the list has an item
-abbrev pub is_filled : {A : Type 0} → List A → Bool
-is_filled [] = false
-is_filled (x ∷ xs) = true
-
--- the byte is one of these
-abbrev pub is_one_of : List ℕ → ℕ → Bool
-is_one_of marks b = list_any (λ m. nat_eq m b) marks
-
-abbrev pub is_lower_or_digit : ℕ → Bool
-is_lower_or_digit b = (nat_le 97 b && nat_le b 122) || is_digit b
-
-abbrev pub is_short_name_byte : ℕ → Bool
-is_short_name_byte b = is_lower_or_digit b || is_one_of (codes "._-") b
-
--- the names that file systems and programs may have: 1 to 32 bytes
-abbrev pub is_short_name : List ℕ → Bool
-is_short_name name = is_filled name && (nat_le (length name) 32 && list_all is_short_name_byte name)
-
 abbrev pub is_rule_name_byte : ℕ → Bool
 is_rule_name_byte b = is_lower_or_digit b || is_one_of (codes "._:-") b
 
 -- the names that rules may have: 1 to 64 bytes; those of the switches and the defaults are taken
 abbrev pub is_rule_name : List ℕ → Bool
-is_rule_name name = is_filled name && (nat_le (length name) 64 && (list_all is_rule_name_byte name && not (starts_with nat_eq name (codes "lxd.") || starts_with nat_eq name (codes "default."))))
+is_rule_name name = is_filled name
+    && (nat_le (length name) 64
+    && (list_all is_rule_name_byte name && not (starts_with nat_eq name (codes "lxd.") || starts_with nat_eq name (codes "default."))))
 
 -- one of the items has this name
 abbrev pub has_named : {A : Type 0} → (A → List ℕ) → List A → List ℕ → Bool

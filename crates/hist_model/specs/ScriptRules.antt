@@ -1,5 +1,6 @@
 -- What every script keeps: the ranges, limits and references of its settings, its programs and its schedule. Each test computes.
-use Rattle.std.specs.Prelude.{ℕ, ◌+◌, ◌≤◌, ◌^◌, ◌≡◌, Bool, true, false, ◌&&◌, ◌||◌, not, ◌==◌, nat_le, nat_lt, List, [], ◌∷◌, length, sum_by, ℤ, pos, int_le, int_lt, is_some}
+use Rattle.std.specs.Prelude.{ℕ, ◌+◌, ◌≤◌, ◌^◌, ◌≡◌, Bool, true, false, ◌&&◌, ◌||◌, not, ◌==◌, nat_le, nat_lt, List, [], ◌∷◌, length}
+use Rattle.std.specs.Prelude.{sum_by, ℤ, pos, int_le, int_lt, is_some}
 use Rattle.std.specs.List.{list_all, list_any, count_by}
 use Rattle.hist_model.specs.Filters.{first_fault}
 use Rattle.hist_model.specs.Names.{is_child_number, is_task_name}

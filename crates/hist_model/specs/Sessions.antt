@@ -1,5 +1,6 @@
 -- A worker's session, and its next deed: the order of seccomp_unotify(2) (open the memory, check, read, check again, use).
-use Rattle.std.specs.Prelude.{ℕ, suc, Bool, false, ◌&&◌, ◌||◌, not, if◌then◌else◌, ◌==◌, List, [], ◌∷◌, Option, Some, None, Result, Ok, Err, ℤ, pos}
+use Rattle.std.specs.Prelude.{ℕ, suc, Bool, false, ◌&&◌, ◌||◌, not, if◌then◌else◌, ◌==◌, List, [], ◌∷◌, Option, Some, None, Result}
+use Rattle.std.specs.Prelude.{Ok, Err, ℤ, pos}
 use Rattle.hist_model.specs.Kinds.{starts, skips, is_letgo, gives_up, opens, opens_base, checks, is_read}
 use Rattle.hist_model.specs.Look.{is_worker}
 use Rattle.hist_model.specs.Deeds.{Deed}

@@ -23,7 +23,8 @@ pub record IsRequestOf (K : List Event) (c r w : ℕ) : Type 0 where
   pub put_by : worker_in (event_at K r) ≡ Some w
   pub session_of : fetcher K c ≡ Some w
 
--- the next install of the task of this name belongs to the request, which is the oldest without one of the listed call in which the task waits
+-- the next install of the task of this name belongs to the request, which is the oldest without one
+-- of the listed call in which the task waits
 pub record IsInstallOf (K : List Event) (n : Name) (c r w : ℕ) : Type 0 where
   pub in_call : call_of K n ≡ Some c
   pub on_list : listed K c ≡ true
@@ -37,12 +38,14 @@ InstallsOwn K e = (n : Name) (x : Result ℕ ℕ) → e.who ≡ Task n → e.wha
 
 -- the session's answer to the call, or the number installed for the session's request
 pub data Source (K : List Event) (c w : ℕ) : Back → Type 0 where
-  sent : (place x : ℕ) (b : Back) (u : Unit {0}) (e : Event) → event_at K place ≡ Some e → e.who ≡ Worker w → e.what ≡ Send x b (Ok u) → answers (before K place) e.what c ≡ true → Source K c w b
+  sent : (place x : ℕ) (b : Back) (u : Unit {0}) (e : Event) → event_at K place ≡ Some e → e.who ≡ Worker w
+      → e.what ≡ Send x b (Ok u) → answers (before K place) e.what c ≡ true → Source K c w b
   installed_for : (r n : ℕ) → IsRequestOf K c r w → install_of K r ≡ Some (Ok n) → Source K c w (Value (pos n))
 
 -- each resume returns what its call's session sent, or the number installed for it
 abbrev pub ResumesOwn : List Event → Event → Type 0
-ResumesOwn K e = (n : Name) (b : Back) → e.who ≡ Task n → e.what ≡ Resume b → (c w : ℕ) × (listed K c ≡ true) × (caller K c ≡ n) × (fetcher K c ≡ Some w) × Source K c w b
+ResumesOwn K e = (n : Name) (b : Back) → e.who ≡ Task n → e.what ≡ Resume b
+    → (c w : ℕ) × (listed K c ≡ true) × (caller K c ≡ n) × (fetcher K c ≡ Some w) × Source K c w b
 
 -- each resume of a call for one of whose requests a number was installed returns this number
 abbrev pub ReturnsInstalled : List Event → Event → Type 0

@@ -53,3 +53,8 @@ abbrev pub effect_outside : ℕ → Disposition → Delivered
 effect_outside sig Default = End
 effect_outside sig RestartDisposition = if sig == sigkill then End else Run
 effect_outside sig Plain = if sig == sigkill then End else Run
+
+-- what it does to a task, by the listed call in which the task waits, if it waits in one
+abbrev pub effect_on : Option ℕ → ℕ → Disposition → Delivered
+effect_on (Some call) sig disposition = effect_in_call sig disposition
+effect_on None sig disposition = effect_outside sig disposition

@@ -1,5 +1,6 @@
 -- The one step of an actor after a history, and legal histories.
-use Rattle.std.specs.Prelude.{◌≡◌, ℕ, ◌+◌, ◌-◌, ◌%◌, ◌^◌, Bool, true, false, ◌&&◌, not, if◌then◌else◌, ◌==◌, List, [], ◌∷◌, ◌++◌, length, slice_get, replicate, nat_le, Option, Some, None, Result, Ok, Err, pos, ℤ}
+use Rattle.std.specs.Prelude.{◌≡◌, ℕ, ◌+◌, ◌-◌, ◌%◌, ◌^◌, Bool, true, false, ◌&&◌, not, if◌then◌else◌, ◌==◌, List, [], ◌∷◌, ◌++◌, length}
+use Rattle.std.specs.Prelude.{slice_get, replicate, nat_le, Option, Some, None, Result, Ok, Err, pos, ℤ}
 use Rattle.hist_model.specs.Look.{Name, ev, name_eq, is_task, is_worker, task_name, oldest, event_at}
 use Rattle.hist_model.specs.Names.{is_task_name}
 use Rattle.hist_model.specs.Kinds.{makes, closes, has_send_flag, skips, owes, shares_now}
@@ -13,7 +14,9 @@ use Rattle.hist_model.specs.declared.event.Event.{Event}
 use Rattle.hist_model.specs.declared.event.Actor.{Actor}
 use Rattle.hist_model.specs.declared.event.Actor.TheVariants.{Start, Task, Worker, Listener}
 use Rattle.hist_model.specs.declared.event.What.{What}
-use Rattle.hist_model.specs.declared.event.What.TheVariants.{Spawn, Enter, Resume, Signal, Deliver, Reap, Exit, Recv, OpenMem, Check, Send, LetGo, Skip, Close, Handler, Poke, Native, Install, OpenBase, Read, Act, Plant, AddfdPut, AddfdTake}
+use Rattle.hist_model.specs.declared.event.What.TheVariants.{Spawn, Enter, Resume, Signal, Deliver, Reap, Exit, Recv, OpenMem, Check}
+use Rattle.hist_model.specs.declared.event.What.TheVariants.{Send, LetGo, Skip, Close, Handler, Poke, Native, Install, OpenBase, Read}
+use Rattle.hist_model.specs.declared.event.What.TheVariants.{Act, Plant, AddfdPut, AddfdTake}
 use Rattle.hist_model.specs.declared.event.SpawnKind.{SpawnKind}
 use Rattle.hist_model.specs.declared.event.SpawnKind.TheVariants.{New, Copied, Shared}
 use Rattle.hist_model.specs.declared.event.Entered.{Entered}
@@ -23,7 +26,9 @@ use Rattle.hist_model.specs.declared.event.Back.TheVariants.{Continue, Value}
 use Rattle.hist_model.specs.declared.event.Delivered.{Delivered}
 use Rattle.hist_model.specs.declared.event.Delivered.TheVariants.{Restart}
 use Rattle.hist_model.specs.declared.script.Instr.{Instr}
-use Rattle.hist_model.specs.declared.script.Instr.TheVariants.{Poke as IPoke, Fill as IFill, Call as ICall, Spawn as ISpawn, Thread as IThread, Kill as IKill, Handler as IHandler, Wait as IWait, Exit as IExit}
+use Rattle.hist_model.specs.declared.script.Instr.TheVariants.{Poke as IPoke, Fill as IFill, Call as ICall}
+use Rattle.hist_model.specs.declared.script.Instr.TheVariants.{Spawn as ISpawn, Thread as IThread}
+use Rattle.hist_model.specs.declared.script.Instr.TheVariants.{Kill as IKill, Handler as IHandler, Wait as IWait, Exit as IExit}
 use Rattle.hist_model.specs.declared.script.Whom.{Whom}
 use Rattle.hist_model.specs.declared.script.Whom.TheVariants.{Own, Parent, Child, Pid}
 use Rattle.hist_model.specs.declared.policy.Cap.{Cap}
@@ -50,7 +55,8 @@ abbrev pub names_child : List Event → Name → ℕ → Bool
 names_child K n t = has_parent (name_of K t) && (name_eq (parent (name_of K t)) n && not (reaped K (name_of K t)))
 
 abbrev pub names_ended_child : List Event → Name → ℕ → Bool
-names_ended_child K n t = has_parent (name_of K t) && (name_eq (parent (name_of K t)) n && (ended K (name_of K t) && not (reaped K (name_of K t))))
+names_ended_child K n t =
+    has_parent (name_of K t) && (name_eq (parent (name_of K t)) n && (ended K (name_of K t) && not (reaped K (name_of K t))))
 
 -- a child of the task that is not reaped, and one that has ended too; a spawn that was refused made none
 abbrev pub is_child : List Event → Name → ℕ → Bool
@@ -166,7 +172,9 @@ install_step S K c (r ∷ rs) = Install (slot_answer (S.slot K c r))
 
 -- a living task's step, in a call and outside
 abbrev pub living_step : System → List Event → Name → Option ℕ → What
-living_step S K n (Some c) = if settled K c then Resume (reply K c) else deliver_or (next_signal S.killable K n) (λ s. effect_in_call s (disposition K n s)) (install_step S K c (queue K c))
+living_step S K n (Some c) =
+    if settled K c then Resume (reply K c)
+    else deliver_or (next_signal S.killable K n) (λ s. effect_in_call s (disposition K n s)) (install_step S K c (queue K c))
 living_step S K n None =
     if owes_native K n then Native (S.native K n)
     else deliver_or (next_signal S.killable K n) (λ s. effect_outside s (disposition K n s)) (instr_step S K n (next_instr S K n))
@@ -197,7 +205,12 @@ args_in (Some e) = entered e.what
 
 -- the notification of a call
 abbrev pub notif : List Event → ℕ → Notif
-notif K c = record { id = id K c; pid = pid_at K (task_place K (caller K c)); flags = 0; call = record { nr = nr_in (event_at K c); arch = 0xc000003e; ip = 0; args = args_in (event_at K c) } }
+notif K c = record {
+  id = id K c;
+  pid = pid_at K (task_place K (caller K c));
+  flags = 0;
+  call = record { nr = nr_in (event_at K c); arch = 0xc000003e; ip = 0; args = args_in (event_at K c) };
+}
 
 abbrev pub recv_answer : List Event → Option ℕ → Result Notif ℕ
 recv_answer K None = Err enoent
@@ -238,7 +251,8 @@ installed _ = None
 -- the group of the task at a place: one address space with one descriptor table
 unfoldable pub group : List Event → ℕ → ℕ
 group [] t = no_place
-group (e ∷ K) t = if t == length K then (if shares_now e.what then group K (place_or (task_place K (task_name e.who))) else t) else group K t
+group (e ∷ K) t =
+    if t == length K then (if shares_now e.what then group K (place_or (task_place K (task_name e.who))) else t) else group K t
 
 -- the call of the worker's open session: the one that is named by the id that it fetched
 abbrev pub call_after : List Event → What → Option ℕ → Option ℕ
@@ -284,7 +298,8 @@ read_answer S K (Some m) a n = S.bytes K m a n
 
 abbrev pub put_answer : System → List Event → Addfd → Option ℕ → Result (Unit {0}) ℕ
 put_answer S K a None = Err enoent
-put_answer S K a (Some c) = if not (waiting K c) then Err einprogress else (if has_send_flag a && not (is_empty (queue K c)) then Err ebusy else Ok tt)
+put_answer S K a (Some c) =
+    if not (waiting K c) then Err einprogress else (if has_send_flag a && not (is_empty (queue K c)) then Err ebusy else Ok tt)
 
 -- the worker's request: its last good put, until its next take
 abbrev pub request_after : ℕ → What → Option ℕ → Option ℕ
@@ -399,3 +414,22 @@ IsStep S R (f ∷ K) e = (closes f.what ≡ false) × (is_start e.who ≡ false)
 abbrev pub IsLegal : System → Rules → List Event → Type 0
 IsLegal S R [] = Unit {0}
 IsLegal S R (e ∷ K) = IsStep S R K e × IsLegal S R K
+
+-- ---- histories of the kernel, whoever its workers are
+
+-- the step is its actor's: of a worker some deed, with the answer that the kernel gives
+abbrev pub IsKernelAnswer : System → List Event → Actor → What → Type 0
+IsKernelAnswer S K Start a = ⊥
+IsKernelAnswer S K (Task n) a = a ≡ task_step S K n
+IsKernelAnswer S K (Worker w) a = (d : Deed) × (a ≡ deed_step S K w d)
+IsKernelAnswer S K Listener a = a ≡ Close
+
+-- the event may come after K
+abbrev pub IsKernelStep : System → List Event → Event → Type 0
+IsKernelStep S [] e = e ≡ start S
+IsKernelStep S (f ∷ K) e = (closes f.what ≡ false) × IsKernelAnswer S (f ∷ K) e.who e.what × (is_actor e.who ≡ true)
+
+-- each event is such a step after those below it: a legal history is one of these, in which each worker does what this broker's does
+abbrev pub IsOfKernel : System → List Event → Type 0
+IsOfKernel S [] = Unit {0}
+IsOfKernel S (e ∷ K) = IsKernelStep S K e × IsOfKernel S K

@@ -6,7 +6,8 @@ use Rattle.hist_model.specs.declared.script.Figures.{Figures}
 
 -- nothing is used, and no limit is set
 abbrev pub no_figures : Figures
-no_figures = record { uptime = 0; used = 0; shared = 0; buffers = 0; swap_used = 0; memory = 0; swap = 0; host_memory = 0; host_swap = 0; procs = 0 }
+no_figures =
+    record { uptime = 0; used = 0; shared = 0; buffers = 0; swap_used = 0; memory = 0; swap = 0; host_memory = 0; host_swap = 0; procs = 0 }
 
 -- the structure for these totals of memory and swap: the free amounts are what isn't used of them, and not below 0;
 -- the three loads, the high memory and the free high memory are 0, and the unit is one byte

@@ -1,5 +1,6 @@
 -- Tasks, PIDs and signals (clone(2), wait(2), kill(2), signal(7)).
-use Rattle.std.specs.Prelude.{ℕ, zero, suc, ◌+◌, ◌-◌, Bool, true, false, ◌&&◌, ◌||◌, not, if◌then◌else◌, ◌==◌, List, [], ◌∷◌, length, take, Option, Some, None, Ok, nat_le}
+use Rattle.std.specs.Prelude.{ℕ, zero, suc, ◌+◌, ◌-◌, Bool, true, false, ◌&&◌, ◌||◌, not, if◌then◌else◌, ◌==◌, List, [], ◌∷◌, length, take}
+use Rattle.std.specs.Prelude.{Option, Some, None, Ok, nat_le}
 use Rattle.hist_model.specs.Kinds.{ends, makes}
 use Rattle.hist_model.specs.Look.{Name, name_eq, is_task, event_at, newest, or_else}
 use Rattle.hist_model.specs.declared.event.Event.{Event}
@@ -86,7 +87,8 @@ last_pid base (e ∷ K) = or_number (given e.what) (last_pid base K)
 
 -- the next number: the first free one after the last one given, and then from the first one on
 unfoldable pub next_pid : ℕ → ℕ → List Event → Option ℕ
-next_pid base pidmax K = or_else (free_from K (base + pidmax - last_pid base K) (last_pid base K + 1)) (free_from K (last_pid base K - base) (base + 1))
+next_pid base pidmax K =
+    or_else (free_from K (base + pidmax - last_pid base K) (last_pid base K + 1)) (free_from K (last_pid base K - base) (base + 1))
 
 -- a task of this name was made
 unfoldable pub is_made : List Event → Name → Bool
@@ -107,7 +109,8 @@ disposition_or None d = d
 -- what the task does at a signal
 unfoldable pub disposition : List Event → Name → ℕ → Disposition
 disposition [] n sig = Default
-disposition (e ∷ K) n sig = disposition_or (if is_task e.who n then handles e.what sig else None) (if name_eq (child_of e.what) n then disposition K (parent n) sig else disposition K n sig)
+disposition (e ∷ K) n sig = disposition_or (if is_task e.who n then handles e.what sig else None)
+    (if name_eq (child_of e.what) n then disposition K (parent n) sig else disposition K n sig)
 
 -- the task at this place, if there is one, has this name
 abbrev pub is_named : List Event → Option ℕ → Name → Bool

@@ -1,6 +1,7 @@
 -- A tree of nodes, their extended attributes and the mounts on them: path_resolution(7), mount(2), xattr(7).
 -- The rows are listed the newest first. The ordinal of a node is the length of the list of nodes below its row.
-use Rattle.std.specs.Prelude.{ℕ, zero, suc, ◌/◌, ◌%◌, Bool, true, false, ◌&&◌, if◌then◌else◌, ◌==◌, nat_lt, List, [], ◌∷◌, length, Option, Some, None, bytes_eq}
+use Rattle.std.specs.Prelude.{ℕ, zero, suc, ◌/◌, ◌%◌, Bool, true, false, ◌&&◌, if◌then◌else◌, ◌==◌, nat_lt, List, [], ◌∷◌, length}
+use Rattle.std.specs.Prelude.{Option, Some, None, bytes_eq}
 use Rattle.hist_model.specs.Look.{is_place}
 use Rattle.hist_model.specs.declared.request.NodeRef.{NodeRef}
 use Rattle.hist_model.specs.declared.request.Node.{Node}

@@ -16,4 +16,5 @@ is_number word = nat_le 1 (length word) && (nat_le (length word) 20 && list_all 
 
 -- the number that a word is, where it is one from low to high
 abbrev pub number_between : ℕ → ℕ → List ℕ → Option ℕ
-number_between low high word = if is_number word && (nat_le low (number_after 0 word) && nat_le (number_after 0 word) high) then Some (number_after 0 word) else None
+number_between low high word =
+    if is_number word && (nat_le low (number_after 0 word) && nat_le (number_after 0 word) high) then Some (number_after 0 word) else None

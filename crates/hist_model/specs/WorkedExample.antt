@@ -39,7 +39,8 @@ script_making path dev schedule = record {
 
 -- the task steps, then the worker, then the task
 abbrev pub three_turns : ℕ → ℕ → ℕ → List Step
-three_turns a b c = record { who = Task (0 ∷ []); count = a } ∷ record { who = Worker 0; count = b } ∷ record { who = Task (0 ∷ []); count = c } ∷ []
+three_turns a b c =
+    record { who = Task (0 ∷ []); count = a } ∷ record { who = Worker 0; count = b } ∷ record { who = Task (0 ∷ []); count = c } ∷ []
 
 -- the script that makes /null, in the order in which the node is made and the call returns
 abbrev pub mknod_script : Script

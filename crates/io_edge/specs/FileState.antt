@@ -1,5 +1,6 @@
 -- What is known of a source of files, and what its calls do to that.
-use Rattle.std.specs.Prelude.{◌≡◌, ℕ, ◌+◌, ◌^◌, ◌<◌, ◌≤◌, ◌↔◌, Bool, true, List, [], ◌++◌, length, take, drop, Option, None, Some, IsSome, IsSomeAnd, Result, IsOk, IsErr, IfOk, OnOk, OnErr}
+use Rattle.std.specs.Prelude.{◌≡◌, ℕ, ◌+◌, ◌^◌, ◌<◌, ◌≤◌, ◌↔◌, Bool, true, List, [], ◌++◌, length, take, drop, Option, None, Some, IsSome}
+use Rattle.std.specs.Prelude.{IsSomeAnd, Result, IsOk, IsErr, IfOk, OnOk, OnErr}
 use Rattle.io_edge.specs.Faults.{Rose}
 
 -- What is known of a source of files.

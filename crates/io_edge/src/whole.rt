@@ -48,6 +48,7 @@ impl From<AllocError> for ReadAllError {
 ///
 /// `ReadFault` comes only where the source's count of faults rose, and over a sound source exactly where
 /// the name isn't there. `TooLong` comes exactly where `limit + 1` bytes were read, and no more are.
+/// Where there is a current file afterwards, also after an error, it is the one of this name.
 pub fn read_all<F: Files>(
     files: &mut F,
     name: &str,
@@ -63,6 +64,8 @@ pub fn read_all<F: Files>(
     ensures at_end { OnOk result ((F.state files.old).tells ≡ true → (F.state files.new).left ≡ []) }
     ensures opened { OnOk result ((F.state files.old).tells ≡ true
         → (F.state files.new).current ≡ Some name.now) }
+    ensures named { (F.state files.old).tells ≡ true → IsSome (F.state files.new).current
+        → (F.state files.new).current ≡ Some name.now }
     ensures stands { (F.state files.old).tells ≡ true → IsSome (F.state files.new).current
         → IfSome ((F.state files.old).bytes name.now)
         (λ bytes. (F.state files.new).left ≡ drop (F.state files.new).given bytes) }

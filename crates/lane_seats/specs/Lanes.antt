@@ -1,5 +1,6 @@
 -- Laned histories: of each kind of call the sessions are served one after another, and notifications are received at the lowest free seat.
-use Rattle.std.specs.Prelude.{◌≡◌, ℕ, ◌<◌, ◌≤◌, Bool, true, false, ◌&&◌, ◌||◌, ◌==◌, if◌then◌else◌, List, [], ◌∷◌, length, Option, Some, None, ℤ, pos, negsuc}
+use Rattle.std.specs.Prelude.{◌≡◌, ℕ, ◌<◌, ◌≤◌, Bool, true, false, ◌&&◌, ◌||◌, ◌==◌, if◌then◌else◌, List, [], ◌∷◌, length, Option, Some}
+use Rattle.std.specs.Prelude.{None, ℤ, pos, negsuc}
 use Rattle.hist_model.specs.Kinds.{starts}
 use Rattle.hist_model.specs.Legal.{is_open_session}
 use Rattle.hist_model.specs.Look.{is_worker}
@@ -50,7 +51,8 @@ IsNext K seat = (other : ℕ) → is_taken K other ≡ true → lane K other ≡
 abbrev pub IsLowestFree : List Event → ℕ → Type 0
 IsLowestFree K seat = (seat ≤ 15) × (is_taken K seat ≡ false) × ((lower : ℕ) → lower < seat → is_taken K lower ≡ true)
 
--- a worker inside a session takes a turn where it is its lane's next, and one outside, which can only receive, where it has the lowest free seat
+-- a worker inside a session takes a turn where it is its lane's next, and one outside, which can only receive,
+-- where it has the lowest free seat
 abbrev pub MayTurn : List Event → ℕ → Bool → Type 0
 MayTurn K seat true = IsNext K seat
 MayTurn K seat false = IsLowestFree K seat

@@ -23,7 +23,8 @@ IsOfSession H seat began place = (began < place) × (LetsGoBetween H seat began 
 -- of two sessions of one lane, the one that was received first has let go before each step of the other but its receive
 abbrev pub FollowEachOther : List Event → Type 0
 FollowEachOther H =
-    (first second place seat other : ℕ) (n m : Notif) (what : What) → Steps H first seat (Recv (Ok n)) → Steps H second other (Recv (Ok m)) → lane_of_call n.call.nr ≡ lane_of_call m.call.nr → first < second
+    (first second place seat other : ℕ) (n m : Notif) (what : What) → Steps H first seat (Recv (Ok n))
+    → Steps H second other (Recv (Ok m)) → lane_of_call n.call.nr ≡ lane_of_call m.call.nr → first < second
     → Steps H place other what → IsOfSession H other second place → LetsGoBetween H seat first place
 
 -- each session that the worker began before this place has let go before it
@@ -33,7 +34,8 @@ HasLetGo H seat place = (began : ℕ) (n : Notif) → Steps H began seat (Recv (
 -- each receive is by the least worker number, of 0 to 15, of which this holds
 abbrev pub ReceiveLowest : List Event → Type 0
 ReceiveLowest H =
-    (place seat : ℕ) (answer : Result Notif ℕ) → Steps H place seat (Recv answer) → (seat ≤ 15) × HasLetGo H seat place × ((lower : ℕ) → lower < seat → HasLetGo H lower place → ⊥)
+    (place seat : ℕ) (answer : Result Notif ℕ) → Steps H place seat (Recv answer)
+    → (seat ≤ 15) × HasLetGo H seat place × ((lower : ℕ) → lower < seat → HasLetGo H lower place → ⊥)
 
 -- both
 pub record LanedByPairs (H : List Event) : Type 0 where

@@ -1,5 +1,6 @@
 -- What the requests of ioctl(2) on a listener answer (seccomp_unotify(2)).
-use Rattle.std.specs.Prelude.{◌≡◌, ℕ, ◌≤◌, false, Bool, ◌&&◌, ◌||◌, if◌then◌else◌, ◌==◌, List, Result, Ok, Err, ℤ, pos, neg_ℤ, nat_abs, FitsSigned}
+use Rattle.std.specs.Prelude.{◌≡◌, ℕ, ◌≤◌, false, Bool, ◌&&◌, ◌||◌, if◌then◌else◌, ◌==◌, List, Result, Ok, Err, ℤ}
+use Rattle.std.specs.Prelude.{pos, neg_ℤ, nat_abs, FitsSigned}
 use Rattle.std.specs.Int.{w64}
 use Rattle.std.specs.Int.Signed.{le_z}
 use Rattle.std.specs.Ordering.{int_eq}
@@ -15,7 +16,8 @@ is_error error = le_z (neg_ℤ (pos 4095)) error && le_z error (pos 0)
 
 -- the call is let go, with no value and no error; or it returns a value, or an error
 abbrev pub may_be_sent : Resp → Bool
-may_be_sent resp = ((resp.flags == 1) && (int_eq resp.val (pos 0) && int_eq resp.error (pos 0))) || ((resp.flags == 0) && is_error resp.error)
+may_be_sent resp =
+    ((resp.flags == 1) && (int_eq resp.val (pos 0) && int_eq resp.error (pos 0))) || ((resp.flags == 0) && is_error resp.error)
 
 -- the structure that the bytes of an answer stand for, where it may be sent; else EINVAL
 abbrev pub reading : List ℕ → Result Resp ℕ

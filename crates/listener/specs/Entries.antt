@@ -1,5 +1,6 @@
 -- The listed calls in the order of entry.
-use Rattle.std.specs.Prelude.{◌≡◌, ℕ, ◌<◌, ◌≤◌, Bool, true, false, not, List, [], ◌∷◌, length, map, filter, find, Option, Some, None, if◌then◌else◌, ◌==◌, slice_index_or, set}
+use Rattle.std.specs.Prelude.{◌≡◌, ℕ, ◌<◌, ◌≤◌, Bool, true, false, not, List, [], ◌∷◌, length, map, filter, find, Option, Some, None}
+use Rattle.std.specs.Prelude.{if◌then◌else◌, ◌==◌, slice_index_or, set}
 use Rattle.std.specs.List.{AllWithin, remove}
 use Rattle.hist_model.specs.declared.notification.Reply.{Reply}
 use Rattle.hist_model.specs.declared.request.TaskRef.{TaskRef}

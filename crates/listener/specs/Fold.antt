@@ -1,5 +1,6 @@
 -- The state that the definitions give a history.
-use Rattle.std.specs.Prelude.{◌≡◌, ℕ, Bool, true, false, ◌&&◌, not, if◌then◌else◌, List, [], ◌∷◌, ◌++◌, length, map, filter, Option, Some, None, Ok}
+use Rattle.std.specs.Prelude.{◌≡◌, ℕ, Bool, true, false, ◌&&◌, not, if◌then◌else◌, List, [], ◌∷◌, ◌++◌, length, map, filter}
+use Rattle.std.specs.Prelude.{Option, Some, None, Ok}
 use Rattle.hist_model.specs.Look.{event_at, is_worker}
 use Rattle.hist_model.specs.Kinds.{notifies}
 use Rattle.hist_model.specs.Calls.{caller, id, fetched, settled, queue, some_sends, unlists, calls, recvs}
@@ -28,7 +29,8 @@ reply_by false false b = None
 
 -- the row of the call at a place
 abbrev pub row_at : List Event → ℕ → Row
-row_at K c = record { id = id K c; task = caller K c; fetched = fetched K c; reply = reply_by (settled K c) (some_sends K (queue K c)) (reply K c) }
+row_at K c =
+    record { id = id K c; task = caller K c; fetched = fetched K c; reply = reply_by (settled K c) (some_sends K (queue K c)) (reply K c) }
 
 -- the rows of the listed calls
 unfoldable pub rows : List Event → List Row

@@ -32,7 +32,8 @@ send_admission None = Err enoent
 send_admission (Some Fetched) = Ok tt
 send_admission (Some state) = Err einprogress
 
--- a request for no listed call; for one that waits, with so many requests that aren't installed; for one that isn't received yet, or answered
+-- a request for no listed call; for one that waits, with so many requests that aren't installed;
+-- for one that isn't received yet, or answered
 abbrev pub put_admission : Addfd → Option CallState → ℕ → Result (Unit {0}) ℕ
 put_admission asked None queued = Err enoent
 put_admission asked (Some Fetched) queued = if has_send_flag asked && not (queued == 0) then Err ebusy else Ok tt

@@ -1,5 +1,6 @@
 -- What holds of a history whose events are steps, and what a step is, as far as the listener is concerned.
-use Rattle.std.specs.Prelude.{◌≡◌, ℕ, ◌+◌, ◌%◌, ◌^◌, ◌<◌, true, false, List, [], ◌∷◌, Some, None, Ok, All, find, filter, length, is_none, ◌==◌}
+use Rattle.std.specs.Prelude.{◌≡◌, ℕ, ◌+◌, ◌%◌, ◌^◌, ◌<◌, true, false, List, [], ◌∷◌, Some, None, Ok, All, find}
+use Rattle.std.specs.Prelude.{filter, length, is_none, ◌==◌}
 use Rattle.hist_model.specs.Look.{Name, task_name}
 use Rattle.hist_model.specs.Kinds.{notifies}
 use Rattle.hist_model.specs.Calls.{listed, caller, id, named, answered, settled, queue, calls, is_call, is_send, some_sends}

@@ -1,5 +1,6 @@
 -- The state of a listener as a value, and what each event makes of it.
-use Rattle.std.specs.Prelude.{ℕ, ◌+◌, ◌-◌, ◌%◌, ◌^◌, Bool, true, false, ◌||◌, not, if◌then◌else◌, ◌==◌, List, [], ◌∷◌, ◌++◌, map, filter, find, Option, Some, None, is_none, Result, Ok, Err, pos}
+use Rattle.std.specs.Prelude.{ℕ, ◌+◌, ◌-◌, ◌%◌, ◌^◌, Bool, true, false, ◌||◌, not, if◌then◌else◌, ◌==◌, List, [], ◌∷◌, ◌++◌, map, filter}
+use Rattle.std.specs.Prelude.{find, Option, Some, None, is_none, Result, Ok, Err, pos}
 use Rattle.hist_model.specs.Look.{Name, name_eq, task_name}
 use Rattle.hist_model.specs.Kinds.{has_send_flag}
 use Rattle.hist_model.specs.declared.event.Actor.{Actor}

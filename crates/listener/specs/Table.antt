@@ -21,11 +21,18 @@ number_of first id = (id + (2 ^ 64 - first)) % 2 ^ 64
 
 -- a listed call, where the tasks have these names
 abbrev pub row : ℕ → ℕ → (ℕ → Name) → Entry → Row
-row first fetched names e = record { id = (first + e.number) % 2 ^ 64; task = names e.owner.ordinal; fetched = nat_lt e.number fetched; reply = e.reply }
+row first fetched names e =
+    record { id = (first + e.number) % 2 ^ 64; task = names e.owner.ordinal; fetched = nat_lt e.number fetched; reply = e.reply }
 
 -- the state that a queue is, beside these requests
 abbrev pub view : Queue → (ℕ → Name) → List Ask → State
-view Q names asks = record { first = Q.first; entered = Q.order.entered; received = Q.received; calls = map (row Q.first Q.fetched names) Q.order.entries.items; asks = asks }
+view Q names asks = record {
+  first = Q.first;
+  entered = Q.order.entered;
+  received = Q.received;
+  calls = map (row Q.first Q.fetched names) Q.order.entries.items;
+  asks = asks;
+}
 
 -- one more call takes no memory
 abbrev pub HasRoom : Queue → Type 0

@@ -394,5 +394,6 @@ audit-names P F T H legal room s w what n h u m =
     finds : (p : Progress) → copied n (reads_of own) ≡ p → (seen : List What) → Seen (what ∷ own) seen → Told Q own what → number_of is_good_check own ≡ 2 → wanted (copied n (reads_of own)) ≡ None
         → Finds P (what ∷ own) n (finding (judging_by P.rules) n seen) p
     finds (Wants y k) c seen x t two v = absurd (cc (rw c at v))
-    finds (Complete texts) c seen x t two v = (seen-finding P n (what ∷ own) seen x ∙ rw (judged-copy P n what own two order all-read, c) refl, grants texts c t)
+    finds (Complete texts) c seen x t two v =
+        record { finding = seen-finding P n (what ∷ own) seen x ∙ rw (judged-copy P n what own two order all-read, c) refl; grants = grants texts c t }
     finds (Faulty e) c seen x t two v = seen-finding P n (what ∷ own) seen x ∙ rw (judged-copy P n what own two order all-read, c) refl

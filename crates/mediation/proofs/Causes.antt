@@ -1,6 +1,6 @@
 -- Each answer has its cause, and each session ends for one.
 -- By the errors that its session met: each step's is known, and what a step told of the steps before it.
-use Rattle.mediation.proofs.Common.{[], Actor, any_of, arith, Back, cases_Bool, Cause, Deed, denied, done, Each, EndsForReason, ends_work, Err, Event, false, faulty, first_some, gives_up, has_ended, HasCause, inl, inr}
+use Rattle.mediation.proofs.Common.{[], Actor, any_of, arith, Back, cases_Bool, Cause, Deed, denied, done, Each, LetsGoAtEnd, ReceivesIdle, ends_work, Err, Event, false, faulty, first_some, gives_up, has_ended, HasCause, inl, inr}
 use Rattle.mediation.proofs.Common.{is_known_error, is_letgo, is_open_session, IsLegal, joined, judged_deed, length, LetGo, List, not_put, not_taken, Notif, passed, put_in, reads_of}
 use Rattle.mediation.proofs.Common.{Recv, Result, Rules, Send, session, session_call, Some, starts, sym, System, take_in, true, What, ℕ, ◌<◌, ◌==◌, ◌^◌, ◌||◌, ◌∙◌, ◌∷◌, ◌≡◌}
 use Rattle.hist_model.specs.Kinds.{receives}
@@ -51,25 +51,22 @@ module _ (S : System) (R : Rules) where
   has_cause = each S R (HasCause R) (λ K e legal room row w x b y who what.
       let r : WorkerRow S R K w (Send x b y) = rw (who, what) at row in
       let t = r.0 in
-      let j = in-hand K w (session_call K w) t.0 t.1 (hand S R K legal room w) in (
-        j.0,
-        t.0,
-        record {
-          of_call = j.1;
-          notif_is = t.1.notif_is;
-          of_notif = sym j.3 ∙ j.2.whole_is;
-          id_is = t.4;
-          checked = used-two R (session K w) t.0 t.1 t.3 (ordered R (session K w) (is-own S R K legal w));
-          whole = t.3.copied;
-          cause = cause-of (session K w) t.0 b (all-known K legal room w) t.1.no_end t.5;
-        },
-      ))
+      let j = in-hand K w (session_call K w) t.0 t.1 (hand S R K legal room w) in
+      record {
+        call = j.0;
+        received = t.0;
+        of_call = j.1;
+        notif_is = t.1.notif_is;
+        of_notif = sym j.3 ∙ j.2.whole_is;
+        id_is = t.4;
+        checked = used-two R (session K w) t.0 t.1 t.3 (ordered R (session K w) (is-own S R K legal w));
+        whole = t.3.copied;
+        cause = cause-of (session K w) t.0 b (all-known K legal room w) t.1.no_end t.5;
+      })
 
   -- a session ends for its reasons
-  pub ends_for_reason : (K : List Event) → IsLegal S R K → length K < 2 ^ 64 → Each EndsForReason K
-  ends_for_reason = each S R EndsForReason (λ K e legal room row w who.
-      let r : WorkerRow S R K w e.what = rw who at row in
-      (lets-go K w e.what legal room r, receives-anew K w e.what legal r))
+  pub lets_go_at_end : (K : List Event) → IsLegal S R K → length K < 2 ^ 64 → Each LetsGoAtEnd K
+  lets_go_at_end = each S R LetsGoAtEnd (λ K e legal room row w who. let r : WorkerRow S R K w e.what = rw who at row in lets-go K w e.what legal room r)
     where
       lets-go : (K : List Event) (w : ℕ) (what : What) → IsLegal S R K → length K < 2 ^ 64 → WorkerRow S R K w what → is_letgo what ≡ true → has_ended (session K w) ≡ true
       lets-go K w LetGo legal room r z =
@@ -78,6 +75,9 @@ module _ (S : System) (R : Rules) where
           rw g.2 ((rw g.2 at (all-known K legal room w)).0.1 g.3)
       lets-go K w what legal room r z = cc
 
+  pub receives_idle : (K : List Event) → IsLegal S R K → length K < 2 ^ 64 → Each ReceivesIdle K
+  receives_idle = each S R ReceivesIdle (λ K e legal room row w who. let r : WorkerRow S R K w e.what = rw who at row in receives-anew K w e.what legal r)
+    where
       receives-anew : (K : List Event) (w : ℕ) (what : What) → IsLegal S R K → WorkerRow S R K w what → receives what ≡ true → is_open_session (session K w) ≡ false
       receives-anew K w (Recv a) legal r z = let b = begun S R K legal w in grind arith
       receives-anew K w what legal r z = cc

@@ -1,31 +1,24 @@
 -- Each effect is what the policy grants on the one copy of its session, whose call waited up to the second good check.
 -- By induction on the steps since the call was fetched, with the order of the session and the row of each step.
-use Rattle.mediation.proofs.Common.{[], Act, ActIsGranted, Actor, Acts, ActsAlone, AddfdPut, after_native, and_parts, any_of, ap, arith, base_dirfd, before, below_or_last, Bool, both_ways, bytes_eq}
-use Rattle.mediation.proofs.Common.{call_natively, cases_Bool, changed, Changes, Check, checks, close_natively, codes, copied, copied_natively, copy_of, Decision, Each, ends_with_check, entered}
-use Rattle.mediation.proofs.Common.{eqb-true, Err, ev, Event, Fails, false, fetched, Figures, files, Files, files_after, filter, first_some, Gives, gives_up, has_base, if◌then◌else◌}
-use Rattle.mediation.proofs.Common.{inl, inr, is_effect, is_good_check, is_others_row, is_spent, is_until_checked, is_worker, IsLegal, IsMediated, judged, KeepsPrivileged, leb-true, length, List}
-use Rattle.mediation.proofs.Common.{listed, Name, name_eq-true, nat_eq, nat_le, native_step, NativeStep, None, Notif, number_entered, number_of, Ok, oldest_unfetched, Option, or_parts, pid_named}
-use Rattle.mediation.proofs.Common.{place_or, plan, Plant, PlantIsGranted, Plants, Policy, Progress, put_in, PutIsInjected, Read, reads_of, ReadsOwn, Recv, refl, Result, Rules, rules_of, Script}
-use Rattle.mediation.proofs.Common.{session, session_call, Some, spends, starts_with, suc, sym, System, system_of, task_name, times_spent, TimesKept, true, WaitedUntilChecked, waiting, What, Worker}
-use Rattle.mediation.proofs.Common.{Writes, call_of, caller, FailsAlone, Install, install_step, InstallsAlone, InstallsThere, Native, queue, slot_answer, slot_next, Task, WithoutRights, ℕ, ◌%◌, ◌<◌, ◌==◌, ◌^◌, ◌∙◌, ◌∷◌, ◌≡◌, ◌≤◌, ◌⊎◌}
+use Rattle.mediation.proofs.Common.{[], Act, ActIsGranted, Actor, Acts, AddfdPut, and_parts, any_of, ap, arith, before, below_or_last, both_ways}
+use Rattle.mediation.proofs.Common.{cases_Bool, Check, checks, copied, Decision, Each, ends_with_check}
+use Rattle.mediation.proofs.Common.{eqb-true, Err, ev, Event, false, fetched, Figures, first_some, gives_up, if◌then◌else◌}
+use Rattle.mediation.proofs.Common.{inl, inr, is_good_check, is_spent, is_until_checked, is_worker, IsLegal, IsMediated, judged, leb-true, length, List}
+use Rattle.mediation.proofs.Common.{listed, nat_le, None, Notif, number_of, Ok, oldest_unfetched, Option, or_parts}
+use Rattle.mediation.proofs.Common.{Plant, PlantIsGranted, Plants, Policy, Progress, put_in, PutIsInjected, Read, reads_of, ReadsOwn, Recv, refl, Result, Rules, rules_of, Script}
+use Rattle.mediation.proofs.Common.{session, session_call, Some, spends, suc, sym, System, system_of, times_spent, TimesKept, true, WaitedUntilChecked, waiting, What, Worker}
+use Rattle.mediation.proofs.Common.{ℕ, ◌<◌, ◌==◌, ◌^◌, ◌∙◌, ◌∷◌, ◌≡◌, ◌≤◌, ◌⊎◌}
 use Rattle.history_frames.proofs.Listed.{listed-older, is_call-below}
 use Rattle.hist_model.specs.Decisions.{cap_of}
-use Rattle.hist_model.specs.Effects.{attributed}
-use Rattle.hist_model.specs.Memory.{all_mapped, argument, group_named, is_number, last_call, mapped_byte, own_group, sysinfo_size}
-use Rattle.hist_model.specs.Paths.{Place}
-use Rattle.hist_model.specs.Trees.{attr_replaced, is_attr, Tree, with_attr}
 use Rattle.hist_model.specs.declared.policy.Cap.{Cap}
-use Rattle.hist_model.specs.declared.request.Obj.{Obj}
-use Rattle.hist_model.specs.declared.tree.AttrRow.{AttrRow}
-use Rattle.mediation.proofs.Rows.{AtWork, HasOpened, HasCopied, TaskRow, WorkerRow, Row, row-of, by-steps, each}
-use Rattle.mediation.proofs.Tasks.{listed-was, waits-in-call}
+use Rattle.mediation.proofs.Rows.{AtWork, HasOpened, HasCopied, WorkerRow, Row, row-of, by-steps, each}
+use Rattle.mediation.proofs.Tasks.{listed-was}
 use Rattle.mediation.proofs.Calls.{fetching, before-all, before-older, length-before, legal_before, fetched-before}
 use Rattle.mediation.proofs.Hands.{worker-row, moved, session-grows, InSession, works, at-work, works-keep, in-hand, hand, in-hand-of, FetchKept, WorkKept, StillKept, by-session}
 use Rattle.mediation.proofs.Order.{is-own, put-fixed, goods, used-two, ordered}
 use Rattle.mediation.proofs.Handles.{check-listed, own-memory, base-is}
 use Rattle.mediation.proofs.Phases.{fetcher-fetched, hand-fetcher, waits-now}
-use Rattle.sys_abi.specs.Errnos.{edquot, efault, enosys}
-use Rattle.sys_abi.specs.Calls.{nr_sysinfo}
+use Rattle.sys_abi.specs.Errnos.{edquot}
 
 -- ---- a session's call waits up to the second good check
 
@@ -176,7 +169,14 @@ acts-are-granted P S = each (system_of S) (rules_of P S.figures) (ActIsGranted P
     let r : WorkerRow (system_of S) R K w (Act q cap a) = rw (who, what) at row in
     let t = r.0 in
     let m = uses-copy (system_of S) R K w t.0 legal room t.1 t.2 t.3 t.6 in
-    (m.0, t.0, m.1, t.4, t.5, base-is S R K w m.0 t.0 legal room m.1.of_call t.1.notif_is t.3.checked t.1.no_end))
+    record {
+      call = m.0;
+      received = t.0;
+      mediated = m.1;
+      granted = t.4;
+      is_first = t.5;
+      from_base = base-is S R K w m.0 t.0 legal room m.1.of_call t.1 t.2.base t.3.checked;
+    })
 
 pub plants-are-granted : (P : Policy) (S : Script) (K : List Event) → IsLegal (system_of S) (rules_of P S.figures) K → length K < 2 ^ 64 → Each (PlantIsGranted P S) K
 plants-are-granted P S = each (system_of S) (rules_of P S.figures) (PlantIsGranted P S) (λ K e legal room row w x b cap a who what.
@@ -184,7 +184,7 @@ plants-are-granted P S = each (system_of S) (rules_of P S.figures) (PlantIsGrant
     let r : WorkerRow (system_of S) R K w (Plant x b cap a) = rw (who, what) at row in
     let t = r.0 in
     let m = uses-copy (system_of S) R K w t.0 legal room t.1 t.2 t.3 t.6 in
-    (m.0, t.0, m.1, t.4, t.5))
+    record { call = m.0; received = t.0; mediated = m.1; granted = t.4; is_first = t.5 })
 
 pub puts-are-injected : (P : Policy) (S : Script) (K : List Event) → IsLegal (system_of S) (rules_of P S.figures) K → length K < 2 ^ 64 → Each (PutIsInjected P S) K
 puts-are-injected P S = each (system_of S) (rules_of P S.figures) (PutIsInjected P S) (λ K e legal room row w q a who what.
@@ -192,99 +192,19 @@ puts-are-injected P S = each (system_of S) (rules_of P S.figures) (PutIsInjected
     let r : WorkerRow (system_of S) R K w (AddfdPut q a) = rw (who, what) at row in
     let t = r.0 in
     let m = uses-copy (system_of S) R K w t.0 legal room t.1 t.2 t.3 t.4.sound in
-    (m.0, t.0, m.1, (t.4.src, t.4.place, t.4.flags, t.4.decided, t.4.is), t.5))
+    record { call = m.0; received = t.0; src = t.4.src; number = t.4.place; flags = t.4.flags; mediated = m.1; injected = t.4.decided; asked = t.4.is; is_first = t.5 })
 
-pub reads-are-own : (S : System) (R : Rules) (K : List Event) → IsLegal S R K → length K < 2 ^ 64 → Each ReadsOwn K
-reads-are-own S R = each S R ReadsOwn (λ K e legal room row w x l a who what.
+pub reads-are-own : (S : System) (R : Rules) (K : List Event) → IsLegal S R K → length K < 2 ^ 64 → Each (ReadsOwn R) K
+reads-are-own S R = each S R (ReadsOwn R) (λ K e legal room row w x l a who what.
     let r : WorkerRow S R K w (Read x l a) = rw (who, what) at row in
     let t = r.0 in
     let j = in-hand K w (session_call K w) t.0 t.1 (hand S R K legal room w) in
-    (j.0, j.1, own-memory S R K w j.0 legal room j.1 t.2.mem t.3 t.1.no_end))
-
--- ---- a native call changes no device, no mount, and no attribute but the user's own
-
--- a step that keeps what is privileged of this tree
-abbrev Keeping : Tree → NativeStep → Type 0
-Keeping T (Changes U) = KeepsPrivileged T U
-Keeping T _ = Unit {0}
-
-either : (T : Tree) (b : Bool) (x y : NativeStep) → Keeping T x → Keeping T y → Keeping T (if b then x else y)
-either T b x y p q = grind arith
-
-close-keeps : (T : Tree) (n : ℕ) (o : Option Obj) → Keeping T (close_natively n o)
-close-keeps T n o = grind arith
-
--- an attribute of the user's own
-user_own : List ℕ → Bool
-user_own name = starts_with nat_eq name (codes "user.")
-
-replaced-keeps : (rs : List AttrRow) (on : ℕ) (name value : List ℕ) → user_own name ≡ true → filter is_others_row (attr_replaced rs on name value) ≡ filter is_others_row rs
-unfolding attr_replaced user_own
-replaced-keeps [] on name value h = refl
-replaced-keeps (r ∷ rs) on name value h =
-    let ih = replaced-keeps rs on name value h in
-    elim (cases_Bool (is_attr r on name)) [
-      | inl q ↦
-          let same = name_eq-true r.name name (and_parts (r.on == on) (bytes_eq r.name name) q).1 in
-          let own : starts_with nat_eq r.name (codes "user.") ≡ true = rw same h in
-          rw (q, own)
-      | inr q ↦ rw (q, ih)
-    ]
-
-attr-keeps : (T : Tree) (on : ℕ) (name value : List ℕ) → user_own name ≡ true → KeepsPrivileged T (with_attr T on name value)
-unfolding user_own
-attr-keeps T on name value h = grind (arith, replaced-keeps)
-
-attributed-keeps : (T : Tree) (name value : List ℕ) (flags : ℕ) (p : Place) → user_own name ≡ true → Keeping T (changed (attributed T name value flags p))
-attributed-keeps T name value flags p h = grind (arith, attr-keeps)
-
-copied-keeps : (S : Script) (F : Files) (g : ℕ) (call : What) (r : Result (List (List ℕ)) ℕ) → Keeping F.tree (copied_natively S F g call r)
-unfolding user_own
-copied-keeps S F g call r = grind (arith, attributed-keeps)
-
-call-keeps : (S : Script) (K : List Event) (F : Files) (n : Name) (g : ℕ) (call : What) → Keeping F.tree (call_natively S K F n g call)
-call-keeps S K F n g call =
-    let nr = number_entered call in
-    let low = argument call 0 % 2 ^ 32 in
-    either F.tree (is_number nr 3) _ _ (close-keeps F.tree low (F.slot g low)) (
-    either F.tree (is_number nr 39) (Gives (pid_named K n)) _ tt (
-    either F.tree (is_number nr nr_sysinfo) _ _ (either F.tree (all_mapped S.map (argument call 0) sysinfo_size) Writes (Fails efault) tt tt) (
-    either F.tree (has_base (base_dirfd nr (entered call))) _ (Fails enosys) (copied-keeps S F g call (copy_of (mapped_byte S K g) (plan nr (entered call)))) tt)))
-
-native-keeps : (F : Files) (g : ℕ) (s : NativeStep) → Keeping F.tree s → KeepsPrivileged F.tree (after_native F g s).tree
-native-keeps F g s h = grind arith
-
-after-keeps : (S : Script) (K : List Event) (F : Files) (a : Actor) (what : What) → is_effect what ≡ false → KeepsPrivileged F.tree (files_after S K F a what).tree
-after-keeps S K F a what h =
-    let c = call-keeps S K F (task_name a) (place_or (group_named K (task_name a))) (last_call K (task_name a)) in
-    let n = native-keeps F (own_group K a) (native_step S K F (task_name a)) c in
-    grind arith
-
-acts-alone : (S : Script) (K : List Event) (e : Event) → ActsAlone S K e
-unfolding files
-acts-alone S K e h = after-keeps S K (files S K) e.who e.what h
-
-pub runs-without-rights : (P : Policy) (S : Script) (K : List Event) → IsLegal (system_of S) (rules_of P S.figures) K → length K < 2 ^ 64 → Each (WithoutRights S) K
-runs-without-rights P S = each (system_of S) (rules_of P S.figures) (WithoutRights S) (λ K e legal room row.
-    (λ n a who what. let r : TaskRow (system_of S) K n (Native a) = rw (who, what) at row in (r.2, r.3), acts-alone S K e))
-
--- ---- an installation goes where its request goes in the table before, and changes that slot alone
-
-pub installs-there : (P : Policy) (S : Script) (K : List Event) → IsLegal (system_of S) (rules_of P S.figures) K → length K < 2 ^ 64 → Each (InstallsThere S) K
-installs-there P S = each (system_of S) (rules_of P S.figures) (InstallsThere S) (λ K e legal room row x what. there K e.who x (rw what at row))
-  where
-    first-slot : (K : List Event) (n : Name) (c : ℕ) (x : Result ℕ ℕ) (rs : List ℕ) → caller K c ≡ n → call_of K n ≡ Some c → queue K c ≡ rs
-        → Install x ≡ install_step (system_of S) K c rs → x ≡ slot_answer (slot_next S K (Task n))
-    first-slot K n c x rs m q z h = grind arith
-
-    there : (K : List Event) (a : Actor) (x : Result ℕ ℕ) → Row (system_of S) (rules_of P S.figures) K a (Install x) → x ≡ slot_answer (slot_next S K a)
-    there K (Task n) x row = let c = row.1.0 in first-slot K n c x (queue K c) (waits-in-call K n c row.1.1).1 row.1.1 refl row.1.3
-    there K a x row = absurd (grind arith)
-
-pub installs_alone : (S : Script) (K : List Event) (e : Event) → InstallsAlone S K e
-unfolding files
-installs_alone S K e m what f j = rw what
-
-pub fails_alone : (S : Script) (K : List Event) (e : Event) → FailsAlone S K e
-unfolding files
-fails_alone S K e x what f j = rw what
+    record {
+      call = j.0;
+      received = t.0;
+      of_call = j.1;
+      notif_is = t.1.notif_is;
+      of_notif = sym j.3 ∙ j.2.whole_is;
+      memory = own-memory S R K w j.0 legal room j.1 t.2.mem t.3 t.1.no_end;
+      piece = t.4;
+    })

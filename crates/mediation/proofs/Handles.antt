@@ -1,18 +1,19 @@
 -- What a session has opened is its call's task's.
 -- By induction on the steps since the call was fetched, and since a listed call's task lives and waits in it.
-use Rattle.mediation.proofs.Common.{Actor, after_native, alive, and_parts, any_of, ap, arith, base, base_after, base_answer, base_of, BaseIs, before, Bool, caller, cases_Bool, Check, checks, eq-eqb}
-use Rattle.mediation.proofs.Common.{ev, Event, event_at, event_at-below, event_at-here, event_at-older, false, files, Files, gives_up, group, HasMemory, holder, inl, InOrder, inr, is_good_check}
+use Rattle.mediation.proofs.Common.{Actor, after_native, ◌==◌, alive, and_parts, any_of, ap, arith, base, base_after, base_answer, base_of, BaseIs, before, Bool, caller, cases_Bool, Check, checks, eq-eqb}
+use Rattle.mediation.proofs.Common.{Err, opens_base, or_parts, ev, Event, event_at, event_at-below, event_at-here, event_at-older, false, files, Files, gives_up, group, HasMemory, holder, inl, InOrder, inr, is_good_check}
 use Rattle.mediation.proofs.Common.{is_opening, is_worker, IsLegal, length, LetGo, List, listed, mem, mem_after, NativeStep, None, Notif, notif_of, Ok, OpenBase, opened, opens, Option}
 use Rattle.mediation.proofs.Common.{place_or, Recv, refl, Result, Rules, Script, session, session_call, Some, sym, System, system_of, task_place, true, waiting, What, Worker, ℕ, ℤ, ◌&&◌, ◌<◌, ◌^◌}
 use Rattle.mediation.proofs.Common.{◌∙◌, ◌∷◌, ◌≡◌, ◌⊎◌}
 use Rattle.history_frames.proofs.Groups.{group-kept, place-kept}
 use Rattle.history_frames.proofs.Listed.{is_call-below}
 use Rattle.history_frames.proofs.Queued.{worker-is}
-use Rattle.mediation.proofs.Rows.{WorkerRow, Row, by-few-steps}
+use Rattle.mediation.proofs.Rows.{AtWork, WorkerRow, Row, by-few-steps}
 use Rattle.mediation.proofs.Tasks.{listed-was, calls_are_last, place-is, living-holder}
 use Rattle.mediation.proofs.Calls.{before-older, before-newest}
 use Rattle.mediation.proofs.Hands.{worker-row, still, moved, session-grows, InSession, Hand, works, idle-of, hand, in-hand-of, FetchKept, WorkKept, StillKept, by-session, named-own}
 use Rattle.mediation.proofs.Order.{goods, any-number, in_order}
+use Rattle.sys_abi.specs.Errnos.{esrch, ebadf}
 
 -- ---- what a session has opened is its call's task's
 
@@ -101,7 +102,7 @@ module _ (S : System) (R : Rules) where
       let t = steady K legal room w c s in
       let m = t.opened o g in
       let v = (t.handles i.t m.0 i.task_is (inr (good-check (session K w) k g))).0 m.1 in
-      (group K i.t, m.1 ∙ ap Some v, ap (opened K) i.task_is)
+      record { group = group K i.t; opened_is = m.1 ∙ ap Some v; of_caller = ap (opened K) i.task_is }
 
 -- ---- the base from which a session's effect goes is one that the session opened, in a slot of its call's task's group
 
@@ -134,6 +135,59 @@ files-drops S K a w h = grind arith
 -- an opening that was answered ok found a living task
 opening-found : (S : System) (K : List Event) (o : Option ℕ) (d : ℤ) (u : Unit {0}) → ◌≡◌ {A = Result (Unit {0}) ℕ} (Ok u) (base_answer S K o d) → (t : ℕ) × (o ≡ Some t)
 opening-found S K o d u h = grind arith
+
+-- where a session was answered that the base of its call isn't open
+record Refused (R : Rules) (K : List Event) (w c : ℕ) : Type 0 where
+  pub place : ℕ
+  pub pid : ℕ
+  pub dirfd : ℤ
+  pub opening : event_at K place ≡ Some (ev (Worker w) (OpenBase pid dirfd (Err ebadf)))
+  pub in_session : session_call (before K place) w ≡ Some c
+  pub named : (n : Notif) → notif_of (session K w) ≡ Some n → (pid ≡ n.pid) × (R.dirfd n ≡ Some dirfd)
+
+-- a session that opened its base, and goes on without one, was answered so
+abbrev WasRefused : Rules → List Event → ℕ → ℕ → Type 0
+WasRefused R K w c = any_of opens_base (session K w) ≡ true → any_of gives_up (session K w) ≡ false → base K w ≡ None → Refused R K w c
+
+refused-later : (R : Rules) (e : Event) (K : List Event) (w c : ℕ) → notif_of (session (e ∷ K) w) ≡ notif_of (session K w) → Refused R K w c → Refused R (e ∷ K) w c
+refused-later R e K w c n r =
+    let l = event_at-below K r.place _ r.opening in
+    let q = before-older e K r.place (omega arith) in
+    record { place = r.place; pid = r.pid; dirfd = r.dirfd; opening = rw event_at-older r.opening; in_session = rw q r.in_session; named = rw n r.named }
+
+-- an opening of a base that doesn't end the session was answered that it isn't open
+only-closed : (S : System) (K : List Event) (o : Option ℕ) (d : ℤ) (x : ℕ) → ◌≡◌ {A = Result (Unit {0}) ℕ} (Err x) (base_answer S K o d) → (x == esrch) ≡ false → x ≡ ebadf
+only-closed S K o d x h g = grind arith
+
+module _ (S : System) (R : Rules) where
+  refused-fetch : FetchKept S R (WasRefused R)
+  refused-fetch K a w c n legal room q row o idle own h g b = absurd (cc (rw own at h))
+
+  refused-work : WorkKept S R (WasRefused R)
+  refused-work K a w c (OpenBase p d (Ok u)) legal room q row v i s own ih h g b =
+      let f = opening-found S K (holder K p) d u row.1 in
+      absurd (cc ((moved (ev a (OpenBase p d (Ok u))) K w q).2, ap (opened K) f.1, b))
+  refused-work K a w c (OpenBase p d (Err x)) legal room q row v i s own ih h g b =
+      let e = ev a (OpenBase p d (Err x)) in
+      let z = only-closed S K (holder K p) d x row.1 (or_parts (x == esrch) (any_of gives_up (session K w)) (rw own at g)).0 in
+      record {
+        place = length K;
+        pid = p;
+        dirfd = d;
+        opening = event_at-here e K ∙ rw (worker-is a w q, z) refl;
+        in_session = rw (before-newest e K) s;
+        named = rw own (λ n m. grind arith);
+      }
+  refused-work K a w c what legal room q row v i s own ih h g b =
+      let m = (moved (ev a what) K w q).2 in
+      refused-later R (ev a what) K w c (rw own (grind arith)) (ih (grind arith) (grind arith) (grind arith))
+
+  refused-still : StillKept S R (WasRefused R)
+  refused-still K e w c legal room q i s own ih h g b =
+      refused-later R e K w c (ap notif_of own) (ih (rw own at h) (rw own at g) (sym (still e K w q).3 ∙ b))
+
+  was-refused : (K : List Event) → IsLegal S R K → length K < 2 ^ 64 → (w c : ℕ) → session_call K w ≡ Some c → WasRefused R K w c
+  was-refused = by-session S R (WasRefused R) refused-fetch refused-work refused-still
 
 -- what a worker's base is, and where it was opened
 record Based (S : Script) (R : Rules) (K : List Event) (w g : ℕ) : Type 0 where
@@ -199,21 +253,32 @@ module _ (S : Script) (R : Rules) where
             rw z (elim (session-stays K a what w (hand (system_of S) R K legal room w) r q) [ inl n ↦ rw n (f ∙ (rw n at b)) | inr t ↦ based-later e K w (base K w) f t.0 t.1 b ])
       ]
 
-  -- after a good check, the base is the one that the call names, or none
-  pub base-is : (K : List Event) (w c : ℕ) (n : Notif) → IsLegal (system_of S) R K → length K < 2 ^ 64 → session_call K w ≡ Some c → notif_of (session K w) ≡ Some n
-      → any_of checks (session K w) ≡ true → any_of gives_up (session K w) ≡ false
-      → BaseIs S K w c n (R.dirfd n)
+  -- after a good check, the base is the one that the call names, where it was opened
+  pub base-is : (K : List Event) (w c : ℕ) (n : Notif) → IsLegal (system_of S) R K → length K < 2 ^ 64 → session_call K w ≡ Some c → AtWork (session K w) n
+      → (R.dirfd n ≡ None) ⊎ (any_of opens_base (session K w) ≡ true) → any_of checks (session K w) ≡ true → BaseIs S K w c n (R.dirfd n)
   unfolding files_base
-  base-is K w c n legal room s m k g = go (base K w) refl (based K legal room w)
+  base-is K w c n legal room s work o k = go (base K w) refl (based K legal room w)
     where
-      none-is : (d : Option ℤ) → files_base S K w ≡ None → BaseIs S K w c n d
-      none-is None b = b
-      none-is (Some d) b = inl b
+      refused : (d : Option ℤ) → R.dirfd n ≡ d → base K w ≡ None → files_base S K w ≡ None → BaseIs S K w c n d
+      refused None q none b = b
+      refused (Some d) q none b =
+          let was : any_of opens_base (session K w) ≡ true = elim o [ inl z ↦ absurd (cc (z, q)) | inr z ↦ z ] in
+          let r = was-refused (system_of S) R K legal room w c s was work.no_end none in
+          let f = r.named n work.notif_is in
+          let same : r.dirfd ≡ d = cc (f.1, q) in
+          inl (record { place = r.place; opening = rw (f.0, same) at r.opening; in_session = r.in_session; no_base = b })
 
       go : (o : Option ℕ) → base K w ≡ o → BaseOf S R K w o → BaseIs S K w c n (R.dirfd n)
-      go None q b = none-is (R.dirfd n) b
+      go None q b = refused (R.dirfd n) refl q b
       go (Some x) q b =
           let i = in-hand-of (system_of S) R K w c legal room s in
-          let y = ((steady (system_of S) R K legal room w c s).handles i.t x i.task_is (inr (good-check (session K w) k g))).1 q in
-          let f = b.named n m in
-          rw f.1 (inr (x, record { place = b.place; opening = rw f.0 at b.opening; in_session = b.in_session ∙ s; of_caller = ap (opened K) i.task_is ∙ ap Some (sym y); is_base = b.is_base }))
+          let y = ((steady (system_of S) R K legal room w c s).handles i.t x i.task_is (inr (good-check (session K w) k work.no_end))).1 q in
+          let f = b.named n work.notif_is in
+          rw f.1 (inr (record {
+            place = b.place;
+            group = x;
+            opening = rw f.0 at b.opening;
+            in_session = b.in_session ∙ s;
+            of_caller = ap (opened K) i.task_is ∙ ap Some (sym y);
+            is_base = b.is_base;
+          }))

@@ -1,4 +1,7 @@
 pub mod Common
+pub mod KernelRows
+pub mod KernelTasks
+pub mod KernelCalls
 pub mod Rows
 pub mod Tasks
 pub mod Calls
@@ -9,6 +12,8 @@ pub mod Phases
 pub mod Replies
 pub mod Causes
 pub mod Spent
+pub mod Unprivileged
+pub mod KernelClauses
 pub mod Effects
 pub mod Told
 pub mod Audited

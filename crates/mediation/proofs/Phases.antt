@@ -8,7 +8,8 @@ use Rattle.mediation.proofs.Common.{Result, Rules, Send, session, session_call, 
 use Rattle.mediation.proofs.Common.{Worker, ℕ, ◌&&◌, ◌+◌, ◌<◌, ◌==◌, ◌^◌, ◌||◌, ◌∙◌, ◌∷◌, ◌≡◌, ◌≤◌, ◌⊎◌}
 use Rattle.history_frames.proofs.Listed.{listed-below, is_call-below, fetched-new}
 use Rattle.history_frames.proofs.Queued.{call-older, call-above, call-here}
-use Rattle.mediation.proofs.Rows.{WorkerRow, Row, row-of, by-few-steps}
+use Rattle.mediation.proofs.Rows.{WorkerRow, Row, row-of, of-kernel, kernel-row, by-few-steps}
+use Rattle.mediation.proofs.KernelCalls.{refetch}
 use Rattle.mediation.proofs.Tasks.{same-name, listed-was, waits-here, place-is}
 use Rattle.mediation.proofs.Calls.{ids_differ, fetching, named-fetched}
 use Rattle.mediation.proofs.Hands.{InSession, works, at-work, no-fetch, in-hand, hand, in-hand-of, FetchKept, WorkKept, StillKept, by-session, named-own}
@@ -75,14 +76,9 @@ unfolding fetcher fetched
 fetcher-fetched [] c w h = cc
 fetcher-fetched (e ∷ K) c w h = let ih = fetcher-fetched K c w in grind arith
 
--- a fetched call is not fetched again
-pub refetch : (S : System) (R : Rules) (K : List Event) (a : Actor) (what : What) (c : ℕ) → IsLegal S R K → length K < 2 ^ 64 → Row S R K a what → fetched K c ≡ true
-    → (fetches what (id K c) && listed K c) ≡ false
-refetch S R K a what c legal room r f = grind (arith, fetching, ids_differ)
-
 pub fetcher-stays : (S : System) (R : Rules) (K : List Event) (e : Event) (c : ℕ) → IsLegal S R K → length K < 2 ^ 64 → Row S R K e.who e.what → fetched K c ≡ true → fetcher (e ∷ K) c ≡ fetcher K c
 unfolding fetcher
-fetcher-stays S R K e c legal room r f = rw (refetch S R K e.who e.what c legal room r f)
+fetcher-stays S R K e c legal room r f = rw (refetch S K e.who e.what c (of-kernel S R K legal) room (kernel-row S R K e.who e.what r) f)
 
 -- what is in hand was fetched by that worker
 pub hand-fetcher : (S : System) (R : Rules) (K : List Event) → IsLegal S R K → length K < 2 ^ 64 → (w c : ℕ) → session_call K w ≡ Some c → fetcher K c ≡ Some w

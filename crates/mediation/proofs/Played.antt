@@ -9,9 +9,9 @@ use Rattle.hist_model.specs.Legal.{with_schedule, with_steps}
 use Rattle.hist_model.specs.declared.script.Step.{Step}
 use Rattle.mediation.specs.Refused.{EarlyEffect, EffectAfterEnd, LateInstallation, LateOpening, NewestFirst, SecondAnswer, SecondReading, ValidByNumber, WithoutSend}
 use Rattle.mediation.specs.Scheduled.{AllScheduled, GoesOn, IsScheduled}
-use Rattle.mediation.proofs.Rows.{Row, step-row, row-of}
+use Rattle.mediation.proofs.Rows.{Row, step-row, row-of, kernel-row}
 use Rattle.mediation.proofs.Calls.{fetching}
-use Rattle.mediation.proofs.Replies.{takes-own}
+use Rattle.mediation.proofs.KernelClauses.{takes-own}
 
 -- ---- the history that a schedule plays is legal
 
@@ -30,7 +30,7 @@ module _ (P : Policy) (S : Script) where
       let R = rules_of P S.figures in
       let what = step T R (f ∷ K) a in
       let m = may-step a s in
-      record { legal = ((g.unclosed, m.0, refl, m.1), g.legal); unclosed = never-closes a what s (takes-own T R (f ∷ K) a what (step-row T R (f ∷ K) a m.0)) }
+      record { legal = ((g.unclosed, m.0, refl, m.1), g.legal); unclosed = never-closes a what s (takes-own T (f ∷ K) a what (kernel-row T R (f ∷ K) a what (step-row T R (f ∷ K) a m.0))) }
 
   steps : (a : Actor) (n : ℕ) (K : List Event) → IsScheduled a → GoesOn P S K → GoesOn P S (with_steps P S a n K)
   unfolding with_steps

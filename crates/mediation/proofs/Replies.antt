@@ -1,21 +1,20 @@
--- Answers, installations and returns: whose they are, what causes them, and that they arrive.
+-- Answers, installations and returns: whose they are, and what causes them.
 -- By how far the call is, and the row of the step.
-use Rattle.mediation.proofs.Common.{[], Actor, and_parts, answers, ap, arith, Arrives, Back, back_of, Bool, both_ways, call_at, caller, cases_Bool, cases_order, closes, Each, eq-eqb, Err}
-use Rattle.mediation.proofs.Common.{ErrorsKnown, ev, Event, event_at-below, event_at-here, event_at-older, false, false_from_ne_true, fetched, fetcher, fetches, first_sends, gave, has_send}
-use Rattle.mediation.proofs.Common.{id, if◌then◌else◌, inl, inr, Install, install_of, installed, installs_for, is_accepted, is_busy, is_first, is_known_error, is_lost, is_send, is_task}
-use Rattle.mediation.proofs.Common.{IsLegal, leaves, length, List, listed, LostIfGone, named, NamesOwn, NeverBusy, None, Notif, notif_of, Ok, OneSession, or_cases, or_left, or_right, pos, puts_to}
-use Rattle.mediation.proofs.Common.{queue, refl, reply, Resume, returns, Rules, Send, session, session_call, settled, settles, Some, subst, sym, System, TakenByItsActor, takes, true, What}
-use Rattle.mediation.proofs.Common.{Worker, worker_of, ℕ, ◌&&◌, ◌++◌, ◌<◌, ◌==◌, ◌^◌, ◌||◌, ◌∙◌, ◌∷◌, ◌≡◌, ◌≤◌, ◌⊎◌}
-use Rattle.history_frames.proofs.Listed.{listed-below, listed-older}
+use Rattle.mediation.proofs.Common.{[], Actor, and_parts, answers, ap, arith, Back, back_of, Bool, both_ways, call_at, cases_Bool, cases_order, Each, eq-eqb, Err}
+use Rattle.mediation.proofs.Common.{ErrorsKnown, ev, Event, event_at-below, event_at-here, event_at-older, false, false_from_ne_true, fetcher, first_sends, gave, has_send}
+use Rattle.mediation.proofs.Common.{id, if◌then◌else◌, inl, inr, Install, install_of, installed, installs_for, is_accepted, is_busy, is_first, is_known_error, is_lost, is_send}
+use Rattle.mediation.proofs.Common.{IsLegal, length, List, listed, LostIfGone, named, NamesOwn, NeverBusy, None, Notif, notif_of, Ok, or_cases, or_left, or_right, pos, puts_to}
+use Rattle.mediation.proofs.Common.{queue, refl, reply, Resume, Rules, Send, session, session_call, settled, settles, Some, subst, sym, System, true, What}
+use Rattle.mediation.proofs.Common.{Worker, worker_of, ℕ, ◌&&◌, ◌++◌, ◌<◌, ◌==◌, ◌^◌, ◌||◌, ◌∙◌, ◌∷◌, ◌≡◌, ◌⊎◌}
 use Rattle.history_frames.proofs.Queued.{call-older, call-above, call-here}
-use Rattle.hist_model.specs.Mediated.{fetches_of}
 use Rattle.hist_model.specs.Settlers.{installed_for, InstallsOwn, IsRequestOf, ResumesOwn, ReturnsInstalled, sent, Source}
 use Rattle.hist_model.specs.declared.event.Back.TheVariants.{Value}
-use Rattle.mediation.proofs.Rows.{WorkerRow, TaskRow, Row, by-steps, by-few-steps, each}
-use Rattle.mediation.proofs.Tasks.{same-name, waits-in-call, waits-here}
-use Rattle.mediation.proofs.Calls.{settles-once, once-more, before-older, before-newest}
+use Rattle.mediation.proofs.KernelRows.{TaskRow}
+use Rattle.mediation.proofs.Rows.{WorkerRow, Row, by-steps, by-few-steps, each}
+use Rattle.mediation.proofs.Tasks.{waits-in-call}
+use Rattle.mediation.proofs.Calls.{settles-once, before-older, before-newest}
 use Rattle.mediation.proofs.Hands.{InSession, works, at-work, in-hand, hand, named-own}
-use Rattle.mediation.proofs.Phases.{install-first, installing, install-above, fetcher-fetched, refetch, fetcher-stays, hand-fetcher, actor-acts, fine}
+use Rattle.mediation.proofs.Phases.{install-first, installing, install-above, fetcher-fetched, fetcher-stays, hand-fetcher, actor-acts, fine}
 use Rattle.mediation.proofs.Phases.{at-call}
 use Rattle.sys_abi.specs.Errnos.{enoent, ebadf, emfile}
 
@@ -168,13 +167,7 @@ module _ (S : System) (R : Rules) where
   returns_installed = each S R ReturnsInstalled (λ K e legal room row n b who what c r m k q h.
       let t : TaskRow S K n (Resume b) = rw (who, what) at row in let g = gave-number K legal room c r m q h in grind arith)
 
-  -- ---- answers: whose they are, what causes them, and when they tell that a call is gone
-
-  pub takes-own : (K : List Event) (a : Actor) (what : What) → Row S R K a what → takes a what ≡ true
-  takes-own K a what row = grind arith
-
-  pub taken_by_its_actor : (K : List Event) → IsLegal S R K → length K < 2 ^ 64 → Each TakenByItsActor K
-  taken_by_its_actor = each S R TakenByItsActor (λ K e legal room. takes-own K e.who e.what)
+  -- ---- answers: whose they are, and when they tell that a call is gone
 
   -- an accepted step is for the call that its session's id names
   accepts : (K : List Event) (w c : ℕ) (what : What) (n : Notif) → WorkerRow S R K w what → is_accepted what ≡ true → notif_of (session K w) ≡ Some n
@@ -188,7 +181,7 @@ module _ (S : System) (R : Rules) where
       own K (Worker w) what legal room row h =
           let g = at-work S R K w what row (grind arith) in
           let j = in-hand K w (session_call K w) g.0 g.1 (hand S R K legal room w) in
-          (w, j.0, refl, j.1, accepts K w j.0 what j.2.n row h j.2.notif_is (named-own S R K w j.0 legal room j.2))
+          record { worker = w; call = j.0; taken_by = refl; of_call = j.1; names = accepts K w j.0 what j.2.n row h j.2.notif_is (named-own S R K w j.0 legal room j.2) }
       own K a what legal room row h = grind arith
 
   pub lost_if_gone : (K : List Event) → IsLegal S R K → length K < 2 ^ 64 → Each LostIfGone K
@@ -197,7 +190,11 @@ module _ (S : System) (R : Rules) where
       let v : works e.what ≡ true = grind arith in
       let g = at-work S R K w e.what r v in
       let j = in-hand K w (session_call K w) g.0 g.1 (hand S R K legal room w) in
-      (j.0, j.1, false_from_ne_true (listed K j.0) (λ l. both_ways (is_lost e.what) (fine S R K e.who w j.0 legal room l j.2 (at-call S R K legal room w j.0 j.1 l) e.what r v).0 z)))
+      record {
+        call = j.0;
+        of_call = j.1;
+        not_listed = false_from_ne_true (listed K j.0) (λ l. both_ways (is_lost e.what) (fine S R K e.who w j.0 legal room l j.2 (at-call S R K legal room w j.0 j.1 l) e.what r v).0 z);
+      })
 
   install-known : (K : List Event) → IsLegal S R K → (p x : ℕ) → install_of K p ≡ Some (Err x) → ((x == ebadf) || ((x == emfile) || (x == enoent))) ≡ true
   unfolding install_of
@@ -229,20 +226,3 @@ module _ (S : System) (R : Rules) where
 
   pub never_busy : (K : List Event) → IsLegal S R K → length K < 2 ^ 64 → Each NeverBusy K
   never_busy = each S R NeverBusy (λ K e legal room row. known-not-busy e.what (error-known K e.who e.what legal room row))
-
-  -- ---- a call has one session, and what was accepted for it arrives
-
-  -- a settled call is left by its return alone
-  leaves-settled : (K : List Event) (c : ℕ) (a : Actor) (what : What) → IsLegal S R K → settled K c ≡ true → listed K c ≡ true → Row S R K a what
-      → (closes what || (leaves what && is_task a (caller K c))) ≡ true → (closes what || (returns what && is_task a (caller K c))) ≡ true
-  leaves-settled K c a what legal s l r u = let w = waits-here S R K c legal l in grind (arith, same-name)
-
-  pub arrives : (K : List Event) → IsLegal S R K → length K < 2 ^ 64 → Each Arrives K
-  arrives = each S R Arrives (λ K e legal room row c s l g. leaves-settled K c e.who e.what legal s l row (grind (arith, listed-below, listed-older)))
-
-  pub one_session : (K : List Event) → IsLegal S R K → length K < 2 ^ 64 → OneSession K
-  unfolding fetches_of fetched
-  one_session K legal room c =
-      let Once = λ (L : List Event). (fetches_of L c ≤ 1) × (fetched L c ≡ false → fetches_of L c ≡ 0) in
-      (by-few-steps S R Once (omega arith, λ _. refl) (λ L e l r row. once-more (fetches_of L c) (fetches e.what (id L c) && listed L c) (fetched L c)
-      (λ q. false_from_ne_true (fetched L c) (λ h. both_ways (fetches e.what (id L c) && listed L c) (refetch S R L e.who e.what c l r row h) q))) K legal room).0

@@ -1,16 +1,17 @@
--- What the step of an actor can be, kind by kind, and what it then tells.
--- By the cases of the definition of the step.
-use Rattle.mediation.proofs.Common.{[], Act, Actor, Acts, Addfd, addfd_of, AddfdPut, AddfdTake, alive, any_of, arith, base_answer, based_deed, call_of, calls, Check, check_answer}
-use Rattle.mediation.proofs.Common.{checked_deed, checks, Close, count, Deed, deed, deed_step, Deliver, Each, Enter, Err, Event, Exit, false, first_some, found, gives_up}
-use Rattle.mediation.proofs.Common.{Handler, holder, if◌then◌else◌, Injects, Install, install_at, install_step, instr_step, is_child, is_ended_child, is_letgo, is_spent, is_start, IsLegal, IsStep}
-use Rattle.mediation.proofs.Common.{judged_deed, length, LetGo, List, Listener, lives, mem, Name, named, Native, next_child, next_instr, next_pid, next_signal, None, not, Notif}
-use Rattle.mediation.proofs.Common.{notif_of, number_of, Ok, oldest, oldest_unfetched, open_deed, OpenBase, OpenMem, opens, opens_base, Option, outcome_in, owes_native, Plant, Plants, Poke}
-use Rattle.mediation.proofs.Common.{put_answer, put_in, queue, Read, read_answer, reads_of, Reap, Recv, recv_answer, refl, reply, request_listed, request_of, Resume, Rules, Send, send_answer}
-use Rattle.mediation.proofs.Common.{session, settled, Signal, Skip, Some, Spawn, spawn_answer, Start, step, System, take_in, take_step, Task, task_step, true, wait_step, What, with_id, Worker}
-use Rattle.mediation.proofs.Common.{worker_step, ℕ, ◌%◌, ◌+◌, ◌<◌, ◌==◌, ◌^◌, ◌∷◌, ◌≡◌, ◌⊎◌}
-use Rattle.hist_model.specs.declared.event.SpawnKind.{SpawnKind}
-use Rattle.hist_model.specs.declared.event.SpawnKind.TheVariants.{New}
-use Rattle.sys_abi.specs.Errnos.{esrch, edquot, efault, ebadf}
+-- What the step of an actor of a legal history can be, kind by kind, and what it then tells.
+-- By the rows of the kernel, and by the cases of what a worker of this broker does next.
+use Rattle.hist_model.specs.Steps.{IsOfKernel, IsKernelStep, IsKernelAnswer}
+use Rattle.hist_model.specs.Legal.{Legal, OfKernel}
+use Rattle.mediation.proofs.Common.{Policy, Script, rules_of, system_of}
+use Rattle.mediation.proofs.KernelRows.{Answered, KernelRow, task_row}
+use Rattle.mediation.proofs.Common.{[], Act, Actor, Acts, Addfd, addfd_of, AddfdPut, AddfdTake, any_of, arith, based_deed, Check}
+use Rattle.mediation.proofs.Common.{checked_deed, checks, Deed, deed, deed_step, Each, Event, false, first_some, gives_up}
+use Rattle.mediation.proofs.Common.{Injects, is_letgo, is_start, IsLegal, IsStep}
+use Rattle.mediation.proofs.Common.{judged_deed, length, LetGo, List, Listener, mem, None, Notif}
+use Rattle.mediation.proofs.Common.{notif_of, number_of, Ok, open_deed, OpenBase, OpenMem, opens, opens_base, Option, outcome_in, Plant, Plants}
+use Rattle.mediation.proofs.Common.{put_in, Read, reads_of, Recv, refl, Rules, Send}
+use Rattle.mediation.proofs.Common.{session, Skip, Some, Start, step, System, take_in, Task, true, What, Worker}
+use Rattle.mediation.proofs.Common.{worker_step, ℕ, ◌<◌, ◌==◌, ◌^◌, ◌∷◌, ◌≡◌, ◌⊎◌}
 
 -- the session is at work, for this notification
 pub record AtWork (own : List What) (n : Notif) : Type 0 where
@@ -53,56 +54,15 @@ Told R own (AddfdTake a) = (n : Notif) × AtWork own n × HasOpened R own n × H
 Told R own (Send x b a) = (n : Notif) × AtWork own n × HasOpened R own n × HasCopied R own n × (x ≡ n.id) × (judged_deed R n own (R.fault n (reads_of own)) ≡ Deed.Send n.id b)
 Told R own _ = ⊥
 
--- what a worker's step is answered
-abbrev pub Answered : System → List Event → ℕ → What → Type 0
-Answered S K w (Recv a) = (count K == 0 ≡ false) × (a ≡ recv_answer K (oldest_unfetched K))
-Answered S K w (OpenMem p a) = a ≡ (if lives K (holder K p) then Ok tt else Err esrch)
-Answered S K w (OpenBase p d a) = a ≡ base_answer S K (holder K p) d
-Answered S K w (Check x a) = a ≡ check_answer K (named K x)
-Answered S K w (Read x n a) = a ≡ read_answer S K (mem K w) x n
-Answered S K w (Act q cap a) = a ≡ (if is_spent K cap then Err edquot else S.outcome K w q)
-Answered S K w (Plant x bs cap a) = a ≡ (if is_spent K cap then Err edquot else (if S.writable x then Ok tt else Err efault))
-Answered S K w (AddfdPut q a) = a ≡ (if not (S.source q.srcfd) then Err ebadf else put_answer S K q (named K q.id))
-Answered S K w (AddfdTake a) = AddfdTake a ≡ take_step (install_at K (request_of K w)) (request_listed K (request_of K w))
-Answered S K w (Send x b a) = a ≡ send_answer K (named K x)
-Answered S K w _ = Unit {0}
-
 -- a worker's step tells this
 abbrev pub WorkerRow : System → Rules → List Event → ℕ → What → Type 0
 WorkerRow S R K w Skip = Unit {0}
 WorkerRow S R K w what = Told R (session K w) what × Answered S K w what
 
--- a task's step tells this
-abbrev pub TaskRow : System → List Event → Name → What → Type 0
-TaskRow S K n (Spawn m a) = (alive K n ≡ true) × (call_of K n ≡ None) × ((kind : SpawnKind) × (a ≡ spawn_answer (next_pid S.pidbase S.pidmax K) kind)) × (m ≡ next_child K n)
-TaskRow S K n (Poke a b) = (alive K n ≡ true) × (call_of K n ≡ None)
-TaskRow S K n (Handler s m) = (alive K n ≡ true) × (call_of K n ≡ None)
-TaskRow S K n (Enter nr args v) = (alive K n ≡ true) × (call_of K n ≡ None) × (v ≡ with_id (S.verdict nr args) ((S.firstid + calls K) % 2 ^ 64))
-TaskRow S K n (Native a) = (alive K n ≡ true) × (call_of K n ≡ None) × (owes_native K n ≡ true) × (a ≡ S.native K n)
-TaskRow S K n (Install a) = (alive K n ≡ true) × ((c : ℕ) × (call_of K n ≡ Some c) × (settled K c ≡ false) × (Install a ≡ install_step S K c (queue K c)))
-TaskRow S K n (Resume b) = (alive K n ≡ true) × ((c : ℕ) × (call_of K n ≡ Some c) × (settled K c ≡ true) × (b ≡ reply K c))
-TaskRow S K n (Signal p s a) = (alive K n ≡ true) × (call_of K n ≡ None) × (a ≡ found (holder K p))
-TaskRow S K n (Deliver s effect) = (alive K n ≡ true) × (next_signal S.killable K n ≡ Some s) × ((c : ℕ) → call_of K n ≡ Some c → settled K c ≡ false)
-TaskRow S K n (Reap a) = (alive K n ≡ true) × (call_of K n ≡ None) × (Reap a ≡ wait_step K (oldest (is_child K n) (length K)) (oldest (is_ended_child K n) (length K)))
-TaskRow S K n Exit = (alive K n ≡ true) × (call_of K n ≡ None)
-TaskRow S K n Skip = Unit {0}
-TaskRow S K n _ = ⊥
-
--- the start is the first event, and nothing else
+-- and each other step what it tells of any history of the kernel
 abbrev pub Row : System → Rules → List Event → Actor → What → Type 0
-Row S R K Start (Spawn m a) = (K ≡ []) × (m ≡ 0 ∷ []) × (a ≡ Ok (S.pidbase + 1, New))
-Row S R K Start _ = ⊥
-Row S R K (Task n) a = TaskRow S K n a
-Row S R K (Worker w) a = WorkerRow S R K w a
-Row S R K Listener Close = Unit {0}
-Row S R K Listener _ = ⊥
-
-instr_row : (S : System) (K : List Event) (n : Name) → alive K n ≡ true → call_of K n ≡ None → TaskRow S K n (instr_step S K n (next_instr S K n))
-instr_row S K n living q = grind arith
-
-task_row : (S : System) (K : List Event) (n : Name) → TaskRow S K n (task_step S K n)
-unfolding task_step
-task_row S K n = grind (arith, instr_row)
+Row S R K (Worker w) what = WorkerRow S R K w what
+Row S R K a what = KernelRow S K a what
 
 module _ (S : System) (R : Rules) (K : List Event) (w : ℕ) where
   judged_row : (n : Notif) → AtWork (session K w) n → HasOpened R (session K w) n → HasCopied R (session K w) n
@@ -132,6 +92,31 @@ pub row-of : (S : System) (R : Rules) (K : List Event) (e : Event) → IsStep S 
 row-of S R [] e r = rw r (refl, refl, refl)
 row-of S R (f ∷ K) e r = rw (← r.2) at (step-row S R (f ∷ K) e.who r.1)
 
+-- ---- a legal history is one of the kernel
+
+answer-of : (S : System) (R : Rules) (K : List Event) (a : Actor) (w : What) → is_start a ≡ false → w ≡ step S R K a → IsKernelAnswer S K a w
+unfolding step worker_step
+answer-of S R K Start w h q = absurd cc
+answer-of S R K (Task n) w h q = q
+answer-of S R K (Worker n) w h q = (deed R (session K n), q)
+answer-of S R K Listener w h q = q
+
+kernel-step : (S : System) (R : Rules) (K : List Event) (e : Event) → IsStep S R K e → IsKernelStep S K e
+kernel-step S R [] e r = r
+kernel-step S R (f ∷ K) e r = (r.0, answer-of S R (f ∷ K) e.who e.what r.1 r.2, r.3)
+
+pub of-kernel : (S : System) (R : Rules) (K : List Event) → IsLegal S R K → IsOfKernel S K
+of-kernel S R [] legal = tt
+of-kernel S R (e ∷ K) legal = (kernel-step S R K e legal.0, of-kernel S R K legal.1)
+
+pub legal_of_kernel : (P : Policy) (S : Script) (K : List Event) → Legal P S K → OfKernel S K
+legal_of_kernel P S K legal = (of-kernel (system_of S) (rules_of P S.figures) K legal.0, legal.1, legal.2)
+
+pub kernel-row : (S : System) (R : Rules) (K : List Event) (a : Actor) (w : What) → Row S R K a w → KernelRow S K a w
+kernel-row S R K a w r = grind arith
+
+-- ---- inductions
+
 -- what holds of no events, and with one more step still, holds of each legal history
 pub by-steps : (S : System) (R : Rules) (P : List Event → Type 0) → P [] → ((K : List Event) (e : Event) → IsLegal S R K → Row S R K e.who e.what → P K → P (e ∷ K)) → (K : List Event) → IsLegal S R K → P K
 by-steps S R P z f [] legal = z
@@ -147,8 +132,3 @@ by-few-steps S R P z f (e ∷ K) legal room = f K e legal.1 (omega arith) (row-o
 pub each : (S : System) (R : Rules) (P : List Event → Event → Type 0) → ((K : List Event) (e : Event) → IsLegal S R K → length K < 2 ^ 64 → Row S R K e.who e.what → P K e)
     → (K : List Event) → IsLegal S R K → length K < 2 ^ 64 → Each P K
 each S R P f = by-few-steps S R (Each P) tt (λ K e legal room r ih. (f K e legal room r, ih))
-
--- and so does what holds of any list of events and one more
-pub each-any : (P : List Event → Event → Type 0) → ((K : List Event) (e : Event) → P K e) → (K : List Event) → Each P K
-each-any P f [] = tt
-each-any P f (e ∷ K) = (f K e, each-any P f K)

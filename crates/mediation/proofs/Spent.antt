@@ -1,7 +1,7 @@
--- An effect answers EDQUOT exactly where its rule's times were spent before it.
--- By the row of the effect, since no request, and no writing of an answer, has this error of its own: a walk of a path meets others.
-use Rattle.mediation.proofs.Common.{[], Act, Actor, arith, Bool, Each, Err, ev, Event, false, files, Files, if◌then◌else◌, is_spent, IsLegal, length, List, None, Ok, Option, outcome, Plant, Policy, refl, Result, rules_of, Script, Some, suc}
-use Rattle.mediation.proofs.Common.{SpentExactly, system_of, true, What, Worker, zero, ℕ, ◌&&◌, ◌<◌, ◌==◌, ◌^◌, ◌∙◌, ◌∷◌, ◌≡◌}
+-- No request, and no writing of an answer, has the error EDQUOT of its own: an effect has it exactly where its rule's times were spent.
+-- By the cases of the walk of a path, and of what is done where it ends.
+use Rattle.mediation.proofs.Common.{[], Act, arith, Bool, Err, false, Files, if◌then◌else◌, List, None, Ok, Option, outcome, Plant, refl, Result, Script, Some, suc}
+use Rattle.mediation.proofs.Common.{true, zero, ℕ, ◌&&◌, ◌==◌, ◌∷◌, ◌≡◌}
 use Rattle.hist_model.specs.Legal.{done}
 use Rattle.hist_model.specs.Natives.{root}
 use Rattle.hist_model.specs.Effects.{attributed, effect, made, mounted, opened, perform}
@@ -14,7 +14,6 @@ use Rattle.hist_model.specs.declared.request.Node.{Node}
 use Rattle.hist_model.specs.declared.request.Request.{Request}
 use Rattle.hist_model.specs.TreeOps.{TreeOp, Fail, Make, Mount, SetAttr, Open}
 use Rattle.sys_abi.specs.Errnos.{efault, einval, edquot}
-use Rattle.mediation.proofs.Rows.{Row, each}
 
 -- the walk ends with EDQUOT
 abbrev is_quota : Place → Bool
@@ -95,7 +94,7 @@ operation-other T root base (Open path cloexec) h = opened-other T (reaches T ro
 perform-other : (T : Tree) (root : ℕ) (base : Option ℕ) (q : Request) → fails_quota (perform T root base (effect q)) ≡ false
 perform-other T root base q = operation-other T root base (effect q) (effect-other q)
 
-outcome-other : (S : Script) (F : Files) (w : ℕ) (q : Request) → fails_quota (outcome S F w q) ≡ false
+pub outcome-other : (S : Script) (F : Files) (w : ℕ) (q : Request) → fails_quota (outcome S F w q) ≡ false
 outcome-other S F w q = done-other (perform F.tree (root S) (F.base w) (effect q)) (perform-other F.tree (root S) (F.base w) q)
   where
     done-other : (r : Result Tree ℕ) → fails_quota r ≡ false → fails_quota (done r) ≡ false
@@ -103,28 +102,18 @@ outcome-other S F w q = done-other (perform F.tree (root S) (F.base w) (effect q
     done-other (Err e) h = h
 
 -- so an effect has it exactly where it was answered before that
-answered-so : (s : Bool) (r a : Result (Unit {0}) ℕ) → fails_quota r ≡ false → a ≡ (if s then Err edquot else r) → fails_quota a ≡ s
+pub answered-so : (s : Bool) (r a : Result (Unit {0}) ℕ) → fails_quota r ≡ false → a ≡ (if s then Err edquot else r) → fails_quota a ≡ s
 answered-so true r a h q = rw q refl
 answered-so false r a h q = rw q h
 
-written-other : (b : Bool) → fails_quota {A = Unit {0}} (if b then Ok tt else Err efault) ≡ false
+pub written-other : (b : Bool) → fails_quota {A = Unit {0}} (if b then Ok tt else Err efault) ≡ false
 written-other true = refl
 written-other false = refl
 
-act-spent : (q : Request) (cap : Option Cap) (a : Result (Unit {0}) ℕ) → was_spent (Act q cap a) ≡ fails_quota a
+pub act-spent : (q : Request) (cap : Option Cap) (a : Result (Unit {0}) ℕ) → was_spent (Act q cap a) ≡ fails_quota a
 act-spent q cap (Ok u) = refl
 act-spent q cap (Err e) = refl
 
-plant-spent : (x : ℕ) (b : List ℕ) (cap : Option Cap) (a : Result (Unit {0}) ℕ) → was_spent (Plant x b cap a) ≡ fails_quota a
+pub plant-spent : (x : ℕ) (b : List ℕ) (cap : Option Cap) (a : Result (Unit {0}) ℕ) → was_spent (Plant x b cap a) ≡ fails_quota a
 plant-spent x b cap (Ok u) = refl
 plant-spent x b cap (Err e) = refl
-
-pub spent-exactly : (P : Policy) (S : Script) (K : List Event) → IsLegal (system_of S) (rules_of P S.figures) K → length K < 2 ^ 64 → Each SpentExactly K
-spent-exactly P S = each (system_of S) (rules_of P S.figures) SpentExactly (λ K e legal room row. exactly K e.who e.what row)
-  where
-    exactly : (K : List Event) (a : Actor) (what : What) → Row (system_of S) (rules_of P S.figures) K a what → SpentExactly K (ev a what)
-    exactly K (Worker w) (Act q cap a) row = act-spent q cap a ∙ answered-so (is_spent K cap) (outcome S (files S K) w q) a (outcome-other S (files S K) w q) row.1
-    exactly K (Worker w) (Plant x b cap a) row = plant-spent x b cap a ∙ answered-so (is_spent K cap) (if (system_of S).writable x then Ok tt else Err efault) a (written-other ((system_of S).writable x)) row.1
-    exactly K a (Act q cap x) row = absurd (grind arith)
-    exactly K a (Plant y b cap x) row = absurd (grind arith)
-    exactly K a what row = refl

@@ -1,35 +1,19 @@
--- What a worker is told is so: of the call that it fetches, of what it opens and reads, and of what it does.
--- By the row of the step, and by how far its session's call is.
-use Rattle.mediation.proofs.Common.{Actor, ActsOnTree, Addfd, AddfdPut, AddfdTake, and_parts, ap, arith, base_answer, base_of, Bool, call_at, cases_Bool, Check, check_answer, ChecksOwn, Each, Err, ev, Event, false}
-use Rattle.mediation.proofs.Common.{FetchesOldest, files, FindsNone, first_some, if◌then◌else◌, inl, inr, install_of, IsLegal, length, List, list_any, listed, lives, named, None, Notif, notif}
-use Rattle.mediation.proofs.Common.{Ok, oldest_unfetched, OpenBase, opened, OpensHeld, Option, place_or, PlantsWhereMapped, Policy, put_in, PutsOpen, ReadsMemory, Recv, refl}
+-- What a worker is told of its session's call is so: by its checks, its requests for a descriptor, and what it takes.
+-- By the row of the step, and by how far the call is. What any broker is told stands among the clauses of the kernel.
+use Rattle.mediation.proofs.Common.{Addfd, AddfdPut, AddfdTake, and_parts, ap, arith, Bool, call_at, cases_Bool, Check, check_answer, ChecksOwn, Each, Err, ev, Event, false}
+use Rattle.mediation.proofs.Common.{first_some, if◌then◌else◌, inl, inr, install_of, IsLegal, length, List, list_any, listed, named, None, Notif}
+use Rattle.mediation.proofs.Common.{Ok, Option, Policy, put_in, PutsOpen, refl}
 use Rattle.mediation.proofs.Common.{request_of, Result, Rules, rules_of, Script, session, session_call, Some, sym, System, system_of, take_in, take_step, TakesInstalled, true, waiting}
-use Rattle.mediation.proofs.Common.{Worker, ℕ, ℤ, ◌<◌, ◌==◌, ◌^◌, ◌∙◌, ◌∷◌, ◌≡◌, ◌⊎◌}
-use Rattle.hist_model.specs.Legal.{is_there}
+use Rattle.mediation.proofs.Common.{Worker, ℕ, ◌<◌, ◌==◌, ◌^◌, ◌∙◌, ◌∷◌, ◌≡◌, ◌⊎◌}
 use Rattle.history_frames.proofs.Queued.{call-here, call-older, request-below, request-more}
-use Rattle.mediation.proofs.Rows.{WorkerRow, Row, each}
-use Rattle.mediation.proofs.Calls.{fetching, named-fetched}
+use Rattle.mediation.proofs.Rows.{WorkerRow, each}
+use Rattle.hist_model.specs.Mediated.{IsGoneRequest}
 use Rattle.mediation.proofs.Hands.{InSession, in-hand, hand, FetchKept, WorkKept, StillKept, by-session, named-own}
 use Rattle.mediation.proofs.Handles.{check-listed}
 use Rattle.mediation.proofs.Phases.{fine, at-call}
-use Rattle.sys_abi.specs.Errnos.{enoent, esrch, ebadf}
+use Rattle.sys_abi.specs.Errnos.{enoent, ebadf}
 
 module _ (S : System) (R : Rules) where
-  -- ---- a receive gives the notification of the oldest call that nobody has fetched
-
-  pub fetches_oldest : (K : List Event) → IsLegal S R K → length K < 2 ^ 64 → Each FetchesOldest K
-  fetches_oldest = each S R FetchesOldest (λ K e legal room row n what. oldest K e.who n legal room (rw what at row))
-    where
-      oldest : (K : List Event) (a : Actor) (n : Notif) → IsLegal S R K → length K < 2 ^ 64 → Row S R K a (Recv (Ok n)) → (c : ℕ) × (oldest_unfetched K ≡ Some c) × (n ≡ notif K c) × (named K n.id ≡ Some c)
-      oldest K (Worker w) n legal room r = let f = fetching K n (oldest_unfetched K) refl r.1.1 in (f.0, f.4, f.1, named-fetched S R K n legal room r.1.1 ∙ f.4)
-      oldest K a n legal room r = absurd (grind arith)
-
-  pub finds_none : (K : List Event) → IsLegal S R K → length K < 2 ^ 64 → Each FindsNone K
-  finds_none = each S R FindsNone (λ K e legal room row x what. none K e.who x (oldest_unfetched K) refl (rw what at row))
-    where
-      none : (K : List Event) (a : Actor) (x : ℕ) (o : Option ℕ) → oldest_unfetched K ≡ o → Row S R K a (Recv (Err x)) → (oldest_unfetched K ≡ None) × (x ≡ enoent)
-      none K a x o q r = grind arith
-
   -- ---- a check finds its session's call exactly where that is listed
 
   pub checks_own : (K : List Event) → IsLegal S R K → length K < 2 ^ 64 → Each ChecksOwn K
@@ -38,7 +22,7 @@ module _ (S : System) (R : Rules) where
       let j = in-hand K w (session_call K w) r.0.0 r.0.1 (hand S R K legal room w) in
       let m : x ≡ j.2.n.id = r.0.3 ∙ ap (λ (n : Notif). n.id) (sym j.3) in
       let f = found K w j.0 x a legal room j.1 j.2 m r in
-      (j.0, j.1, m ∙ j.2.id_is, f.0, f.1))
+      record { call = j.0; of_call = j.1; id_is = m ∙ j.2.id_is; answer = f.0; waits = f.1 })
     where
       found : (K : List Event) (w c x : ℕ) (a : Result (Unit {0}) ℕ) → IsLegal S R K → length K < 2 ^ 64 → session_call K w ≡ Some c → (i : InSession K w c) → x ≡ i.n.id → WorkerRow S R K w (Check x a)
           → (a ≡ (if listed K c then Ok tt else Err enoent)) × (listed K c ≡ true → waiting K c ≡ true)
@@ -83,44 +67,27 @@ module _ (S : System) (R : Rules) where
   taken : (o : Option (Result ℕ ℕ)) (on : Bool) (a : Result ℕ ℕ) → AddfdTake a ≡ take_step o on → (o ≡ Some a) ⊎ ((o ≡ None) × (on ≡ false) × (a ≡ Err enoent))
   taken o on a q = grind arith
 
+  taken-of : (K : List Event) (c r : ℕ) (a : Result ℕ ℕ) → AddfdTake a ≡ take_step (install_of K r) (listed K c) → (install_of K r ≡ Some a) ⊎ (IsGoneRequest K c r × (a ≡ Err enoent))
+  taken-of K c r a q = elim (taken (install_of K r) (listed K c) a q) [ inl s ↦ inl s | inr n ↦ inr (record { not_installed = n.0; not_listed = n.1 }, n.2) ]
+
   pub takes_installed : (K : List Event) → IsLegal S R K → length K < 2 ^ 64 → Each TakesInstalled K
   takes_installed = each S R TakesInstalled (λ K e legal room row w a who what.
       let r : WorkerRow S R K w (AddfdTake a) = rw (who, what) at row in
       let t = r.0 in
       let j = in-hand K w (session_call K w) t.0 t.1 (hand S R K legal room w) in
       let p = put-for K legal room w j.0 j.1 t.4.0 t.4.1 t.5 in
-      (j.0, p.0, j.1, p.1, p.2, taken (install_of K p.0) (listed K j.0) a (rw (p.1, p.2) at r.1)))
+      record { call = j.0; request = p.0; of_call = j.1; put_by = p.1; for_call = p.2; answer = taken-of K j.0 p.0 a (rw (p.1, p.2) at r.1) })
 
--- ---- what is opened, read and done is answered as it is
+-- ---- a request for a descriptor is answered by whether the broker has the file, and by whether the call is listed
 
 module _ (P : Policy) (S : Script) where
-  base-told : (K : List Event) (o : Option ℕ) (d : ℤ)
-      → base_answer (system_of S) K o d ≡ (if lives K o then (if is_there (base_of S (files S K) (place_or (opened K o)) d) then Ok tt else Err ebadf) else Err esrch)
-  base-told K o d = grind arith
-
-  pub opens_held : (K : List Event) → IsLegal (system_of S) (rules_of P S.figures) K → length K < 2 ^ 64 → Each (OpensHeld S) K
-  opens_held = each (system_of S) (rules_of P S.figures) (OpensHeld S) (λ K e legal room row w p a who.
-      let r : WorkerRow (system_of S) (rules_of P S.figures) K w e.what = rw who at row in (
-        λ what. (rw what at r).1,
-        λ d what. let t : WorkerRow (system_of S) (rules_of P S.figures) K w (OpenBase p d a) = rw what at r in t.1 ∙ base-told K _ d,
-      ))
-
-  pub reads_memory : (K : List Event) → IsLegal (system_of S) (rules_of P S.figures) K → length K < 2 ^ 64 → Each (ReadsMemory S) K
-  reads_memory = each (system_of S) (rules_of P S.figures) (ReadsMemory S) (λ K e legal room row w x l g a who what m. rw m at (rw (who, what) at row).1)
-
-  pub acts_on_tree : (K : List Event) → IsLegal (system_of S) (rules_of P S.figures) K → length K < 2 ^ 64 → Each (ActsOnTree S) K
-  acts_on_tree = each (system_of S) (rules_of P S.figures) (ActsOnTree S) (λ K e legal room row w q cap a who what. (rw (who, what) at row).1)
-
-  pub plants_where_mapped : (K : List Event) → IsLegal (system_of S) (rules_of P S.figures) K → length K < 2 ^ 64 → Each (PlantsWhereMapped S) K
-  plants_where_mapped = each (system_of S) (rules_of P S.figures) (PlantsWhereMapped S) (λ K e legal room row w x b cap a who what. (rw (who, what) at row).1)
-
   pub puts_open : (K : List Event) → IsLegal (system_of S) (rules_of P S.figures) K → length K < 2 ^ 64 → Each (PutsOpen S) K
   puts_open = each (system_of S) (rules_of P S.figures) (PutsOpen S) (λ K e legal room row w q a who what.
       let T = system_of S in
       let R = rules_of P S.figures in
       let r : WorkerRow T R K w (AddfdPut q a) = rw (who, what) at row in
       let j = in-hand K w (session_call K w) r.0.0 r.0.1 (hand T R K legal room w) in
-      (j.0, j.1, answered K w j.0 q a legal room j.1 j.2 r))
+      record { call = j.0; of_call = j.1; answer = answered K w j.0 q a legal room j.1 j.2 r })
     where
       answered : (K : List Event) (w c : ℕ) (q : Addfd) (a : Result (Unit {0}) ℕ) → IsLegal (system_of S) (rules_of P S.figures) K → length K < 2 ^ 64 → session_call K w ≡ Some c → (i : InSession K w c)
           → WorkerRow (system_of S) (rules_of P S.figures) K w (AddfdPut q a) → a ≡ (if list_any (λ m. m == q.srcfd) S.broker then (if listed K c then Ok tt else Err enoent) else Err ebadf)

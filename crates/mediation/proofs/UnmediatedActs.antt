@@ -33,10 +33,10 @@ Tells P S Part = (K : List Event) (w c : ℕ) (n : Notif) → IsMediated (rules_
 -- each act then has this part
 pub at-acts : (P : Policy) (S : Script) (Part : List Event → ℕ → Type 0) → Tells P S Part → (K : List Event) → Each (ActIsGranted P S) K → AtActs Part K
 at-acts P S Part f [] h = tt
-at-acts P S Part f (e ∷ K) h = (λ w q cap a who what. let z = h.0 w q cap a who what in f K w z.0 z.1 z.2 z.4 z.5, at-acts P S Part f K h.1)
+at-acts P S Part f (e ∷ K) h = (λ w q cap a who what. let z = h.0 w q cap a who what in f K w z.call z.received z.mediated z.is_first z.from_base, at-acts P S Part f K h.1)
 
 breaks-part : (Part : List Event → ℕ → Type 0) → Tells rules container Part → (steps : Turns) → (AtActs Part (history steps) → ⊥) → Breaks (AtActs Part) steps
-breaks-part Part f steps refuted = breaks (AtActs Part) steps (λ m. at-acts rules container Part f (history steps) m.acts) refuted
+breaks-part Part f steps refuted = breaks (AtActs Part) steps (λ m. at-acts rules container Part f (history steps) m.effects.acts) refuted
 
 without-call : Breaks (AtActs HasCall) act_without_call
 unfolding session_call
@@ -89,7 +89,7 @@ by-reused-number = breaks-part (OfCall HasMemory) (λ K w c n m o b. (c, m.of_ca
     let z = h.0 0 _ _ _ refl refl in
     let c : z.0 ≡ 3 = cc (z.1) in
     let v = rw c at z.2 in
-    cc (v.1, v.2))
+    cc (v.opened_is, v.of_caller))
 
 again : Breaks (AtActs IsFirst) act_again
 unfolding session
@@ -97,11 +97,11 @@ again = breaks-part IsFirst (λ K w c n m o b. o) act_again (λ h. cc (h.0 0 _ _
 
 plant-again : Breaks (Each (PlantIsGranted rules container)) plant_again
 unfolding session
-plant-again = breaks (Each (PlantIsGranted rules container)) plant_again (λ m. m.plants) (λ h. cc ((h.0 0 _ _ _ _ refl refl).4))
+plant-again = breaks (Each (PlantIsGranted rules container)) plant_again (λ m. m.effects.plants) (λ h. cc ((h.0 0 _ _ _ _ refl refl).is_first))
 
 put-again : Breaks (Each (PutIsInjected rules container)) put_again
 unfolding session
-put-again = breaks (Each (PutIsInjected rules container)) put_again (λ m. m.puts) (λ h. cc ((h.0 0 _ _ refl refl).4))
+put-again = breaks (Each (PutIsInjected rules container)) put_again (λ m. m.effects.puts) (λ h. cc ((h.0 0 _ _ refl refl).is_first))
 
 pub second_uses : Breaks (AtActs IsFirst) act_again × Breaks (Each (PlantIsGranted rules container)) plant_again × Breaks (Each (PutIsInjected rules container)) put_again
 second_uses = (again, plant-again, put-again)
@@ -115,7 +115,7 @@ began-act r h = grind arith
 
 act-unnamed : Breaks (AuditNames rules) act_unnamed
 unfolding event_at before session progress read_text request fits decide_from decide session_at heard
-act-unnamed = breaks (AuditNames rules) act_unnamed (λ m. m.audit) (λ h. let z = h 9 0 making (notified node 1) refl refl refl in cc ((rw (began-act z.place z.receive) at z.finds).0))
+act-unnamed = breaks (AuditNames rules) act_unnamed (λ m. m.answers.audit) (λ h. let z = h 9 0 making (notified node 1) refl refl refl in cc ((rw (began-act z.place z.receive) at z.finds).finding))
 
 began-put : (r : ℕ) → event_at (history put_unnamed) r ≡ Some (ev worker (Recv (Ok (notified file 1)))) → r ≡ 3
 unfolding event_at
@@ -123,7 +123,7 @@ began-put r h = grind arith
 
 put-unnamed : Breaks (AuditNames rules) put_unnamed
 unfolding event_at before session progress read_text request fits decide_from decide session_at heard
-put-unnamed = breaks (AuditNames rules) put_unnamed (λ m. m.audit) (λ h. let z = h 9 0 (AddfdPut asked (Ok tt)) (notified file 1) refl refl refl in cc ((rw (began-put z.place z.receive) at z.finds).0))
+put-unnamed = breaks (AuditNames rules) put_unnamed (λ m. m.answers.audit) (λ h. let z = h 9 0 (AddfdPut asked (Ok tt)) (notified file 1) refl refl refl in cc ((rw (began-put z.place z.receive) at z.finds).finding))
 
 began-plant : (r : ℕ) → event_at (history plant_unnamed) r ≡ Some (ev worker (Recv (Ok (notified figures 1)))) → r ≡ 2
 unfolding event_at
@@ -131,7 +131,7 @@ began-plant r h = grind arith
 
 plant-unnamed : Breaks (AuditNames rules) plant_unnamed
 unfolding event_at before session progress read_text request fits decide_from decide session_at heard
-plant-unnamed = breaks (AuditNames rules) plant_unnamed (λ m. m.audit) (λ h. let z = h 6 0 planting (notified figures 1) refl refl refl in cc ((rw (began-plant z.place z.receive) at z.finds).0))
+plant-unnamed = breaks (AuditNames rules) plant_unnamed (λ m. m.answers.audit) (λ h. let z = h 6 0 planting (notified figures 1) refl refl refl in cc ((rw (began-plant z.place z.receive) at z.finds).finding))
 
 pub unnamed_uses : Breaks (AuditNames rules) act_unnamed × Breaks (AuditNames rules) plant_unnamed × Breaks (AuditNames rules) put_unnamed
 unnamed_uses = (act-unnamed, plant-unnamed, put-unnamed)

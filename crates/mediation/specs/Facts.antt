@@ -11,7 +11,8 @@ use Rattle.hist_model.specs.Steps.{IsLegal, makes_in, session_call, task_place, 
 use Rattle.hist_model.specs.Legal.{Finished}
 use Rattle.hist_model.specs.declared.event.Event.{Event}
 use Rattle.hist_model.specs.declared.event.What.{What}
-use Rattle.hist_model.specs.declared.event.What.TheVariants.{Spawn, Enter, Deliver, Reap, Exit, Resume, Close, Recv, AddfdPut, Install, Send}
+use Rattle.hist_model.specs.declared.event.What.TheVariants.{Spawn, Enter, Deliver, Reap, Exit, Resume, Close}
+use Rattle.hist_model.specs.declared.event.What.TheVariants.{Recv, AddfdPut, Install, Send}
 
 -- two calls have different ids, listed or not
 abbrev pub CallIdsDiffer : List Event → Type 0
@@ -30,19 +31,26 @@ StaysFinished S R = (K L : List Event) → IsLegal S R (L ++ K) → Finished K �
 abbrev pub NamesDiffer : List Event → Type 0
 NamesDiffer K = (t u : ℕ) → makes_in (event_at K t) ≡ true → makes_in (event_at K u) ≡ true → name_of K t ≡ name_of K u → t ≡ u
 
--- while a session's call is listed, and once a check of it was good, the memory and the base that it has opened are of its call's task's group
+-- while a session's call is listed, and once a check of it was good, the memory and the base that it has
+-- opened are of its call's task's group
 abbrev pub HandlesOwn : List Event → Type 0
-HandlesOwn K = (w c t g : ℕ) → session_call K w ≡ Some c → task_place K (caller K c) ≡ Some t → (listed K c ≡ true) ⊎ (any_of is_good_check (session K w) ≡ true)
+HandlesOwn K = (w c t g : ℕ) → session_call K w ≡ Some c → task_place K (caller K c) ≡ Some t
+    → (listed K c ≡ true) ⊎ (any_of is_good_check (session K w) ≡ true)
     → (mem K w ≡ Some g → g ≡ group K t) × (base K w ≡ Some g → g ≡ group K t)
 
--- a fetched call that is still listed: where its session has ended, or is about to, it is settled; where the session goes on, and isn't to get the descriptor that it asked for, it waits
+-- a fetched call that is still listed: where its session has ended, or is about to, it is settled; where the session goes on,
+-- and isn't to get the descriptor that it asked for, it waits
 pub record SessionSettles (K : List Event) (w c : ℕ) : Type 0 where
   pub ended : (session_call K w ≡ Some c → ⊥) → settled K c ≡ true
   pub ends : session_call K w ≡ Some c → any_of gives_up (session K w) ≡ true → settled K c ≡ true
-  pub goes_on : session_call K w ≡ Some c → any_of gives_up (session K w) ≡ false → first_some put_in (session K w) ≡ None → waiting K c ≡ true
-  -- it waits too where the broker had no such descriptor, and where the installation failed, before the session has taken that answer and after it
-  pub refused : (x : ℕ) → session_call K w ≡ Some c → any_of gives_up (session K w) ≡ false → first_some put_in (session K w) ≡ Some (Err x) → waiting K c ≡ true
-  pub failed : (x : ℕ) → session_call K w ≡ Some c → any_of gives_up (session K w) ≡ false → (install_at K (request_of K w) ≡ Some (Err x)) ⊎ (first_some take_in (session K w) ≡ Some (Err x)) → waiting K c ≡ true
+  pub goes_on : session_call K w ≡ Some c → any_of gives_up (session K w) ≡ false
+      → first_some put_in (session K w) ≡ None → waiting K c ≡ true
+  -- it waits too where the broker had no such descriptor, and where the installation failed,
+  -- before the session has taken that answer and after it
+  pub refused : (x : ℕ) → session_call K w ≡ Some c → any_of gives_up (session K w) ≡ false
+      → first_some put_in (session K w) ≡ Some (Err x) → waiting K c ≡ true
+  pub failed : (x : ℕ) → session_call K w ≡ Some c → any_of gives_up (session K w) ≡ false
+      → (install_at K (request_of K w) ≡ Some (Err x)) ⊎ (first_some take_in (session K w) ≡ Some (Err x)) → waiting K c ≡ true
 
 abbrev pub SessionsSettle : List Event → Type 0
 SessionsSettle K = (w c : ℕ) → listed K c ≡ true → fetcher K c ≡ Some w → SessionSettles K w c

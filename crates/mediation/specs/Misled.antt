@@ -1,15 +1,17 @@
--- Small histories in which a worker is told what isn't so: each breaks a clause, and is chosen to break few others. They are of the policy and the script of the
--- histories that are not mediated, and differ from the one that the schedule plays in a step or a few.
+-- Small histories in which a worker is told what isn't so: each breaks a clause, and is chosen to break few others. They are of the policy
+-- and the script of the histories that are not mediated, and differ from the one that the schedule plays in a step or a few.
 use Rattle.std.specs.Prelude.{[], ◌∷◌, ◌++◌, Some, None, Ok, Err, pos, negsuc, codes}
 use Rattle.hist_model.specs.Sysinfo.{container_sysinfo, no_figures}
 use Rattle.hist_model.specs.declared.event.Back.TheVariants.{Value, Fail}
 use Rattle.hist_model.specs.declared.event.Delivered.TheVariants.{Eintr}
 use Rattle.hist_model.specs.declared.event.Entered.TheVariants.{Notify}
 use Rattle.hist_model.specs.declared.event.SpawnKind.TheVariants.{New}
-use Rattle.hist_model.specs.declared.event.What.TheVariants.{Spawn, Enter, Install, Deliver, Recv, OpenMem, OpenBase, Check, Act, Plant, AddfdPut, AddfdTake, LetGo}
+use Rattle.hist_model.specs.declared.event.What.TheVariants.{Spawn, Enter, Install, Deliver, Recv, OpenMem, OpenBase, Check, Act}
+use Rattle.hist_model.specs.declared.event.What.TheVariants.{Plant, AddfdPut, AddfdTake, LetGo}
 use Rattle.hist_model.specs.declared.request.Request.TheVariants.{Mknod}
 use Rattle.mediation.specs.Refused.{parent, child, worker}
-use Rattle.mediation.specs.Unmediated.{Made, Turns, answering, asked, calls, cap, copying, fetching, file, granting, node, notified, opening, putting}
+use Rattle.mediation.specs.Unmediated.{Made, Turns, answering, asked, calls, cap, copying, fetching, file, granting}
+use Rattle.mediation.specs.Unmediated.{node, notified, opening, putting}
 use Rattle.sys_abi.specs.Calls.{nr_sysinfo}
 use Rattle.sys_abi.specs.Errnos.{ebadf, eexist, enoent}
 use Rattle.sys_abi.specs.declared.wire.Notif.{Notif}
@@ -21,7 +23,8 @@ abbrev pub of_child : Notif
 of_child = record (notified node 2) { pid = 2 }
 
 abbrev pub younger_fetched : Turns
-younger_fetched = (parent, Spawn (0 ∷ 1 ∷ []) (Ok (2, New)) ∷ []) ∷ calls node 97 1 ∷ (child, Enter node.0 node.1 (Notify 2) ∷ []) ∷ (worker, Recv (Ok of_child) ∷ []) ∷ []
+younger_fetched = (parent, Spawn (0 ∷ 1 ∷ []) (Ok (2, New)) ∷ []) ∷ calls node 97 1 ∷ (child, Enter node.0 node.1 (Notify 2) ∷ [])
+    ∷ (worker, Recv (Ok of_child) ∷ []) ∷ []
 
 -- a notification has other arguments than the call
 abbrev pub altered_notification : Turns
@@ -29,7 +32,8 @@ altered_notification = calls node 97 1 ∷ (worker, fetching file 1) ∷ []
 
 -- the parent's call is interrupted before it is received, and then a receive finds nothing, though the child's is there
 abbrev pub blind_receive : Turns
-blind_receive = (parent, Spawn (0 ∷ 1 ∷ []) (Ok (2, New)) ∷ []) ∷ calls node 97 1 ∷ (child, Enter node.0 node.1 (Notify 2) ∷ []) ∷ (parent, Deliver 10 Eintr ∷ []) ∷ (worker, Recv (Err enoent) ∷ []) ∷ []
+blind_receive = (parent, Spawn (0 ∷ 1 ∷ []) (Ok (2, New)) ∷ []) ∷ calls node 97 1 ∷ (child, Enter node.0 node.1 (Notify 2) ∷ [])
+    ∷ (parent, Deliver 10 Eintr ∷ []) ∷ (worker, Recv (Err enoent) ∷ []) ∷ []
 
 -- ---- checks
 
@@ -63,7 +67,8 @@ other_bytes = calls node 98 1 ∷ (worker, granting 1) ∷ []
 
 -- the node is refused as if it were there
 abbrev pub other_outcome : Turns
-other_outcome = calls node 97 1 ∷ (worker, copying node 97 1 ++ Act (Mknod None (codes "/a") 8630 259) (Some cap) (Err eexist) ∷ answering 1 (Fail eexist)) ∷ []
+other_outcome = calls node 97 1
+    ∷ (worker, copying node 97 1 ++ Act (Mknod None (codes "/a") 8630 259) (Some cap) (Err eexist) ∷ answering 1 (Fail eexist)) ∷ []
 
 -- figures are written at an address where nothing is mapped
 abbrev pub unmapped : Made
@@ -71,7 +76,11 @@ unmapped = (pos nr_sysinfo, 0 ∷ 0 ∷ 0 ∷ 0 ∷ 0 ∷ 0 ∷ [])
 
 abbrev pub unmapped_figures : Turns
 unmapped_figures = (parent, Enter unmapped.0 unmapped.1 (Notify 1) ∷ [])
-    ∷ (worker, fetching unmapped 1 ++ OpenMem 1 (Ok tt) ∷ Check 1 (Ok tt) ∷ Check 1 (Ok tt) ∷ Plant 0 (container_sysinfo no_figures) None (Ok tt) ∷ answering 1 (Value (pos 0))) ∷ []
+    ∷ (
+      worker,
+      fetching unmapped 1 ++ OpenMem 1 (Ok tt) ∷ Check 1 (Ok tt) ∷ Check 1 (Ok tt)
+          ∷ Plant 0 (container_sysinfo no_figures) None (Ok tt) ∷ answering 1 (Value (pos 0)),
+    ) ∷ []
 
 -- ---- descriptors
 

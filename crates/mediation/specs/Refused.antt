@@ -1,4 +1,5 @@
--- Small histories that are legal but for their last event: what a wrong kernel or a wrong broker would do. And one that may seem wrong, and is legal.
+-- Small histories that are legal but for their last event: what a wrong kernel or a wrong broker would do.
+-- And one that may seem wrong, and is legal.
 use Rattle.std.specs.Prelude.{ℕ, true, false, if◌then◌else◌, List, [], ◌∷◌, Option, Some, None, Ok, Err, pos}
 use Rattle.hist_model.specs.Look.{name_eq, ev}
 use Rattle.hist_model.specs.Sessions.{Rules, Acts, Injects}
@@ -27,7 +28,8 @@ after S R (a ∷ more) K = after S R more (ev a (step S R K a) ∷ K)
 
 -- the history that begins with the start and goes on with these actors is legal, and no longer is with this event of the actor
 abbrev pub Refuses : System → Rules → List Actor → Actor → What → Type 0
-Refuses S R actors a wrong = IsLegal S R (after S R actors (start S ∷ [])) × (IsLegal S R (ev a wrong ∷ after S R actors (start S ∷ [])) → ⊥)
+Refuses S R actors a wrong =
+    IsLegal S R (after S R actors (start S ∷ [])) × (IsLegal S R (ev a wrong ∷ after S R actors (start S ∷ [])) → ⊥)
 
 -- the first task's program, and its children's; all calls are listed; two PIDs; each descriptor goes to the number 3
 abbrev pub small : List Instr → List Instr → System
@@ -53,7 +55,12 @@ first_piece (a ∷ reads) = None
 
 -- one text is read, and then the rule grants
 abbrev pub granting : Rules
-granting = record { dirfd = λ n. None; next_piece = λ n reads. first_piece reads; fault = λ n reads. None; decide = λ n reads. Acts (Sysinfo 65536) None }
+granting = record {
+  dirfd = λ n. None;
+  next_piece = λ n reads. first_piece reads;
+  fault = λ n reads. None;
+  decide = λ n reads. Acts (Sysinfo 65536) None;
+}
 
 -- nothing is read, and the rule injects
 abbrev pub injecting : Rules
@@ -73,7 +80,8 @@ worker = Worker 0
 
 -- a task calls; the worker fetches, opens, checks and reads, and does the effect before the second check
 abbrev pub EarlyEffect : Type 0
-EarlyEffect = Refuses (small calling []) granting (parent ∷ worker ∷ worker ∷ worker ∷ worker ∷ []) worker (Act (Sysinfo 65536) None (Ok tt))
+EarlyEffect =
+    Refuses (small calling []) granting (parent ∷ worker ∷ worker ∷ worker ∷ worker ∷ []) worker (Act (Sysinfo 65536) None (Ok tt))
 
 -- it checks again, and opens the memory after the last check
 abbrev pub LateOpening : Type 0
@@ -81,25 +89,30 @@ LateOpening = Refuses (small calling []) granting (parent ∷ worker ∷ worker 
 
 -- or reads the arguments again for the effect
 abbrev pub SecondReading : Type 0
-SecondReading = Refuses (small calling []) granting (parent ∷ worker ∷ worker ∷ worker ∷ worker ∷ worker ∷ []) worker (Read 65536 256 (Ok (47 ∷ 0 ∷ [])))
+SecondReading = Refuses (small calling []) granting
+    (parent ∷ worker ∷ worker ∷ worker ∷ worker ∷ worker ∷ []) worker (Read 65536 256 (Ok (47 ∷ 0 ∷ [])))
 
 -- it acts and answers, and a second answer to the call is accepted
 abbrev pub SecondAnswer : Type 0
-SecondAnswer = Refuses (small calling []) granting (parent ∷ worker ∷ worker ∷ worker ∷ worker ∷ worker ∷ worker ∷ worker ∷ []) worker (Send 1 (Value (pos 0)) (Ok tt))
+SecondAnswer = Refuses (small calling []) granting
+    (parent ∷ worker ∷ worker ∷ worker ∷ worker ∷ worker ∷ worker ∷ worker ∷ []) worker (Send 1 (Value (pos 0)) (Ok tt))
 
--- a child calls and is fetched, and its parent kills it, waits for it, and makes another one, which gets its number; the worker opens, and the
--- id is valid while any task holds its caller's PID
+-- a child calls and is fetched, and its parent kills it, waits for it, and makes another one, which gets its number; the worker opens,
+-- and the id is valid while any task holds its caller's PID
 abbrev pub ValidByNumber : Type 0
-ValidByNumber = Refuses (small (Spawn 0 ∷ Kill (Child 1) 9 ∷ Wait ∷ Spawn 0 ∷ []) calling) granting (parent ∷ child ∷ worker ∷ parent ∷ child ∷ parent ∷ parent ∷ worker ∷ []) worker (Check 1 (Ok tt))
+ValidByNumber = Refuses (small (Spawn 0 ∷ Kill (Child 1) 9 ∷ Wait ∷ Spawn 0 ∷ []) calling) granting
+    (parent ∷ child ∷ worker ∷ parent ∷ child ∷ parent ∷ parent ∷ worker ∷ []) worker (Check 1 (Ok tt))
 
--- a parent calls; the worker fetches, opens, checks twice and puts a request; a child interrupts the call, and the descriptor is installed then
+-- a parent calls; the worker fetches, opens, checks twice and puts a request; a child interrupts the call,
+-- and the descriptor is installed then
 abbrev pub LateInstallation : Type 0
 LateInstallation = Refuses (small (Handler 10 Plain ∷ Spawn 0 ∷ calling) (Kill Parent 10 ∷ [])) injecting
     (parent ∷ parent ∷ parent ∷ worker ∷ worker ∷ worker ∷ worker ∷ worker ∷ child ∷ parent ∷ []) parent (Install (Ok 3))
 
 -- a descriptor is put in without answering, to be answered later
 abbrev pub WithoutSend : Type 0
-WithoutSend = Refuses (small calling []) injecting (parent ∷ worker ∷ worker ∷ worker ∷ worker ∷ []) worker (AddfdPut (record { id = 1; flags = 0; srcfd = 5; newfd = 0; newfd_flags = 0 }) (Ok tt))
+WithoutSend = Refuses (small calling []) injecting (parent ∷ worker ∷ worker ∷ worker ∷ worker ∷ []) worker
+    (AddfdPut (record { id = 1; flags = 0; srcfd = 5; newfd = 0; newfd_flags = 0 }) (Ok tt))
 
 -- a child calls, and then its parent, whose notification, the newest, is fetched first
 abbrev pub NewestFirst : Type 0

@@ -1,23 +1,27 @@
--- Small histories of one policy and one script that are not mediated: each breaks a clause, and is chosen to break few others. They differ from the history that
--- the script's schedule plays in a step or a few, and the same worker goes on behind them where a wrong broker could hide its step so.
+-- Small histories of one policy and one script that are not mediated: each breaks a clause, and is chosen to break few others.
+-- They differ from the history that the script's schedule plays in a step or a few, and the same worker goes on behind them
+-- where a wrong broker could hide its step so.
 use Rattle.std.specs.Prelude.{◌≡◌, ℕ, ℤ, false, true, List, [], ◌∷◌, ◌++◌, Some, None, Ok, Err, pos, negsuc, codes}
 use Rattle.hist_model.specs.Look.{ev}
 use Rattle.hist_model.specs.Filters.{notify_filter}
 use Rattle.hist_model.specs.Sysinfo.{no_figures}
 use Rattle.hist_model.specs.WorkedExample.{three_turns}
 use Rattle.hist_model.specs.Decisions.{plain_rule}
-use Rattle.hist_model.specs.Legal.{played}
-use Rattle.hist_model.specs.Mediated.{Mediated}
+use Rattle.hist_model.specs.Legal.{played, rules_of}
+use Rattle.hist_model.specs.Mediated.{Mediated, ReadsOwn}
 use Rattle.hist_model.specs.declared.event.Actor.{Actor}
 use Rattle.hist_model.specs.declared.event.Actor.TheVariants.{Start, Worker, Listener}
 use Rattle.hist_model.specs.declared.event.Back.{Back}
 use Rattle.hist_model.specs.declared.event.Back.TheVariants.{Value, Fail, Continue}
-use Rattle.hist_model.specs.declared.event.Delivered.TheVariants.{Eintr}
-use Rattle.hist_model.specs.declared.event.Entered.TheVariants.{Notify}
+use Rattle.hist_model.specs.declared.event.Delivered.TheVariants.{Eintr, End, Run}
+use Rattle.hist_model.specs.declared.event.Disposition.TheVariants.{Plain}
+use Rattle.hist_model.specs.declared.event.Entered.TheVariants.{Allow, Notify}
 use Rattle.hist_model.specs.declared.event.Event.{Event}
 use Rattle.hist_model.specs.declared.event.SpawnKind.TheVariants.{New}
 use Rattle.hist_model.specs.declared.event.What.{What}
-use Rattle.hist_model.specs.declared.event.What.TheVariants.{Spawn, Poke, Enter, Native, Install, Resume, Deliver, Recv, OpenMem, OpenBase, Check, Read, Act, Plant, AddfdPut, AddfdTake, Send, LetGo, Close}
+use Rattle.hist_model.specs.declared.event.What.TheVariants.{Handler, Signal, Spawn, Poke, Enter, Native, Install, Resume}
+use Rattle.hist_model.specs.declared.event.What.TheVariants.{Deliver, Recv, OpenMem, OpenBase, Check, Read, Act, Plant, AddfdPut}
+use Rattle.hist_model.specs.declared.event.What.TheVariants.{AddfdTake, Send, LetGo, Close}
 use Rattle.hist_model.specs.declared.policy.Calls.TheVariants.{Named}
 use Rattle.hist_model.specs.declared.policy.Cap.{Cap}
 use Rattle.hist_model.specs.declared.policy.Cond.TheVariants.{Path}
@@ -34,11 +38,15 @@ use Rattle.sys_abi.specs.declared.wire.Notif.{Notif}
 
 -- ---- the policy and the script
 
--- the device node /a may be made once, and /b not; files are opened by the broker, the container's figures are told, and other nodes are the caller's affair
+-- the device node /a may be made once, and /b not; files are opened by the broker, the container's figures are told,
+-- and other nodes are the caller's affair
 abbrev pub rules : Policy
 rules = record {
-  rules = record (plain_rule (codes "once") (Named (pos nr_mknod ∷ [])) (Path (codes "/a") ∷ []) Grant) { times = Some 1 } ∷ plain_rule (codes "shut") (Named (pos nr_mknod ∷ [])) (Path (codes "/b") ∷ []) (Deny eacces)
-      ∷ plain_rule (codes "file") (Named (pos nr_openat ∷ [])) [] (Inject 5 None) ∷ plain_rule (codes "figures") (Named (pos nr_sysinfo ∷ [])) [] Grant ∷ plain_rule (codes "rest") (Named (pos nr_mknod ∷ [])) [] Pass ∷ [];
+  rules = record (plain_rule (codes "once") (Named (pos nr_mknod ∷ [])) (Path (codes "/a") ∷ []) Grant) { times = Some 1 }
+      ∷ plain_rule (codes "shut") (Named (pos nr_mknod ∷ [])) (Path (codes "/b") ∷ []) (Deny eacces)
+      ∷ plain_rule (codes "file") (Named (pos nr_openat ∷ [])) [] (Inject 5 None)
+      ∷ plain_rule (codes "figures") (Named (pos nr_sysinfo ∷ [])) [] Grant
+      ∷ plain_rule (codes "rest") (Named (pos nr_mknod ∷ [])) [] Pass ∷ [];
 }
 
 -- a call: its number and its arguments
@@ -100,6 +108,10 @@ history steps = turns steps (ev Start (Spawn (0 ∷ []) (Ok (1, New))) ∷ [])
 -- it breaks the clause, and so is not mediated
 abbrev pub Breaks : (List Event → Type 0) → Turns → Type 0
 Breaks Clause steps = (Clause (history steps) → ⊥) × (Mediated rules container (history steps) → ⊥)
+
+-- each read is the next piece of its call's arguments
+abbrev pub ReadsPlanned : List Event → Event → Type 0
+ReadsPlanned K e = ReadsOwn (rules_of rules container.figures) K e
 
 -- the notification of a call of the first task
 abbrev pub notified : Made → ℕ → Notif
@@ -174,7 +186,8 @@ second_receive = calls node 97 1 ∷ (worker, fetching node 1) ∷ (Worker 1, fe
 
 -- the child calls too, and the answer for the parent's call is accepted for the child's
 abbrev pub answer_to_another : Turns
-answer_to_another = (parent, Spawn (0 ∷ 1 ∷ []) (Ok (2, New)) ∷ []) ∷ calls node 97 1 ∷ (child, Enter node.0 node.1 (Notify 2) ∷ []) ∷ (worker, copying node 97 1 ++ making ∷ answering 2 (Value (pos 0))) ∷ []
+answer_to_another = (parent, Spawn (0 ∷ 1 ∷ []) (Ok (2, New)) ∷ []) ∷ calls node 97 1 ∷ (child, Enter node.0 node.1 (Notify 2) ∷ [])
+    ∷ (worker, copying node 97 1 ++ making ∷ answering 2 (Value (pos 0))) ∷ []
 
 -- the call returns what was not sent
 abbrev pub other_return : Turns
@@ -216,7 +229,8 @@ other_effect = calls node 97 1 ∷ (worker, copying node 97 1 ++ Act (Mknod None
 
 -- the host's figures are told for the container's
 abbrev pub other_figures : Turns
-other_figures = (parent, Enter figures.0 figures.1 (Notify 1) ∷ []) ∷ (worker, fetching figures 1 ++ OpenMem 1 (Ok tt) ∷ Check 1 (Ok tt) ∷ Check 1 (Ok tt) ∷ Plant 65792 (1 ∷ []) None (Ok tt) ∷ []) ∷ []
+other_figures = (parent, Enter figures.0 figures.1 (Notify 1) ∷ [])
+    ∷ (worker, fetching figures 1 ++ OpenMem 1 (Ok tt) ∷ Check 1 (Ok tt) ∷ Check 1 (Ok tt) ∷ Plant 65792 (1 ∷ []) None (Ok tt) ∷ []) ∷ []
 
 -- the descriptor is put in without SEND, to be answered later
 abbrev pub put_without_send : Turns
@@ -226,9 +240,24 @@ put_without_send = calls file 97 1 ∷ (worker, copying file 97 1 ++ AddfdPut (r
 abbrev pub unopened_read : Turns
 unopened_read = calls node 97 1 ∷ (worker, fetching node 1 ++ Check 1 (Ok tt) ∷ Read 65789 3 (Ok (path 97)) ∷ []) ∷ []
 
+-- the argument is /b, which is denied; the worker reads /a, which stands elsewhere, and makes that
+abbrev pub other_address : Turns
+other_address = (parent, Poke 65600 (path 97) ∷ []) ∷ calls node 98 1
+    ∷ (worker, checking node 1 ++ Read 65600 3 (Ok (path 97)) ∷ Check 1 (Ok tt) ∷ making ∷ answering 1 (Value (pos 0))) ∷ []
+
+-- the copy is read in other pieces than the plan's
+abbrev pub other_length : Turns
+other_length = calls node 97 1
+    ∷ (worker, checking node 1 ++ Read 65789 2 (Ok (47 ∷ 97 ∷ [])) ∷ Read 65791 1 (Ok (0 ∷ [])) ∷ Check 1 (Ok tt) ∷ making ∷ []) ∷ []
+
 -- a second node is made by a rule that grants one
 abbrev pub effect_too_many : Turns
-effect_too_many = calls node 97 1 ∷ (worker, granting 1) ∷ goes_on ++ (worker, OpenMem 1 (Ok tt) ∷ OpenBase 1 (negsuc 99) (Ok tt) ∷ Check 2 (Ok tt) ∷ Read 65789 3 (Ok (path 97)) ∷ Check 2 (Ok tt) ∷ making ∷ []) ∷ []
+effect_too_many = calls node 97 1 ∷ (worker, granting 1) ∷ goes_on
+    ++ (
+      worker,
+      OpenMem 1 (Ok tt) ∷ OpenBase 1 (negsuc 99) (Ok tt) ∷ Check 2 (Ok tt) ∷ Read 65789 3 (Ok (path 97))
+          ∷ Check 2 (Ok tt) ∷ making ∷ [],
+    ) ∷ []
 
 -- the first node is refused as if the rule's times were spent
 abbrev pub spent_too_soon : Turns
@@ -236,7 +265,8 @@ spent_too_soon = calls node 97 1 ∷ (worker, copying node 97 1 ++ Act (Mknod No
 
 -- the arguments are read after both checks, and the worker goes on with another call
 abbrev pub late_read : Turns
-late_read = calls node 97 1 ∷ (worker, checking node 1 ++ Check 1 (Ok tt) ∷ Read 65789 3 (Ok (path 97)) ∷ making ∷ answering 1 (Value (pos 0))) ∷ goes_on
+late_read = calls node 97 1
+    ∷ (worker, checking node 1 ++ Check 1 (Ok tt) ∷ Read 65789 3 (Ok (path 97)) ∷ making ∷ answering 1 (Value (pos 0))) ∷ goes_on
 
 -- the arguments are read again for the effect
 abbrev pub second_read : Turns
@@ -258,11 +288,13 @@ other_denial = calls node 98 1 ∷ (worker, copying node 98 1 ++ answering 1 (Fa
 
 -- no number was free for the descriptor, and the answer has the error of a broker without the file
 abbrev pub other_failure : Turns
-other_failure = calls file 97 1 ∷ (worker, putting) ∷ (parent, Install (Err ebadf) ∷ []) ∷ (worker, AddfdTake (Err ebadf) ∷ answering 1 (Fail ebadf)) ∷ []
+other_failure = calls file 97 1 ∷ (worker, putting) ∷ (parent, Install (Err ebadf) ∷ [])
+    ∷ (worker, AddfdTake (Err ebadf) ∷ answering 1 (Fail ebadf)) ∷ []
 
 -- a read gives more than it asked for, which is no copy of what was asked for
 abbrev pub long_read : Turns
-long_read = calls node 98 1 ∷ (worker, checking node 1 ++ Read 65789 3 (Ok (path 98 ++ 0 ∷ [])) ∷ Check 1 (Ok tt) ∷ answering 1 (Fail eacces)) ∷ []
+long_read =
+    calls node 98 1 ∷ (worker, checking node 1 ++ Read 65789 3 (Ok (path 98 ++ 0 ∷ [])) ∷ Check 1 (Ok tt) ∷ answering 1 (Fail eacces)) ∷ []
 
 -- ---- what is lost was gone, and a session ends for its reasons
 
@@ -276,15 +308,35 @@ given_up = calls node 97 1 ∷ (worker, copying node 97 1 ++ LetGo ∷ []) ∷ [
 
 -- it receives the next call without an answer to the one that it has
 abbrev pub left_open : Turns
-left_open = (parent, Spawn (0 ∷ 1 ∷ []) (Ok (2, New)) ∷ []) ∷ calls node 97 1 ∷ (worker, fetching node 1) ∷ (child, Enter node.0 node.1 (Notify 2) ∷ [])
+left_open = (parent, Spawn (0 ∷ 1 ∷ []) (Ok (2, New)) ∷ []) ∷ calls node 97 1 ∷ (worker, fetching node 1)
+    ∷ (child, Enter node.0 node.1 (Notify 2) ∷ [])
     ∷ (worker, Recv (Ok (record (notified node 2) { pid = 2 })) ∷ []) ∷ []
 
 -- a receive finds nothing, and no call has left
 abbrev pub empty_receive : Turns
 empty_receive = calls node 97 1 ∷ (worker, Recv (Err enoent) ∷ []) ∷ []
 
+-- ---- nothing goes past the broker
+
+-- a call of which the filter notifies is let through, and runs natively
+abbrev pub unfiltered : Turns
+unfiltered = (parent, Poke 65789 (path 97) ∷ Enter node.0 node.1 Allow ∷ Native (Err eperm) ∷ []) ∷ []
+
+-- a signal that nobody sent ends the task
+abbrev pub unsent_signal : Turns
+unsent_signal = (parent, Deliver 10 End ∷ []) ∷ []
+
+-- a signal that was sent once is delivered twice
+abbrev pub second_delivery : Turns
+second_delivery = (parent, Handler 10 Plain ∷ Signal 1 10 (Ok tt) ∷ Deliver 10 Run ∷ Deliver 10 Run ∷ []) ∷ []
+
+-- a signal without a handler leaves the task alive
+abbrev pub other_disposition : Turns
+other_disposition = (parent, Signal 1 10 (Ok tt) ∷ Deliver 10 Run ∷ []) ∷ []
+
 -- ---- a passed call runs without the broker's rights
 
 -- the device /c is passed, and made
 abbrev pub privileged_pass : Turns
-privileged_pass = calls node 99 1 ∷ (worker, copying node 99 1 ++ answering 1 Continue) ∷ (parent, Resume Continue ∷ Native (Ok 0) ∷ []) ∷ []
+privileged_pass =
+    calls node 99 1 ∷ (worker, copying node 99 1 ++ answering 1 Continue) ∷ (parent, Resume Continue ∷ Native (Ok 0) ∷ []) ∷ []

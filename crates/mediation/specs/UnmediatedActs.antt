@@ -1,5 +1,6 @@
--- Small histories with an act that rests on too little: each breaks one part of what an act rests on, and is refused if no more than this part is asked of acts.
--- They are of the policy and the script of the other small histories, and end with the act. And histories with a use of the copy for which the audit names no rule.
+-- Small histories with an act that rests on too little: each breaks one part of what an act rests on, and is refused if no more
+-- than this part is asked of acts. They are of the policy and the script of the other small histories, and end with the act.
+-- And histories with a use of the copy for which the audit names no rule.
 use Rattle.std.specs.Prelude.{◌≡◌, ℕ, List, [], ◌∷◌, ◌++◌, Option, Some, None, Result, Ok, Err, pos, negsuc, codes}
 use Rattle.hist_model.specs.Kinds.{is_good_check}
 use Rattle.hist_model.specs.Laws.{fetcher}
@@ -15,12 +16,14 @@ use Rattle.hist_model.specs.declared.event.Event.{Event}
 use Rattle.hist_model.specs.declared.event.SpawnKind.TheVariants.{New}
 use Rattle.hist_model.specs.declared.event.Entered.TheVariants.{Notify}
 use Rattle.hist_model.specs.declared.event.What.{What}
-use Rattle.hist_model.specs.declared.event.What.TheVariants.{Spawn, Poke, Enter, Signal, Deliver, Reap, Recv, OpenMem, OpenBase, Check, Read, Act, Plant, AddfdPut, LetGo}
+use Rattle.hist_model.specs.declared.event.What.TheVariants.{Spawn, Poke, Enter, Signal, Deliver, Reap, Recv, OpenMem, OpenBase, Check}
+use Rattle.hist_model.specs.declared.event.What.TheVariants.{Read, Act, Plant, AddfdPut, LetGo}
 use Rattle.hist_model.specs.declared.policy.Cap.{Cap}
 use Rattle.hist_model.specs.declared.request.Request.{Request}
 use Rattle.hist_model.specs.declared.request.Request.TheVariants.{Mknod}
 use Rattle.mediation.specs.Refused.{parent, child, worker}
-use Rattle.mediation.specs.Unmediated.{rules, container, Made, Turns, asked, cap, calls, checking, copying, fetching, figures, file, making, node, notified, path, putting, reading}
+use Rattle.mediation.specs.Unmediated.{rules, container, Made, Turns, asked, cap, calls, checking, copying, fetching, figures, file, making}
+use Rattle.mediation.specs.Unmediated.{node, notified, path, putting, reading}
 use Rattle.sys_abi.specs.Calls.{nr_mknod}
 use Rattle.sys_abi.specs.Errnos.{efault, enoent, edquot}
 use Rattle.sys_abi.specs.declared.wire.Notif.{Notif}
@@ -29,7 +32,8 @@ use Rattle.sys_abi.specs.declared.wire.Notif.{Notif}
 
 -- what is said of each act, by the events before it and its worker
 abbrev pub AtActs : (List Event → ℕ → Type 0) → List Event → Type 0
-AtActs Part = Each (λ K e. (w : ℕ) (q : Request) (cap : Option Cap) (a : Result (Unit {0}) ℕ) → e.who ≡ Worker w → e.what ≡ Act q cap a → Part K w)
+AtActs Part =
+    Each (λ K e. (w : ℕ) (q : Request) (cap : Option Cap) (a : Result (Unit {0}) ℕ) → e.who ≡ Worker w → e.what ≡ Act q cap a → Part K w)
 
 -- its session has a call, of which this holds
 abbrev pub OfCall : (List Event → ℕ → ℕ → Type 0) → List Event → ℕ → Type 0
@@ -48,10 +52,12 @@ HasNotification K w c = notif_of (session K w) ≡ Some (notif K c)
 
 -- it has the whole copy, and this has no fault
 abbrev pub HasWhole : List Event → ℕ → Type 0
-HasWhole K w = (n : Notif) × (notif_of (session K w) ≡ Some n) × ((rules_of rules container.figures).next_piece n (reads_of (session K w)) ≡ None)
+HasWhole K w =
+    (n : Notif) × (notif_of (session K w) ≡ Some n) × ((rules_of rules container.figures).next_piece n (reads_of (session K w)) ≡ None)
 
 abbrev pub HasNoFault : List Event → ℕ → Type 0
-HasNoFault K w = (n : Notif) × (notif_of (session K w) ≡ Some n) × ((rules_of rules container.figures).fault n (reads_of (session K w)) ≡ None)
+HasNoFault K w =
+    (n : Notif) × (notif_of (session K w) ≡ Some n) × ((rules_of rules container.figures).fault n (reads_of (session K w)) ≡ None)
 
 -- two checks of it were good
 abbrev pub IsChecked : List Event → ℕ → Type 0
@@ -89,28 +95,36 @@ act_on_fault = calls node 97 1 ∷ (worker, checking node 1 ++ Read 65789 3 (Err
 
 -- a signal interrupts the call after its arguments were read, and the second check is good all the same
 abbrev pub act_after_interrupt : Turns
-act_after_interrupt = calls node 97 1 ∷ (worker, reading node 97 1) ∷ (parent, Deliver 10 Eintr ∷ []) ∷ (worker, Check 1 (Ok tt) ∷ making ∷ []) ∷ []
+act_after_interrupt =
+    calls node 97 1 ∷ (worker, reading node 97 1) ∷ (parent, Deliver 10 Eintr ∷ []) ∷ (worker, Check 1 (Ok tt) ∷ making ∷ []) ∷ []
 
 abbrev pub other_child : Actor
 other_child = Task (0 ∷ 2 ∷ [])
 
--- a child calls and is received; it is killed and waited for, and another child gets its number and stores another path. The worker opens the memory of this one by the number, finds the
--- notification good, and makes what the other child has stored
+-- a child calls and is received; it is killed and waited for, and another child gets its number and stores another path.
+-- The worker opens the memory of this one by the number, finds the notification good, and makes what the other child has stored
 abbrev pub act_by_reused_number : Turns
-act_by_reused_number = (parent, Spawn (0 ∷ 1 ∷ []) (Ok (2, New)) ∷ []) ∷ (child, Poke 65789 (path 98) ∷ Enter node.0 node.1 (Notify 1) ∷ []) ∷ (worker, Recv (Ok (record (notified node 1) { pid = 2 })) ∷ [])
-    ∷ (parent, Signal 2 9 (Ok tt) ∷ []) ∷ (child, Deliver 9 End ∷ []) ∷ (parent, Reap (Ok (0 ∷ 1 ∷ [])) ∷ Spawn (0 ∷ 2 ∷ []) (Ok (2, New)) ∷ []) ∷ (other_child, Poke 65789 (path 97) ∷ [])
-    ∷ (worker, OpenMem 2 (Ok tt) ∷ OpenBase 2 (negsuc 99) (Ok tt) ∷ Check 1 (Ok tt) ∷ Read 65789 3 (Ok (path 97)) ∷ Check 1 (Ok tt) ∷ making ∷ []) ∷ []
+act_by_reused_number = (parent, Spawn (0 ∷ 1 ∷ []) (Ok (2, New)) ∷ []) ∷ (child, Poke 65789 (path 98) ∷ Enter node.0 node.1 (Notify 1) ∷ [])
+    ∷ (worker, Recv (Ok (record (notified node 1) { pid = 2 })) ∷ []) ∷ (parent, Signal 2 9 (Ok tt) ∷ []) ∷ (child, Deliver 9 End ∷ [])
+    ∷ (parent, Reap (Ok (0 ∷ 1 ∷ [])) ∷ Spawn (0 ∷ 2 ∷ []) (Ok (2, New)) ∷ []) ∷ (other_child, Poke 65789 (path 97) ∷ [])
+    ∷ (
+      worker,
+      OpenMem 2 (Ok tt) ∷ OpenBase 2 (negsuc 99) (Ok tt) ∷ Check 1 (Ok tt) ∷ Read 65789 3 (Ok (path 97))
+          ∷ Check 1 (Ok tt) ∷ making ∷ [],
+    ) ∷ []
 
 -- the node is made, and the session tries once more, which the rule's limit refuses
 abbrev pub act_again : Turns
-act_again = calls node 97 1 ∷ (worker, copying node 97 1 ++ making ∷ Act (Mknod None (codes "/a") 8630 259) (Some cap) (Err edquot) ∷ []) ∷ []
+act_again =
+    calls node 97 1 ∷ (worker, copying node 97 1 ++ making ∷ Act (Mknod None (codes "/a") 8630 259) (Some cap) (Err edquot) ∷ []) ∷ []
 
 -- the figures are written twice, and a descriptor is asked for twice
 abbrev pub planting : What
 planting = Plant 65792 (container_sysinfo container.figures) None (Ok tt)
 
 abbrev pub planted : Turns
-planted = (parent, Enter figures.0 figures.1 (Notify 1) ∷ []) ∷ (worker, fetching figures 1 ++ OpenMem 1 (Ok tt) ∷ Check 1 (Ok tt) ∷ Check 1 (Ok tt) ∷ planting ∷ []) ∷ []
+planted = (parent, Enter figures.0 figures.1 (Notify 1) ∷ [])
+    ∷ (worker, fetching figures 1 ++ OpenMem 1 (Ok tt) ∷ Check 1 (Ok tt) ∷ Check 1 (Ok tt) ∷ planting ∷ []) ∷ []
 
 abbrev pub plant_again : Turns
 plant_again = planted ++ (worker, planting ∷ []) ∷ []
@@ -120,7 +134,8 @@ put_again = calls file 97 1 ∷ (worker, putting ++ AddfdPut asked (Ok tt) ∷ [
 
 -- ---- the audit of a use
 
--- the copy is used, a signal interrupts the call, and in place of an answer the worker asks once more whether its notification is valid. So the audit says that the call was gone, and names no rule
+-- the copy is used, a signal interrupts the call, and in place of an answer the worker asks once more whether its notification is valid.
+-- So the audit says that the call was gone, and names no rule
 abbrev pub asking_again : Turns
 asking_again = (parent, Deliver 10 Eintr ∷ []) ∷ (worker, Check 1 (Err enoent) ∷ LetGo ∷ []) ∷ []
 

@@ -7,16 +7,15 @@ ghost use Rattle.hist_model.specs.Look.{before};
 ghost use Rattle.hist_model.specs.Systems.{System};
 ghost use Rattle.hist_model.specs.Sessions.{Rules, session};
 ghost use Rattle.hist_model.specs.Steps.{IsLegal};
-ghost use Rattle.hist_model.specs.Laws.{CallsAreLast, PidsDiffer, AnsweredOnce, CountIs};
 ghost use Rattle.hist_model.specs.Settlers.{InstallsOwn, ResumesOwn, ReturnsInstalled};
 ghost use Rattle.hist_model.specs.Orders.{InOrder};
 ghost use Rattle.hist_model.specs.Legal.{Legal, played};
 ghost use Rattle.hist_model.specs.ScriptRules.{IsScript};
 ghost use Rattle.hist_model.specs.declared.policy.Policy.{Policy};
 ghost use Rattle.hist_model.specs.declared.script.Script.{Script};
-ghost use Rattle.hist_model.specs.Mediated.{Mediated, Each, TakenByItsActor, NamesOwn, NeverBusy, ErrorsKnown, InstallsAlone, FailsAlone, LostIfGone, HasCause, KeepsOrder, EndsForReason};
+ghost use Rattle.hist_model.specs.Mediated.{Mediated, Each, NamesOwn, NeverBusy, ErrorsKnown, LostIfGone, HasCause, KeepsOrder, LetsGoAtEnd, ReceivesIdle};
 ghost use Rattle.mediation.specs.Journals.{actors, IsLegalByPlace, FixedByJournal};
-ghost use Rattle.mediation.specs.Facts.{CallIdsDiffer, NamesDiffer, HandlesOwn, SessionsSettle, StaysFinished, Frame};
+ghost use Rattle.mediation.specs.Facts.{HandlesOwn, SessionsSettle, StaysFinished, Frame};
 ghost use Rattle.mediation.specs.Scheduled.{AllScheduled};
 
 /// Every legal history is mediated: each notification is answered at most once; each reply or descriptor reaches the
@@ -35,36 +34,6 @@ pub fn played_is_legal()
 /// What a script plays under a policy is mediated: the schedule that a script's type keeps plays a legal history.
 pub fn played_is_mediated()
     ensures { (P : Policy) (S : Script) → IsScript S → Mediated P S (played P S) }
-{}
-
-/// Two calls have different ids, whether listed or not.
-#[tactic(auto, using(crate::proofs::Calls::call_ids))]
-pub fn ids_differ()
-    ensures { (S : System) (R : Rules) (K : List Event) → IsLegal S R K → length K < 2 ^ 64 → CallIdsDiffer K }
-{}
-
-/// A listed call's task lives, and its last step of its own but `Install` and `Skip` is that call.
-pub fn calls_are_last()
-    ensures { (S : System) (R : Rules) (K : List Event) → IsLegal S R K → CallsAreLast K }
-{}
-
-/// Two tasks that are not reaped have different PIDs.
-#[tactic(auto, using(crate::proofs::Tasks::pids_differ))]
-pub fn pids_differ()
-    ensures { (S : System) (R : Rules) (K : List Event) → IsLegal S R K → PidsDiffer K }
-{}
-
-/// A call is settled at most once.
-#[tactic(auto, using(crate::proofs::Calls::answered_once))]
-pub fn answered_once()
-    ensures { (S : System) (R : Rules) (K : List Event) → IsLegal S R K → AnsweredOnce K }
-{}
-
-/// The request count is the number of listed calls that are not fetched, and of those that left the list unfetched,
-/// less the receives that found nothing.
-#[tactic(auto, using(crate::proofs::Calls::count_is))]
-pub fn count_is()
-    ensures { (S : System) (R : Rules) (K : List Event) → IsLegal S R K → length K < 2 ^ 64 → CountIs K }
 {}
 
 /// Two legal histories with the same actors are one.
@@ -119,17 +88,10 @@ pub fn ordered()
 
 /// A worker lets go only right after it answered, took the number that its request got, or found the call or its task gone;
 /// and it receives only where it has let go, or has had no session.
-#[tactic(auto, using(crate::proofs::Causes::ends_for_reason))]
+#[tactic(auto, using(crate::proofs::Causes::lets_go_at_end, crate::proofs::Causes::receives_idle))]
 pub fn ends_for_reason()
-    ensures { (S : System) (R : Rules) (K : List Event) → IsLegal S R K → length K < 2 ^ 64 → Each EndsForReason K }
-{}
-
-/// An installation that gave a number changes the slot of this number in its task's group alone, and one that failed changes
-/// none. This follows from what the tables are, for any list of events.
-#[tactic(auto, using(crate::proofs::Effects::installs_alone, crate::proofs::Effects::fails_alone))]
-pub fn installs_alone()
-    ensures gave { (S : Script) (K : List Event) (e : Event) → InstallsAlone S K e }
-    ensures failed { (S : Script) (K : List Event) (e : Event) → FailsAlone S K e }
+    ensures lets_go { (S : System) (R : Rules) (K : List Event) → IsLegal S R K → length K < 2 ^ 64 → Each LetsGoAtEnd K }
+    ensures receives_idle { (S : System) (R : Rules) (K : List Event) → IsLegal S R K → length K < 2 ^ 64 → Each ReceivesIdle K }
 {}
 
 /// Each answer stands after two good checks and a whole copy, and has its cause in the copy and the policy.
@@ -148,12 +110,6 @@ pub fn installs_own()
 #[tactic(auto, using(crate::proofs::Replies::resumes_own))]
 pub fn resumes_own()
     ensures { (S : System) (R : Rules) (K : List Event) → IsLegal S R K → length K < 2 ^ 64 → Each ResumesOwn K }
-{}
-
-/// Each step is one that its actor takes.
-#[tactic(auto, using(crate::proofs::Replies::taken_by_its_actor))]
-pub fn taken_by_its_actor()
-    ensures { (S : System) (R : Rules) (K : List Event) → IsLegal S R K → length K < 2 ^ 64 → Each TakenByItsActor K }
 {}
 
 /// A worker's check and answer have no error but ENOENT, its request for a descriptor none but EBADF and ENOENT, and its
@@ -179,12 +135,6 @@ pub fn stays_finished()
 #[tactic(auto, using(crate::proofs::Framed::frame))]
 pub fn frame()
     ensures { (K : List Event) (e : Event) → Frame K e }
-{}
-
-/// Two tasks have different names.
-#[tactic(auto, using(crate::proofs::Tasks::names_differ))]
-pub fn names_differ()
-    ensures { (S : System) (R : Rules) (K : List Event) → IsLegal S R K → NamesDiffer K }
 {}
 
 /// While a session's call is listed, and once a check of it was good, what the session has opened is its call's task's.

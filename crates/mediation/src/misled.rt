@@ -4,7 +4,7 @@
 //! None is mediated. Each names the clause of the mediation law that it breaks, and differs in a step or a few from the
 //! history that its script's schedule plays, as those in `refused` do.
 
-ghost use Rattle.hist_model.specs.Mediated.{Each, LostIfGone, FetchesOldest, FindsNone, OpensHeld, ChecksOwn, ReadsMemory, ActsOnTree, PlantsWhereMapped, PutsOpen, TakesInstalled};
+ghost use Rattle.hist_model.specs.Mediated.{Each, LostIfGone, FetchesOldest, FindsNone, OpensMemory, OpensBase, ChecksOwn, ReadsMemory, ActsOnTree, PlantsWhereMapped, PutsOpen, TakesInstalled};
 ghost use Rattle.mediation.specs.Unmediated.{container, Breaks};
 ghost use Rattle.mediation.specs.Misled.{younger_fetched, altered_notification, blind_receive, blind_check, stray_check, late_check, unheld_memory, lost_root};
 ghost use Rattle.mediation.specs.Misled.{other_bytes, other_outcome, unmapped_figures, closed_descriptor, other_number_taken, early_take};
@@ -32,8 +32,8 @@ pub fn wrong_checks_are_refused()
 /// stored are refused.
 #[tactic(auto, using(crate::proofs::MisledWorkers::misread))]
 pub fn wrong_reads_are_refused()
-    ensures unheld_memory { Breaks (Each (OpensHeld container)) unheld_memory }
-    ensures lost_root { Breaks (Each (OpensHeld container)) lost_root }
+    ensures unheld_memory { Breaks (Each OpensMemory) unheld_memory }
+    ensures lost_root { Breaks (Each (OpensBase container)) lost_root }
     ensures other_bytes { Breaks (Each (ReadsMemory container)) other_bytes }
 {}
 

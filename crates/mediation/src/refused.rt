@@ -9,14 +9,15 @@ ghost use Rattle.hist_model.specs.Laws.{AnsweredOnce};
 ghost use Rattle.hist_model.specs.Legal.{rules_of};
 ghost use Rattle.hist_model.specs.Settlers.{InstallsOwn, ResumesOwn, ReturnsInstalled};
 ghost use Rattle.hist_model.specs.Mediated.{Mediated, Each, TakenByItsActor, OneSession, NamesOwn, NeverBusy, ErrorsKnown, InstallsThere, Arrives};
-ghost use Rattle.hist_model.specs.Mediated.{ActIsGranted, PlantIsGranted, PutIsInjected, ReadsOwn, TimesKept, SpentExactly, KeepsOrder, HasCause, AuditNames};
-ghost use Rattle.hist_model.specs.Mediated.{LostIfGone, EndsForReason, ReceivesFor, WithoutRights};
+ghost use Rattle.hist_model.specs.Mediated.{ActIsGranted, PlantIsGranted, PutIsInjected, TimesKept, SpentExactly, KeepsOrder, HasCause, AuditNames};
+ghost use Rattle.hist_model.specs.Mediated.{LostIfGone, LetsGoAtEnd, ReceivesIdle, ReceivesFor, EntersAsFiltered, DeliversSent, RunsNatively};
 ghost use Rattle.mediation.specs.Unmediated.{rules, container, history, granted, GrantedIsPlayed, Breaks};
 ghost use Rattle.mediation.specs.Unmediated.{of_another, second_send, second_receive, answer_to_another, other_return, other_number, busy_answer};
 ghost use Rattle.mediation.specs.Unmediated.{other_error, installation_after_end, other_slot, lost_reply, effect_before_check, other_effect, other_figures};
 ghost use Rattle.mediation.specs.Unmediated.{put_without_send, unopened_read, effect_too_many, spent_too_soon, late_read, second_read, late_memory};
 ghost use Rattle.mediation.specs.Unmediated.{unread_pass, other_denial, other_failure, long_read, lost_too_soon, given_up, left_open, empty_receive};
-ghost use Rattle.mediation.specs.Unmediated.{privileged_pass};
+ghost use Rattle.mediation.specs.Unmediated.{privileged_pass, other_address, other_length, ReadsPlanned};
+ghost use Rattle.mediation.specs.Unmediated.{unfiltered, unsent_signal, second_delivery, other_disposition};
 
 /// Each of them is refused. The effect after its caller's end is legal, and refused where the end is left out.
 #[tactic(auto, using(crate::proofs::Played::refusals))]
@@ -62,14 +63,16 @@ pub fn stray_replies_are_refused()
 {}
 
 /// Effects before the second check, other ones than the policy grants, more of them than it grants, and reads of memory that
-/// was not opened are refused.
+/// was not opened, of another address than the argument's, and of other pieces are refused.
 #[tactic(auto, using(crate::proofs::Unmediated::ungranted))]
 pub fn ungranted_effects_are_refused()
     ensures effect_before_check { Breaks (Each (ActIsGranted rules container)) effect_before_check }
     ensures other_effect { Breaks (Each (ActIsGranted rules container)) other_effect }
     ensures other_figures { Breaks (Each (PlantIsGranted rules container)) other_figures }
     ensures put_without_send { Breaks (Each (PutIsInjected rules container)) put_without_send }
-    ensures unopened_read { Breaks (Each ReadsOwn) unopened_read }
+    ensures unopened_read { Breaks (Each ReadsPlanned) unopened_read }
+    ensures other_address { Breaks (Each ReadsPlanned) other_address }
+    ensures other_length { Breaks (Each ReadsPlanned) other_length }
     ensures effect_too_many { Breaks (TimesKept rules) effect_too_many }
     ensures spent_too_soon { Breaks (Each SpentExactly) spent_too_soon }
 {}
@@ -98,13 +101,23 @@ pub fn uncaused_answers_are_refused()
 #[tactic(auto, using(crate::proofs::Unmediated::unfounded))]
 pub fn unfounded_ends_are_refused()
     ensures lost_too_soon { Breaks (Each LostIfGone) lost_too_soon }
-    ensures given_up { Breaks (Each EndsForReason) given_up }
-    ensures left_open { Breaks (Each EndsForReason) left_open }
+    ensures given_up { Breaks (Each LetsGoAtEnd) given_up }
+    ensures left_open { Breaks (Each ReceivesIdle) left_open }
     ensures empty_receive { Breaks (Each ReceivesFor) empty_receive }
+{}
+
+/// A call that is let through though a filter notifies of it is refused, and so are signals that nobody sent, that were
+/// delivered before, and that do what their disposition doesn't say.
+#[tactic(auto, using(crate::proofs::Unmediated::gone_past))]
+pub fn steps_past_the_broker_are_refused()
+    ensures unfiltered { Breaks (Each (EntersAsFiltered container)) unfiltered }
+    ensures unsent_signal { Breaks (Each (DeliversSent container)) unsent_signal }
+    ensures second_delivery { Breaks (Each (DeliversSent container)) second_delivery }
+    ensures other_disposition { Breaks (Each (DeliversSent container)) other_disposition }
 {}
 
 /// A passed call that makes a device is refused.
 #[tactic(auto, using(crate::proofs::Unmediated::privileged))]
 pub fn privileged_passes_are_refused()
-    ensures { Breaks (Each (WithoutRights container)) privileged_pass }
+    ensures { Breaks (Each (RunsNatively container)) privileged_pass }
 {}

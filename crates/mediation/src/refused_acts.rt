@@ -7,8 +7,8 @@
 ghost use Rattle.mediation.specs.Unmediated.{Breaks, rules, container, effect_before_check};
 ghost use Rattle.mediation.specs.UnmediatedActs.{AtActs, OfCall, HasCall, IsFetcher, HasNotification, HasWhole, HasNoFault, IsChecked, IsFirst};
 ghost use Rattle.mediation.specs.UnmediatedActs.{act_without_call, act_for_another, act_by_other_notification, act_unread, act_on_fault, act_after_interrupt, act_by_reused_number, act_again, plant_again, put_again, act_unnamed, plant_unnamed, put_unnamed};
-ghost use Rattle.mediation.specs.UnmediatedScripts.{BreaksOf, from_directories, with_directory, OwnBaseIsPlayed, own_base, HasBase, other_base, reused_base, interrupting, interrupted, InterruptedIsPlayed, LastAnswer, without};
-ghost use Rattle.hist_model.specs.Mediated.{Mediated, Each, PlantIsGranted, PutIsInjected, AuditNames, EndsForReason, HasMemory, WaitedUntilChecked};
+ghost use Rattle.mediation.specs.UnmediatedScripts.{BreaksOf, from_directories, with_directory, OwnBaseIsPlayed, own_base, HasBase, other_base, reused_base, unopened_base, interrupting, interrupted, InterruptedIsPlayed, LastAnswer, without};
+ghost use Rattle.hist_model.specs.Mediated.{Mediated, Each, PlantIsGranted, PutIsInjected, AuditNames, LetsGoAtEnd, HasMemory, WaitedUntilChecked};
 ghost use Rattle.hist_model.specs.WorkedExample.{mknod_policy};
 
 /// Acts without a call, for a call of another worker, by a notification that isn't the call's, without a whole copy, on a copy
@@ -45,13 +45,15 @@ pub fn unnamed_uses_are_refused()
 
 /// The history of a script that makes a node from an open directory is what the script's schedule plays, and it is mediated.
 /// Where the worker opens the container's root for that directory, it is refused, and so is one in which another directory has
-/// the same number in the table of another task, which got the caller's PID.
+/// the same number in the table of another task, which got the caller's PID, or one in which the worker opens no base and answers
+/// that there is none.
 #[tactic(auto, using(crate::proofs::UnmediatedScripts::own_base_is_played, crate::proofs::UnmediatedScripts::own_base_is_mediated, crate::proofs::UnmediatedScripts::other_bases))]
 pub fn other_bases_are_refused()
     ensures is_played { OwnBaseIsPlayed }
     ensures is_mediated { Mediated from_directories with_directory own_base }
     ensures root { BreaksOf from_directories with_directory (AtActs HasBase) other_base }
     ensures by_reused_number { BreaksOf from_directories with_directory (AtActs HasBase) reused_base }
+    ensures unopened { BreaksOf from_directories with_directory (AtActs HasBase) unopened_base }
 {}
 
 /// What a script plays whose call is interrupted before the second check is mediated. The last answer that the worker gets is that
@@ -61,5 +63,5 @@ pub fn unanswered_ends_are_refused()
     ensures is_played { InterruptedIsPlayed }
     ensures is_mediated { Mediated mknod_policy interrupting interrupted }
     ensures last_answer { LastAnswer }
-    ensures refused { BreaksOf mknod_policy interrupting (Each EndsForReason) (without 13 interrupted) }
+    ensures refused { BreaksOf mknod_policy interrupting (Each LetsGoAtEnd) (without 13 interrupted) }
 {}

@@ -28,4 +28,5 @@ pub record HasRead (G : Groups) (o : ℕ) (nr : ℤ) (args : List ℕ) (count : 
   pub counted : length answers ≡ count
   pub follows : Follows (plan nr args) answers c
   pub give : AllGive answers
-  pub read : (S : Script) (K : List Event) (living handles : ℕ → ℕ) (g : ℕ) → StandsFor S K living handles G → group_of K o ≡ Some g → AreRead (mapped_byte S K g) (plan nr args) answers
+  pub read : (S : Script) (K : List Event) (living handles : ℕ → ℕ) (g : ℕ) → StandsFor S K living handles G
+      → group_of K o ≡ Some g → AreRead (mapped_byte S K g) (plan nr args) answers

@@ -28,13 +28,15 @@ pub record TreeRun (step : NativeStep) (answer : Result ℕ ℕ) (old new : Tree
   pub quiet : opens_or_closes step ≡ false
 
 -- a step over the groups alone, which may store bytes
-pub record GroupsRun (s : State) (o : ℕ) (bytes : Option (ℕ × List ℕ)) (step : NativeStep) (answer : Result ℕ ℕ) (new : Groups) : Type 0 where
+pub record GroupsRun (s : State) (o : ℕ) (bytes : Option (ℕ × List ℕ))
+    (step : NativeStep) (answer : Result ℕ ℕ) (new : Groups) : Type 0 where
   pub answer_is : answer ≡ native_answer step
   pub groups : Holds (with_change o (bytes_done bytes answer) (slot_done step) s) new
   pub quiet : (T : Tree) → TreeDone step T T
 
 -- a step over both
-pub record StepRun (s : State) (o : ℕ) (bytes : Option (ℕ × List ℕ)) (step : NativeStep) (answer : Result ℕ ℕ) (T U : Tree) (new : Groups) : Type 0 where
+pub record StepRun (s : State) (o : ℕ) (bytes : Option (ℕ × List ℕ))
+    (step : NativeStep) (answer : Result ℕ ℕ) (T U : Tree) (new : Groups) : Type 0 where
   pub answer_is : answer ≡ native_answer step
   pub tree : TreeDone step T U
   pub groups : Holds (with_change o (bytes_done bytes answer) (slot_done step) s) new
@@ -42,7 +44,8 @@ pub record StepRun (s : State) (o : ℕ) (bytes : Option (ℕ × List ℕ)) (ste
 -- a request was run for every history for which the groups and the tree stand
 abbrev pub RequestRun : ℕ → ℕ → ℤ → Request → Result ℕ ℕ → Tree → Tree → Groups → Groups → Type 0
 RequestRun root o dirfd q answer T U old new =
-    (S : Script) (K : List Event) (living handles : ℕ → ℕ) (g : ℕ) → StandsFor S K living handles old → group_of K o ≡ Some g → T ≡ (files S K).tree → root ≡ natives.root S
+    (S : Script) (K : List Event) (living handles : ℕ → ℕ) (g : ℕ) → StandsFor S K living handles old
+    → group_of K o ≡ Some g → T ≡ (files S K).tree → root ≡ natives.root S
     → StepRun (state S K living handles) o None (request_natively S (files S K) g (base_of S (files S K) g dirfd) q) answer T U new
 
 -- the room in the tree with which a request of a task takes no memory

@@ -47,7 +47,8 @@ pub record IsEntered (S : Script) (K : List Event) (n : Name) (g : ℕ) (call : 
   pub prepared : IsPrepared S K g nr args call
 
 -- after this history the task of this name makes the call
-pub record IsDue (S : Script) (K : List Event) (living handles : ℕ → ℕ) (n : Name) (container : Container) (caller : Caller) (call : NativeCall) (tree : Tree) (groups : Groups) : Type 0 where
+pub record IsDue (S : Script) (K : List Event) (living handles : ℕ → ℕ) (n : Name) (container : Container)
+    (caller : Caller) (call : NativeCall) (tree : Tree) (groups : Groups) : Type 0 where
   pub group : ℕ
   pub stand : StandFor S K living handles tree groups
   pub container_is : IsContainer S container
@@ -57,7 +58,8 @@ pub record IsDue (S : Script) (K : List Event) (living handles : ℕ → ℕ) (n
 -- the call was answered, and its step was done, for every history for which the tree and the groups stand
 abbrev pub IsRun : Container → Caller → NativeCall → Result ℕ ℕ → Tree → Tree → Groups → Groups → Type 0
 IsRun container caller call answer T U old new =
-    (S : Script) (K : List Event) (living handles : ℕ → ℕ) (n : Name) (g : ℕ) → StandFor S K living handles T old → IsContainer S container → IsCaller K n g caller
+    (S : Script) (K : List Event) (living handles : ℕ → ℕ) (n : Name) (g : ℕ)
+    → StandFor S K living handles T old → IsContainer S container → IsCaller K n g caller
     → StepRun (state S K living handles) caller.group (stored_by S call) (step_of S K (files S K) n g call) answer T U new
 
 -- the close-on-exec marks after a call of a group that succeeded with this answer

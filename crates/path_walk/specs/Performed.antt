@@ -24,7 +24,8 @@ room_wanted (Mount target row) = row_length row + 1
 room_wanted (SetAttr path name value flags) = length name + length value + 1
 room_wanted (Open path cloexec) = 0
 
--- the tree is the one that is expected; or the expected error is answered; or what is expected would succeed, and less room was there than it wants
+-- the tree is the one that is expected; or the expected error is answered; or what is expected would succeed,
+-- and less room was there than it wants
 abbrev pub IsPerformed : ℕ → Seen → Seen → Result Tree ℕ → Result (Unit {0}) (OrNoMemory ℕ) → Type 0
 IsPerformed room old new expected (Ok done) = expected ≡ Ok new.tree
 IsPerformed room old new expected (Err (Refused e)) = (expected ≡ Err e) × (new ≡ old)

@@ -11,9 +11,11 @@ use Rattle.script_reader.specs.declared.statement.Statement.{Statement}
 use Rattle.script_reader.specs.declared.statement.Statement.TheVariants as states
 use Rattle.script_reader.specs.declared.word.Part.{Part}
 use Rattle.script_reader.specs.declared.word.Part.TheVariants as part
-use Rattle.script_reader.specs.Blocks.{FiltersState, no_filters, with_filter, open_filter, with_insn, close_filter, filter_fault, insns_fault, killable_fault}
+use Rattle.script_reader.specs.Blocks.{FiltersState, no_filters, with_filter, open_filter, with_insn}
+use Rattle.script_reader.specs.Blocks.{close_filter, filter_fault, insns_fault, killable_fault}
 use Rattle.script_reader.specs.Faults.{wrong_if, too_large_if, or_else, duplicate}
-use Rattle.script_reader.specs.Programs.{ProgramsState, no_programs, open_program, with_instr, with_start, close_program, prog_fault, start_fault, instr_fault, totals_fault}
+use Rattle.script_reader.specs.Programs.{ProgramsState, no_programs, open_program, with_instr, with_start, close_program}
+use Rattle.script_reader.specs.Programs.{prog_fault, start_fault, instr_fault, totals_fault}
 use Rattle.script_reader.specs.Ranges.{map_fault, broker_fault}
 use Rattle.script_reader.specs.Settings.{no_settings, pidbase_fault, with_group}
 use Rattle.script_reader.specs.Tree.{TreeState, bare_tree, node_at, with_node, with_attr, node_fault, attr_fault, leads_to_directory}

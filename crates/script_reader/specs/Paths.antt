@@ -1,5 +1,6 @@
 -- The paths and the names of a script's texts.
-use Rattle.std.specs.Prelude.{ℕ, ◌-◌, ◌^◌, Bool, true, false, ◌&&◌, ◌==◌, nat_le, nat_lt, List, [], ◌∷◌, length, map, take, drop, unwrap_or, pos, position, reverse, codes}
+use Rattle.std.specs.Prelude.{ℕ, ◌-◌, ◌^◌, Bool, true, false, ◌&&◌, ◌==◌, nat_le, nat_lt, List, [], ◌∷◌, length, map, take, drop, unwrap_or}
+use Rattle.std.specs.Prelude.{pos, position, reverse, codes}
 use Rattle.std.specs.List.{list_all, slice_split}
 use Rattle.lex_core.specs.Numbers as numbers
 use Rattle.bpf_filter.specs.Text.{below}

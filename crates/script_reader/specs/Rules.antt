@@ -1,10 +1,13 @@
 -- What lines keep, so that every script that is read keeps the rules of its type.
-use Rattle.std.specs.Prelude.{◌≡◌, ℕ, ◌+◌, ◌≤◌, ◌<◌, Bool, true, false, ◌&&◌, ◌||◌, not, if◌then◌else◌, nat_le, nat_lt, List, [], length, slice_get, Option, Some, None, unwrap_or, bytes_eq, ⊤}
+use Rattle.std.specs.Prelude.{◌≡◌, ℕ, ◌+◌, ◌≤◌, ◌<◌, Bool, true, false, ◌&&◌, ◌||◌, not, if◌then◌else◌, nat_le, nat_lt, List, [], length}
+use Rattle.std.specs.Prelude.{slice_get, Option, Some, None, unwrap_or, bytes_eq, ⊤}
 use Rattle.std.specs.List.{list_all, list_any, count_by}
 use Rattle.hist_model.specs.Ranges.{are_all_apart, is_page_address, is_range, pages_of}
-use Rattle.hist_model.specs.ScriptRules.{are_different, can_be_scheduled, exits_last, gives_listener, has_flag_listener, is_accepted, is_instruction, starts_below, start_earlier, steps_of, stores_mapped}
+use Rattle.hist_model.specs.ScriptRules.{are_different, can_be_scheduled, exits_last, gives_listener, has_flag_listener, is_accepted}
+use Rattle.hist_model.specs.ScriptRules.{is_instruction, starts_below, start_earlier, steps_of, stores_mapped}
 use Rattle.hist_model.specs.Totals.{are_too_many, is_exit, totals_of_all}
-use Rattle.hist_model.specs.TreeLines.{are_lines, have_own_names, have_short_paths, is_node, is_stated_directory, is_text, makes, nodes_of, path_lengths}
+use Rattle.hist_model.specs.TreeLines.{are_lines, have_own_names, have_short_paths, is_node, is_stated_directory}
+use Rattle.hist_model.specs.TreeLines.{is_text, makes, nodes_of, path_lengths}
 use Rattle.hist_model.specs.declared.script.FilterLine.{FilterLine}
 use Rattle.hist_model.specs.declared.script.Instr.{Instr}
 use Rattle.hist_model.specs.declared.script.Instr.TheVariants.{Spawn, Thread}
@@ -87,7 +90,8 @@ pub record HasTree (T : TreeState) : Type 0 where
   pub found : (path : List ℕ) → is_found (nodes_of T.lines) (T.found path) ≡ true
   pub names : have_own_names T.lines ≡ true
   -- one path alone leads to a node
-  pub once : (path other : List ℕ) → is_stated T path ≡ true → is_stated T other ≡ true → (node_at T path).ordinal ≡ (node_at T other).ordinal → path ≡ other
+  pub once : (path other : List ℕ) → is_stated T path ≡ true → is_stated T other ≡ true
+      → (node_at T path).ordinal ≡ (node_at T other).ordinal → path ≡ other
   -- a node that is made where a path leads is stated by that path
   pub stated : (path : List ℕ) → is_path path ≡ true → is_stated T (parent_of path) ≡ true
       → list_any (makes (node_at T (parent_of path)) (name_of path)) T.lines ≡ true → is_stated T path ≡ true

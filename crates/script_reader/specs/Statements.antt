@@ -1,5 +1,6 @@
 -- What a line's operands make, where they have no fault.
-use Rattle.std.specs.Prelude.{ℕ, ◌%◌, ◌^◌, Bool, true, false, if◌then◌else◌, List, [], ◌∷◌, map, slice_get, Option, Some, None, unwrap_or, ℤ, pos, bytes_eq, codes}
+use Rattle.std.specs.Prelude.{ℕ, ◌%◌, ◌^◌, Bool, true, false, if◌then◌else◌, List, [], ◌∷◌, map, slice_get, Option, Some, None, unwrap_or}
+use Rattle.std.specs.Prelude.{ℤ, pos, bytes_eq, codes}
 use Rattle.std.specs.Int.{w128, cast_unsigned}
 use Rattle.lex_core.specs.declared.line.Token.{Token}
 use Rattle.bpf_filter.specs.Text.{below, number_at}
@@ -70,7 +71,9 @@ count_at (who ∷ []) place = 1
 count_at operands place = word_at operands place
 
 abbrev pub disposition_of : List ℕ → Disposition
-disposition_of name = if bytes_eq name (codes "restart") then disposition.Restart else (if bytes_eq name (codes "plain") then disposition.Plain else disposition.Default)
+disposition_of name =
+    if bytes_eq name (codes "restart") then disposition.Restart
+    else (if bytes_eq name (codes "plain") then disposition.Plain else disposition.Default)
 
 abbrev pub whom_of : Addressee → ℕ → Whom
 whom_of addressee.Parent n = whom.Parent

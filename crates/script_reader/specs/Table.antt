@@ -1,5 +1,6 @@
 -- The table of reasons: each test of a line by itself, and which of them decides.
-use Rattle.std.specs.Prelude.{◌≡◌, ℕ, ◌+◌, ◌^◌, Bool, true, false, ◌&&◌, ◌||◌, not, if◌then◌else◌, ◌==◌, nat_le, nat_lt, List, [], ◌∷◌, ◌++◌, length, Option, Some, None, is_none, is_some, Result, Ok, Err}
+use Rattle.std.specs.Prelude.{◌≡◌, ℕ, ◌+◌, ◌^◌, Bool, true, false, ◌&&◌, ◌||◌, not, if◌then◌else◌, ◌==◌, nat_le, nat_lt, List, [], ◌∷◌}
+use Rattle.std.specs.Prelude.{◌++◌, length, Option, Some, None, is_none, is_some, Result, Ok, Err}
 use Rattle.std.specs.List.{list_all, list_any}
 use Rattle.lex_core.specs.declared.line.Token.{Token}
 use Rattle.lex_core.specs.declared.line.Token.TheVariants.{Bare, Quoted}
@@ -62,7 +63,8 @@ wrong (Some reason) = Some (Wrong reason)
 -- what is wrong with each of the operands from a place on
 abbrev pub operand_faults : Word → List Token → ℕ → List Token → List (Option Fault)
 operand_faults w operands place [] = []
-operand_faults w operands place (token ∷ more) = wrong (operand_fault (operand_at w operands place) token) ∷ operand_faults w operands (place + 1) more
+operand_faults w operands place (token ∷ more) =
+    wrong (operand_fault (operand_at w operands place) token) ∷ operand_faults w operands (place + 1) more
 
 abbrev pub word_faults : Part → Bool → Option Word → List ℕ → List Token → List (Option Fault)
 word_faults part base_is_stated (Some w) bytes operands =
@@ -106,16 +108,21 @@ statement_faults (states.Firstid n) A = duplicate (is_some A.settings.firstid) �
 statement_faults (states.Rlimit n) A = duplicate (is_some A.settings.rlimit) ∷ []
 statement_faults states.Killable A = duplicate A.settings.killable ∷ wrong_if (not (has_listener A.filters)) reason.NoListener ∷ []
 statement_faults (states.Node path kind) A =
-    wrong_if (not (leads_to_directory A.tree (parent_of path)) || is_stated A.tree path) reason.BadPath ∷ full 10000 (length A.tree.lines) ∷ []
-statement_faults (states.Attr path name value) A = wrong_if (not (is_stated A.tree path)) reason.BadPath ∷ full 10000 (length A.tree.lines) ∷ []
-statement_faults (states.Root path) A = wrong_if (not (leads_to_directory A.tree path)) reason.BadPath ∷ duplicate (is_some A.settings.root) ∷ []
+    wrong_if (not (leads_to_directory A.tree (parent_of path)) || is_stated A.tree path) reason.BadPath
+    ∷ full 10000 (length A.tree.lines) ∷ []
+statement_faults (states.Attr path name value) A =
+    wrong_if (not (is_stated A.tree path)) reason.BadPath ∷ full 10000 (length A.tree.lines) ∷ []
+statement_faults (states.Root path) A =
+    wrong_if (not (leads_to_directory A.tree path)) reason.BadPath ∷ duplicate (is_some A.settings.root) ∷ []
 statement_faults (states.Broker n) A = duplicate (list_any (λ m. m == n) A.broker) ∷ full 64 (length A.broker) ∷ []
 statement_faults (states.Map range) A =
-    wrong_if (nat_lt (2 ^ 47) (end_of range) || not (is_apart A.map range)) reason.OutOfRange ∷ too_large_if (nat_lt 64 (pages_of A.map + range.pages)) ∷ []
+    wrong_if (nat_lt (2 ^ 47) (end_of range) || not (is_apart A.map range)) reason.OutOfRange
+    ∷ too_large_if (nat_lt 64 (pages_of A.map + range.pages)) ∷ []
 statement_faults (states.Cgroup memory swap) A = []
 statement_faults (states.Figures figures) A = duplicate (is_some A.settings.figures) ∷ []
 statement_faults (states.Notify calls) A = wrong_if (has_listener A.filters) reason.SecondListener ∷ full 16 (length A.filters.closed) ∷ []
-statement_faults (states.Filter listener) A = wrong_if (listener && has_listener A.filters) reason.SecondListener ∷ full 16 (length A.filters.closed) ∷ []
+statement_faults (states.Filter listener) A =
+    wrong_if (listener && has_listener A.filters) reason.SecondListener ∷ full 16 (length A.filters.closed) ∷ []
 statement_faults (states.Insn i) A = []
 statement_faults (states.Prog name) A = duplicate (is_some (A.programs.place name)) ∷ full 4096 (length A.programs.bodies) ∷ []
 statement_faults (states.Does i) A = instr_fault A.map i ∷ []

@@ -1,5 +1,6 @@
 -- The tree that lines state.
-use Rattle.std.specs.Prelude.{ℕ, ◌+◌, Bool, true, false, ◌||◌, not, if◌then◌else◌, List, [], ◌∷◌, ◌++◌, length, Option, Some, None, is_some, bytes_eq}
+use Rattle.std.specs.Prelude.{ℕ, ◌+◌, Bool, true, false, ◌||◌, not, if◌then◌else◌, List, [], ◌∷◌, ◌++◌, length, Option}
+use Rattle.std.specs.Prelude.{Some, None, is_some, bytes_eq}
 use Rattle.lex_core.specs.declared.reason.Reason.TheVariants as reason
 use Rattle.hist_model.specs.declared.request.Node.{Node}
 use Rattle.hist_model.specs.declared.request.NodeRef.{NodeRef}

@@ -1,5 +1,6 @@
 -- The words that begin the lines of a script, and where each may stand.
-use Rattle.std.specs.Prelude.{ℕ, ◌+◌, ◌-◌, ◌*◌, ◌%◌, Bool, true, false, List, [], ◌∷◌, Option, Some, None, codes, bytes_eq, find, length, map, slice_get, slice_index, if◌then◌else◌}
+use Rattle.std.specs.Prelude.{ℕ, ◌+◌, ◌-◌, ◌*◌, ◌%◌, Bool, true, false, List, [], ◌∷◌, Option, Some, None, codes, bytes_eq, find, length}
+use Rattle.std.specs.Prelude.{map, slice_get, slice_index, if◌then◌else◌}
 use Rattle.std.specs.Borrow.{Bor}
 use Rattle.std.specs.Option.{option_and_then, option_map}
 use Rattle.script_reader.specs.declared.word.Word.{Word}

@@ -1,5 +1,6 @@
 -- The entries of one table, in the order of their numbers.
-use Rattle.std.specs.Prelude.{◌≡◌, ℕ, suc, ◌+◌, ◌<◌, ◌≤◌, ◌==◌, if◌then◌else◌, List, [], ◌∷◌, slice_index_or, Option, Some, None, IsSome, nat_lt, false}
+use Rattle.std.specs.Prelude.{◌≡◌, ℕ, suc, ◌+◌, ◌<◌, ◌≤◌, ◌==◌, if◌then◌else◌, List, [], ◌∷◌, slice_index_or, Option, Some}
+use Rattle.std.specs.Prelude.{None, IsSome, nat_lt, false}
 use Rattle.hist_model.specs.declared.request.Obj.TheVariants.{Console}
 use Rattle.task_groups.specs.declared.descriptors.Descriptor.{Descriptor}
 

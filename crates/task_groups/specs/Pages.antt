@@ -1,5 +1,6 @@
 -- Pages, and what lists of them have.
-use Rattle.std.specs.Prelude.{◌≡◌, ◌≢◌, ℕ, zero, suc, ◌+◌, ◌-◌, ◌/◌, ◌%◌, ◌<◌, ◌≤◌, ◌^◌, List, [], ◌∷◌, Option, Some, None, slice_index, vec_len}
+use Rattle.std.specs.Prelude.{◌≡◌, ◌≢◌, ℕ, zero, suc, ◌+◌, ◌-◌, ◌/◌, ◌%◌, ◌<◌, ◌≤◌, ◌^◌, List, [], ◌∷◌, Option}
+use Rattle.std.specs.Prelude.{Some, None, slice_index, vec_len}
 use Rattle.slab.specs.Slab.{get, HasRoomFor}
 use Rattle.hist_model.specs.Memory.{byte_or, byte_stored}
 use Rattle.task_groups.specs.declared.list.PageEntry.{PageEntry}
@@ -92,7 +93,8 @@ pub record IsOwned (P : Pages) (xs : List PageEntry) (n s : ℕ) (Q : Pages) (ys
 pub record IsPut (old : Pages) (s offset : ℕ) (piece : List ℕ) (new : Pages) : Type 0 where
   pub count : (p : ℕ) → count_at new p ≡ count_at old p
   pub others : (p : ℕ) → p ≢ s → bytes_at new p ≡ bytes_at old p
-  pub here : 0 < count_at old s → (i : ℕ) → slice_index (bytes_at new s) i ≡ byte_or (byte_stored (Some (offset, piece)) i) (slice_index (bytes_at old s) i)
+  pub here : 0 < count_at old s → (i : ℕ)
+      → slice_index (bytes_at new s) i ≡ byte_or (byte_stored (Some (offset, piece)) i) (slice_index (bytes_at old s) i)
 
 -- bytes were stored at an address of the space that has this list, and in no other
 pub record IsStored (P : Pages) (xs : List PageEntry) (a : ℕ) (bytes : List ℕ) (Q : Pages) (ys : List PageEntry) : Type 0 where
@@ -105,12 +107,14 @@ pub record IsStored (P : Pages) (xs : List PageEntry) (a : ℕ) (bytes : List �
 
 -- the slot got one entry more
 pub record IsSharedOnce (old : Pages) (s : ℕ) (new : Pages) : Type 0 where
-  pub count : (p : ℕ) → (0 < one_if s p → 0 < count_at old p) → count_at old p + one_if s p < 2 ^ 64 → count_at new p ≡ count_at old p + one_if s p
+  pub count : (p : ℕ) → (0 < one_if s p → 0 < count_at old p) → count_at old p + one_if s p < 2 ^ 64
+      → count_at new p ≡ count_at old p + one_if s p
   pub bytes : (p : ℕ) → bytes_at new p ≡ bytes_at old p
 
 -- each slot got as many entries more as this list has of it, or was left by them
 pub record IsShared (old : Pages) (xs : List PageEntry) (new : Pages) : Type 0 where
-  pub count : (p : ℕ) → (0 < uses_in xs p → 0 < count_at old p) → count_at old p + uses_in xs p < 2 ^ 64 → count_at new p ≡ count_at old p + uses_in xs p
+  pub count : (p : ℕ) → (0 < uses_in xs p → 0 < count_at old p) → count_at old p + uses_in xs p < 2 ^ 64
+      → count_at new p ≡ count_at old p + uses_in xs p
   pub bytes : (p : ℕ) → bytes_at new p ≡ bytes_at old p
 
 pub record IsLeftByAll (old : Pages) (xs : List PageEntry) (new : Pages) : Type 0 where

@@ -1,5 +1,6 @@
 -- The table of groups: a row for each, and the pages that their lists share.
-use Rattle.std.specs.Prelude.{◌≡◌, ℕ, ◌+◌, ◌/◌, ◌<◌, ◌≤◌, ◌^◌, Bool, ◌==◌, if◌then◌else◌, List, [], length, map, set, Option, Some, None, slice_get, vec_len, vec_capacity}
+use Rattle.std.specs.Prelude.{◌≡◌, ℕ, ◌+◌, ◌/◌, ◌<◌, ◌≤◌, ◌^◌, Bool, ◌==◌, if◌then◌else◌, List, [], length, map, set, Option, Some}
+use Rattle.std.specs.Prelude.{None, slice_get, vec_len, vec_capacity}
 use Rattle.std.specs.List.{sum_by}
 use Rattle.hist_model.specs.declared.request.Obj.{Obj}
 use Rattle.task_groups.specs.Descriptors as descriptors

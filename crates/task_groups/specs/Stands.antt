@@ -30,7 +30,8 @@ contents S K o = record { byte = byte S K (place_or (group_of K o)); slot = (fil
 
 -- the state after the history of a script, where each group has so many living tasks and open handles
 abbrev pub state : Script → List Event → (ℕ → ℕ) → (ℕ → ℕ) → State
-state S K living handles = record { map = S.map; rlimit = S.rlimit; made = groups_made K; living = living; handles = handles; contents = contents S K }
+state S K living handles =
+    record { map = S.map; rlimit = S.rlimit; made = groups_made K; living = living; handles = handles; contents = contents S K }
 
 -- the groups stand for this history
 abbrev pub StandsFor : Script → List Event → (ℕ → ℕ) → (ℕ → ℕ) → Groups → Type 0

@@ -1,5 +1,6 @@
 -- The state of the groups as a value, and what each thing that is done makes of it.
-use Rattle.std.specs.Prelude.{◌≡◌, ◌≢◌, ℕ, zero, suc, ◌+◌, ◌-◌, ◌<◌, not, ◌==◌, nat_le, if◌then◌else◌, List, [], ◌∷◌, Option, Some, None, Result, Ok, Err}
+use Rattle.std.specs.Prelude.{◌≡◌, ◌≢◌, ℕ, zero, suc, ◌+◌, ◌-◌, ◌<◌, not, ◌==◌, nat_le, if◌then◌else◌, List, [], ◌∷◌, Option, Some}
+use Rattle.std.specs.Prelude.{None, Result, Ok, Err}
 use Rattle.sys_abi.specs.Errnos.{efault}
 use Rattle.sys_abi.specs.declared.wire.Addfd.{Addfd}
 use Rattle.hist_model.specs.Files.{console_slot, has_setfd, nr_open, slot_or_full}
@@ -16,7 +17,8 @@ pub record Contents : Type 0 where
   pub byte : ℕ → ℕ
   pub slot : ℕ → Option Obj
 
--- the map and the limit of a script, how many groups were made, and by ordinal the living tasks and the open handles of each, and what it has
+-- the map and the limit of a script, how many groups were made, and by ordinal the living tasks
+-- and the open handles of each, and what it has
 pub record State : Type 0 where
   pub map : List MapRange
   pub rlimit : ℕ

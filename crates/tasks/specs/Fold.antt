@@ -46,7 +46,8 @@ started_before body k = count_by starts (take k body)
 
 -- the instruction before this one is the call that was entered
 abbrev pub IsBehindCall : List Instr → ℕ → Option EnteredCall → Type 0
-IsBehindCall body next entered = (k : ℕ) × (x : EnteredCall) × (next ≡ k + 1) × (entered ≡ Some x) × (slice_get body k ≡ Some (Call x.nr x.args))
+IsBehindCall body next entered =
+    (k : ℕ) × (x : EnteredCall) × (next ≡ k + 1) × (entered ≡ Some x) × (slice_get body k ≡ Some (Call x.nr x.args))
 
 -- the row is that of the task of its name
 pub record IsRow (S : Script) (K : List Event) (n : Name) (r : Row) : Type 0 where

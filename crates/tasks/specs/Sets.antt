@@ -24,7 +24,12 @@ abbrev pub pending_of : List Event → Name → BySignal Bool
 pending_of K n = record { kill = pending K n sigkill; usr1 = pending K n sigusr1; usr2 = pending K n sigusr2; term = pending K n sigterm }
 
 abbrev pub dispositions_of : List Event → Name → BySignal Disposition
-dispositions_of K n = record { kill = disposition K n sigkill; usr1 = disposition K n sigusr1; usr2 = disposition K n sigusr2; term = disposition K n sigterm }
+dispositions_of K n = record {
+  kill = disposition K n sigkill;
+  usr1 = disposition K n sigusr1;
+  usr2 = disposition K n sigusr2;
+  term = disposition K n sigterm;
+}
 
 abbrev pub may_come : Disposition → Bool → Bool
 may_come m held = not held || is_default m

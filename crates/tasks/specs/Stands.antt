@@ -1,5 +1,6 @@
 -- Which histories the tasks of a kernel stand for, and what is told of them.
-use Rattle.std.specs.Prelude.{◌≡◌, ℕ, ◌+◌, ◌<◌, ◌^◌, Bool, true, false, ◌&&◌, not, if◌then◌else◌, ◌==◌, List, [], length, count_by, Option, Some, None, slice_get, vec_len, vec_capacity}
+use Rattle.std.specs.Prelude.{◌≡◌, ℕ, ◌+◌, ◌<◌, ◌^◌, Bool, true, false, ◌&&◌, not, if◌then◌else◌, ◌==◌, List, [], length, count_by, Option}
+use Rattle.std.specs.Prelude.{Some, None, slice_get, vec_len, vec_capacity}
 use Rattle.hist_model.specs.Kinds.{ends, makes}
 use Rattle.hist_model.specs.Legal.{system_of}
 use Rattle.hist_model.specs.Look.{Name}

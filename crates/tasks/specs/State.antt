@@ -1,5 +1,6 @@
 -- The state of the tasks as a value, and what each event makes of it.
-use Rattle.std.specs.Prelude.{ℕ, ◌+◌, ◌-◌, Bool, true, false, ◌&&◌, ◌||◌, not, if◌then◌else◌, ◌==◌, List, [], ◌∷◌, ◌++◌, length, map, find, slice_get, Option, Some, None, Ok, Err}
+use Rattle.std.specs.Prelude.{ℕ, ◌+◌, ◌-◌, Bool, true, false, ◌&&◌, ◌||◌, not, if◌then◌else◌, ◌==◌, List, [], ◌∷◌, ◌++◌, length, map, find}
+use Rattle.std.specs.Prelude.{slice_get, Option, Some, None, Ok, Err}
 use Rattle.hist_model.specs.Kinds.{ends, owes, skips}
 use Rattle.hist_model.specs.Look.{Name, name_eq, is_task, task_name}
 use Rattle.hist_model.specs.Programs.{program_at, started}
@@ -195,7 +196,8 @@ new_row n pid group program dispositions = record {
 }
 
 abbrev pub made_by : Script → State → Actor → What → List Row
-made_by S s who (Spawn n (Ok a)) = let maker = row_named (task_name who) s in new_row n a.0 (group_for a.1 maker s) (program_for S maker) (modes_in maker) ∷ []
+made_by S s who (Spawn n (Ok a)) =
+    let maker = row_named (task_name who) s in new_row n a.0 (group_for a.1 maker s) (program_for S maker) (modes_in maker) ∷ []
 made_by S s who w = []
 
 -- ---- by events

@@ -1,5 +1,6 @@
 -- What is kept of the tasks, but for room, and the state that it is.
-use Rattle.std.specs.Prelude.{◌≡◌, ℕ, ◌+◌, ◌-◌, ◌<◌, ◌^◌, Bool, true, false, ◌&&◌, not, if◌then◌else◌, List, [], ◌∷◌, ◌++◌, length, map, set, slice_get, count_by, Option, Some, None, Contains}
+use Rattle.std.specs.Prelude.{◌≡◌, ℕ, ◌+◌, ◌-◌, ◌<◌, ◌^◌, Bool, true, false, ◌&&◌, not, if◌then◌else◌, List, [], ◌∷◌, ◌++◌, length, map}
+use Rattle.std.specs.Prelude.{set, slice_get, count_by, Option, Some, None, Contains}
 use Rattle.std.specs.List.{remove}
 use Rattle.hist_model.specs.Look.{Name}
 use Rattle.hist_model.specs.declared.event.Actor.TheVariants.{Task as TaskActor}
@@ -39,7 +40,8 @@ pub record Table : Type 0 where
   pub living : ℕ
 
 abbrev pub member : Task → Member
-member t = record { name = t.name; pid = t.pid; parent = t.parent; children = t.children.items; waiting = t.waiting.items; progress = t.progress }
+member t =
+    record { name = t.name; pid = t.pid; parent = t.parent; children = t.children.items; waiting = t.waiting.items; progress = t.progress }
 
 abbrev pub members : List Task → List Member
 members tasks = map member tasks
@@ -96,13 +98,15 @@ view T groups = record { rows = rows_of T.tasks; last = T.last; groups = groups 
 -- the task is the first one, or a child of another, under its number there
 abbrev pub IsChildIn : List Member → ℕ → Option ℕ → Name → Type 0
 IsChildIn tasks o None n = n ≡ 0 ∷ []
-IsChildIn tasks o (Some q) n = (p : Member) × (slice_get tasks q ≡ Some p) × (k : ℕ) × (slice_get p.children k ≡ Some (Some o)) × (n ≡ p.name ++ (k + 1) ∷ [])
+IsChildIn tasks o (Some q) n =
+    (p : Member) × (slice_get tasks q ≡ Some p) × (k : ℕ) × (slice_get p.children k ≡ Some (Some o)) × (n ≡ p.name ++ (k + 1) ∷ [])
 
 -- names differ, each task stands among its parent's children, and those are tasks
 pub record IsFamily (tasks : List Member) : Type 0 where
   pub names : (o p : ℕ) (t u : Member) → slice_get tasks o ≡ Some t → slice_get tasks p ≡ Some u → t.name ≡ u.name → o ≡ p
   pub parents : (o : ℕ) (t : Member) → slice_get tasks o ≡ Some t → IsChildIn tasks o t.parent t.name
-  pub children : (o k p : ℕ) (t : Member) → slice_get tasks o ≡ Some t → slice_get t.children k ≡ Some (Some p) → (u : Member) × (slice_get tasks p ≡ Some u) × (u.parent ≡ Some o) × (u.name ≡ t.name ++ (k + 1) ∷ [])
+  pub children : (o k p : ℕ) (t : Member) → slice_get tasks o ≡ Some t → slice_get t.children k ≡ Some (Some p)
+      → (u : Member) × (slice_get tasks p ≡ Some u) × (u.parent ≡ Some o) × (u.name ≡ t.name ++ (k + 1) ∷ [])
 
 -- each entry is that of a task that was given the PID, and each task that holds its PID has one
 pub record IsIndexed (tasks : List Member) (pids : List Entry) : Type 0 where
@@ -117,8 +121,10 @@ AreRising xs = (j k a b : ℕ) → j < k → slice_get xs j ≡ Some a → slice
 -- they are those of the children for which the task of this ordinal hasn't waited, in order
 pub record AreWaiting (tasks : List Member) (o : ℕ) (waiting : List ℕ) : Type 0 where
   pub rising : AreRising waiting
-  pub listed : (k a : ℕ) → slice_get waiting k ≡ Some a → (t : Member) × (slice_get tasks a ≡ Some t) × (t.parent ≡ Some o) × (t.progress.waited ≡ false)
-  pub whole : (a : ℕ) (t : Member) → slice_get tasks a ≡ Some t → t.parent ≡ Some o → t.progress.waited ≡ false → (k : ℕ) × (slice_get waiting k ≡ Some a)
+  pub listed : (k a : ℕ) → slice_get waiting k ≡ Some a
+      → (t : Member) × (slice_get tasks a ≡ Some t) × (t.parent ≡ Some o) × (t.progress.waited ≡ false)
+  pub whole : (a : ℕ) (t : Member) → slice_get tasks a ≡ Some t → t.parent ≡ Some o
+      → t.progress.waited ≡ false → (k : ℕ) × (slice_get waiting k ≡ Some a)
 
 abbrev pub is_living : Member → Bool
 is_living t = not t.progress.ended
@@ -155,7 +161,9 @@ with_one_less T ends = record T { living = if ends then T.living - 1 else T.livi
 
 -- a task's own step was noted
 pub record IsNoted (old : Table) (o : ℕ) (w : What) (new : Table) : Type 0 where
-  pub task : (t : Member) → task_at old o ≡ Some t → (p : Progress) × IsAfter t.progress w p × (new ≡ with_one_less (with_task old o (with_progress t p)) (p.ended && not t.progress.ended))
+  pub task : (t : Member) → task_at old o ≡ Some t
+      → (p : Progress) × IsAfter t.progress w p
+      × (new ≡ with_one_less (with_task old o (with_progress t p)) (p.ended && not t.progress.ended))
   pub none : task_at old o ≡ None → new ≡ old
 
 -- a child, which the task may wait for, or none was added to its entries
@@ -192,7 +200,8 @@ pub record IsAdded (old : Table) (before : List Member) (o : ℕ) (t : Member) (
 -- a child was added
 abbrev pub IsChildAdded : Table → ℕ → ℕ → ℕ → ℕ → Table → Type 0
 IsChildAdded old parent pid group program new = (t : Member) → task_at old parent ≡ Some t
-    → IsAdded old (set old.tasks parent (with_entry t (Some (length old.tasks)))) (length old.tasks) (new_member (next_name t) pid (Some parent) group program t.progress.dispositions) new
+    → IsAdded old (set old.tasks parent (with_entry t (Some (length old.tasks)))) (length old.tasks)
+    (new_member (next_name t) pid (Some parent) group program t.progress.dispositions) new
 
 -- a child was taken from those for which a task may wait
 abbrev pub without_waiting : Member → ℕ → Member

@@ -46,7 +46,8 @@ joined_with p q = record p { out = p.out - 1; seen = longer p.seen q.seen; place
 
 -- the longer history begins with the shorter, and no place stands twice
 abbrev pub Joined : PassFacts → PassFacts → PassFacts → Type 0
-Joined p q r = (r ≡ joined_with p q) × Begins (longer p.seen q.seen) (shorter p.seen q.seen) × ((n : ℕ) → times n (p.places ++ q.places) ≤ 1)
+Joined p q r =
+    (r ≡ joined_with p q) × Begins (longer p.seen q.seen) (shorter p.seen q.seen) × ((n : ℕ) → times n (p.places ++ q.places) ≤ 1)
 
 -- every event since the opening stands at one place of the pass
 abbrev pub OwnsAll : LockFacts → PassFacts → Type 0

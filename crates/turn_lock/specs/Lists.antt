@@ -1,4 +1,5 @@
--- Histories that begin with others, and the places of events. A history lists its events the newest first, so what it begins with is its tail.
+-- Histories that begin with others, and the places of events. A history lists its events the newest first,
+-- so what it begins with is its tail.
 use Rattle.std.specs.Prelude.{◌≡◌, ℕ, ◌+◌, ◌<◌, ◌≤◌, List, [], ◌∷◌, ◌++◌, length, ltb, eqb, cond}
 use Rattle.hist_model.specs.declared.event.Event.{Event}
 

@@ -1,5 +1,6 @@
 -- The rule of the lock's table: it holds between any two steps of any threads.
--- The table has three words, the length of the history, the next ticket and the ticket that is served, and one slot, where the state lies between two turns.
+-- The table has three words, the length of the history, the next ticket and the ticket that is served, and one slot,
+-- where the state lies between two turns.
 use Rattle.std.specs.Prelude.{◌≡◌, ◌⊎◌, ℕ, ◌+◌, ◌-◌, ◌%◌, ◌^◌, ◌<◌, ◌≤◌, List, [], ◌∷◌, ◌++◌, length, Option, Some, None, true, false}
 use mathlib.Core.Option.{some, none}
 use mathlib.Core.Option as maybe
@@ -44,7 +45,8 @@ Plays Idle = ⊥
 Plays (Waiting u) = ⊥
 Plays (Playing u) = Unit {0}
 
--- A ticket of a pass that waits is not served yet, or just now; the pass that plays has the ticket that is served, and has seen the whole history.
+-- A ticket of a pass that waits is not served yet, or just now; the pass that plays has the ticket that is served,
+-- and has seen the whole history.
 -- Tickets are numbers without a bound here: served tickets were given back, and n are out.
 abbrev pub Fits : ℕ → ℕ → List Event → View → Stage → Type 0
 Fits served n now v Idle = Unit {0}
@@ -54,12 +56,14 @@ Fits served n now v (Playing t) = (v.living ≡ 1) × (t ≡ served) × (0 < n) 
 -- no ticket is with two passes
 pub record Tickets (served : ℕ) (now : List Event) (views : List View) : Type 0 where
   pub fits : (j : ℕ) (v : View) → get_elem? views j ≡ some v → Fits served (total tickets_of views) now v v.stage
-  pub apart : (j k : ℕ) (v w : View) (t : ℕ) → get_elem? views j ≡ some v → get_elem? views k ≡ some w → Holds v.stage t → Holds w.stage t → j ≡ k
+  pub apart : (j k : ℕ) (v w : View) (t : ℕ) → get_elem? views j ≡ some v
+      → get_elem? views k ≡ some w → Holds v.stage t → Holds w.stage t → j ≡ k
 
--- What one view says of the history: what it has seen is a beginning of it, the shorter history of its last join was one too, a pass that is not spent has the lock's setup,
--- and a spent one owns nothing
+-- What one view says of the history: what it has seen is a beginning of it, the shorter history of its last join was one too,
+-- a pass that is not spent has the lock's setup, and a spent one owns nothing
 abbrev pub Sound : Setup → List Event → View → Type 0
-Sound setup now v = Begins now v.seen × Begins v.seen v.joined × (v.living ≡ 1 → v.setup ≡ setup) × (v.living ≤ 1) × ((p : ℕ) → owns p v ≤ v.living)
+Sound setup now v =
+    Begins now v.seen × Begins v.seen v.joined × (v.living ≡ 1 → v.setup ≡ setup) × (v.living ≤ 1) × ((p : ℕ) → owns p v ≤ v.living)
 
 -- What the views say of the history `now`, which the lock began with `opening`, and of each other
 pub record Views (setup : Setup) (opening now : List Event) (views : List View) : Type 0 where
@@ -77,10 +81,12 @@ module _ {S : Type 0} (setup : S → Setup) (history : S → Seen) where
   -- the state is at home with the whole history, and no pass plays, or it is out, and some pass plays
   abbrev pub Slot : Setup → List Event → List View → List (maybe.Option (Option S)) → Type 0
   Slot made now views homes =
-      ((x : S) × (homes ≡ some (Some x) ∷ []) × ((history x).events ≡ now) × (setup x ≡ made) × ((j : ℕ) (v : View) → get_elem? views j ≡ some v → Plays v.stage → ⊥))
+      ((x : S) × (homes ≡ some (Some x) ∷ []) × ((history x).events ≡ now) × (setup x ≡ made)
+      × ((j : ℕ) (v : View) → get_elem? views j ≡ some v → Plays v.stage → ⊥))
       ⊎ ((homes ≡ none ∷ []) × ((j : ℕ) × (v : View) × (get_elem? views j ≡ some v) × Plays v.stage))
 
-  -- The rule of the lock that was made with the state key: a number of tickets was served, the history is `now`, and words, slot and views agree with both
+  -- The rule of the lock that was made with the state key: a number of tickets was served, the history is `now`,
+  -- and words, slot and views agree with both
   pub record LockRule (key : S) (s : State (Option S) View) : Type 0 where
     pub served : ℕ
     pub now : List Event
@@ -91,7 +97,8 @@ module _ {S : Type 0} (setup : S → Setup) (history : S → Seen) where
 
   -- the view of the first pass
   abbrev pub first_view : S → View
-  first_view key = record { living = 1; first = true; out = 0; setup = setup key; seen = (history key).events; joined = []; places = []; stage = Idle }
+  first_view key =
+      record { living = 1; first = true; out = 0; setup = setup key; seen = (history key).events; joined = []; places = []; stage = Idle }
 
 -- the views of the first pass and of the new one, after a split
 abbrev pub left_of : View → View
@@ -115,7 +122,18 @@ no_setup = record {
     rlimit = 0;
     killable = false;
     root = record { ordinal = 0 };
-    figures = record { uptime = 0; used = 0; shared = 0; buffers = 0; swap_used = 0; memory = 0; swap = 0; host_memory = 0; host_swap = 0; procs = 0 };
+    figures = record {
+      uptime = 0;
+      used = 0;
+      shared = 0;
+      buffers = 0;
+      swap_used = 0;
+      memory = 0;
+      swap = 0;
+      host_memory = 0;
+      host_swap = 0;
+      procs = 0;
+    };
     tree = [];
     broker = [];
     map = [];

@@ -46,12 +46,15 @@ module _ {S : Type 0} (setup : S → Setup) (history : S → Seen) where
   -- The step that reads which ticket is served: where it is the own one, the seat takes the slot and sees the whole history
   abbrev pub Looked : Step (Option S) → M → ℕ → M → Type 0
   Looked st m r m' = (t : ℕ) → m.0.stage ≡ Waiting t
-      → (r ≡ t % 2 ^ 64 → (x : S) × (m'.1 ≡ (0, Some x) ∷ m.1) × (m'.0 ≡ record m.0 { seen = events x; stage = Playing t }) × Begins (events x) m.0.seen × (setup x ≡ m.0.setup) × (m.0.first ≡ true → m.0.out ≡ 0 → events x ≡ m.0.seen))
+      → (r ≡ t % 2 ^ 64
+      → (x : S) × (m'.1 ≡ (0, Some x) ∷ m.1) × (m'.0 ≡ record m.0 { seen = events x; stage = Playing t })
+      × Begins (events x) m.0.seen × (setup x ≡ m.0.setup) × (m.0.first ≡ true → m.0.out ≡ 0 → events x ≡ m.0.seen))
       × (r ≢ t % 2 ^ 64 → m' ≡ m)
 
   -- the step that publishes the length of the history that was put back
   abbrev pub Published : Step (Option S) → M → ℕ → M → Type 0
-  Published st m r m' = (x : S) × (more : List Event) × (m.1 ≡ (0, Some x) ∷ []) × (events x ≡ more ++ m.0.seen) × (m' ≡ (published m.0 more, m.1)) × ((p : ℕ) → times p m'.0.places ≤ 1)
+  Published st m r m' = (x : S) × (more : List Event) × (m.1 ≡ (0, Some x) ∷ [])
+      × (events x ≡ more ++ m.0.seen) × (m' ≡ (published m.0 more, m.1)) × ((p : ℕ) → times p m'.0.places ≤ 1)
 
   -- a state that a turn of this view may find
   abbrev pub Finds : View → S → Type 0
@@ -67,7 +70,8 @@ module _ {S : Type 0} (setup : S → Setup) (history : S → Seen) where
   MayPutIn m x = (t : ℕ) × (m.0.stage ≡ Playing t) × (m.1 ≡ (0, None) ∷ []) × (setup x ≡ m.0.setup) × Begins (events x) m.0.seen
 
   abbrev pub PutIn : M → S → M → Type 0
-  PutIn m x m' = (more : List Event) × (events x ≡ more ++ m.0.seen) × (m' ≡ (record (published m.0 more) { stage = Idle }, [])) × ((p : ℕ) → times p m'.0.places ≤ 1)
+  PutIn m x m' = (more : List Event) × (events x ≡ more ++ m.0.seen)
+      × (m' ≡ (record (published m.0 more) { stage = Idle }, [])) × ((p : ℕ) → times p m'.0.places ≤ 1)
 
 -- the view of a badge that has one
 abbrev pub the_view : List View → View
@@ -87,7 +91,8 @@ module _ {S : Type 0} (setup : S → Setup) (history : S → Seen) where
   abbrev pub MayFind : PassFacts → S → Type 0
   MayFind p s = (setup s ≡ p.setup) × Begins (history s).events p.seen × (p.first ≡ true → p.out ≡ 0 → (history s).events ≡ p.seen)
 
-  -- There is one state s on which the turn was played, and which it left as e. Both have the lock's policy, script and limit; the history of s is one that the pass may find, and e has more behind it.
+  -- There is one state s on which the turn was played, and which it left as e. Both have the lock's policy, script and limit;
+  -- the history of s is one that the pass may find, and e has more behind it.
   -- The pass has then seen all that e has, and its places are the former ones and those of the new events; none stands twice.
   abbrev pub Turned : {T : Type 0} → (T → S → T → S → Type 0) → LockFacts → T → PassFacts → T → PassFacts → Type 0
   Turned plays l t p t' p' = (s e : S) × plays t s t' e × (setup s ≡ l.setup) × (setup e ≡ l.setup) × MayFind p s

@@ -46,7 +46,8 @@ answers_text own = join_by answer_text (codes ",") own
 -- the ledger of a worker that has taken so many answers, and was told these in its session
 abbrev pub ledger_text : ℕ → ℕ → List Answer → List ℕ
 ledger_text worker count own =
-    codes "{\"count\":" ++ (decimal count ++ (codes ",\"own\":[" ++ (answers_text own ++ (codes "],\"worker\":" ++ (decimal worker ++ codes "}")))))
+    codes "{\"count\":"
+    ++ (decimal count ++ (codes ",\"own\":[" ++ (answers_text own ++ (codes "],\"worker\":" ++ (decimal worker ++ codes "}")))))
 
 -- ---- Answers that a ledger can have
 

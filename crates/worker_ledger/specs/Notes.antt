@@ -38,7 +38,8 @@ pub record HasText (bytes : List ℕ) (w : ℕ) (l : Ledger) : Type 0 where
   pub small : l.count < 2 ^ 64
   pub told : AreAnswers (all_heard l.own.items)
   pub text : bytes ≡ ledger_text w l.count (all_heard l.own.items)
-  pub only : (count : ℕ) (own : List Answer) → count < 2 ^ 64 → AreAnswers own → bytes ≡ ledger_text w count own → (l.count ≡ count) × (all_heard l.own.items ≡ own)
+  pub only : (count : ℕ) (own : List Answer) → count < 2 ^ 64 → AreAnswers own → bytes ≡ ledger_text w count own
+      → (l.count ≡ count) × (all_heard l.own.items ≡ own)
 
 -- the ledger that bytes are the text of, if they are one's
 abbrev pub IsReadAs : List ℕ → ℕ → Option Ledger → Type 0

@@ -1,5 +1,6 @@
 -- What a worker that takes over has: which answers a ledger can have, the steps that they tell, and why a ledger is refused.
-use Rattle.std.specs.Prelude.{◌≡◌, ℕ, ◌+◌, ◌<◌, ◌^◌, nat_le, ◌==◌, ◌&&◌, Bool, true, false, if◌then◌else◌, List, [], ◌∷◌, length, Option, Some, None, Result, Ok, Err, ⊤}
+use Rattle.std.specs.Prelude.{◌≡◌, ℕ, ◌+◌, ◌<◌, ◌^◌, nat_le, ◌==◌, ◌&&◌, Bool, true, false, if◌then◌else◌, List, [], ◌∷◌, length, Option}
+use Rattle.std.specs.Prelude.{Some, None, Result, Ok, Err, ⊤}
 use Rattle.hist_model.specs.Legal.{rules_of}
 use Rattle.hist_model.specs.Sessions.{Rules, deed}
 use Rattle.hist_model.specs.declared.event.What.{What}
@@ -137,7 +138,8 @@ Replays P F own told false w = AllStand (rules_of P F) own told → ⊥
 
 -- the successor has taken the answers of this ledger, where they may stand there
 abbrev pub ResumesIf : Policy → Figures → Ledger → Option Successor → Type 0
-ResumesIf P F l (Some s) = AllStand (rules_of P F) [] (all_heard l.own.items) × Remembers P (after_answers (rules_of P F) [] (all_heard l.own.items)) s.worker × (s.worker.figures ≡ F) × (s.ledger ≡ l)
+ResumesIf P F l (Some s) = AllStand (rules_of P F) [] (all_heard l.own.items)
+    × Remembers P (after_answers (rules_of P F) [] (all_heard l.own.items)) s.worker × (s.worker.figures ≡ F) × (s.ledger ≡ l)
 ResumesIf P F l None = AllStand (rules_of P F) [] (all_heard l.own.items) → ⊥
 
 -- the deed that is due after these steps
@@ -157,7 +159,8 @@ TakesLast P old own a false new = is_answer_to (due_after P old.worker.figures o
 -- the successor has taken the answers of the one ledger that the bytes are
 pub record HasResumed (P : Policy) (F : Figures) (w : ℕ) (bytes : List ℕ) (s : Successor) : Type 0 where
   pub ledger : IsLedger (rules_of P F) w bytes s.ledger.count (all_heard s.ledger.own.items)
-  pub only : (count : ℕ) (own : List Answer) → IsLedger (rules_of P F) w bytes count own → (s.ledger.count ≡ count) × (all_heard s.ledger.own.items ≡ own)
+  pub only : (count : ℕ) (own : List Answer) → IsLedger (rules_of P F) w bytes count own
+      → (s.ledger.count ≡ count) × (all_heard s.ledger.own.items ≡ own)
   pub remembers : Remembers P (after_answers (rules_of P F) [] (all_heard s.ledger.own.items)) s.worker
   pub figures : s.worker.figures ≡ F
   pub number : s.ledger.no ≡ w
