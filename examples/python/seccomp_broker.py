@@ -100,11 +100,12 @@ def check(policy, script, report):
 
 def explore(policy, script, workers=0, delays=ALL_DELAYS):
     """What can come of a script under a policy, by workers up to this number: of each outcome its lines, how many histories have it, and
-    the lines of a schedule that shows it. And whether no history within the bound of delays is left."""
+    the lines of a schedule that shows it. And how far that goes: `yes` where these are all orders, `bound` where they are all with so many
+    delays at most, `no` where the limit of events was met."""
     first, *lines = answer(LIBRARY.broker_explore, policy, script, numbers=[workers, delays]).splitlines()
     outcomes = []
     for line in lines:
         if line.startswith("outcome "):
             outcomes.append(([], int(line.rpartition("=")[2]), []))
         outcomes[-1][2 if outcomes[-1][2] or line.startswith("schedule") else 0].append(line)
-    return [(told[1:], count, schedule) for told, count, schedule in outcomes], first.endswith("whole=yes")
+    return [(told[1:], count, schedule) for told, count, schedule in outcomes], first.rpartition("whole=")[2]

@@ -75,7 +75,7 @@ class Boot(unittest.TestCase):
 
     def test_no_order_of_steps_makes_the_node_twice_or_refuses_it(self):
         outcomes, whole = explore(policy(mknod="true"), SCRIPT)
-        self.assertTrue(whole)
+        self.assertEqual(whole, "yes")
         for lines, _, _ in outcomes:
             self.assertEqual(len([line for line in lines if line.startswith(" did mknod ")]), 1)
 

@@ -1,12 +1,12 @@
 -- Each line of a legal history's journal is a line: its last byte alone is a 10.
--- By cases on what happened; the one text that stands in a line as it is names the program of a granted mount, and the policy keeps its name free of that byte.
+-- By cases on what happened.
 use Rattle.std.proofs.Common.{◌≡◌, ℕ, Bool, true, false, List, [], ◌∷◌, ◌++◌, Option, Some, None, refl}
 use Rattle.std.specs.Prelude.{◌==◌, ◌%◌, Result, Ok, Err, ℤ, decimal}
 use Rattle.sys_abi.specs.declared.wire.Addfd.{Addfd}
 use Rattle.sys_abi.specs.declared.wire.Notif.{Notif}
 use Rattle.hist_model.specs.Look.{Name}
 use Rattle.hist_model.specs.Requests.{kind_of, low_32}
-use Rattle.hist_model.specs.ReportWords.{or_dash, trimmed}
+use Rattle.hist_model.specs.ReportWords.{trimmed}
 use Rattle.hist_model.specs.ReportJournal.{args_text, asked_text, delivered_text, entered_text, maker_text, disposition_text, node_text, read_text, reaped_text, received_text, request_text, shift_text, spawn_kind_text, spawned_text, target_text, what_text}
 use Rattle.hist_model.specs.declared.event.What.{What}
 use Rattle.hist_model.specs.declared.event.What.TheVariants.{Spawn, Poke, Handler, Enter, Native, Install, Resume, Signal, Deliver, Reap, Exit, Recv, OpenMem, OpenBase, Check, Read, Act, Plant, AddfdPut, AddfdTake, Send, LetGo, Skip, Close}
@@ -23,18 +23,9 @@ use Rattle.hist_model.specs.declared.request.Request.TheVariants.{Mknod, Mount, 
 use Rattle.hist_model.specs.declared.request.Kind.{Kind}
 use Rattle.hist_model.specs.declared.request.Kind.TheVariants.{Reg, Chr, Blk, Fifo, Sock, Dir, Bad}
 use Rattle.audit_check.proofs.Lines.{is_plain, lacks_append}
-use Rattle.audit_check.proofs.Plain.{lacks_flat, plain_back, plain_call, plain_decimal, plain_errno, plain_hex, plain_hex_or_dash, plain_name, plain_number, plain_quoted, plain_result, plain_signed}
+use Rattle.audit_check.proofs.Plain.{lacks_flat, plain_back, plain_call, plain_decimal, plain_errno, plain_hex, plain_hex_or_dash, plain_name, plain_number, plain_program, plain_quoted, plain_result, plain_signed}
 
-ruleset texts = (lacks_append, plain_back, plain_call, plain_decimal, plain_errno, plain_hex, plain_hex_or_dash, plain_name, plain_number, plain_quoted, plain_result, plain_signed)
-
--- the program of the mount that a step does, if it does one
-abbrev pub via_of : Request → List ℕ
-via_of (Mount source target fstype options via flags shift) = via
-via_of q = []
-
-abbrev pub via_in : What → List ℕ
-via_in (Act q cap answer) = via_of q
-via_in a = []
+ruleset texts = (lacks_append, plain_back, plain_call, plain_decimal, plain_errno, plain_hex, plain_hex_or_dash, plain_name, plain_number, plain_program, plain_quoted, plain_result, plain_signed)
 
 -- ---- The parts of a line
 
@@ -98,17 +89,13 @@ shift-plain : (s : Bool) → is_plain (shift_text s) ≡ true
 shift-plain true = refl
 shift-plain false = refl
 
-or_dash-plain : (text : List ℕ) → is_plain text ≡ true → is_plain (or_dash text) ≡ true
-or_dash-plain [] h = refl
-or_dash-plain (b ∷ text) h = h
-
-request-plain : (q : Request) → is_plain (via_of q) ≡ true → is_plain (request_text q) ≡ true
-request-plain (Mknod dirfd path mode dev) h = search (texts, maker-plain dirfd, node-plain (kind_of mode) (low_32 dev))
-request-plain (Mount source target fstype options via flags shift) h = let v = or_dash-plain via h in search (texts, v, shift-plain shift) depth 20
-request-plain (SetXattr path name value flags) h = search texts depth 12
-request-plain (OpenAt dirfd path flags) h = refl
-request-plain (Sysinfo addr) h = refl
-request-plain (Other nr) h = plain_call nr
+request-plain : (q : Request) → is_plain (request_text q) ≡ true
+request-plain (Mknod dirfd path mode dev) = search (texts, maker-plain dirfd, node-plain (kind_of mode) (low_32 dev))
+request-plain (Mount source target fstype options via flags shift) = search (texts, shift-plain shift) depth 20
+request-plain (SetXattr path name value flags) = search texts depth 12
+request-plain (OpenAt dirfd path flags) = refl
+request-plain (Sysinfo addr) = refl
+request-plain (Other nr) = plain_call nr
 
 target-plain : (b : Bool) (n : ℕ) → is_plain (target_text b n) ≡ true
 target-plain true n = plain_decimal n
@@ -119,28 +106,28 @@ asked-plain a = search (texts, target-plain (a.flags % 2 == 1) a.newfd)
 
 -- ---- What happened
 
-pub plain_what : (a : What) → is_plain (via_in a) ≡ true → is_plain (what_text a) ≡ true
-plain_what (Spawn child answer) h = search (texts, spawned-plain answer)
-plain_what (Poke addr bytes) h = search texts
-plain_what (Handler sig disposition) h = search (texts, disposition-plain disposition)
-plain_what (Enter nr args verdict) h = search (texts, args-plain args, entered-plain verdict)
-plain_what (Native answer) h = plain_number answer
-plain_what (Install answer) h = plain_number answer
-plain_what (Resume back) h = plain_back back
-plain_what (Signal pid sig answer) h = search texts
-plain_what (Deliver sig effect) h = search (texts, delivered-plain effect)
-plain_what (Reap answer) h = reaped-plain answer
-plain_what Exit h = refl
-plain_what (Recv answer) h = received-plain answer
-plain_what (OpenMem pid answer) h = search texts
-plain_what (OpenBase pid dirfd answer) h = search texts
-plain_what (Check id answer) h = search texts
-plain_what (Read addr len answer) h = search (texts, read-plain answer)
-plain_what (Act request cap answer) h = search (texts, request-plain request h)
-plain_what (Plant addr bytes cap answer) h = search texts
-plain_what (AddfdPut asked answer) h = search (texts, asked-plain asked)
-plain_what (AddfdTake answer) h = plain_number answer
-plain_what (Send id back answer) h = search texts
-plain_what LetGo h = refl
-plain_what Skip h = refl
-plain_what Close h = refl
+pub plain_what : (a : What) → is_plain (what_text a) ≡ true
+plain_what (Spawn child answer) = search (texts, spawned-plain answer)
+plain_what (Poke addr bytes) = search texts
+plain_what (Handler sig disposition) = search (texts, disposition-plain disposition)
+plain_what (Enter nr args verdict) = search (texts, args-plain args, entered-plain verdict)
+plain_what (Native answer) = plain_number answer
+plain_what (Install answer) = plain_number answer
+plain_what (Resume back) = plain_back back
+plain_what (Signal pid sig answer) = search texts
+plain_what (Deliver sig effect) = search (texts, delivered-plain effect)
+plain_what (Reap answer) = reaped-plain answer
+plain_what Exit = refl
+plain_what (Recv answer) = received-plain answer
+plain_what (OpenMem pid answer) = search texts
+plain_what (OpenBase pid dirfd answer) = search texts
+plain_what (Check id answer) = search texts
+plain_what (Read addr len answer) = search (texts, read-plain answer)
+plain_what (Act request cap answer) = search (texts, request-plain request)
+plain_what (Plant addr bytes cap answer) = search texts
+plain_what (AddfdPut asked answer) = search (texts, asked-plain asked)
+plain_what (AddfdTake answer) = plain_number answer
+plain_what (Send id back answer) = search texts
+plain_what LetGo = refl
+plain_what Skip = refl
+plain_what Close = refl

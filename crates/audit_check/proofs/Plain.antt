@@ -1,7 +1,7 @@
 -- Which bytes the words of a report lack: decimal numbers, the small ones; names, errors and quoted bytes, the byte 10.
 -- By induction on the digits, the bytes and the tables of names.
 use Rattle.std.proofs.Common.{inl, inr, ◌≡◌, ℕ, zero, suc, ◌+◌, ◌<◌, ◌≤◌, Bool, true, false, ◌||◌, ◌&&◌, List, [], ◌∷◌, Option, Some, None, refl, sym, subst, arith}
-use Rattle.std.specs.Prelude.{if◌then◌else◌, ◌==◌, ◌/◌, ◌%◌, nat_lt, nat_le, Result, Ok, Err, ℤ, pos, negsuc, decimal, codes}
+use Rattle.std.specs.Prelude.{if◌then◌else◌, ◌==◌, ◌/◌, ◌%◌, nat_lt, nat_le, Result, Ok, Err, ℤ, pos, negsuc, bytes_eq, decimal, codes}
 use Rattle.std.specs.Fmt.{digit_glyph, digits, digits_onto, signed_decimal}
 use Rattle.std.specs.List.{flat_map, list_all}
 use Rattle.std.proofs.lemmas.Bool.{and_parts, cases_Bool, eqb-true, ne_eqb}
@@ -9,7 +9,8 @@ use Rattle.sys_abi.specs.Calls.{call_name_of, calls}
 use Rattle.sys_abi.specs.Errnos.{errno_name, errnos}
 use Rattle.sys_abi.specs.Names.{name_in}
 use Rattle.hist_model.specs.Look.{Name}
-use Rattle.hist_model.specs.ReportWords.{actor_text, back_text, call_text, errno_text, hex, hex_byte, hex_digit, hex_or_dash, name_text, number_text, quoted, quoted_byte, result_text}
+use Rattle.hist_model.specs.ReportWords.{actor_text, back_text, call_text, errno_text, escaped_byte, escaped_or_dash, hex, hex_byte, hex_digit, hex_or_dash, name_text, number_text, program_text, quoted, quoted_byte, result_text}
+use Rattle.hist_model.specs.ShortNames.{is_short_name_byte}
 use Rattle.hist_model.specs.declared.event.Actor.{Actor}
 use Rattle.hist_model.specs.declared.event.Actor.TheVariants.{Start, Task, Worker, Listener}
 use Rattle.hist_model.specs.declared.event.Back.{Back}
@@ -70,6 +71,27 @@ plain_hex bytes = lacks_flat 10 hex_byte hex_byte-plain bytes
 pub plain_hex_or_dash : (bytes : List ℕ) → is_plain (hex_or_dash bytes) ≡ true
 plain_hex_or_dash [] = refl
 plain_hex_or_dash (b ∷ bytes) = plain_hex (b ∷ bytes)
+
+escaped_byte-plain : (b : ℕ) → is_plain (escaped_byte b) ≡ true
+escaped_byte-plain b = elim (cases_Bool (b == 10)) [
+  | inl h ↦ subst (λ c. is_plain (escaped_byte c) ≡ true) (sym (eqb-true b 10 h)) refl
+  | inr h ↦ by h (is_short_name_byte b)
+]
+  where
+    by : (b == 10) ≡ false → (s : Bool) → is_plain (if s then b ∷ [] else 92 ∷ 120 ∷ hex_byte b) ≡ true
+    by h true = rw h refl
+    by h false = hex_byte-plain b
+
+plain-escaped_or_dash : (text : List ℕ) → is_plain (escaped_or_dash text) ≡ true
+plain-escaped_or_dash [] = refl
+plain-escaped_or_dash (b ∷ text) = lacks_flat 10 escaped_byte escaped_byte-plain (b ∷ text)
+
+pub plain_program : (program : List ℕ) → is_plain (program_text program) ≡ true
+plain_program program = by (bytes_eq program (codes "-"))
+  where
+    by : (t : Bool) → is_plain (if t then codes "\\x2d" else escaped_or_dash program) ≡ true
+    by true = refl
+    by false = plain-escaped_or_dash program
 
 quoted_byte-plain : (b : ℕ) → is_plain (quoted_byte b) ≡ true
 quoted_byte-plain b = elim (cases_Bool (b == 10)) [

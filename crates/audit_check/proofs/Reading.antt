@@ -30,7 +30,6 @@ use Rattle.audit_check.proofs.Journal.{plain_what}
 use Rattle.audit_check.proofs.Lines.{is_plain, lacks_append, line_first, same_lines}
 use Rattle.audit_check.proofs.Named.{actor_told, title_told, told_is_actor}
 use Rattle.audit_check.proofs.Plain.{plain_actor, plain_decimal}
-use Rattle.audit_check.proofs.Programs.{plain_via}
 
 -- the lines of the events, the oldest first
 abbrev event_lines : List Event → List (List ℕ)
@@ -118,7 +117,7 @@ module _ (P : Policy) (S : Script) where
     journal-lines [] text legal = refl
     journal-lines (e ∷ K) text legal =
         let line = event_line (length K) e in
-        let plain = plain_what e.what (plain_via P S K e policy legal.0) in
+        let plain = plain_what e.what in
         ap lines (append_assoc (lines_of journal_line K) line text) ∙ (journal-lines K (line ++ text) legal.1
         ∙ (ap (λ rest. event_lines K ++ rest) (event-line-first (length K) e text plain) ∙ sym (append_assoc (event_lines K) (line ∷ []) (lines text))))
 

@@ -28,9 +28,11 @@ abbrev pub without_close : List Event → List Event
 without_close [] = []
 without_close (e ∷ K) = if closes e.what then K else e ∷ K
 
--- yes: the bytes are the report of this legal history, which is finished or not but for its close, and of which the tables tell; no: this is their fault line
+-- yes: the bytes are the report of this legal history, which is finished or not but for its close, and of which the tables tell;
+-- no: this is their fault line
 abbrev pub Tells : Policy → Script → List ℕ → Found → Type 0
-Tells P S bytes (Yes history finished tables) = IsReported P S bytes history.events × ((finished ≡ true) ↔ Finished (without_close history.events)) × TellsTables P.rules history.events tables
+Tells P S bytes (Yes history finished tables) = IsReported P S bytes history.events
+    × ((finished ≡ true) ↔ Finished (without_close history.events)) × TellsTables P.rules history.events tables
 Tells P S bytes (No line) = IsFaultLine P S bytes line
 
 -- with the close of the listener
@@ -40,8 +42,10 @@ with_close K = ev Listener Close ∷ K
 -- where so many more events are to come, this is what a line does: its actor went on, or the listener was closed and no more are to
 -- come, or it is a fault
 abbrev pub HasStepped : Policy → Machine → List ℕ → ℕ → Stepped → Machine → Type 0
-HasStepped P old line more Went new = Reaches P old (past new.kernel) new × (with_line P old.kernel.script (Journal (past old.kernel) more) line ≡ behind P (past new.kernel) more)
-HasStepped P old line more Closed new = Reaches P old (past new.kernel) new × (more ≡ 0) × (with_line P old.kernel.script (Journal (past old.kernel) more) line ≡ behind P (with_close (past new.kernel)) 0)
+HasStepped P old line more Went new = Reaches P old (past new.kernel) new
+    × (with_line P old.kernel.script (Journal (past old.kernel) more) line ≡ behind P (past new.kernel) more)
+HasStepped P old line more Closed new = Reaches P old (past new.kernel) new × (more ≡ 0)
+    × (with_line P old.kernel.script (Journal (past old.kernel) more) line ≡ behind P (with_close (past new.kernel)) 0)
 HasStepped P old line more Faulty new = with_line P old.kernel.script (Journal (past old.kernel) more) line ≡ Fault
 
 -- no journal ended, or the machine stands at its history, and the number of a line that is left fits

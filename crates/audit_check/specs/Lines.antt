@@ -34,7 +34,8 @@ AgreeingBegins = (n : ℕ) (text other : List ℕ) → AgreeOn n text other → 
 
 -- a text that begins with them, where each is ended, agrees on them
 abbrev pub BeginningAgrees : Type 0
-BeginningAgrees = (n : ℕ) (text rest : List ℕ) → n ≤ length (lines text) → list_all is_ended (take n (lines text)) ≡ true → AgreeOn n text (first_lines n text ++ rest)
+BeginningAgrees = (n : ℕ) (text rest : List ℕ) → n ≤ length (lines text)
+    → list_all is_ended (take n (lines text)) ≡ true → AgreeOn n text (first_lines n text ++ rest)
 
 -- and one that agrees on more lines than there are is the same text
 abbrev pub AgreeingPastIsSame : Type 0

@@ -1,5 +1,6 @@
 -- How far the pass over a report has come, and what a part of a report and its bytes have in common.
-use Rattle.std.specs.Prelude.{◌≡◌, ◌≢◌, ℕ, ◌≤◌, ◌^◌, ◌-◌, if◌then◌else◌, ◌==◌, bytes_eq, codes, List, [], ◌∷◌, ◌++◌, length, take, drop, slice_get, Option, Some, None}
+use Rattle.std.specs.Prelude.{◌≡◌, ◌≢◌, ℕ, ◌≤◌, ◌^◌, ◌-◌, if◌then◌else◌, ◌==◌, bytes_eq, codes, List, [], ◌∷◌, ◌++◌, length, take, drop}
+use Rattle.std.specs.Prelude.{slice_get, Option, Some, None}
 use Rattle.std.specs.List.{count_by}
 use Rattle.hist_model.specs.ReportJournal.{title}
 use Rattle.hist_model.specs.Words.{number_between}
@@ -47,7 +48,8 @@ abbrev pub written : List ℕ → ℕ → Option ℕ → List ℕ
 written text same None = take same text
 written text same (Some b) = take same text ++ b ∷ []
 
--- what a sink that compares with the text tells: the text, with its length before, so that a write is known to leave it, and what was written
+-- what a sink that compares with the text tells: the text, with its length before,
+-- so that a write is known to leave it, and what was written
 abbrev pub told : List ℕ → ℕ → Option ℕ → List ℕ
 told text same other = (length text ∷ text) ++ written text same other
 

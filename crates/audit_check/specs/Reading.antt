@@ -1,5 +1,6 @@
 -- One pass over the lines of a report: the actor that a line names steps, and the line that this makes is compared.
-use Rattle.std.specs.Prelude.{◌≡◌, ℕ, zero, suc, ◌+◌, ◌-◌, ◌<◌, ◌≤◌, ◌^◌, Bool, true, false, ◌&&◌, ◌||◌, not, if◌then◌else◌, ◌==◌, List, [], ◌∷◌, ◌++◌, length, take, drop, Option, Some, None, bytes_eq, codes}
+use Rattle.std.specs.Prelude.{◌≡◌, ℕ, zero, suc, ◌+◌, ◌-◌, ◌<◌, ◌≤◌, ◌^◌, Bool, true, false, ◌&&◌, ◌||◌, not, if◌then◌else◌, ◌==◌, List, []}
+use Rattle.std.specs.Prelude.{◌∷◌, ◌++◌, length, take, drop, Option, Some, None, bytes_eq, codes}
 use Rattle.hist_model.specs.Kinds.{closes}
 use Rattle.hist_model.specs.Legal.{started, with_step}
 use Rattle.hist_model.specs.ReportAudit.{judging_by}
@@ -61,7 +62,8 @@ stepped P S (e ∷ K) (Some a) = if is_start a || closes e.what then None else S
 
 -- behind the line of the newest event, when so many more are to come; no event comes after the close
 abbrev pub behind_event : Policy → List ℕ → ℕ → Option (List Event) → Reached
-behind_event P line more (Some (e ∷ K)) = if bytes_eq (event_line (length K) e) line && (not (closes e.what) || more == 0) then behind P (e ∷ K) more else Fault
+behind_event P line more (Some (e ∷ K)) =
+    if bytes_eq (event_line (length K) e) line && (not (closes e.what) || more == 0) then behind P (e ∷ K) more else Fault
 behind_event P line more _ = Fault
 
 -- one more line
@@ -84,7 +86,8 @@ reached P S front = with_lines P S Title front
 -- as far as the bytes have lines, the pass finds no fault exactly where they begin a legal history's report
 abbrev pub FindsFaults : Policy → Script → Type 0
 FindsFaults P S = (bytes : List ℕ) (n : ℕ) → n ≤ length (lines bytes)
-    → (is_fault (reached P S (take n (lines bytes))) ≡ false → BeginsReport P S bytes n) × (BeginsReport P S bytes n → is_fault (reached P S (take n (lines bytes))) ≡ false)
+    → (is_fault (reached P S (take n (lines bytes))) ≡ false → BeginsReport P S bytes n)
+    × (BeginsReport P S bytes n → is_fault (reached P S (take n (lines bytes))) ≡ false)
 
 -- and it comes to a report's end exactly where they are one
 abbrev pub FindsReports : Policy → Script → Type 0
@@ -93,9 +96,11 @@ FindsReports P S = (bytes : List ℕ) (H : List Event)
 
 -- the line at which it first finds a fault is the fault line
 abbrev pub EndsAtFault : Policy → Script → List ℕ → Type 0
-EndsAtFault P S bytes = (n : ℕ) → n < length (lines bytes) → is_fault (reached P S (take n (lines bytes))) ≡ false → is_fault (reached P S (take (n + 1) (lines bytes))) ≡ true
+EndsAtFault P S bytes = (n : ℕ) → n < length (lines bytes) → is_fault (reached P S (take n (lines bytes))) ≡ false
+    → is_fault (reached P S (take (n + 1) (lines bytes))) ≡ true
     → IsFaultLine P S bytes (n + 1)
 
 -- where it finds none, and comes to no report's end, the fault line is the one behind the last
 abbrev pub EndsBehind : Policy → Script → List ℕ → Type 0
-EndsBehind P S bytes = is_fault (reached P S (lines bytes)) ≡ false → ((H : List Event) → reached P S (lines bytes) ≡ Rest H [] → ⊥) → IsFaultLine P S bytes (length (lines bytes) + 1)
+EndsBehind P S bytes = is_fault (reached P S (lines bytes)) ≡ false
+    → ((H : List Event) → reached P S (lines bytes) ≡ Rest H [] → ⊥) → IsFaultLine P S bytes (length (lines bytes) + 1)

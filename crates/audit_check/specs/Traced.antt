@@ -17,9 +17,17 @@ TellsAnswers H room found = (c : ℕ) → c < room → get_or found c None ≡ i
 -- what is told of a call, by what is kept of its session
 abbrev pub trace_of : Option SessionRecord → Option ℕ → Trace
 trace_of None n = record { recv = None; valid = None; effect = None; answer = n; rule = None }
-trace_of (Some x) n = record { recv = Some x.place; valid = x.stages.valid; effect = x.stages.effect; answer = or_else x.stages.sent n; rule = rule_of (finding_in x) }
+trace_of (Some x) n = record {
+  recv = Some x.place;
+  valid = x.stages.valid;
+  effect = x.stages.effect;
+  answer = or_else x.stages.sent n;
+  rule = rule_of (finding_in x);
+}
 
 -- the line of an event, by these
 abbrev pub traced_line : Judging → List SessionRecord → List (Option ℕ) → List (Option ℕ) → List Event → Event → List ℕ
 traced_line J rows served installed K e =
-    if notifies e.what then trace_text J (length K) (trace_of (row_at rows (get_or served (length K) None)) (get_or installed (length K) None)) else []
+    if notifies e.what
+    then trace_text J (length K) (trace_of (row_at rows (get_or served (length K) None)) (get_or installed (length K) None))
+    else []

@@ -19,7 +19,13 @@ installation c (e ∷ K) = if is_place (installed_for K e) c then Some (length K
 -- by the installation
 abbrev pub traced : Judging → Option Begun → Option ℕ → Trace
 traced J None n = record { recv = None; valid = None; effect = None; answer = n; rule = None }
-traced J (Some s) n = record { recv = Some s.place; valid = s.stages.valid; effect = s.stages.effect; answer = or_else s.stages.sent n; rule = rule_of (finding J s.notif s.steps) }
+traced J (Some s) n = record {
+  recv = Some s.place;
+  valid = s.stages.valid;
+  effect = s.stages.effect;
+  answer = or_else s.stages.sent n;
+  rule = rule_of (finding J s.notif s.steps);
+}
 
 -- a place, or `-` where there is none
 abbrev pub place_text : Option ℕ → List ℕ
@@ -29,12 +35,14 @@ place_text None = codes "-"
 -- the line of the call at place c
 abbrev pub trace_text : Judging → ℕ → Trace → List ℕ
 trace_text J c t =
-    codes "trail " ++ decimal c ++ codes " recv=" ++ place_text t.recv ++ codes " valid=" ++ place_text t.valid ++ codes " effect=" ++ place_text t.effect
+    codes "trail " ++ decimal c ++ codes " recv=" ++ place_text t.recv ++ codes " valid=" ++ place_text t.valid
+    ++ codes " effect=" ++ place_text t.effect
     ++ codes " answer=" ++ place_text t.answer ++ codes " rule=" ++ rule_text J t.rule ++ codes "\n"
 
 -- in the history H, the line of the event that comes after K, where it enters a call that is listed
 abbrev pub trail_line : Judging → List Event → List Event → Event → List ℕ
-trail_line J H K e = if notifies e.what then trace_text J (length K) (traced J (session_for H (length K) H) (installation (length K) H)) else []
+trail_line J H K e =
+    if notifies e.what then trace_text J (length K) (traced J (session_for H (length K) H) (installation (length K) H)) else []
 
 -- the trail: a line for each call, from the oldest on
 abbrev pub trail : Judging → List Event → List ℕ

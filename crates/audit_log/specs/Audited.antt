@@ -10,7 +10,8 @@ use Rattle.audit_log.specs.declared.call_table.CallTable.{CallTable}
 
 -- what came of a session for whose call this number was installed
 abbrev pub audited : Option ℕ → SessionRecord → Audit
-audited number x = record { finding = finding_in x; answer = answer_of x.back number; arrival = arrival_of (x.facts.sent || is_some number) x.facts.lost }
+audited number x =
+    record { finding = finding_in x; answer = answer_of x.back number; arrival = arrival_of (x.facts.sent || is_some number) x.facts.lost }
 
 -- what its line tells of a notification, by its id and the number of its call
 abbrev pub named : ℕ → ℤ → Notif

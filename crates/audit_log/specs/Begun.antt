@@ -22,7 +22,13 @@ pub record Begun : Type 0 where
 
 -- a session with one more step of its worker, which has this place
 abbrev pub with_step : ℕ → What → Begun → Begun
-with_step place a s = record { place = s.place; worker = s.worker; notif = s.notif; steps = joined s.steps a; stages = stages_joined place s.steps a s.stages }
+with_step place a s = record {
+  place = s.place;
+  worker = s.worker;
+  notif = s.notif;
+  steps = joined s.steps a;
+  stages = stages_joined place s.steps a s.stages;
+}
 
 -- ---- What is kept of a session
 
@@ -44,8 +50,18 @@ finding_in x = if x.facts.gone then Gone else (if x.facts.spent then spent x.fou
 
 -- what is kept of a session with these steps
 abbrev pub told : Judging → Begun → SessionRecord
-told J s = record { place = s.place; worker = s.worker; id = s.notif.id; nr = s.notif.call.nr; facts = facts_of s.steps; back = sent_back s.steps; found = found_so_far J s.notif s.steps; stages = s.stages }
+told J s = record {
+  place = s.place;
+  worker = s.worker;
+  id = s.notif.id;
+  nr = s.notif.call.nr;
+  facts = facts_of s.steps;
+  back = sent_back s.steps;
+  found = found_so_far J s.notif s.steps;
+  stages = s.stages;
+}
 
 -- it received the notification, and up to its second good check, a capture follows what it reads
 abbrev pub IsRead : Begun → Notif → Captured → Type 0
-IsRead s n c = (s.notif ≡ n) × (checked_twice s.steps ≡ false → Follows (plan n.call.nr n.call.args) (heard (plan n.call.nr n.call.args) [] (reads s.steps)) c)
+IsRead s n c = (s.notif ≡ n)
+    × (checked_twice s.steps ≡ false → Follows (plan n.call.nr n.call.args) (heard (plan n.call.nr n.call.args) [] (reads s.steps)) c)

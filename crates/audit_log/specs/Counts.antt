@@ -30,7 +30,19 @@ counts_of J H = counted H (audits J H H)
 
 -- those of no history
 abbrev pub no_counts : Counts
-no_counts = record { events = 0; calls = 0; notified = 0; answered = 0; granted = 0; denied = 0; passed = 0; injected = 0; faults = 0; gone = 0; lost = 0 }
+no_counts = record {
+  events = 0;
+  calls = 0;
+  notified = 0;
+  answered = 0;
+  granted = 0;
+  denied = 0;
+  passed = 0;
+  injected = 0;
+  faults = 0;
+  gone = 0;
+  lost = 0;
+}
 
 -- those of two histories together
 abbrev pub plus : Counts → Counts → Counts
@@ -50,12 +62,14 @@ plus c d = record {
 
 -- the numbers of events, calls, listed calls and answers, each behind its name
 unfoldable pub event_words : Counts → List ℕ
-event_words c = codes " events=" ++ decimal c.events ++ codes " calls=" ++ decimal c.calls ++ codes " notified=" ++ decimal c.notified ++ codes " answered=" ++ decimal c.answered
+event_words c = codes " events=" ++ decimal c.events ++ codes " calls=" ++ decimal c.calls ++ codes " notified=" ++ decimal c.notified
+    ++ codes " answered=" ++ decimal c.answered
 
 -- how many sessions came to what
 unfoldable pub finding_words : Counts → List ℕ
 finding_words c =
-    codes " granted=" ++ decimal c.granted ++ codes " denied=" ++ decimal c.denied ++ codes " passed=" ++ decimal c.passed ++ codes " injected=" ++ decimal c.injected
+    codes " granted=" ++ decimal c.granted ++ codes " denied=" ++ decimal c.denied ++ codes " passed=" ++ decimal c.passed
+    ++ codes " injected=" ++ decimal c.injected
     ++ codes " faults=" ++ decimal c.faults ++ codes " gone=" ++ decimal c.gone ++ codes " lost=" ++ decimal c.lost ++ codes "\n"
 
 -- what a summary has behind its first word

@@ -10,4 +10,5 @@ use Rattle.sys_abi.specs.declared.wire.Notif.{Notif}
 
 -- the steps of a session that worker w began at place r, and that isn't over, are the worker's own since its last good receive
 abbrev pub OpenIsOwn : Type 0
-OpenIsOwn = (w r : ℕ) (n : Notif) (K : List Event) → event_at K r ≡ Some (ev (Worker w) (Recv (Ok n))) → is_shut (session_at w r K) ≡ false → session_at w r K ≡ session K w
+OpenIsOwn = (w r : ℕ) (n : Notif) (K : List Event) → event_at K r ≡ Some (ev (Worker w) (Recv (Ok n)))
+    → is_shut (session_at w r K) ≡ false → session_at w r K ≡ session K w

@@ -1,5 +1,6 @@
 -- Rows that stand for places of a history, in the order of the places.
-use Rattle.std.specs.Prelude.{◌≡◌, ℕ, suc, ◌<◌, ◌==◌, if◌then◌else◌, List, [], ◌∷◌, ◌++◌, length, get_or, option_map, slice_get, Option, Some, None}
+use Rattle.std.specs.Prelude.{◌≡◌, ℕ, suc, ◌<◌, ◌==◌, if◌then◌else◌, List, [], ◌∷◌, ◌++◌, length, get_or, option_map}
+use Rattle.std.specs.Prelude.{slice_get, Option, Some, None}
 use Rattle.audit_log.specs.declared.places.CallPlaces.{CallPlaces}
 
 -- the places rise

@@ -29,7 +29,11 @@ record_in t place = record_of_row t.records.items (row_in t.places.items place)
 
 -- in the history H, of the event that comes after K
 abbrev pub record_of : List Event → List Event → Event → CallRecord
-record_of H K e = record { pid = first_pid (task_name e.who) K; outcome = outcome (task_name e.who) (length K) H; number = installed (task_name e.who) (length K) H }
+record_of H K e = record {
+  pid = first_pid (task_name e.who) K;
+  outcome = outcome (task_name e.who) (length K) H;
+  number = installed (task_name e.who) (length K) H;
+}
 
 -- the records tell of each event of the history that enters a call, by its place
 abbrev pub Tells : List Event → (ℕ → CallRecord) → Type 0
@@ -75,7 +79,8 @@ first_record a facts = record { pid = facts.pid; outcome = outcome_at_entry a; n
 
 -- with one more step, by what is kept of its actor and the row of its newest call
 abbrev pub recorded : What → TaskFacts → Option ℕ → List CallRecord → List CallRecord
-recorded a facts row records = if enters a then records ++ first_record a facts ∷ [] else (if moves a then advanced row a records else records)
+recorded a facts row records =
+    if enters a then records ++ first_record a facts ∷ [] else (if moves a then advanced row a records else records)
 
 -- the places with one more step, which has this place
 abbrev pub placed : What → ℕ → List ℕ → List ℕ

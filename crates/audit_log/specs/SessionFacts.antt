@@ -34,7 +34,15 @@ facts_with f a = record {
 
 -- it may find the caller, or its call, gone
 abbrev pub gone_by : Facts → What → Facts
-gone_by f a = record { shut = f.shut; gone = is_gone a || f.gone; checked = f.checked; checked_twice = f.checked_twice; spent = f.spent; sent = f.sent; lost = f.lost }
+gone_by f a = record {
+  shut = f.shut;
+  gone = is_gone a || f.gone;
+  checked = f.checked;
+  checked_twice = f.checked_twice;
+  spent = f.spent;
+  sent = f.sent;
+  lost = f.lost;
+}
 
 -- it asks whether the notification is valid
 abbrev pub checked_by : Facts → What → Facts
@@ -50,8 +58,24 @@ checked_by f a = record {
 
 -- it may be refused since the rule's times were spent
 abbrev pub spent_by : Facts → What → Facts
-spent_by f a = record { shut = f.shut; gone = f.gone; checked = f.checked; checked_twice = f.checked_twice; spent = is_spent a || f.spent; sent = f.sent; lost = f.lost }
+spent_by f a = record {
+  shut = f.shut;
+  gone = f.gone;
+  checked = f.checked;
+  checked_twice = f.checked_twice;
+  spent = is_spent a || f.spent;
+  sent = f.sent;
+  lost = f.lost;
+}
 
 -- it may find no listed call
 abbrev pub lost_by : Facts → What → Facts
-lost_by f a = record { shut = f.shut; gone = f.gone; checked = f.checked; checked_twice = f.checked_twice; spent = f.spent; sent = f.sent; lost = misses_call a || f.lost }
+lost_by f a = record {
+  shut = f.shut;
+  gone = f.gone;
+  checked = f.checked;
+  checked_twice = f.checked_twice;
+  spent = f.spent;
+  sent = f.sent;
+  lost = misses_call a || f.lost;
+}

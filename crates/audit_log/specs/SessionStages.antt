@@ -44,4 +44,5 @@ stages_step false false place before a s = s
 -- of the session that worker w began at place r
 unfoldable pub stages_at : ℕ → ℕ → List Event → Stages
 stages_at w r [] = no_stages
-stages_at w r (e ∷ K) = stages_step (length K == r) (is_worker e.who w && not (skips e.what)) (length K) (session_at w r K) e.what (stages_at w r K)
+stages_at w r (e ∷ K) =
+    stages_step (length K == r) (is_worker e.who w && not (skips e.what)) (length K) (session_at w r K) e.what (stages_at w r K)

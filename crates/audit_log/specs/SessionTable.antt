@@ -13,10 +13,20 @@ use Rattle.audit_log.specs.declared.session_table.SessionTable.{SessionTable}
 
 -- what is found past the end of a list
 abbrev pub no_session : Begun
-no_session = record { place = 0; worker = 0; notif = record { id = 0; pid = 0; flags = 0; call = record { nr = pos 0; arch = 0; ip = 0; args = [] } }; steps = []; stages = no_stages }
+no_session = record {
+  place = 0;
+  worker = 0;
+  notif = record { id = 0; pid = 0; flags = 0; call = record { nr = pos 0; arch = 0; ip = 0; args = [] } };
+  steps = [];
+  stages = no_stages;
+}
 
 abbrev pub nobody : Current
-nobody = record { row = None; notif = no_session.notif; capture = record { reached = record { texts = []; taken = []; parts = []; rooms = 0; places = 0 }; fault = None } }
+nobody = record {
+  row = None;
+  notif = no_session.notif;
+  capture = record { reached = record { texts = []; taken = []; parts = []; rooms = 0; places = 0 }; fault = None };
+}
 
 abbrev pub session_in : List Begun → ℕ → Begun
 session_in S j = get_or S j no_session
@@ -29,7 +39,8 @@ abbrev pub no_row : SessionRecord
 no_row = told (judging_by []) no_session
 
 -- one more step, which has this place, in the session of this row, if there is one, with the notification and the capture before and after
-abbrev pub IsRowStepped : List Rule → ℕ → What → Notif → Notif → Captured → Captured → List SessionRecord → List SessionRecord → Option ℕ → Type 0
+abbrev pub IsRowStepped : List Rule → ℕ → What → Notif → Notif → Captured
+    → Captured → List SessionRecord → List SessionRecord → Option ℕ → Type 0
 IsRowStepped rules place a n m c d before after None = after ≡ before
 IsRowStepped rules place a n m c d before after (Some i) =
     i < length before → (s : Begun) → get_or before i no_row ≡ told (judging_by rules) s → IsRead s n c
@@ -37,7 +48,8 @@ IsRowStepped rules place a n m c d before after (Some i) =
 
 -- one more step of a worker in the session that it is in
 abbrev pub IsStepped : List Rule → ℕ → What → Current → Current → List SessionRecord → List SessionRecord → Type 0
-IsStepped rules place a old new before after = (new.row ≡ old.row) × IsRowStepped rules place a old.notif new.notif old.capture new.capture before after old.row
+IsStepped rules place a old new before after =
+    (new.row ≡ old.row) × IsRowStepped rules place a old.notif new.notif old.capture new.capture before after old.row
 
 -- an open session is its worker's current one, and what is read in it goes through that worker's capture
 pub record StandsFor (rules : List Rule) (S : List Begun) (t : SessionTable) : Type 0 where

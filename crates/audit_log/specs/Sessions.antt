@@ -13,7 +13,8 @@ use Rattle.audit_log.specs.SessionStages.{no_stages, stages_at, stages_step}
 
 -- in the history H, the session that the step after K begins, if it begins one
 abbrev pub begun_by : List Event → List Event → Actor → What → List Begun
-begun_by H K (Worker w) (Recv (Ok notif)) = record { place = length K; worker = w; notif = notif; steps = session_at w (length K) H; stages = stages_at w (length K) H } ∷ []
+begun_by H K (Worker w) (Recv (Ok notif)) =
+    record { place = length K; worker = w; notif = notif; steps = session_at w (length K) H; stages = stages_at w (length K) H } ∷ []
 begun_by H K _ _ = []
 
 -- in the history H, the sessions that were begun in K, the oldest first
@@ -35,7 +36,8 @@ with_event place e s = record {
 
 -- the session that a step at this place begins, if it begins one
 abbrev pub started : ℕ → Actor → What → List Begun
-started place (Worker w) (Recv (Ok notif)) = record { place = place; worker = w; notif = notif; steps = Recv (Ok notif) ∷ []; stages = no_stages } ∷ []
+started place (Worker w) (Recv (Ok notif)) =
+    record { place = place; worker = w; notif = notif; steps = Recv (Ok notif) ∷ []; stages = no_stages } ∷ []
 started place _ _ = []
 
 -- all sessions with one more event, which has this place

@@ -2,10 +2,10 @@
 
 ghost use Rattle.std.specs.Prelude.{◌≡◌, ℕ, ◌+◌, ◌<◌, ◌≤◌, ◌++◌, [], OnOk, decimal, length, take};
 ghost use Rattle.std.specs.Fmt.{signed_decimal};
-ghost use Rattle.hist_model.specs.ReportWords.{hex, quoted};
+ghost use Rattle.hist_model.specs.ReportWords.{escaped, hex, quoted};
 
 use crate::digits::{Digits, FEW_DIGITS, place_digits};
-use plain_words::{hex_byte, push_quoted};
+use plain_words::{hex_byte, push_escaped, push_quoted};
 use std::alloc::Global;
 use std::marker::Model;
 use sys_abi::memory::NoMemory;
@@ -199,6 +199,18 @@ impl LineBuffer {
         self.len = 0;
         self.room.truncate(len);
         push_quoted(&mut self.room, text)?;
+        self.len = self.room.len();
+        Ok(())
+    }
+
+    /// Adds a text in the place of a name of a program.
+    pub(crate) fn push_escaped(&mut self, text: &[u8]) -> Result<(), NoMemory>
+        ensures { OnOk result (self.new ≡ self.old ++ escaped text.now) }
+    {
+        let len = self.len;
+        self.len = 0;
+        self.room.truncate(len);
+        push_escaped(&mut self.room, text)?;
         self.len = self.room.len();
         Ok(())
     }

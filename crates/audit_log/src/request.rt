@@ -1,12 +1,12 @@
 //! What a worker does for a call, in words.
 
 ghost use Rattle.std.specs.Prelude.{◌≡◌, ◌++◌, OnOk, codes, decimal};
-ghost use Rattle.hist_model.specs.ReportWords.{quoted, or_dash, hex_or_dash};
+ghost use Rattle.hist_model.specs.ReportWords.{quoted, program_text, hex_or_dash};
 ghost use Rattle.hist_model.specs.ReportJournal.{maker_text, node_text, request_text, shift_text};
 ghost use Rattle.sys_abi.specs.Devices.{major_of, minor_of};
 
 use crate::line::LineBuffer;
-use crate::words::{push_call, push_hex_or_dash, push_or_dash};
+use crate::words::{push_call, push_hex_or_dash, push_program};
 use hist_model::request::{Kind, Request, node_device};
 use hist_model::text::Text;
 use sys_abi::device::split_dev;
@@ -128,14 +128,14 @@ fn push_mount_options(
     via: &Text,
     shift: bool,
 ) -> Result<(), NoMemory>
-    ensures { OnOk result (line.new ≡ line.old ++ (codes " flags=" ++ decimal flags ++ codes " data=" ++ quoted options.now ++ codes " via=" ++ or_dash via.now ++ codes " shift=" ++ shift_text shift)) }
+    ensures { OnOk result (line.new ≡ line.old ++ (codes " flags=" ++ decimal flags ++ codes " data=" ++ quoted options.now ++ codes " via=" ++ program_text via.now ++ codes " shift=" ++ shift_text shift)) }
 {
     line.push(" flags=")?;
     line.push_number(flags)?;
     line.push(" data=")?;
     line.push_quoted(options.items())?;
     line.push(" via=")?;
-    push_or_dash(line, via.items())?;
+    push_program(line, via.items())?;
     line.push(" shift=")?;
     line.push(if shift { "1" } else { "0" })
 }

@@ -2,7 +2,7 @@
 
 ghost use Rattle.std.specs.Prelude.{◌≡◌, ◌++◌, OnOk, codes, decimal};
 ghost use Rattle.std.specs.List.{flat_map};
-ghost use Rattle.hist_model.specs.ReportWords.{hex_or_dash, or_dash, name_text, errno_text, call_text, result_text, number_text, back_text, actor_text};
+ghost use Rattle.hist_model.specs.ReportWords.{hex_or_dash, program_text, name_text, errno_text, call_text, result_text, number_text, back_text, actor_text};
 
 use crate::line::LineBuffer;
 use hist_model::event::{Actor, Back};
@@ -22,14 +22,17 @@ pub(crate) fn push_hex_or_dash(line: &mut LineBuffer, bytes: &[u8]) -> Result<()
     }
 }
 
-/// Adds a text as it is, or `-` where it is empty.
-pub(crate) fn push_or_dash(line: &mut LineBuffer, text: &[u8]) -> Result<(), NoMemory>
-    ensures { OnOk result (line.new ≡ line.old ++ or_dash text.now) }
+/// Adds the program that serves a mount, or `-` where none does. Bytes that names of programs don't have in a policy are written in
+/// base 16, and so is the name `-`.
+pub(crate) fn push_program(line: &mut LineBuffer, program: &[u8]) -> Result<(), NoMemory>
+    ensures { OnOk result (line.new ≡ line.old ++ program_text program.now) }
 {
-    if text.is_empty() {
+    if program == b"-".as_slice() {
+        line.push("\\x2d")
+    } else if program.is_empty() {
         line.push("-")
     } else {
-        line.push_bytes(text)
+        line.push_escaped(program)
     }
 }
 

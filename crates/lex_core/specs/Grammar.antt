@@ -17,7 +17,8 @@ pub data Written : List ℕ → List ℕ → Type 0 where
   nothing : Written [] []
   itself : (b : ℕ) (front bytes : List ℕ) → 32 ≤ b → b ≢ 34 → b ≢ 92 → Written front bytes → Written (b ∷ front) (b ∷ bytes)
   letter : (c b : ℕ) (front bytes : List ℕ) → c ≢ 120 → escaped c ≡ Some b → Written front bytes → Written (92 ∷ c ∷ front) (b ∷ bytes)
-  digits : (high low b : ℕ) (front bytes : List ℕ) → hex_byte (hex_digit high) (hex_digit low) ≡ Some b → Written front bytes → Written (92 ∷ 120 ∷ high ∷ low ∷ front) (b ∷ bytes)
+  digits : (high low b : ℕ) (front bytes : List ℕ) → hex_byte (hex_digit high) (hex_digit low) ≡ Some b
+      → Written front bytes → Written (92 ∷ 120 ∷ high ∷ low ∷ front) (b ∷ bytes)
 
 -- less than two digits follow a backslash and an x
 abbrev pub LacksDigits : List ℕ → Type 0
@@ -51,10 +52,13 @@ pub data Reads : List ℕ → Result (List Token) Reason → Type 0 where
   -- a bare token that a quote touches
   word_touched : (b : ℕ) (word rest : List ℕ) → AreBare (b ∷ word) → Reads (b ∷ word ++ 34 ∷ rest) (Err BadQuote)
   -- a bare token, and then a byte that begins none
-  word_strays : (b c : ℕ) (word rest : List ℕ) → AreBare (b ∷ word) → is_blank c ≡ false → begins_token c ≡ false → Reads (b ∷ word ++ c ∷ rest) (Err BadByte)
+  word_strays : (b c : ℕ) (word rest : List ℕ) → AreBare (b ∷ word) → is_blank c ≡ false
+      → begins_token c ≡ false → Reads (b ∷ word ++ c ∷ rest) (Err BadByte)
   -- a quoted token that another token touches, bare or quoted
-  text_touched : (c : ℕ) (front bytes rest : List ℕ) → Written front bytes → begins_token c ≡ true → Reads (34 ∷ front ++ 34 ∷ c ∷ rest) (Err BadQuote)
+  text_touched : (c : ℕ) (front bytes rest : List ℕ) → Written front bytes → begins_token c ≡ true
+      → Reads (34 ∷ front ++ 34 ∷ c ∷ rest) (Err BadQuote)
   -- a quoted token, and then a byte that begins none
-  text_strays : (c : ℕ) (front bytes rest : List ℕ) → Written front bytes → is_blank c ≡ false → begins_token c ≡ false → Reads (34 ∷ front ++ 34 ∷ c ∷ rest) (Err BadByte)
+  text_strays : (c : ℕ) (front bytes rest : List ℕ) → Written front bytes → is_blank c ≡ false
+      → begins_token c ≡ false → Reads (34 ∷ front ++ 34 ∷ c ∷ rest) (Err BadByte)
   -- a quoted token that isn't closed, or has what can't stand in it
   text_broken : (front bytes rest : List ℕ) → Written front bytes → Breaks rest → Reads (34 ∷ front ++ rest) (Err BadQuote)

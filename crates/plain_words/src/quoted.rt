@@ -1,9 +1,10 @@
-//! Bytes as digits of base 16, and text between quotes.
+//! Bytes as digits of base 16, text between quotes, and names of any bytes.
 
-ghost use Rattle.std.specs.Prelude.{◌≡◌, ◌++◌, ◌<◌, OnOk};
+ghost use Rattle.std.specs.Prelude.{◌≡◌, ◌++◌, ◌∷◌, ◌<◌, OnOk};
 ghost use Rattle.std.specs.List.{flat_map};
-ghost use Rattle.hist_model.specs.ReportWords.{hex_digit, hex_byte, quoted_byte, quoted};
+ghost use Rattle.hist_model.specs.ReportWords.{hex_digit, hex_byte, quoted_byte, quoted, escaped_byte, escaped};
 
+use crate::names::is_short_name_byte;
 use sys_abi::memory::NoMemory;
 
 /// A digit of base 16.
@@ -21,6 +22,15 @@ pub fn hex_byte(byte: u8) -> [u8; 2]
     [hex_digit(byte / 16), hex_digit(byte % 16)]
 }
 
+/// Adds a byte as `\x` and two digits of base 16.
+fn push_hex_escape(out: &mut Vec<u8>, byte: u8) -> Result<(), NoMemory>
+    ensures { OnOk result (out.new.items ≡ out.old.items ++ 92 ∷ 120 ∷ hex_byte byte) }
+{
+    out.extend_from_slice(b"\\x")?;
+    out.extend_from_slice(&hex_byte(byte))?;
+    Ok(())
+}
+
 /// Adds a byte of a quoted text.
 fn push_quoted_byte(out: &mut Vec<u8>, byte: u8) -> Result<(), NoMemory>
     ensures { OnOk result (out.new.items ≡ out.old.items ++ quoted_byte byte) }
@@ -32,9 +42,7 @@ fn push_quoted_byte(out: &mut Vec<u8>, byte: u8) -> Result<(), NoMemory>
         out.push(byte)?;
         Ok(())
     } else {
-        out.extend_from_slice(b"\\x")?;
-        out.extend_from_slice(&hex_byte(byte))?;
-        Ok(())
+        push_hex_escape(out, byte)
     }
 }
 
@@ -56,5 +64,28 @@ pub fn push_quoted(out: &mut Vec<u8>, text: &[u8]) -> Result<(), NoMemory>
     out.push(b'"')?;
     push_quoted_bytes(out, text)?;
     out.push(b'"')?;
+    Ok(())
+}
+
+/// Adds a byte of a name.
+fn push_escaped_byte(out: &mut Vec<u8>, byte: u8) -> Result<(), NoMemory>
+    ensures { OnOk result (out.new.items ≡ out.old.items ++ escaped_byte byte) }
+{
+    if is_short_name_byte(byte) {
+        out.push(byte)?;
+        Ok(())
+    } else {
+        push_hex_escape(out, byte)
+    }
+}
+
+/// Adds a text in the place of a name of a file system or of a program: each byte that such names don't have as `\x` and two
+/// digits of base 16.
+pub fn push_escaped(out: &mut Vec<u8>, text: &[u8]) -> Result<(), NoMemory>
+    ensures { OnOk result (out.new.items ≡ out.old.items ++ escaped text.now) }
+{
+    for byte in text {
+        push_escaped_byte(out, *byte)?;
+    }
     Ok(())
 }

@@ -107,7 +107,7 @@ fn push_default_rule(rules: &mut Vec<Rule>, name: &str, calls: Calls) -> Result<
 }
 
 /// A rule without a program, a shift or a limit.
-fn plain_rule(name: String, calls: Calls, conds: Vec<Cond>, verdict: Verdict) -> Rule
+pub(crate) fn plain_rule(name: String, calls: Calls, conds: Vec<Cond>, verdict: Verdict) -> Rule
     ensures { result ≡ plain_rule (string_bytes name) calls conds.items verdict }
 {
     let via = Vec::new(*conds.allocator());

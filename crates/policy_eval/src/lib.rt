@@ -13,12 +13,14 @@ ghost use Rattle.hist_model.specs.Decisions.{decide, decide_from, rule_name, gra
 
 mod conditions;
 mod defaults;
+mod reasons;
 
 use conditions::fits;
 pub use defaults::{push_default_rules, push_mknod_rules};
 use hist_model::policy::{Cap, Policy, Verdict};
 use hist_model::request::Request;
 use hist_model::text::Text;
+pub use reasons::{push_mknod_reasons, push_mount_reasons, push_setxattr_reasons};
 use std::alloc::Global;
 use sys_abi::memory::NoMemory;
 

@@ -5,19 +5,18 @@ use Rattle.std.specs.Prelude.{⊤}
 use Rattle.std.specs.List.{list_all}
 use Rattle.std.proofs.lemmas.Bool.{and_from, and_parts, cases_Bool}
 use Rattle.hist_model.specs.Decisions.{Switches}
-use Rattle.hist_model.specs.PolicyRules.{AreSwitches}
-use Rattle.hist_model.specs.RuleParts.{has_named, is_short_name, named_once}
+use Rattle.hist_model.specs.PolicyRules.{AreSwitches, is_name_in}
+use Rattle.hist_model.specs.RuleParts.{has_named, named_once}
 use Rattle.hist_model.specs.declared.policy.Profile.{Profile}
 use Rattle.hist_model.specs.declared.policy.Profile.TheVariants.{Plain, Lxd}
 use Rattle.serde_json.specs.Data.{Data}
 use Rattle.serde_json.specs.Find.{as_str, as_object}
 use Rattle.policy_reader.specs.declared.settings.ConfigKey.{ConfigKey}
 use Rattle.policy_reader.specs.declared.settings.ConfigKey.TheVariants.{Ignored, Judged, Unknown, Known}
-use Rattle.policy_reader.specs.declared.lxd_lists.ListOf.TheVariants.{Names, Pairs}
 use Rattle.policy_reader.specs.declared.settings.Setting.{Setting}
 use Rattle.policy_reader.specs.declared.settings.Setting.TheVariants.{Mknod, Mount, Shift, Allowed, Fuse, SetXattr, Sysinfo}
 use Rattle.policy_reader.specs.Readings.{and_then, config_place, good, walk}
-use Rattle.policy_reader.specs.Settings.{all_off, config_key, config_member, config_member_of, config_of, each, file_system, file_systems, fuse_pair, fuse_pairs, items_in, kept, pair_of, pairs_beside, set, switch_of}
+use Rattle.policy_reader.specs.Settings.{all_off, config_key, config_member, config_member_of, config_of, each, file_system, file_systems, fuse_pair, fuse_pairs, is_pair_in, items_in, kept, pair_of, pairs_beside, set, switch_of}
 use Rattle.policy_reader.specs.LxdLists.{shares, unless_shared}
 use Rattle.policy_reader.specs.Texts.{cut_at}
 use Rattle.policy_reader.proofs.Keeping.{all_push, anything, found_if, found_mapped, found_next, good_keeps, next_keeps, once_push, walk_keeps}
@@ -43,32 +42,33 @@ kept_once p name before (x ∷ xs) h k =
       | inr n ↦ rw n (kept_once p name (before ++ x ∷ []) xs (record { pass = all_push p before x h.pass parts.0; once = once_push name before x h.once n }) parts.1)
     ]
 
-names_kept : (profile : Profile) (text : List ℕ) → IfSome (file_systems profile text) (AreItems is_short_name (λ name. name))
-names_kept profile text = found_mapped (λ xs. list_all is_short_name xs ≡ true) (AreItems is_short_name (λ name. name)) (kept (λ name. name) []) (each file_system (items_in profile Names text))
-    (each_kept is_short_name file_system (λ item. found_if (λ x. is_short_name x ≡ true) (is_short_name item) item (λ h. h)) (items_in profile Names text))
-    (λ xs h. kept_once is_short_name (λ name. name) [] xs (record { pass = refl; once = refl }) h)
+names_kept : (profile : Profile) (text : List ℕ) → IfSome (file_systems profile text) (AreItems (is_name_in profile) (λ name. name))
+names_kept profile text = found_mapped (λ xs. list_all (is_name_in profile) xs ≡ true) (AreItems (is_name_in profile) (λ name. name)) (kept (λ name. name) []) (each (file_system profile) (items_in profile text))
+    (each_kept (is_name_in profile) (file_system profile) (λ item. found_if (λ x. is_name_in profile x ≡ true) (is_name_in profile item) item (λ h. h)) (items_in profile text))
+    (λ xs h. kept_once (is_name_in profile) (λ name. name) [] xs (record { pass = refl; once = refl }) h)
 
-is_pair : List ℕ × List ℕ → Bool
-is_pair pair = is_short_name pair.0 && is_short_name pair.1
+are_names : Profile → List ℕ × List ℕ → Bool
+are_names profile pair = is_name_in profile pair.0 && is_name_in profile pair.1
 
-pair_kept : (parts : List ℕ × Option (List ℕ)) → IfSome (pair_of parts) (λ pair. is_pair pair ≡ true)
-unfolding is_pair
-pair_kept (name, None) = tt
-pair_kept (name, Some program) = elim (cases_Bool (is_short_name name)) [
-  | inl t ↦ rw t (found_if (λ pair. is_pair pair ≡ true) (is_short_name program) (name, program) (λ h. and_from (is_short_name name) (is_short_name program) t h))
-  | inr n ↦ rw n tt
-]
+pair_named : (profile : Profile) (name program : List ℕ) → is_pair_in profile name program ≡ true → are_names profile (name, program) ≡ true
+unfolding are_names
+pair_named Plain name program h = h
+pair_named Lxd name program h = refl
 
-pairs_kept : (profile : Profile) (text : List ℕ) → IfSome (fuse_pairs profile text) (AreItems is_pair (λ pair. pair.0))
-pairs_kept profile text = found_mapped (λ xs. list_all is_pair xs ≡ true) (AreItems is_pair (λ pair. pair.0)) (kept (λ pair. pair.0) []) (each fuse_pair (items_in profile Pairs text))
-    (each_kept is_pair fuse_pair (λ item. pair_kept (cut_at 61 item)) (items_in profile Pairs text))
-    (λ xs h. kept_once is_pair (λ pair. pair.0) [] xs (record { pass = refl; once = refl }) h)
+pair_kept : (profile : Profile) (parts : List ℕ × Option (List ℕ)) → IfSome (pair_of profile parts) (λ pair. are_names profile pair ≡ true)
+pair_kept profile (name, None) = tt
+pair_kept profile (name, Some program) = found_if (λ pair. are_names profile pair ≡ true) (is_pair_in profile name program) (name, program) (pair_named profile name program)
 
-beside_kept : (profile : Profile) (allowed : List (List ℕ)) (text : List ℕ) → IfSome (pairs_beside profile allowed text) (AreItems is_pair (λ pair. pair.0))
-beside_kept Plain allowed text = pairs_kept Plain text
-beside_kept Lxd allowed text = found_next (AreItems is_pair (λ pair. pair.0)) (AreItems is_pair (λ pair. pair.0)) (unless_shared allowed) (fuse_pairs Lxd text) (pairs_kept Lxd text) (λ pairs h. apart pairs h (shares allowed pairs))
+pairs_kept : (profile : Profile) (text : List ℕ) → IfSome (fuse_pairs profile text) (AreItems (are_names profile) (λ pair. pair.0))
+pairs_kept profile text = found_mapped (λ xs. list_all (are_names profile) xs ≡ true) (AreItems (are_names profile) (λ pair. pair.0)) (kept (λ pair. pair.0) []) (each (fuse_pair profile) (items_in profile text))
+    (each_kept (are_names profile) (fuse_pair profile) (λ item. pair_kept profile (cut_at 61 item)) (items_in profile text))
+    (λ xs h. kept_once (are_names profile) (λ pair. pair.0) [] xs (record { pass = refl; once = refl }) h)
+
+beside_kept : (profile : Profile) (mount : Bool) (allowed : List (List ℕ)) (text : List ℕ) → IfSome (pairs_beside profile mount allowed text) (AreItems (are_names profile) (λ pair. pair.0))
+beside_kept Plain mount allowed text = pairs_kept Plain text
+beside_kept Lxd mount allowed text = found_next (AreItems (are_names Lxd) (λ pair. pair.0)) (AreItems (are_names Lxd) (λ pair. pair.0)) (unless_shared mount allowed) (fuse_pairs Lxd text) (pairs_kept Lxd text) (λ pairs h. apart pairs h (mount && shares allowed pairs))
   where
-    apart : (pairs : List (List ℕ × List ℕ)) → AreItems is_pair (λ pair. pair.0) pairs → (shared : Bool) → IfSome (if shared then None else Some pairs) (AreItems is_pair (λ pair. pair.0))
+    apart : (pairs : List (List ℕ × List ℕ)) → AreItems (are_names Lxd) (λ pair. pair.0) pairs → (shared : Bool) → IfSome (if shared then None else Some pairs) (AreItems (are_names Lxd) (λ pair. pair.0))
     apart pairs h true = tt
     apart pairs h false = h
 
@@ -79,15 +79,15 @@ switch_kept : (key text : List ℕ) (s : Switches) (next : Bool → Switches) �
 switch_kept key text s next h = next_keeps (λ _. ⊤) AreSwitches (good (config_place key) (switch_of text)) (λ on. Ok (next on)) (anything (good (config_place key) (switch_of text))) (λ on _. h on)
 
 set_kept : (key : List ℕ) (setting : Setting) (text : List ℕ) (s : Switches) → AreSwitches s → IfOk (set key setting text s) AreSwitches
-unfolding is_pair
+unfolding are_names
 set_kept key Mknod text s h = switch_kept key text s (λ on. record s { mknod = on }) (λ on. record { allowed = h.allowed; allowed_once = h.allowed_once; fuse = h.fuse; fuse_once = h.fuse_once })
 set_kept key Mount text s h = switch_kept key text s (λ on. record s { mount = on }) (λ on. record { allowed = h.allowed; allowed_once = h.allowed_once; fuse = h.fuse; fuse_once = h.fuse_once })
 set_kept key Shift text s h = switch_kept key text s (λ on. record s { shift = on }) (λ on. record { allowed = h.allowed; allowed_once = h.allowed_once; fuse = h.fuse; fuse_once = h.fuse_once })
 set_kept key SetXattr text s h = switch_kept key text s (λ on. record s { setxattr = on }) (λ on. record { allowed = h.allowed; allowed_once = h.allowed_once; fuse = h.fuse; fuse_once = h.fuse_once })
 set_kept key Sysinfo text s h = switch_kept key text s (λ on. record s { sysinfo = on }) (λ on. record { allowed = h.allowed; allowed_once = h.allowed_once; fuse = h.fuse; fuse_once = h.fuse_once })
-set_kept key Allowed text s h = next_keeps (AreItems is_short_name (λ name. name)) AreSwitches (good (config_place key) (file_systems s.profile text)) (λ names. Ok (record s { allowed = names })) (good_keeps (AreItems is_short_name (λ name. name)) (config_place key) (file_systems s.profile text) (names_kept s.profile text))
+set_kept key Allowed text s h = next_keeps (AreItems (is_name_in s.profile) (λ name. name)) AreSwitches (good (config_place key) (file_systems s.profile text)) (λ names. Ok (record s { allowed = names })) (good_keeps (AreItems (is_name_in s.profile) (λ name. name)) (config_place key) (file_systems s.profile text) (names_kept s.profile text))
     (λ names k. record { allowed = k.pass; allowed_once = k.once; fuse = h.fuse; fuse_once = h.fuse_once })
-set_kept key Fuse text s h = next_keeps (AreItems is_pair (λ pair. pair.0)) AreSwitches (good (config_place key) (pairs_beside s.profile s.allowed text)) (λ pairs. Ok (record s { fuse = pairs })) (good_keeps (AreItems is_pair (λ pair. pair.0)) (config_place key) (pairs_beside s.profile s.allowed text) (beside_kept s.profile s.allowed text))
+set_kept key Fuse text s h = next_keeps (AreItems (are_names s.profile) (λ pair. pair.0)) AreSwitches (good (config_place key) (pairs_beside s.profile s.mount s.allowed text)) (λ pairs. Ok (record s { fuse = pairs })) (good_keeps (AreItems (are_names s.profile) (λ pair. pair.0)) (config_place key) (pairs_beside s.profile s.mount s.allowed text) (beside_kept s.profile s.mount s.allowed text))
     (λ pairs k. record { allowed = h.allowed; allowed_once = h.allowed_once; fuse = k.pass; fuse_once = k.once })
 
 member_kept : (kind : ConfigKey) (key : List ℕ) (d : Data) (s : Switches) → AreSwitches s → IfOk (config_member_of kind key d s) AreSwitches

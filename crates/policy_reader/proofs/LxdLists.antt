@@ -1,6 +1,6 @@
--- Pieces between commas, and those of them that count from the last one on: what a turn of each loop leaves.
+-- Pieces between commas, which are taken from the last one on: what a turn of each loop leaves.
 -- By what a cut at the first comma gives, and by what the reverse of a list with one more is.
-use Rattle.std.proofs.Common.{◌≡◌, ℕ, ◌+◌, ◌<◌, Bool, true, false, List, [], ◌∷◌, ◌++◌, Option, Bor, map, filter, take, length, get_or, refl, sym, ap, ◌∙◌}
+use Rattle.std.proofs.Common.{◌≡◌, ℕ, ◌+◌, ◌<◌, Bool, List, [], ◌∷◌, ◌++◌, Option, Bor, map, take, length, get_or, refl, sym, ap, ◌∙◌}
 use Rattle.std.specs.Prelude.{reverse, ◌==◌, ◌||◌, bytes_eq}
 use Rattle.std.specs.List.{list_any, slice_split}
 use Rattle.std.proofs.lemmas.List.{map-append, reverse-append, take_more}
@@ -19,15 +19,11 @@ piece_first text front more f m = rw (f, m) (split_first text)
 last_first : {A B : Type 0} (f : A → B) (xs : List A) (x : A) → reverse (map f (xs ++ x ∷ [])) ≡ f x ∷ reverse (map f xs)
 last_first f xs x = ap reverse (map-append f xs (x ∷ [])) ∙ reverse-append (map f xs) (f x ∷ [])
 
--- ---- Items that count
+-- ---- Items
 
-pub item_counts : (p : List ℕ → Bool) (items pieces : List (Bor (List ℕ))) (x : Bor (List ℕ)) (all : List (List ℕ)) → map (λ i. i.now) items ++ filter p (reverse (map (λ i. i.now) (pieces ++ x ∷ []))) ≡ all → p x.now ≡ true
-    → map (λ i. i.now) (items ++ x ∷ []) ++ filter p (reverse (map (λ i. i.now) pieces)) ≡ all
-item_counts p items pieces x all h t = one_item items x _ _ all h (rw (last_first (λ (i : Bor (List ℕ)). i.now) pieces x, t) refl)
-
-pub item_passed : (p : List ℕ → Bool) (items pieces : List (Bor (List ℕ))) (x : Bor (List ℕ)) (all : List (List ℕ)) → map (λ i. i.now) items ++ filter p (reverse (map (λ i. i.now) (pieces ++ x ∷ []))) ≡ all → p x.now ≡ false
-    → map (λ i. i.now) items ++ filter p (reverse (map (λ i. i.now) pieces)) ≡ all
-item_passed p items pieces x all h f = ap (λ left. map (λ i. i.now) items ++ left) (sym (rw (last_first (λ (i : Bor (List ℕ)). i.now) pieces x, f) refl)) ∙ h
+pub item_moved : (items pieces : List (Bor (List ℕ))) (x : Bor (List ℕ)) (all : List (List ℕ)) → map (λ i. i.now) items ++ reverse (map (λ i. i.now) (pieces ++ x ∷ [])) ≡ all
+    → map (λ i. i.now) (items ++ x ∷ []) ++ reverse (map (λ i. i.now) pieces) ≡ all
+item_moved items pieces x all h = one_item items x _ _ all h (last_first (λ (i : Bor (List ℕ)). i.now) pieces x)
 
 -- ---- Names
 

@@ -1,11 +1,13 @@
 -- The conditions of a rule: their keys, the values that they have, and the calls that they are for.
-use Rattle.std.specs.Prelude.{ℕ, not, if◌then◌else◌, List, [], ◌∷◌, ◌++◌, find, Option, Some, None, option_map, option_and_then, Ok, Err, ℤ, pos, negsuc, ◌||◌, ◌&&◌, codes}
+use Rattle.std.specs.Prelude.{ℕ, not, if◌then◌else◌, List, [], ◌∷◌, ◌++◌, find, Option, Some, None, option_map, option_and_then, Ok, Err, ℤ}
+use Rattle.std.specs.Prelude.{pos, negsuc, ◌||◌, ◌&&◌, codes}
 use Rattle.std.specs.List.{list_all}
 use Rattle.std.specs.Int.Signed.{le_z}
 use Rattle.std.specs.Ordering.{int_eq}
 use Rattle.hist_model.specs.RuleParts.{is_directory, is_for, major_max, minor_max}
 use Rattle.hist_model.specs.declared.policy.Cond.{Cond}
-use Rattle.hist_model.specs.declared.policy.Cond.TheVariants.{Path, Under, Kind as OfKind, Dev, Fstype, Source, Name, Value, Dirfd, Flags, ShortDevice, PlainFlags}
+use Rattle.hist_model.specs.declared.policy.Cond.TheVariants.{Path, Under, Kind as OfKind, Dev, Fstype, Source, Name, Value}
+use Rattle.hist_model.specs.declared.policy.Cond.TheVariants.{Dirfd, Flags, ShortDevice, PlainFlags}
 use Rattle.hist_model.specs.declared.policy.Profile.{Profile}
 use Rattle.hist_model.specs.declared.policy.Profile.TheVariants.{Plain, Lxd}
 use Rattle.hist_model.specs.declared.request.Kind.{Kind}
@@ -24,7 +26,9 @@ use Rattle.policy_reader.specs.Texts.{cut_at, decimal_up_to}
 
 -- the keys of conditions
 abbrev pub condition_keys : List (List ℕ × TextKey)
-condition_keys = (codes "dev", text_key.Dev) ∷ (codes "fstype", text_key.Fstype) ∷ (codes "kind", text_key.Kind) ∷ (codes "name", text_key.Name) ∷ (codes "path", text_key.Path) ∷ (codes "source", text_key.Source) ∷ (codes "under", text_key.Under) ∷ []
+condition_keys = (codes "dev", text_key.Dev) ∷ (codes "fstype", text_key.Fstype) ∷ (codes "kind", text_key.Kind)
+    ∷ (codes "name", text_key.Name) ∷ (codes "path", text_key.Path) ∷ (codes "source", text_key.Source)
+    ∷ (codes "under", text_key.Under) ∷ []
 
 -- those that a policy with a profile has besides
 abbrev pub profile_keys : List (List ℕ × CondKey)

@@ -15,10 +15,13 @@ use Rattle.policy_reader.specs.Readings.{Reading, and_then, good, walk, walk_ite
 
 -- the flags that have names
 abbrev pub flag_names : List (List ℕ × Flag)
-flag_names = (codes "RDONLY", Mount 1) ∷ (codes "NOSUID", Mount 2) ∷ (codes "NODEV", Mount 4) ∷ (codes "NOEXEC", Mount 8) ∷ (codes "SYNCHRONOUS", Mount 16) ∷ (codes "REMOUNT", Mount 32)
-    ∷ (codes "MANDLOCK", Mount 64) ∷ (codes "DIRSYNC", Mount 128) ∷ (codes "NOSYMFOLLOW", Mount 256) ∷ (codes "NOATIME", Mount 1024) ∷ (codes "NODIRATIME", Mount 2048) ∷ (codes "BIND", Mount 4096)
-    ∷ (codes "MOVE", Mount 8192) ∷ (codes "REC", Mount 16384) ∷ (codes "SILENT", Mount 32768) ∷ (codes "UNBINDABLE", Mount 131072) ∷ (codes "PRIVATE", Mount 262144) ∷ (codes "SLAVE", Mount 524288)
-    ∷ (codes "SHARED", Mount 1048576) ∷ (codes "RELATIME", Mount 2097152) ∷ (codes "STRICTATIME", Mount 16777216) ∷ (codes "LAZYTIME", Mount 33554432) ∷ (codes "CREATE", Attribute 1) ∷ (codes "REPLACE", Attribute 2) ∷ []
+flag_names = (codes "RDONLY", Mount 1) ∷ (codes "NOSUID", Mount 2) ∷ (codes "NODEV", Mount 4) ∷ (codes "NOEXEC", Mount 8)
+    ∷ (codes "SYNCHRONOUS", Mount 16) ∷ (codes "REMOUNT", Mount 32) ∷ (codes "MANDLOCK", Mount 64) ∷ (codes "DIRSYNC", Mount 128)
+    ∷ (codes "NOSYMFOLLOW", Mount 256) ∷ (codes "NOATIME", Mount 1024) ∷ (codes "NODIRATIME", Mount 2048) ∷ (codes "BIND", Mount 4096)
+    ∷ (codes "MOVE", Mount 8192) ∷ (codes "REC", Mount 16384) ∷ (codes "SILENT", Mount 32768) ∷ (codes "UNBINDABLE", Mount 131072)
+    ∷ (codes "PRIVATE", Mount 262144) ∷ (codes "SLAVE", Mount 524288) ∷ (codes "SHARED", Mount 1048576) ∷ (codes "RELATIME", Mount 2097152)
+    ∷ (codes "STRICTATIME", Mount 16777216) ∷ (codes "LAZYTIME", Mount 33554432) ∷ (codes "CREATE", Attribute 1)
+    ∷ (codes "REPLACE", Attribute 2) ∷ []
 
 -- the keys of the two lists
 abbrev pub flags_keys : List (List ℕ × FlagsKey)
@@ -58,4 +61,5 @@ flags_member n name d s = flags_at n (named flags_keys name) name d s
 
 -- the condition on flags of the n-th rule, which is an object
 abbrev pub flags_of : ℕ → Data → Reading Cond
-flags_of n d = and_then (good (rule_place n (codes ".when.flags")) (as_object d)) (λ ms. and_then (walk (flags_member n) ms no_flags) (λ s. Ok (Flags s.all s.none)))
+flags_of n d = and_then (good (rule_place n (codes ".when.flags")) (as_object d))
+    (λ ms. and_then (walk (flags_member n) ms no_flags) (λ s. Ok (Flags s.all s.none)))

@@ -10,4 +10,3 @@ pub mod Verdicts
 pub mod Rules
 pub mod Policies
 pub mod Kept
-pub mod Switched

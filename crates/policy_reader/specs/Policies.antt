@@ -63,7 +63,8 @@ top_member format name d p = part_at format (named top_keys name) name d p
 
 -- the policy of members in this format
 abbrev pub policy_as : Format → Members → Reading PolicyRecord
-policy_as format ms = and_then (walk (top_member format) ms (no_parts format.profile)) (λ parts. Ok (record { rules = all_rules parts.own parts.settings }))
+policy_as format ms =
+    and_then (walk (top_member format) ms (no_parts format.profile)) (λ parts. Ok (record { rules = all_rules parts.own parts.settings }))
 
 -- the version of a top object and then its profile, which are tested before anything else in it
 abbrev pub format_of : Data → Reading Format

@@ -1,6 +1,7 @@
 -- What is read of the values of a policy: something, or the first refusal. A place is named by the keys and places that lead
 -- to it from the top.
-use Rattle.std.specs.Prelude.{◌≡◌, ℕ, List, [], ◌∷◌, ◌++◌, Option, Some, None, option_map, Result, Ok, Err, ⊤, bytes_eq, find, codes, decimal}
+use Rattle.std.specs.Prelude.{◌≡◌, ℕ, List, [], ◌∷◌, ◌++◌, Option, Some, None, option_map, Result, Ok, Err, ⊤}
+use Rattle.std.specs.Prelude.{bytes_eq, find, codes, decimal}
 use Rattle.hist_model.specs.ReportWords.{quoted}
 use Rattle.serde_json.specs.Data.{Data, Items, no_items, item, Members, no_members, member}
 use Rattle.sys_abi.specs.declared.memory.OrNoMemory.{OrNoMemory}

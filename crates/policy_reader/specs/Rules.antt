@@ -1,5 +1,6 @@
 -- The rules that a policy states of its own.
-use Rattle.std.specs.Prelude.{ℕ, Bool, false, ◌&&◌, not, if◌then◌else◌, ◌==◌, nat_lt, List, [], ◌∷◌, ◌++◌, length, Option, Some, None, option_and_then, is_some, Ok, Err, ℤ, pos, codes}
+use Rattle.std.specs.Prelude.{ℕ, Bool, false, ◌&&◌, not, if◌then◌else◌, ◌==◌, nat_lt, List, [], ◌∷◌, ◌++◌, length, Option, Some, None}
+use Rattle.std.specs.Prelude.{option_and_then, is_some, Ok, Err, ℤ, pos, codes}
 use Rattle.std.specs.List.{list_all}
 use Rattle.hist_model.specs.Decisions.{is_among}
 use Rattle.hist_model.specs.ReportWords.{quoted}
@@ -53,7 +54,8 @@ calls_of n (object ms) = Err (BadValue (rule_place n (codes ".call")))
 -- ---- The keys of a rule
 
 abbrev pub rule_keys : List (List ℕ × RuleKey)
-rule_keys = (codes "call", key.Call) ∷ (codes "name", key.Name) ∷ (codes "then", key.Then) ∷ (codes "times", key.Times) ∷ (codes "when", key.When) ∷ []
+rule_keys = (codes "call", key.Call) ∷ (codes "name", key.Name) ∷ (codes "then", key.Then) ∷ (codes "times", key.Times)
+    ∷ (codes "when", key.When) ∷ []
 
 -- how often a rule grants is said in the second version alone
 abbrev pub in_version : Version → Option RuleKey → Option RuleKey
@@ -72,9 +74,11 @@ nothing_stated = record { name = None; calls = None; conds = []; verdict = None;
 abbrev pub state : Profile → ℕ → Option RuleKey → List ℕ → Data → Stated → Reading Stated
 state profile n None name d s = Err (BadKey (rule_place n (codes "." ++ quoted name)))
 state profile n (Some key.Call) name d s = and_then (calls_of n d) (λ calls. Ok (record s { calls = Some calls }))
-state profile n (Some key.Name) name d s = and_then (good (rule_place n (codes ".name")) (option_and_then rule_name (as_str d))) (λ text. Ok (record s { name = Some text }))
+state profile n (Some key.Name) name d s =
+    and_then (good (rule_place n (codes ".name")) (option_and_then rule_name (as_str d))) (λ text. Ok (record s { name = Some text }))
 state profile n (Some key.Then) name d s = and_then (verdict_of n d) (λ verdict. Ok (record s { verdict = Some verdict }))
-state profile n (Some key.Times) name d s = and_then (good (rule_place n (codes ".times")) (whole_from 1 d)) (λ times. Ok (record s { times = Some times }))
+state profile n (Some key.Times) name d s =
+    and_then (good (rule_place n (codes ".times")) (whole_from 1 d)) (λ times. Ok (record s { times = Some times }))
 state profile n (Some key.When) name d s = and_then (conditions_of profile n d) (λ conds. Ok (record s { conds = conds }))
 
 -- what one member of the n-th rule states
@@ -96,7 +100,15 @@ own_conditions calls conds (Inject src at) = conds
 
 -- the rule that is stated so
 abbrev pub own_rule : List ℕ → List ℤ → List Cond → Verdict → Option ℕ → Rule
-own_rule name calls conds verdict times = record { name = name; calls = Named calls; conds = own_conditions calls conds verdict; verdict = verdict; via = []; shift = false; times = times }
+own_rule name calls conds verdict times = record {
+  name = name;
+  calls = Named calls;
+  conds = own_conditions calls conds verdict;
+  verdict = verdict;
+  via = [];
+  shift = false;
+  times = times;
+}
 
 -- a condition that isn't for one of the calls, and then a name that is used
 abbrev pub condition_fault : Option Cond → Bool → Option (List ℕ)
@@ -126,7 +138,8 @@ rule_from n used s =
 
 -- the n-th rule, which is an object, where an earlier one may use its name
 abbrev pub rule_at : Format → ℕ → (List ℕ → Bool) → Data → Reading Rule
-rule_at format n used d = and_then (good (rule_place n []) (as_object d)) (λ ms. and_then (walk (rule_member format n) ms nothing_stated) (rule_from n used))
+rule_at format n used d =
+    and_then (good (rule_place n []) (as_object d)) (λ ms. and_then (walk (rule_member format n) ms nothing_stated) (rule_from n used))
 
 -- a rule after those before it
 abbrev pub rule_of : Format → List Rule → Data → Reading Rule

@@ -1,5 +1,6 @@
 -- What the texts in a policy stand for: numbers, devices, names, and items between commas.
-use Rattle.std.specs.Prelude.{ℕ, Bool, ◌&&◌, if◌then◌else◌, ◌==◌, nat_le, nat_eq, List, [], ◌∷◌, length, reverse, map, filter, Option, Some, None, option_and_then, bytes_eq, drop, codes}
+use Rattle.std.specs.Prelude.{ℕ, Bool, ◌&&◌, if◌then◌else◌, ◌==◌, nat_le, nat_eq, List, [], ◌∷◌, length, reverse, map, filter, Option, Some}
+use Rattle.std.specs.Prelude.{None, option_and_then, bytes_eq, drop, codes}
 use Rattle.std.specs.List.{list_any, slice_split, starts_with}
 use Rattle.hist_model.specs.RuleParts.{is_filled, is_from, is_rule_name}
 use Rattle.hist_model.specs.Words.{number_between}

@@ -27,9 +27,12 @@ no_answer = record { at = None; deny = None; inject = None }
 
 abbrev pub answer_at : ℕ → Option AnswerKey → List ℕ → Data → Answer → Reading Answer
 answer_at n None name d a = Err (BadKey (rule_place n (codes ".then." ++ quoted name)))
-answer_at n (Some key.At) name d a = and_then (good (rule_place n (codes ".then.at")) (whole_from 0 d)) (λ number. Ok (record a { at = Some number }))
-answer_at n (Some key.Deny) name d a = and_then (good (rule_place n (codes ".then.deny")) (option_and_then errno_of_name (as_str d))) (λ error. Ok (record a { deny = Some error }))
-answer_at n (Some key.Inject) name d a = and_then (good (rule_place n (codes ".then.inject")) (whole_from 0 d)) (λ number. Ok (record a { inject = Some number }))
+answer_at n (Some key.At) name d a =
+    and_then (good (rule_place n (codes ".then.at")) (whole_from 0 d)) (λ number. Ok (record a { at = Some number }))
+answer_at n (Some key.Deny) name d a = and_then (good (rule_place n (codes ".then.deny")) (option_and_then errno_of_name (as_str d)))
+    (λ error. Ok (record a { deny = Some error }))
+answer_at n (Some key.Inject) name d a =
+    and_then (good (rule_place n (codes ".then.inject")) (whole_from 0 d)) (λ number. Ok (record a { inject = Some number }))
 
 -- a member of the answer of the n-th rule: an error by its name, or the number of a file of the broker and the number that it gets
 abbrev pub answer_member : ℕ → List ℕ → Data → Answer → Reading Answer
@@ -44,7 +47,8 @@ verdict_from _ _ _ = None
 -- the answer of the n-th rule: a word, or an object whose keys are read before it is tested
 abbrev pub verdict_of : ℕ → Data → Reading Verdict
 verdict_of n (string text) = good (rule_place n (codes ".then")) (named verdict_words text)
-verdict_of n (object ms) = and_then (walk (answer_member n) ms no_answer) (λ a. good (rule_place n (codes ".then")) (verdict_from a.deny a.inject a.at))
+verdict_of n (object ms) =
+    and_then (walk (answer_member n) ms no_answer) (λ a. good (rule_place n (codes ".then")) (verdict_from a.deny a.inject a.at))
 verdict_of n null = Err (BadValue (rule_place n (codes ".then")))
 verdict_of n (boolean b) = Err (BadValue (rule_place n (codes ".then")))
 verdict_of n (number x) = Err (BadValue (rule_place n (codes ".then")))

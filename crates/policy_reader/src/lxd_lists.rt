@@ -1,45 +1,17 @@
-//! The lists of file systems as LXD takes them: what stands between commas, with its spaces.
+//! The lists of types of file systems as LXD takes them: what stands between commas, with its spaces.
 
-ghost use Rattle.std.specs.Prelude.{◌≡◌, ◌==◌, map, IfOk, option_map};
+ghost use Rattle.std.specs.Prelude.{◌≡◌, ◌==◌, ◌&&◌, map, IfOk, option_map};
 ghost use Rattle.std.specs.List.{list_any, slice_split};
-ghost use Rattle.policy_reader.specs.LxdLists.{counts, is_foreign_pair, is_led, lxd_items, shares, unless_shared};
+ghost use Rattle.hist_model.specs.RuleParts.{is_filled};
+ghost use Rattle.policy_reader.specs.LxdLists.{is_led, is_one_pair, lxd_items, shares, unless_shared};
 ghost use Rattle.policy_reader.specs.NameSets.{holds, HoldsNames};
-ghost use Rattle.policy_reader.specs.Texts.{cut_at};
 
 use crate::names::Names;
-use crate::texts::{cut_at, is_short_name};
+use crate::texts::cut_at;
 use hist_model::text::Text;
+use plain_words::is_one_of;
 use std::alloc::Global;
 use sys_abi::memory::NoMemory;
-
-/// What a list has.
-#[derive(Clone, Copy)]
-pub(crate) enum ListOf {
-    /// File systems.
-    Names,
-    /// File systems, each with its program.
-    Pairs,
-}
-
-/// Whether the item names a program, for a file system that has none of the names here.
-fn is_foreign_pair(item: &[u8]) -> bool
-    ensures { result ≡ is_foreign_pair (cut_at 61 item.now) }
-{
-    match cut_at(item, b'=') {
-        (name, Some(_)) => !is_short_name(name),
-        (_, None) => false,
-    }
-}
-
-/// Whether the item counts in such a list.
-fn counts(list: ListOf, item: &[u8]) -> bool
-    ensures { result ≡ counts list item.now }
-{
-    match list {
-        ListOf::Names => is_short_name(item),
-        ListOf::Pairs => !is_foreign_pair(item),
-    }
-}
 
 /// Whether the list is empty, or begins with a comma.
 fn is_led(text: &[u8]) -> bool
@@ -62,9 +34,9 @@ fn pieces_of(alloc: Global, text: &[u8]) -> Result<Vec<&[u8]>, NoMemory>
     Ok(pieces)
 }
 
-/// The items of a list that count, from the last one on.
-pub(crate) fn lxd_items(alloc: Global, list: ListOf, text: &[u8]) -> Result<Vec<&[u8]>, NoMemory>
-    ensures { IfOk result (λ items. map (λ item. item.now) items.items ≡ lxd_items list text.now) }
+/// The items of a list, from the last one on.
+pub(crate) fn lxd_items(alloc: Global, text: &[u8]) -> Result<Vec<&[u8]>, NoMemory>
+    ensures { IfOk result (λ items. map (λ item. item.now) items.items ≡ lxd_items text.now) }
 {
     let mut items = Vec::new(alloc);
     if is_led(text) {
@@ -72,11 +44,16 @@ pub(crate) fn lxd_items(alloc: Global, list: ListOf, text: &[u8]) -> Result<Vec<
     }
     let mut pieces = pieces_of(alloc, text)?;
     while let Some(piece) = pieces.pop() {
-        if counts(list, piece) {
-            items.push(piece)?;
-        }
+        items.push(piece)?;
     }
     Ok(items)
+}
+
+/// Whether the program's name has no `=`, so that its item has one alone.
+pub(crate) fn is_one_pair(program: &[u8]) -> bool
+    ensures { result ≡ is_one_pair program.now }
+{
+    !is_one_of(program, b'=')
 }
 
 /// The names of these file systems.
@@ -90,14 +67,14 @@ fn names_of(alloc: Global, allowed: &[Text]) -> Result<Names, NoMemory>
     Ok(names)
 }
 
-/// Whether one of the file systems has one of these names.
+/// Whether one of the types that a program serves has one of these names.
 fn is_one_held(names: &Names, pairs: &[(Text, Text)]) -> bool
-    ensures { result ≡ list_any (λ pair. holds names.now pair.0) pairs.now }
+    ensures { result ≡ list_any (λ pair. is_filled pair.1 && holds names.now pair.0) pairs.now }
 {
-    pairs.iter().any(|pair| names.holds(pair.0.items()))
+    pairs.iter().any(|pair| !pair.1.items().is_empty() && names.holds(pair.0.items()))
 }
 
-/// Whether a file system stands in both lists.
+/// Whether a type that a program serves stands in the other list as well.
 fn shares(alloc: Global, allowed: &[Text], pairs: &[(Text, Text)]) -> Result<bool, NoMemory>
     ensures { IfOk result (λ found. found ≡ shares allowed.now pairs.now) }
 {
@@ -105,15 +82,16 @@ fn shares(alloc: Global, allowed: &[Text], pairs: &[(Text, Text)]) -> Result<boo
     Ok(is_one_held(&names, pairs))
 }
 
-/// The file systems with programs, where none may be mounted without one as well.
+/// The types with programs, where mounts are on and the two lists share none. Where mounts are off the lists aren't compared.
 pub(crate) fn unless_shared(
     alloc: Global,
+    mount: bool,
     allowed: &[Text],
     pairs: Vec<(Text, Text)>,
 ) -> Result<Option<Vec<(Text, Text)>>, NoMemory>
-    ensures { IfOk result (λ found. option_map (λ v. v.items) found ≡ unless_shared allowed.now pairs.items) }
+    ensures { IfOk result (λ found. option_map (λ v. v.items) found ≡ unless_shared mount allowed.now pairs.items) }
 {
-    if shares(alloc, allowed, pairs.as_slice())? {
+    if mount && shares(alloc, allowed, pairs.as_slice())? {
         Ok(None)
     } else {
         Ok(Some(pairs))

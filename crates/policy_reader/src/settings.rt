@@ -3,13 +3,14 @@
 ghost use Rattle.std.specs.Prelude.{◌≡◌, map, option_and_then, option_map, IfOk, Ok};
 ghost use Rattle.std.specs.Str.{str_eq_ignore_ascii_case};
 ghost use Rattle.hist_model.specs.Decisions.{Switches};
+ghost use Rattle.hist_model.specs.PolicyRules.{is_name_in};
 ghost use Rattle.policy_reader.specs.Readings.{named, Gives};
-ghost use Rattle.policy_reader.specs.Settings.{all_off, config_key, config_member, config_member_of, config_of, file_system, file_systems, fuse_pair, fuse_pairs, intercept_key, intercept_prefix, is_ignored, is_judged, is_word_of, items_in, known_or_not, pairs_beside, plain_key, set, setting_names, switch_of};
+ghost use Rattle.policy_reader.specs.Settings.{all_off, config_key, config_member, config_member_of, config_of, file_system, file_systems, fuse_pair, fuse_pairs, intercept_key, intercept_prefix, is_ignored, is_judged, is_pair_in, is_word_of, items_in, known_or_not, pairs_beside, plain_key, set, setting_names, switch_of};
 ghost use Rattle.serde_json.specs.Find.{as_str};
 ghost use Rattle.policy_reader.specs.Tables.{texts_of};
 ghost use Rattle.serde_json.specs.View.{view};
 
-use crate::lxd_lists::{ListOf, lxd_items, unless_shared};
+use crate::lxd_lists::{is_one_pair, lxd_items, unless_shared};
 use crate::names::{Names, keep};
 use crate::readings::{Reading, bad_value, good_in_config, unknown_in_config};
 use crate::texts::{behind, cut_at, is_among, is_short_name, items_of, named};
@@ -66,7 +67,7 @@ const SETTINGS: [(&'static str, Setting); 7] = [
 const IGNORED: [&'static str; 3] = ["bpf", "bpf.devices", "sched_setscheduler"];
 
 /// Those whose values LXD takes as switches.
-const JUDGED: [&'static str; 2] = ["bpf", "sched_setscheduler"];
+const JUDGED: [&'static str; 3] = ["bpf", "bpf.devices", "sched_setscheduler"];
 
 /// The words of a switch that is on, and of one that is off, with letters of either case.
 const ON: [&'static str; 4] = ["true", "1", "yes", "on"];
@@ -84,7 +85,8 @@ pub(crate) struct Settings {
     pub(crate) shift: bool,
     pub(crate) set_xattr: bool,
     pub(crate) sysinfo: bool,
-    /// The file systems that a program serves, each with its program.
+    /// The file systems that a program serves, each with its program. Under LXD's profile both are any texts, and the program may
+    /// be empty.
     pub(crate) fuse: Vec<(Text, Text)>,
     pub(crate) allowed: Vec<Text>,
 }
@@ -126,17 +128,22 @@ fn switch_of(text: &str) -> Option<bool>
 }
 
 /// The items of a list.
-fn items_in(
-    alloc: Global,
-    profile: Profile,
-    list: ListOf,
-    text: &[u8],
-) -> Result<Vec<&[u8]>, NoMemory>
-    ensures { IfOk result (λ items. map (λ item. item.now) items.items ≡ items_in profile list text.now) }
+fn items_in(alloc: Global, profile: Profile, text: &[u8]) -> Result<Vec<&[u8]>, NoMemory>
+    ensures { IfOk result (λ items. map (λ item. item.now) items.items ≡ items_in profile text.now) }
 {
     match profile {
         Profile::Plain => items_of(alloc, text),
-        Profile::Lxd => lxd_items(alloc, list, text),
+        Profile::Lxd => lxd_items(alloc, text),
+    }
+}
+
+/// Whether a list may name this file system. LXD takes any text.
+fn is_name_in(profile: Profile, name: &[u8]) -> bool
+    ensures { result ≡ is_name_in profile name.now }
+{
+    match profile {
+        Profile::Plain => is_short_name(name),
+        Profile::Lxd => true,
     }
 }
 
@@ -144,11 +151,11 @@ fn items_in(
 fn file_systems(alloc: Global, profile: Profile, text: &str) -> Result<Option<Vec<Text>>, NoMemory>
     ensures { IfOk result (λ found. option_map (λ v. v.items) found ≡ file_systems profile text.now) }
 {
-    let items = items_in(alloc, profile, ListOf::Names, text.as_bytes())?;
+    let items = items_in(alloc, profile, text.as_bytes())?;
     let mut names = Names::new(alloc);
     let mut found = Vec::new(alloc);
     for item in &items {
-        if !is_short_name(item) {
+        if !is_name_in(profile, item) {
             return Ok(None);
         }
         let copy = Text::new(Vec::from_slice(alloc, item)?);
@@ -157,14 +164,22 @@ fn file_systems(alloc: Global, profile: Profile, text: &str) -> Result<Option<Ve
     Ok(Some(found))
 }
 
+/// Whether an item may have this file system and this program. LXD takes any texts, but for a second `=`.
+fn is_pair_in(profile: Profile, name: &[u8], program: &[u8]) -> bool
+    ensures { result ≡ is_pair_in profile name.now program.now }
+{
+    match profile {
+        Profile::Plain => is_short_name(name) && is_short_name(program),
+        Profile::Lxd => is_one_pair(program),
+    }
+}
+
 /// A file system and its program, which stand before and behind the first `=`.
-fn fuse_pair(item: &[u8]) -> Option<(&[u8], &[u8])>
-    ensures { option_map (λ pair. (pair.0.now, pair.1.now)) result ≡ fuse_pair item.now }
+fn fuse_pair(profile: Profile, item: &[u8]) -> Option<(&[u8], &[u8])>
+    ensures { option_map (λ pair. (pair.0.now, pair.1.now)) result ≡ fuse_pair profile item.now }
 {
     match cut_at(item, b'=') {
-        (name, Some(program)) if is_short_name(name) && is_short_name(program) => {
-            Some((name, program))
-        }
+        (name, Some(program)) if is_pair_in(profile, name, program) => Some((name, program)),
         _ => None,
     }
 }
@@ -177,11 +192,11 @@ fn fuse_pairs(
 ) -> Result<Option<Vec<(Text, Text)>>, NoMemory>
     ensures { IfOk result (λ found. option_map (λ v. v.items) found ≡ fuse_pairs profile text.now) }
 {
-    let items = items_in(alloc, profile, ListOf::Pairs, text.as_bytes())?;
+    let items = items_in(alloc, profile, text.as_bytes())?;
     let mut names = Names::new(alloc);
     let mut found = Vec::new(alloc);
     for item in &items {
-        let Some((name, program)) = fuse_pair(item) else {
+        let Some((name, program)) = fuse_pair(profile, item) else {
             return Ok(None);
         };
         let copy = copied_pair(alloc, name, program)?;
@@ -199,18 +214,19 @@ fn copied_pair(alloc: Global, name: &[u8], program: &[u8]) -> Result<(Text, Text
     Ok((name, program))
 }
 
-/// File systems with their programs, beside those that may be mounted without one.
+/// File systems with their programs, beside those that may be mounted without one, where mounts are on.
 fn pairs_beside(
     alloc: Global,
     profile: Profile,
+    mount: bool,
     allowed: &[Text],
     text: &str,
 ) -> Result<Option<Vec<(Text, Text)>>, NoMemory>
-    ensures { IfOk result (λ found. option_map (λ v. v.items) found ≡ pairs_beside profile allowed.now text.now) }
+    ensures { IfOk result (λ found. option_map (λ v. v.items) found ≡ pairs_beside profile mount allowed.now text.now) }
 {
     let found = fuse_pairs(alloc, profile, text)?;
     match (profile, found) {
-        (Profile::Lxd, Some(pairs)) => unless_shared(alloc, allowed, pairs),
+        (Profile::Lxd, Some(pairs)) => unless_shared(alloc, mount, allowed, pairs),
         (_, found) => Ok(found),
     }
 }
@@ -319,7 +335,8 @@ impl Settings {
                 self.allowed = good_in_config(alloc, key, found)?;
             }
             Setting::Fuse => {
-                let found = pairs_beside(alloc, self.profile, self.allowed.as_slice(), text)?;
+                let allowed = self.allowed.as_slice();
+                let found = pairs_beside(alloc, self.profile, self.mount, allowed, text)?;
                 self.fuse = good_in_config(alloc, key, found)?;
             }
         }

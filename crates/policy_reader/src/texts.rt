@@ -9,7 +9,7 @@ ghost use Rattle.hist_model.specs.RuleParts.{is_lower_or_digit, is_one_of, is_ru
 ghost use Rattle.policy_reader.specs.Texts.{behind, cut_at, decimal_up_to, is_text_of, items_of, leads_with_zero, past_spaces, trimmed, whole_from, in_range};
 ghost use Rattle.serde_json.specs.View.{view};
 
-use plain_words::{is_digit, number_between};
+use plain_words::{is_lower_or_digit, is_one_of, is_short_name_byte, number_between};
 use serde_json::Value;
 use std::alloc::Global;
 use sys_abi::memory::NoMemory;
@@ -139,26 +139,6 @@ pub(crate) fn items_of(alloc: Global, text: &[u8]) -> Result<Vec<&[u8]>, NoMemor
         rest = more;
     }
     Ok(items)
-}
-
-/// Whether the byte is a small letter or a digit.
-fn is_lower_or_digit(b: u8) -> bool
-    ensures { result ≡ is_lower_or_digit b }
-{
-    (b'a' <= b && b <= b'z') || is_digit(b)
-}
-
-/// Whether the byte is one of the marks.
-fn is_one_of(marks: &[u8], b: u8) -> bool
-    ensures { result ≡ is_one_of marks.now b }
-{
-    marks.contains(&b)
-}
-
-fn is_short_name_byte(b: u8) -> bool
-    ensures { result ≡ is_short_name_byte b }
-{
-    is_lower_or_digit(b) || is_one_of(b"._-", b)
 }
 
 fn has_short_name_bytes(name: &[u8]) -> bool

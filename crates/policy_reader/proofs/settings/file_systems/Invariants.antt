@@ -9,6 +9,6 @@ ghost-keep a = λ name. name
 
 abbrev pub invariant-loop-item : goal.invariant-loop-item
 invariant-loop-item l = record {
-  whole : option_map (kept (λ name. name) l.found.items) (each file_system (map (λ item. item.now) (drop l.item-index l.item-items))) ≡ file_systems l.fn.profile l.text;
+  whole : option_map (kept (λ name. name) l.found.items) (each (file_system l.fn.profile) (map (λ item. item.now) (drop l.item-index l.item-items))) ≡ file_systems l.fn.profile l.text;
   held : HoldsNames (λ name. name) l.names l.found.items;
 }

@@ -9,6 +9,6 @@ ghost-keep a = λ pair. pair.0
 
 abbrev pub invariant-loop-item : goal.invariant-loop-item
 invariant-loop-item l = record {
-  whole : option_map (kept (λ pair. pair.0) l.found.items) (each fuse_pair (map (λ item. item.now) (drop l.item-index l.item-items))) ≡ fuse_pairs l.fn.profile l.text;
+  whole : option_map (kept (λ pair. pair.0) l.found.items) (each (fuse_pair l.fn.profile) (map (λ item. item.now) (drop l.item-index l.item-items))) ≡ fuse_pairs l.fn.profile l.text;
   held : HoldsNames (λ pair. pair.0) l.names l.found.items;
 }
