@@ -1,10 +1,12 @@
 /*
- * Stands before a program's own calls of the C library (LD_PRELOAD), and makes one of them fail. tools/every-allocation builds it.
+ * Stands before a program's own calls of the C library (LD_PRELOAD), and makes one of them fail, or each from one on.
+ * tools/every-allocation and tools/failing-threads build it.
  *
  *   FAIL_ALLOC=N   the N-th call of malloc or realloc finds no memory
  *   FAIL_IO=N      the N-th call of open, read or write fails with EIO
  *   SHORT_IO=N     the N-th read or write of several bytes moves one
  *   FAIL_THREAD=N  the N-th call of pthread_create fails with EAGAIN
+ *   FAIL_THREADS_FROM=N   the N-th call of pthread_create and all later ones do
  *   COUNTS=FILE    at the end, how many calls of each kind there were is written to this file: four numbers
  *
  * Calls are counted from 1 and by all threads together, from when the loader hands over to the program.
@@ -26,7 +28,7 @@ void *__libc_malloc(size_t size);
 void *__libc_realloc(void *block, size_t size);
 
 static unsigned long allocations, calls, several, threads;
-static unsigned long failing_allocation, failing_call, short_call, failing_thread;
+static unsigned long failing_allocation, failing_call, short_call, failing_thread, failing_threads_from;
 static bool counts;
 
 static unsigned long number_named(const char *name) {
@@ -39,6 +41,7 @@ __attribute__((constructor)) static void begin(void) {
   failing_call = number_named("FAIL_IO");
   short_call = number_named("SHORT_IO");
   failing_thread = number_named("FAIL_THREAD");
+  failing_threads_from = number_named("FAIL_THREADS_FROM");
   counts = true;
 }
 
@@ -100,11 +103,19 @@ ssize_t write(int file, const void *bytes, size_t size) {
   return fails() ? -1 : next(file, bytes, moved(size));
 }
 
+/* Whether this creation of a thread is one of those that fail. */
+static bool is_refused(void) {
+  if (!counts)
+    return false;
+  unsigned long number = __atomic_add_fetch(&threads, 1, __ATOMIC_RELAXED);
+  return number == failing_thread || (failing_threads_from != 0 && number >= failing_threads_from);
+}
+
 int pthread_create(pthread_t *thread, const pthread_attr_t *attributes, void *(*start)(void *), void *argument) {
   static int (*next)(pthread_t *, const pthread_attr_t *, void *(*)(void *), void *);
   if (next == NULL)
     next = (int (*)(pthread_t *, const pthread_attr_t *, void *(*)(void *), void *))dlsym(RTLD_NEXT, "pthread_create");
-  return is_next(&threads, failing_thread) ? EAGAIN : next(thread, attributes, start, argument);
+  return is_refused() ? EAGAIN : next(thread, attributes, start, argument);
 }
 
 __attribute__((destructor)) static void tell(void) {

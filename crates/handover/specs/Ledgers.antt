@@ -67,4 +67,5 @@ abbrev pub LedgersHandOver : Type 0
 LedgersHandOver = (P : Policy) (S : Script) (K : List Event) (w : ℕ) → Legal P S K → HandsOver (rules_of P S.figures) K w K
 
 abbrev pub LedgersBehindHandOver : Type 0
-LedgersBehindHandOver = (P : Policy) (S : Script) (K written : List Event) (w : ℕ) → Legal P S K → before_last K w ≡ Some written → HandsOver (rules_of P S.figures) K w written
+LedgersBehindHandOver = (P : Policy) (S : Script) (K written : List Event) (w : ℕ) → Legal P S K
+    → before_last K w ≡ Some written → HandsOver (rules_of P S.figures) K w written

@@ -2,6 +2,7 @@
 
 ghost use Rattle.std.specs.Prelude.{◌≡◌, ◌≤◌, ◌<◌, ◌+◌, true, length, All, IfOk, OnErr, OnOk};
 ghost use Rattle.lane_gate.specs.Keeping.{IsServedInLanes};
+ghost use Rattle.lane_gate.specs.declared.hands.Role.TheVariants.{Calling};
 ghost use Rattle.turn_lock.specs.Facts.{IsAlone, IsPassOf, PassFacts};
 ghost use Rattle.turn_lock.specs.Lists.{Begins};
 
@@ -13,10 +14,10 @@ use lane_queue::Handoff;
 use lane_seats::LANES;
 use std::alloc::Global;
 use std::sync::{MutexGuard, Wait};
-use std::thread::{Threads, for_each_mut};
+use std::thread::Threads;
 use sys_abi::memory::NoMemory;
 use turn_lock::{Pass, TurnLock};
-use worker_gate::{Awaits, Sleepers, WaitQueues, Work};
+use worker_gate::{Awaits, Sleepers, WaitQueues, Work, work_beside};
 
 /// What a hand is for.
 #[derive(Clone, Copy, Debug)]
@@ -35,6 +36,13 @@ struct Hand {
     turn: LaneTurn,
     seeks: Work,
     role: Role,
+}
+
+/// All hands: the calling one, and the others.
+#[derive(Drop)]
+struct Hands {
+    calling: Hand,
+    others: Vec<Hand>,
 }
 
 /// Where hands meet: the door behind which they take turns, and the lanes.
@@ -405,14 +413,12 @@ fn work<W: Wait, G: LaneGate>(
     }
 }
 
-/// What the hand at a place is for: the first is the calling one, then come the receiver, the lanes, and those that step tasks.
+/// What the other hand at a place is for: first comes the receiver, then the lanes, and then those that step tasks.
 fn role_at(place: u8) -> Role {
     if place == 0 {
-        Role::Calling
-    } else if place == 1 {
         Role::Receiver
-    } else if place < LANES + 2 {
-        Role::Lane(place - 2)
+    } else if place <= LANES {
+        Role::Lane(place - 1)
     } else {
         Role::Tasks
     }
@@ -425,7 +431,7 @@ fn new_hand(alloc: Global, lock: &TurnLock<LaneServed>, pass: &mut Pass, role: R
     ensures own { IsPassOf lock.now pass.new × (pass.new.first ≡ true) }
     ensures out { pass.new.out ≡ pass.old.out + 1 }
     ensures seen { pass.new.seen ≡ pass.old.seen }
-    ensures hand { IsPassOf lock.now result.pass }
+    ensures hand { IsPassOf lock.now result.pass × (result.role ≡ role) }
 {
     let pass = lock.split(pass);
     let turn = LaneTurn {
@@ -447,26 +453,28 @@ fn all_hands(
     lock: &TurnLock<LaneServed>,
     pass: &mut Pass,
     cpus: u8,
-) -> Result<Vec<Hand>, NoMemory>
+) -> Result<Hands, NoMemory>
     requires own { IsPassOf lock.now pass.old × IsAlone pass.old }
     requires number { cpus ≤ 16 }
     ensures own { IsPassOf lock.now pass.new × (pass.new.first ≡ true) }
     ensures seen { pass.new.seen ≡ pass.old.seen }
-    ensures out { IfOk result (λ v. pass.new.out ≡ length v.items) }
+    ensures out { IfOk result (λ all. pass.new.out ≡ length all.others.items + 1) }
     ensures none { OnErr result (pass.new.out ≡ 0) }
-    ensures hands { IfOk result (λ v. All (λ h. IsPassOf lock.now h.pass) v.items) }
+    ensures calling { IfOk result (λ all. IsPassOf lock.now all.calling.pass × (all.calling.role ≡ Calling)) }
+    ensures others { IfOk result (λ all. All (λ h. IsPassOf lock.now h.pass) all.others.items) }
 {
-    let count = 2 + LANES + cpus;
-    let mut hands = Vec::with_capacity(alloc, usize::from(count))?;
+    let count = 1 + LANES + cpus;
+    let mut others = Vec::with_capacity(alloc, usize::from(count))?;
     for place in 0..count {
         let hand = new_hand(alloc, lock, pass, role_at(place));
-        hands.push_reserved(hand);
+        others.push_reserved(hand);
     }
-    Ok(hands)
+    let calling = new_hand(alloc, lock, pass, Role::Calling);
+    Ok(Hands { calling, others })
 }
 
-/// Joins the passes of all hands to the first one.
-fn gather(lock: &TurnLock<LaneServed>, pass: &mut Pass, mut hands: Vec<Hand>)
+/// Joins the passes of the other hands to the first one.
+fn gather_others(lock: &TurnLock<LaneServed>, pass: &mut Pass, mut hands: Vec<Hand>)
     requires own { IsPassOf lock.now pass.old × (pass.old.first ≡ true) × (pass.old.out ≡ length hands.items) }
     requires hands { All (λ h. IsPassOf lock.now h.pass) hands.items }
     ensures own { IsPassOf lock.now pass.new × IsAlone pass.new }
@@ -483,24 +491,44 @@ fn gather(lock: &TurnLock<LaneServed>, pass: &mut Pass, mut hands: Vec<Hand>)
     }
 }
 
-/// All hands at work, each in a thread of its own where one can be had. Where none can, they work one after another: the
-/// first does all.
+/// Joins the passes of all hands to the first one.
+fn gather(lock: &TurnLock<LaneServed>, pass: &mut Pass, calling: Hand, others: Vec<Hand>)
+    requires own { IsPassOf lock.now pass.old × (pass.old.first ≡ true) × (pass.old.out ≡ length others.items + 1) }
+    requires calling { IsPassOf lock.now calling.pass }
+    requires others { All (λ h. IsPassOf lock.now h.pass) others.items }
+    ensures own { IsPassOf lock.now pass.new × IsAlone pass.new }
+    ensures begins { Begins pass.new.seen pass.old.seen }
+{
+    let Hand {
+        pass: other,
+        turn: _,
+        seeks: _,
+        role: _,
+    } = calling;
+    lock.join(pass, other);
+    gather_others(lock, pass, others);
+}
+
+/// All hands at work, each in a thread of its own where one can be had. The calling one does the work of those that haven't come, and
+/// is at it in this thread from the first.
 fn work_all<R: Threads + Wait + Sync, G: LaneGate + Sync>(
     rt: &R,
     lock: &TurnLock<LaneServed>,
     site: &Site,
     gate: &G,
-    hands: &mut Vec<Hand>,
+    calling: &mut Hand,
+    others: &mut Vec<Hand>,
 )
-    requires { All (λ h. IsPassOf lock.now h.pass) hands.old.items }
-    ensures number { length hands.new.items ≡ length hands.old.items }
-    ensures hands { All (λ h. IsPassOf lock.now h.pass) hands.new.items }
+    requires calling { IsPassOf lock.now calling.old.pass × (calling.old.role ≡ Calling) }
+    requires others { All (λ h. IsPassOf lock.now h.pass) others.old.items }
+    ensures calling { IsPassOf lock.now calling.new.pass }
+    ensures number { length others.new.items ≡ length others.old.items }
+    ensures others { All (λ h. IsPassOf lock.now h.pass) others.new.items }
 {
-    let threads = hands.len().max(1);
-    for_each_mut(
+    work_beside(
         rt,
-        hands.as_mut_slice(),
-        threads,
+        calling,
+        others.as_mut_slice(),
         &|_: usize, hand: &mut Hand|
             requires { IsPassOf lock.now hand.old.pass }
             ensures { IsPassOf lock.entry.now hand.new.pass }
@@ -543,8 +571,11 @@ pub fn serve_lanes<R: Threads + Wait + Sync, G: LaneGate + Sync>(
         queues: WaitQueues::new(),
         lanes: Lanes::new(alloc)?,
     };
-    let mut hands = all_hands(alloc, lock, pass, cpus)?;
-    work_all(rt, lock, &site, gate, &mut hands);
-    gather(lock, pass, hands);
+    let Hands {
+        mut calling,
+        mut others,
+    } = all_hands(alloc, lock, pass, cpus)?;
+    work_all(rt, lock, &site, gate, &mut calling, &mut others);
+    gather(lock, pass, calling, others);
     see_end(rt, lock, pass)
 }

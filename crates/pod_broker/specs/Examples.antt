@@ -46,18 +46,24 @@ Overlapping = (overlap first between ≡ true) × (overlap between second ≡ tr
 
 -- the first container's task signals nobody, though the second's has this number, and goes on
 abbrev pub SignalsNobody : Type 0
-SignalsNobody = played passing first ≡ ev Listener Close ∷ ev (Task (0 ∷ [])) Exit ∷ ev (Task (0 ∷ [])) (Signal 11 sigkill (Err esrch)) ∷ ev Start (Spawn (0 ∷ []) (Ok (1, New))) ∷ []
+SignalsNobody = played passing first
+    ≡ ev Listener Close ∷ ev (Task (0 ∷ [])) Exit ∷ ev (Task (0 ∷ [])) (Signal 11 sigkill (Err esrch))
+    ∷ ev Start (Spawn (0 ∷ []) (Ok (1, New))) ∷ []
 
 -- the second container's task is the one with this number, and ends
 abbrev pub SignalsItself : Type 0
-SignalsItself = played passing second ≡ ev Listener Close ∷ ev (Task (0 ∷ [])) (Deliver sigkill End) ∷ ev (Task (0 ∷ [])) (Signal 11 sigkill (Ok tt)) ∷ ev Start (Spawn (0 ∷ []) (Ok (11, New))) ∷ []
+SignalsItself = played passing second
+    ≡ ev Listener Close ∷ ev (Task (0 ∷ [])) (Deliver sigkill End) ∷ ev (Task (0 ∷ [])) (Signal 11 sigkill (Ok tt))
+    ∷ ev Start (Spawn (0 ∷ []) (Ok (11, New))) ∷ []
 
 -- both have the same own steps: where policies or scripts differ, these don't fix a history
 abbrev pub OwnSteps : Type 0
-OwnSteps = (own (played passing first) ≡ Task (0 ∷ []) ∷ Task (0 ∷ []) ∷ Listener ∷ []) × (own (played passing second) ≡ own (played passing first))
+OwnSteps = (own (played passing first) ≡ Task (0 ∷ []) ∷ Task (0 ∷ []) ∷ Listener ∷ [])
+    × (own (played passing second) ≡ own (played passing first))
 
 abbrev pub GivesItsNumbers : Type 0
-GivesItsNumbers = (was_given (played passing first) 1 ≡ true) × (was_given (played passing first) 11 ≡ false) × (was_given (played passing second) 11 ≡ true)
+GivesItsNumbers = (was_given (played passing first) 1 ≡ true)
+    × (was_given (played passing first) 11 ≡ false) × (was_given (played passing second) 11 ≡ true)
 
 -- two containers with one range aren't apart
 abbrev pub SharesNumbers : Type 0

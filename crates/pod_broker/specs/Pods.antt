@@ -63,7 +63,8 @@ AllApart = AllPairs Apart
 
 -- a signal to a number outside of the script's range is answered ESRCH
 abbrev pub ReachesNoneOutside : Script → List Event → Event → Type 0
-ReachesNoneOutside S K e = (p sig : ℕ) (answer : Result (Unit {0}) ℕ) → e.what ≡ Signal p sig answer → in_range S p ≡ false → answer ≡ Err esrch
+ReachesNoneOutside S K e =
+    (p sig : ℕ) (answer : Result (Unit {0}) ℕ) → e.what ≡ Signal p sig answer → in_range S p ≡ false → answer ≡ Err esrch
 
 -- a signal to a number of the other script's range is answered ESRCH
 abbrev pub ReachesNoneOf : Script → List Event → Event → Type 0

@@ -8,7 +8,8 @@ use Rattle.worker_gate.specs.declared.served.Played.{Played}
 use Rattle.pod_broker.specs.Pods.{in_range, was_given}
 use Rattle.pod_broker.specs.declared.container.Container.{Container}
 
--- the container was served to its end by workers up to this one, by a history of its own policy and script, which come back as they were; and each PID that it gave lies in its script's range
+-- the container was served to its end by workers up to this one, by a history of its own policy and script, which come back as they were;
+-- and each PID that it gave lies in its script's range
 pub record IsServedTo (workers : ℕ) (c : Container) (p : Played) : Type 0 where
   pub policy : p.policy ≡ c.policy
   pub script : p.script ≡ c.script

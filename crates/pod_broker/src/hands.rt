@@ -1,7 +1,8 @@
 //! Hands, which serve all containers: each finishes its notification before it looks at another container.
 
-ghost use Rattle.std.specs.Prelude.{◌≡◌, ◌≤◌, ◌<◌, length, All, IfOk, IfSome, Some};
-ghost use Rattle.pod_broker.specs.Locks.{Admits, AreOf, IsFirst};
+ghost use Rattle.std.specs.Prelude.{◌≡◌, ◌≤◌, ◌<◌, ◌+◌, ℕ, length, All, IfOk, IfSome, OnOk, Some};
+ghost use Rattle.pod_broker.specs.Locks.{Admits, AreOf, IsFirst, MaySplit};
+ghost use Rattle.worker_gate.specs.Hands.{DoesAll};
 ghost use Rattle.worker_gate.specs.Keeping.{MayServe};
 
 use crate::board::Board;
@@ -10,10 +11,10 @@ use crate::gate::PodGate;
 use crate::turns::{Came, PodTurn, Turned};
 use std::alloc::Global;
 use std::sync::{MutexGuard, Wait};
-use std::thread::{Threads, for_each_mut};
+use std::thread::Threads;
 use sys_abi::memory::NoMemory;
 use turn_lock::{Pass, TurnLock};
-use worker_gate::{Served, Sleepers, WaitQueues, Work};
+use worker_gate::{Served, Sleepers, WaitQueues, Work, work_beside};
 
 /// A hand: a pass of each container, in order, its turn, the container in which it took the last one, and the work that others
 /// count on it to look for.
@@ -23,6 +24,13 @@ pub(crate) struct PodHand {
     turn: PodTurn,
     container: u8,
     seeks: Work,
+}
+
+/// All hands: the calling one, which does all kinds of work, and the others.
+#[derive(Drop)]
+pub(crate) struct PodHands {
+    pub(crate) calling: PodHand,
+    pub(crate) others: Vec<PodHand>,
 }
 
 /// Where hands meet: the door behind which they take turns in whichever container, and what they found there.
@@ -188,27 +196,51 @@ fn work<W: Wait, G: PodGate>(
     unreachable!()
 }
 
-/// What the hand at a place does: the first, which is the calling one, serves as the last worker and steps tasks; the next serve as
-/// the workers below; and the others step tasks.
-fn turn_of(alloc: Global, place: u8, workers: u8) -> PodTurn
-    requires { workers ≤ 16 }
-    ensures { MayServe (Some workers) result.worker }
+/// The turn of a hand that serves as this worker, if it does, and steps tasks or doesn't.
+fn turn_as(alloc: Global, worker: Option<u8>, steps_tasks: bool) -> PodTurn
+    ensures { (result.worker ≡ worker) × (result.steps_tasks ≡ steps_tasks) }
 {
-    let worker = if place == 0 {
-        Some(workers)
-    } else if place <= workers {
-        Some(place - 1)
-    } else {
-        None
-    };
     PodTurn {
         alloc,
         worker,
-        steps_tasks: place == 0 || place > workers,
+        steps_tasks,
         in_hand: false,
         good_checks: 0,
         turned: Turned::NO_MEMORY,
     }
+}
+
+/// What the other hand at a place does: the first ones serve as the workers below the last one, and the others step tasks.
+fn turn_of(alloc: Global, place: u8, workers: u8) -> PodTurn
+    requires { workers ≤ 16 }
+    ensures { MayServe (Some workers) result.worker }
+{
+    if place < workers {
+        turn_as(alloc, Some(place), false)
+    } else {
+        turn_as(alloc, None, true)
+    }
+}
+
+/// A hand with a pass of each container.
+fn new_hand(
+    alloc: Global,
+    locks: &Vec<TurnLock<Served>>,
+    firsts: &mut Vec<Pass>,
+    turn: PodTurn,
+) -> Result<PodHand, NoMemory>
+    requires own { AreOf locks.now.items firsts.old.items }
+    requires may { All MaySplit firsts.old.items }
+    ensures own { AreOf locks.now.items firsts.new.items }
+    ensures first { OnOk result ((n : ℕ) → All (IsFirst n) firsts.old.items → All (IsFirst (n + 1)) firsts.new.items) }
+    ensures hand { IfOk result (λ h. AreOf locks.now.items h.passes.items × (h.turn ≡ turn)) }
+{
+    Ok(PodHand {
+        passes: split_all(alloc, locks, firsts)?,
+        turn,
+        container: 0,
+        seeks: Work::NONE,
+    })
 }
 
 /// All hands, each with a pass of each container.
@@ -218,52 +250,52 @@ pub(crate) fn all_hands(
     firsts: &mut Vec<Pass>,
     workers: u8,
     cpus: u8,
-) -> Result<Vec<PodHand>, NoMemory>
+) -> Result<PodHands, NoMemory>
     requires numbers { (workers ≤ 16) × (cpus ≤ 16) }
     requires own { AreOf locks.now.items firsts.old.items }
     requires first { All (IsFirst 0) firsts.old.items }
     ensures own { AreOf locks.now.items firsts.new.items }
-    ensures first { IfOk result (λ v. All (IsFirst (length v.items)) firsts.new.items) }
-    ensures hands { IfOk result (λ v. All (λ h. AreOf locks.now.items h.passes.items × MayServe (Some workers) h.turn.worker) v.items) }
+    ensures first { IfOk result (λ all. All (IsFirst (length all.others.items + 1)) firsts.new.items) }
+    ensures calling { IfOk result (λ all. AreOf locks.now.items all.calling.passes.items × MayServe (Some workers) all.calling.turn.worker) }
+    ensures all { IfOk result (λ all. DoesAll all.calling.turn.worker all.calling.turn.steps_tasks) }
+    ensures others { IfOk result (λ all. All (λ h. AreOf locks.now.items h.passes.items × MayServe (Some workers) h.turn.worker) all.others.items) }
 {
-    let count = 1 + workers + cpus;
-    let mut hands = Vec::with_capacity(alloc, usize::from(count))?;
+    let count = workers + cpus;
+    let mut others = Vec::with_capacity(alloc, usize::from(count))?;
     for place in 0..count {
-        let passes = split_all(alloc, locks, firsts)?;
-        let turn = turn_of(alloc, place, workers);
-        hands.push(PodHand {
-            passes,
-            turn,
-            container: 0,
-            seeks: Work::NONE,
-        })?;
+        let hand = new_hand(alloc, locks, firsts, turn_of(alloc, place, workers))?;
+        others.push(hand)?;
     }
-    Ok(hands)
+    let calling = new_hand(alloc, locks, firsts, turn_as(alloc, Some(workers), true))?;
+    Ok(PodHands { calling, others })
 }
 
-/// All hands at work, each in a thread of its own where one can be had. Where none can, they work one after another: the first does
-/// all.
+/// All hands at work, each in a thread of its own where one can be had. The calling one, which does all kinds of work, is at it in this
+/// thread from the first.
 pub(crate) fn work_all<R: Threads + Wait + Sync, G: PodGate + Sync>(
     rt: &R,
     locks: &Vec<TurnLock<Served>>,
     count: u8,
     gate: &G,
-    hands: &mut Vec<PodHand>,
+    calling: &mut PodHand,
+    others: &mut Vec<PodHand>,
 )
     requires count { count ≡ length locks.now.items }
-    requires hands { All (λ h. AreOf locks.now.items h.passes.items × All (Admits h.turn.worker) locks.now.items) hands.old.items }
-    ensures number { length hands.new.items ≡ length hands.old.items }
-    ensures hands { All (λ h. AreOf locks.now.items h.passes.items) hands.new.items }
+    requires calling { AreOf locks.now.items calling.old.passes.items × All (Admits calling.old.turn.worker) locks.now.items }
+    requires all { DoesAll calling.old.turn.worker calling.old.turn.steps_tasks }
+    requires others { All (λ h. AreOf locks.now.items h.passes.items × All (Admits h.turn.worker) locks.now.items) others.old.items }
+    ensures calling { AreOf locks.now.items calling.new.passes.items }
+    ensures number { length others.new.items ≡ length others.old.items }
+    ensures others { All (λ h. AreOf locks.now.items h.passes.items) others.new.items }
 {
     let site = Site {
         queues: WaitQueues::new(),
         board: Board::new(count),
     };
-    let threads = hands.len().max(1);
-    for_each_mut(
+    work_beside(
         rt,
-        hands.as_mut_slice(),
-        threads,
+        calling,
+        others.as_mut_slice(),
         &|_: usize, hand: &mut PodHand|
             requires { AreOf locks.now.items hand.old.passes.items × All (Admits hand.old.turn.worker) locks.now.items × (site.board.count ≡ length locks.now.items) }
             ensures { AreOf locks.entry.now.items hand.new.passes.items }
@@ -271,8 +303,8 @@ pub(crate) fn work_all<R: Threads + Wait + Sync, G: PodGate + Sync>(
     );
 }
 
-/// Takes the passes of all hands back.
-pub(crate) fn gather(locks: &Vec<TurnLock<Served>>, firsts: &mut Vec<Pass>, mut hands: Vec<PodHand>)
+/// Takes the passes of the other hands back.
+fn gather_others(locks: &Vec<TurnLock<Served>>, firsts: &mut Vec<Pass>, mut hands: Vec<PodHand>)
     requires own { AreOf locks.now.items firsts.old.items }
     requires first { All (IsFirst (length hands.items)) firsts.old.items }
     requires hands { All (λ h. AreOf locks.now.items h.passes.items) hands.items }
@@ -283,4 +315,23 @@ pub(crate) fn gather(locks: &Vec<TurnLock<Served>>, firsts: &mut Vec<Pass>, mut 
         let PodHand { passes, .. } = hand;
         join_all(locks, firsts, passes);
     }
+}
+
+/// Takes the passes of all hands back.
+pub(crate) fn gather(
+    locks: &Vec<TurnLock<Served>>,
+    firsts: &mut Vec<Pass>,
+    calling: PodHand,
+    others: Vec<PodHand>,
+)
+    requires own { AreOf locks.now.items firsts.old.items }
+    requires first { All (IsFirst (length others.items + 1)) firsts.old.items }
+    requires calling { AreOf locks.now.items calling.passes.items }
+    requires others { All (λ h. AreOf locks.now.items h.passes.items) others.items }
+    ensures own { AreOf locks.now.items firsts.new.items }
+    ensures first { All (IsFirst 0) firsts.new.items }
+{
+    let PodHand { passes, .. } = calling;
+    join_all(locks, firsts, passes);
+    gather_others(locks, firsts, others);
 }

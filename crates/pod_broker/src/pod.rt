@@ -7,7 +7,7 @@ ghost use Rattle.pod_broker.specs.Serving.{AreServed, histories, scripts};
 use crate::container::Container;
 use crate::containers::{finish_all, lock_all};
 use crate::gate::PodGate;
-use crate::hands::{all_hands, gather, work_all};
+use crate::hands::{PodHands, all_hands, gather, work_all};
 use std::alloc::Global;
 use std::sync::Wait;
 use std::thread::Threads;
@@ -39,8 +39,11 @@ pub fn serve_pod<R: Threads + Wait + Sync, G: PodGate + Sync>(
 {
     let count = containers.len() as u8;
     let (locks, mut firsts) = lock_all(alloc, containers, workers)?;
-    let mut hands = all_hands(alloc, &locks, &mut firsts, workers, cpus)?;
-    work_all(rt, &locks, count, gate, &mut hands);
-    gather(&locks, &mut firsts, hands);
+    let PodHands {
+        mut calling,
+        mut others,
+    } = all_hands(alloc, &locks, &mut firsts, workers, cpus)?;
+    work_all(rt, &locks, count, gate, &mut calling, &mut others);
+    gather(&locks, &mut firsts, calling, others);
     finish_all(rt, alloc, locks, firsts)
 }

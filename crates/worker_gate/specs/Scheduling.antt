@@ -34,7 +34,8 @@ pub record IsPlace (made : Setup) (K : List Event) (p : Place) : Type 0 where
 
 -- a history with the steps that are left at a place: those of the line in hand, and those of the lines behind it
 abbrev pub with_rest : Setup → Place → List Event → List Event
-with_rest made p K = with_schedule made.policy made.script (drop p.next made.script.schedule) (with_steps made.policy made.script p.line.who p.line.left K)
+with_rest made p K =
+    with_schedule made.policy made.script (drop p.next made.script.schedule) (with_steps made.policy made.script p.line.who p.line.left K)
 
 -- how many turns are left at most, where a line has fewer than 2^32 steps
 abbrev pub turns_left : Setup → Place → ℕ

@@ -3,16 +3,17 @@
 ghost use Rattle.std.specs.Prelude.{◌≡◌, ◌≤◌, ◌<◌, ◌+◌, true, false, length, All, IfOk, OnErr, OnOk, Some};
 ghost use Rattle.turn_lock.specs.Facts.{IsAlone, IsPassOf, PassFacts};
 ghost use Rattle.turn_lock.specs.Lists.{Begins};
-ghost use Rattle.worker_gate.specs.Hands.{Ends, IsServedWhole};
+ghost use Rattle.worker_gate.specs.Hands.{DoesAll, Ends, IsServedWhole};
 ghost use Rattle.worker_gate.specs.Keeping.{MayServe};
 
+use crate::beside::work_beside;
 use crate::gate::Gate;
 use crate::served::Served;
 use crate::serving::{Came, Role, Turned};
 use crate::wait_queues::{Sleepers, WaitQueues, Work};
 use std::alloc::Global;
 use std::sync::{MutexGuard, Wait};
-use std::thread::{Threads, for_each_mut};
+use std::thread::Threads;
 use sys_abi::memory::NoMemory;
 use turn_lock::{Pass, Turn, TurnLock};
 
@@ -60,6 +61,13 @@ pub(crate) struct Hand {
     pub(crate) pass: Pass,
     pub(crate) turn: HandTurn,
     seeks: Work,
+}
+
+/// All hands: the calling one, which does all kinds of work, and the others.
+#[derive(Drop)]
+struct Hands {
+    calling: Hand,
+    others: Vec<Hand>,
 }
 
 /// Calls the gate, where a hand's worker came to a point.
@@ -169,20 +177,26 @@ fn new_hand(alloc: Global, lock: &TurnLock<Served>, pass: &mut Pass, role: Role)
     }
 }
 
-/// What the hand at a place may do: the first, which is the calling one, serves as the last worker and steps tasks; the next
-/// serve as the workers below; and the others step tasks.
+/// What the calling hand may do: it serves as the last worker, and steps tasks.
+fn calling_role(workers: u8) -> Role
+    requires { workers ≤ 16 }
+    ensures may { MayServe (Some workers) result.worker }
+    ensures all { DoesAll result.worker result.steps_tasks }
+{
+    Role {
+        worker: Some(workers),
+        steps_tasks: true,
+    }
+}
+
+/// What the other hand at a place may do: the first ones serve as the workers below the last one, and the others step tasks.
 fn role(place: u8, workers: u8) -> Role
     requires { workers ≤ 16 }
     ensures { MayServe (Some workers) result.worker }
 {
-    if place == 0 {
+    if place < workers {
         Role {
-            worker: Some(workers),
-            steps_tasks: true,
-        }
-    } else if place <= workers {
-        Role {
-            worker: Some(place - 1),
+            worker: Some(place),
             steps_tasks: false,
         }
     } else {
@@ -200,27 +214,30 @@ fn all_hands(
     pass: &mut Pass,
     workers: u8,
     cpus: u8,
-) -> Result<Vec<Hand>, NoMemory>
+) -> Result<Hands, NoMemory>
     requires own { IsPassOf lock.now pass.old × IsAlone pass.old }
     requires limit { lock.now.setup.limit ≡ Some workers }
     requires numbers { (workers ≤ 16) × (cpus ≤ 16) }
     ensures own { IsPassOf lock.now pass.new × (pass.new.first ≡ true) }
     ensures seen { pass.new.seen ≡ pass.old.seen }
-    ensures out { IfOk result (λ v. pass.new.out ≡ length v.items) }
+    ensures out { IfOk result (λ all. pass.new.out ≡ length all.others.items + 1) }
     ensures none { OnErr result (pass.new.out ≡ 0) }
-    ensures hands { IfOk result (λ v. All (λ h. IsPassOf lock.now h.pass × MayServe lock.now.setup.limit h.turn.role.worker) v.items) }
+    ensures calling { IfOk result (λ all. IsPassOf lock.now all.calling.pass × MayServe lock.now.setup.limit all.calling.turn.role.worker) }
+    ensures all { IfOk result (λ all. DoesAll all.calling.turn.role.worker all.calling.turn.role.steps_tasks) }
+    ensures others { IfOk result (λ all. All (λ h. IsPassOf lock.now h.pass × MayServe lock.now.setup.limit h.turn.role.worker) all.others.items) }
 {
-    let count = 1 + workers + cpus;
-    let mut hands = Vec::with_capacity(alloc, usize::from(count))?;
+    let count = workers + cpus;
+    let mut others = Vec::with_capacity(alloc, usize::from(count))?;
     for place in 0..count {
         let hand = new_hand(alloc, lock, pass, role(place, workers));
-        hands.push_reserved(hand);
+        others.push_reserved(hand);
     }
-    Ok(hands)
+    let calling = new_hand(alloc, lock, pass, calling_role(workers));
+    Ok(Hands { calling, others })
 }
 
-/// Joins the passes of all hands to the first one.
-fn gather(lock: &TurnLock<Served>, pass: &mut Pass, mut hands: Vec<Hand>)
+/// Joins the passes of the other hands to the first one.
+fn gather_others(lock: &TurnLock<Served>, pass: &mut Pass, mut hands: Vec<Hand>)
     requires own { IsPassOf lock.now pass.old × (pass.old.first ≡ true) × (pass.old.out ≡ length hands.items) }
     requires hands { All (λ h. IsPassOf lock.now h.pass) hands.items }
     ensures own { IsPassOf lock.now pass.new × IsAlone pass.new }
@@ -236,24 +253,44 @@ fn gather(lock: &TurnLock<Served>, pass: &mut Pass, mut hands: Vec<Hand>)
     }
 }
 
-/// All hands at work, each in a thread of its own where one can be had. Where none can, they work one after another: the
-/// first does all.
+/// Joins the passes of all hands to the first one.
+fn gather(lock: &TurnLock<Served>, pass: &mut Pass, calling: Hand, others: Vec<Hand>)
+    requires own { IsPassOf lock.now pass.old × (pass.old.first ≡ true) × (pass.old.out ≡ length others.items + 1) }
+    requires calling { IsPassOf lock.now calling.pass }
+    requires others { All (λ h. IsPassOf lock.now h.pass) others.items }
+    ensures own { IsPassOf lock.now pass.new × IsAlone pass.new }
+    ensures begins { Begins pass.new.seen pass.old.seen }
+{
+    let Hand {
+        pass: other,
+        turn: _,
+        seeks: _,
+    } = calling;
+    lock.join(pass, other);
+    gather_others(lock, pass, others);
+}
+
+/// All hands at work, each in a thread of its own where one can be had. The calling one, which does all kinds of work, is at it in this
+/// thread from the first.
 fn work_all<R: Threads + Wait + Sync, G: Gate + Sync>(
     rt: &R,
     lock: &TurnLock<Served>,
     gate: &G,
-    hands: &mut Vec<Hand>,
+    calling: &mut Hand,
+    others: &mut Vec<Hand>,
 )
-    requires { All (λ h. IsPassOf lock.now h.pass × MayServe lock.now.setup.limit h.turn.role.worker) hands.old.items }
-    ensures number { length hands.new.items ≡ length hands.old.items }
-    ensures hands { All (λ h. IsPassOf lock.now h.pass) hands.new.items }
+    requires calling { IsPassOf lock.now calling.old.pass × MayServe lock.now.setup.limit calling.old.turn.role.worker }
+    requires all { DoesAll calling.old.turn.role.worker calling.old.turn.role.steps_tasks }
+    requires others { All (λ h. IsPassOf lock.now h.pass × MayServe lock.now.setup.limit h.turn.role.worker) others.old.items }
+    ensures calling { IsPassOf lock.now calling.new.pass }
+    ensures number { length others.new.items ≡ length others.old.items }
+    ensures others { All (λ h. IsPassOf lock.now h.pass) others.new.items }
 {
     let queues = WaitQueues::new();
-    let threads = hands.len().max(1);
-    for_each_mut(
+    work_beside(
         rt,
-        hands.as_mut_slice(),
-        threads,
+        calling,
+        others.as_mut_slice(),
         &|_: usize, hand: &mut Hand|
             requires { IsPassOf lock.now hand.old.pass × MayServe lock.now.setup.limit hand.old.turn.role.worker }
             ensures { IsPassOf lock.entry.now hand.new.pass }
@@ -294,8 +331,11 @@ pub fn serve_hands<R: Threads + Wait + Sync, G: Gate + Sync>(
     ensures begins { Begins pass.new.seen pass.old.seen }
     ensures served { OnOk result (IsServedWhole lock.now.setup workers pass.new.seen) }
 {
-    let mut hands = all_hands(alloc, lock, pass, workers, cpus)?;
-    work_all(rt, lock, gate, &mut hands);
-    gather(lock, pass, hands);
+    let Hands {
+        mut calling,
+        mut others,
+    } = all_hands(alloc, lock, pass, workers, cpus)?;
+    work_all(rt, lock, gate, &mut calling, &mut others);
+    gather(lock, pass, calling, others);
     see_end(rt, lock, pass)
 }

@@ -15,6 +15,7 @@
 //! Below stand the machine (`broker_machine`) and the lock (`turn_lock`). Above stands the program.
 #![tactic(auto)]
 
+mod beside;
 mod gate;
 mod hands;
 mod runnable;
@@ -26,6 +27,7 @@ mod stepper;
 mod steps;
 mod wait_queues;
 
+pub use beside::work_beside;
 pub use gate::{Gate, OpenGate, Point};
 pub use hands::{see_end, serve_hands};
 pub use schedule::{Line, line_at};

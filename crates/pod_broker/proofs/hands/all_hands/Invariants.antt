@@ -7,6 +7,6 @@ abbrev pub invariant-loop-place : goal.invariant-loop-place
 invariant-loop-place l = record {
   own : AreOf l.locks.items l.firsts.items;
   first : All (IsFirst l.place) l.firsts.items;
-  number : l.place ≡ length l.hands.items;
-  hands : All (λ h. AreOf l.locks.items h.passes.items × MayServe (Some l.workers) h.turn.worker) l.hands.items;
+  number : l.place ≡ length l.others.items;
+  hands : All (λ h. AreOf l.locks.items h.passes.items × MayServe (Some l.workers) h.turn.worker) l.others.items;
 }

@@ -1,15 +1,5 @@
-use Rattle.std.proofs.Common.{◌≡◌, ◌+◌, All, arith, length, subst, ℕ}
-use Rattle.std.proofs.lemmas.List.Elements.{All-pop}
-use Rattle.pod_broker.specs.Locks.{AreOf, IsFirst}
-use Rattle.pod_broker.specs.declared.hands.PodHand.{PodHand}
+use Rattle.std.proofs.Common.{length}
 use Rattle.pod_broker.proofs.hands.gather.Goals as goal
 
-pub loop-hand-preserved : goal.loop-hand-preserved
-loop-hand-preserved c =
-    let i = c.loop-hand.invariant in
-    let fewer : length c.loop-hand.hands.items ≡ length c.pop.new.self.items + 1 = omega (arith, c.in-Some.ensures.cases) in
-    record {
-      own = c.join_all.ensures.own;
-      first = c.join_all.ensures.first (length c.pop.new.self.items) (subst (λ (n : ℕ). All (IsFirst n) c.loop-hand.firsts.items) fewer i.first);
-      hands = (All-pop (λ (h : PodHand). AreOf c.args.locks.now.items h.passes.items) c.loop-hand.hands.items c.pop.new.self.items c.pop.result c.pop.ensures.items i.hands).0;
-    }
+pub gather_others-requires-clause-first : goal.gather_others-requires-clause-first
+gather_others-requires-clause-first c = c.join_all.ensures.first (length c.args.others.items) c.requires.first

@@ -7,8 +7,8 @@ abbrev pub invariant-loop-place : goal.invariant-loop-place
 invariant-loop-place l = record {
   own : IsPassOf l.lock l.pass × (l.pass.first ≡ true);
   seen : l.pass.seen ≡ l.fn.pass.seen;
-  out : l.pass.out ≡ length l.hands.items;
-  number : l.place ≡ length l.hands.items;
-  room : l.count ≤ vec_capacity l.hands;
-  hands : All (λ h. IsPassOf l.lock h.pass × MayServe l.lock.setup.limit h.turn.role.worker) l.hands.items;
+  out : l.pass.out ≡ length l.others.items;
+  number : l.place ≡ length l.others.items;
+  room : l.count ≤ vec_capacity l.others;
+  hands : All (λ h. IsPassOf l.lock h.pass × MayServe l.lock.setup.limit h.turn.role.worker) l.others.items;
 }

@@ -1,6 +1,6 @@
 use Rattle.std.proofs.Common.{All, length}
 use Rattle.pod_broker.specs.Locks.{AreOf, IsFirst}
-use Rattle.pod_broker.proofs.hands.gather.Given as goal
+use Rattle.pod_broker.proofs.hands.gather_others.Given as goal
 
 abbrev pub invariant-loop-hand : goal.invariant-loop-hand
 invariant-loop-hand l = record {

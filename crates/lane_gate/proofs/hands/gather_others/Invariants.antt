@@ -1,7 +1,7 @@
 use Rattle.std.proofs.Common.{◌≡◌, length, true, All}
 use Rattle.turn_lock.specs.Facts.{IsPassOf}
 use Rattle.turn_lock.specs.Lists.{Begins}
-use Rattle.lane_gate.proofs.hands.gather.Given as goal
+use Rattle.lane_gate.proofs.hands.gather_others.Given as goal
 
 abbrev pub invariant-loop-hand : goal.invariant-loop-hand
 invariant-loop-hand l = record {
