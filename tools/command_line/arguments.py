@@ -9,4 +9,5 @@ class Parser(argparse.ArgumentParser):
         super().__init__(prog=word)
 
     def format_help(self):
-        return pages.word_page(table.entry(table.read(), self.prog), place.command(), place.examples())
+        known = table.read()
+        return pages.word_page(known, table.entry(known, self.prog), place.command(), place.examples())

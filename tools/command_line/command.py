@@ -20,9 +20,21 @@ def run(path, words):
         return WRONG_WORDS
 
 
-def run_program(words):
-    path = place.runnable()
-    return WRONG_WORDS if path is None else run(path, [path, *words])
+def run_program(known, entry, operands, runnable):
+    """Runs a word of the program. What it refuses is explained on a terminal, and where that is asked for."""
+    asked = known["explain"] in table.options(known, entry) and operands[:1] == known["explain"]["names"]
+    operands = operands[1:] if asked else operands
+    path = runnable()
+    if path is None:
+        return WRONG_WORDS
+    is_terminal = os.isatty(sys.stderr.fileno())
+    if not asked and not is_terminal:
+        return run(path, [path, entry["word"], *operands])
+    # (what most calls don't need isn't read for them)
+    from command_line import exploring
+    from messages import running
+    runs = exploring.run if is_terminal and entry["word"] == "explore" and operands else running.run
+    return runs(path, entry, operands, place.command(), asked)
 
 
 def run_tool(word, words):
@@ -47,7 +59,12 @@ def unknown(known, word):
     command, is_checkout = place.command(), place.about() is None
     options = [name for it in known["options"] if is_checkout or "only" not in it for name in it["names"]]
     near = table.nearest(word, options if word.startswith("-") else table.names(known))
-    print(f"broker: there is no word {word!r}; the nearest one is {near!r}, and {command} help lists them all", file=sys.stderr)
+    what = f"there is no word {word!r}; the nearest one is {near!r}"
+    if word in known["explain"]["names"]:
+        what = f"{word} stands behind a word, as in {command} play {word} POLICY SCRIPT"
+    elif os.path.isfile(word):
+        what = f"{word!r} is a file, and a word stands before it, as in {command} play POLICY SCRIPT"
+    print(f"broker: {what}, and {command} help lists them all", file=sys.stderr)
     return WRONG_WORDS
 
 
@@ -56,10 +73,11 @@ def help_of(known, words):
     if not words or words[0] in (table.HELP, *HELP_OPTIONS):
         return show(list_of(known))
     entry = table.entry(known, words[0])
-    return show(pages.word_page(entry, place.command(), place.examples())) if entry else unknown(known, words[0])
+    return show(pages.word_page(known, entry, place.command(), place.examples())) if entry else unknown(known, words[0])
 
 
-def main(words):
+def main(words, runnable=place.runnable):
+    """Does what the words say. `runnable` answers the path of the program, or None."""
     known = table.read()
     if not words:
         print(list_of(known), end="", file=sys.stderr)
@@ -76,4 +94,4 @@ def main(words):
         return unknown(known, word)
     if rest and rest[0] in HELP_OPTIONS:
         return help_of(known, [word])
-    return run_program(words) if entry["kind"] == "program" else run_tool(word, rest)
+    return run_program(known, entry, rest, runnable) if entry["kind"] == "program" else run_tool(word, rest)

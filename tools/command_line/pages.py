@@ -1,6 +1,8 @@
 """The pages of `help`, as text for a terminal."""
 import textwrap
 
+from command_line import table
+
 WIDTH = 100
 # where the second column begins
 COLUMN = 26
@@ -39,18 +41,18 @@ def described(item):
     return "; ".join(part for part in (item.get("help", ""), span(item)) if part)
 
 
-def rows_of(entry):
+def rows_of(known, entry):
     told = [(it["name"], described(it)) for it in entry.get("operands", []) if described(it)]
-    return told + [(shown(it), it["help"]) for it in entry.get("options", [])]
+    return told + [(shown(it), it["help"]) for it in table.options(known, entry)]
 
 
-def word_page(entry, command, examples):
+def word_page(known, entry, command, examples):
     """The page of one word."""
     parts = [paragraph(f"{command} {entry['word']}: {entry['summary']}"),
              "\n".join(f"  {command} {entry['word']} {form}".rstrip() for form in entry["forms"]),
              *(paragraph(text) for text in entry["text"])]
-    if rows_of(entry):
-        parts.append("\n".join(row(*it) for it in rows_of(entry)))
+    if rows_of(known, entry):
+        parts.append("\n".join(row(*it) for it in rows_of(known, entry)))
     if entry.get("examples"):
         parts.append("\n".join(["For example:", *(f"  {text}" for text in entry["examples"])]))
     if entry.get("statuses"):
@@ -58,11 +60,11 @@ def word_page(entry, command, examples):
     return filled("\n\n".join(parts), command, examples) + "\n"
 
 
-def list_page(table, command, examples, is_checkout, documents):
+def list_page(known, command, examples, is_checkout, documents):
     """The page that lists all words."""
-    kinds = {kind: "\n".join(row(it["word"], it["summary"]) for it in table["words"] if it["kind"] == kind) for kind in ("program", "tool")}
-    options = [it for it in table["options"] if is_checkout or it.get("only") != "checkout"]
-    parts = [paragraph(f"{command} {table['summary']}. It intercepts nothing on this machine."),
+    kinds = {kind: "\n".join(row(it["word"], it["summary"]) for it in known["words"] if it["kind"] == kind) for kind in ("program", "tool")}
+    options = [it for it in known["options"] if is_checkout or it.get("only") != "checkout"]
+    parts = [paragraph(f"{command} {known['summary']}. It intercepts nothing on this machine."),
              f"  {command} WORD ..", f"Words of the program:\n{kinds['program']}", f"Tools:\n{kinds['tool']}",
              "\n".join([row("help [WORD]", "prints this list, or the page of a word"), *(row(shown(it), it["help"]) for it in options)]),
              "To begin with:\n\n  {command} play {examples}/first/policy.json {examples}/first/script.txt", documents]

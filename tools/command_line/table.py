@@ -17,6 +17,12 @@ def entry(table, word):
     return next((it for it in table["words"] if it["word"] == word), None)
 
 
+def options(table, entry):
+    """The options of a word: its own, and for those words of the program that read files the one that explains a refusal."""
+    explains = entry["kind"] == "program" and any(it["takes"] == "file" for it in entry["operands"])
+    return [table["explain"]] * explains + entry.get("options", [])
+
+
 def names(table):
     return [it["word"] for it in table["words"]] + [HELP]
 

@@ -16,8 +16,8 @@ def offered(item):
     return []
 
 
-def options(entry):
-    return [*entry.get("options", []), {"names": ["--help"], "help": "prints the word's page"}]
+def options(known, entry):
+    return [*table.options(known, entry), {"names": ["--help"], "help": "prints the word's page"}]
 
 
 def first_words(known):
@@ -77,13 +77,13 @@ def bash():
     known = table.read()
     cases, values = [f"    help) operands=('words {' '.join(table.names(known))}') ;;"], []
     for entry in known["words"]:
-        names = [name for it in options(entry) for name in it["names"]]
-        valued = [name for it in options(entry) if "value" in it for name in it["names"]]
+        names = [name for it in options(known, entry) for name in it["names"]]
+        valued = [name for it in options(known, entry) if "value" in it for name in it["names"]]
         kinds = [bash_kind(it) for it in entry.get("operands", [])]
         last = kinds[-1] if kinds and entry["operands"][-1].get("repeats") else ""
         told = [f"options='{' '.join(names)}'", f"valued='{' '.join(valued)}'", f"operands=({' '.join(map(repr, kinds))})", f"last='{last}'"]
         cases.append(f"    {entry['word']}) {' '.join(told)} ;;")
-        for it in options(entry):
+        for it in options(known, entry):
             if "value" in it:
                 values.append(f"    {' | '.join(entry['word'] + ':' + name for name in it['names'])}) kind='{bash_kind(it)}' ;;")
     return BASH.format(made=MADE, first=" ".join(word for word, _ in first_words(known)), cases="\n".join(cases), values="\n".join(values))
@@ -99,9 +99,9 @@ def zsh_action(item):
     return kinds.get(item["takes"]) or (f"({' '.join(offered(item))})" if offered(item) else " ")
 
 
-def zsh_arguments(entry):
+def zsh_arguments(known, entry):
     found = []
-    for it in options(entry):
+    for it in options(known, entry):
         value = f":{zsh_text(it['value'])}:{zsh_action(it)}" if "value" in it else ""
         found += [f"'*{name}[{zsh_text(it['help'])}]{value}'" for name in it["names"]]
     for it in entry.get("operands", []):
@@ -132,7 +132,7 @@ _seccomp_broker "$@"
 def zsh():
     known = table.read()
     first = " ".join(f"'{word}:{zsh_text(text)}'" for word, text in first_words(known))
-    cases = "\n".join(f"    {it['word']}) _arguments {zsh_arguments(it)} ;;" for it in known["words"])
+    cases = "\n".join(f"    {it['word']}) _arguments {zsh_arguments(known, it)} ;;" for it in known["words"])
     return ZSH.format(made=MADE, first=first, names=" ".join(table.names(known)), cases=cases)
 
 
@@ -156,7 +156,7 @@ def fish():
     lines.append(f"{begin} -n '__fish_seen_subcommand_from help' -a '{' '.join(table.names(known))}'")
     for entry in known["words"]:
         here = f"__fish_seen_subcommand_from {entry['word']}"
-        for it in options(entry):
+        for it in options(known, entry):
             names = " ".join(f"-l {name[2:]}" if name.startswith("--") else f"-s {name[1:]}" for name in it["names"])
             value = f" -r {fish_takes(it)}" if "value" in it else ""
             lines.append(f"{begin} -n '{here}' {names}{value} -d {fish_text(it['help'])}")

@@ -11,8 +11,10 @@ from packaging.tree import File, Link, below, read, text, zipped
 
 HOME, SHARE = "lib/seccomp-broker", "share/seccomp-broker"
 SONAME = "libseccomp_broker.so.1"
+# modules of the command itself
+OF_COMMAND = {"command_line", "messages", "real_workloads", "pages", "explored.py"}
 # modules of the tools that only their tests use
-OF_TESTS = {"browser.py", "served.py", "made_reports.py"}
+OF_TESTS = {"browser.py", "served.py", "made_reports.py", "over.py"}
 # the lines by which the examples find the library in a checkout, and those by which they find an installed one
 INSTALLED = {
     "c/Makefile": [("# tools/make-c-library makes ../../dist. These two lines are all that linking takes.", "# These two lines are all that linking takes."),
@@ -82,7 +84,7 @@ def tools(python):
     found = {"broker": read(f"{TOP}/broker")}
     for word in (it["word"] for it in entries):
         found[f"tools/{word}"] = read(f"{TOP}/tools/{word}")
-    for module in sorted({"command_line", *(name for it in entries for name in it["modules"])}):
+    for module in sorted({*OF_COMMAND, *(name for it in entries for name in it["modules"])}):
         for name in files_of(module):
             found[f"tools/{name}"] = read(f"{TOP}/tools/{name}")._replace(mode=0o644)
     first = b"#!/usr/bin/env python3\n"

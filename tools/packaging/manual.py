@@ -37,14 +37,14 @@ def listed(rows):
     return found
 
 
-def word(entry):
+def word(known, entry):
     """What the page of the command says of one word."""
     found = [f".SS {escaped(entry['word'], True)}"]
     for at, form in enumerate(entry["forms"]):
         found += [".br"] * (at > 0) + [line(bold(f"{entry['word']} ").rstrip() + escaped(form, True))]
     for text in entry["text"]:
         found += [".PP", *sentences(filled(text))]
-    found += listed(texts.rows_of(entry))
+    found += listed(texts.rows_of(known, entry))
     if entry.get("statuses"):
         found += [".PP", "Exit status:", *listed(entry["statuses"])]
     if entry.get("examples"):
@@ -68,7 +68,7 @@ def of_command(known, version, time):
     for kind, title in kinds.items():
         found.append(f".SH {title}")
         for entry in known["words"]:
-            found += word(entry) if entry["kind"] == kind else []
+            found += word(known, entry) if entry["kind"] == kind else []
     found += [".SH OPTIONS", *listed((texts.shown(it), it["help"]) for it in known["options"] if "only" not in it)]
     statuses = roff.man(roff.section(document("docs/FORMATS.md"), "Exit statuses"), 2)
     found += [".SH EXIT STATUS", "A tool's statuses stand with it.", "Those of the program\\(aqs words are:", *statuses[1:]]

@@ -6,7 +6,7 @@ import subprocess
 import tempfile
 from collections import namedtuple
 
-import policy_places
+from messages import policies
 from reports import LIMIT as REPORT_LIMIT
 
 LIMITS = {"policy": 1_048_576, "script": 8_388_608, "report": REPORT_LIMIT}
@@ -88,5 +88,5 @@ def marked_by(line, texts):
     told = re.fullmatch(r"(script|report): line (\d{1,9})(?:: .*)?", line)
     if told:
         return [told[1], int(told[2])] if told[2] != "0" else None
-    found = policy_places.marked_by(texts["policy"].decode(), line) if line.startswith("policy: ") else None
+    found = policies.marked_by(texts["policy"], line[len("policy: "):]) if line.startswith("policy: ") else None
     return found and ["policy", *found]

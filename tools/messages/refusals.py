@@ -1,0 +1,141 @@
+"""Reads what the program says as it ends, and adds what it means."""
+import os
+import re
+from dataclasses import dataclass
+from typing import Callable
+
+from command_line import table
+from messages import policies, scripts
+from messages.findings import Text, filled, message, near, shown
+
+READ_FAULT, TOO_LONG, OVERLAP = re.compile(r"read fault: (policy|script|report)"), re.compile(r"too long: (policy|script|report)"), re.compile(r"pod: pids overlap: (\d+) (\d+)")
+POLICY, SCRIPT, CONTAINER = re.compile(r"policy: (.*)", re.S), re.compile(r"script: line (\d+): (.*)"), re.compile(r"container (\d): (.*)", re.S)
+REPORT, USAGE = re.compile(r"report: line (\d+)"), re.compile(r"usage: .*")
+OPTIONS = ("--explain", "--help", "-h")
+LIMITS = {"policy": 1_048_576, "script": 8_388_608, "report": 33_554_432}
+
+
+def files_in(entry, operands, container):
+    """The files that the operands name, by policy, script and report; of a pod those of one container."""
+    if entry["word"] == "pod":
+        pairs = operands[2:]
+        return dict(zip(("policy", "script"), pairs[2 * container:2 * container + 2]))
+    names = [it["name"] for it in entry["operands"]]
+    return {name.lower(): operand for name, operand in zip(names, operands) if name in ("POLICY", "SCRIPT", "REPORT")}
+
+
+def data_of(path):
+    """The bytes of a file that can be read again, or None."""
+    try:
+        if not os.path.isfile(path):
+            return None
+        with open(path, "rb") as file:
+            return file.read(max(LIMITS.values()))
+    except OSError:
+        return None
+
+
+def read_fault(path):
+    """Why a file can't be read, and which one is near."""
+    try:
+        with open(path, "rb") as file:
+            file.read(1)
+    except OSError as fault:
+        folder, name = os.path.split(path)
+        try:
+            found = near(name, os.listdir(folder or "."))
+        except OSError:
+            found = None
+        told = [f"{shown(path)}: {fault.strerror}"]
+        return told + (filled("help: ", f"did you mean `{shown(os.path.join(folder, found))}`?") if found and isinstance(fault, FileNotFoundError) else [])
+    return []
+
+
+def too_long(kind, path):
+    size = os.path.getsize(path) if os.path.isfile(path) else None
+    return [f"{shown(path)}: {f'it has {size} bytes' if size is not None else 'it is longer'}, and a {kind} has at most {LIMITS[kind]}"]
+
+
+def overlap(one, other):
+    return filled("help: ", f"the scripts of containers {one} and {other} have a PID in common: give one of them `pidmax N` and `pidbase M`, so that it has the PIDs M + 1 to M + N alone")
+
+
+def wrong_operand(item, given):
+    """What is wrong with an operand that is a number, or None."""
+    if item["takes"] != "number" or given in item.get("also", []):
+        return None
+    if re.fullmatch(r"\d{1,20}", given, re.ASCII) and item["from"] <= int(given) <= item["to"]:
+        return None
+    also = "".join(f", or {word}" for word in item.get("also", []))
+    return f"{item['name']} is a number from {item['from']} to {item['to']}{also}, and not {shown(given)}"
+
+
+def in_pairs(operands):
+    """What is wrong with the files of a pod."""
+    return f"one to eight pairs of a policy and a script stand behind the two numbers, and these are {len(operands) - 2} files"
+
+
+def wrong_count(entry, operands, least):
+    wanted, there = len(entry["operands"]), len(operands)
+    return f"{entry['word']} takes {least}{wanted} words behind it, and {there} {'stands' if there == 1 else 'stand'} there"
+
+
+def usage(entry, operands, command):
+    """What is wrong with the words behind one of the program."""
+    form = f"{command} {entry['word']} {entry['forms'][0]}"
+    items = entry["operands"]
+    late = next((it for it in operands if it in OPTIONS), None)
+    if late:
+        return [f"{late} stands first behind {entry['word']}", *filled("help: ", f"write `{command} {entry['word']} {late} ..`")]
+    wrong = next(filter(None, (wrong_operand(*pair) for pair in zip(items, operands))), None)
+    if wrong is None:
+        repeats = items[-1].get("repeats")
+        if len(operands) == len(items) and not repeats:
+            return []
+        wrong = in_pairs(operands) if repeats and len(operands) >= len(items) else wrong_count(entry, operands, "at least " if repeats else "")
+    return [wrong, *filled("help: ", f"it is `{form}`; `{command} help {entry['word']}` has its page")]
+
+
+@dataclass
+class Said:
+    """A line that the program said as it ended: the word's entry and operands, and which container it is about."""
+
+    entry: dict
+    operands: list
+    line: str
+    command: str
+
+    def split(self):
+        """The line without its container, and the files that it may be about."""
+        of_pod = CONTAINER.fullmatch(self.line)
+        return (of_pod[2], files_in(self.entry, self.operands, int(of_pod[1]))) if of_pod else (self.line, files_in(self.entry, self.operands, 0))
+
+    def explained(self, of_report=None):
+        """The lines that say more of it; none where nothing is known."""
+        line, files = self.split()
+        if USAGE.fullmatch(line):
+            return usage(self.entry, self.operands, self.command)
+        for form, explain in ((READ_FAULT, lambda kind: read_fault(files[kind])), (TOO_LONG, lambda kind: too_long(kind, files[kind])), (OVERLAP, overlap)):
+            found = form.fullmatch(line)
+            if found:
+                return explain(*found.groups())
+        return self.of_text(line, files, of_report)
+
+    def of_text(self, line, files, of_report):
+        policy, script, report = (form.fullmatch(line) for form in (POLICY, SCRIPT, REPORT))
+        if policy:
+            return explained_text(files["policy"], lambda data: policies.finding_of(data, policy[1]))
+        if script:
+            return explained_text(files["script"], lambda data: scripts.finding_of(data, int(script[1]), script[2]))
+        return of_report(files, int(report[1])) if report and of_report else []
+
+
+def explained_text(path, explain: Callable):
+    """The message of what is found in a file; none where it can't be read again."""
+    data = data_of(path)
+    found = explain(data) if data is not None else None
+    return message(found, path, Text(data)) if found else []
+
+
+def entry_of(word):
+    return table.entry(table.read(), word)

@@ -1,0 +1,97 @@
+"""Runs the program beside this process, passes on what it says on standard error, and adds what that means."""
+import os
+import signal
+import subprocess
+import sys
+
+from messages import likely, policies
+from messages.findings import Text, message
+from messages.refusals import Said, data_of, files_in
+from messages.reports import explained_report
+
+OF_THE_COMMAND = b"broker: "
+# the words that play a script's schedule
+SCHEDULED = ("play", "handover")
+# what is likely a mistake, but only where a schedule is played
+OF_SCHEDULES = ("no-schedule", "task-never-comes", "task-never-steps", "no-worker-steps")
+
+
+def put(text):
+    """A text on standard error; where that fails, nothing is lost that the program has to say."""
+    try:
+        sys.stderr.write(text)
+        sys.stderr.flush()
+    except (OSError, UnicodeError):
+        pass
+
+
+def say(lines):
+    put("".join(f"{line}\n" for line in lines))
+
+
+def passed_on(process, before):
+    """Passes on what a process says on standard error, and calls `before` in front of each line; the last line that isn't the command's own."""
+    last = b""
+    for line in process.stderr:
+        last = last if line.startswith(OF_THE_COMMAND) else line
+        before()
+        try:
+            os.write(sys.stderr.fileno(), line)
+        except OSError:
+            pass
+    return last.decode("utf-8", "replace").rstrip("\n")
+
+
+def run_beside(path, words, before=lambda: None):
+    """Runs the program, whose output is this process's own. How it ended, and the last line that it said; `before` is called in front of each line."""
+    # no interrupt may end this process before the program, whose end is then this one's
+    signal.signal(signal.SIGINT, lambda *_: None)
+    with subprocess.Popen([path, *words], stderr=subprocess.PIPE) as process:
+        for number in (signal.SIGINT, signal.SIGTERM, signal.SIGHUP):
+            signal.signal(number, lambda got, _: process.send_signal(got))
+        said = passed_on(process, before)
+        return process.wait(), said
+
+
+def end_as(status):
+    """The exit status with which this process ends as another did; a signal that ended that one ends this one."""
+    if status < 0:
+        signal.signal(-status, signal.SIG_DFL)
+        os.kill(os.getpid(), -status)
+    return status
+
+
+def warnings(entry, operands, asked):
+    """What the program takes and is likely a mistake. Keys that are almost LXD's are told on a terminal too, since nobody means them; the rest where it is asked for."""
+    for container in range(len(operands[2:]) // 2 if entry["word"] == "pod" else 1):
+        files = files_in(entry, operands, container)
+        policy, script = (data_of(files[kind]) if kind in files else None for kind in ("policy", "script"))
+        if policy is not None:
+            found = [*policies.foreign_keys(policy), *(policies.doubled_keys(policy) if asked else ())]
+            yield from (message(it, files["policy"], Text(policy), "warning: ") for it in found)
+        if script is not None and asked:
+            found = [it for it in likely.findings(Text(script)) if entry["word"] in SCHEDULED or it.name not in OF_SCHEDULES]
+            yield from (message(it, files["script"], Text(script), "warning: ") for it in found)
+
+
+def told(entry, operands, command, path, status, line, asked):
+    """The lines that are added to what the program said."""
+    if status > 0:
+        said = Said(entry, operands, line, command)
+        return said.explained(lambda files, number: explained_report(path, files, number))
+    return [line for lines in warnings(entry, operands, asked) for line in lines] if status == 0 else []
+
+
+def finish(path, entry, operands, command, status, line, asked):
+    """Says more of what the program said as it ended. The exit status is the program's."""
+    try:
+        say(told(entry, operands, command, path, status, line, asked))
+    except Exception as fault:  # a message that can't be made changes nothing of how the command ends
+        say([f"broker: no more can be said of this: {fault!r}"] if asked else [])
+    return end_as(status)
+
+
+def run(path, entry, operands, command, asked):
+    """Runs a word of the program, and says more of what it said: `asked` is whether that was asked for in words."""
+    status, line = run_beside(path, [entry["word"], *operands])
+    return finish(path, entry, operands, command, status, line, asked)
