@@ -131,7 +131,7 @@ enum broker_status broker_handover(const void *policy, size_t policy_length,
 #define BROKER_ALL_DELAYS UINT32_MAX
 
 /*
- * Explores what a script can come to under a policy: plays it in every order of steps with at most so many `delays`, 0 to 8, or
+ * Explores what a script can come to under a policy: plays it in the orders of steps with at most so many `delays`, 0 to 8, or
  * BROKER_ALL_DELAYS, by workers from 0 to `workers`, at most 15. Writes to `out` what `explore POLICY SCRIPT WORKERS DELAYS` prints: how
  * many histories were explored, and each thing that came of the calls, with a schedule that shows it. Here the lengths, `room` and
  * BROKER_SHORT_BUFFER are of that text.

@@ -8,6 +8,8 @@ import subprocess
 import tempfile
 from pathlib import Path
 
+from container_tree import fates
+
 MOST_STEPS = 200_000
 MOST_EVENTS = 100_000_000
 
@@ -26,12 +28,16 @@ class Broker:
 
     def report(self, lines):
         """The report of a schedule, given by its lines."""
+        return Report(self.played(lines))
+
+    def played(self, lines):
+        """The same as a text."""
         text = self.script + b"schedule\n" + "".join(f"{line}\n" for line in lines).encode() + b"end\n"
         Path(self.file.name).write_bytes(text)
         ended = subprocess.run([self.program, "play", self.policy, self.file.name], stdin=subprocess.DEVNULL, capture_output=True)
         if ended.returncode != 0:
             raise NotPlayed(ended.stderr.decode(errors="replace").strip() or f"status {ended.returncode}")
-        return Report(ended.stdout.decode("latin-1"))
+        return ended.stdout.decode("latin-1")
 
 
 def without_schedule(script):
@@ -153,8 +159,8 @@ class Explorer:
     def text(self):
         """What is printed of them."""
         self.walk()
-        outcomes, events, longest, whole = {}, 0, 0, "yes"
-        explored = 0
+        outcomes, events, longest = {}, 0, 0
+        explored, whole = 0, "yes" if self.bound is None else "bound"
         for _, path, report in sorted(self.found, key=lambda found: (sum(found[0]), found[0])):
             if events >= MOST_EVENTS:
                 whole = "no"
@@ -162,9 +168,10 @@ class Explorer:
             explored += 1
             events += len(report.events)
             longest = max(longest, len(report.events))
-            lines = tuple(outcome_of(report))
+            lines = tuple(outcome_of(report, self.broker.script))
             outcomes.setdefault(lines, [0, path])[0] += 1
-        printed = [f"explored histories={explored} events={events} longest={longest} outcomes={len(outcomes)} whole={whole}"]
+        bounds = f"workers={len(self.workers) - 1} delays={'all' if self.bound is None else self.bound}"
+        printed = [f"explored {bounds} histories={explored} events={events} longest={longest} outcomes={len(outcomes)} whole={whole}"]
         for number, (lines, (count, path)) in enumerate(outcomes.items(), 1):
             printed += [f"outcome {number} histories={count}", *(lines or ["none"])]
             printed += ["schedule too long"] if len(path) > MOST_STEPS else ["schedule", *lines_of(path), "end"]
@@ -174,9 +181,10 @@ class Explorer:
 # ---- what comes of the calls of a history, by its report
 
 
-def sessions_of(report):
-    """Of each session, by the place of the call whose notification it received: its audit, and what it did."""
+def sessions_of(report, script):
+    """Of each session, by the place of the call whose notification it received: its audit, and what it did, with what became of that."""
     entered, open_sessions, sessions = {}, {}, {}
+    fate = fates(script, report.events) if any(re.match("act (mount|setxattr) ", words) for _, words in report.events) else {}
     audited = {place: words for place, words in report.audit}
     for place, (actor, words) in enumerate(report.events):
         notified = re.search(r"^call .* notify id=(\d+)$", words)
@@ -187,7 +195,7 @@ def sessions_of(report):
             audit = re.search(r"(rule=\S+) (verdict=\S+) answer=\S+ (reply=\S+)$", audited[place])
             sessions[entered[received[1]]] = open_sessions[actor] = (" ".join(audit.groups()), [])
         elif actor in open_sessions and words.startswith("act "):
-            open_sessions[actor][1].append(f" did {words[4:]}")
+            open_sessions[actor][1].append(f" did {words[4:]}{fate.get(place, '')}")
         elif actor in open_sessions and words.startswith("plant "):
             open_sessions[actor][1].append(f" did {words}")
         elif words == "let-go":
@@ -195,9 +203,9 @@ def sessions_of(report):
     return sessions
 
 
-def outcome_of(report):
+def outcome_of(report, script):
     """The lines of an outcome: the tasks number by number, the calls of each in their order."""
-    sessions, counts, lines = sessions_of(report), {}, []
+    sessions, counts, lines = sessions_of(report, script), {}, []
     for place, words in report.calls:
         actor, _, call, outcome = words.split(" ")
         verdict = re.sub(r" id=\d+$", "", report.events[place][1]).split(" ")[-1]
@@ -219,7 +227,7 @@ def faults_in(broker, output):
         elif line == "schedule":
             schedule = []
         elif line == "end" and schedule is not None:
-            if (outcome_of(broker.report(schedule)) or ["none"]) != block:
+            if (outcome_of(broker.report(schedule), broker.script) or ["none"]) != block:
                 faults.append(f"{name}: its schedule plays another outcome")
             schedule = None
         elif schedule is not None:

@@ -72,40 +72,40 @@ comes_there o (p ∷ os) = by (bytes_eq p.text o.text) refl (comes_there o os)
 -- ---- Histories
 
 -- a text that is there stays there, whichever histories are counted
-stays_counted : (J : Judging) (text : List ℕ) (os : List CountedOutcome) (L : List (List Event)) → Contains (texts os) text → Contains (texts (tallied J os L)) text
+stays_counted : (S : Script) (J : Judging) (text : List ℕ) (os : List CountedOutcome) (L : List (List Event)) → Contains (texts os) text → Contains (texts (tallied S J os L)) text
 unfolding tallied
-stays_counted J text os [] there = there
-stays_counted J text os (H ∷ more) there = stays_counted J text (added (of_one J H) os) more (stays_there text (of_one J H) os there)
+stays_counted S J text os [] there = there
+stays_counted S J text os (H ∷ more) there = stays_counted S J text (added (of_one S J H) os) more (stays_there text (of_one S J H) os there)
 
 -- what a history of the list comes to is there
-counted : (J : Judging) (H : List Event) (os : List CountedOutcome) (L : List (List Event)) → Contains L H → Contains (texts (tallied J os L)) (result_of J H)
+counted : (S : Script) (J : Judging) (H : List Event) (os : List CountedOutcome) (L : List (List Event)) → Contains L H → Contains (texts (tallied S J os L)) (result_of S J H)
 unfolding tallied
-counted J H os [] there = absurd (none H there)
-counted J H os (G ∷ more) there =
+counted S J H os [] there = absurd (none H there)
+counted S J H os (G ∷ more) there =
     elim (first_or_later G H more there) [
-      | inl is ↦ stays_counted J (result_of J H) (added (of_one J G) os) more
-          (subst (λ text. Contains (texts (added (of_one J G) os)) text) (ap (result_of J) is) (comes_there (of_one J G) os))
-      | inr behind ↦ counted J H (added (of_one J G) os) more behind
+      | inl is ↦ stays_counted S J (result_of S J H) (added (of_one S J G) os) more
+          (subst (λ text. Contains (texts (added (of_one S J G) os)) text) (ap (result_of S J) is) (comes_there (of_one S J G) os))
+      | inr behind ↦ counted S J H (added (of_one S J G) os) more behind
     ]
 
 -- ---- What changes no outcome
 
-module _ (J : Judging) where
+module _ (S : Script) (J : Judging) where
   -- receives that find nothing
-  receives_change_none : (n : ℕ) (K : List Event) → ((w : ℕ) → is_open_session (session K w) ≡ false) → result_of J (with_empty_receives n K) ≡ result_of J K
+  receives_change_none : (n : ℕ) (K : List Event) → ((w : ℕ) → is_open_session (session K w) ≡ false) → result_of S J (with_empty_receives n K) ≡ result_of S J K
   unfolding with_empty_receives
   receives_change_none zero K let_go = refl
   receives_change_none (suc n) K let_go =
-      receives_change_none n (ev (Worker 0) (Recv (Err enoent)) ∷ K) (still_let_go K 0 enoent let_go) ∙ comes_to_same J K (ev (Worker 0) (Recv (Err enoent))) (empty_idle K 0 enoent let_go)
+      receives_change_none n (ev (Worker 0) (Recv (Err enoent)) ∷ K) (still_let_go K 0 enoent let_go) ∙ comes_to_same S J K (ev (Worker 0) (Recv (Err enoent))) (empty_idle K 0 enoent let_go)
 
-  close_changes_none : (K : List Event) → result_of J (ev Listener Close ∷ K) ≡ result_of J K
-  close_changes_none K = comes_to_same J K (ev Listener Close) (close_idle K)
+  close_changes_none : (K : List Event) → result_of S J (ev Listener Close ∷ K) ≡ result_of S J K
+  close_changes_none K = comes_to_same S J K (ev Listener Close) (close_idle K)
 
   -- so what is explored comes to what the finished history came to
-  same_outcome : (P : Policy) (S : Script) (n : ℕ) (K : List Event) → ((w : ℕ) → is_open_session (session K w) ≡ false)
-      → result_of J (with_step P S Listener (with_empty_receives n K)) ≡ result_of J (with_step P S Listener K)
+  same_outcome : (P : Policy) (n : ℕ) (K : List Event) → ((w : ℕ) → is_open_session (session K w) ≡ false)
+      → result_of S J (with_step P S Listener (with_empty_receives n K)) ≡ result_of S J (with_step P S Listener K)
   unfolding step
-  same_outcome P S n K let_go = close_changes_none (with_empty_receives n K) ∙ (receives_change_none n K let_go ∙ sym (close_changes_none K))
+  same_outcome P n K let_go = close_changes_none (with_empty_receives n K) ∙ (receives_change_none n K let_go ∙ sym (close_changes_none K))
 
 -- ---- In all
 
@@ -117,6 +117,6 @@ is_whole P S W few complete None = λ whole K counts walked finished.
     let J = judging_by P.rules in
     let all : L ≡ taken event_limit L = sym (taken_whole event_limit L whole) in
     let H = with_step P S Listener (with_empty_receives (count K) K) in
-    let there : Contains (texts (outcomes J (taken event_limit L))) (result_of J H) =
-    subst (λ (M : List (List Event)). Contains (texts (outcomes J M)) (result_of J H)) all (counted J H [] L (complete P S W K few counts walked finished)) in
-    subst (λ text. Contains (texts (outcomes J (taken event_limit L))) text) (same_outcome J P S (count K) K finished.sessions) there
+    let there : Contains (texts (outcomes S J (taken event_limit L))) (result_of S J H) =
+    subst (λ (M : List (List Event)). Contains (texts (outcomes S J M)) (result_of S J H)) all (counted S J H [] L (complete P S W K few counts walked finished)) in
+    subst (λ text. Contains (texts (outcomes S J (taken event_limit L))) text) (same_outcome S J P (count K) K finished.sessions) there

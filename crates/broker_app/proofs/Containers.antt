@@ -1,6 +1,6 @@
 -- What is read of containers, which of their ranges overlap, and how a pod ends.
 -- By cases on the status, and by induction on lists of pairs of files.
-use Rattle.std.proofs.Common.{◌≡◌, ℕ, ◌+◌, ◌*◌, ◌<◌, ◌≤◌, Bool, true, false, suc, List, [], ◌∷◌, ◌++◌, length, take, drop, get_or, Result, Ok, Err, inl, inr, refl, sym, subst, ◌∙◌, ap, append-nil, append_assoc, arith, length-append}
+use Rattle.std.proofs.Common.{◌≡◌, ℕ, ◌+◌, ◌*◌, ◌<◌, ◌≤◌, Bool, true, false, suc, List, [], ◌∷◌, ◌++◌, length, take, drop, get_or, Result, Ok, Err, inl, inr, refl, sym, subst, ◌∙◌, ap, ap₂, append-nil, append_assoc, arith, length-append}
 use Rattle.std.specs.Prelude.{None, String, ◌-◌, ◌&&◌, ◌%◌, ◌==◌, nat_le, nat_lt}
 use Rattle.std.specs.List.{AllZip}
 use Rattle.std.specs.String.{string_bytes}
@@ -20,7 +20,7 @@ use Rattle.broker_app.proofs.Reading.{input_before, policy_is_before, script_is_
 use Rattle.broker_app.specs.Answers.{Printed, status_of}
 use Rattle.broker_app.specs.Forms.{texts}
 use Rattle.broker_app.specs.PodText.{pod_text}
-use Rattle.broker_app.specs.Pods.{AreSeparate, AreServedApart, AreTaken, ContainerStops, HaveEnded, IsSeparateBehind, Overlap, IsTaken, Overlapping, PairStops, PodEnds, in_container}
+use Rattle.broker_app.specs.Pods.{AreSeparate, AreServedApart, AreTaken, ContainerStops, HaveEnded, IsSeparateBehind, Overlap, IsTaken, Overlapping, PairStops, PodEnds, in_container, scripts_of}
 use Rattle.broker_app.specs.Refusals.{InputRefused}
 use Rattle.broker_app.specs.Runs.{AreRun, ByWorkers}
 use Rattle.broker_app.specs.Words.{FilePair, are_pairs, form, in_pairs}
@@ -177,6 +177,13 @@ have_ended files workers (pair ∷ pairs) (c ∷ cs) (p ∷ ps) (one, taken) (th
   where
     run : AreRun files pair.policy pair.script (ByWorkers workers) p.policy p.script p.history.events
     run = rw (this.policy, this.script) (record { policy_is = one.policy_is; script_is = one.script_is; ended = this.ended })
+
+-- by their own scripts
+pub same_scripts : (workers : ℕ) (cs : List Container) (ps : List Played) → AreServed workers cs ps → scripts cs ≡ scripts_of ps
+same_scripts workers [] [] served = refl
+same_scripts workers [] (p ∷ ps) served = absurd served
+same_scripts workers (c ∷ cs) [] served = absurd served
+same_scripts workers (c ∷ cs) (p ∷ ps) (this, served) = ap₂ (λ (S : Script) (more : List Script). S ∷ more) (sym this.script) (same_scripts workers cs ps served)
 
 -- ---- How it ended
 

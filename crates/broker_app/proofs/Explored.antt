@@ -1,7 +1,7 @@
--- What was found is printed one outcome after another, each with its number; and how an exploration ends.
+-- The counts of what was found stand in their order, and its outcomes one after another, each with its number; and how an exploration ends.
 -- By the number of the outcomes that stand before, by what the explorer tells, and by cases on the status.
 use Rattle.std.proofs.Common.{◌≡◌, ℕ, ◌+◌, ◌<◌, List, [], ◌∷◌, ◌++◌, length, ◌≤◌, take, drop, get_or, refl, sym, ap, subst, inl, inr, ◌∙◌, append-nil, append_assoc, arith}
-use Rattle.std.specs.Prelude.{Option, Result, Ok, Err}
+use Rattle.std.specs.Prelude.{Option, Result, Ok, Err, OnOk, decimal}
 use Rattle.std.proofs.lemmas.List.{take-append-drop, take_all, take_more, length-take-le}
 use Rattle.audit_log.proofs.Writing.{wrote_front, wrote_more, wrote_nothing}
 use Rattle.audit_log.specs.Written.{Wrote}
@@ -18,6 +18,7 @@ use Rattle.hist_model.specs.declared.policy.Policy.{Policy}
 use Rattle.hist_model.specs.declared.script.Script.{Script}
 use Rattle.io_edge.specs.FileState.{FileState}
 use Rattle.io_edge.specs.SinkState.{SinkState}
+use Rattle.sys_abi.specs.declared.memory.NoMemory.{NoMemory as MemoryFault}
 use Rattle.broker_app.proofs.ComesTo.{is_whole}
 use Rattle.broker_app.specs.Answers.{Printed, status_of}
 use Rattle.broker_app.specs.Explorations.{AreExplored, ExploreEnds, ExploredLaws, exploration_text, explored_text}
@@ -25,6 +26,15 @@ use Rattle.broker_app.specs.Inputs.{PolicyIs, ScriptIs}
 use Rattle.broker_app.specs.Refusals.{InputRefused}
 use Rattle.broker_app.specs.declared.status.Status.{Status}
 use Rattle.broker_app.specs.declared.status.Status.TheVariants.{Done, NoMemory, WriteFault}
+
+-- ---- The counts
+
+-- four words with their numbers stand behind a text
+pub counts_behind : (text one two three four t u v w : List ℕ) (h e l n m : ℕ) (r : Result (Unit {0}) MemoryFault)
+    → one ≡ text ++ (t ++ decimal h) → two ≡ one ++ (u ++ decimal e) → three ≡ two ++ (v ++ decimal l) → n ≡ m → OnOk r (four ≡ three ++ (w ++ decimal n))
+    → OnOk r (four ≡ text ++ (t ++ decimal h ++ u ++ decimal e ++ v ++ decimal l ++ w ++ decimal m))
+counts_behind text one two three four t u v w h e l n m (Err x) p q s is last = tt
+counts_behind text one two three four t u v w h e l n m (Ok y) p q s is last = rw (last, s, q, p, is) (simp append_assoc)
 
 -- ---- The outcomes that were found
 
@@ -79,13 +89,13 @@ all_written os i old new l w = rw (take_all i os l) at w
 -- ---- What is printed
 
 -- what was found of a list's first histories has the list's text
-same_text : (P : Policy) (L : List (List Event)) (x : Exploration) → TellsFirst P L x → exploration_text x ≡ printed P L
-same_text P L x t = rw (t.histories, t.events, t.longest_is, t.whole_is, t.outcomes_are) refl
+same_text : (P : Policy) (S : Script) (W : ℕ) (delays : Option ℕ) (L : List (List Event)) (x : Exploration) → TellsFirst P S L x → exploration_text W delays x ≡ printed P S W delays L
+same_text P S W delays L x t = rw (t.histories, t.events, t.longest_is, t.whole_is, t.outcomes_are) refl
 
 -- so that is printed
-pub ends_found : (P : Policy) (L : List (List Event)) (x : Exploration) (old new : SinkState) (r : Result (Unit {0}) Status) → TellsFirst P L x → Printed (exploration_text x) old new r
-    → Printed (printed P L) old new r
-ends_found P L x old new r t p = subst (λ text. Printed text old new r) (same_text P L x t) p
+pub ends_found : (P : Policy) (S : Script) (W : ℕ) (delays : Option ℕ) (L : List (List Event)) (x : Exploration) (old new : SinkState) (r : Result (Unit {0}) Status) → TellsFirst P S L x
+    → Printed (exploration_text W delays x) old new r → Printed (printed P S W delays L) old new r
+ends_found P S W delays L x old new r t p = subst (λ text. Printed text old new r) (same_text P S W delays L x t) p
 
 -- what two files come to was printed, or a part of it
 pub explore_ends : (files after : FileState) (old new : SinkState) (policy script : List ℕ) (W : ℕ) (delays : Option ℕ) (P : Policy) (S : Script) (r : Result (Unit {0}) Status) → W ≤ 15

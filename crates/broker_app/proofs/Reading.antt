@@ -68,7 +68,7 @@ module _ (files mid after : FileState) (name : List ℕ) (same : SameFiles files
   }
 
   cannot_before : CannotRead mid after name → CannotRead files after name
-  cannot_before h = (then_rose files.faults mid.faults after.faults same.faults h.0, λ s. sym bytes_before ∙ h.1 (same.sound ∙ s))
+  cannot_before h = (then_rose files.faults mid.faults after.faults same.faults h.0, λ s. sym bytes_before ∙ h.1 (same.sound ∙ s), λ t is. h.2 (same.tells ∙ t) is)
 
   policy_before : (status : Status) → PolicyRefused mid after name status → PolicyRefused files after name status
   policy_before (Refused (ReadFault PolicyFile)) h = cannot_before h

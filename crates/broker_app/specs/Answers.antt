@@ -31,7 +31,8 @@ use Rattle.broker_app.specs.declared.status.Status.TheVariants.{Done, Usage, Wri
 
 -- ---- What was printed
 
--- the whole report of a history, that report and the ledgers from which workers were replaced, its summary alone, or what is found of it where a report tells it
+-- the whole report of a history, that report and the ledgers from which workers were replaced, its summary alone,
+-- or what is found of it where a report tells it
 abbrev pub text_of : Printout → Judging → List Event → List ℕ
 text_of Report J H = report J H
 text_of (Handovers handed) J H = report J H ++ handovers (all_handed handed.now)
@@ -62,11 +63,13 @@ generated_summary from count = printout_of Summary generated_policy (generated_s
 
 -- that history is mediated
 abbrev pub GeneratedIsMediated : ℕ → ℕ → Type 0
-GeneratedIsMediated from count = Mediated generated_policy (generated_script from count) (played generated_policy (generated_script from count))
+GeneratedIsMediated from count =
+    Mediated generated_policy (generated_script from count) (played generated_policy (generated_script from count))
 
 -- the sink took a prefix of the summary of a mediated history
 abbrev pub TookSummaryPrefix : ℕ → ℕ → SinkState → SinkState → Type 0
-TookSummaryPrefix from count old new = GeneratedIsMediated from count × (old.tells ≡ true → AddsPrefix old.taken (generated_summary from count) new.taken)
+TookSummaryPrefix from count old new =
+    GeneratedIsMediated from count × (old.tells ≡ true → AddsPrefix old.taken (generated_summary from count) new.taken)
 
 -- the sink took the whole summary of a mediated history
 abbrev pub TookSummary : ℕ → ℕ → SinkState → SinkState → Type 0
@@ -91,19 +94,23 @@ abbrev pub Answers : Option Form → FileState → FileState → SinkState → S
 Answers None files after old new status = IsUsage status × TookNothing old new
 Answers (Some (Play policy script)) files after old new status = PlayEnds files after old new policy script report_of status
 Answers (Some (Stress from count)) files after old new status = StressEnds from count old new status
-Answers (Some (Run policy script workers cpus)) files after old new status = RunEnds files after old new policy script (ByWorkers workers) status
+Answers (Some (Run policy script workers cpus)) files after old new status =
+    RunEnds files after old new policy script (ByWorkers workers) status
 Answers (Some (Lanes policy script cpus)) files after old new status = RunEnds files after old new policy script ByLanes status
 Answers (Some (AuditCheck policy script report)) files after old new status = CheckEnds files after old new policy script report status
-Answers (Some (Handover policy script every)) files after old new status = PlayEnds files after old new policy script (handover_report every) status
+Answers (Some (Handover policy script every)) files after old new status =
+    PlayEnds files after old new policy script (handover_report every) status
 Answers (Some (Pod workers cpus pairs)) files after old new status = PodEnds files after old new workers pairs status
-Answers (Some (Explore policy script workers delays)) files after old new status = ExploreEnds files after old new policy script workers delays status
+Answers (Some (Explore policy script workers delays)) files after old new status =
+    ExploreEnds files after old new policy script workers delays status
 
 -- the status that an outcome is
 abbrev pub status_of : Result (Unit {0}) Status → Status
 status_of (Ok u) = Done
 status_of (Err status) = status
 
--- standard error took the whole line, and nothing where it is empty, and it stands if all before it did; or its count of faults rose, and it took a prefix of the line
+-- standard error took the whole line, and nothing where it is empty, and it stands if all before it did;
+-- or its count of faults rose, and it took a prefix of the line
 pub record Said (old : SinkState) (line : List ℕ) (new : SinkState) : Type 0 where
   pub tells : new.tells ≡ old.tells
   pub faults : old.faults ≤ new.faults

@@ -35,12 +35,14 @@ pub record IsNotFound (P : Policy) (S : Script) (bytes : List ℕ) (line : ℕ) 
 -- the sink took a prefix of what is found of the history that the bytes tell
 abbrev pub TookFindingsPrefix : Policy → Script → List ℕ → SinkState → SinkState → Type 0
 TookFindingsPrefix P S bytes old new =
-    (H : List Event) × (finished : Bool) × IsFound P S bytes H finished × (old.tells ≡ true → AddsPrefix old.taken (findings (judging_by P.rules) H finished) new.taken)
+    (H : List Event) × (finished : Bool) × IsFound P S bytes H finished
+    × (old.tells ≡ true → AddsPrefix old.taken (findings (judging_by P.rules) H finished) new.taken)
 
 -- the sink took all of it
 abbrev pub TookFindings : Policy → Script → List ℕ → SinkState → SinkState → Type 0
 TookFindings P S bytes old new =
-    (H : List Event) × (finished : Bool) × IsFound P S bytes H finished × (old.tells ≡ true → new.taken ≡ old.taken ++ findings (judging_by P.rules) H finished)
+    (H : List Event) × (finished : Bool) × IsFound P S bytes H finished
+    × (old.tells ≡ true → new.taken ≡ old.taken ++ findings (judging_by P.rules) H finished)
 
 -- ---- How it ended
 
@@ -61,14 +63,18 @@ pub record AreChecked (files : FileState) (policy script report : List ℕ) (P :
 -- how the check of the three files ended, where they were read
 abbrev pub ReadCheckEnds : FileState → SinkState → SinkState → List ℕ → List ℕ → List ℕ → Status → Type 0
 ReadCheckEnds files old new policy script report status =
-    (P : Policy) × (S : Script) × (bytes : List ℕ) × AreChecked files policy script report P S bytes × BytesCheckEnds P S bytes old new status
+    (P : Policy) × (S : Script) × (bytes : List ℕ) × AreChecked files policy script report P S bytes
+    × BytesCheckEnds P S bytes old new status
 
 -- how the check of a policy's, a script's and a report's files ended
 abbrev pub CheckEnds : FileState → FileState → SinkState → SinkState → List ℕ → List ℕ → List ℕ → Status → Type 0
 CheckEnds files after old new policy script report Done = ReadCheckEnds files old new policy script report Done
 CheckEnds files after old new policy script report WriteFault = ReadCheckEnds files old new policy script report WriteFault
-CheckEnds files after old new policy script report NoMemory = TookNothing old new ⊎ ReadCheckEnds files old new policy script report NoMemory
+CheckEnds files after old new policy script report NoMemory =
+    TookNothing old new ⊎ ReadCheckEnds files old new policy script report NoMemory
 CheckEnds files after old new policy script report (NotReport line) = ReadCheckEnds files old new policy script report (NotReport line)
-CheckEnds files after old new policy script report (Refused (ReadFault ReportFile)) = OnlyScript files after policy script report (Refused (ReadFault ReportFile)) × TookNothing old new
-CheckEnds files after old new policy script report (Refused (TooLong ReportFile)) = OnlyScript files after policy script report (Refused (TooLong ReportFile)) × TookNothing old new
+CheckEnds files after old new policy script report (Refused (ReadFault ReportFile)) =
+    OnlyScript files after policy script report (Refused (ReadFault ReportFile)) × TookNothing old new
+CheckEnds files after old new policy script report (Refused (TooLong ReportFile)) =
+    OnlyScript files after policy script report (Refused (TooLong ReportFile)) × TookNothing old new
 CheckEnds files after old new policy script report status = InputRefused files after policy script status × TookNothing old new

@@ -24,32 +24,34 @@ use Rattle.broker_app.specs.declared.status.Status.TheVariants.{Done, WriteFault
 
 -- ---- What was printed
 
--- what is printed of what was found
-abbrev pub exploration_text : Exploration → List ℕ
-exploration_text x = counts_line x.histories x.events x.longest (length x.outcomes.items) x.whole ++ blocks 1 x.outcomes.items
+-- what is printed of what was found by workers up to W, with so many delays at most, or all
+abbrev pub exploration_text : ℕ → Option ℕ → Exploration → List ℕ
+exploration_text W delays x =
+    counts_line W delays x.histories x.events x.longest (length x.outcomes.items) x.whole ++ blocks 1 x.outcomes.items
 
 -- what is printed of what a policy and a script come to, by workers up to W, with so many delays at most, or all
 abbrev pub explored_text : ℕ → Option ℕ → Policy → Script → List ℕ
-explored_text W delays P S = printed P (explored P S W (bound_of delays))
+explored_text W delays P S = printed P S W delays (explored P S W (bound_of delays))
 
--- the texts of the outcomes that are printed of some histories
-abbrev pub printed_outcomes : Policy → List (List Event) → List (List ℕ)
-printed_outcomes P histories = map (λ (o : CountedOutcome). o.text) (outcomes (judging_by P.rules) (taken event_limit histories))
+-- the texts of the outcomes that are printed of some histories of a script
+abbrev pub printed_outcomes : Policy → Script → List (List Event) → List (List ℕ)
+printed_outcomes P S histories = map (λ (o : CountedOutcome). o.text) (outcomes S (judging_by P.rules) (taken event_limit histories))
 
 -- ---- What holds of it
 
--- a legal and finished history in which of the idle workers the lowest receives, without a Skip and by workers up to W, comes to one of the printed outcomes; it can be counted with the
--- receives that may follow and find nothing
+-- a legal and finished history in which of the idle workers the lowest receives, without a Skip and by workers up to W,
+-- comes to one of the printed outcomes; it can be counted with the receives that may follow and find nothing
 abbrev pub EachHasOutcome : ℕ → Policy → Script → Type 0
 EachHasOutcome W P S = (K : List Event) → length K + count K < 2 ^ 64 → IsWalked P S W K → Finished K
-    → Contains (printed_outcomes P (explored P S W (bound_of None))) (result_of (judging_by P.rules) (with_step P S Listener K))
+    → Contains (printed_outcomes P S (explored P S W (bound_of None))) (result_of S (judging_by P.rules) (with_step P S Listener K))
 
 -- so it is without a bound, where no history is left
 abbrev pub IsWhole : ℕ → Option ℕ → Policy → Script → Type 0
 IsWhole W None P S = none_left event_limit (explored P S W (bound_of None)) ≡ true → EachHasOutcome W P S
 IsWhole W (Some d) P S = Unit {0}
 
--- each explored history is legal and mediated, its schedule plays it, and it was finished before its close; and without a bound each has its outcome
+-- each explored history is legal and mediated, its schedule plays it, and it was finished before its close;
+-- and without a bound each has its outcome
 pub record ExploredLaws (W : ℕ) (delays : Option ℕ) (P : Policy) (S : Script) : Type 0 where
   pub each : All (IsExplored P S W) (explored P S W (bound_of delays))
   pub finished : All (λ H. length H < 2 ^ 64 → ClosesFinished H) (explored P S W (bound_of delays))
@@ -64,18 +66,22 @@ pub record AreExplored (files : FileState) (policy script : List ℕ) (W : ℕ) 
 -- the sink took a prefix of what is printed of the two files
 abbrev pub TookExploredPrefix : FileState → List ℕ → List ℕ → ℕ → Option ℕ → SinkState → SinkState → Type 0
 TookExploredPrefix files policy script W delays old new =
-    (P : Policy) × (S : Script) × AreExplored files policy script W delays P S × (old.tells ≡ true → AddsPrefix old.taken (explored_text W delays P S) new.taken)
+    (P : Policy) × (S : Script) × AreExplored files policy script W delays P S
+    × (old.tells ≡ true → AddsPrefix old.taken (explored_text W delays P S) new.taken)
 
 -- the sink took the whole of it
 abbrev pub TookExplored : FileState → List ℕ → List ℕ → ℕ → Option ℕ → SinkState → SinkState → Type 0
 TookExplored files policy script W delays old new =
-    (P : Policy) × (S : Script) × AreExplored files policy script W delays P S × (old.tells ≡ true → new.taken ≡ old.taken ++ explored_text W delays P S)
+    (P : Policy) × (S : Script) × AreExplored files policy script W delays P S
+    × (old.tells ≡ true → new.taken ≡ old.taken ++ explored_text W delays P S)
 
 -- ---- How it ended
 
 -- how the exploration of a policy's and a script's files ended
 abbrev pub ExploreEnds : FileState → FileState → SinkState → SinkState → List ℕ → List ℕ → ℕ → Option ℕ → Status → Type 0
 ExploreEnds files after old new policy script W delays Done = TookExplored files policy script W delays old new × Stands new
-ExploreEnds files after old new policy script W delays WriteFault = Rose old.faults new.faults × TookExploredPrefix files policy script W delays old new
-ExploreEnds files after old new policy script W delays NoMemory = TookNothing old new ⊎ TookExploredPrefix files policy script W delays old new
+ExploreEnds files after old new policy script W delays WriteFault =
+    Rose old.faults new.faults × TookExploredPrefix files policy script W delays old new
+ExploreEnds files after old new policy script W delays NoMemory =
+    TookNothing old new ⊎ TookExploredPrefix files policy script W delays old new
 ExploreEnds files after old new policy script W delays status = InputRefused files after policy script status × TookNothing old new

@@ -2,7 +2,8 @@
 use Rattle.std.specs.Prelude.{◌≡◌, ℕ, ◌<◌, ◌≤◌, true, List, length, map, String}
 use Rattle.std.specs.String.{string_bytes}
 use Rattle.std.specs.declared.alloc.Global.{Global}
-use Rattle.broker_app.specs.Words.{Form as Meaning, AuditCheck as Checks, Explore as Explores, Handover as Hands, Lanes as RunsByLanes, Play as Plays, Pod as ServesPod, Run as Runs, Stress as Stresses, are_pairs, in_pairs}
+use Rattle.broker_app.specs.Words.{Form as Meaning, AuditCheck as Checks, Explore as Explores, Handover as Hands, Lanes as RunsByLanes}
+use Rattle.broker_app.specs.Words.{Play as Plays, Pod as ServesPod, Run as Runs, Stress as Stresses, are_pairs, in_pairs}
 use Rattle.broker_app.specs.declared.words.Form.{Form}
 use Rattle.broker_app.specs.declared.words.Form.TheVariants.{Job as IsJob, Lanes, Pod, Run}
 use Rattle.broker_app.specs.declared.words.Job.{Job}
@@ -27,7 +28,8 @@ form_of (Run policy script workers cpus) = Runs policy.now script.now workers cp
 form_of (Lanes policy script cpus) = RunsByLanes policy.now script.now cpus
 form_of (Pod workers cpus pairs) = ServesPod workers cpus (in_pairs (texts pairs.now))
 
--- generated input has at most 4000 calls, a worker is replaced after one step at the earliest, and the workers of what is explored are 0 to 15 at most
+-- generated input has at most 4000 calls, a worker is replaced after one step at the earliest,
+-- and the workers of what is explored are 0 to 15 at most
 abbrev pub IsJobInRange : Job → Type 0
 IsJobInRange (Stress from count) = count ≤ 4000
 IsJobInRange (Handover policy script every) = 0 < every

@@ -19,6 +19,7 @@ handovers_title n = codes "handovers " ++ (decimal n ++ codes "\n")
 abbrev pub handovers : List Handed → List ℕ
 handovers all = handovers_title (length all) ++ flat_map ledger_line all
 
--- the report of the history that a policy and a script play, and the ledgers from which workers are replaced in it after each so many of their steps
+-- the report of the history that a policy and a script play, and the ledgers from which workers are replaced
+-- in it after each so many of their steps
 abbrev pub handover_report : ℕ → Policy → Script → List ℕ
 handover_report every P S = report_of P S ++ handovers (handed every (played P S))

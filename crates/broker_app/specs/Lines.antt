@@ -3,7 +3,9 @@ use Rattle.std.specs.Prelude.{ℕ, List, [], ◌++◌, codes, decimal}
 use Rattle.audit_log.specs.declared.error.ReportError.{ReportError}
 use Rattle.audit_log.specs.declared.error.ReportError.TheVariants.{WriteFault as CannotWrite, NoMemory as OutOfMemory}
 use Rattle.lex_core.specs.declared.reason.Reason.{Reason}
-use Rattle.lex_core.specs.declared.reason.Reason.TheVariants.{BadByte, BadQuote, UnknownWord, OutOfPlace, WrongCount, WrongForm, BadNumber, OutOfRange, BadPath, UnknownName, Duplicate, Unmapped, SecondListener, BadFilter, NotClosed, NoProgram, NoListener}
+use Rattle.lex_core.specs.declared.reason.Reason.TheVariants.{BadByte, BadQuote, UnknownWord, OutOfPlace, WrongCount, WrongForm, BadNumber}
+use Rattle.lex_core.specs.declared.reason.Reason.TheVariants.{OutOfRange, BadPath, UnknownName, Duplicate, Unmapped, SecondListener}
+use Rattle.lex_core.specs.declared.reason.Reason.TheVariants.{BadFilter, NotClosed, NoProgram, NoListener}
 use Rattle.policy_reader.specs.declared.error.PolicyError.{PolicyError}
 use Rattle.policy_reader.specs.declared.error.PolicyError.TheVariants.{NotJson, BadKey, BadValue, TooMany}
 use Rattle.script_reader.specs.declared.error.ScriptError.{ScriptError}
@@ -13,7 +15,8 @@ use Rattle.broker_app.specs.declared.status.InputFile.TheVariants.{Policy as Pol
 use Rattle.broker_app.specs.declared.status.Refusal.{Refusal}
 use Rattle.broker_app.specs.declared.status.Refusal.TheVariants.{ReadFault, TooLong, BadPolicy, BadScript}
 use Rattle.broker_app.specs.declared.status.Status.{Status}
-use Rattle.broker_app.specs.declared.status.Status.TheVariants.{Done, Usage, Refused, ContainerRefused, WriteFault, NoMemory, NotReport, PidsOverlap}
+use Rattle.broker_app.specs.declared.status.Status.TheVariants.{Done, Usage, Refused, ContainerRefused}
+use Rattle.broker_app.specs.declared.status.Status.TheVariants.{WriteFault, NoMemory, NotReport, PidsOverlap}
 
 abbrev pub code_of_refusal : Refusal → ℕ
 code_of_refusal (ReadFault file) = 2
@@ -88,7 +91,10 @@ overlap_line first second = (codes "pod: pids overlap: " ++ decimal first) ++ (c
 
 abbrev pub line_of : Status → List ℕ
 line_of Done = []
-line_of Usage = codes "usage: play POLICY SCRIPT | run POLICY SCRIPT WORKERS CPUS | stress FROM COUNT | audit-check POLICY SCRIPT REPORT | lanes POLICY SCRIPT CPUS | handover POLICY SCRIPT EVERY | pod WORKERS CPUS POLICY SCRIPT .. | explore POLICY SCRIPT WORKERS DELAYS\n"
+line_of Usage =
+    codes "usage: play POLICY SCRIPT | run POLICY SCRIPT WORKERS CPUS | stress FROM COUNT | audit-check POLICY SCRIPT REPORT"
+    ++ codes " | lanes POLICY SCRIPT CPUS | handover POLICY SCRIPT EVERY | pod WORKERS CPUS POLICY SCRIPT .."
+    ++ codes " | explore POLICY SCRIPT WORKERS DELAYS\n"
 line_of (Refused refusal) = refusal_line refusal
 line_of (ContainerRefused container refusal) = container_front container ++ refusal_line refusal
 line_of WriteFault = codes "write fault\n"

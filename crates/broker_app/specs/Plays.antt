@@ -32,11 +32,13 @@ pub record AreRead (files : FileState) (policy script : List ℕ) (P : Policy) (
 
 -- the sink took a prefix of what is printed of what the two files play
 abbrev pub TookPlayPrefix : FileState → List ℕ → List ℕ → Printing → SinkState → SinkState → Type 0
-TookPlayPrefix files policy script text old new = (P : Policy) × (S : Script) × AreRead files policy script P S × (old.tells ≡ true → AddsPrefix old.taken (text P S) new.taken)
+TookPlayPrefix files policy script text old new =
+    (P : Policy) × (S : Script) × AreRead files policy script P S × (old.tells ≡ true → AddsPrefix old.taken (text P S) new.taken)
 
 -- the sink took the whole of it
 abbrev pub TookPlay : FileState → List ℕ → List ℕ → Printing → SinkState → SinkState → Type 0
-TookPlay files policy script text old new = (P : Policy) × (S : Script) × AreRead files policy script P S × (old.tells ≡ true → new.taken ≡ old.taken ++ text P S)
+TookPlay files policy script text old new =
+    (P : Policy) × (S : Script) × AreRead files policy script P S × (old.tells ≡ true → new.taken ≡ old.taken ++ text P S)
 
 -- ---- How it ended
 

@@ -1,10 +1,11 @@
 -- What the answer of a pod means: which containers were read and served, what is printed of them, and why it stopped.
-use Rattle.std.specs.Prelude.{◌≡◌, ℕ, ◌+◌, ◌<◌, ◌++◌, ◌∷◌, ◌⊎◌, Bool, true, false, List, get_or, length, Ok}
+use Rattle.std.specs.Prelude.{◌≡◌, ℕ, ◌+◌, ◌<◌, ◌++◌, ◌∷◌, ◌⊎◌, Bool, true, false, List, get_or, length, map, Ok}
 use Rattle.std.specs.List.{AllZip}
 use Rattle.io_edge.specs.Faults.{Rose}
 use Rattle.io_edge.specs.FileState.{FileState}
 use Rattle.io_edge.specs.SinkState.{SinkState, AddsPrefix}
-use Rattle.pod_broker.specs.Pods.{AllApart, overlap}
+use Rattle.hist_model.specs.declared.script.Script.{Script}
+use Rattle.pod_broker.specs.Pods.{AllApart, NoneOverlap, overlap}
 use Rattle.pod_broker.specs.Serving.{histories}
 use Rattle.pod_broker.specs.declared.container.Container.{Container}
 use Rattle.worker_gate.specs.declared.served.Played.{Played}
@@ -45,7 +46,8 @@ in_container number status = status
 
 -- why the pair of the container with this number wasn't taken
 abbrev pub ContainerStops : FileState → FileState → FilePair → ℕ → Status → Type 0
-ContainerStops files after pair number (ContainerRefused which refusal) = (which ≡ number) × InputRefused files after pair.policy pair.script (Refused refusal)
+ContainerStops files after pair number (ContainerRefused which refusal) =
+    (which ≡ number) × InputRefused files after pair.policy pair.script (Refused refusal)
 ContainerStops files after pair number NoMemory = Unit {0}
 ContainerStops files after pair number _ = ⊥
 
@@ -92,18 +94,25 @@ Overlapping cs _ = ⊥
 abbrev pub HaveEnded : FileState → ℕ → List FilePair → List Played → Type 0
 HaveEnded files workers = AllZip (λ pair p. AreRun files pair.policy pair.script (ByWorkers workers) p.policy p.script p.history.events)
 
--- the containers of the pairs were served to their ends, and no two of them gave a common PID
+-- the scripts of containers that were served, in order
+abbrev pub scripts_of : List Played → List Script
+scripts_of ps = map (λ (p : Played). p.script) ps
+
+-- the containers of the pairs were served to their ends; no two scripts' ranges of PIDs overlap, and no two containers gave a common PID
 pub record AreServedApart (files : FileState) (workers : ℕ) (pairs : List FilePair) (ps : List Played) : Type 0 where
   pub ended : HaveEnded files workers pairs ps
+  pub ranges : NoneOverlap (scripts_of ps)
   pub apart : AllApart (histories ps)
 
 -- the sink took a prefix of what is printed of such containers
 abbrev pub TookPodPrefix : FileState → ℕ → List FilePair → SinkState → SinkState → Type 0
-TookPodPrefix files workers pairs old new = (ps : List Played) × AreServedApart files workers pairs ps × (old.tells ≡ true → AddsPrefix old.taken (pod_text ps) new.taken)
+TookPodPrefix files workers pairs old new =
+    (ps : List Played) × AreServedApart files workers pairs ps × (old.tells ≡ true → AddsPrefix old.taken (pod_text ps) new.taken)
 
 -- the sink took the whole of it
 abbrev pub TookPod : FileState → ℕ → List FilePair → SinkState → SinkState → Type 0
-TookPod files workers pairs old new = (ps : List Played) × AreServedApart files workers pairs ps × (old.tells ≡ true → new.taken ≡ old.taken ++ pod_text ps)
+TookPod files workers pairs old new =
+    (ps : List Played) × AreServedApart files workers pairs ps × (old.tells ≡ true → new.taken ≡ old.taken ++ pod_text ps)
 
 -- ---- How it ended
 

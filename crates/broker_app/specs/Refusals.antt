@@ -1,5 +1,5 @@
 -- What a sink took before a text is begun, and why the bytes of a file weren't read or taken.
-use Rattle.std.specs.Prelude.{◌≡◌, ℕ, true, false, List, Some, None, Ok, Err}
+use Rattle.std.specs.Prelude.{◌≡◌, ℕ, true, false, List, IsSome, Some, None, Ok, Err}
 use Rattle.hist_model.specs.declared.policy.Policy.{Policy}
 use Rattle.hist_model.specs.declared.script.Script.{Script}
 use Rattle.io_edge.specs.Faults.{Rose}
@@ -24,9 +24,14 @@ Stands sink = sink.pending ≡ false
 
 -- ---- What was read
 
+-- the file that is open, if one is, is that of this name
+abbrev pub OpenIs : FileState → FileState → List ℕ → Type 0
+OpenIs files after name = files.tells ≡ true → IsSome after.current → after.current ≡ Some name
+
 -- the source failed: a sound one, only where it has no file of this name
+-- where a read failed, the file that it failed on is still open, and it is this one
 abbrev pub CannotRead : FileState → FileState → List ℕ → Type 0
-CannotRead files after name = Rose files.faults after.faults × (files.sound ≡ true → files.bytes name ≡ None)
+CannotRead files after name = Rose files.faults after.faults × (files.sound ≡ true → files.bytes name ≡ None) × OpenIs files after name
 
 -- no file was opened after the one of this name
 abbrev pub OpenedLast : FileState → FileState → List ℕ → Type 0
@@ -68,14 +73,16 @@ ReportRefused files after report _ = ⊥
 
 -- a policy and a script were taken, and then the report wasn't
 abbrev pub OnlyScript : FileState → FileState → List ℕ → List ℕ → List ℕ → Status → Type 0
-OnlyScript files after policy script report status = (P : Policy) × (S : Script) × PolicyIs files policy (Ok P) × ScriptIs files script (Ok S) × ReportRefused files after report status
+OnlyScript files after policy script report status =
+    (P : Policy) × (S : Script) × PolicyIs files policy (Ok P) × ScriptIs files script (Ok S) × ReportRefused files after report status
 
 -- why the policy and the script weren't both taken
 abbrev pub InputRefused : FileState → FileState → List ℕ → List ℕ → Status → Type 0
 InputRefused files after policy script (Refused (ReadFault PolicyFile)) = PolicyRefused files after policy (Refused (ReadFault PolicyFile))
 InputRefused files after policy script (Refused (TooLong PolicyFile)) = PolicyRefused files after policy (Refused (TooLong PolicyFile))
 InputRefused files after policy script (Refused (BadPolicy error)) = PolicyRefused files after policy (Refused (BadPolicy error))
-InputRefused files after policy script (Refused (ReadFault ScriptFile)) = OnlyPolicy files after policy script (Refused (ReadFault ScriptFile))
+InputRefused files after policy script (Refused (ReadFault ScriptFile)) =
+    OnlyPolicy files after policy script (Refused (ReadFault ScriptFile))
 InputRefused files after policy script (Refused (TooLong ScriptFile)) = OnlyPolicy files after policy script (Refused (TooLong ScriptFile))
 InputRefused files after policy script (Refused (BadScript error)) = OnlyPolicy files after policy script (Refused (BadScript error))
 InputRefused files after policy script NoMemory = Unit {0}

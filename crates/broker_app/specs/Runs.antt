@@ -40,12 +40,14 @@ pub record AreRun (files : FileState) (policy script : List ℕ) (Ended : Ending
 -- the sink took a prefix of the report of one such history
 abbrev pub TookRunPrefix : FileState → List ℕ → List ℕ → Ending → SinkState → SinkState → Type 0
 TookRunPrefix files policy script Ended old new =
-    (P : Policy) × (S : Script) × (H : List Event) × AreRun files policy script Ended P S H × (old.tells ≡ true → AddsPrefix old.taken (report (judging_by P.rules) H) new.taken)
+    (P : Policy) × (S : Script) × (H : List Event) × AreRun files policy script Ended P S H
+    × (old.tells ≡ true → AddsPrefix old.taken (report (judging_by P.rules) H) new.taken)
 
 -- the sink took the whole report of one
 abbrev pub TookRun : FileState → List ℕ → List ℕ → Ending → SinkState → SinkState → Type 0
 TookRun files policy script Ended old new =
-    (P : Policy) × (S : Script) × (H : List Event) × AreRun files policy script Ended P S H × (old.tells ≡ true → new.taken ≡ old.taken ++ report (judging_by P.rules) H)
+    (P : Policy) × (S : Script) × (H : List Event) × AreRun files policy script Ended P S H
+    × (old.tells ≡ true → new.taken ≡ old.taken ++ report (judging_by P.rules) H)
 
 -- ---- How it ended
 

@@ -1,5 +1,6 @@
 -- The words with which the program is called, and the forms that they may have.
-use Rattle.std.specs.Prelude.{ℕ, ◌-◌, ◌^◌, ◌&&◌, ◌%◌, ◌==◌, Bool, if◌then◌else◌, nat_le, List, [], ◌∷◌, length, Option, Some, None, bytes_eq, codes}
+use Rattle.std.specs.Prelude.{ℕ, ◌-◌, ◌^◌, ◌&&◌, ◌%◌, ◌==◌, Bool, if◌then◌else◌, nat_le, List, [], ◌∷◌, length, Option}
+use Rattle.std.specs.Prelude.{Some, None, bytes_eq, codes}
 use Rattle.std.specs.Option.{option_map}
 use Rattle.hist_model.specs.Words.{number_between}
 
@@ -84,5 +85,6 @@ few_words _ = None
 -- the form of the words: pod WORKERS CPUS POLICY SCRIPT .., with 1 to 8 pairs of files, or one of fewer words
 abbrev pub form : List (List ℕ) → Option Form
 form (command ∷ a ∷ b ∷ more) =
-    if bytes_eq command (codes "pod") then pod_form (number_between 0 16 a) (number_between 0 16 b) more else few_words (command ∷ a ∷ b ∷ more)
+    if bytes_eq command (codes "pod") then pod_form (number_between 0 16 a) (number_between 0 16 b) more
+    else few_words (command ∷ a ∷ b ∷ more)
 form words = None

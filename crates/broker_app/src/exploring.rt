@@ -23,23 +23,31 @@ use std::alloc::Global;
 #[tactic(auto, using(crate::proofs::Ends::flushed))]
 fn write_flushed<O: Sink>(
     alloc: Global,
+    workers: u8,
+    delays: Option<u64>,
     found: &Exploration,
     out: &mut O,
 ) -> Result<(), ReportError>
-    ensures wrote { Wrote (O.state out.old) (exploration_text found.now) result (O.state out.new) }
+    ensures wrote { Wrote (O.state out.old) (exploration_text workers delays found.now) result (O.state out.new) }
     ensures stands { OnOk result (Stands (O.state out.new)) }
 {
-    write_exploration(alloc, found, out)?;
+    write_exploration(alloc, workers, delays, found, out)?;
     out.flush()?;
     Ok(())
 }
 
 /// Prints what was found.
 #[tactic(auto, using(crate::proofs::Ends::printed_whole, crate::proofs::Ends::printed_part))]
-fn print_exploration<O: Sink>(alloc: Global, found: &Exploration, out: &mut O) -> Result<(), Status>
-    ensures { Printed (exploration_text found.now) (O.state out.old) (O.state out.new) result }
+fn print_exploration<O: Sink>(
+    alloc: Global,
+    workers: u8,
+    delays: Option<u64>,
+    found: &Exploration,
+    out: &mut O,
+) -> Result<(), Status>
+    ensures { Printed (exploration_text workers delays found.now) (O.state out.old) (O.state out.new) result }
 {
-    write_flushed(alloc, found, out)?;
+    write_flushed(alloc, workers, delays, found, out)?;
     Ok(())
 }
 
@@ -57,7 +65,7 @@ fn print_explored<O: Sink>(
     ensures { Printed (explored_text workers delays policy.now script) (O.state out.old) (O.state out.new) result }
 {
     let found = explore(alloc, policy, script, workers, delays)?;
-    print_exploration(alloc, &found, out)
+    print_exploration(alloc, workers, delays, &found, out)
 }
 
 /// A script keeps the rules of its format.

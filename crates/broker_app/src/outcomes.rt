@@ -3,7 +3,7 @@
 ghost use Rattle.std.specs.Prelude.{◌≡◌, ◌++◌, IfOk, OnOk, decimal, length, option_copied};
 ghost use Rattle.std.specs.List.{flat_map};
 ghost use Rattle.audit_log.specs.Written.{Wrote};
-ghost use Rattle.explorer.specs.Printed.{actor_words, blocks, counts_line, or_none, outcome_block, schedule_block, step_line, yes_or_no};
+ghost use Rattle.explorer.specs.Printed.{actor_words, blocks, bounds_words, counts_line, counts_words, delays_word, or_none, outcome_block, schedule_block, step_line, whole_word};
 ghost use Rattle.broker_app.specs.Explorations.{exploration_text};
 
 use audit_log::error::ReportError;
@@ -25,24 +25,60 @@ fn push_count(line: &mut LineBuffer, word: &str, number: u64) -> Result<(), NoMe
     line.push_number(number)
 }
 
-/// The word for whether no history is left.
-fn yes_or_no(whole: bool) -> &'static str
-    ensures { result.now ≡ yes_or_no whole }
+/// Adds the bound of delays, or `all` where there is none.
+fn push_delays(line: &mut LineBuffer, delays: Option<u64>) -> Result<(), NoMemory>
+    ensures { OnOk result (line.new ≡ line.old ++ delays_word delays) }
 {
-    if whole { "yes" } else { "no" }
+    match delays {
+        Some(delays) => line.push_number(delays),
+        None => line.push("all"),
+    }
 }
 
-/// The line that says how many histories were explored, how many events they have, and how many outcomes.
-fn counts_line(alloc: Global, found: &Exploration) -> Result<LineBuffer, NoMemory>
-    ensures { IfOk result (λ line. line ≡ counts_line found.now.histories found.now.events found.now.longest (length found.now.outcomes.items) found.now.whole) }
+/// The word for whether no history is left: of all, or of those within the bound.
+fn whole_word(delays: Option<u64>, whole: bool) -> &'static str
+    ensures { result.now ≡ whole_word delays whole }
+{
+    match (delays, whole) {
+        (None, true) => "yes",
+        (Some(_), true) => "bound",
+        (_, false) => "no",
+    }
+}
+
+/// Adds the last worker and the bound of delays.
+fn push_bounds(line: &mut LineBuffer, workers: u8, delays: Option<u64>) -> Result<(), NoMemory>
+    ensures { OnOk result (line.new ≡ line.old ++ bounds_words workers delays) }
+{
+    push_count(line, "explored workers=", u64::from(workers))?;
+    line.push(" delays=")?;
+    push_delays(line, delays)
+}
+
+/// Adds how many histories were explored, how many events they have, how many the longest, and how many outcomes there are.
+fn push_counts(line: &mut LineBuffer, found: &Exploration) -> Result<(), NoMemory>
+    ensures { OnOk result (line.new ≡ line.old ++ counts_words found.now.histories found.now.events found.now.longest (length found.now.outcomes.items)) }
+{
+    push_count(line, " histories=", found.histories)?;
+    push_count(line, " events=", found.events)?;
+    push_count(line, " longest=", found.longest)?;
+    push_count(line, " outcomes=", found.outcomes.len() as u64)
+}
+
+/// The line that says what was explored, how many histories and outcomes there are, and whether no history is left.
+fn counts_line(
+    alloc: Global,
+    workers: u8,
+    delays: Option<u64>,
+    found: &Exploration,
+) -> Result<LineBuffer, NoMemory>
+    ensures { IfOk result (λ line. line ≡ counts_line workers delays found.now.histories found.now.events found.now.longest (length found.now.outcomes.items) found.now.whole) }
 {
     let mut line = LineBuffer::new(alloc);
-    push_count(&mut line, "explored histories=", found.histories)?;
-    push_count(&mut line, " events=", found.events)?;
-    push_count(&mut line, " longest=", found.longest)?;
-    push_count(&mut line, " outcomes=", found.outcomes.len() as u64)?;
+    push_bounds(&mut line, workers, delays)?;
+    push_counts(&mut line, found)?;
     line.push(" whole=")?;
-    line.push(yes_or_no(found.whole))?;
+    line.push(whole_word(delays, found.whole))?;
     line.push("\n")?;
     Ok(line)
 }
@@ -145,22 +181,30 @@ fn write_outcomes<O: Sink>(
     Ok(())
 }
 
-/// Writes how many histories were explored.
-fn write_counts<O: Sink>(alloc: Global, found: &Exploration, out: &mut O) -> Result<(), ReportError>
-    ensures { Wrote (O.state out.old) (counts_line found.now.histories found.now.events found.now.longest (length found.now.outcomes.items) found.now.whole) result (O.state out.new) }
-{
-    let line = counts_line(alloc, found)?;
-    write_line(&line, out)
-}
-
-/// Writes what exploring came to.
-pub(crate) fn write_exploration<O: Sink>(
+/// Writes what was explored, and how many histories and outcomes there are.
+fn write_counts<O: Sink>(
     alloc: Global,
+    workers: u8,
+    delays: Option<u64>,
     found: &Exploration,
     out: &mut O,
 ) -> Result<(), ReportError>
-    ensures { Wrote (O.state out.old) (exploration_text found.now) result (O.state out.new) }
+    ensures { Wrote (O.state out.old) (counts_line workers delays found.now.histories found.now.events found.now.longest (length found.now.outcomes.items) found.now.whole) result (O.state out.new) }
 {
-    write_counts(alloc, found, out)?;
+    let line = counts_line(alloc, workers, delays, found)?;
+    write_line(&line, out)
+}
+
+/// Writes what exploring came to, by workers up to a last one, with so many delays at most, or all.
+pub(crate) fn write_exploration<O: Sink>(
+    alloc: Global,
+    workers: u8,
+    delays: Option<u64>,
+    found: &Exploration,
+    out: &mut O,
+) -> Result<(), ReportError>
+    ensures { Wrote (O.state out.old) (exploration_text workers delays found.now) result (O.state out.new) }
+{
+    write_counts(alloc, workers, delays, found, out)?;
     write_outcomes(alloc, found.outcomes.as_slice(), out)
 }

@@ -19,7 +19,8 @@ pub record Holds (text old new : List ℕ) (told : ℕ) : Type 0 where
   pub whole : told ≡ length text
 
 -- what C was told: a status and what was printed, such as the call gives them; the buffers hold what was printed and the status's line
-pub record Tells (gives : List ℕ → Status → Type 0) (number : ℕ) (out_old out_new : List ℕ) (out_length : ℕ) (line_old line_new : List ℕ) (line_length : ℕ) : Type 0 where
+pub record Tells (gives : List ℕ → Status → Type 0) (number : ℕ) (out_old out_new : List ℕ)
+    (out_length : ℕ) (line_old line_new : List ℕ) (line_length : ℕ) : Type 0 where
   pub status : Status
   pub printed : List ℕ
   pub given : gives printed status

@@ -1,5 +1,6 @@
 -- What a call came to: what was printed, and why it stopped.
-use Rattle.std.specs.Prelude.{◌≡◌, ℕ, ◌<◌, ◌≤◌, ◌⊎◌, ◌==◌, Bool, true, false, if◌then◌else◌, nat_le, List, [], length, Option, Some, None, Result, Ok, Err, codes}
+use Rattle.std.specs.Prelude.{◌≡◌, ℕ, ◌<◌, ◌≤◌, ◌⊎◌, ◌==◌, Bool, true, false, if◌then◌else◌, nat_le, List, [], length, Option, Some, None}
+use Rattle.std.specs.Prelude.{Result, Ok, Err, codes}
 use Rattle.hist_model.specs.ReportAudit.{judging_by}
 use Rattle.hist_model.specs.declared.event.Event.{Event}
 use Rattle.hist_model.specs.Legal.{played}
@@ -74,7 +75,8 @@ IsHandover policy script every printed = IsPlay (handover_report every) policy s
 -- what is found of the history that the bytes of a report tell
 abbrev pub IsFindings : List ℕ → List ℕ → List ℕ → List ℕ → Type 0
 IsFindings policy script report printed =
-    (P : Policy) × (S : Script) × (H : List Event) × (finished : Bool) × AreInput policy script P S × IsFound P S report H finished × (printed ≡ findings (judging_by P.rules) H finished)
+    (P : Policy) × (S : Script) × (H : List Event) × (finished : Bool) × AreInput policy script P S
+    × IsFound P S report H finished × (printed ≡ findings (judging_by P.rules) H finished)
 
 -- a prefix of it
 abbrev pub BeginsFindings : List ℕ → List ℕ → List ℕ → List ℕ → Type 0
@@ -115,15 +117,18 @@ pub record AreExplored (policy script : List ℕ) (workers : ℕ) (bound : Optio
 
 -- what is printed of what the policy and the script of the bytes come to
 abbrev pub IsExploration : List ℕ → List ℕ → ℕ → Option ℕ → List ℕ → Type 0
-IsExploration policy script workers bound printed = (P : Policy) × (S : Script) × AreExplored policy script workers bound P S × (printed ≡ explored_text workers bound P S)
+IsExploration policy script workers bound printed =
+    (P : Policy) × (S : Script) × AreExplored policy script workers bound P S × (printed ≡ explored_text workers bound P S)
 
 -- a prefix of it
 abbrev pub BeginsExploration : List ℕ → List ℕ → ℕ → Option ℕ → List ℕ → Type 0
-BeginsExploration policy script workers bound printed = (P : Policy) × (S : Script) × AreExplored policy script workers bound P S × AddsPrefix [] (explored_text workers bound P S) printed
+BeginsExploration policy script workers bound printed =
+    (P : Policy) × (S : Script) × AreExplored policy script workers bound P S × AddsPrefix [] (explored_text workers bound P S) printed
 
 -- that of the workers and the bound that were asked for
 abbrev pub IsAskedExploration : List ℕ → List ℕ → ℕ → ℕ → List ℕ → Type 0
-IsAskedExploration policy script workers delays printed = (bound : Option ℕ) × IsAsked workers delays bound × IsExploration policy script workers bound printed
+IsAskedExploration policy script workers delays printed =
+    (bound : Option ℕ) × IsAsked workers delays bound × IsExploration policy script workers bound printed
 
 -- ---- How it ended
 
@@ -156,15 +161,18 @@ HandoverGives policy script every room printed status = IsEvery every × PlayGiv
 -- how the exploration of a policy's and a script's bytes ended, by workers up to this one and within this bound
 abbrev pub ExplorationGives : List ℕ → List ℕ → ℕ → Option ℕ → ℕ → List ℕ → Status → Type 0
 ExplorationGives policy script workers bound room printed Done = IsExploration policy script workers bound printed × (length printed ≤ room)
-ExplorationGives policy script workers bound room printed WriteFault = BeginsExploration policy script workers bound printed × (room < length printed)
+ExplorationGives policy script workers bound room printed WriteFault =
+    BeginsExploration policy script workers bound printed × (room < length printed)
 ExplorationGives policy script workers bound room printed NoMemory = (printed ≡ []) ⊎ BeginsExploration policy script workers bound printed
 ExplorationGives policy script workers bound room printed status = InputGives policy script printed status
 
 -- and by the numbers that were given: usage where there are no such workers, or no such bound
 abbrev pub ExploreGives : List ℕ → List ℕ → ℕ → ℕ → ℕ → List ℕ → Status → Type 0
 ExploreGives policy script workers delays room printed Usage = ((bound : Option ℕ) → ¬ (IsAsked workers delays bound)) × (printed ≡ [])
-ExploreGives policy script workers delays room printed NoMemory = (printed ≡ []) ⊎ ((bound : Option ℕ) × IsAsked workers delays bound × BeginsExploration policy script workers bound printed)
-ExploreGives policy script workers delays room printed status = (bound : Option ℕ) × IsAsked workers delays bound × ExplorationGives policy script workers bound room printed status
+ExploreGives policy script workers delays room printed NoMemory =
+    (printed ≡ []) ⊎ ((bound : Option ℕ) × IsAsked workers delays bound × BeginsExploration policy script workers bound printed)
+ExploreGives policy script workers delays room printed status =
+    (bound : Option ℕ) × IsAsked workers delays bound × ExplorationGives policy script workers bound room printed status
 
 -- how the check of a report's bytes ended, with room for so many bytes of what is found
 abbrev pub CheckGives : List ℕ → List ℕ → List ℕ → ℕ → List ℕ → Status → Type 0
@@ -172,7 +180,8 @@ CheckGives policy script report room printed Done = IsFindings policy script rep
 CheckGives policy script report room printed WriteFault = BeginsFindings policy script report printed × (room < length printed)
 CheckGives policy script report room printed NoMemory = (printed ≡ []) ⊎ BeginsFindings policy script report printed
 CheckGives policy script report room printed (NotReport line) = HasFault policy script report line × (printed ≡ [])
-CheckGives policy script report room printed (Refused (TooLong ReportFile)) = IsInput policy script × (report_limit < length report) × (printed ≡ [])
+CheckGives policy script report room printed (Refused (TooLong ReportFile)) =
+    IsInput policy script × (report_limit < length report) × (printed ≡ [])
 CheckGives policy script report room printed status = InputGives policy script printed status
 
 -- generated input has 1 to 4000 calls

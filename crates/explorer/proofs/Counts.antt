@@ -8,6 +8,7 @@ use Rattle.std.proofs.lemmas.List.Sums.{fails_before_first, sum_by-cons, sum_by-
 use Rattle.std.proofs.lemmas.List.{take_more}
 use Rattle.hist_model.specs.ReportAudit.{Judging}
 use Rattle.hist_model.specs.declared.event.Event.{Event}
+use Rattle.hist_model.specs.declared.script.Script.{Script}
 use Rattle.explorer.specs.Tallies.{CountedOutcome, added, counted, has_text, merged, of_one, outcomes, tallied, with_more}
 
 -- ---- Where it stands
@@ -58,14 +59,14 @@ unfolding merged
 counted_merged T [] = omega arith
 counted_merged T (o ∷ U) = omega (arith, counted_merged (added o T) U, counted_added o T, one_more o U)
 
-counted_tallied : (J : Judging) (T : List CountedOutcome) (L : List (List Event)) → counted (tallied J T L) ≡ counted T + length L
+counted_tallied : (S : Script) (J : Judging) (T : List CountedOutcome) (L : List (List Event)) → counted (tallied S J T L) ≡ counted T + length L
 unfolding tallied
-counted_tallied J T [] = omega arith
-counted_tallied J T (H ∷ L) = omega (arith, counted_tallied J (added (of_one J H) T) L, counted_added (of_one J H) T)
+counted_tallied S J T [] = omega arith
+counted_tallied S J T (H ∷ L) = omega (arith, counted_tallied S J (added (of_one S J H) T) L, counted_added (of_one S J H) T)
 
 -- as many as there are
-pub counted_outcomes : (J : Judging) (L : List (List Event)) → counted (outcomes J L) ≡ length L
-counted_outcomes J L = omega (arith, counted_tallied J [] L)
+pub counted_outcomes : (S : Script) (J : Judging) (L : List (List Event)) → counted (outcomes S J L) ≡ length L
+counted_outcomes S J L = omega (arith, counted_tallied S J [] L)
 
 -- those that were added, and the next one
 pub fits : (T U all : List CountedOutcome) (o : CountedOutcome) → U ≡ take (length U) all → length U < length all → o ≡ get_or all (length U) o → counted (merged T U) + o.histories ≤ counted T + counted all

@@ -5,6 +5,7 @@ use Rattle.std.specs.List.{find}
 use Rattle.hist_model.proofs.Look.{name_eq-refl, name_eq-true}
 use Rattle.hist_model.specs.ReportAudit.{Judging}
 use Rattle.hist_model.specs.declared.event.Event.{Event}
+use Rattle.hist_model.specs.declared.script.Script.{Script}
 use Rattle.outcome_text.specs.Outcomes.{result_of}
 use Rattle.explorer.specs.Laws.{coming_to, outcome_with}
 use Rattle.explorer.specs.Tallies.{CountedOutcome, added, has_text, of_one, outcomes, tallied, with_more}
@@ -52,29 +53,29 @@ unfolding with_those
 no_more text None = refl
 no_more text (Some p) = let same : p.histories + 0 ≡ p.histories = omega arith in rw same refl
 
-one_coming : (J : Judging) (H : List Event) (found : Option CountedOutcome) (more : List (List Event)) → with_those (result_of J H) (Some (or_more found (of_one J H))) more ≡ with_those (result_of J H) found (H ∷ more)
+one_coming : (S : Script) (J : Judging) (H : List Event) (found : Option CountedOutcome) (more : List (List Event)) → with_those (result_of S J H) (Some (or_more found (of_one S J H))) more ≡ with_those (result_of S J H) found (H ∷ more)
 unfolding with_those or_more
-one_coming J H None more = let sum : 1 + length more ≡ length (H ∷ more) = omega arith in rw sum refl
-one_coming J H (Some p) more = let sum : p.histories + 1 + length more ≡ p.histories + length (H ∷ more) = omega arith in rw sum refl
+one_coming S J H None more = let sum : 1 + length more ≡ length (H ∷ more) = omega arith in rw sum refl
+one_coming S J H (Some p) more = let sum : p.histories + 1 + length more ≡ p.histories + length (H ∷ more) = omega arith in rw sum refl
 
-module _ (J : Judging) (text : List ℕ) where
-  found_by : (T : List CountedOutcome) (H : List Event) (L : List (List Event)) (b : Bool) → bytes_eq (result_of J H) text ≡ b
-      → ((T : List CountedOutcome) → find (has_text text) (tallied J T L) ≡ with_those text (find (has_text text) T) (coming_to J text L))
-      → find (has_text text) (tallied J T (H ∷ L)) ≡ with_those text (find (has_text text) T) (coming_to J text (H ∷ L))
+module _ (S : Script) (J : Judging) (text : List ℕ) where
+  found_by : (T : List CountedOutcome) (H : List Event) (L : List (List Event)) (b : Bool) → bytes_eq (result_of S J H) text ≡ b
+      → ((T : List CountedOutcome) → find (has_text text) (tallied S J T L) ≡ with_those text (find (has_text text) T) (coming_to S J text L))
+      → find (has_text text) (tallied S J T (H ∷ L)) ≡ with_those text (find (has_text text) T) (coming_to S J text (H ∷ L))
   unfolding tallied
   found_by T H L true e before =
-      let same : result_of J H ≡ text = name_eq-true (result_of J H) text e in
-      let here : find (has_text text) (added (of_one J H) T) ≡ Some (or_more (find (has_text text) T) (of_one J H)) = subst (λ t. find (has_text t) (added (of_one J H) T) ≡ Some (or_more (find (has_text t) T) (of_one J H))) same (found_same (of_one J H) T) in
-      let one : with_those text (Some (or_more (find (has_text text) T) (of_one J H))) (coming_to J text L) ≡ with_those text (find (has_text text) T) (H ∷ coming_to J text L) =
-      subst (λ t. with_those t (Some (or_more (find (has_text text) T) (of_one J H))) (coming_to J text L) ≡ with_those t (find (has_text text) T) (H ∷ coming_to J text L)) same (one_coming J H (find (has_text text) T) (coming_to J text L)) in
-      rw e (before (added (of_one J H) T) ∙ (ap (λ o. with_those text o (coming_to J text L)) here ∙ one))
-  found_by T H L false e before = rw e (before (added (of_one J H) T) ∙ ap (λ o. with_those text o (coming_to J text L)) (found_other (of_one J H) text e T))
+      let same : result_of S J H ≡ text = name_eq-true (result_of S J H) text e in
+      let here : find (has_text text) (added (of_one S J H) T) ≡ Some (or_more (find (has_text text) T) (of_one S J H)) = subst (λ t. find (has_text t) (added (of_one S J H) T) ≡ Some (or_more (find (has_text t) T) (of_one S J H))) same (found_same (of_one S J H) T) in
+      let one : with_those text (Some (or_more (find (has_text text) T) (of_one S J H))) (coming_to S J text L) ≡ with_those text (find (has_text text) T) (H ∷ coming_to S J text L) =
+      subst (λ t. with_those t (Some (or_more (find (has_text text) T) (of_one S J H))) (coming_to S J text L) ≡ with_those t (find (has_text text) T) (H ∷ coming_to S J text L)) same (one_coming S J H (find (has_text text) T) (coming_to S J text L)) in
+      rw e (before (added (of_one S J H) T) ∙ (ap (λ o. with_those text o (coming_to S J text L)) here ∙ one))
+  found_by T H L false e before = rw e (before (added (of_one S J H) T) ∙ ap (λ o. with_those text o (coming_to S J text L)) (found_other (of_one S J H) text e T))
 
-  found : (T : List CountedOutcome) (L : List (List Event)) → find (has_text text) (tallied J T L) ≡ with_those text (find (has_text text) T) (coming_to J text L)
+  found : (T : List CountedOutcome) (L : List (List Event)) → find (has_text text) (tallied S J T L) ≡ with_those text (find (has_text text) T) (coming_to S J text L)
   unfolding tallied
   found T [] = no_more text (find (has_text text) T)
-  found T (H ∷ L) = found_by T H L (bytes_eq (result_of J H) text) refl (λ T. found T L)
+  found T (H ∷ L) = found_by T H L (bytes_eq (result_of S J H) text) refl (λ T. found T L)
 
-pub finds_each : (J : Judging) (histories : List (List Event)) (text : List ℕ) → find (has_text text) (outcomes J histories) ≡ outcome_with text (coming_to J text histories)
+pub finds_each : (S : Script) (J : Judging) (histories : List (List Event)) (text : List ℕ) → find (has_text text) (outcomes S J histories) ≡ outcome_with text (coming_to S J text histories)
 unfolding with_those
-finds_each J histories text = found J text [] histories
+finds_each S J histories text = found S J text [] histories

@@ -3,6 +3,7 @@ mod ByDelays
 mod Counts
 mod FoundTexts
 mod InHand
+mod Marking
 mod Merging
 mod OneWalk
 mod PassByPass

@@ -4,6 +4,7 @@ use Rattle.std.proofs.Common.{◌≡◌, ℕ, ◌+◌, Bool, true, false, ◌||�
 use Rattle.hist_model.proofs.Look.{name_eq-true}
 use Rattle.hist_model.specs.ReportAudit.{Judging}
 use Rattle.hist_model.specs.declared.event.Event.{Event}
+use Rattle.hist_model.specs.declared.script.Script.{Script}
 use Rattle.explorer.specs.Tallies.{CountedOutcome, added, merged, of_one, outcomes, tallied, with_more}
 
 -- an outcome with this text is among them
@@ -84,24 +85,24 @@ behind h (o ∷ U) T = behind_by h o U T (bytes_eq o.text h.text) refl (behind h
 
 -- ---- Histories behind others
 
-tallied_behind : (J : Judging) (T U : List CountedOutcome) (M : List (List Event)) → tallied J (merged T U) M ≡ merged T (tallied J U M)
+tallied_behind : (S : Script) (J : Judging) (T U : List CountedOutcome) (M : List (List Event)) → tallied S J (merged T U) M ≡ merged T (tallied S J U M)
 unfolding tallied
-tallied_behind J T U [] = refl
-tallied_behind J T U (H ∷ M) = ap (λ (Y : List CountedOutcome). tallied J Y M) (behind (of_one J H) U T) ∙ tallied_behind J T (added (of_one J H) U) M
+tallied_behind S J T U [] = refl
+tallied_behind S J T U (H ∷ M) = ap (λ (Y : List CountedOutcome). tallied S J Y M) (behind (of_one S J H) U T) ∙ tallied_behind S J T (added (of_one S J H) U) M
 
-tallied_both : (J : Judging) (T : List CountedOutcome) (L M : List (List Event)) → tallied J T (L ++ M) ≡ tallied J (tallied J T L) M
+tallied_both : (S : Script) (J : Judging) (T : List CountedOutcome) (L M : List (List Event)) → tallied S J T (L ++ M) ≡ tallied S J (tallied S J T L) M
 unfolding tallied
-tallied_both J T [] M = refl
-tallied_both J T (H ∷ L) M = tallied_both J (added (of_one J H) T) L M
+tallied_both S J T [] M = refl
+tallied_both S J T (H ∷ L) M = tallied_both S J (added (of_one S J H) T) L M
 
-pub outcomes_both : (J : Judging) (L M : List (List Event)) → outcomes J (L ++ M) ≡ merged (outcomes J L) (outcomes J M)
+pub outcomes_both : (S : Script) (J : Judging) (L M : List (List Event)) → outcomes S J (L ++ M) ≡ merged (outcomes S J L) (outcomes S J M)
 unfolding merged
-outcomes_both J L M = tallied_both J [] L M ∙ tallied_behind J (outcomes J L) [] M
+outcomes_both S J L M = tallied_both S J [] L M ∙ tallied_behind S J (outcomes S J L) [] M
 
 -- a history behind others
-pub outcomes_more : (J : Judging) (L : List (List Event)) (H : List Event) → outcomes J (L ++ H ∷ []) ≡ added (of_one J H) (outcomes J L)
+pub outcomes_more : (S : Script) (J : Judging) (L : List (List Event)) (H : List Event) → outcomes S J (L ++ H ∷ []) ≡ added (of_one S J H) (outcomes S J L)
 unfolding tallied
-outcomes_more J L H = tallied_both J [] L (H ∷ [])
+outcomes_more S J L H = tallied_both S J [] L (H ∷ [])
 
 -- outcomes behind others, one after another
 pub merged_more : (T U : List CountedOutcome) (o : CountedOutcome) → merged T (U ++ o ∷ []) ≡ added o (merged T U)

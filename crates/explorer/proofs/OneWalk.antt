@@ -30,7 +30,7 @@ module _ (P : Policy) (S : Script) (W d : ℕ) where
         let told : TellsBy P S (walks_of P S W d) b = subst (λ (ws : List Walk). TellsBy P S ws b) list part.tells in
         subst (λ n. TellsBy P S (walks_of P S W n) b) (sym part.bound_is) told
 
-    module _ (left : ℕ) (history : List Event) (rest : Walker) (ended : EndsFirst P S W part.more left history rest) where
+    module _ (left : ℕ) (history : List Event) (places : List ℕ) (rest : Walker) (ended : EndsFirst P S W part.more left history places rest) where
       walks_here : walks_of P S W d ≡ part.done ++ ended.walk ∷ ended.more
       walks_here = part.walks_are ∙ ap (λ (ws : List Walk). part.done ++ ws) ended.walks_are
 

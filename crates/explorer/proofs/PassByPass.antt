@@ -24,24 +24,24 @@ has_room b n e f = leb-false event_limit n (sym e ∙ f)
 -- ---- A walk more
 
 -- no history is left
-none_more : (P : Policy) (t : Tally) → Explores P [] t true t
+none_more : (P : Policy) (S : Script) (t : Tally) → Explores P S [] t true t
 unfolding taken none_left
-none_more P t = record { tells = λ L h. rw append-nil h; whole_is = refl }
+none_more P S t = record { tells = λ L h. rw append-nil h; whole_is = refl }
 
 -- the limit was reached
-none_taken : (P : Policy) (H : List Event) (more : List (List Event)) (t : Tally) → event_limit - t.events ≡ 0 → Explores P (H ∷ more) t false t
+none_taken : (P : Policy) (S : Script) (H : List Event) (more : List (List Event)) (t : Tally) → event_limit - t.events ≡ 0 → Explores P S (H ∷ more) t false t
 unfolding taken none_left
-none_taken P H more t z = record { tells = λ L h. rw (z, append-nil) h; whole_is = rw z refl }
+none_taken P S H more t z = record { tells = λ L h. rw (z, append-nil) h; whole_is = rw z refl }
 
 -- it was not, and a history more was noted
-one_taken : (P : Policy) (H : List Event) (more : List (List Event)) (old new : Tally) → old.events < event_limit → ((L : List (List Event)) → TellsOf P L old → TellsOf P (L ++ H ∷ []) new) → new.events ≡ old.events + length H
-    → (whole : Bool) (end : Tally) → Explores P more new whole end → Explores P (H ∷ more) old whole end
-one_taken P H more old new few tells events whole end e =
+one_taken : (P : Policy) (S : Script) (H : List Event) (more : List (List Event)) (old new : Tally) → old.events < event_limit → ((L : List (List Event)) → TellsOf P S L old → TellsOf P S (L ++ H ∷ []) new) → new.events ≡ old.events + length H
+    → (whole : Bool) (end : Tally) → Explores P S more new whole end → Explores P S (H ∷ more) old whole end
+one_taken P S H more old new few tells events whole end e =
     let room : 0 < event_limit - old.events = omega arith in
     let left : event_limit - old.events - length H ≡ event_limit - new.events = omega (arith, events) in
     record {
       tells = λ L t.
-          let told : TellsOf P ((L ++ H ∷ []) ++ taken (event_limit - new.events) more) end = e.tells (L ++ H ∷ []) (tells L t) in
+          let told : TellsOf P S ((L ++ H ∷ []) ++ taken (event_limit - new.events) more) end = e.tells (L ++ H ∷ []) (tells L t) in
           rw (taken_first (event_limit - old.events) H more room, left) (rw append_assoc at told);
       whole_is = rw (left_first (event_limit - old.events) H more room, left) e.whole_is;
     }
@@ -54,13 +54,13 @@ module _ (P : Policy) (S : Script) (w : Walk) where
   pub full_notes : (t : Tally) → w.left ≡ 0 → event_limit ≤ t.events → Notes P S w t false t
   full_notes t z l whole end rest e n =
       let over = n refl in
-      rw (over.0, over.1, z) (none_taken P (closed P S w) (histories_of P S rest) t (omega arith))
+      rw (over.0, over.1, z) (none_taken P S (closed P S w) (histories_of P S rest) t (omega arith))
 
   pub one_notes : (old new : Tally) → w.left ≡ 0 → old.events < event_limit → (H : List Event) → closed P S w ≡ H
-      → ((L : List (List Event)) → TellsOf P L old → TellsOf P (L ++ H ∷ []) new) → new.events ≡ old.events + length H → Notes P S w old true new
+      → ((L : List (List Event)) → TellsOf P S L old → TellsOf P S (L ++ H ∷ []) new) → new.events ≡ old.events + length H → Notes P S w old true new
   one_notes old new z few H is tells events whole end rest e n =
-      let taken = one_taken P H (histories_of P S rest) old new few tells events whole end (e refl) in
-      rw z (subst (λ (K : List Event). Explores P (K ∷ histories_of P S rest) old whole end) (sym is) taken)
+      let taken = one_taken P S H (histories_of P S rest) old new few tells events whole end (e refl) in
+      rw z (subst (λ (K : List Event). Explores P S (K ∷ histories_of P S rest) old whole end) (sym is) taken)
 
   -- the walk could have had a delay more, so it is no history of the pass
   pub spare_notes : (t : Tally) → 1 ≤ w.left → Notes P S w t true t
@@ -68,32 +68,33 @@ module _ (P : Policy) (S : Script) (w : Walk) where
 
 -- ---- All walks of a pass
 
-pub has_events : (P : Policy) (S : Script) (W : ℕ) (walks : List Walk) (left : ℕ) (history : List Event) (rest : Walker) → EndsFirst P S W walks left history rest → 0 < length history
-has_events P S W walks left history rest ended = subst (λ (H : List Event). 0 < length H) ended.history_is (has_begun P S ended.walk)
+pub has_events : (P : Policy) (S : Script) (W : ℕ) (walks : List Walk) (left : ℕ) (history : List Event) (places : List ℕ) (rest : Walker) → EndsFirst P S W walks left history places rest
+    → 0 < length history
+has_events P S W walks left history places rest ended = subst (λ (H : List Event). 0 < length H) ended.history_is (has_begun P S ended.walk)
 
 module _ (P : Policy) (S : Script) (W d : ℕ) (first : Tally) where
   -- what is told in the end is so of the pass, if it is so of the walks that are left
   abbrev pub IsUnderWay : Tally → Walker → Type 0
-  IsUnderWay t w = (whole : Bool) (end : Tally) → Explores P (histories_of P S (walks_in P W w)) t whole end → Explores P (with_delays P S W d) first whole end
+  IsUnderWay t w = (whole : Bool) (end : Tally) → Explores P S (histories_of P S (walks_in P W w)) t whole end → Explores P S (with_delays P S W d) first whole end
 
   pub begun : (w : Walker) → GoesThrough P S W (walks_of P S W d) w → IsUnderWay first w
   unfolding with_delays
-  begun w g whole end e = subst (λ (ws : List Walk). Explores P (histories_of P S ws) first whole end) (sym g.left) e
+  begun w g whole end e = subst (λ (ws : List Walk). Explores P S (histories_of P S ws) first whole end) (sym g.left) e
 
   module _ (t : Tally) (w : Walker) (so_far : IsUnderWay t w) where
-    pub all_done : walks_in P W w ≡ [] → Explores P (with_delays P S W d) first true t
-    all_done none = so_far true t (subst (λ (ws : List Walk). Explores P (histories_of P S ws) t true t) (sym none) (none_more P t))
+    pub all_done : walks_in P W w ≡ [] → Explores P S (with_delays P S W d) first true t
+    all_done none = so_far true t (subst (λ (ws : List Walk). Explores P S (histories_of P S ws) t true t) (sym none) (none_more P S t))
 
-    module _ (left : ℕ) (history : List Event) (rest : Walker) (ended : EndsFirst P S W (walks_in P W w) left history rest) (new : Tally) (goes_on : Bool) (notes : Notes P S ended.walk t goes_on new) where
-      one_more : (whole : Bool) (end : Tally) → Explores P (histories_of P S (ended.walk ∷ ended.more)) t whole end → Explores P (with_delays P S W d) first whole end
-      one_more whole end e = so_far whole end (subst (λ (ws : List Walk). Explores P (histories_of P S ws) t whole end) (sym ended.walks_are) e)
+    module _ (left : ℕ) (history : List Event) (places : List ℕ) (rest : Walker) (ended : EndsFirst P S W (walks_in P W w) left history places rest) (new : Tally) (goes_on : Bool) (notes : Notes P S ended.walk t goes_on new) where
+      one_more : (whole : Bool) (end : Tally) → Explores P S (histories_of P S (ended.walk ∷ ended.more)) t whole end → Explores P S (with_delays P S W d) first whole end
+      one_more whole end e = so_far whole end (subst (λ (ws : List Walk). Explores P S (histories_of P S ws) t whole end) (sym ended.walks_are) e)
 
-      pub stopped : goes_on ≡ false → Explores P (with_delays P S W d) first false new
+      pub stopped : goes_on ≡ false → Explores P S (with_delays P S W d) first false new
       stopped e = one_more false new (notes false new ended.more (λ t. cc) (λ f. (refl, refl)))
 
       pub went_on : goes_on ≡ true → IsUnderWay new rest
       went_on e whole end more =
-          one_more whole end (notes whole end ended.more (λ t. subst (λ (ws : List Walk). Explores P (histories_of P S ws) new whole end) (sym ended.goes_on.left) more) (λ f. cc))
+          one_more whole end (notes whole end ended.more (λ t. subst (λ (ws : List Walk). Explores P S (histories_of P S ws) new whole end) (sym ended.goes_on.left) more) (λ f. cc))
 
 -- ---- One pass after another
 
@@ -107,12 +108,12 @@ module _ (P : Policy) (S : Script) (W : ℕ) where
   fewer_and zero = refl
   fewer_and (suc d) = refl
 
-  pub none_before : (t : Tally) → TellsOf P [] t → IsSoFar P S W 0 t
+  pub none_before : (t : Tally) → TellsOf P S [] t → IsSoFar P S W 0 t
   unfolding none_left
   none_before t tells = record { tells = tells; none_is_left = refl }
 
-  module _ (d : ℕ) (old new : Tally) (so_far : IsSoFar P S W d old) (whole : Bool) (pass : Explores P (with_delays P S W d) old whole new) where
-    pub pass_tells : TellsOf P (taken event_limit (explored P S W d)) new
+  module _ (d : ℕ) (old new : Tally) (so_far : IsSoFar P S W d old) (whole : Bool) (pass : Explores P S (with_delays P S W d) old whole new) where
+    pub pass_tells : TellsOf P S (taken event_limit (explored P S W d)) new
     pass_tells =
         let tells = pass.tells (with_fewer P S W d) so_far.tells in
         let all = taken_all event_limit (with_fewer P S W d) (with_delays P S W d) so_far.none_is_left in
@@ -141,17 +142,17 @@ module _ (P : Policy) (S : Script) (W : ℕ) where
         }
 
     module _ (x : Exploration) (histories : x.histories ≡ new.histories) (events : x.events ≡ new.events) (longest : x.longest ≡ new.longest) (found : x.outcomes ≡ new.outcomes) (whole_is : x.whole ≡ whole) (D : ℕ) (within : d ≤ D) where
-      told_here : TellsFirst P (explored P S W d) x
+      told_here : TellsFirst P S (explored P S W d) x
       told_here = told_first P S W (explored P S W d) new x pass_tells histories events longest found (whole_is ∙ pass_whole)
 
-      pub ends_left : whole ≡ false → TellsFirst P (explored P S W D) x
+      pub ends_left : whole ≡ false → TellsFirst P S (explored P S W D) x
       ends_left e = told_left P S W d D within (sym pass_whole ∙ e) x told_here
 
-      pub ends_none : whole ≡ true → new.histories ≡ old.histories → TellsFirst P (explored P S W D) x
+      pub ends_none : whole ≡ true → new.histories ≡ old.histories → TellsFirst P S (explored P S W D) x
       ends_none e same = told_no_more P S W d D within (pass_none e same) x told_here
 
   -- after the last pass
-  pub ends_whole : (n d : ℕ) → n ≡ suc d → (t : Tally) → IsSoFar P S W n t → (x : Exploration) → x.histories ≡ t.histories → x.events ≡ t.events → x.longest ≡ t.longest → x.outcomes ≡ t.outcomes → x.whole ≡ true → TellsFirst P (explored P S W d) x
+  pub ends_whole : (n d : ℕ) → n ≡ suc d → (t : Tally) → IsSoFar P S W n t → (x : Exploration) → x.histories ≡ t.histories → x.events ≡ t.events → x.longest ≡ t.longest → x.outcomes ≡ t.outcomes → x.whole ≡ true → TellsFirst P S (explored P S W d) x
   ends_whole n d e t so_far x histories events longest found whole =
       let here = subst (λ n. IsSoFar P S W n t) e so_far in
       told_whole P S W (explored P S W d) t x here.none_is_left here.tells histories events longest found whole

@@ -21,7 +21,7 @@ use Rattle.explorer.proofs.Pending.{after_more, last_inside, later_more, left_en
 module _ (P : Policy) (S : Script) (W : ℕ) where
   -- a run has come to what has happened in it
   pub run_here : (K : List Event) (r : Run) → IsRun P S K r → IsRun P S (story r) r
-  run_here K r i = record { at = record { served = i.at.served; script = i.at.script; events = refl }; hands = rw i.at.events i.hands }
+  run_here K r i = record { at = record { served = i.at.served; script = i.at.script; events = refl }; hands = rw i.at.events i.hands; marks_are = rw i.at.events i.marks_are }
 
   -- and the same turns lead there
   pub same_turns : (fs gs : List Frame) (r : Run) → fs ≡ gs → HasCome P S W fs r → HasCome P S W gs r
@@ -85,7 +85,7 @@ module _ (P : Policy) (S : Script) (W : ℕ) where
   pub replayed : (r : Run) (fs : List Frame) (i : ℕ) → length fs ≤ i → IsRun P S (story r) r → after P S (story r) (drop i fs) ≡ after P S (started S) fs → AreTurns P S W (started S) fs → HasCome P S W fs r
   replayed r fs i l at to t =
       let is : story r ≡ after P S (started S) fs = sym (all_after (story r) fs i l) ∙ to in
-      record { run = record { at = record { served = at.at.served; script = at.at.script; events = is }; hands = rw (← is) at.hands }; turns = t }
+      record { run = record { at = record { served = at.at.served; script = at.at.script; events = is }; hands = rw (← is) at.hands; marks_are = rw (← is) at.marks_are }; turns = t }
 
   -- ---- The last turn is taken back
 

@@ -25,13 +25,15 @@ last_place p (f ∷ more) = last_place f.place more
 -- each of these turns is that of an actor that is able to step
 unfoldable pub AreTurns : Policy → Script → ℕ → List Event → List Frame → Type 0
 AreTurns P S W K [] = ⊤
-AreTurns P S W K (f ∷ more) = (f.place < places W K) × (is_able P S K (at_place K f.place) ≡ true) × AreTurns P S W (with_turn P S K f.place) more
+AreTurns P S W K (f ∷ more) =
+    (f.place < places W K) × (is_able P S K (at_place K f.place) ≡ true) × AreTurns P S W (with_turn P S K f.place) more
 
 -- the walks that begin with some of these turns, and then have a later turn in place of the next one
 unfoldable pub pending : Policy → Script → ℕ → List Event → ℕ → List Frame → List Walk
 pending P S W K p [] = []
 pending P S W K p (f ∷ more) =
-    pending P S W (with_turn P S K f.place) f.place more ++ later (λ q r. walks_on P S W (with_turn P S K q) q r) (able_from P S W K p f.next) f.left
+    pending P S W (with_turn P S K f.place) f.place more
+    ++ later (λ q r. walks_on P S W (with_turn P S K q) q r) (able_from P S W K p f.next) f.left
 
 -- ---- The same of turns from the start on
 
@@ -45,4 +47,5 @@ left_from P S W fs d = walks_on P S W (after P S (started S) fs) (last_place 0 f
 
 -- the walks on from these turns on by a turn of one from the q-th place on, with d delays more at most
 abbrev pub later_from : Policy → Script → ℕ → List Frame → ℕ → ℕ → List Walk
-later_from P S W fs q d = by_delays (λ p r. walks_on P S W (with_turn P S (after P S (started S) fs) p) p r) (able_from P S W (after P S (started S) fs) (last_place 0 fs) q) d
+later_from P S W fs q d = by_delays (λ p r. walks_on P S W (with_turn P S (after P S (started S) fs) p) p r)
+    (able_from P S W (after P S (started S) fs) (last_place 0 fs) q) d

@@ -7,6 +7,7 @@ use Rattle.hist_model.specs.declared.event.Actor.{Actor}
 use Rattle.hist_model.specs.declared.event.Actor.TheVariants.{Task, Worker}
 use Rattle.hist_model.specs.declared.event.Event.{Event}
 use Rattle.hist_model.specs.declared.policy.Policy.{Policy}
+use Rattle.hist_model.specs.declared.script.Script.{Script}
 use Rattle.hist_model.specs.declared.script.Step.{Step}
 use Rattle.explorer.specs.Taken.{all_events, event_limit, longest, none_left, taken}
 use Rattle.explorer.specs.Tallies.{CountedOutcome, outcomes}
@@ -37,7 +38,8 @@ or_none (b ∷ text) = b ∷ text
 
 -- an outcome with its number
 abbrev pub outcome_block : ℕ → CountedOutcome → List ℕ
-outcome_block n o = codes "outcome " ++ decimal n ++ codes " histories=" ++ decimal o.histories ++ codes "\n" ++ or_none o.text ++ schedule_block o.schedule
+outcome_block n o =
+    codes "outcome " ++ decimal n ++ codes " histories=" ++ decimal o.histories ++ codes "\n" ++ or_none o.text ++ schedule_block o.schedule
 
 -- the outcomes, numbered from n on
 unfoldable pub blocks : ℕ → List CountedOutcome → List ℕ
@@ -46,22 +48,40 @@ blocks n (o ∷ more) = outcome_block n o ++ blocks (n + 1) more
 
 -- ---- In all
 
-abbrev pub yes_or_no : Bool → List ℕ
-yes_or_no true = codes "yes"
-yes_or_no false = codes "no"
+-- the bound of delays, or `all` where there is none
+abbrev pub delays_word : Option ℕ → List ℕ
+delays_word (Some delays) = decimal delays
+delays_word None = codes "all"
 
--- how many histories there are, how many events they have together, how many the longest has, how many outcomes there are, and whether no history is left
-abbrev pub counts_line : ℕ → ℕ → ℕ → ℕ → Bool → List ℕ
-counts_line histories events longest found whole =
-    codes "explored histories=" ++ decimal histories ++ codes " events=" ++ decimal events ++ codes " longest=" ++ decimal longest
-    ++ codes " outcomes=" ++ decimal found ++ codes " whole=" ++ yes_or_no whole ++ codes "\n"
+-- with these delays: `no` where a history is left; where none is, `yes` without a bound, and `bound` of those within one
+abbrev pub whole_word : Option ℕ → Bool → List ℕ
+whole_word delays false = codes "no"
+whole_word None true = codes "yes"
+whole_word (Some delays) true = codes "bound"
+
+-- the last worker and the bound of delays
+abbrev pub bounds_words : ℕ → Option ℕ → List ℕ
+bounds_words workers delays = codes "explored workers=" ++ decimal workers ++ codes " delays=" ++ delays_word delays
+
+-- how many histories there are, how many events they have together, how many the longest has, and how many outcomes there are
+abbrev pub counts_words : ℕ → ℕ → ℕ → ℕ → List ℕ
+counts_words histories events longest found =
+    codes " histories=" ++ decimal histories ++ codes " events=" ++ decimal events ++ codes " longest=" ++ decimal longest
+    ++ codes " outcomes=" ++ decimal found
+
+-- the first line: the bounds, the counts, and whether no history is left
+abbrev pub counts_line : ℕ → Option ℕ → ℕ → ℕ → ℕ → ℕ → Bool → List ℕ
+counts_line workers delays histories events longest found whole =
+    bounds_words workers delays ++ counts_words histories events longest found ++ codes " whole=" ++ whole_word delays whole ++ codes "\n"
 
 -- what is told of these histories
-abbrev pub told : Policy → List (List Event) → Bool → List ℕ
-told P histories whole =
-    counts_line (length histories) (all_events histories) (longest histories) (length (outcomes (judging_by P.rules) histories)) whole
-    ++ blocks 1 (outcomes (judging_by P.rules) histories)
+abbrev pub told : Policy → Script → ℕ → Option ℕ → List (List Event) → Bool → List ℕ
+told P S workers delays histories whole =
+    counts_line workers delays (length histories) (all_events histories)
+    (longest histories) (length (outcomes S (judging_by P.rules) histories)) whole
+    ++ blocks 1 (outcomes S (judging_by P.rules) histories)
 
--- what is printed of the histories of a list: of the first of them, as long as fewer events than the limit were explored before
-abbrev pub printed : Policy → List (List Event) → List ℕ
-printed P histories = told P (taken event_limit histories) (none_left event_limit histories)
+-- what is printed of the histories of a list, which are those of a script by workers up to a last one and within a bound of delays or
+-- none: of the first of them, as long as fewer events than the limit were explored before
+abbrev pub printed : Policy → Script → ℕ → Option ℕ → List (List Event) → List ℕ
+printed P S workers delays histories = told P S workers delays (taken event_limit histories) (none_left event_limit histories)

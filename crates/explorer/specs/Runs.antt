@@ -1,4 +1,4 @@
--- What a run has come to: a machine with what is known of its workers' hands.
+-- What a run has come to: a machine with what is known of its workers' hands, and the marks of what they did.
 use Rattle.std.specs.Prelude.{◌≡◌, ℕ, ◌<◌, Bool, true, false, List, [], ◌∷◌, Option, Some, None}
 use Rattle.broker_machine.specs.Serving.{IsAt}
 use Rattle.hist_model.specs.Legal.{with_step}
@@ -12,11 +12,13 @@ use Rattle.explorer.specs.Frames.{able_from}
 use Rattle.explorer.specs.InHand.{Tells}
 use Rattle.explorer.specs.declared.run.Run.{Run}
 use Rattle.explorer.specs.declared.run.Turn.{Turn}
+use Rattle.outcome_text.specs.Sight.{marks}
 
 -- the run has come to this history of a policy and a script
 pub record IsRun (P : Policy) (S : Script) (K : List Event) (r : Run) : Type 0 where
   pub at : IsAt P S K r.machine
   pub hands : Tells K r.hands
+  pub marks_are : r.marks.list.items ≡ marks S K
 
 -- what has happened in it
 abbrev pub story : Run → List Event
@@ -46,5 +48,6 @@ able_in P W r p q = able_from P (script_in r) W (story r) p q
 -- the first of them had the turn; or there is none, and nothing has changed
 abbrev pub Finds : Policy → ℕ → Run → ℕ → ℕ → Option Turn → Run → Type 0
 Finds P W old p q None new = Comes P old (story old) new × (able_in P W old p q ≡ [])
-Finds P W old p q (Some t) new = Comes P old (with_turn P (script_in old) (story old) t.place) new × (able_in P W old p q ≡ t.place ∷ able_in P W old p t.next)
+Finds P W old p q (Some t) new =
+    Comes P old (with_turn P (script_in old) (story old) t.place) new × (able_in P W old p q ≡ t.place ∷ able_in P W old p t.next)
     × (t.place < places W (story old)) × (is_able P (script_in old) (story old) (at_place (story old) t.place) ≡ true)

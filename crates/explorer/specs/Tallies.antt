@@ -3,6 +3,7 @@ use Rattle.std.specs.Prelude.{ℕ, ◌+◌, Bool, if◌then◌else◌, bytes_eq,
 use Rattle.hist_model.specs.ReportAudit.{Judging}
 use Rattle.hist_model.specs.ScriptRules.{steps_of}
 use Rattle.hist_model.specs.declared.event.Event.{Event}
+use Rattle.hist_model.specs.declared.script.Script.{Script}
 use Rattle.hist_model.specs.declared.script.Step.{Step}
 use Rattle.outcome_text.specs.Outcomes.{result_of}
 use Rattle.delay_bounded.specs.Schedules.{schedule_of}
@@ -34,8 +35,8 @@ abbrev pub counted : List CountedOutcome → ℕ
 counted found = sum_by (λ (o : CountedOutcome). o.histories) found
 
 -- the outcome of one history
-abbrev pub of_one : Judging → List Event → CountedOutcome
-of_one J H = record { text = result_of J H; histories = 1; schedule = playing H }
+abbrev pub of_one : Script → Judging → List Event → CountedOutcome
+of_one S J H = record { text = result_of S J H; histories = 1; schedule = playing H }
 
 -- with so many histories more
 abbrev pub with_more : CountedOutcome → ℕ → CountedOutcome
@@ -51,11 +52,11 @@ unfoldable pub merged : List CountedOutcome → List CountedOutcome → List Cou
 merged found [] = found
 merged found (o ∷ more) = merged (added o found) more
 
--- the outcomes of histories, in the order of their first ones, beside those that were found before
-unfoldable pub tallied : Judging → List CountedOutcome → List (List Event) → List CountedOutcome
-tallied J found [] = found
-tallied J found (H ∷ more) = tallied J (added (of_one J H) found) more
+-- the outcomes of histories of a script, in the order of their first ones, beside those that were found before
+unfoldable pub tallied : Script → Judging → List CountedOutcome → List (List Event) → List CountedOutcome
+tallied S J found [] = found
+tallied S J found (H ∷ more) = tallied S J (added (of_one S J H) found) more
 
 -- the outcomes of histories, in the order of their first ones
-abbrev pub outcomes : Judging → List (List Event) → List CountedOutcome
-outcomes J histories = tallied J [] histories
+abbrev pub outcomes : Script → Judging → List (List Event) → List CountedOutcome
+outcomes S J histories = tallied S J [] histories

@@ -5,6 +5,7 @@ use Rattle.hist_model.specs.Legal.{started}
 use Rattle.hist_model.specs.declared.policy.Policy.{Policy}
 use Rattle.hist_model.specs.declared.script.Script.{Script}
 use Rattle.delay_bounded.specs.Explored.{Walk, closed, walks_of}
+use Rattle.outcome_text.specs.Sight.{hidden}
 use Rattle.explorer.specs.Frames.{AreTurns, after, behind, later_from, left_from}
 use Rattle.explorer.specs.Runs.{IsRun, script_in, story}
 use Rattle.explorer.specs.Taken.{event_limit}
@@ -35,14 +36,17 @@ LeadsTo P S W walks fs (Over script) = (script ≡ S) × (walks ≡ [])
 
 -- a run has come to where these walks begin; or there are none, and the turns are as they were
 abbrev pub TurnsLater : Policy → Script → ℕ → List Frame → ℕ → ℕ → List Frame → Next → Type 0
-TurnsLater P S W old q d new (Walks r left) = HasCome P S W new r × (later_from P S W old q d ++ behind P S W old ≡ left_from P S W new left)
+TurnsLater P S W old q d new (Walks r left) =
+    HasCome P S W new r × (later_from P S W old q d ++ behind P S W old ≡ left_from P S W new left)
 TurnsLater P S W old q d new (Over script) = (script ≡ S) × (new ≡ old) × (later_from P S W old q d ≡ [])
 
--- the run is at the end of this walk, which gives its history and the script; and the others are left
-pub record EndsWalk (P : Policy) (S : Script) (W : ℕ) (walks : List Walk) (d : ℕ) (fs : List Frame) (script : Script) (history : List Event) : Type 0 where
+-- the run is at the end of this walk, which gives its history, the places of what is out of sight, and the script; the others are left
+pub record EndsWalk (P : Policy) (S : Script) (W : ℕ) (walks : List Walk) (d : ℕ)
+    (fs : List Frame) (script : Script) (history : List Event) (places : List ℕ) : Type 0 where
   pub walk : Walk
   pub left_is : walk.left ≡ d
   pub history_is : closed P S walk ≡ history
+  pub hidden_is : places ≡ hidden S history
   pub few : length history < 2 ^ 63
   pub walks_are : walks ≡ walk ∷ behind P S W fs
   pub turns : AreTurns P S W (started S) fs
@@ -82,19 +86,21 @@ pub record GoesThrough (P : Policy) (S : Script) (W : ℕ) (walks : List Walk) (
   pub going : IsGoing P W w
   pub left : walks ≡ walks_in P W w
 
--- the first of these walks has so many delays left, and this history; the others are left
-pub record EndsFirst (P : Policy) (S : Script) (W : ℕ) (walks : List Walk) (left : ℕ) (history : List Event) (rest : Walker) : Type 0 where
+-- the first of these walks has so many delays left, this history, and these places of what is out of sight; the others are left
+pub record EndsFirst (P : Policy) (S : Script) (W : ℕ) (walks : List Walk)
+    (left : ℕ) (history : List Event) (places : List ℕ) (rest : Walker) : Type 0 where
   pub walk : Walk
   pub more : List Walk
   pub walks_are : walks ≡ walk ∷ more
   pub left_is : walk.left ≡ left
   pub history_is : closed P S walk ≡ history
+  pub hidden_is : places ≡ hidden S history
   pub few : length history < 2 ^ 63
   pub goes_on : GoesThrough P S W more rest
 
 -- the next of these walks has ended, or there is none
 abbrev pub WalksNext : Policy → Script → ℕ → List Walk → Walked → Type 0
-WalksNext P S W walks (Ended left history rest) = EndsFirst P S W walks left history.events rest
+WalksNext P S W walks (Ended left history hidden rest) = EndsFirst P S W walks left history.events hidden.items rest
 WalksNext P S W walks (All script) = (script ≡ S) × (walks ≡ [])
 
 -- of all walks within a bound some have ended, of which is told; and the others are left

@@ -6,6 +6,7 @@ ghost use Rattle.hist_model.specs.declared.script.Script.{Script};
 ghost use Rattle.delay_bounded.specs.Explored.{Walk, closed, explored, walks_of};
 ghost use Rattle.explorer.specs.Taken.{event_limit};
 ghost use Rattle.explorer.specs.Telling.{TellsOf};
+ghost use Rattle.outcome_text.specs.Sight as sight;
 
 use crate::tally::{EVENT_LIMIT, Tally};
 use hist_model::history::History;
@@ -56,25 +57,26 @@ impl ByDelays {
         Ok(())
     }
 
-    /// With the history of a walk more, which has so many delays left.
+    /// With the history of a walk more, which has so many delays left, and in which the effects at the `hidden` places are out of sight.
     pub(crate) fn note(
         &mut self,
         alloc: Global,
         policy: &BrokerPolicy,
         left: u64,
         history: &History,
+        hidden: &[usize],
     ) -> Result<(), NoMemory>
         requires told { (S : Script) × (ws : List Walk) × TellsBy policy.now S ws self.old }
         requires within { left ≤ self.old.bound }
         requires room { self.old.events < event_limit }
         requires begun { 0 < length history.now.events }
         requires few { length history.now.events < 2 ^ 63 }
-        ensures tells { OnOk result ((S : Script) (ws : List Walk) (w : Walk) → w.left ≡ left → closed policy.now S w ≡ history.now.events → TellsBy policy.now S ws self.old → TellsBy policy.now S (ws ++ w ∷ []) self.new) }
+        ensures tells { OnOk result ((S : Script) (ws : List Walk) (w : Walk) → w.left ≡ left → closed policy.now S w ≡ history.now.events → hidden.now ≡ sight.hidden S history.now.events → TellsBy policy.now S ws self.old → TellsBy policy.now S (ws ++ w ∷ []) self.new) }
         ensures bound { OnOk result (self.new.bound ≡ self.old.bound) }
     {
         let delays = (self.bound - left) as usize;
         self.ready(alloc, delays)?;
-        self.tallies[delays].note(alloc, policy, history)?;
+        self.tallies[delays].note(alloc, policy, history, hidden)?;
         self.events += history.len() as u64;
         Ok(())
     }
@@ -83,7 +85,7 @@ impl ByDelays {
     pub(crate) fn joined(self, alloc: Global) -> Result<Tally, NoMemory>
         requires told { (P : Policy) × (S : Script) × (ws : List Walk) × TellsBy P S ws self }
         requires few { self.events < event_limit }
-        ensures tells { IfOk result (λ all. (P : Policy) (S : Script) (W : ℕ) → TellsBy P S (walks_of P S W self.bound) self → TellsOf P (explored P S W self.bound) all) }
+        ensures tells { IfOk result (λ all. (P : Policy) (S : Script) (W : ℕ) → TellsBy P S (walks_of P S W self.bound) self → TellsOf P S (explored P S W self.bound) all) }
         ensures events { IfOk result (λ all. all.events ≡ self.events) }
     {
         let ByDelays { tallies, .. } = self;

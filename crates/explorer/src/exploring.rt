@@ -52,7 +52,7 @@ pub fn explore(
     delays: Option<u64>,
 ) -> Result<Exploration, NoMemory>
     requires workers { workers ≤ 15 }
-    ensures { IfOk result (λ x. TellsFirst policy.now (explored policy.now script workers (bound_of delays)) x) }
+    ensures { IfOk result (λ x. TellsFirst policy.now script (explored policy.now script workers (bound_of delays)) x) }
 {
     let bound = bound_within(delays);
     match walk_all(alloc, policy, workers, script, bound)? {

@@ -3,6 +3,8 @@
 ghost use Rattle.std.specs.Prelude.{◌≡◌, ◌<◌, ◌+◌, ◌^◌, ◌++◌, ◌∷◌, [], if◌then◌else◌, option_copied, OnOk};
 ghost use Rattle.std.specs.List.{position};
 ghost use Rattle.hist_model.specs.ReportAudit.{judging_by};
+ghost use Rattle.hist_model.specs.declared.script.Script.{Script};
+ghost use Rattle.outcome_text.specs.Sight as sight;
 ghost use Rattle.explorer.specs.Tallies.{CountedOutcome, added, counted, has_text, merged, of_one, with_more};
 
 use crate::schedule::schedule_of;
@@ -87,17 +89,18 @@ fn count(outcomes: &mut [FoundOutcome], text: &[u8], histories: u64) -> bool
     }
 }
 
-/// Counts a history for its outcome.
+/// Counts a history for its outcome, in which the effects at the `hidden` places are out of sight.
 pub(crate) fn add_history(
     alloc: Global,
     outcomes: &mut Vec<FoundOutcome>,
     policy: &Policy,
     history: &History,
+    hidden: &[usize],
 ) -> Result<(), NoMemory>
     requires { counted outcomes.old.items + 1 < 2 ^ 64 }
-    ensures { OnOk result (outcomes.new.items ≡ added (of_one (judging_by policy.now.rules) history.now.events) outcomes.old.items) }
+    ensures { OnOk result ((S : Script) → hidden.now ≡ sight.hidden S history.now.events → outcomes.new.items ≡ added (of_one S (judging_by policy.now.rules) history.now.events) outcomes.old.items) }
 {
-    let text = outcome_of(alloc, policy, history)?;
+    let text = outcome_of(alloc, policy, history, hidden)?;
     if !count(outcomes.as_mut_slice(), text.as_slice(), 1) {
         let schedule = schedule_of(alloc, history)?;
         outcomes.push(FoundOutcome {

@@ -7,7 +7,9 @@
 //! doesn't grow with the number of histories, but with that of their outcomes.
 //!
 //! An outcome is what a history comes to (`outcome_text`). It is kept with its count and the schedule of its first history
-//! (`found.rt`, `schedule.rt`), and the definition of what is told computes (`specs/Tallies.antt`).
+//! (`found.rt`, `schedule.rt`), and the definition of what is told computes (`specs/Tallies.antt`). On which node a worker made a mount
+//! or set an attribute is noted as it does (`marks.rt`), and at the end of the history the tree tells which of these a later effect
+//! took from sight.
 //!
 //! The walks come in the order of the places where they delay, and the list has those with the fewest delays first. So what is told is
 //! kept for each number of delays, and put together in the end (`by_delays.rt`, `one_walk.rt`). Where there are too many events to
@@ -24,6 +26,7 @@ mod found;
 mod frames;
 mod hands;
 pub mod laws;
+mod marks;
 mod one_walk;
 mod passes;
 mod run;

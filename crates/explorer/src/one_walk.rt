@@ -44,9 +44,10 @@ pub(crate) fn walk_all(
             Walked::Ended {
                 left,
                 history,
+                hidden,
                 rest,
             } => {
-                found.note(alloc, policy, left, &history)?;
+                found.note(alloc, policy, left, &history, hidden.as_slice())?;
                 if found.is_full() {
                     return Ok(Attempt::TooMany(rest.into_script()?));
                 }

@@ -5,6 +5,7 @@ ghost use Rattle.hist_model.specs.declared.event.Event.{Event};
 ghost use Rattle.hist_model.specs.declared.script.Script.{Script as ScriptValue};
 ghost use Rattle.delay_bounded.specs.Explored.{Walk, closed, explored, with_delays};
 ghost use Rattle.explorer.specs.Taken.{event_limit};
+ghost use Rattle.outcome_text.specs.Sight as sight;
 ghost use Rattle.explorer.specs.Telling.{Explores, Notes, TellsFirst, TellsOf};
 
 use crate::exploring::Exploration;
@@ -16,19 +17,21 @@ use hist_model::script::Script;
 use std::alloc::Global;
 use sys_abi::memory::NoMemory;
 
-/// Notes the history of a walk that has no delay left. Gives false where there are too many events before it.
+/// Notes the history of a walk that has no delay left, in which the effects at the `hidden` places are out of sight. Gives false where
+/// there are too many events before it.
 fn note_spent(
     alloc: Global,
     policy: &Policy,
     found: &mut Tally,
     left: u64,
     history: &History,
+    hidden: &[usize],
 ) -> Result<bool, NoMemory>
-    requires told { (L : List (List Event)) × TellsOf policy.now L found.old }
+    requires told { (S : ScriptValue) × (L : List (List Event)) × TellsOf policy.now S L found.old }
     requires begun { 0 < length history.now.events }
     requires few { length history.now.events < 2 ^ 63 }
-    ensures told { OnOk result ((L : List (List Event)) × TellsOf policy.now L found.new) }
-    ensures notes { IfOk result (λ goes_on. (S : ScriptValue) (w : Walk) → w.left ≡ left → closed policy.now S w ≡ history.now.events → Notes policy.now S w found.old goes_on found.new) }
+    ensures told { OnOk result ((S : ScriptValue) (L : List (List Event)) → hidden.now ≡ sight.hidden S history.now.events → TellsOf policy.now S L found.old → (M : List (List Event)) × TellsOf policy.now S M found.new) }
+    ensures notes { IfOk result (λ goes_on. (S : ScriptValue) (w : Walk) → w.left ≡ left → closed policy.now S w ≡ history.now.events → hidden.now ≡ sight.hidden S history.now.events → Notes policy.now S w found.old goes_on found.new) }
 {
     if left != 0 {
         return Ok(true);
@@ -36,7 +39,7 @@ fn note_spent(
     if found.is_full() {
         return Ok(false);
     }
-    found.note(alloc, policy, history)?;
+    found.note(alloc, policy, history, hidden)?;
     Ok(true)
 }
 
@@ -51,9 +54,9 @@ fn pass(
     found: &mut Tally,
 ) -> Result<(Script, bool), NoMemory>
     requires workers { workers ≤ 15 }
-    requires told { (L : List (List Event)) × TellsOf policy.now L found.old }
+    requires told { (L : List (List Event)) × TellsOf policy.now script L found.old }
     ensures script { IfOk result (λ r. r.0 ≡ script) }
-    ensures explored { IfOk result (λ r. Explores policy.now (with_delays policy.now script workers delays) found.old r.1 found.new) }
+    ensures explored { IfOk result (λ r. Explores policy.now script (with_delays policy.now script workers delays) found.old r.1 found.new) }
 {
     let mut walker = Walker::begin(alloc, script, delays)?;
     'walks: loop {
@@ -62,9 +65,10 @@ fn pass(
             Walked::Ended {
                 left,
                 history,
+                hidden,
                 rest,
             } => {
-                let goes_on = note_spent(alloc, policy, found, left, &history)?;
+                let goes_on = note_spent(alloc, policy, found, left, &history, hidden.as_slice())?;
                 if !goes_on {
                     return Ok((rest.into_script()?, false));
                 }
@@ -84,7 +88,7 @@ pub(crate) fn explore_by_passes(
 ) -> Result<Exploration, NoMemory>
     requires workers { workers ≤ 15 }
     requires bound { bound ≤ event_limit }
-    ensures { IfOk result (λ x. TellsFirst policy.now (explored policy.now script workers bound) x) }
+    ensures { IfOk result (λ x. TellsFirst policy.now script (explored policy.now script workers bound) x) }
 {
     let mut found = Tally::none(alloc);
     for delays in 0..bound + 1 {

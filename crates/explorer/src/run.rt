@@ -9,9 +9,11 @@ ghost use Rattle.hist_model.specs.declared.event.Event.{Event};
 ghost use Rattle.hist_model.specs.declared.policy.Policy.{Policy as PolicyValue};
 ghost use Rattle.history_frames.specs.Ordinals.{task_name_of, tasks_made};
 ghost use Rattle.model_kernel.specs.Kernels.{IsKernel};
+ghost use Rattle.outcome_text.specs.Sight.{hidden};
 ghost use Rattle.delay_bounded.specs.Circle.{at_place, is_able, places, with_turn};
 
 use crate::hands::Hands;
+use crate::marks::Marks;
 use broker_machine::{Machine, is_task_name};
 use hist_model::event::What;
 use hist_model::history::History;
@@ -20,10 +22,11 @@ use hist_model::script::Script;
 use std::alloc::Global;
 use sys_abi::memory::NoMemory;
 
-/// A machine, and which of its workers have a notification in hand.
+/// A machine, which of its workers have a notification in hand, and the marks of what they did.
 pub(crate) struct Run {
     machine: Machine,
     hands: Hands,
+    marks: Marks,
 }
 
 /// A turn that was found.
@@ -40,6 +43,7 @@ impl Drop for Run {
         let Run {
             machine: _machine,
             hands: _hands,
+            marks: _marks,
         } = self;
     }
 }
@@ -65,6 +69,7 @@ impl Run {
         Ok(Run {
             machine: Machine::new(alloc, script)?,
             hands: Hands::empty(),
+            marks: Marks::none(alloc)?,
         })
     }
 
@@ -92,10 +97,13 @@ impl Run {
             return Ok(false);
         }
         let stepped = self.machine.try_worker(alloc, policy, worker)?;
-        if stepped {
-            self.hands.note(worker, newest(self.machine.history()));
+        if !stepped {
+            return Ok(false);
         }
-        Ok(stepped)
+        let what = newest(self.machine.history());
+        self.hands.note(worker, what);
+        self.marks.mark(self.machine.kernel(), worker, what)?;
+        Ok(true)
     }
 
     /// How many actors stand in the circle.
@@ -170,6 +178,14 @@ impl Run {
         self.machine.kernel().has_few_events();
     }
 
+    /// The places of the effects that a later one took from sight.
+    pub(crate) fn hidden(&self, alloc: Global) -> Result<Vec<usize>, NoMemory>
+        requires going { (P : PolicyValue) × IsGoing P self.now }
+        ensures { IfOk result (λ places. places.items ≡ hidden (script_in self.now) (story self.now)) }
+    {
+        self.marks.hidden(alloc, self.machine.kernel())
+    }
+
     /// The script, and the history with the close of the listener at its end.
     pub(crate) fn closed(self) -> Result<(Script, History), NoMemory>
         ensures script { IfOk result (λ ended. ended.0 ≡ script_in self) }
@@ -178,6 +194,7 @@ impl Run {
         let Run {
             machine,
             hands: _hands,
+            marks: _marks,
         } = self;
         machine.closed()
     }

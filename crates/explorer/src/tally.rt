@@ -3,6 +3,8 @@
 ghost use Rattle.std.specs.Prelude.{◌≡◌, ◌≤◌, ◌<◌, ◌^◌, ◌+◌, ◌++◌, ◌∷◌, [], List, length, nat_le, OnOk};
 ghost use Rattle.hist_model.specs.declared.event.Event.{Event};
 ghost use Rattle.hist_model.specs.declared.policy.Policy.{Policy as PolicyValue};
+ghost use Rattle.hist_model.specs.declared.script.Script.{Script as ScriptValue};
+ghost use Rattle.outcome_text.specs.Sight as sight;
 ghost use Rattle.explorer.specs.Taken.{event_limit};
 
 use crate::exploring::Exploration;
@@ -29,7 +31,7 @@ impl Tally {
 
     /// Of no history.
     pub(crate) fn none(alloc: Global) -> Tally
-        ensures { (P : PolicyValue) → TellsOf P [] result }
+        ensures { (P : PolicyValue) (S : ScriptValue) → TellsOf P S [] result }
     {
         Tally {
             histories: 0,
@@ -60,21 +62,22 @@ impl Tally {
         EVENT_LIMIT <= self.events
     }
 
-    /// With a history more.
+    /// With a history more, in which the effects at the `hidden` places are out of sight.
     pub(crate) fn note(
         &mut self,
         alloc: Global,
         policy: &Policy,
         history: &History,
+        hidden: &[usize],
     ) -> Result<(), NoMemory>
-        requires told { (L : List (List Event)) × TellsOf policy.now L self.old }
+        requires told { (S : ScriptValue) × (L : List (List Event)) × TellsOf policy.now S L self.old }
         requires room { self.old.events < event_limit }
         requires begun { 0 < length history.now.events }
         requires few { length history.now.events < 2 ^ 63 }
-        ensures tells { OnOk result ((L : List (List Event)) → TellsOf policy.now L self.old → TellsOf policy.now (L ++ history.now.events ∷ []) self.new) }
+        ensures tells { OnOk result ((S : ScriptValue) (L : List (List Event)) → hidden.now ≡ sight.hidden S history.now.events → TellsOf policy.now S L self.old → TellsOf policy.now S (L ++ history.now.events ∷ []) self.new) }
         ensures events { OnOk result (self.new.events ≡ self.old.events + length history.now.events) }
     {
-        add_history(alloc, &mut self.outcomes, policy, history)?;
+        add_history(alloc, &mut self.outcomes, policy, history, hidden)?;
         let events = history.len() as u64;
         self.histories += 1;
         self.events += events;
@@ -84,9 +87,9 @@ impl Tally {
 
     /// With the histories of another one behind its own.
     pub(crate) fn join(&mut self, other: Tally) -> Result<(), NoMemory>
-        requires told { (P : PolicyValue) × (L M : List (List Event)) × TellsOf P L self.old × TellsOf P M other }
+        requires told { (P : PolicyValue) × (S : ScriptValue) × (L M : List (List Event)) × TellsOf P S L self.old × TellsOf P S M other }
         requires few { self.old.events + other.events < 2 ^ 64 }
-        ensures tells { OnOk result ((P : PolicyValue) (L M : List (List Event)) → TellsOf P L self.old → TellsOf P M other → TellsOf P (L ++ M) self.new) }
+        ensures tells { OnOk result ((P : PolicyValue) (S : ScriptValue) (L M : List (List Event)) → TellsOf P S L self.old → TellsOf P S M other → TellsOf P S (L ++ M) self.new) }
         ensures events { OnOk result (self.new.events ≡ self.old.events + other.events) }
     {
         let Tally {

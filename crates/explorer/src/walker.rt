@@ -31,13 +31,15 @@ pub(crate) enum Walked {
         /// How many delays the walk has left.
         left: u64,
         history: History,
+        /// The places of the effects that a later one took from sight.
+        hidden: Vec<usize>,
         /// The walks that are left.
         rest: Walker,
     },
     All(Script),
 }
 
-/// Goes on to the end of the walk, which gives its history and the script.
+/// Goes on to the end of the walk, which gives its history, the places of the effects in it that are out of sight, and the script.
 fn walk_out(
     alloc: Global,
     policy: &Policy,
@@ -45,15 +47,16 @@ fn walk_out(
     mut run: Run,
     frames: &mut Vec<Frame>,
     left: u64,
-) -> Result<(Script, History), NoMemory>
+) -> Result<(Script, History, Vec<usize>), NoMemory>
     requires workers { workers ≤ 15 }
     requires come { HasCome policy.now (script_in run) workers frames.old.items run }
-    ensures { IfOk result (λ ended. EndsWalk policy.now (script_in run) workers (left_from policy.now (script_in run) workers frames.old.items left) left frames.new.items ended.0 ended.1.events) }
+    ensures { IfOk result (λ ended. EndsWalk policy.now (script_in run) workers (left_from policy.now (script_in run) workers frames.old.items left) left frames.new.items ended.0 ended.1.events ended.2.items) }
 {
     walk_on(alloc, policy, workers, &mut run, frames, left)?;
     run.has_few_events();
+    let hidden = run.hidden(alloc)?;
     let (script, history) = run.closed()?;
-    Ok((script, history))
+    Ok((script, history, hidden))
 }
 
 impl Walker {
@@ -85,11 +88,19 @@ impl Walker {
         match next {
             Next::Over(script) => Ok(Walked::All(script)),
             Next::Walks { run, left } => {
-                let (script, history) = walk_out(alloc, policy, workers, run, &mut frames, left)?;
+                let (script, history, hidden) = walk_out(
+                    alloc,
+                    policy,
+                    workers,
+                    run,
+                    &mut frames,
+                    left,
+                )?;
                 let next = next_walk(alloc, policy, workers, script, &mut frames)?;
                 Ok(Walked::Ended {
                     left,
                     history,
+                    hidden,
                     rest: Walker { next, frames },
                 })
             }

@@ -66,7 +66,8 @@ abbrev pub IsNext : Kernel → ℕ → Next → Type 0
 IsNext k o Ended = ended (past k) (named k o) ≡ true
 IsNext k o (Waiting id) = (ended (past k) (named k o) ≡ false) × ((c : ℕ) × WaitsIn k o c id)
 IsNext k o (Owed call) = (ended (past k) (named k o) ≡ false) × (call_of (past k) (named k o) ≡ None) × IsOwed k o call
-IsNext k o (Runs bytes room) = (ended (past k) (named k o) ≡ false) × (call_of (past k) (named k o) ≡ None) × (owes_native (past k) (named k o) ≡ false) × IsSupplied k o bytes (vec_capacity room)
+IsNext k o (Runs bytes room) = (ended (past k) (named k o) ≡ false) × (call_of (past k) (named k o) ≡ None)
+    × (owes_native (past k) (named k o) ≡ false) × IsSupplied k o bytes (vec_capacity room)
 
 -- how many bytes the step stores of its own
 abbrev pub stored_bytes : Next → ℕ

@@ -32,7 +32,9 @@ without_notif (Err errno) = Err (Fault errno)
 
 -- what a receive with this buffer tells
 abbrev pub recv_result : List Event → List ℕ → Result (Unit {0}) RecvError
-recv_result K buf = if not (are_zeros buf) then Err (Fault einval) else (if count K == 0 then Err Empty else without_notif (recv_answer K (oldest_unfetched K)))
+recv_result K buf =
+    if not (are_zeros buf) then Err (Fault einval)
+    else (if count K == 0 then Err Empty else without_notif (recv_answer K (oldest_unfetched K)))
 
 -- the bytes of a notification, and those of the buffer where none was received
 abbrev pub bytes_or : List ℕ → Result Notif ℕ → List ℕ
@@ -53,4 +55,6 @@ send_of resp = deed.Send resp.id (back_of resp)
 
 -- what a worker that asks for a descriptor by this structure is told
 abbrev pub put_result : System → List Event → Addfd → Result (Unit {0}) ℕ
-put_result S K asked = if not (may_be_put asked) then Err einval else (if not (S.source asked.srcfd) then Err ebadf else put_answer S K asked (named K asked.id))
+put_result S K asked =
+    if not (may_be_put asked) then Err einval
+    else (if not (S.source asked.srcfd) then Err ebadf else put_answer S K asked (named K asked.id))

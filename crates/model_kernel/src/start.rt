@@ -1,10 +1,12 @@
 //! A kernel's start, and what it says of its tasks and workers.
 
 ghost use Rattle.std.specs.Prelude.{◌≡◌, ◌↔◌, ◌+◌, is_some, ℕ, ◌<◌, [], ◌∷◌, length, Ok, IfOk, IfSome, IfNone, None, true, false};
-ghost use Rattle.hist_model.specs.Legal.{started, Finished};
+ghost use Rattle.hist_model.specs.Files.{files};
+ghost use Rattle.hist_model.specs.Legal.{started, Finished, tree};
 ghost use Rattle.hist_model.specs.Steps.{mem, request_of};
 ghost use Rattle.hist_model.specs.Calls.{count, named};
 ghost use Rattle.hist_model.specs.Tasks.{holder, is_made};
+ghost use Rattle.hist_model.specs.Trees.{ordinal_of};
 ghost use Rattle.hist_model.specs.declared.event.What.TheVariants.{Spawn};
 ghost use Rattle.hist_model.specs.declared.event.SpawnKind.TheVariants.{New};
 ghost use Rattle.history_frames.specs.Ordinals.{tasks_made, task_name_of};
@@ -16,8 +18,10 @@ use crate::kernel::Kernel;
 use crate::resources::Resources;
 use hist_model::event::{Actor, Event, SpawnKind, What};
 use hist_model::history::History;
+use hist_model::request::NodeRef;
 use hist_model::script::Script;
 use hist_model::text::TaskName;
+use mount_tree::tree::Tree;
 use std::alloc::Global;
 use sys_abi::memory::{NoMemory, OrNoMemory};
 use tasks::Tasks;
@@ -114,6 +118,20 @@ impl Kernel {
         ensures { IsKernel self.now → result ≡ count (past self.now) }
     {
         self.resources.listener.count()
+    }
+
+    /// The container's tree.
+    pub fn tree(&self) -> &Tree
+        ensures { IsKernel self.now → result.now.tree ≡ tree self.now.script (past self.now) }
+    {
+        &self.resources.tree
+    }
+
+    /// The directory that a worker has opened for relative paths; none where it has opened none since it last let go.
+    pub fn base(&self, worker: u8) -> Option<NodeRef>
+        ensures { IsKernel self.now → (files self.now.script (past self.now)).base worker ≡ ordinal_of result }
+    {
+        self.resources.workers.base(worker)
     }
 
     /// The name of the task of an ordinal; empty where no task has it.

@@ -1,5 +1,6 @@
 -- Keys in chains: those of one bucket of a hash, from the newest to the oldest.
-use Rattle.std.specs.Prelude.{◌≡◌, ℕ, suc, ◌-◌, ◌*◌, ◌/◌, ◌%◌, ◌^◌, ◌<◌, Bool, true, false, if◌then◌else◌, ◌==◌, List, [], ◌∷◌, length, reverse, take, Option, Some, None, slice_index_or, bit_and, bit_xor}
+use Rattle.std.specs.Prelude.{◌≡◌, ℕ, suc, ◌-◌, ◌*◌, ◌/◌, ◌%◌, ◌^◌, ◌<◌, Bool, true, false, if◌then◌else◌, ◌==◌, List, [], ◌∷◌, length}
+use Rattle.std.specs.Prelude.{reverse, take, Option, Some, None, slice_index_or, bit_and, bit_xor}
 use Rattle.mount_tree.specs.Keys.{Key}
 
 -- FNV-1a of 32 bits, going on from a hash; at the end the upper half goes into the lower

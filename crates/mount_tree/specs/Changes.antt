@@ -42,7 +42,8 @@ AttrSet old new on name value flags (Err attr_error.NoMemory) =
 
 -- what is kept of a mount that is made
 abbrev pub row_of : NewMount → MountRow
-row_of m = record { source = m.source.now; fstype = m.fstype.now; flags = m.flags; options = m.options.now; via = m.via.now; shift = m.shift }
+row_of m =
+    record { source = m.source.now; fstype = m.fstype.now; flags = m.flags; options = m.options.now; via = m.via.now; shift = m.shift }
 
 -- the bytes of a row's texts together
 abbrev pub row_length : MountRow → ℕ

@@ -2,4 +2,5 @@ pub mod Keys
 pub mod Chains
 pub mod Places
 pub mod Changes
+pub mod Looks
 pub mod Stacks

@@ -3,6 +3,7 @@
 ghost use Rattle.std.specs.Prelude.{◌≡◌, ◌∷◌, ◌+◌, ◌^◌, ◌<◌, [], true, false, None, length, reverse, IfSome, OnOk, OnErr};
 ghost use Rattle.hist_model.specs.Trees as trees;
 ghost use Rattle.mount_tree.specs.Changes.{row_of, row_length};
+ghost use Rattle.mount_tree.specs.Looks.{newest_root};
 ghost use Rattle.mount_tree.specs.Stacks.{IsBottom, IsFresh, seen};
 
 use crate::rows::Covered;
@@ -112,6 +113,16 @@ impl Mounts {
         ensures small { result < 2 ^ 63 }
     {
         self.rows.len()
+    }
+
+    /// The root of the newest one.
+    pub fn newest(&self) -> Option<u32>
+        ensures { result ≡ newest_root self.now.rows }
+    {
+        match self.rows.rows().last() {
+            Some(mount) => Some(mount.root),
+            None => None,
+        }
     }
 
     /// The root of the newest mount on a node.

@@ -1,7 +1,8 @@
 //! The tree, with its changes.
 
 ghost use Rattle.std.specs.Prelude.{◌≡◌, true, false, ◌<◌, ◌≤◌, ◌+◌, length, Some, IfOk, IfSome, OnOk, OnErr, None, is_some};
-ghost use Rattle.hist_model.specs.Trees.{bare_tree, stated, with_line, with_node, with_mount, with_attr, ordinal_of, entry, node_at, is_dir_at, attr, up, top, target_of, parent_of, row_in};
+ghost use Rattle.hist_model.specs.Trees.{bare_tree, stated, with_line, with_node, with_mount, with_attr, ordinal_of, entry, node_at, is_dir_at, attr, up, top, mount_on, target_of, parent_of, row_in};
+ghost use Rattle.mount_tree.specs.Looks.{has_value, newest_root};
 ghost use Rattle.mount_tree.specs.Stacks.{IsApart};
 
 use crate::attr_flags::{are_attr_flags, creates_attr, replaces_attr};
@@ -147,6 +148,23 @@ impl Tree {
             left -= 1;
         }
         NodeRef { ordinal }
+    }
+
+    /// Whether something is mounted on a node.
+    pub fn has_mount(&self, n: NodeRef) -> bool
+        ensures { result ≡ is_some (mount_on self.now.tree.mounts n.ordinal) }
+    {
+        self.mounts.mount_on(n.ordinal).is_some()
+    }
+
+    /// The root of the newest mount; none where nothing is mounted.
+    pub fn newest_mount(&self) -> Option<NodeRef>
+        ensures { ordinal_of result ≡ newest_root self.now.tree.mounts }
+    {
+        match self.mounts.newest() {
+            Some(ordinal) => Some(NodeRef { ordinal }),
+            None => None,
+        }
     }
 
     /// The parent of a node; none for the root of a mount.
@@ -316,6 +334,17 @@ impl Tree {
         ensures { result ≡ is_some (attr self.now.tree n.ordinal name.now) }
     {
         self.attrs.attr(n.ordinal, name).is_some()
+    }
+
+    /// Whether the node has an attribute of this name with this value.
+    #[tactic(auto, using(crate::proofs::Found::value_found, crate::proofs::Found::value_absent))]
+    pub fn has_value(&self, n: NodeRef, name: &[u8], value: &[u8]) -> bool
+        ensures { result ≡ has_value (attr self.now.tree n.ordinal name.now) value.now }
+    {
+        match self.attrs.find_row(n.ordinal, name) {
+            Some(row) => row.value.items() == value,
+            None => false,
+        }
     }
 
     /// Sets an attribute of a node (setxattr(2)): `BadFlags` for a flag other than XATTR_CREATE and XATTR_REPLACE;

@@ -6,7 +6,8 @@ use Rattle.std.specs.List.{flat_map}
 use Rattle.std.proofs.lemmas.Bool.{ne_eqb}
 use Rattle.hist_model.proofs.Look.{event_at-above, event_at-here, event_at-older}
 use Rattle.hist_model.specs.Kinds.{is_letgo, starts}
-use Rattle.hist_model.specs.Legal.{is_open_session}
+use Rattle.hist_model.specs.Files.{files}
+use Rattle.hist_model.specs.Legal.{is_open_session, tree}
 use Rattle.hist_model.specs.Look.{Name, ev, event_at, is_task}
 use Rattle.hist_model.specs.ReportAudit.{Judging, has_begun, installed, is_shut, session_at, session_step}
 use Rattle.hist_model.specs.ReportCalls.{outcome}
@@ -17,11 +18,14 @@ use Rattle.hist_model.specs.declared.event.Actor.TheVariants.{Listener, Worker}
 use Rattle.hist_model.specs.declared.event.Event.{Event}
 use Rattle.hist_model.specs.declared.event.What.{What}
 use Rattle.hist_model.specs.declared.event.What.TheVariants.{Close, Recv}
+use Rattle.hist_model.specs.declared.script.Script.{Script}
 use Rattle.sys_abi.specs.declared.wire.Notif.{Notif}
 use Rattle.audit_log.proofs.Opened.{open_is_own}
 use Rattle.audit_log.specs.Served.{session_by, session_for}
 use Rattle.audit_log.specs.SessionStages.{stages_at, stages_step}
-use Rattle.outcome_text.specs.Outcomes.{call_lines, names_with, result_of, task_names}
+use Rattle.outcome_text.specs.Outcomes.{call_lines, names_with, result_of, result_with, task_names}
+use Rattle.outcome_text.specs.Sight.{done_on, hidden}
+use Rattle.outcome_text.proofs.Seen.{hidden_stays}
 use Rattle.outcome_text.proofs.SessionDeeds.{is_own, later-step, shut-stays}
 
 -- ---- The session of a worker that has let go is over
@@ -60,17 +64,19 @@ is_over w r n H begins shut =
 
 -- ---- A step that changes nothing
 
--- after H, the step is no task's, makes none, and receives nothing; a worker that takes it has let go
+-- after H, the step is no task's, makes none, receives nothing, and leaves the tree as it is; a worker that takes it has let go
 pub record IsIdle (H : List Event) (e : Event) : Type 0 where
   pub no_task : (n : Name) → is_task e.who n ≡ false
   pub no_name : (names : List Name) → names_with e.what names ≡ names
   pub no_session : (G : List Event) (c : ℕ) (K : List Event) → session_by G c K e.who e.what ≡ None
   pub let_go : (w : ℕ) → is_own w e ≡ true → is_open_session (session H w) ≡ false
+  pub no_effect : (S : Script) → done_on S (e ∷ H) e.who e.what ≡ None
+  pub same_tree : (S : Script) → tree S (e ∷ H) ≡ tree S H
 
 inside : (H : List Event) (r : ℕ) (e : Event) → event_at H r ≡ Some e → r < length H
 inside H r e is = grind (arith, event_at-above H r)
 
-module _ (J : Judging) (H : List Event) (e : Event) (i : IsIdle H e) where
+module _ (J : Judging) (places : List ℕ) (H : List Event) (e : Event) (i : IsIdle H e) where
   steps_stay : (w r : ℕ) (n : Notif) → event_at H r ≡ Some (ev (Worker w) (Recv (Ok n))) → session_at w r (e ∷ H) ≡ session_at w r H
   steps_stay w r n begins = later-step w r H e (inside H r (ev (Worker w) (Recv (Ok n))) begins) ∙ by (is_own w e) refl
     where
@@ -116,39 +122,63 @@ module _ (J : Judging) (H : List Event) (e : Event) (i : IsIdle H e) where
   unfolding installed
   installed_stays n c = rw (i.no_task n) refl
 
-  line_stays : (n : Name) (K : List Event) (f : Event) → length K < length H → call_lines J (e ∷ H) n K f ≡ call_lines J H n K f
+  line_stays : (n : Name) (K : List Event) (f : Event) → length K < length H → call_lines J places (e ∷ H) n K f ≡ call_lines J places H n K f
   line_stays n K f l = rw (outcome_stays n (length K) l, installed_stays n (length K), for_whole (length K)) refl
 
-  lines_stay : (n : Name) (K : List Event) → length K ≤ length H → lines_of (call_lines J (e ∷ H) n) K ≡ lines_of (call_lines J H n) K
+  lines_stay : (n : Name) (K : List Event) → length K ≤ length H → lines_of (call_lines J places (e ∷ H) n) K ≡ lines_of (call_lines J places H n) K
   unfolding lines_of
   lines_stay n [] l = refl
   lines_stay n (f ∷ K) l = ap₂ (λ xs ys. xs ++ ys) (lines_stay n K (omega arith)) (line_stays n K f (omega arith))
 
-  no_line : (n : Name) → call_lines J (e ∷ H) n H e ≡ []
+  no_line : (n : Name) → call_lines J places (e ∷ H) n H e ≡ []
   no_line n = rw (i.no_task n) refl
 
-  all_stay : (n : Name) → lines_of (call_lines J (e ∷ H) n) (e ∷ H) ≡ lines_of (call_lines J H n) H
+  all_stay : (n : Name) → lines_of (call_lines J places (e ∷ H) n) (e ∷ H) ≡ lines_of (call_lines J places H n) H
   unfolding lines_of
-  all_stay n = ap₂ (λ xs ys. xs ++ ys) (lines_stay n H (omega arith)) (no_line n) ∙ append-nil (lines_of (call_lines J H n) H)
+  all_stay n = ap₂ (λ xs ys. xs ++ ys) (lines_stay n H (omega arith)) (no_line n) ∙ append-nil (lines_of (call_lines J places H n) H)
 
-  names_stay : (names : List Name) → flat_map (λ n. lines_of (call_lines J (e ∷ H) n) (e ∷ H)) names ≡ flat_map (λ n. lines_of (call_lines J H n) H) names
+  names_stay : (names : List Name) → flat_map (λ n. lines_of (call_lines J places (e ∷ H) n) (e ∷ H)) names ≡ flat_map (λ n. lines_of (call_lines J places H n) H) names
   names_stay [] = refl
   names_stay (n ∷ names) = ap₂ (λ xs ys. xs ++ ys) (all_stay n) (names_stay names)
 
-  -- the history comes to the same
-  pub comes_to_same : result_of J (e ∷ H) ≡ result_of J H
-  unfolding result_of task_names
-  comes_to_same = ap (flat_map (λ n. lines_of (call_lines J (e ∷ H) n) (e ∷ H))) (i.no_name (task_names H)) ∙ names_stay (task_names H)
+  -- where the same effects are out of sight, the history comes to the same
+  with_same : result_with J places (e ∷ H) ≡ result_with J places H
+  unfolding result_with task_names
+  with_same = ap (flat_map (λ n. lines_of (call_lines J places (e ∷ H) n) (e ∷ H))) (i.no_name (task_names H)) ∙ names_stay (task_names H)
+
+-- so it comes to the same
+pub comes_to_same : (S : Script) (J : Judging) (H : List Event) (e : Event) → IsIdle H e → result_of S J (e ∷ H) ≡ result_of S J H
+comes_to_same S J H e i = with_same J (hidden S (e ∷ H)) H e i ∙ ap (λ places. result_with J places H) (hidden_stays S H e (i.no_effect S) (i.same_tree S))
 
 -- ---- Which steps they are
 
 -- the close of the listener
 pub close_idle : (H : List Event) → IsIdle H (ev Listener Close)
-close_idle H = record { no_task = λ n. refl; no_name = λ names. refl; no_session = λ G c K. refl; let_go = λ w own. absurd (cc own) }
+unfolding files
+close_idle H = record {
+  no_task = λ n. refl;
+  no_name = λ names. refl;
+  no_session = λ G c K. refl;
+  let_go = λ w own. absurd (cc own);
+  no_effect = λ S. refl;
+  same_tree = λ S. refl;
+}
+
+-- which changes nothing of what is out of sight
+pub close_hides_none : (S : Script) (H : List Event) → hidden S (ev Listener Close ∷ H) ≡ hidden S H
+close_hides_none S H = let i = close_idle H in hidden_stays S H (ev Listener Close) (i.no_effect S) (i.same_tree S)
 
 -- a receive that finds nothing, where each worker has let go
 pub empty_idle : (H : List Event) (w x : ℕ) → ((v : ℕ) → is_open_session (session H v) ≡ false) → IsIdle H (ev (Worker w) (Recv (Err x)))
-empty_idle H w x shut = record { no_task = λ n. refl; no_name = λ names. refl; no_session = λ G c K. refl; let_go = λ v own. shut v }
+unfolding files
+empty_idle H w x shut = record {
+  no_task = λ n. refl;
+  no_name = λ names. refl;
+  no_session = λ G c K. refl;
+  let_go = λ v own. shut v;
+  no_effect = λ S. refl;
+  same_tree = λ S. refl;
+}
 
 -- behind which each worker has let go still
 pub still_let_go : (H : List Event) (w x : ℕ) → ((v : ℕ) → is_open_session (session H v) ≡ false) → (v : ℕ) → is_open_session (session (ev (Worker w) (Recv (Err x)) ∷ H) v) ≡ false

@@ -1,3 +1,4 @@
+pub mod Seen
 pub mod Idle
 pub mod SessionDeeds
 pub mod Lines

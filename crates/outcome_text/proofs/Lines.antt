@@ -29,7 +29,7 @@ use Rattle.audit_log.proofs.Past.{past_more}
 use Rattle.audit_log.proofs.Recorded.{task_of}
 use Rattle.audit_log.proofs.ServedCalls.{session_row}
 use Rattle.audit_log.proofs.SessionFound.{finding_told}
-use Rattle.outcome_text.specs.Outcomes.{call_lines, calls_of, entry_of, is_call_of, result_of, session_text, task_names}
+use Rattle.outcome_text.specs.Outcomes.{call_lines, calls_of, entry_of, is_call_of, result_with, session_text, task_names}
 use Rattle.outcome_text.specs.Tables.{kept_text, lines_by}
 
 -- ---- The steps of a session
@@ -59,23 +59,23 @@ session-steps H c (e ∷ K) s h = by (session_by H c K e.who e.what) refl h (ses
 
 -- ---- A line
 
-session-kept : (J : Judging) (H : List Event) (number : Option ℕ) (o : Option Begun) → ((s : Begun) → o ≡ Some s → s.steps ≡ session_at s.worker s.place H)
-    → kept_text J H number (option_map (told J) o) ≡ session_text J number o
-session-kept J H number None own = refl
-session-kept J H number (Some s) own = rw (finding_told J s, ← own s refl) refl
+session-kept : (J : Judging) (places : List ℕ) (H : List Event) (number : Option ℕ) (o : Option Begun) → ((s : Begun) → o ≡ Some s → s.steps ≡ session_at s.worker s.place H)
+    → kept_text J places H number (option_map (told J) o) ≡ session_text J places number o
+session-kept J places H number None own = refl
+session-kept J places H number (Some s) own = rw (finding_told J s, ← own s refl) refl
 
-module _ (J : Judging) (H : List Event) (calls : CallTable) (rows : List SessionRecord) (served : List (Option ℕ))
+module _ (J : Judging) (places : List ℕ) (H : List Event) (calls : CallTable) (rows : List SessionRecord) (served : List (Option ℕ))
     (tells : TellsCalls H calls) (kept : rows ≡ map (told J) (begun H H)) (sessions : TellsSessions (call_in calls.received) rows (length H) served) where
-  line-same : (n : Name) (later K : List Event) (e : Event) → H ≡ later ++ e ∷ K → lines_by J H calls rows served n K e ≡ call_lines J H n K e
+  line-same : (n : Name) (later K : List Event) (e : Event) → H ≡ later ++ e ∷ K → lines_by J places H calls rows served n K e ≡ call_lines J places H n K e
   line-same n later K e q = by (is_call_of n e) refl
     where
       size : length H ≡ length later + length (e ∷ K)
       size = ap length q ∙ length-append later (e ∷ K)
 
-      session : (number : Option ℕ) → kept_text J H number (row_at rows (get_or served (length K) None)) ≡ session_text J number (session_for H (length K) H)
+      session : (number : Option ℕ) → kept_text J places H number (row_at rows (get_or served (length K) None)) ≡ session_text J places number (session_for H (length K) H)
       session number =
-          ap (kept_text J H number) (session_row J (call_in calls.received) H rows served kept tells.received sessions (length K) (omega (arith, size)))
-          ∙ session-kept J H number (session_for H (length K) H) (session-steps H (length K) H)
+          ap (kept_text J places H number) (session_row J (call_in calls.received) H rows served kept tells.received sessions (length K) (omega (arith, size)))
+          ∙ session-kept J places H number (session_for H (length K) H) (session-steps H (length K) H)
 
       own : is_call_of n e ≡ true → task_name e.who ≡ n
       own h = task_of e.who n (and_parts (is_task e.who n) (enters e.what) h).0
@@ -86,29 +86,29 @@ module _ (J : Judging) (H : List Event) (calls : CallTable) (rows : List Session
       by : (b : Bool) → is_call_of n e ≡ b
           → (if b
           then entry_of n (calls_of n K + 1) e.what (record_in calls.entered (length K)).outcome
-          ++ kept_text J H (record_in calls.entered (length K)).number (row_at rows (get_or served (length K) None))
+          ++ kept_text J places H (record_in calls.entered (length K)).number (row_at rows (get_or served (length K) None))
           else [])
           ≡ (if b
-          then entry_of n (calls_of n K + 1) e.what (outcome n (length K) H) ++ session_text J (installed n (length K) H) (session_for H (length K) H)
+          then entry_of n (calls_of n K + 1) e.what (outcome n (length K) H) ++ session_text J places (installed n (length K) H) (session_for H (length K) H)
           else [])
       by true h =
           let came : (record_in calls.entered (length K)).outcome ≡ outcome n (length K) H = ap (λ r. r.outcome) (tells.records later K e q (entering h)) ∙ ap (λ m. outcome m (length K) H) (own h) in
           let number : (record_in calls.entered (length K)).number ≡ installed n (length K) H = ap (λ r. r.number) (tells.records later K e q (entering h)) ∙ ap (λ m. installed m (length K) H) (own h) in
           ap₂ (λ text more. text ++ more) (ap (entry_of n (calls_of n K + 1) e.what) came)
-          (session (record_in calls.entered (length K)).number ∙ ap (λ m. session_text J m (session_for H (length K) H)) number)
+          (session (record_in calls.entered (length K)).number ∙ ap (λ m. session_text J places m (session_for H (length K) H)) number)
       by false h = refl
 
-  lines-from : (n : Name) (later K : List Event) → H ≡ later ++ K → lines_of (lines_by J H calls rows served n) K ≡ lines_of (call_lines J H n) K
+  lines-from : (n : Name) (later K : List Event) → H ≡ later ++ K → lines_of (lines_by J places H calls rows served n) K ≡ lines_of (call_lines J places H n) K
   unfolding lines_of
   lines-from n later [] q = refl
   lines-from n later (e ∷ K) q =
       let whole : H ≡ (later ++ e ∷ []) ++ K = q ∙ sym (append_assoc later (e ∷ []) K) in
       ap₂ (λ text line. text ++ line) (lines-from n (later ++ e ∷ []) K whole) (line-same n later K e q)
 
-  pub result_same : (names : List Name) → names ≡ task_names H → flat_map (λ n. lines_of (lines_by J H calls rows served n) H) names ≡ result_of J H
-  unfolding result_of
+  pub result_same : (names : List Name) → names ≡ task_names H → flat_map (λ n. lines_of (lines_by J places H calls rows served n) H) names ≡ result_with J places H
+  unfolding result_with
   result_same names q =
-      let same : (λ n. lines_of (lines_by J H calls rows served n) H) ≡ (λ n. lines_of (call_lines J H n) H) = (λ i. λ n. lines-from n [] H refl i) in
+      let same : (λ n. lines_of (lines_by J places H calls rows served n) H) ≡ (λ n. lines_of (call_lines J places H n) H) = (λ i. λ n. lines-from n [] H refl i) in
       ap₂ (λ f xs. flat_map f xs) same q
 
 -- ---- The loop over the events

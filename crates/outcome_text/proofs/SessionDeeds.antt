@@ -71,8 +71,8 @@ begun-before : (own : List What) → is_shut own ≡ false → has_begun own ≡
 begun-before [] h = cc
 begun-before (a ∷ own) h = refl
 
-first-did : (w r : ℕ) (K : List Event) (e : Event) → length K ≡ r → did (session_at w r (e ∷ K)) ≡ did_by e.what
-first-did w r K e q = ap did (first-step w r K e q)
+first-did : (out : Bool) (w r : ℕ) (K : List Event) (e : Event) → length K ≡ r → did out (session_at w r (e ∷ K)) ≡ did_by out e.what
+first-did out w r K e q = ap (did out) (first-step w r K e q)
 
 first-ends : (w r : ℕ) (K : List Event) (e : Event) → length K ≡ r → is_shut (session_at w r (e ∷ K)) ≡ is_letgo e.what
 first-ends w r K e q = ap is_shut (first-step w r K e q) ∙ by (is_letgo e.what) (starts e.what)
@@ -81,13 +81,13 @@ first-ends w r K e q = ap is_shut (first-step w r K e q) ∙ by (is_letgo e.what
     by true s = refl
     by false s = and-false s
 
-later-did : (w r : ℕ) (K : List Event) (e : Event) → r < length K → is_shut (session_at w r K) ≡ false
-    → did (session_at w r (e ∷ K)) ≡ did (session_at w r K) ++ (if is_own w e then did_by e.what else [])
-later-did w r K e l h = ap did (later-step w r K e l) ∙ by (is_own w e) (session_at w r K) h
+later-did : (out : Bool) (w r : ℕ) (K : List Event) (e : Event) → r < length K → is_shut (session_at w r K) ≡ false
+    → did out (session_at w r (e ∷ K)) ≡ did out (session_at w r K) ++ (if is_own w e then did_by out e.what else [])
+later-did out w r K e l h = ap (did out) (later-step w r K e l) ∙ by (is_own w e) (session_at w r K) h
   where
-    by : (b : Bool) (own : List What) → is_shut own ≡ false → did (session_step false b own e.what) ≡ did own ++ (if b then did_by e.what else [])
-    by true own h = ap did (open_joined own e.what h)
-    by false own h = sym (append-nil (did own))
+    by : (b : Bool) (own : List What) → is_shut own ≡ false → did out (session_step false b own e.what) ≡ did out own ++ (if b then did_by out e.what else [])
+    by true own h = ap (did out) (open_joined own e.what h)
+    by false own h = sym (append-nil (did out own))
 
 later-ends : (w r : ℕ) (K : List Event) (e : Event) → r < length K → is_shut (session_at w r K) ≡ false → is_shut (session_at w r (e ∷ K)) ≡ (is_own w e && (is_letgo e.what || starts e.what))
 later-ends w r K e l h = ap is_shut (later-step w r K e l) ∙ by (is_own w e) (session_at w r K) h
@@ -100,66 +100,66 @@ later-ends w r K e l h = ap is_shut (later-step w r K e l) ∙ by (is_own w e) (
 -- ---- The loop
 
 -- what the session that worker w began at place r did in K, after which it isn't over, stands behind a text
-pub record IsTold (w r : ℕ) (K : List Event) (text line : List ℕ) : Type 0 where
+pub record IsTold (out : Bool) (w r : ℕ) (K : List Event) (text line : List ℕ) : Type 0 where
   pub begun : r < length K
-  pub line_is : line ≡ text ++ did (session_at w r K)
+  pub line_is : line ≡ text ++ did out (session_at w r K)
   pub going : is_shut (session_at w r K) ≡ false
 
 -- nothing was done in a session that wasn't begun
-pub none_told : (w r : ℕ) (xs : List Event) (text : List ℕ) → length xs ≤ r → text ≡ text ++ did (session_at w r (reverse xs))
-none_told w r xs text l = sym (append-nil text) ∙ ap (λ own. text ++ did own) (sym (none-begun w r (reverse xs) (omega (arith, length-reverse xs))))
+pub none_told : (out : Bool) (w r : ℕ) (xs : List Event) (text : List ℕ) → length xs ≤ r → text ≡ text ++ did out (session_at w r (reverse xs))
+none_told out w r xs text l = sym (append-nil text) ∙ ap (λ own. text ++ did out own) (sym (none-begun w r (reverse xs) (omega (arith, length-reverse xs))))
 
 -- the first step
-pub first_told : (w r : ℕ) (xs : List Event) (d : Event) (text line : List ℕ) → r < length xs → line ≡ text ++ did_by (get_or xs r d).what → is_letgo (get_or xs r d).what ≡ false
-    → IsTold w r (reverse (take (r + 1) xs)) text line
-first_told w r xs d text line l q h =
+pub first_told : (out : Bool) (w r : ℕ) (xs : List Event) (d : Event) (text line : List ℕ) → r < length xs → line ≡ text ++ did_by out (get_or xs r d).what → is_letgo (get_or xs r d).what ≡ false
+    → IsTold out w r (reverse (take (r + 1) xs)) text line
+first_told out w r xs d text line l q h =
     let e = get_or xs r d in
     let K = reverse (take r xs) in
     let here : length K ≡ r = length_taken xs r (omega arith) in
-    subst (λ H. IsTold w r H text line) (sym (past_more xs r d l)) (record {
+    subst (λ H. IsTold out w r H text line) (sym (past_more xs r d l)) (record {
       begun = omega arith;
-      line_is = q ∙ ap (λ more. text ++ more) (sym (first-did w r K e here));
+      line_is = q ∙ ap (λ more. text ++ more) (sym (first-did out w r K e here));
       going = first-ends w r K e here ∙ h;
     })
 
 -- where it ends the session
-pub first_whole : (w r : ℕ) (xs : List Event) (d : Event) (text line : List ℕ) → r < length xs → line ≡ text ++ did_by (get_or xs r d).what → is_letgo (get_or xs r d).what ≡ true
-    → line ≡ text ++ did (session_at w r (reverse xs))
-first_whole w r xs d text line l q h =
+pub first_whole : (out : Bool) (w r : ℕ) (xs : List Event) (d : Event) (text line : List ℕ) → r < length xs → line ≡ text ++ did_by out (get_or xs r d).what → is_letgo (get_or xs r d).what ≡ true
+    → line ≡ text ++ did out (session_at w r (reverse xs))
+first_whole out w r xs d text line l q h =
     let e = get_or xs r d in
     let K = reverse (take r xs) in
     let here : length K ≡ r = length_taken xs r (omega arith) in
     let m = past_more xs r d l in
     let over : is_shut (session_at w r (reverse (take (r + 1) xs))) ≡ true = ap (λ H. is_shut (session_at w r H)) m ∙ (first-ends w r K e here ∙ h) in
-    q ∙ ap (λ more. text ++ more) (sym (first-did w r K e here) ∙ (ap (λ H. did (session_at w r H)) (sym m) ∙ ap did (sym (whole-session w r xs (r + 1) (omega arith) (omega arith) over))))
+    q ∙ ap (λ more. text ++ more) (sym (first-did out w r K e here) ∙ (ap (λ H. did out (session_at w r H)) (sym m) ∙ ap (did out) (sym (whole-session w r xs (r + 1) (omega arith) (omega arith) over))))
 
 -- a later event
-abbrev deed : ℕ → Event → List ℕ
-deed w e = if is_own w e then did_by e.what else []
+abbrev deed : Bool → ℕ → Event → List ℕ
+deed out w e = if is_own w e then did_by out e.what else []
 
-pub later_told : (w r : ℕ) (xs : List Event) (i : ℕ) (d : Event) (text mid line : List ℕ) → i < length xs → IsTold w r (reverse (take i xs)) text mid
-    → line ≡ mid ++ (if is_own w (get_or xs i d) then did_by (get_or xs i d).what else []) → (is_own w (get_or xs i d) && (is_letgo (get_or xs i d).what || starts (get_or xs i d).what)) ≡ false → IsTold w r (reverse (take (i + 1) xs)) text line
-later_told w r xs i d text mid line l t q h =
+pub later_told : (out : Bool) (w r : ℕ) (xs : List Event) (i : ℕ) (d : Event) (text mid line : List ℕ) → i < length xs → IsTold out w r (reverse (take i xs)) text mid
+    → line ≡ mid ++ (if is_own w (get_or xs i d) then did_by out (get_or xs i d).what else []) → (is_own w (get_or xs i d) && (is_letgo (get_or xs i d).what || starts (get_or xs i d).what)) ≡ false → IsTold out w r (reverse (take (i + 1) xs)) text line
+later_told out w r xs i d text mid line l t q h =
     let e = get_or xs i d in
     let K = reverse (take i xs) in
-    subst (λ H. IsTold w r H text line) (sym (past_more xs i d l)) (record {
+    subst (λ H. IsTold out w r H text line) (sym (past_more xs i d l)) (record {
       begun = omega (arith, t.begun);
-      line_is = q ∙ (ap (λ more. more ++ deed w e) t.line_is ∙ (append_assoc text (did (session_at w r K)) (deed w e) ∙ ap (λ more. text ++ more) (sym (later-did w r K e t.begun t.going))));
+      line_is = q ∙ (ap (λ more. more ++ deed out w e) t.line_is ∙ (append_assoc text (did out (session_at w r K)) (deed out w e) ∙ ap (λ more. text ++ more) (sym (later-did out w r K e t.begun t.going))));
       going = later-ends w r K e t.begun t.going ∙ h;
     })
 
 -- where it ends the session
-pub later_whole : (w r : ℕ) (xs : List Event) (i : ℕ) (d : Event) (text mid line : List ℕ) → i < length xs → IsTold w r (reverse (take i xs)) text mid
-    → line ≡ mid ++ (if is_own w (get_or xs i d) then did_by (get_or xs i d).what else []) → (is_own w (get_or xs i d) && (is_letgo (get_or xs i d).what || starts (get_or xs i d).what)) ≡ true → line ≡ text ++ did (session_at w r (reverse xs))
-later_whole w r xs i d text mid line l t q h =
+pub later_whole : (out : Bool) (w r : ℕ) (xs : List Event) (i : ℕ) (d : Event) (text mid line : List ℕ) → i < length xs → IsTold out w r (reverse (take i xs)) text mid
+    → line ≡ mid ++ (if is_own w (get_or xs i d) then did_by out (get_or xs i d).what else []) → (is_own w (get_or xs i d) && (is_letgo (get_or xs i d).what || starts (get_or xs i d).what)) ≡ true → line ≡ text ++ did out (session_at w r (reverse xs))
+later_whole out w r xs i d text mid line l t q h =
     let e = get_or xs i d in
     let K = reverse (take i xs) in
     let m = past_more xs i d l in
     let b : r < i = omega (arith, t.begun, length_taken xs i (omega arith)) in
     let over : is_shut (session_at w r (reverse (take (i + 1) xs))) ≡ true = ap (λ H. is_shut (session_at w r H)) m ∙ (later-ends w r K e t.begun t.going ∙ h) in
-    q ∙ (ap (λ more. more ++ deed w e) t.line_is ∙ (append_assoc text (did (session_at w r K)) (deed w e)
-    ∙ ap (λ more. text ++ more) (sym (later-did w r K e t.begun t.going) ∙ (ap (λ H. did (session_at w r H)) (sym m) ∙ ap did (sym (whole-session w r xs (i + 1) (omega arith) (omega arith) over))))))
+    q ∙ (ap (λ more. more ++ deed out w e) t.line_is ∙ (append_assoc text (did out (session_at w r K)) (deed out w e)
+    ∙ ap (λ more. text ++ more) (sym (later-did out w r K e t.begun t.going) ∙ (ap (λ H. did out (session_at w r H)) (sym m) ∙ ap (did out) (sym (whole-session w r xs (i + 1) (omega arith) (omega arith) over))))))
 
 -- all events are gone through
-pub all_told : (w r : ℕ) (xs : List Event) (i : ℕ) (text line : List ℕ) → length xs ≤ i → IsTold w r (reverse (take i xs)) text line → line ≡ text ++ did (session_at w r (reverse xs))
-all_told w r xs i text line l t = t.line_is ∙ ap (λ ys. text ++ did (session_at w r (reverse ys))) (take_all i xs l)
+pub all_told : (out : Bool) (w r : ℕ) (xs : List Event) (i : ℕ) (text line : List ℕ) → length xs ≤ i → IsTold out w r (reverse (take i xs)) text line → line ≡ text ++ did out (session_at w r (reverse xs))
+all_told out w r xs i text line l t = t.line_is ∙ ap (λ ys. text ++ did out (session_at w r (reverse ys))) (take_all i xs l)

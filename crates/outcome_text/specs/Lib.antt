@@ -1,2 +1,3 @@
 pub mod Outcomes
+pub mod Sight
 pub mod Tables

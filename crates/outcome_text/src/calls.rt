@@ -5,7 +5,7 @@ ghost use Rattle.std.specs.Prelude.{◌≡◌, ◌<◌, ◌+◌, ◌-◌, ◌^�
 ghost use Rattle.hist_model.specs.ReportAudit.{judging_by};
 ghost use Rattle.hist_model.specs.ReportJournal.{lines_of};
 ghost use Rattle.audit_log.specs.Served.{row_at};
-ghost use Rattle.outcome_text.specs.Outcomes.{is_call_of};
+ghost use Rattle.outcome_text.specs.Outcomes.{is_among, is_call_of};
 ghost use Rattle.outcome_text.specs.Tables.{kept_text, lines_at, lines_by};
 
 use crate::deeds::push_deeds;
@@ -29,6 +29,8 @@ pub(crate) struct Kept<'a> {
     pub(crate) sessions: &'a [SessionRecord],
     /// Of each call, by its place, the row of its session.
     pub(crate) served: &'a [Option<usize>],
+    /// The places of the effects that a later one took from sight.
+    pub(crate) hidden: &'a [usize],
 }
 
 /// Whether the event is a call that the task with this name enters.
@@ -49,6 +51,16 @@ impl Kept<'_> {
         self.sessions.get(place_at(self.served, place)?)
     }
 
+    /// Whether the effect at a place, if there is one, is out of sight.
+    fn is_hidden(&self, effect: Option<usize>) -> bool
+        ensures { result ≡ is_among self.now.hidden.now effect }
+    {
+        match effect {
+            Some(effect) => self.hidden.contains(&effect),
+            None => false,
+        }
+    }
+
     /// Adds the words of the session that received a call, for which this number was installed, and what it did.
     fn push_session(
         &self,
@@ -56,12 +68,13 @@ impl Kept<'_> {
         session: Option<&SessionRecord>,
         number: Option<u32>,
     ) -> Result<(), NoMemory>
-        ensures { OnOk result (line.new ≡ line.old ++ kept_text (judging_by self.now.policy.now.rules) (reverse self.now.events.now) number (option_copied session.entry)) }
+        ensures { OnOk result (line.new ≡ line.old ++ kept_text (judging_by self.now.policy.now.rules) self.now.hidden.now (reverse self.now.events.now) number (option_copied session.entry)) }
     {
         match session {
             Some(session) => {
                 push_audit(line, self.policy, session, number)?;
-                push_deeds(line, self.events, session.place, session.worker)
+                let is_hidden = self.is_hidden(session.stages.effect);
+                push_deeds(line, self.events, session.place, session.worker, is_hidden)
             }
             None => line.push(" rule=- verdict=- reply=-\n"),
         }
@@ -78,7 +91,7 @@ impl Kept<'_> {
         event: &Event,
     ) -> Result<u64, NoMemory>
         requires { before < 2 ^ 64 - 1 }
-        ensures line { IfOk result (λ after. line.new ≡ line.old ++ lines_at (judging_by self.now.policy.now.rules) (reverse self.now.events.now) self.now.calls.now self.now.sessions.now self.now.served.now name.now place before event.now) }
+        ensures line { IfOk result (λ after. line.new ≡ line.old ++ lines_at (judging_by self.now.policy.now.rules) self.now.hidden.now (reverse self.now.events.now) self.now.calls.now self.now.sessions.now self.now.served.now name.now place before event.now) }
         ensures after { IfOk result (λ after. after ≡ before + (if is_call_of name.now event.now then 1 else 0)) }
     {
         if !is_call_of(event, name) {
@@ -97,7 +110,7 @@ impl Kept<'_> {
 
     /// Adds the lines of the calls of a task, from the oldest on.
     pub(crate) fn push_calls(&self, line: &mut LineBuffer, name: &TaskName) -> Result<(), NoMemory>
-        ensures { OnOk result (line.new ≡ line.old ++ lines_of (lines_by (judging_by self.now.policy.now.rules) (reverse self.now.events.now) self.now.calls.now self.now.sessions.now self.now.served.now name.now) (reverse self.now.events.now)) }
+        ensures { OnOk result (line.new ≡ line.old ++ lines_of (lines_by (judging_by self.now.policy.now.rules) self.now.hidden.now (reverse self.now.events.now) self.now.calls.now self.now.sessions.now self.now.served.now name.now) (reverse self.now.events.now)) }
     {
         let mut number = 0;
         for place in 0..self.events.len() {
@@ -108,7 +121,7 @@ impl Kept<'_> {
 
     /// Adds the lines of the calls of these tasks, one after another.
     pub(crate) fn push_all(&self, line: &mut LineBuffer, names: &[TaskName]) -> Result<(), NoMemory>
-        ensures { OnOk result (line.new ≡ line.old ++ flat_map (λ n. lines_of (lines_by (judging_by self.now.policy.now.rules) (reverse self.now.events.now) self.now.calls.now self.now.sessions.now self.now.served.now n) (reverse self.now.events.now)) names.now) }
+        ensures { OnOk result (line.new ≡ line.old ++ flat_map (λ n. lines_of (lines_by (judging_by self.now.policy.now.rules) self.now.hidden.now (reverse self.now.events.now) self.now.calls.now self.now.sessions.now self.now.served.now n) (reverse self.now.events.now)) names.now) }
     {
         for name in names {
             self.push_calls(line, name)?;

@@ -2,7 +2,7 @@
 
 ghost use Rattle.std.specs.Prelude.{◌≡◌, IfOk};
 ghost use Rattle.hist_model.specs.ReportAudit.{judging_by};
-ghost use Rattle.outcome_text.specs.Outcomes.{result_of};
+ghost use Rattle.outcome_text.specs.Outcomes.{result_with};
 
 use crate::calls::Kept;
 use crate::names::task_names;
@@ -15,9 +15,15 @@ use std::alloc::Global;
 use sys_abi::memory::NoMemory;
 
 /// What a history comes to by the policy that its workers had: a line for each call of its tasks, which stand in the order of
-/// their names, and of each the calls from the oldest on; behind a call what was done for it. Empty where no call was entered.
-pub fn outcome_of(alloc: Global, policy: &Policy, history: &History) -> Result<Vec<u8>, NoMemory>
-    ensures { IfOk result (λ text. text.items ≡ result_of (judging_by policy.now.rules) history.now.events) }
+/// their names, and of each the calls from the oldest on; behind a call what was done for it, and whether that is out of sight, as
+/// the effects at the `hidden` places are. Empty where no call was entered.
+pub fn outcome_of(
+    alloc: Global,
+    policy: &Policy,
+    history: &History,
+    hidden: &[usize],
+) -> Result<Vec<u8>, NoMemory>
+    ensures { IfOk result (λ text. text.items ≡ result_with (judging_by policy.now.rules) hidden.now history.now.events) }
 {
     let events = history.events();
     let tables = Tables::of(alloc, policy, history)?;
@@ -31,6 +37,7 @@ pub fn outcome_of(alloc: Global, policy: &Policy, history: &History) -> Result<V
         calls,
         sessions,
         served: served.as_slice(),
+        hidden,
     };
     let mut line = LineBuffer::new(alloc);
     kept.push_all(&mut line, names.as_slice())?;

@@ -1,10 +1,11 @@
 -- What was read wasn't served, since ranges overlap; or it was, and was printed or a part of it.
 use Rattle.std.proofs.Common.{rules, ◌≡◌, List, Err, subst}
+use Rattle.hist_model.specs.declared.script.Script.{Script}
 use Rattle.pod_broker.specs.Pods.{NoneOverlap}
 use Rattle.pod_broker.specs.Serving.{scripts}
 use Rattle.pod_broker.specs.declared.container.Container.{Container}
 use Rattle.worker_gate.specs.declared.served.Played.{Played}
-use Rattle.broker_app.proofs.Containers.{have_ended, pod_ends, ranges_stop}
+use Rattle.broker_app.proofs.Containers.{have_ended, pod_ends, ranges_stop, same_scripts}
 use Rattle.broker_app.specs.Answers.{Printed}
 use Rattle.broker_app.specs.Forms.{texts}
 use Rattle.broker_app.specs.PodText.{pod_text}
@@ -30,6 +31,7 @@ returns g c =
     let served : AreServedApart files c.args.workers pairs ended =
     record {
       ended = have_ended files c.args.workers pairs containers ended c.in_ok-containers.ensures.read c.in_ok-ended.ensures.served;
+      ranges = subst (λ (Ss : List Script). NoneOverlap Ss) (same_scripts c.args.workers containers ended c.in_ok-ended.ensures.served) separate;
       apart = c.in_ok-ended.ensures.apart separate;
     } in
     pod_ends files (g.F.Files.state c.read_containers.new.files) (g.O.Sink.state c.args.out.now) (g.O.Sink.state c.print_containers.new.out) c.args.workers pairs ended c.print_containers.result served

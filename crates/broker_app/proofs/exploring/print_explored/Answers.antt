@@ -14,5 +14,5 @@ returns-in_err-found g c =
 
 pub returns : goal.returns
 returns g c =
-    ends_found c.args.policy.now (explored c.args.policy.now c.args.script c.args.workers (bound_of c.args.delays)) c.in_ok-found.found (g.O.Sink.state c.args.out.now)
+    ends_found c.args.policy.now c.args.script c.args.workers c.args.delays (explored c.args.policy.now c.args.script c.args.workers (bound_of c.args.delays)) c.in_ok-found.found (g.O.Sink.state c.args.out.now)
     (g.O.Sink.state c.print_exploration.new.out) c.print_exploration.result c.in_ok-found.ensures c.print_exploration.ensures

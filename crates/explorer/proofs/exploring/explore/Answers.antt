@@ -20,5 +20,5 @@ returns-in-TooMany c =
     let W = c.args.workers in
     let back = rw c.in-TooMany.is at c.in_ok-tally.ensures in
     let told = rw back at c.explore_by_passes.ensures in
-    IfOk-weaker c.explore_by_passes.result (λ x. TellsFirst P (explored P S W c.bound_within-bound.result) x) (λ x. TellsFirst P (explored P S W (bound_of c.args.delays)) x)
+    IfOk-weaker c.explore_by_passes.result (λ x. TellsFirst P S (explored P S W c.bound_within-bound.result) x) (λ x. TellsFirst P S (explored P S W (bound_of c.args.delays)) x)
     (λ x t. told_within P S W c.bound_within-bound.result (bound_of c.args.delays) c.bound_within-bound.ensures x t) told

@@ -1,13 +1,17 @@
-use Rattle.std.proofs.Common.{◌≡◌, true, false, ◌∙◌, refl, arith, rules}
-use Rattle.explorer.specs.Telling.{with_fewer}
+use Rattle.std.proofs.Common.{◌≡◌, true, false, ◌∙◌, refl, sym, subst, arith, rules}
+use Rattle.hist_model.specs.declared.script.Script.{Script}
+use Rattle.explorer.specs.Telling.{TellsOf, with_fewer}
 use Rattle.explorer.proofs.PassByPass.{ends_left, ends_none, ends_whole, next_pass, none_before}
 use Rattle.explorer.proofs.passes.explore_by_passes.Goals as goal
 
 pub loop-delays-init : goal.loop-delays-init
-loop-delays-init c = record { script = refl; so_far = none_before c.args.policy.now c.args.script c.args.workers c.none-found.result (c.none-found.ensures c.args.policy.now) }
+loop-delays-init c = record { script = refl; so_far = none_before c.args.policy.now c.args.script c.args.workers c.none-found.result (c.none-found.ensures c.args.policy.now c.args.script) }
 
 pub pass-requires-clause-told : goal.pass-requires-clause-told
-pass-requires-clause-told c = (with_fewer c.args.policy.now c.args.script c.args.workers c.loop-delays.delays, c.loop-delays.invariant.so_far.tells)
+pass-requires-clause-told c =
+    let P = c.args.policy.now in
+    let fewer = with_fewer P c.args.script c.args.workers c.loop-delays.delays in
+    (fewer, subst (λ (S : Script). TellsOf P S fewer c.loop-delays.found) (sym c.loop-delays.invariant.script) c.loop-delays.invariant.so_far.tells)
 
 pub returns-then-not-whole : goal.returns-then-not-whole
 returns-then-not-whole c =

@@ -31,19 +31,19 @@ returns-in-All-clause-explored c =
 pub note_spent-requires-clause-begun : goal.note_spent-requires-clause-begun
 note_spent-requires-clause-begun c =
     let i = c.walks.invariant in
-    let ended : EndsFirst c.args.policy.now c.args.script c.args.workers (walks_in c.args.policy.now c.args.workers c.walks.walker) c.in-Ended.left c.in-Ended.history.events c.in-Ended.rest = rw c.in-Ended.is at c.in_ok-script.ensures c.args.script _ i.goes_on in
-    has_events c.args.policy.now c.args.script c.args.workers _ _ _ _ ended
+    let ended : EndsFirst c.args.policy.now c.args.script c.args.workers (walks_in c.args.policy.now c.args.workers c.walks.walker) c.in-Ended.left c.in-Ended.history.events c.in-Ended.hidden.items c.in-Ended.rest = rw c.in-Ended.is at c.in_ok-script.ensures c.args.script _ i.goes_on in
+    has_events c.args.policy.now c.args.script c.args.workers _ _ _ _ _ ended
 
 pub note_spent-requires-clause-few : goal.note_spent-requires-clause-few
 note_spent-requires-clause-few c =
     let i = c.walks.invariant in
-    let ended : EndsFirst c.args.policy.now c.args.script c.args.workers (walks_in c.args.policy.now c.args.workers c.walks.walker) c.in-Ended.left c.in-Ended.history.events c.in-Ended.rest = rw c.in-Ended.is at c.in_ok-script.ensures c.args.script _ i.goes_on in
+    let ended : EndsFirst c.args.policy.now c.args.script c.args.workers (walks_in c.args.policy.now c.args.workers c.walks.walker) c.in-Ended.left c.in-Ended.history.events c.in-Ended.hidden.items c.in-Ended.rest = rw c.in-Ended.is at c.in_ok-script.ensures c.args.script _ i.goes_on in
     ended.few
 
 pub returns-then-not-goes_on-clause-script : goal.returns-then-not-goes_on-clause-script
 returns-then-not-goes_on-clause-script c =
     let i = c.walks.invariant in
-    let ended : EndsFirst c.args.policy.now c.args.script c.args.workers (walks_in c.args.policy.now c.args.workers c.walks.walker) c.in-Ended.left c.in-Ended.history.events c.in-Ended.rest = rw c.in-Ended.is at c.in_ok-script.ensures c.args.script _ i.goes_on in
+    let ended : EndsFirst c.args.policy.now c.args.script c.args.workers (walks_in c.args.policy.now c.args.workers c.walks.walker) c.in-Ended.left c.in-Ended.history.events c.in-Ended.hidden.items c.in-Ended.rest = rw c.in-Ended.is at c.in_ok-script.ensures c.args.script _ i.goes_on in
     c.in_ok-into_script-in-Ended.ensures ∙ ended.goes_on.script_is
 
 pub returns-then-not-goes_on-clause-explored : goal.returns-then-not-goes_on-clause-explored
@@ -52,8 +52,8 @@ returns-then-not-goes_on-clause-explored c =
     let S = c.args.script in
     let W = c.args.workers in
     let i = c.walks.invariant in
-    let ended : EndsFirst P S W (walks_in P W c.walks.walker) c.in-Ended.left c.in-Ended.history.events c.in-Ended.rest = rw c.in-Ended.is at c.in_ok-script.ensures S _ i.goes_on in
-    stopped P S W c.args.delays c.args.found.now c.walks.found c.walks.walker i.under_way _ _ _ ended c.note_spent.new.found _ (c.in_ok-goes_on-in-Ended.ensures.notes S ended.walk ended.left_is ended.history_is) c.if-not-goes_on.true
+    let ended : EndsFirst P S W (walks_in P W c.walks.walker) c.in-Ended.left c.in-Ended.history.events c.in-Ended.hidden.items c.in-Ended.rest = rw c.in-Ended.is at c.in_ok-script.ensures S _ i.goes_on in
+    stopped P S W c.args.delays c.args.found.now c.walks.found c.walks.walker i.under_way _ _ _ _ ended c.note_spent.new.found _ (c.in_ok-goes_on-in-Ended.ensures.notes S ended.walk ended.left_is ended.history_is (c.as_slice.ensures.value ∙ ended.hidden_is)) c.if-not-goes_on.true
 
 pub walks-preserved : goal.walks-preserved
 walks-preserved c =
@@ -61,11 +61,11 @@ walks-preserved c =
     let S = c.args.script in
     let W = c.args.workers in
     let i = c.walks.invariant in
-    let ended : EndsFirst P S W (walks_in P W c.walks.walker) c.in-Ended.left c.in-Ended.history.events c.in-Ended.rest = rw c.in-Ended.is at c.in_ok-script.ensures S _ i.goes_on in
+    let ended : EndsFirst P S W (walks_in P W c.walks.walker) c.in-Ended.left c.in-Ended.history.events c.in-Ended.hidden.items c.in-Ended.rest = rw c.in-Ended.is at c.in_ok-script.ensures S _ i.goes_on in
     record {
-      told = c.in_ok-goes_on-in-Ended.ensures.told;
+      told = c.in_ok-goes_on-in-Ended.ensures.told S i.told.0 (c.as_slice.ensures.value ∙ ended.hidden_is) i.told.1;
       goes_on = record { script_is = ended.goes_on.script_is; going = ended.goes_on.going; left = refl };
-      under_way = went_on P S W c.args.delays c.args.found.now c.walks.found c.walks.walker i.under_way _ _ _ ended c.note_spent.new.found _ (c.in_ok-goes_on-in-Ended.ensures.notes S ended.walk ended.left_is ended.history_is) c.if-not-goes_on.false;
+      under_way = went_on P S W c.args.delays c.args.found.now c.walks.found c.walks.walker i.under_way _ _ _ _ ended c.note_spent.new.found _ (c.in_ok-goes_on-in-Ended.ensures.notes S ended.walk ended.left_is ended.history_is (c.as_slice.ensures.value ∙ ended.hidden_is)) c.if-not-goes_on.false;
     }
 
 pub walks-smaller : goal.walks-smaller
@@ -74,5 +74,8 @@ walks-smaller c =
     let S = c.args.script in
     let W = c.args.workers in
     let i = c.walks.invariant in
-    let ended : EndsFirst P S W (walks_in P W c.walks.walker) c.in-Ended.left c.in-Ended.history.events c.in-Ended.rest = rw c.in-Ended.is at c.in_ok-script.ensures S _ i.goes_on in
-    fewer_left P S W _ c.walks.walker c.in-Ended.rest _ _ i.goes_on ended
+    let ended : EndsFirst P S W (walks_in P W c.walks.walker) c.in-Ended.left c.in-Ended.history.events c.in-Ended.hidden.items c.in-Ended.rest = rw c.in-Ended.is at c.in_ok-script.ensures S _ i.goes_on in
+    fewer_left P S W _ c.walks.walker c.in-Ended.rest _ _ _ i.goes_on ended
+
+pub note_spent-requires-clause-told : goal.note_spent-requires-clause-told
+note_spent-requires-clause-told c = (c.args.script, c.walks.invariant.told.0, c.walks.invariant.told.1)

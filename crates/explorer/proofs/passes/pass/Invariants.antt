@@ -7,7 +7,7 @@ use Rattle.explorer.proofs.passes.pass.Given as goal
 
 abbrev pub invariant-walks : goal.invariant-walks
 invariant-walks l = record {
-  told : (L : List (List Event)) × TellsOf l.fn.policy L l.found;
+  told : (L : List (List Event)) × TellsOf l.fn.policy l.fn.script L l.found;
   goes_on : GoesThrough l.fn.policy l.fn.script l.workers (walks_in l.fn.policy l.workers l.walker) l.walker;
   under_way : IsUnderWay l.fn.policy l.fn.script l.workers l.delays l.fn.found l.found l.walker;
 }

@@ -10,7 +10,7 @@ use Rattle.audit_log.specs.Served.{TellsSessions}
 use Rattle.audit_log.specs.Sessions.{begun}
 use Rattle.audit_log.specs.Tables.{TellsTables}
 use Rattle.audit_log.proofs.ServedCalls.{same_sessions}
-use Rattle.outcome_text.specs.Outcomes.{result_of, task_names}
+use Rattle.outcome_text.specs.Outcomes.{result_with, task_names}
 use Rattle.outcome_text.specs.Tables.{lines_by}
 use Rattle.outcome_text.proofs.Lines.{result_same}
 use Rattle.outcome_text.proofs.outcome.outcome_of.Goals as goal
@@ -32,5 +32,5 @@ returns c =
     let ordered : names ≡ task_names H = c.as_slice-2.ensures.value ∙ c.in_ok-names.ensures in
     c.into_bytes.ensures
     ∙ (c.in_ok-push_all.ensures
-    ∙ (ap (λ text. text ++ flat_map (λ n. lines_of (lines_by J H tables.calls rows served n) H) names) c.new-line.ensures
-    ∙ (result_same J H tables.calls rows served tells.calls kept sessions names ordered ∙ ap (result_of J) (sym c.events-events.ensures))))
+    ∙ (ap (λ text. text ++ flat_map (λ n. lines_of (lines_by J c.args.hidden.now H tables.calls rows served n) H) names) c.new-line.ensures
+    ∙ (result_same J c.args.hidden.now H tables.calls rows served tells.calls kept sessions names ordered ∙ ap (result_with J c.args.hidden.now) (sym c.events-events.ensures))))

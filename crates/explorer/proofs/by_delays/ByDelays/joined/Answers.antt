@@ -9,9 +9,9 @@ use Rattle.explorer.proofs.by_delays.ByDelays.joined.Goals as goal
 
 pub loop-tally-init : goal.loop-tally-init
 loop-tally-init c = record {
-  told = λ P S ws t. ([], c.none-all.ensures P);
-  tells = λ P S W t. c.none-all.ensures P;
-  events = (c.none-all.ensures c.requires.told.0).events;
+  told = λ P S ws t. ([], c.none-all.ensures P S);
+  tells = λ P S W t. c.none-all.ensures P S;
+  events = (c.none-all.ensures c.requires.told.0 c.requires.told.1).events;
 }
 
 pub join-requires-clause-told : goal.join-requires-clause-told
@@ -21,7 +21,7 @@ join-requires-clause-told c =
     let (P, S, ws, told) = c.requires.told in
     let (L, t) = c.loop-tally.invariant.told P S ws told in
     let (M, u) = told_there c.args.self P S ws told (length c.loop-tally.yielded) c.in-Some.tally turn.0 in
-    (P, L, M, t, subst (TellsOf P M) (sym turn.1) u)
+    (P, S, L, M, t, subst (TellsOf P S M) (sym turn.1) u)
 
 pub join-requires-clause-few : goal.join-requires-clause-few
 join-requires-clause-few c =
@@ -43,9 +43,9 @@ loop-tally-preserved c =
       told = λ P S ws told.
           let (L, t) = i.told P S ws told in
           let (M, u) = told_there c.args.self P S ws told at c.in-Some.tally turn.0 in
-          (L ++ M, c.in_ok-join.ensures.tells P L M t (subst (TellsOf P M) (sym turn.1) u));
+          (L ++ M, c.in_ok-join.ensures.tells P S L M t (subst (TellsOf P S M) (sym turn.1) u));
       tells = λ P S W told. rw more (more_told P S W c.args.self told at c.in-Some.tally c.loop-tally.all c.join.new.self turn.0 (i.tells P S W told)
-          (λ L M t u. c.in_ok-join.ensures.tells P L M t (subst (TellsOf P M) (sym turn.1) u)));
+          (λ L M t u. c.in_ok-join.ensures.tells P S L M t (subst (TellsOf P S M) (sym turn.1) u)));
       events = rw more (omega (arith, c.in_ok-join.ensures.events, i.events, same, events_there c.args.self at c.in-Some.tally turn.0));
     }
 

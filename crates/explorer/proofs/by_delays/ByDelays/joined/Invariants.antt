@@ -9,7 +9,7 @@ use Rattle.explorer.proofs.by_delays.ByDelays.joined.Given as goal
 
 abbrev pub invariant-loop-tally : goal.invariant-loop-tally
 invariant-loop-tally l = record {
-  told : (P : Policy) (S : Script) (ws : List Walk) → TellsBy P S ws l.fn.self → (L : List (List Event)) × TellsOf P L l.all;
-  tells : (P : Policy) (S : Script) (W : ℕ) → TellsBy P S (walks_of P S W l.fn.self.bound) l.fn.self → TellsOf P (with_fewer P S W (length l.yielded)) l.all;
+  told : (P : Policy) (S : Script) (ws : List Walk) → TellsBy P S ws l.fn.self → (L : List (List Event)) × TellsOf P S L l.all;
+  tells : (P : Policy) (S : Script) (W : ℕ) → TellsBy P S (walks_of P S W l.fn.self.bound) l.fn.self → TellsOf P S (with_fewer P S W (length l.yielded)) l.all;
   events : l.all.events ≡ sum_by (λ (t : Tally). t.events) (take (length l.yielded) l.fn.self.tallies.items);
 }

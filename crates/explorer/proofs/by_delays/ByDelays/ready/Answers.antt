@@ -8,5 +8,5 @@ places-preserved c =
     record {
       bound_is = i.bound_is;
       events_are = i.events_are;
-      tells = λ P S ws t. placed P S ws c.places.self (i.tells P S ws t) c.none.result (c.none.ensures P) (omega (arith, c.len.ensures, i.bound_is)) _ refl refl c.in_ok-push.ensures.items;
+      tells = λ P S ws t. placed P S ws c.places.self (i.tells P S ws t) c.none.result (c.none.ensures P S) (omega (arith, c.len.ensures, i.bound_is)) _ refl refl c.in_ok-push.ensures.items;
     }

@@ -5,4 +5,4 @@ use Rattle.explorer.proofs.tally.Tally.none.Goals as goal
 
 pub returns : goal.returns
 unfolding tallied
-returns c = λ P. record { histories = refl; events = refl; longest_is = refl; each_has_events = omega arith; outcomes_are = c.new.ensures.items }
+returns c = λ P S. record { histories = refl; events = refl; longest_is = refl; each_has_events = omega arith; outcomes_are = c.new.ensures.items }
