@@ -33,7 +33,11 @@ def place(suite):
 
 
 def command(suite, lines, folder):
-    """The command that makes a root below a folder."""
+    """The command that makes a root below a folder. What it mounts there, and all that it starts, ends with it."""
+    return ["unshare", "--mount", "--pid", "--fork", "--kill-child", *bootstrap(suite, lines, folder)]
+
+
+def bootstrap(suite, lines, folder):
     if shutil.which("mmdebstrap"):
         return ["mmdebstrap", "--quiet", "--variant=minbase", f"--include={INCLUDED}", suite, folder, *lines]
     mirror = next(line.split()[1] for line in lines if line.split()[2] == suite)
