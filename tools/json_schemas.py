@@ -215,3 +215,37 @@ class Schemas:
             of_value[tagged](value)
 
         return check
+
+
+# ---- whether a schema sees damages
+
+
+def parts(value, place="/"):
+    """Each list and object in a document, with the keys and numbers that lead to it."""
+    if isinstance(value, (dict, list)):
+        yield place, value
+        for key, one in value.items() if isinstance(value, dict) else enumerate(value):
+            yield from parts(one, f"{place}{key}/")
+
+
+def damages(part):
+    """Damages an object or a list: one key less, one more, or a value of another type. Each is undone when the next is asked for."""
+    keys = list(part) if isinstance(part, dict) else range(len(part))
+    for key in keys:
+        value, part[key] = part[key], 0.5
+        yield f"{key} is another value"
+        part[key] = value
+    if isinstance(part, dict):
+        for key in keys:
+            value = part.pop(key)
+            yield f"{key} is missing"
+            part[key] = value
+        part["unknown"] = 0
+        yield "another key"
+        del part["unknown"]
+
+
+def undetected(schemas, name, document, optional=()):
+    """The damages of a document that its schema doesn't see, but for what may be missing."""
+    return [f"{place}{what}" for place, part in list(parts(document)) for what in damages(part)
+            if schemas.fault(name, document) is None and f"{place}{what}" not in optional]

@@ -1,0 +1,151 @@
+"""What the word `test` does with its words."""
+import os
+import sys
+import threading
+import time
+
+from command_line import place
+from command_line.arguments import Parser
+from messages import running as spoken
+from testing import asking, output
+from testing.lines import NotUnderstood
+from testing.running import Runner, Tests, read
+
+PASSED, FAILED, NOT_UNDERSTOOD, INTERRUPTED = 0, 1, 2, 130
+# seconds after which progress is shown, between two lines of it, and between two looks at the files
+BEGIN, TURN, LOOK = 1.0, 0.2, 0.3
+CLEAR = "\r\x1b[K"
+
+
+def asked():
+    parser = Parser("test")
+    parser.add_argument("--junit", metavar="FILE", help="writes the results as XML")
+    parser.add_argument("--json", action="store_true", help="prints a JSON document in place of the lines")
+    parser.add_argument("--show", action="store_true", help="prints the scripts that are made, and runs nothing")
+    parser.add_argument("--watch", action="store_true", help="runs again each time that a file changes")
+    parser.add_argument("--program", metavar="PATH", help="asks this program, in place of the command's own")
+    parser.add_argument("files", metavar="FILE", nargs="+", help="test files")
+    return parser.parse_args()
+
+
+class Progress:
+    """Says on a terminal how many scripts were answered, once it takes long."""
+
+    def __init__(self, is_shown):
+        self.is_shown, self.lock = is_shown, threading.Lock()
+        self.begin(0)
+
+    def begin(self, count):
+        self.count, self.done, self.begun, self.said = count, 0, time.monotonic(), 0.0
+
+    def step(self):
+        with self.lock:
+            self.done += 1
+            now = time.monotonic()
+            if self.is_shown and now - self.begun > BEGIN and now - self.said > TURN:
+                self.said = now
+                spoken.put(f"\rtesting: {self.done} of {self.count} scripts, {int(now - self.begun)} s")
+
+    def end(self):
+        if self.said:
+            spoken.put(CLEAR)
+
+
+def show_scripts(paths):
+    """Prints the scripts that are made of the files, each with the command that answers it."""
+    status = PASSED
+    for path in paths:
+        file = read(path)
+        try:
+            jobs = Tests(file).jobs() if not file.faults else []
+        except NotUnderstood as fault:
+            file.faults.append(fault.found)
+        if file.faults:
+            say_faults(path, file)
+            status = NOT_UNDERSTOOD
+            continue
+        for job in jobs:
+            lines = ", ".join(map(str, job.names))
+            words = "line" if len(job.names) == 1 else "lines"
+            show([f"# {path}, {words} {lines}", f"# explore {job.policy} SCRIPT {job.workers} {job.delays}", job.script.data.decode("utf-8", "surrogateescape").rstrip("\n")])
+    return status
+
+
+def say_faults(path, file):
+    spoken.say([line for it in file.faults for line in output.message(it, path, file.text)])
+
+
+def show(lines):
+    """Prints lines. Bytes of a file that aren't UTF-8 are printed as they are."""
+    sys.stdout.buffer.write("".join(f"{line}\n" for line in lines).encode("utf-8", "surrogateescape"))
+    sys.stdout.buffer.flush()
+
+
+def run_once(words, program):
+    """Runs the files, prints and writes what came of them, and answers the exit status."""
+    every = Runner(program, Progress(sys.stderr.isatty())).run(words.files)
+    if words.junit:
+        with open(words.junit, "w", encoding="utf-8", errors="replace") as file:
+            file.write(output.junit_text(every))
+    lines = output.Lines(output.has_colours(sys.stdout))
+    for results in every:
+        spoken.say(results.warnings)
+        if not results.is_understood:
+            spoken.say(lines.of_file(results))
+        elif not words.json:
+            show(lines.of_file(results))
+    show([output.json_text(every)] if words.json else [output.summary(every)])
+    if not all(it.is_understood for it in every):
+        return NOT_UNDERSTOOD
+    return FAILED if any(it.failed for it in every) else PASSED
+
+
+def watched(paths):
+    """The files of which a change counts, with the times of their last ones."""
+    found = {}
+    for path in paths:
+        file, folder = read(path), os.path.dirname(path)
+        named = [asking.path_of(folder, word) for group in file.groups for word in (group.policy, group.filters) if word is not None]
+        for name in (path, *named):
+            try:
+                found[name] = os.stat(name).st_mtime_ns
+            except OSError:
+                found[name] = None
+    return found
+
+
+def watch(words, program):
+    """Runs the files again each time that one of them, or one that they name, changes."""
+    status = PASSED
+    try:
+        while True:
+            seen = watched(words.files)
+            status = run_once(words, program)
+            show(["waiting for a change; Ctrl-C ends it"])
+            while watched(words.files) == seen:
+                time.sleep(LOOK)
+    except KeyboardInterrupt:
+        return status
+
+
+def main():
+    words = asked()
+    try:
+        if words.show:
+            return show_scripts(words.files)
+        path = words.program or place.runnable()
+        if path is None:
+            return NOT_UNDERSTOOD
+        program = asking.Program(os.path.abspath(path), place.command())
+        return watch(words, program) if words.watch else run_once(words, program)
+    except asking.NotAsked as fault:
+        print(f"test: {fault}", file=sys.stderr)
+        return NOT_UNDERSTOOD
+    except BrokenPipeError:
+        os.dup2(os.open(os.devnull, os.O_WRONLY), sys.stdout.fileno())
+        return INTERRUPTED
+    except OSError as fault:
+        print(f"test: {fault.filename}: {fault.strerror}", file=sys.stderr)
+        return NOT_UNDERSTOOD
+    except KeyboardInterrupt:
+        return INTERRUPTED

@@ -1,0 +1,216 @@
+"""Runs test files: asks the program, and compares what it answers with what is expected."""
+import os
+import time
+from concurrent.futures import ThreadPoolExecutor
+from dataclasses import dataclass
+from functools import lru_cache
+
+from messages import policies
+from messages.findings import Finding, Text, message, whole_file
+from testing import asking, files
+from testing.lines import Line, NotUnderstood
+from testing.results import FileResults, Result
+from testing.scripts import batches, container_of, script_of
+
+MOST_BYTES = 1_048_576
+
+
+@dataclass(frozen=True)
+class Job:
+    """A script that the program is asked about: its policy, the bounds, and what makes results of the answer."""
+
+    policy: str
+    script: object
+    workers: int
+    delays: str
+    judge: object
+    names: tuple  # lines of the test file that it is about
+
+
+# ---- results
+
+
+def of_single(instance, step, explored):
+    """The result of a `call` line. What it finds in the tree isn't shown where nothing is expected of that, since it may share the tree with others."""
+    found = explored.outcomes[0].found(instance.place, step)
+    return Result(step.line.number, f"call {step.call.text}", step.expected.text, found.shown(step.expected.asks_tree), step.expected.fits(found))
+
+
+def of_step(instance, step, exploring, explored):
+    """The result of a call of a container, in each order of steps that was explored."""
+    wrong = [it for it in explored.outcomes if not step.expected.fits(it.found(instance.place, step))]
+    shown = (wrong or explored.outcomes)[0].found(instance.place, step).shown()
+    count = share(sum(it.histories for it in wrong), explored) if wrong else ""
+    within, schedule = (reach(exploring, explored), wrong[0].schedule if wrong else ()) if exploring else ("", ())
+    return Result(step.line.number, f"{instance.program}: {step.call.text}", step.expected.text, f"{shown}{count}", not wrong, within, schedule)
+
+
+def share(count, explored):
+    """In how many of the orders something is so, where there is more than one."""
+    return f", in {count} of {explored.histories} orders" if explored.histories > 1 else ""
+
+
+def reach(exploring, explored):
+    """How far an exploration goes, in words."""
+    delays = {"0": "without a delay", "1": "within 1 delay"}.get(exploring.delays, f"within {exploring.delays} delays")
+    orders = f"{explored.histories} orders" if explored.histories > 1 else "1 order"
+    return {"yes": f"all {orders}" if explored.histories > 1 else "the only order", "bound": f"{delays}, {orders}", "no": f"cut off after {orders}"}[explored.whole]
+
+
+def of_claim(claim, exploring, explored):
+    """The result of a claim."""
+    holds = [it for it in explored.outcomes if claim.condition.holds(it.made)]
+    fails = [it for it in explored.outcomes if it not in holds]
+    within, text = reach(exploring, explored), claim.line.text
+    against = {"never:": holds, "always:": fails}.get(claim.kind)
+    if against is None:
+        found = "" if holds else "in none of them"
+        return Result(claim.line.number, text, "", found, bool(holds), within)
+    if against:
+        count = sum(it.histories for it in against)
+        found = f"it is so{share(count, explored)}" if claim.kind == "never:" else f"it isn't so{share(count, explored)}"
+        return Result(claim.line.number, text, "", f"{found}: {told(against[0])}", False, within, against[0].schedule)
+    if explored.whole == "no":
+        return Result(claim.line.number, text, "", "it isn't known: orders were left after 100,000,000 events; take fewer delays", False, within)
+    return Result(claim.line.number, text, "", "", True, within)
+
+
+def told(outcome):
+    """What an order of steps comes to, in a line."""
+    return "; ".join(f"{it.task} {it.call.name} {it.found.shown()}" for it in outcome.made) or "no call was made"
+
+
+# ---- jobs
+
+
+class Tests:
+    """The jobs of a test file."""
+
+    def __init__(self, file):
+        self.file, self.folder, self.warnings = file, os.path.dirname(file.path), []
+
+    def jobs(self):
+        return [job for group in self.file.groups for job in self.of_group(group)]
+
+    def of_group(self, group):
+        policy = asking.path_of(self.folder, group.policy)
+        data = asking.data_of(self.folder, group.policy)
+        self.warnings += [line for line in warnings_of(policy, data) if line not in self.warnings]
+        rules = asking.rules_of(data)
+        for word in named_rules(group):
+            asking.check_rule(word, rules)
+        filters = None
+        if group.filters is not None:
+            named = Line(group.filters.line, (group.filters,), group.filters.text)
+            filters = [(line, named) for line in asking.filter_lines(self.folder, group.filters)]
+        descriptors = asking.descriptors_of(rules)
+        for singles in batches(group.singles, any("times" in it for it in rules)):
+            yield self.of_singles(policy, singles, script_of(container_of(singles), filters, descriptors))
+        for container in group.containers:
+            yield from self.of_container(policy, container, script_of(container, filters, descriptors))
+
+    @staticmethod
+    def of_singles(policy, singles, script):
+        callers = script.instances[1:]
+        return Job(policy, script, 0, "0", lambda explored: [of_single(it, it.task.steps[0], explored) for it in callers],
+                   tuple(it.line.number for it in singles))
+
+    @staticmethod
+    def of_container(policy, container, script):
+        asked = [(it, step) for it in script.instances for step in it.task.steps if step.expected is not None]
+        explorings = container.explorings or [None]
+        for exploring in explorings:
+            def judge(explored, exploring=exploring):
+                steps = [of_step(it, step, exploring, explored) for it, step in asked]
+                return steps + [of_claim(it, exploring, explored) for it in (exploring.claims if exploring else ())]
+            yield Job(policy, script, exploring.workers if exploring else 0, exploring.delays if exploring else "0", judge, (container.line.number,))
+
+
+@lru_cache(maxsize=None)
+def warnings_of(path, data):
+    """What is said of the keys of a policy that are almost LXD's, which the program ignores."""
+    return [line for it in policies.foreign_keys(data) for line in message(it, path, Text(data), "warning: ")]
+
+
+def named_rules(group):
+    """The words of a group that name rules."""
+    for single in group.singles:
+        yield from single.expected.rules
+    for container in group.containers:
+        for task in container.tasks:
+            yield from (word for step in task.steps if step.expected is not None for word in step.expected.rules)
+        for exploring in container.explorings:
+            yield from (word for claim in exploring.claims for word in claim.condition.rules)
+
+
+def read(path):
+    """The test file at a path. What can't be read or understood stands in its faults."""
+    try:
+        with open(path, "rb") as file:
+            data = file.read(MOST_BYTES + 1)
+    except OSError as fault:
+        return files.TestFile(path, Text(b""), faults=[whole_file("", fault.strerror, "")])
+    if len(data) > MOST_BYTES:
+        return files.TestFile(path, Text(b""), faults=[whole_file("", f"a test file has at most {MOST_BYTES} bytes", "")])
+    return files.read(path, Text(data))
+
+
+def policy_finding(file, job, fault):
+    """The finding for a policy that the program refuses: at the line that names it."""
+    word = next(it.policy for it in file.groups if asking.path_of(os.path.dirname(file.path), it.policy) == job.policy)
+    return Finding("", word.line, word.start, word.end - word.start, "this policy is refused", ""), tuple(fault.lines)
+
+
+class Runner:
+    """Runs test files side by side. `progress` is told how many scripts there are, and each time that one is answered."""
+
+    def __init__(self, program, progress):
+        self.program, self.progress = program, progress
+
+    def run(self, paths):
+        """The results of each file, in the order of the files."""
+        read_files = [(read(path), FileResults(path)) for path in paths]
+        with ThreadPoolExecutor(os.cpu_count()) as pool:
+            asked = [(file, results, self.submit(pool, file, results)) for file, results in read_files]
+            self.progress.begin(sum(len(jobs) for _, _, jobs in asked))
+            try:
+                for file, results, jobs in asked:
+                    self.collect(file, results, jobs)
+            finally:
+                # (what wasn't begun when this is interrupted isn't begun any more)
+                for _, future in (job for _, _, jobs in asked for job in jobs):
+                    future.cancel()
+        self.progress.end()
+        return [results for _, results in read_files]
+
+    def submit(self, pool, file, results):
+        """Asks for all jobs of a file that is understood."""
+        results.text, results.findings = file.text, list(file.faults)
+        tests, jobs = Tests(file), []
+        try:
+            jobs = tests.jobs() if not file.faults else []
+        except NotUnderstood as fault:
+            results.findings.append(fault.found)
+        results.warnings = tests.warnings
+        return [(job, pool.submit(self.answer, job)) for job in jobs]
+
+    def answer(self, job):
+        begun = time.monotonic()
+        explored = self.program.explore(job.policy, job.script, job.workers, job.delays)
+        self.progress.step()
+        return explored, time.monotonic() - begun
+
+    def collect(self, file, results, jobs):
+        for job, future in jobs:
+            try:
+                explored, seconds = future.result()
+                results.results += job.judge(explored)
+                results.seconds += seconds
+            except NotUnderstood as fault:
+                results.findings.append(fault.found)
+            except asking.PolicyRefused as fault:
+                finding, about = policy_finding(file, job, fault)
+                if finding not in results.findings:
+                    results.findings.append(finding)
+                    results.about += about
+        results.results = [] if results.findings else sorted(results.results, key=lambda it: it.line)
