@@ -37,7 +37,7 @@ def documents():
         return (f"Documents, in {HOME}:\n  README.md          what it is, and what is proved\n  docs/TUTORIAL.md   test a policy, and then a race\n"
                 "  docs/FORMATS.md    policies, scripts, reports, and exit statuses")
     share = os.path.dirname(os.path.realpath(f"{HOME}/examples"))
-    return (f"Manual: seccomp-broker(1), seccomp-broker-policy(5), seccomp-broker-script(5), seccomp-broker-report(5)\n"
+    return (f"Manual: seccomp-broker(1), seccomp-broker-policy(5), seccomp-broker-script(5), seccomp-broker-report(5), seccomp-broker-test(5)\n"
             f"What was proved of this program: {share}/proof.txt")
 
 
