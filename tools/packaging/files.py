@@ -12,7 +12,7 @@ from packaging.tree import File, Link, below, read, text, zipped
 HOME, SHARE = "lib/seccomp-broker", "share/seccomp-broker"
 SONAME = "libseccomp_broker.so.1"
 # modules of the command itself
-OF_COMMAND = {"command_line", "messages", "real_workloads", "pages", "explored.py"}
+OF_COMMAND = {"command_line", "messages", "real_workloads", "pages", "explored.py", "container_tree.py"}
 # modules of the tools that only their tests use
 OF_TESTS = {"browser.py", "served.py", "made_reports.py", "over.py"}
 # the lines by which the examples find the library in a checkout, and those by which they find an installed one
