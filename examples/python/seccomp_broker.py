@@ -100,8 +100,8 @@ def check(policy, script, report):
 
 def explore(policy, script, workers=0, delays=ALL_DELAYS):
     """What can come of a script under a policy, by workers up to this number: of each outcome its lines, how many histories have it, and
-    the lines of a schedule that shows it. And how far that goes: `yes` where these are all orders, `bound` where they are all with so many
-    delays at most, `no` where the limit of events was met."""
+    the lines of a schedule that shows it. And how far that goes: `yes` where there is no bound and none is left, `bound` where none is left with
+    so many delays at most, `no` where the limit of events was met."""
     first, *lines = answer(LIBRARY.broker_explore, policy, script, numbers=[workers, delays]).splitlines()
     outcomes = []
     for line in lines:
