@@ -1,6 +1,6 @@
 -- Captures that have had some answers of a plan.
 -- By the equation that `Follows` gives for every list of later answers, and by the laws of appended lists.
-use Rattle.std.proofs.Common.{◌≡◌, ℕ, List, [], ◌∷◌, ◌++◌, Option, sym, ap, ◌∙◌, append_assoc, append-nil}
+use Rattle.std.proofs.Common.{◌≡◌, ℕ, List, [], Option, ap, ◌∙◌, append-nil}
 use Rattle.std.specs.Prelude.{Result}
 use Rattle.hist_model.specs.Copies.{progress}
 use Rattle.hist_model.specs.declared.copy.Part.{Part}
@@ -13,10 +13,6 @@ so-far parts answers c f = f [] ∙ ap (progress parts) (append-nil answers)
 pub follows_wants : (parts : List Part) (answers : List (Result (List ℕ) ℕ)) (c : Captured) (r : Option (ℕ × ℕ))
     → r ≡ wanted (continued c []) → Follows parts answers c → r ≡ wanted (progress parts answers)
 follows_wants parts answers c r e f = e ∙ ap wanted (so-far parts answers c f)
-
-pub follows_more : (parts : List Part) (answers : List (Result (List ℕ) ℕ)) (answer : Result (List ℕ) ℕ) (old new : Captured)
-    → ((later : List (Result (List ℕ) ℕ)) → continued new later ≡ continued old (answer ∷ later)) → Follows parts answers old → Follows parts (answers ++ answer ∷ []) new
-follows_more parts answers answer old new g f = λ later. g later ∙ f (answer ∷ later) ∙ sym (ap (progress parts) (append_assoc answers (answer ∷ []) later))
 
 pub follows_finishes : (parts : List Part) (answers : List (Result (List ℕ) ℕ)) (c : Captured) (r : Result ArgCopy ℕ)
     → Finishes (continued c []) r → Follows parts answers c → Finishes (progress parts answers) r

@@ -30,15 +30,6 @@ further-none a h = omega arith
 further-more : (a n : ℕ) → further (further a 1) n ≡ further a (suc n)
 further-more a n = omega arith
 
-run-length-after : (byte : ℕ → Option ℕ) (n a : ℕ) (o : Option ℕ) → ((b : ℕ) → length (run_at byte n b) ≤ n) → length (run_after o (run_at byte n) a) ≤ suc n
-run-length-after byte n a None ih = omega arith
-run-length-after byte n a (Some b) ih = let h = ih (further a 1) in omega arith
-
-run-length : (byte : ℕ → Option ℕ) (n a : ℕ) → length (run_at byte n a) ≤ n
-unfolding run_at
-run-length byte zero a = omega arith
-run-length byte (suc n) a = run-length-after byte n a (byte a) (λ b. run-length byte n b)
-
 -- a text whose run has a zero ends there
 text-ends-after : (byte : ℕ → Option ℕ) (f n l a : ℕ) (o : Option ℕ)
     → ((b : ℕ) → has_zero (run_at byte n b) ≡ true → text_from byte f l b ≡ Ok (before_zero (run_at byte n b)))

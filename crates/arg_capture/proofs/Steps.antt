@@ -145,12 +145,6 @@ texts-more texts taken text (Complete []) = ap Complete (append-nil (texts ++ (t
 texts-more texts taken text (Complete (t ∷ ts)) = ap Complete (append_assoc texts ((taken ++ text) ∷ []) (t ∷ ts))
 texts-more texts taken text (Faulty e) = refl
 
-taken-more : (taken bytes : List ℕ) (p : Progress) → with_taken (taken ++ bytes) p ≡ with_taken taken (with_taken bytes p)
-taken-more taken bytes (Wants a n) = refl
-taken-more taken bytes (Complete []) = refl
-taken-more taken bytes (Complete (t ∷ ts)) = ap (λ text. Complete (text ∷ ts)) (append_assoc taken bytes t)
-taken-more taken bytes (Faulty e) = refl
-
 -- the part in hand has become a text
 pub finished : (r m : Reached) (text : List ℕ) (later : List (Result (List ℕ) ℕ))
     → m.texts ≡ r.texts ++ (r.taken ++ text) ∷ [] → m.taken ≡ [] → m.parts ≡ rest_parts r.parts → reached_progress m later ≡ with_whole r text later
@@ -159,15 +153,6 @@ finished r m text later a b c =
     ∙ ap (λ tk. with_texts (r.texts ++ (r.taken ++ text) ∷ []) (with_taken tk (progress m.parts later))) b
     ∙ ap (λ ps. with_texts (r.texts ++ (r.taken ++ text) ∷ []) (with_taken [] (progress ps later))) c
     ∙ texts-more r.texts r.taken text (progress (rest_parts r.parts) later)
-
--- the part in hand goes on
-pub went_on : (r m : Reached) (bytes : List ℕ) (part : Part) (later : List (Result (List ℕ) ℕ))
-    → m.texts ≡ r.texts → m.taken ≡ r.taken ++ bytes → m.parts ≡ part ∷ rest_parts r.parts → reached_progress m later ≡ with_more r bytes part later
-went_on r m bytes part later a b c =
-    ap (λ ts. with_texts ts (with_taken m.taken (progress m.parts later))) a
-    ∙ ap (λ tk. with_texts r.texts (with_taken tk (progress m.parts later))) b
-    ∙ ap (λ ps. with_texts r.texts (with_taken (r.taken ++ bytes) (progress ps later))) c
-    ∙ ap (with_texts r.texts) (taken-more r.taken bytes (progress (part ∷ rest_parts r.parts) later))
 
 by-hand : (r : Reached) (part : Part) (answers : List (Result (List ℕ) ℕ)) → first_part r.parts ≡ Some part
     → reached_progress r answers ≡ with_texts r.texts (with_taken r.taken (progress (part ∷ rest_parts r.parts) answers))

@@ -41,9 +41,6 @@ zero_found bytes n e = (found bytes n e).0
 pub zero_place : (bytes : List ℕ) (n : ℕ) → position (λ b. b == 0) bytes ≡ Some n → before_zero bytes ≡ take n bytes
 zero_place bytes n e = (found bytes n e).1
 
-pub zero_inside : (bytes : List ℕ) (n : ℕ) → position (λ b. b == 0) bytes ≡ Some n → n ≤ length bytes
-zero_inside bytes n e = (found bytes n e).2
-
 pub zero_missing : (bytes : List ℕ) → position (λ b. b == 0) bytes ≡ None → has_zero bytes ≡ false
 zero_missing bytes e = elim (cases_Bool (nat_lt (prefix_len (λ b. not (b == 0)) bytes) (length bytes))) [
   | inl h ↦ absurd (some-not (rw h at e))

@@ -1,6 +1,6 @@
 -- A text is compared with what is written: they have in common what was written of it.
 -- By induction on how many bytes are the same, and by cases on whether another byte was written.
-use Rattle.std.proofs.Common.{◌≡◌, ℕ, zero, suc, ◌+◌, ◌-◌, ◌<◌, ◌≤◌, ◌^◌, Bool, true, false, List, [], ◌∷◌, ◌++◌, length, take, drop, Option, Some, None, Result, Ok, Err, refl, sym, ap, ap₂, ◌∙◌, append_assoc, append-nil, get_or, subst, arith, add-one, take_all}
+use Rattle.std.proofs.Common.{◌≡◌, ℕ, zero, suc, ◌+◌, ◌-◌, ◌<◌, ◌≤◌, ◌^◌, Bool, true, false, List, [], ◌∷◌, ◌++◌, length, take, drop, Option, Some, None, Ok, Err, refl, sym, ap, ap₂, ◌∙◌, append_assoc, append-nil, get_or, subst, arith, add-one, take_all}
 use Rattle.std.specs.Prelude.{if◌then◌else◌, ◌==◌, is_some, slice_get}
 use Rattle.std.specs.Option.{ForSome}
 use Rattle.std.proofs.lemmas.Bool.{eqb-true}
@@ -10,7 +10,6 @@ use Rattle.std.proofs.lemmas.List.{length-take, length-take-le, take-append-drop
 use Rattle.std.proofs.Math.Seq.{take-add}
 use Rattle.io_edge.specs.SinkState.{AddsPrefix, SinkState, Writes}
 use Rattle.audit_log.specs.Written.{Wrote}
-use Rattle.audit_log.specs.declared.error.ReportError.{ReportError}
 use Rattle.audit_log.specs.declared.error.ReportError.TheVariants.{WriteFault}
 use Rattle.audit_check.specs.Pass.{Compares, ends, faults_of, parted, told, written}
 use Rattle.audit_check.proofs.Cut.{rest_whole}

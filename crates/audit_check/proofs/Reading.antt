@@ -36,10 +36,6 @@ abbrev event_lines : List Event → List (List ℕ)
 event_lines [] = []
 event_lines (e ∷ K) = event_lines K ++ event_line (length K) e ∷ []
 
-length-lines : (K : List Event) → length (event_lines K) ≡ length K
-length-lines [] = refl
-length-lines (e ∷ K) = omega (arith, length-append (event_lines K) (event_line (length K) e ∷ []), length-lines K)
-
 -- earlier events have the first lines
 lines-before : (later K : List Event) → (more : List (List ℕ)) × (event_lines (later ++ K) ≡ event_lines K ++ more)
 lines-before [] K = ([], sym (append-nil (event_lines K)))

@@ -1,6 +1,6 @@
 -- One pass over the lines of a report: the actor that a line names steps, and the line that this makes is compared.
 use Rattle.std.specs.Prelude.{◌≡◌, ℕ, zero, suc, ◌+◌, ◌-◌, ◌<◌, ◌≤◌, ◌^◌, Bool, true, false, ◌&&◌, ◌||◌, not, if◌then◌else◌, ◌==◌, List, []}
-use Rattle.std.specs.Prelude.{◌∷◌, ◌++◌, length, take, drop, Option, Some, None, bytes_eq, codes}
+use Rattle.std.specs.Prelude.{◌∷◌, length, take, drop, Option, Some, None, bytes_eq, codes}
 use Rattle.hist_model.specs.Kinds.{closes}
 use Rattle.hist_model.specs.Legal.{started, with_step}
 use Rattle.hist_model.specs.ReportAudit.{judging_by}

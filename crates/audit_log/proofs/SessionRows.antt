@@ -23,7 +23,7 @@ use Rattle.audit_log.specs.Begun.{Begun, IsRead, told, with_step}
 use Rattle.audit_log.specs.SessionFacts.{facts_of}
 use Rattle.audit_log.specs.SessionStages.{no_stages}
 use Rattle.audit_log.specs.Sessions.{after_event, begun, started, with_event}
-use Rattle.audit_log.specs.SessionTable.{AllShut, IsGrown, IsRowStepped, IsSame, IsStepped, StandsFor, current, no_row, no_session, nobody, session_in}
+use Rattle.audit_log.specs.SessionTable.{AllShut, IsGrown, IsRowStepped, IsStepped, StandsFor, current, no_row, no_session, nobody, session_in}
 use Rattle.audit_log.specs.declared.session.SessionRecord.{SessionRecord}
 use Rattle.audit_log.specs.declared.session_table.Current.{Current}
 use Rattle.audit_log.specs.declared.session_table.SessionTable.{SessionTable}
@@ -268,27 +268,6 @@ begun_ok (Ok v) rules S t u place w number row n x k over small e1 e2 rs ws o na
     joined_by rules S t u place w n x k over l rs (ws ∙ ap (λ i. set t.workers.items i x) e1) (o ∙ ap Some e2) named f
 
 -- ---- More workers
-
--- each worker is as it was
-pub all_same : (xs : List Current) → IsGrown xs xs
-all_same xs w = record { row = refl; same = λ j p. refl }
-
--- one more worker, without a session
-pub one_grown : (old xs : List Current) (x : Current) → IsGrown old xs → x.row ≡ None → IsGrown old (xs ++ x ∷ [])
-one_grown old xs x g none w = elim (cases_order w (length xs)) [
-  | inl q ↦
-      let before : get_or xs w nobody ≡ nobody = get_or_past xs w nobody (omega arith) in
-      let now : get_or (xs ++ x ∷ []) w nobody ≡ x = ap (λ n. get_or (xs ++ x ∷ []) n nobody) q ∙ get_or_at xs x [] nobody (length xs) refl in
-      let was : (get_or old w nobody).row ≡ None = sym (g w).row ∙ ap (λ (c : Current). c.row) before in
-      record { row = ap (λ (c : Current). c.row) now ∙ none ∙ sym was; same = λ j p. let z : None ≡ Some j = sym was ∙ p in cc z }
-  | inr o ↦ elim o [
-    | inl m ↦ subst (IsSame (get_or old w nobody)) (sym (get_or_append_left xs (x ∷ []) nobody w m)) (g w)
-    | inr m ↦
-        let before : get_or xs w nobody ≡ nobody = get_or_past xs w nobody (omega arith) in
-        let now : get_or (xs ++ x ∷ []) w nobody ≡ nobody = get_or_past (xs ++ x ∷ []) w nobody (omega (arith, length-append xs (x ∷ []))) in
-        subst (IsSame (get_or old w nobody)) (before ∙ sym now) (g w)
-  ]
-]
 
 -- the table with more workers
 pub grown_stands : (rules : List Rule) (S : List Begun) (t u : SessionTable) → StandsFor rules S t → u.rows.items ≡ t.rows.items → IsGrown t.workers.items u.workers.items → StandsFor rules S u

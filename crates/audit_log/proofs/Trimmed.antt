@@ -4,7 +4,7 @@ use Rattle.std.proofs.Common.{◌≡◌, ℕ, zero, suc, ◌+◌, ◌-◌, ◌<�
 use Rattle.std.specs.Prelude.{replicate}
 use Rattle.std.specs.List.{slice_range}
 use Rattle.std.proofs.Math.Seq.{take-add}
-use Rattle.std.proofs.lemmas.List.{take_more, take-take}
+use Rattle.std.proofs.lemmas.List.{take_more}
 use Rattle.std.proofs.lemmas.Bool.{ne_eqb}
 use Rattle.hist_model.specs.ReportWords.{trimmed, trim_onto}
 
@@ -25,10 +25,6 @@ trimmed_zeros k xs n low high is =
     let end : take k (drop (n - k) xs) ≡ replicate k 0 = ap (λ m. take m (drop (n - k) xs)) (sym size) ∙ is in
     let whole : take n xs ≡ take (n - k) xs ++ take k (drop (n - k) xs) = ap (λ m. take m xs) (omega arith) ∙ take-add (n - k) k xs in
     sym (ap trimmed (whole ∙ ap (λ ys. take (n - k) xs ++ ys) end) ∙ zeros-last k (take (n - k) xs))
-
--- what is left of a front is a front
-pub trimmed_twice : (xs : List ℕ) (m n : ℕ) → n ≤ m → trimmed (take n (take m xs)) ≡ trimmed (take m xs) → trimmed (take m xs) ≡ trimmed xs → trimmed (take n xs) ≡ trimmed xs
-trimmed_twice xs m n le second first = ap trimmed (sym (take-take n m xs le)) ∙ second ∙ first
 
 onto-full : (x b : ℕ) (xs : List ℕ) → trim_onto x (xs ++ b ∷ []) ≡ x ∷ (xs ++ b ∷ [])
 onto-full x b [] = refl

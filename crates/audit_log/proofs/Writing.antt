@@ -10,7 +10,6 @@ use Rattle.hist_model.specs.declared.event.Event.{Event}
 use Rattle.hist_model.specs.ReportJournal.{lines_of}
 use Rattle.audit_log.specs.Written.{Wrote}
 use Rattle.audit_log.specs.declared.error.ReportError.{ReportError}
-use Rattle.audit_log.specs.declared.error.ReportError.TheVariants.{NoMemory}
 
 -- nothing is a prefix
 pub adds_nothing : (old text : List ℕ) → AddsPrefix old text old
@@ -30,9 +29,6 @@ adds_after old a b mid new whole (n, le, is) = (
 
 pub wrote_nothing : (s : SinkState) → Wrote s [] (Ok tt) s
 wrote_nothing s = record { tells = refl; faults = omega arith; cause = λ p. cc; whole = λ t. sym (append-nil s.taken); part = tt }
-
-pub wrote_none : (s : SinkState) (text : List ℕ) → Wrote s text (Err NoMemory) s
-wrote_none s text = record { tells = refl; faults = omega arith; cause = λ p. cc; whole = tt; part = λ t. adds_nothing s.taken text }
 
 pub wrote_more : (old mid new : SinkState) (a b : List ℕ) (r : Result (Unit {0}) ReportError) → Wrote old a (Ok tt) mid → Wrote mid b r new → Wrote old (a ++ b) r new
 wrote_more old mid new a b (Ok u) f g = record {

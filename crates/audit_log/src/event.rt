@@ -2,7 +2,7 @@
 
 ghost use Rattle.std.specs.Prelude.{◌≡◌, ◌++◌, OnOk, codes, decimal, replicate, take, true, length, ◌<◌, ◌≤◌};
 ghost use Rattle.hist_model.specs.ReportWords.{number_text, result_text, trimmed};
-ghost use Rattle.hist_model.specs.ReportJournal.{request_text, spawn_kind_text, spawned_text, disposition_text, entered_text, args_text, delivered_text, reaped_text, received_text, read_text, asked_text, what_text};
+ghost use Rattle.hist_model.specs.ReportJournal.{request_text, spawn_kind_text, spawned_text, disposition_text, entered_text, args_text, delivered_text, read_text, asked_text, what_text};
 
 use crate::line::LineBuffer;
 use crate::request::push_request;

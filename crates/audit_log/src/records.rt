@@ -2,7 +2,7 @@
 
 ghost use Rattle.std.specs.Prelude.{◌≡◌, ◌++◌, ◌∷◌, [], OnOk, get_or, if◌then◌else◌};
 ghost use Rattle.audit_log.specs.Places.{Rise, row_in};
-ghost use Rattle.audit_log.specs.Records.{advanced, first_record, moves, no_record, placed, record_after, record_in, record_of_row, recorded, row_at};
+ghost use Rattle.audit_log.specs.Records.{advanced, first_record, moves, placed, record_after, record_in, record_of_row, recorded, row_at};
 
 use crate::count::enters;
 use crate::outcome::{is_pending, outcome_at_entry, outcome_next};

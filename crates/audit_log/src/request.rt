@@ -1,7 +1,7 @@
 //! What a worker does for a call, in words.
 
 ghost use Rattle.std.specs.Prelude.{◌≡◌, ◌++◌, OnOk, codes, decimal};
-ghost use Rattle.hist_model.specs.ReportWords.{quoted, program_text, hex_or_dash};
+ghost use Rattle.hist_model.specs.ReportWords.{quoted, program_text};
 ghost use Rattle.hist_model.specs.ReportJournal.{maker_text, node_text, request_text, shift_text};
 ghost use Rattle.sys_abi.specs.Devices.{major_of, minor_of};
 

@@ -1,7 +1,7 @@
 //! What is read in a session, and what the policy makes of it.
 
 ghost use Rattle.std.specs.Prelude.{◌≡◌, ◌++◌, [], ℕ, List, Result, OnOk, if◌then◌else◌};
-ghost use Rattle.hist_model.specs.Copies.{fits_piece, heard, plan, progress, wanted, with_heard};
+ghost use Rattle.hist_model.specs.Copies.{fits_piece, heard, plan, progress, with_heard};
 ghost use Rattle.hist_model.specs.ReportAudit.{judged_by, read_in};
 ghost use Rattle.hist_model.specs.declared.copy.Part.{Part};
 ghost use Rattle.arg_capture.specs.Captures.{Follows};

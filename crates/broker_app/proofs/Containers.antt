@@ -1,13 +1,12 @@
 -- What is read of containers, which of their ranges overlap, and how a pod ends.
 -- By cases on the status, and by induction on lists of pairs of files.
-use Rattle.std.proofs.Common.{◌≡◌, ℕ, ◌+◌, ◌*◌, ◌<◌, ◌≤◌, Bool, true, false, suc, List, [], ◌∷◌, ◌++◌, length, take, drop, get_or, Result, Ok, Err, inl, inr, refl, sym, subst, ◌∙◌, ap, ap₂, append-nil, append_assoc, arith, length-append}
-use Rattle.std.specs.Prelude.{None, String, ◌-◌, ◌&&◌, ◌%◌, ◌==◌, nat_le, nat_lt}
+use Rattle.std.proofs.Common.{◌≡◌, ℕ, ◌+◌, ◌*◌, ◌<◌, ◌≤◌, true, false, List, [], ◌∷◌, ◌++◌, length, take, drop, get_or, Result, Ok, Err, inl, inr, refl, sym, subst, ◌∙◌, ap, ap₂, append-nil, append_assoc, arith, length-append}
+use Rattle.std.specs.Prelude.{None, String, ◌-◌, ◌&&◌, ◌%◌, ◌==◌, nat_le}
 use Rattle.std.specs.List.{AllZip}
 use Rattle.std.specs.String.{string_bytes}
 use Rattle.std.specs.declared.alloc.Global.{Global}
-use Rattle.std.proofs.lemmas.List.Elements.{pair_read}
 use Rattle.std.proofs.lemmas.List.{get_or-map, length-map, take_all}
-use Rattle.std.proofs.lemmas.Bool.{and_parts, leb-true, ltb-false, ltb-true}
+use Rattle.std.proofs.lemmas.Bool.{and_parts, leb-true}
 use Rattle.std.proofs.lemmas.Slice.Zip.{AllZip-long}
 use Rattle.io_edge.specs.FileState.{FileState, SameFiles}
 use Rattle.io_edge.specs.SinkState.{SinkState}
@@ -20,7 +19,7 @@ use Rattle.broker_app.proofs.Reading.{input_before, policy_is_before, script_is_
 use Rattle.broker_app.specs.Answers.{Printed, status_of}
 use Rattle.broker_app.specs.Forms.{texts}
 use Rattle.broker_app.specs.PodText.{pod_text}
-use Rattle.broker_app.specs.Pods.{AreSeparate, AreServedApart, AreTaken, ContainerStops, HaveEnded, IsSeparateBehind, Overlap, IsTaken, Overlapping, PairStops, PodEnds, in_container, scripts_of}
+use Rattle.broker_app.specs.Pods.{AreSeparate, AreServedApart, AreTaken, ContainerStops, HaveEnded, IsTaken, Overlapping, PairStops, PodEnds, in_container, scripts_of}
 use Rattle.broker_app.specs.Refusals.{InputRefused}
 use Rattle.broker_app.specs.Runs.{AreRun, ByWorkers}
 use Rattle.broker_app.specs.Words.{FilePair, are_pairs, form, in_pairs}
@@ -79,10 +78,6 @@ no_form (a ∷ b ∷ c ∷ more) few = let no : ⊥ = omega (arith, few) in absu
 abbrev pub ReadSoFar : FileState → List (List ℕ) → List (List ℕ) → List Container → ℕ → Type 0
 ReadSoFar files names rest cs number = (seen : List FilePair) × (in_pairs names ≡ seen ++ in_pairs rest) × (length seen ≡ number) × AreTaken files seen cs
 
--- none so far
-pub none_read : (files : FileState) (names : List (List ℕ)) → ReadSoFar files names names [] 0
-none_read files names = ([], refl, refl, tt)
-
 -- one more pair was taken
 pub one_read : (files mid after : FileState) (names rest : List (List ℕ)) (policy script : List ℕ) (cs : List Container) (c : Container) (number : ℕ) → SameFiles files mid
     → IsTaken mid (record { policy = policy; script = script }) c → ReadSoFar files names (policy ∷ script ∷ rest) cs number → ReadSoFar files names rest (cs ++ c ∷ []) (number + 1)
@@ -130,26 +125,6 @@ all_read files names rest cs number none (seen, all, count, before) =
     subst (λ (pairs : List FilePair). AreTaken files pairs cs) (sym (all ∙ (ap (λ (pairs : List FilePair). seen ++ pairs) none ∙ append-nil seen))) before
 
 -- ---- Ranges of PIDs
-
--- what was found of two containers that were read at their places
-pub overlap_at : (cs : List Container) (i j : ℕ) (a b : Container) (is : Bool) → i < length cs → j < length cs → a ≡ get_or cs i a → b ≡ get_or cs j b → overlap a.script b.script ≡ is → Overlap cs i j is
-overlap_at cs i j a b is l m at_i at_j h = pair_read cs (λ (x y : Container). overlap x.script y.script ≡ is) i j a b l m at_i at_j h
-
--- the range overlaps one range less
-pub separate_more : (cs : List Container) (i j : ℕ) → Overlap cs i j false → IsSeparateBehind cs i j → IsSeparateBehind cs i (j + 1)
-separate_more cs i j here before = λ k behind within. by k behind within (nat_lt k j) refl
-  where
-    by : (k : ℕ) → i < k → k < j + 1 → (is : Bool) → nat_lt k j ≡ is → Overlap cs i k false
-    by k behind within true e = before k behind (ltb-true k j e)
-    by k behind within false e = let last = ltb-false k j e in let same : j ≡ k = omega (arith, within, last) in subst (λ (n : ℕ). Overlap cs i n false) same here
-
--- one more range overlaps none behind it
-pub separate_next : (cs : List Container) (i : ℕ) → IsSeparateBehind cs i (length cs) → AreSeparate cs i → AreSeparate cs (i + 1)
-separate_next cs i here before = λ k within. by k within (nat_lt k i) refl
-  where
-    by : (k : ℕ) → k < i + 1 → (is : Bool) → nat_lt k i ≡ is → IsSeparateBehind cs k (length cs)
-    by k within true e = before k (ltb-true k i e)
-    by k within false e = let last = ltb-false k i e in let same : i ≡ k = omega (arith, within, last) in subst (λ (n : ℕ). IsSeparateBehind cs n (length cs)) same here
 
 -- where no range overlaps one behind it, no two overlap
 pub none_overlap : (cs : List Container) → AreSeparate cs (length cs) → NoneOverlap (scripts cs)

@@ -1,6 +1,6 @@
 -- The text of a pod, part after part, and the sums of the counts.
 -- By the lines one after another, by induction on the containers, and since a list without its front begins with the element there.
-use Rattle.std.proofs.Common.{◌≡◌, ℕ, ◌+◌, ◌<◌, ◌≤◌, List, [], ◌∷◌, ◌++◌, suc, length, take, drop, get_or, refl, sym, ap, ◌∙◌, append-nil, append_assoc, arith, add-one}
+use Rattle.std.proofs.Common.{◌≡◌, ℕ, ◌+◌, ◌<◌, ◌≤◌, List, [], ◌∷◌, ◌++◌, suc, length, take, drop, get_or, sym, ap, ◌∙◌, append-nil, append_assoc, arith, add-one}
 use Rattle.std.specs.Prelude.{Ok, Err}
 use Rattle.std.proofs.Math.Seq.{drop-cons}
 use Rattle.std.proofs.lemmas.List.{drop_all, length-take-le, take-append-drop, take_all, take_more}

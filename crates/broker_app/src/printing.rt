@@ -2,7 +2,7 @@
 
 ghost use Rattle.std.specs.Prelude.{◌≡◌, ◌++◌, IfOk, OnOk};
 ghost use Rattle.std.specs.List.{flat_map};
-ghost use Rattle.hist_model.specs.Report.{report, summary};
+ghost use Rattle.hist_model.specs.Report.{report};
 ghost use Rattle.hist_model.specs.ReportAudit.{judging_by};
 ghost use Rattle.audit_log.specs.Counts.{counts_of};
 ghost use Rattle.audit_log.specs.Tables.{TellsTables};

@@ -1,6 +1,6 @@
 -- How a play of bytes ended whose workers were replaced, from how the top call ended over them as files, and a sink in memory.
 -- By whether they can be replaced after so many steps, and by how a play ends.
-use Rattle.std.proofs.Common.{◌≡◌, ℕ, ◌≤◌, Bool, true, false, ◌&&◌, List, [], length, inl, refl, sym, subst, arith, Option, None, Some}
+use Rattle.std.proofs.Common.{◌≡◌, ℕ, Bool, true, false, ◌&&◌, List, [], length, inl, refl, sym, subst, arith, Option, None, Some}
 use Rattle.std.specs.Prelude.{codes, nat_le, nat_lt, if◌then◌else◌}
 use Rattle.std.proofs.lemmas.Bool.{ltb-true}
 use Rattle.io_edge.specs.FileState.{FileState}

@@ -15,12 +15,6 @@ use Rattle.broker_c.specs.Outcomes.{Says, settled}
 whole : (status : Status) (err : SinkState) → nat_lt 0 err.faults ≡ false → Said empty_sink (line_of status) err → err.taken ≡ line_of status
 whole status err good said = let none = ltb-false 0 err.faults good in elim said.whole [ inl rose ↦ absurd (grind arith) | inr line ↦ line.0 refl ]
 
--- a line that was said whole
-says_whole : (status : Status) (err : SinkState) → err.taken ≡ line_of status → Says status err.taken
-says_whole WriteFault err is = tt
-says_whole NoMemory err is = tt
-says_whole status err is = is
-
 pub says_settled : (over failed : Bool) (status : Status) (err : SinkState) → nat_lt 0 err.faults ≡ failed → Said empty_sink (line_of status) err → Says (settled over failed status) err.taken
 says_settled true failed status err is said = tt
 says_settled false failed WriteFault err is said = tt

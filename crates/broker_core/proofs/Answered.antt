@@ -1,12 +1,11 @@
 -- What a worker remembers after an answer: its session with one more step, a session that has begun, or none.
 -- By the cases of the deed and of its answer, with `known_after` for the steps inside a session.
-use Rattle.std.proofs.Common.{◌≡◌, ℕ, true, false, List, [], ◌∷◌, refl, ap, sym, subst, ◌∙◌, Option, Some, None, inl, inr}
-use Rattle.std.specs.Prelude.{Ok, Err}
-use Rattle.std.proofs.lemmas.Bool.{or_right}
+use Rattle.std.proofs.Common.{◌≡◌, true, false, List, [], ◌∷◌, refl, ap, sym, subst, ◌∙◌, Option, Some, None, inl, inr}
+use Rattle.std.specs.Prelude.{Ok}
 use Rattle.hist_model.specs.Copies.{plan}
 use Rattle.hist_model.specs.Deeds.{Deed}
-use Rattle.hist_model.specs.Kinds.{starts, is_letgo, skips}
-use Rattle.hist_model.specs.Sessions.{any_of, joined}
+use Rattle.hist_model.specs.Kinds.{starts, skips}
+use Rattle.hist_model.specs.Sessions.{joined}
 use Rattle.hist_model.specs.declared.event.What.{What}
 use Rattle.hist_model.specs.declared.event.What.TheVariants as step
 use Rattle.hist_model.specs.declared.policy.Rule.{Rule}
@@ -50,16 +49,6 @@ pub begins_if : (rules : List Rule) (own : List What) (c : Captured) (n : Notif)
     → KnowsIf rules (with_step (step.Recv (Ok n)) own) c o
 begins_if rules own c n None b f = absurd b
 begins_if rules own c n (Some s) b f = begins-anew rules own c n s b f
-
--- a step without a session leaves none open
-stays-idle : (own : List What) (what : What) → starts what ≡ false → Idle own → Idle (joined what own)
-stays-idle [] what s h = rw s (inl refl)
-stays-idle (a ∷ own) what s (inl h) = cc
-stays-idle (a ∷ own) what s (inr h) = rw s (inr (or_right (is_letgo what) (any_of is_letgo (a ∷ own)) h))
-
--- a receive without a notification
-pub stays_idle : (own : List What) (e : ℕ) → Idle own → Idle (with_step (step_of Deed.Recv (Failed e)) own)
-stays_idle own e h = stays-idle own (step.Recv (Err e)) refl h
 
 -- ---- The end of a session
 

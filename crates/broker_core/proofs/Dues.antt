@@ -122,12 +122,6 @@ not_reading c Unchecked h = tt
 not_reading c (Judged f) h = tt
 not_reading c (Confirmed f) h = tt
 
-pub reads_then : (stage : Stage) → is_reading stage ≡ true → stage ≡ Reading
-reads_then Reading h = refl
-reads_then Unchecked h = cc
-reads_then (Judged f) h = cc
-reads_then (Confirmed f) h = cc
-
 pub on_ok : {A E X : Type 0} (r : Result A E) → X → OnOk r X
 on_ok (Ok a) x = x
 on_ok (Err e) x = tt

@@ -19,10 +19,6 @@ readied old new k events same =
       past_is = events;
     }
 
--- room of the resources alone
-pub supplied : (old new : Kernel) → IsKernel new → new ≡ record old { resources = new.resources } → IsSame old new
-supplied old new k same = record { kernel = k; script = ap (λ (x : Kernel). x.script) same; past_is = ap (λ (x : Kernel). past x) same }
-
 -- a kernel that stayed the same twice
 pub same-still : (old mid new : Kernel) → IsSame old mid → IsSame mid new → IsSame old new
 same-still old mid new a b = record { kernel = b.kernel; script = b.script ∙ a.script; past_is = b.past_is ∙ a.past_is }

@@ -1,12 +1,12 @@
 -- The turns of the kernel's and the broker's actors.
 -- By the kernel after the actor's step, and what each worker remembers then.
-use Rattle.std.proofs.Common.{◌≡◌, ℕ, ◌≤◌, Bool, List, [], length, true, false, ◌∙◌, refl}
+use Rattle.std.proofs.Common.{◌≡◌, ℕ, ◌≤◌, Bool, List, [], length, true, false, refl}
 use Rattle.std.specs.Prelude.{slice_set}
 use Rattle.std.proofs.lemmas.List.{length-set}
 use Rattle.hist_model.specs.Kinds.{skips}
 use Rattle.hist_model.specs.Look.{Name, ev}
 use Rattle.hist_model.specs.Names.{is_task_name}
-use Rattle.hist_model.specs.Legal.{rules_of, started, system_of, with_step}
+use Rattle.hist_model.specs.Legal.{rules_of, started, system_of}
 use Rattle.hist_model.specs.Sessions.{session}
 use Rattle.hist_model.specs.Steps.{start, step, task_step, worker_step}
 use Rattle.hist_model.specs.declared.event.Actor.{Actor}
@@ -106,28 +106,6 @@ at_start P S m k number workers = record {
   script = k.script;
   events = k.events;
 }
-
--- ---- one turn after another
-
-module _ (P : Policy) (old mid new : Machine) (r : Reaches P old (past mid.kernel) mid) where
-  pub reached_more : (K : List Event) → Reaches P mid K new → Reaches P old (past new.kernel) new
-  reached_more K s = record { served = s.served; script = s.script ∙ r.script; events = refl }
-
-  -- a step after none
-  pub turn_over : (a : Actor) → past mid.kernel ≡ past old.kernel → Reaches P mid (after_step P mid a) new → Reaches P old (after_step P old a) new
-  turn_over a same s = record { served = s.served; script = s.script ∙ r.script; events = rw (r.script, same) at s.events }
-
-  -- none after none
-  pub stay_over : past mid.kernel ≡ past old.kernel → Reaches P mid (past mid.kernel) new → Reaches P old (past old.kernel) new
-  stay_over same s = record { served = s.served; script = s.script ∙ r.script; events = s.events ∙ same }
-
-  -- the turn is one of the script of the first
-  pub step_more : (a : Actor) → Reaches P mid (after_step P mid a) new → past new.kernel ≡ with_step P old.kernel.script a (past mid.kernel)
-  step_more a s = rw r.script at s.events
-
--- the history that it stands at is known by another name
-pub reached_last : (P : Policy) (old new : Machine) (K : List Event) → Reaches P old (past new.kernel) new → past new.kernel ≡ K → Reaches P old K new
-reached_last P old new K r is = record { served = r.served; script = r.script; events = is }
 
 -- ---- A worker that another one replaces
 

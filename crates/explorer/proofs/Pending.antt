@@ -73,10 +73,6 @@ module _ (P : Policy) (S : Script) (W : ℕ) where
     later_more t q n d e =
         rw (e, first_turn by_turn q (able_from P S W (after P S (started S) fs) (last_place 0 fs) n) d, append_assoc) (sym (pushed q n d))
 
-    -- and no later one is able to
-    pub later_none : (t d : ℕ) → able_from P S W (after P S (started S) fs) (last_place 0 fs) t ≡ [] → later_from P S W fs t d ≡ []
-    later_none t d e = rw e refl
-
   -- ---- A turn less
 
   pub turns_less : (K : List Event) (fs : List Frame) (f : Frame) → AreTurns P S W K (fs ++ f ∷ []) → AreTurns P S W K fs

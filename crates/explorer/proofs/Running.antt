@@ -31,8 +31,6 @@ unfolding session
 task_after K n a w = refl
 
 module _ (P : Policy) (old new : Run) (going : IsGoing P old) where
-  due : Actor → What
-  due a = step (system_of (script_in old)) (rules_of P (script_in old).figures) (story old) a
 
   -- an actor that may step, and whose step is one
   able : (a : Actor) → may_step (story old) a ≡ true → skips (step (system_of (script_in old)) (rules_of P (script_in old).figures) (story old) a) ≡ false → is_able P (script_in old) (story old) a ≡ true
@@ -40,10 +38,6 @@ module _ (P : Policy) (old new : Run) (going : IsGoing P old) where
 
   unable : (a : Actor) → may_step (story old) a ≡ true → skips (step (system_of (script_in old)) (rules_of P (script_in old).figures) (story old) a) ≡ true → is_able P (script_in old) (story old) a ≡ false
   unable a m s = rw (m, s) refl
-
-  -- one that may not
-  pub not_its_turn : (a : Actor) → may_step (story old) a ≡ false → is_able P (script_in old) (story old) a ≡ false
-  not_its_turn a m = rw m refl
 
   -- nothing has changed
   same_run : new.hands ≡ old.hands → new.marks ≡ old.marks → machine.IsAt P (script_in old) (story old) new.machine → Comes P old (story old) new
@@ -78,10 +72,6 @@ step_marked P old new going w t k is what newest list h =
     let node : done_on k.script (past k) (Worker w) what ≡ done_on S (e ∷ K) (Worker w) e.what =
     ap (λ (T : Script). done_on T (past k) (Worker w) what) script ∙ (ap (λ (H : List Event). done_on S H (Worker w) what) events ∙ ap (done_on S (e ∷ K) (Worker w)) same) in
     h ∙ ap₂ (λ (ms more : List Mark). ms ++ more) going.marks_are (ap₂ marked place node)
-
--- a run that has come to a history goes on from it
-pub comes_on : (P : Policy) (old new : Run) (K : List Event) → Comes P old K new → IsGoing P new
-comes_on P old new K c = record { at = record { served = c.at.served; script = refl; events = refl }; hands = rw c.at.events c.hands; marks_are = rw (c.at.script, c.at.events) c.marks_are }
 
 -- where nothing had changed, a try is one of the run before
 pub tried_still : (P : Policy) (old mid new : Run) → Comes P old (story old) mid → (a : Actor) (b : Bool) → Tries P mid a b new → Tries P old a b new

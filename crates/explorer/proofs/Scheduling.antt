@@ -3,7 +3,7 @@
 use Rattle.std.proofs.Common.{◌≡◌, ℕ, ◌+◌, ◌<◌, ◌≤◌, nat_le, leb-true, leb-false, length-set, Bool, true, false, if◌then◌else◌, List, [], ◌∷◌, ◌++◌, length, get_or, set, take, drop, reverse, Some, None, refl, sym, ap, ◌∙◌, subst, arith}
 use Rattle.std.proofs.lemmas.List.{get_or_read, reverse-append, reverse-reverse, take-append-drop, take_all, take_more_set}
 use Rattle.std.proofs.lemmas.List.Sorted.{IsPermutation-reverse, sum_by-IsPermutation}
-use Rattle.std.proofs.lemmas.List.Sums.{sum_by-cons, sum_by_more_le}
+use Rattle.std.proofs.lemmas.List.Sums.{sum_by-cons}
 use Rattle.hist_model.proofs.Scans.{past_more, reverse_push}
 use Rattle.hist_model.specs.ScriptRules.{steps_of}
 use Rattle.hist_model.specs.declared.event.Actor.{Actor}
@@ -22,9 +22,6 @@ newest xs i d e = ap reverse (sym (take_all (i + 1) xs (omega arith))) ∙ past_
 counted_on : (a : Actor) (s : Step) (L : List Step) → is_same s.who a ≡ true → with_one a (s ∷ L) ≡ record { who = s.who; count = s.count + 1 } ∷ L
 counted_on a s L e = rw e refl
 
-begun_by : (a : Actor) (L : List Step) (s : Step) → is_same s.who a ≡ false → with_one a (s ∷ L) ≡ record { who = a; count = 1 } ∷ s ∷ L
-begun_by a L s e = rw e refl
-
 -- the newest line has one more step
 pub one_more : (a : Actor) (xs : List Step) (i : ℕ) (p q : Step) → length xs ≡ i + 1 → p ≡ get_or xs i p → q ≡ get_or xs i q → is_same p.who a ≡ true → reverse (set xs i (record { who = q.who; count = q.count + 1 })) ≡ with_one a (reverse xs)
 one_more a xs i p q e first second same =
@@ -34,17 +31,9 @@ one_more a xs i p q e first second same =
     let all : set xs i next ≡ take i xs ++ next ∷ [] = sym (take_all (i + 1) (set xs i next) (simp length-set (omega arith))) ∙ take_more_set xs i next (omega arith) in
     ap reverse all ∙ (reverse_push (take i xs) next ∙ rw line (sym (counted_on a q (reverse (take i xs)) (subst (λ (t : Step). is_same t.who a ≡ true) both same))))
 
--- a line is begun
-pub begun : (a : Actor) (xs : List Step) (i : ℕ) (d : Step) → length xs ≡ i + 1 → is_same (get_or xs i d).who a ≡ false → reverse (xs ++ record { who = a; count = 1 } ∷ []) ≡ with_one a (reverse xs)
-begun a xs i d e other = reverse_push xs (record { who = a; count = 1 }) ∙ rw (newest xs i d e) (sym (begun_by a (reverse (take i xs)) (get_or xs i d) other))
-
 pub first : (a : Actor) (xs : List Step) → length xs ≡ 0 → reverse (xs ++ record { who = a; count = 1 } ∷ []) ≡ with_one a (reverse xs)
 first a [] e = refl
 first a (s ∷ xs) e = absurd (omega arith)
-
--- its steps are some of them all
-pub line_within : (xs : List Step) (i : ℕ) (d : Step) → i < length xs → (get_or xs i d).count ≤ steps_of xs
-line_within xs i d l = omega (arith, sum_by_more_le (λ (s : Step). s.count) xs i d l)
 
 -- ---- How many steps
 

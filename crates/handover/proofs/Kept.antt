@@ -1,6 +1,6 @@
 -- The ledgers of a history after one more event, and the ledgers from which workers were replaced in it.
 -- By the law that one more step is one more answer of its worker's ledger, and by cases on whether the event is a worker's step.
-use Rattle.std.proofs.Common.{◌≡◌, ℕ, suc, ◌+◌, ◌-◌, ◌<◌, ◌≤◌, ◌^◌, Bool, true, false, not, ◌&&◌, List, [], ◌∷◌, ◌++◌, length, refl, sym, ap, subst, ◌∙◌, ◌⊎◌, inl, inr, Option, Some, None, append-nil, arith}
+use Rattle.std.proofs.Common.{◌≡◌, ℕ, suc, ◌+◌, ◌-◌, ◌<◌, ◌≤◌, ◌^◌, Bool, true, false, not, ◌&&◌, List, [], ◌∷◌, ◌++◌, length, refl, sym, ap, ◌∙◌, ◌⊎◌, inl, inr, Option, Some, None, append-nil, arith}
 use Rattle.std.specs.Prelude.{if◌then◌else◌, ◌==◌, ◌%◌, ◌/◌, get_or, slice_set}
 use Rattle.std.proofs.lemmas.Bool.{cases_Bool, eqb-true, cases_lt, eq-eqb, ne_eqb, lt-ltb}
 use Rattle.std.proofs.lemmas.List.{get_or_append_left, get_or-set_same, get_or-set_other, length-append, length-set}
@@ -25,7 +25,7 @@ use Rattle.worker_ledger.specs.declared.ledger.Ledger.{Ledger}
 use Rattle.handover.specs.Handing.{Handed, handed, handed_after, handed_at, is_some_worker, is_worker_step, worker_number, worker_steps}
 use Rattle.handover.specs.Keeping.{AllKeep, AreBehind, AreLedgers, Keeps, all_handed, handed_as, newest_skips}
 use Rattle.handover.specs.Ledgers.{is_step_of, ledger_of, taken, told_in}
-use Rattle.handover.specs.Replacing.{IsOneBehind, written}
+use Rattle.handover.specs.Replacing.{written}
 use Rattle.handover.specs.declared.ledgers.Handover.{Handover}
 use Rattle.handover.specs.declared.ledgers.Ledgers.{Ledgers}
 use Rattle.handover.proofs.Fitting.{has_answer}
@@ -79,9 +79,6 @@ none-by : (e : Event) → worker_number e.who ≡ None → is_worker_step e ≡ 
 none-by e h = ap (λ (o : Option ℕ). is_some_worker o && not (skips e.what)) h
 
 -- ---- One ledger
-
-pub text_is : (K : List Event) (w : ℕ) (l : Ledger) → Keeps K w l → (l.no ≡ w) × (l.count ≡ taken K w) × (all_heard l.own.items ≡ told_in K w)
-text_is K w l k = (k.number, k.count, k.told)
 
 pub keeps_other : (e : Event) (K : List Event) (w : ℕ) (l : Ledger) → is_step_of w e ≡ false → Keeps K w l → Keeps (e ∷ K) w l
 keeps_other e K w l h k = record {
@@ -187,12 +184,6 @@ all-handed-more [] h = refl
 all-handed-more (x ∷ old) h = ap (λ (xs : List Handed). handed_as x ∷ xs) (all-handed-more old h)
 
 -- ---- The ledgers after a worker's event
-
-pub one_behind : (w : ℕ) (H : List Event) (ls : Ledgers) (item : Ledger) → AreBehind w H ls → newest_skips H ≡ false → w ≤ 16 → item ≡ get_or ls.ledgers.items w item → IsOneBehind w H item
-one_behind w [] ls item b s l is = absurd b
-one_behind w (e ∷ K) ls item b s l is =
-    let number : length ls.ledgers.items ≡ 17 = b.1.number in
-    (its-step e w b.0 s, subst (λ (x : Ledger). Keeps K w x) (sym is) (b.1.keep w item (omega arith)))
 
 pub steps_few : (w : ℕ) (H : List Event) (ls : Ledgers) → AreBehind w H ls → length H < 2 ^ 62 → ls.steps + 1 < 2 ^ 63
 steps_few w [] ls b few = absurd b

@@ -1,13 +1,12 @@
 //! The plays of a schedule, each of whose steps may replace the worker that took it.
 
 ghost use Rattle.std.specs.Prelude.{◌≡◌, ◌<◌, ◌∷◌, IfOk};
-ghost use Rattle.hist_model.specs.Legal.{played, started};
+ghost use Rattle.hist_model.specs.Legal.{played};
 ghost use Rattle.hist_model.specs.Look.{ev};
 ghost use Rattle.hist_model.specs.declared.event.Actor.TheVariants.{Listener};
 ghost use Rattle.hist_model.specs.declared.event.What.TheVariants.{Close};
-ghost use Rattle.hist_model.specs.declared.script.Script.{Script as ScriptValue};
 ghost use Rattle.handover.specs.Handing.{handed};
-ghost use Rattle.handover.specs.Keeping.{AreLedgers, all_handed};
+ghost use Rattle.handover.specs.Keeping.{all_handed};
 
 use crate::served::{ReplacingSteps, Served};
 use handover::{Handover, Ledgers};

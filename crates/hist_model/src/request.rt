@@ -6,7 +6,6 @@ ghost use Rattle.hist_model.specs.Requests.{low_32};
 use crate::text::{Sequence, Text};
 use std::alloc::Global;
 use sys_abi::calls;
-use sys_abi::errno::Errno;
 use sys_abi::memory::NoMemory;
 
 /// A task, as a table of tasks names it: by its slot, and by its ordinal, which is the number of tasks that were made before

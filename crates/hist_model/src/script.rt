@@ -1,7 +1,5 @@
 //! Scripts, as plain data: the settings of a container, its programs, and the order of steps.
 
-ghost use Rattle.std.specs.Prelude.{◌≡◌, []};
-
 use crate::event::{Actor, Disposition};
 use crate::request::{Node, NodeRef};
 use crate::text::{Sequence, Text};
@@ -181,15 +179,5 @@ impl Drop for Script {
             programs: _programs,
             schedule: _schedule,
         } = self;
-    }
-}
-
-impl Script {
-    /// Takes the schedule, and leaves it empty and all else as it is.
-    pub fn take_schedule(&mut self) -> Vec<Step>
-        ensures taken { result.items ≡ self.old.schedule }
-        ensures left { self.new ≡ record self.old { schedule = [] } }
-    {
-        self.schedule.take_items()
     }
 }

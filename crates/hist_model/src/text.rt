@@ -4,7 +4,6 @@ ghost use Rattle.std.specs.Prelude.{◌≡◌, ◌↔◌, IsTrue, [], IfOk, IfSo
 
 use std::alloc::Global;
 use std::marker::Model;
-use std::mem;
 use sys_abi::memory::NoMemory;
 
 /// Bytes: a path, a name, a value. They need not be UTF-8.
@@ -233,14 +232,5 @@ impl<T> Sequence<T> {
     {
         let Sequence { items } = self;
         items
-    }
-
-    /// Takes its items and leaves it empty.
-    pub fn take_items(&mut self) -> Vec<T>
-        ensures taken { result.items ≡ self.old }
-        ensures left { self.new ≡ [] }
-    {
-        let none = Vec::new(*self.items.allocator());
-        mem::replace(&mut self.items, none)
     }
 }

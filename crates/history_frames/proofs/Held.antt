@@ -94,10 +94,6 @@ pids-more e K f d p t u h g =
       ]
     ]
 
-pub given-none : (w : What) (q : ℕ) → makes w ≡ false → given w ≡ Some q → ⊥
-given-none (Spawn n (Ok a)) q h g = cc
-given-none w q h g = cc
-
 pub older-made : (e : Event) (K : List Event) (n : Name) → is_made K n ≡ true → is_made (e ∷ K) n ≡ true
 unfolding is_made
 older-made e K n h = or_right (makes e.what && name_eq (child_of e.what) n) (is_made K n) h

@@ -5,7 +5,7 @@ use Rattle.std.specs.Prelude.{◌==◌}
 use Rattle.std.proofs.lemmas.Bool.{cases_Bool, eqb-true, eq-eqb, ne_eqb, and_parts, and_from, not-true}
 use Rattle.hist_model.specs.Look.{is_place}
 use Rattle.hist_model.specs.Kinds.{notifies}
-use Rattle.hist_model.specs.Calls.{caller, id, is_call, unlists, listed, fetched, named, calls}
+use Rattle.hist_model.specs.Calls.{caller, id, is_call, unlists, listed, fetched, named}
 use Rattle.hist_model.specs.declared.event.Event.{Event}
 use Rattle.hist_model.proofs.Look.{event_at-here, event_at-older, event_at-above, below_or_last, oldest-some, oldest-found}
 

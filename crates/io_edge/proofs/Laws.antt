@@ -4,10 +4,6 @@ use Rattle.std.proofs.Common.{ℕ, ◌≤◌, ◌∙◌, arith}
 use Rattle.io_edge.specs.Faults.{Rose}
 use Rattle.io_edge.specs.FileState.{FileState, SameFiles}
 
--- a count that rose and then didn't fall rose
-pub rose_then : (a b c : ℕ) → Rose a b → b ≤ c → Rose a c
-rose_then a b c rose le = λ below. omega arith
-
 -- so did one that didn't fall and then rose
 pub then_rose : (a b c : ℕ) → a ≤ b → Rose b c → Rose a c
 then_rose a b c le rose = λ below. omega arith

@@ -1,31 +1,22 @@
 -- What a turn leaves of what the state of lanes keeps: a step of a worker that may take it, a step of a task, or none.
 -- By the definition of laned histories, one event more, and by the table of seats, which stands for the longer history.
-use Rattle.std.proofs.Common.{◌≡◌, ℕ, ◌<◌, Bool, true, false, List, [], ◌∷◌, length, Option, Some, refl, sym, ap, ◌∙◌, subst, arith, ⊎_elim}
+use Rattle.std.proofs.Common.{◌≡◌, ℕ, ◌<◌, Bool, true, false, List, ◌∷◌, length, Option, Some, refl, sym, ap, ◌∙◌, arith, ⊎_elim}
 use Rattle.hist_model.proofs.Look.{event_at-below, event_at-here}
 use Rattle.hist_model.specs.Legal.{started}
 use Rattle.hist_model.specs.Look.{Name, ev, event_at}
 use Rattle.hist_model.specs.Sessions.{session}
-use Rattle.hist_model.specs.declared.event.Actor.{Actor}
 use Rattle.hist_model.specs.declared.event.Actor.TheVariants.{Task, Worker}
 use Rattle.hist_model.specs.declared.event.Event.{Event}
 use Rattle.hist_model.specs.declared.event.What.{What}
 use Rattle.hist_model.specs.declared.script.Script.{Script}
 use Rattle.lane_gate.specs.Keeping.{KeepsLanes}
 use Rattle.lane_seats.proofs.Sittings.{stands_still}
-use Rattle.lane_seats.specs.Lanes.{IsLowestFree, IsNext, KeepsLanes as MayStep, Laned, MayTurn, is_taken}
+use Rattle.lane_seats.specs.Lanes.{KeepsLanes as MayStep, Laned, is_taken}
 use Rattle.lane_seats.specs.Sittings.{StandsFor}
 use Rattle.lane_seats.specs.declared.seats.Sitting.{Sitting}
 use Rattle.worker_gate.specs.Keeping.{Adds, AddsTask, ServedFacts}
 
 -- ---- Who may step
-
--- the lowest free seat may
-pub lowest_may : (K : List Event) (seat : ℕ) → IsLowestFree K seat → MayStep K (Worker seat)
-lowest_may K seat h = subst (MayTurn K seat) (sym h.1) h
-
--- and a seat that is its lane's next
-pub next_may : (K : List Event) (seat : ℕ) → (is_taken K seat ≡ true) × IsNext K seat → MayStep K (Worker seat)
-next_may K seat h = subst (MayTurn K seat) (sym h.0) h.1
 
 -- ---- The start
 

@@ -3,7 +3,7 @@
 ghost use Rattle.std.specs.Prelude.{◌≡◌, ◌≤◌, ◌<◌, ◌+◌, true, length, All, IfOk, OnErr, OnOk};
 ghost use Rattle.lane_gate.specs.Keeping.{IsServedInLanes};
 ghost use Rattle.lane_gate.specs.declared.hands.Role.TheVariants.{Calling};
-ghost use Rattle.turn_lock.specs.Facts.{IsAlone, IsPassOf, PassFacts};
+ghost use Rattle.turn_lock.specs.Facts.{IsAlone, IsPassOf};
 ghost use Rattle.turn_lock.specs.Lists.{Begins};
 
 use crate::gate::LaneGate;

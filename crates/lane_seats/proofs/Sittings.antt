@@ -68,9 +68,6 @@ finds_next seats seat own is others K st =
 pub finds_earlier : (seats : List (Option Sitting)) (seat k : ℕ) (own : Sitting) → get_or seats seat None ≡ Some own → comes_before (get_or seats k None) own ≡ true → FindsNext seats seat false
 finds_earlier seats seat k own is before K st taken next = is_before K seat k own (subst (Sits K seat) is (st.each seat)) (get_or seats k None) (st.each k) before next
 
-pub finds_nobody : (seats : List (Option Sitting)) (seat : ℕ) → get_or seats seat None ≡ None → FindsNext seats seat false
-finds_nobody seats seat none K st taken next = let free = free_seat K seat (get_or seats seat None) none (st.each seat) in cc
-
 -- ---- What one more event changes
 
 -- seats are as they were where no worker there took a step

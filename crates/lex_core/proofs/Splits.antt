@@ -67,10 +67,6 @@ end-later : (b : ℕ) (bs : List ℕ) → (b == 10) ≡ false → end_len (b ∷
 unfolding end_len
 end-later b bs h = rw h refl
 
-end-none : end_len [] ≡ 0
-unfolding end_len
-end-none = refl
-
 split-at : (text : List ℕ) → end_len text < length text → split text ≡ take (end_len text) text ∷ split (drop (end_len text + 1) text)
 split-at [] l = absurd (omega arith)
 split-at (b ∷ bs) l = elim (cases_Bool (b == 10)) [

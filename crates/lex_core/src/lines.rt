@@ -1,7 +1,7 @@
 //! The lines of a script, one by one.
 
 ghost use Rattle.std.specs.Prelude.{◌≡◌, ◌<◌, ◌≤◌, ◌+◌, ◌^◌, [], ◌∷◌, length, IfOk, IfErr, OnErr, IfSome, IfNone, false, position, ◌==◌};
-ghost use Rattle.lex_core.specs.Lines.{is_skipped, lines_after, split, without_return, numbered};
+ghost use Rattle.lex_core.specs.Lines.{is_skipped, lines_after, split, without_return};
 ghost use Rattle.lex_core.specs.Given.{refused_at, GivesFirst, RefusesFirst};
 
 use crate::line::{Line, Token, Tokens};

@@ -1,7 +1,7 @@
 //! The tokens of a line.
 
 ghost use Rattle.std.specs.Prelude.{◌≡◌, ◌<◌, ◌≤◌, ◌+◌, [], ◌∷◌, length, not, position, Bool, false, IfOk, IfErr, OnOk, Ok, Err};
-ghost use Rattle.lex_core.specs.Lexical.{after, bare, ended, is_bare, is_blank, tokens};
+ghost use Rattle.lex_core.specs.Lexical.{bare, ended, is_bare, is_blank, tokens};
 ghost use Rattle.lex_core.specs.Steps.{past_blanks, with_bytes, with_tokens, IsPastBlanks, Refuses};
 ghost use Rattle.lex_core.specs.Lines.{is_skipped};
 ghost use Rattle.std.specs.List.{prefix_len};

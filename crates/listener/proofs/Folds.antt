@@ -10,7 +10,6 @@ use Rattle.hist_model.specs.Calls.{listed, caller, id, queue, first_sends, has_s
 use Rattle.hist_model.specs.Signals.{call_of}
 use Rattle.hist_model.specs.Files.{asked_in, asked_by}
 use Rattle.hist_model.specs.declared.event.Event.{Event}
-use Rattle.hist_model.specs.declared.event.Actor.{Actor}
 use Rattle.hist_model.specs.declared.event.Actor.TheVariants.{Task}
 use Rattle.hist_model.specs.declared.event.What.{What}
 use Rattle.hist_model.specs.declared.event.What.TheVariants.{Enter, Recv, Send, AddfdPut, AddfdTake, Install, Resume, Deliver, Close}

@@ -1,10 +1,9 @@
 -- Requests in a list: whose they are, and which of them wait.
 -- By induction on the requests, by cases on whether the first one is the worker's or passes the test.
 use Rattle.std.proofs.Common.{◌≡◌, inl, inr, ℕ, ◌<◌, Bool, true, false, ◌||◌, not, List, [], ◌∷◌, ◌++◌, length, zero, suc, refl, sym, ap, ◌∙◌, subst, arith, get_or, set}
-use Rattle.std.specs.Prelude.{filter, find, All, Some, None, Result, remove, position}
+use Rattle.std.specs.Prelude.{filter, find, Some, None, Result, remove, position}
 use Rattle.std.specs.List.{list_any, position_or_len}
 use Rattle.std.proofs.lemmas.Bool.{cases_Bool, eq-eqb, eqb-true, both_ways, and_parts, or_parts, or_cases, or_left, or_right, not-true, false_from_ne_true, lt-ltb}
-use Rattle.std.proofs.lemmas.List.Elements.{All-nil, All-cons}
 use Rattle.std.proofs.lemmas.List.Quantifiers.{position-Some}
 use Rattle.listener.specs.State.{told}
 use Rattle.listener.specs.declared.requests.Request.{Request}
@@ -21,22 +20,6 @@ has-filter w p (q ∷ qs) h = elim (cases_Bool (p q)) [
   ]
   | inr b ↦ or_right (is_of w q) (has_request qs w) (has-filter w p qs (rw b at h))
 ]
-
--- a request of another worker stays
-pub has-without : (w v : ℕ) (qs : List Request) → (v ≡ w → ⊥) → has_request qs v ≡ true → has_request (without w qs) v ≡ true
-has-without w v [] n h = cc
-has-without w v (q ∷ qs) n h = elim (cases_Bool (is_of w q)) [
-  | inl b ↦ let o : is_of v q ≡ false = false_from_ne_true (is_of v q) (λ z. n (sym (eqb-true q.worker v z) ∙ eqb-true q.worker w b)) in rw b (has-without w v qs n (rw o at h))
-  | inr b ↦ rw b (elim (or_cases (is_of v q) (has_request qs v) h) [
-    | inl o ↦ or_left (is_of v q) (has_request (without w qs) v) o
-    | inr o ↦ or_right (is_of v q) (has_request (without w qs) v) (has-without w v qs n o)
-  ])
-]
-
--- where a worker has no request, each is another's
-pub others-all : (w : ℕ) (qs : List Request) → has_request qs w ≡ false → All (λ q. is_of w q ≡ false) qs
-others-all w [] h = All-nil (λ q. is_of w q ≡ false)
-others-all w (q ∷ qs) h = let p = or_parts (is_of w q) (has_request qs w) h in All-cons (λ q. is_of w q ≡ false) q qs p.0 (others-all w qs p.1)
 
 -- ---- no worker has two
 

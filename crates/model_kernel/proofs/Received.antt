@@ -3,7 +3,6 @@
 use Rattle.std.proofs.Common.{◌≡◌, ℕ, ℤ, ◌<◌, Bool, true, false, List, Some, refl, sym, ap, ◌∙◌, arith, Ok, Err, Result, if◌then◌else◌, not}
 use Rattle.std.proofs.lemmas.Bool.{and_parts, ne_eqb}
 use Rattle.hist_model.specs.Calls.{caller, count, id, listed}
-use Rattle.hist_model.specs.Deeds.{Deed}
 use Rattle.hist_model.specs.Deeds as deed
 use Rattle.hist_model.specs.Look.{event_at}
 use Rattle.hist_model.specs.Signals.{call_of}

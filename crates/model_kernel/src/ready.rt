@@ -3,12 +3,9 @@
 ghost use Rattle.std.specs.Prelude.{◌≡◌, ◌<◌, ◌^◌, length, true, replicate, vec_capacity, IfOk, OnOk};
 ghost use Rattle.std.specs.Option.{option_copied};
 ghost use Rattle.hist_model.specs.ScriptRules.{IsScript};
-ghost use Rattle.hist_model.specs.Signals.{call_of};
 ghost use Rattle.hist_model.specs.Steps.{next_instr, owes_native};
-ghost use Rattle.hist_model.specs.Tasks.{ended};
 ghost use Rattle.history_frames.specs.Ordinals.{tasks_made};
-ghost use Rattle.tasks.specs.Stands.{ended_at};
-ghost use Rattle.model_kernel.specs.Kernels.{IsKernel, past, system};
+ghost use Rattle.model_kernel.specs.Kernels.{IsKernel, past};
 ghost use Rattle.model_kernel.specs.Ready.{HasChildRoom, HasNextRoom, IsNext, IsOwed, IsReadyFor, IsSame, makes_child, names_child, stored_by};
 ghost use Rattle.model_kernel.specs.Steps.{MayStep, named};
 

@@ -1,5 +1,5 @@
 -- Rows and their keys.
-use Rattle.std.specs.Prelude.{ℕ, Bool, ◌&&◌, if◌then◌else◌, ◌==◌, List, [], ◌∷◌, length, Option, Some, None, is_none, bytes_eq}
+use Rattle.std.specs.Prelude.{ℕ, Bool, ◌&&◌, if◌then◌else◌, List, [], ◌∷◌, length, Option, Some, None, is_none, bytes_eq}
 use Rattle.hist_model.specs.Look.{is_place}
 use Rattle.hist_model.specs.declared.tree.NodeRow.{NodeRow}
 use Rattle.hist_model.specs.declared.tree.AttrRow.{AttrRow}
@@ -47,11 +47,6 @@ covered_by m = record { root = m.root; target = m.target }
 unfoldable pub newest : {T : Type 0} → (T → Key) → List T → Key → Option ℕ
 newest key [] k = None
 newest key (r ∷ rs) k = if is_key (key r) k then Some (length rs) else newest key rs k
-
--- the row with this ordinal, of rows with the newest first
-unfoldable pub row_at : {T : Type 0} → List T → ℕ → Option T
-row_at [] n = None
-row_at (r ∷ rs) n = if n == length rs then Some r else row_at rs n
 
 -- the newest row with a key
 unfoldable pub newest_row : {T : Type 0} → (T → Key) → List T → Key → Option T

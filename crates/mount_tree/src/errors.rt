@@ -1,6 +1,5 @@
 //! Why the tree refuses a change.
 
-use std::alloc::{AllocError, AllocFailed};
 use thiserror::Error;
 
 /// The directory already has an entry of that name: EEXIST of mknod(2).

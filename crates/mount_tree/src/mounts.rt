@@ -9,7 +9,6 @@ ghost use Rattle.mount_tree.specs.Stacks.{IsBottom, IsFresh, seen};
 use crate::rows::Covered;
 use crate::stacks::Stacks;
 use crate::table::Table;
-use hist_model::request::MountRow;
 use hist_model::tree::Mounted;
 use std::alloc::Global;
 use std::marker::Model;
@@ -30,20 +29,6 @@ pub struct NewMount<'a> {
 }
 
 impl<'a> NewMount<'a> {
-    /// What such a row is made of.
-    pub fn of(row: &'a MountRow) -> NewMount<'a>
-        ensures { row_of result ≡ row.now }
-    {
-        NewMount {
-            source: row.source.items(),
-            fstype: row.fstype.items(),
-            flags: row.flags,
-            options: row.options.items(),
-            via: row.via.items(),
-            shift: row.shift,
-        }
-    }
-
     /// The bytes of its texts together.
     pub fn len(&self) -> u128
         ensures { result ≡ row_length (row_of self.now) }

@@ -6,7 +6,7 @@ ghost use Rattle.hist_model.specs.ReportAudit.{judging_by};
 ghost use Rattle.hist_model.specs.ReportWords.{call_text, name_text};
 ghost use Rattle.sys_abi.specs.Calls.{nr_getpid};
 ghost use Rattle.audit_log.specs.Audited.{audited};
-ghost use Rattle.outcome_text.specs.Outcomes.{audit_text, came_text, entry_of, entry_text, gives_number, verdict_text};
+ghost use Rattle.outcome_text.specs.Outcomes.{audit_text, came_text, entry_of, gives_number, verdict_text};
 
 use audit_log::audit::{arrival, arrival_word, push_finding};
 use audit_log::calls::push_outcome;

@@ -1,7 +1,7 @@
 //! What one component of a path says.
 
 ghost use Rattle.std.specs.Prelude.{◌≡◌, ◌≤◌, length};
-ghost use Rattle.hist_model.specs.Paths.{entered, is_dot, is_dot_dot, looked_up, named, stepped, turn, creates};
+ghost use Rattle.hist_model.specs.Paths.{is_dot, is_dot_dot, looked_up, named, stepped, turn, creates};
 ghost use Rattle.hist_model.specs.Trees.{entry};
 ghost use Rattle.path_walk.specs.Places.{last_of};
 ghost use Rattle.path_walk.specs.Turns.{turn_of, ending_of, IsShort, IsShortTurn};

@@ -4,7 +4,7 @@ use Rattle.std.proofs.Common.{◌≡◌, ◌<◌, List, [], ◌∷◌, ◌++◌,
 use Rattle.std.proofs.lemmas.List.{append-nil, map-append}
 use Rattle.std.proofs.lemmas.List.Elements.{All-tail}
 use Rattle.std.specs.List.{AllZip, remove}
-use Rattle.turn_lock.specs.Facts.{IsPassOf, LockFacts, PassFacts, first_pass}
+use Rattle.turn_lock.specs.Facts.{LockFacts, PassFacts, first_pass}
 use Rattle.worker_gate.specs.declared.served.Played.{Played}
 use Rattle.pod_broker.specs.Locks.{AreOf, IsServedBehind, Key, container_of, key, key_of_pass}
 use Rattle.pod_broker.specs.declared.container.Container.{Container}
@@ -35,15 +35,6 @@ pub one-closed : (all left : List LockFacts) (done : List Played) (l : LockFacts
 one-closed all [] done l p h lt first served = absurd (omega arith)
 one-closed all (m ∷ left) done l p h lt first served = λ more z.
     subst (AllZip IsServedBehind all) (sym (append_assoc done (p ∷ []) more)) (h (p ∷ more) (subst (λ (x : LockFacts). IsServedBehind x p) first served, z))
-
--- its pass was the next one
-pub first-owned : (ls : List LockFacts) (ps : List PassFacts) (l : LockFacts) (p : PassFacts) → AreOf ls ps → l ≡ get_or ls 0 l → p ≡ get_or ps 0 p → 0 < length ls → IsPassOf l p
-first-owned [] ps l p own is first lt = absurd (omega arith)
-first-owned (m ∷ ls) [] l p own is first lt = cc
-first-owned (m ∷ ls) (q ∷ qs) l p own is first lt =
-    let same : key_of_pass q ≡ key m = cc in
-    let both : key_of_pass p ≡ key l = ap key_of_pass first ∙ same ∙ ap key (sym is) in
-    (ap (λ (k : Key). k.0) both, ap (λ (k : Key). k.1) both)
 
 pub others-owned : (ls : List LockFacts) (ps : List PassFacts) → AreOf ls ps → AreOf (remove ls 0) (remove ps 0)
 others-owned [] [] own = own

@@ -1,14 +1,14 @@
 -- Lists of locks and of their passes, as a loop reads, replaces, adds or takes one.
 -- By the library's lemmas on lists: what is said of each element is said of the whole.
-use Rattle.std.proofs.Common.{◌≡◌, ℕ, ◌+◌, ◌<◌, ◌≤◌, List, [], ◌∷◌, ◌++◌, length, get_or, set, take, drop, map, All, Option, Some, refl, sym, ap, ◌∙◌, arith, subst}
+use Rattle.std.proofs.Common.{◌≡◌, ℕ, ◌+◌, ◌<◌, ◌≤◌, List, [], ◌∷◌, ◌++◌, length, get_or, set, take, drop, map, All, Option, refl, sym, ap, ◌∙◌, arith, subst}
 use Rattle.std.proofs.lemmas.List.{drop-set-lt, drop_more, get_or-map, length-map, map-append, take_all, take_more, take_more_set}
-use Rattle.std.proofs.lemmas.List.Elements.{All-get_or, All-head, All-nil, All-push, All-rest, All-weaker}
+use Rattle.std.proofs.lemmas.List.Elements.{All-get_or, All-head, All-push, All-rest}
 use Rattle.std.proofs.Math.Seq.{map-set_same}
 use Rattle.std.specs.List.{remove}
 use Rattle.hist_model.specs.declared.history.Setup.{Setup}
 use Rattle.turn_lock.specs.Facts.{IsPassOf, LockFacts, PassFacts, joined_with, split_from}
 use Rattle.worker_gate.specs.Keeping.{MayServe}
-use Rattle.pod_broker.specs.Locks.{Admits, AreOf, HasLimit, IsFirst, Key, key, key_of_pass}
+use Rattle.pod_broker.specs.Locks.{Admits, AreOf, IsFirst, Key, key, key_of_pass}
 
 -- what is said of each element of a list is said of one at a place of the same list
 pub each-is : {X : Type 0} (P : X → Type 0) (xs ys : List X) → All P xs → ys ≡ xs → (i : ℕ) (x : X) → i < length ys → x ≡ get_or ys i x → P x
@@ -83,9 +83,6 @@ at-here P i ps p lt here h = subst P (sym here) (All-head P (get_or ps i p) (dro
 pub at-others : (P : PassFacts → Type 0) (i : ℕ) (ps : List PassFacts) (q : PassFacts) → i < length ps → All P (drop i ps) → All P (drop (i + 1) (set ps i q))
 at-others P i ps q lt h = subst (All P) (sym (drop-set-lt (i + 1) ps i q (omega arith))) (All-rest P (get_or ps i q) (drop (i + 1) ps) (drop i ps) (drop_more ps i q lt) h)
 
-pub out-none : (m n : ℕ) (ps : List PassFacts) → All (IsFirst n) ps → Outs m n 0 ps
-out-none m n ps h = (All-nil (IsFirst m), h)
-
 pub out-more : (m n i : ℕ) (ps : List PassFacts) (q : PassFacts) → i < length ps → IsFirst m q → Outs m n i ps → Outs m n (i + 1) (set ps i q)
 out-more m n i ps q lt o h = (subst (All (IsFirst m)) (sym (take_more_set ps i q lt)) (All-push (IsFirst m) (take i ps) q h.0 o), at-others (IsFirst n) i ps q lt h.1)
 
@@ -100,9 +97,6 @@ pub join-first : (n : ℕ) (p r q : PassFacts) → q ≡ joined_with p r → IsF
 join-first n p r q e h = let out = h.1 in subst (IsFirst n) (sym e) (h.0, omega arith)
 
 -- ---- limits
-
-pub admitted : (workers : ℕ) (worker : Option ℕ) (ls : List LockFacts) → MayServe (Some workers) worker → All (HasLimit workers) ls → All (Admits worker) ls
-admitted workers worker ls may = All-weaker (HasLimit workers) (Admits worker) (λ l h. subst (λ (limit : Option ℕ). MayServe limit worker) (sym h) may) ls
 
 -- where a hand is admitted by each lock, it may serve in a turn of the one at a place, as its pass finds the state
 pub may-at : (worker : Option ℕ) (ls : List LockFacts) (i : ℕ) (l : LockFacts) (p : PassFacts) (made : Setup) → All (Admits worker) ls → i < length ls → l ≡ get_or ls i l → IsPassOf l p → made ≡ p.setup → MayServe made.limit worker

@@ -8,13 +8,13 @@ use Rattle.hist_model.specs.Look.{event_at, or_else}
 use Rattle.hist_model.specs.Mediated.{Each}
 use Rattle.hist_model.specs.ScriptRules.{IsScript}
 use Rattle.hist_model.specs.Sessions.{Rules}
-use Rattle.hist_model.specs.Steps.{IsLegal, found, spawn_answer}
+use Rattle.hist_model.specs.Steps.{IsLegal, found}
 use Rattle.hist_model.specs.Systems.{System}
 use Rattle.hist_model.specs.Tasks.{free_from, given, given_in, holder, is_none, is_some_of, last_pid, next_pid, or_number, pid_of}
 use Rattle.hist_model.specs.declared.event.Actor.{Actor}
 use Rattle.hist_model.specs.declared.event.Event.{Event}
 use Rattle.hist_model.specs.declared.event.What.{What}
-use Rattle.hist_model.specs.declared.event.What.TheVariants.{Signal, Spawn}
+use Rattle.hist_model.specs.declared.event.What.TheVariants.{Signal}
 use Rattle.hist_model.specs.declared.policy.Policy.{Policy}
 use Rattle.hist_model.specs.declared.script.Script.{Script}
 use Rattle.history_frames.proofs.Held.{holder-holds}
@@ -63,9 +63,6 @@ module _ (base most : ℕ) where
           (omega arith, omega arith)
 
 -- ---- and so does each number that a legal history gives
-
-spawned : (o : Option ℕ) (kind : _) (a : _) (p : ℕ) → a ≡ spawn_answer o kind → given (Spawn [] a) ≡ Some p → o ≡ Some p
-spawned o kind a p q g = grind arith
 
 module _ (S : System) (R : Rules) (some : 1 ≤ S.pidmax) where
   gives-inside : (K : List Event) (a : Actor) (w : What) (p : ℕ) → Inside S.pidbase S.pidmax K → Row S R K a w → given w ≡ Some p → (S.pidbase < p) × (p ≤ S.pidbase + S.pidmax)

@@ -9,7 +9,7 @@
 #![tactic(auto)]
 
 ghost use Rattle.std.specs.Prelude.{◌≡◌, ◌<◌, ◌^◌, ℕ, length, OnOk, OnErr};
-ghost use Rattle.hist_model.specs.Decisions.{decide, decide_from, rule_name, granted_by, cap_of};
+ghost use Rattle.hist_model.specs.Decisions.{decide, rule_name, granted_by, cap_of};
 
 mod conditions;
 mod defaults;

@@ -105,9 +105,6 @@ calls_kept n (object ms) = tt
 is_stated : Cond → Bool
 is_stated c = is_condition c && not (is_plain_flags c)
 
-IsStatedCond : Cond → Type 0
-IsStatedCond c = is_stated c ≡ true
-
 device_kept : (major minor : Option ℕ) → IfSome major (λ n. nat_le n major_max ≡ true) → IfSome minor (λ n. nat_le n minor_max ≡ true) → IfSome (device_condition major minor) (λ c. is_stated c ≡ true)
 unfolding is_stated
 device_kept (Some major) (Some minor) h k = rw (h, k) refl

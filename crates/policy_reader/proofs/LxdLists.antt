@@ -1,11 +1,10 @@
 -- Pieces between commas, which are taken from the last one on: what a turn of each loop leaves.
 -- By what a cut at the first comma gives, and by what the reverse of a list with one more is.
-use Rattle.std.proofs.Common.{◌≡◌, ℕ, ◌+◌, ◌<◌, Bool, List, [], ◌∷◌, ◌++◌, Option, Bor, map, take, length, get_or, refl, sym, ap, ◌∙◌}
-use Rattle.std.specs.Prelude.{reverse, ◌==◌, ◌||◌, bytes_eq}
+use Rattle.std.proofs.Common.{◌≡◌, ℕ, ◌+◌, ◌<◌, Bool, List, [], ◌∷◌, Option, take, length, get_or, refl}
+use Rattle.std.specs.Prelude.{◌==◌, ◌||◌, bytes_eq}
 use Rattle.std.specs.List.{list_any, slice_split}
-use Rattle.std.proofs.lemmas.List.{map-append, reverse-append, take_more}
-use Rattle.hist_model.specs.RuleParts.{has_named}
-use Rattle.policy_reader.proofs.Cuts.{one_item, pieces_left, split_first}
+use Rattle.std.proofs.lemmas.List.{take_more}
+use Rattle.policy_reader.proofs.Cuts.{pieces_left, split_first}
 use Rattle.policy_reader.proofs.Items.{one_more_held}
 use Rattle.policy_reader.specs.NameSets.{holds, HoldsNames}
 use Rattle.policy_reader.specs.Texts.{cut_at}
@@ -16,14 +15,7 @@ use Rattle.policy_reader.specs.declared.names.Names.{Names}
 pub piece_first : (text front : List ℕ) (more : Option (List ℕ)) → front ≡ (cut_at 44 text).0 → more ≡ (cut_at 44 text).1 → slice_split (λ b. b == 44) text ≡ front ∷ pieces_left more
 piece_first text front more f m = rw (f, m) (split_first text)
 
-last_first : {A B : Type 0} (f : A → B) (xs : List A) (x : A) → reverse (map f (xs ++ x ∷ [])) ≡ f x ∷ reverse (map f xs)
-last_first f xs x = ap reverse (map-append f xs (x ∷ [])) ∙ reverse-append (map f xs) (f x ∷ [])
-
 -- ---- Items
-
-pub item_moved : (items pieces : List (Bor (List ℕ))) (x : Bor (List ℕ)) (all : List (List ℕ)) → map (λ i. i.now) items ++ reverse (map (λ i. i.now) (pieces ++ x ∷ [])) ≡ all
-    → map (λ i. i.now) (items ++ x ∷ []) ++ reverse (map (λ i. i.now) pieces) ≡ all
-item_moved items pieces x all h = one_item items x _ _ all h (last_first (λ (i : Bor (List ℕ)). i.now) pieces x)
 
 -- ---- Names
 

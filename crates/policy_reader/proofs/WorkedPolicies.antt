@@ -8,7 +8,7 @@ use Rattle.hist_model.specs.Decisions.{all_rules, default_rules, lxd_mknod_rules
 use Rattle.hist_model.specs.Words.{number_after}
 use Rattle.hist_model.specs.declared.policy.Calls.TheVariants.{Named}
 use Rattle.hist_model.specs.declared.policy.Cond.TheVariants.{Under, Kind as OfKind, Dev, PlainFlags}
-use Rattle.hist_model.specs.declared.policy.Profile.TheVariants.{Plain, Lxd}
+use Rattle.hist_model.specs.declared.policy.Profile.TheVariants.{Plain}
 use Rattle.hist_model.specs.declared.policy.Verdict.TheVariants.{Grant, Deny, Inject}
 use Rattle.hist_model.specs.declared.request.Kind.TheVariants.{Chr}
 use Rattle.serde_json.proofs.OnLiterals.{serde_json_on_literals}

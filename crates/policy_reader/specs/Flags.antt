@@ -5,7 +5,7 @@ use Rattle.hist_model.specs.declared.policy.Cond.{Cond}
 use Rattle.hist_model.specs.declared.policy.Cond.TheVariants.{Flags}
 use Rattle.hist_model.specs.declared.policy.Flag.{Flag}
 use Rattle.hist_model.specs.declared.policy.Flag.TheVariants.{Mount, Attribute}
-use Rattle.serde_json.specs.Data.{Data, Items}
+use Rattle.serde_json.specs.Data.{Data}
 use Rattle.serde_json.specs.Find.{as_str, as_array, as_object}
 use Rattle.policy_reader.specs.declared.error.PolicyError.TheVariants.{BadKey}
 use Rattle.policy_reader.specs.declared.flags.FlagLists.{FlagLists}

@@ -1,5 +1,5 @@
 -- The lists of types of file systems as LXD takes them: what stands between commas, with its spaces.
-use Rattle.std.specs.Prelude.{ℕ, Bool, true, false, ◌&&◌, ◌||◌, not, nat_eq, if◌then◌else◌, ◌==◌, List, [], ◌∷◌, reverse}
+use Rattle.std.specs.Prelude.{ℕ, Bool, ◌&&◌, ◌||◌, not, nat_eq, if◌then◌else◌, ◌==◌, List, [], reverse}
 use Rattle.std.specs.Prelude.{Option, Some, None, codes}
 use Rattle.std.specs.List.{list_any, slice_split, starts_with}
 use Rattle.hist_model.specs.RuleParts.{has_named, is_filled, is_one_of}

@@ -7,13 +7,13 @@ ghost use Rattle.hist_model.specs.RuleParts.{are_flags_of, call_of_flag, is_dire
 ghost use Rattle.hist_model.specs.declared.policy.Cond.TheVariants as cond;
 ghost use Rattle.policy_reader.specs.declared.conditions.CondKey.TheVariants as key;
 ghost use Rattle.policy_reader.specs.declared.conditions.TextKey.TheVariants as text_key;
-ghost use Rattle.policy_reader.specs.Conditions.{condition, condition_at, condition_key, condition_keys, condition_of, condition_place, conditions_of, descriptor, descriptor_of, device_condition, device_parts, kinds, misfit, profile_keys};
+ghost use Rattle.policy_reader.specs.Conditions.{condition, condition_at, condition_key, condition_keys, condition_of, condition_place, conditions_of, descriptor, descriptor_of, device_parts, kinds, misfit, profile_keys};
 ghost use Rattle.policy_reader.specs.Readings.{Gives, good, named, rule_place};
 ghost use Rattle.policy_reader.specs.Texts.{cut_at};
 ghost use Rattle.serde_json.specs.View.{view};
 
 use crate::flags::read_flags;
-use crate::readings::{Reading, bad_in_rule, good_in_rule, unknown_in_rule};
+use crate::readings::{Reading, bad_in_rule, unknown_in_rule};
 use crate::texts::{cut_at, decimal_up_to, named};
 use hist_model::policy::{Cond, Flag, Profile};
 use hist_model::request::Kind;

@@ -3,7 +3,7 @@
 ghost use Rattle.std.specs.Prelude.{◌≡◌, ◌≤◌, ◌^◌, IfErr, IfOk, Ok, Some, codes, length, option_and_then};
 ghost use Rattle.hist_model.specs.Decisions.{all_rules};
 ghost use Rattle.policy_reader.specs.Kept.{AreParts};
-ghost use Rattle.policy_reader.specs.Policies.{format_of, no_parts, part_at, policy, policy_as, policy_in, policy_of, profile_at, profile_names, top_keys, top_member, version_at, version_numbered};
+ghost use Rattle.policy_reader.specs.Policies.{format_of, no_parts, part_at, policy, policy_in, policy_of, profile_at, profile_names, top_keys, top_member, version_at, version_numbered};
 ghost use Rattle.policy_reader.specs.Readings.{Gives, Refuses, good, named, walk};
 ghost use Rattle.serde_json.specs.Find.{as_number, as_str, as_u64, get};
 ghost use Rattle.serde_json.specs.View.{members_view, view};

@@ -6,7 +6,7 @@ ghost use Rattle.hist_model.specs.RuleParts.{is_grant};
 ghost use Rattle.serde_json.specs.Find.{as_str};
 ghost use Rattle.policy_reader.specs.NameSets.{holds};
 ghost use Rattle.policy_reader.specs.Readings.{Gives, call_place, good, named, walk};
-ghost use Rattle.policy_reader.specs.Rules.{call_of, calls_of, condition_fault, fault_of, in_version, listed_calls, nothing_stated, own_conditions, own_rule, rule_at, rule_from, rule_keys, rule_member, rules_in, rules_of, state, unless_faulty};
+ghost use Rattle.policy_reader.specs.Rules.{call_of, calls_of, condition_fault, fault_of, in_version, listed_calls, nothing_stated, own_conditions, rule_at, rule_from, rule_keys, rule_member, rules_in, rules_of, state, unless_faulty};
 ghost use Rattle.policy_reader.specs.Texts.{rule_name};
 ghost use Rattle.serde_json.specs.View.{view, items_view, members_view};
 

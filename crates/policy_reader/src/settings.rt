@@ -5,7 +5,7 @@ ghost use Rattle.std.specs.Str.{str_eq_ignore_ascii_case};
 ghost use Rattle.hist_model.specs.Decisions.{Switches};
 ghost use Rattle.hist_model.specs.PolicyRules.{is_name_in};
 ghost use Rattle.policy_reader.specs.Readings.{named, Gives};
-ghost use Rattle.policy_reader.specs.Settings.{all_off, config_key, config_member, config_member_of, config_of, file_system, file_systems, fuse_pair, fuse_pairs, intercept_key, intercept_prefix, is_ignored, is_judged, is_pair_in, is_word_of, items_in, known_or_not, pairs_beside, plain_key, set, setting_names, switch_of};
+ghost use Rattle.policy_reader.specs.Settings.{all_off, config_key, config_member, config_member_of, config_of, file_systems, fuse_pair, fuse_pairs, intercept_key, is_ignored, is_judged, is_pair_in, is_word_of, items_in, known_or_not, pairs_beside, plain_key, set, setting_names, switch_of};
 ghost use Rattle.serde_json.specs.Find.{as_str};
 ghost use Rattle.policy_reader.specs.Tables.{texts_of};
 ghost use Rattle.serde_json.specs.View.{view};

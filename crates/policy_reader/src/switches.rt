@@ -2,7 +2,7 @@
 
 ghost use Rattle.std.specs.Prelude.{◌≡◌, ◌++◌, ◌∷◌, [], IfOk, OnOk};
 ghost use Rattle.std.specs.List.{flat_map};
-ghost use Rattle.hist_model.specs.Decisions.{fuse_conditions, in_profile, mknod_reasons, mount_conditions, mount_reasons, mount_rule, opaque_conditions, pair_rules, propagation_flags, lxd_fuse_rule, lxd_grants, lxd_mknod_rules, lxd_mount_rule, lxd_mount_rules, lxd_reasons, lxd_rules, lxd_setxattr_rule, lxd_sysinfo_rule, setxattr_reasons, type_rules, where_on};
+ghost use Rattle.hist_model.specs.Decisions.{fuse_conditions, in_profile, mknod_reasons, mount_conditions, mount_reasons, mount_rule, opaque_conditions, pair_rules, propagation_flags, lxd_fuse_rule, lxd_grants, lxd_mknod_rules, lxd_mount_rule, lxd_rules, lxd_setxattr_rule, lxd_sysinfo_rule, setxattr_reasons, type_rules, where_on};
 
 use crate::settings::Settings;
 use crate::texts::is_short_name;

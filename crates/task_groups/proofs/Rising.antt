@@ -190,16 +190,6 @@ set-none xs ys n i r p l q =
     let b : start_of xs n < length xs = omega (arith, l, p.start) in
     rw is (record { rise = remove-rise 0 xs n r b; entries = λ m. remove-entry 0 xs n m r b at })
 
--- a number without an entry is left so
-pub set-same : (xs : List Descriptor) (n : ℕ) → NumbersRise xs → entry_for xs n ≡ None → IsSet xs n None xs
-set-same xs n r h = record {
-  rise = r;
-  entries = λ m. elim (cases_eq m n) [
-    | inl a ↦ rw (eq-eqb m n a) (ap (entry_for xs) a ∙ h)
-    | inr a ↦ rw (ne_eqb m n a)
-  ];
-}
-
 -- the numbers below a place are the places, and those from a place on are above them
 abbrev pub IsFull : List Descriptor → ℕ → Type 0
 IsFull xs low = (j : ℕ) (d : Descriptor) → j < low → (get_or xs j d).number ≡ j

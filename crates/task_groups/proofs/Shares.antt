@@ -4,7 +4,7 @@ use Rattle.std.proofs.Common.{◌≡◌, ◌≢◌, ◌⊎◌, inl, inr, ℕ, ze
 use Rattle.std.specs.Prelude.{slice_index}
 use Rattle.std.proofs.lemmas.Bool.{cases_eq, cases_lt, le-leb, lt-leb}
 use Rattle.std.proofs.Math.Seq.{take-add}
-use Rattle.std.proofs.lemmas.List.{drop-drop, get_or-drop, get_or-take, get_or_append_left, get_or-append_right, length-take-le}
+use Rattle.std.proofs.lemmas.List.{drop-drop, get_or_append_left, get_or-append_right, length-take-le}
 use Rattle.std.proofs.lemmas.Option.{slice_get_past, slice_get-get_or}
 use Rattle.hist_model.specs.Memory.{byte_or, byte_stored}
 use Rattle.task_groups.specs.declared.list.PageEntry.{PageEntry}
@@ -45,20 +45,6 @@ shared-more P Q R xs x a b = record {
 -- lists that are apart stay so when one of them changes with the counts
 pub apart-on : (P Q : Pages) (xs ys zs : List PageEntry) → ((p : ℕ) → count_at Q p + uses_in xs p ≡ count_at P p + uses_in ys p) → IsApart P xs zs → IsApart Q ys zs
 apart-on P Q xs ys zs m a p = omega (arith, m p, a p)
-
--- a page that one list has alone is its own
-pub owned-here : (P : Pages) (xs : List PageEntry) (n s : ℕ) → IsStore P → IsList P xs → slot_of xs n ≡ Some s → count_at P s ≡ 1 → IsOwned P xs n s P xs
-owned-here P xs n s r l h c = record {
-  store = r;
-  rises = l.rises;
-  once = l.once;
-  here = h;
-  alone = c;
-  same = λ i. rw h refl;
-  others = λ m q. refl;
-  bytes = λ p q. refl;
-  moved = λ p. refl;
-}
 
 one-cases : (s p : ℕ) → ((s ≡ p) × (one_if s p ≡ 1)) ⊎ ((s ≢ p) × (one_if s p ≡ 0))
 one-cases s p = elim (cases_eq s p) [
@@ -166,27 +152,6 @@ stored-both a b c v w =
       ])
     ]
 
--- a piece in the middle of bytes
-pub splice-at : (xs v : List ℕ) (o i : ℕ) → o + length v ≤ length xs → get_or (take o xs ++ (v ++ drop (length v) (drop o xs))) i 0 ≡ byte_or (byte_stored (Some (o, v)) i) (get_or xs i 0)
-splice-at xs v o i l =
-    let front = length-take-le o xs (omega arith) in
-    elim (stored-cases o i v) [
-      | inl q ↦
-          let n : o + q.0 - o ≡ q.0 = omega arith in
-          rw (q.2, stored-in o q.0 v q.1) (get_or-append_right (take o xs) (v ++ drop (length v) (drop o xs)) o (o + q.0) 0 front (omega arith)
-          ∙ ap (λ j. get_or (v ++ drop (length v) (drop o xs)) j 0) n ∙ get_or_append_left v (drop (length v) (drop o xs)) 0 q.0 q.1)
-      | inr q ↦ rw q.0 (elim q.1 [
-        | inl m ↦ get_or_append_left (take o xs) (v ++ drop (length v) (drop o xs)) 0 i (omega (arith, front)) ∙ get_or-take o xs i 0 m
-        | inr m ↦
-            let n : o + (length v + (i - o - length v)) ≡ i = omega arith in
-            get_or-append_right (take o xs) (v ++ drop (length v) (drop o xs)) o i 0 front (omega arith)
-            ∙ get_or-append_right v (drop (length v) (drop o xs)) (length v) (i - o) 0 refl (omega arith)
-            ∙ get_or-drop (length v) (drop o xs) (i - o - length v) 0
-            ∙ get_or-drop o xs (length v + (i - o - length v)) 0
-            ∙ ap (λ j. get_or xs j 0) n
-      ])
-    ]
-
 -- a piece that was put into a page of its own was stored in its space alone
 pub stored-piece : (P Q R : Pages) (xs ys : List PageEntry) (n s o : ℕ) (v : List ℕ) → IsList P xs → IsStore R → o + length v ≤ 4096 → IsOwned P xs n s Q ys → IsPut Q s o v R → IsStored P xs (4096 * n + o) v R ys
 stored-piece P Q R xs ys n s o v i r l w u =
@@ -240,16 +205,6 @@ stored-piece P Q R xs ys n s o v i r l w u =
       where
         not-own : (p : ℕ) → 0 < uses_in zs p → p ≢ s
         not-own p k e = omega (arith, k, ap (uses_in zs) e, apart-on P Q xs ys zs w.moved a s, w.alone, slot-uses ys n s w.here)
-
-pub stored-none : (P : Pages) (xs : List PageEntry) (a : ℕ) → IsStore P → IsList P xs → IsStored P xs a [] P xs
-stored-none P xs a r l = record {
-  store = r;
-  rises = l.rises;
-  once = l.once;
-  moved = λ p. refl;
-  here = λ b. elim (stored-cases a b []) [ inl q ↦ absurd (omega (arith, q.1)) | inr q ↦ rw q.0 ];
-  others = λ zs h b. refl;
-}
 
 -- what was stored to is a list
 pub stored-list : (P Q : Pages) (xs ys : List PageEntry) (a : ℕ) (v : List ℕ) → IsList P xs → IsStored P xs a v Q ys → IsList Q ys

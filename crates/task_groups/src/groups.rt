@@ -9,7 +9,7 @@ ghost use Rattle.hist_model.specs.Steps.{slot_answer};
 ghost use Rattle.task_groups.specs.Descriptors.{NumbersRise, IsSet, IsFirstFree};
 ghost use Rattle.task_groups.specs.Groups.{Holds, HasRow, IsLive, IsReadAnswer, HasRoom, HasRoomFor, HasStoreRoom, number_given};
 ghost use Rattle.task_groups.specs.Pages.{IsStored, IsStore, IsLeftByAll, IsShared};
-ghost use Rattle.task_groups.specs.Rows.{Row, row_at, row_of, descriptor_in, mark_of, IsSound, SameGroups, IsPut, SetsMark, SameMarks, HasCopyRoom, HasPageRoom, HasDescriptorRoom};
+ghost use Rattle.task_groups.specs.Rows.{Row, row_at, row_of, descriptor_in, IsSound, SameGroups, IsPut, SetsMark, SameMarks, HasCopyRoom, HasPageRoom, HasDescriptorRoom};
 ghost use Rattle.task_groups.specs.State.{State, IsSetTo, no_groups, read_from, free_of, place_at, place_for, with_fresh, with_copy, with_joined, with_left, with_opened, with_closed, with_stored, with_number, with_installed};
 
 use crate::descriptors::{self, Descriptor};
@@ -398,14 +398,6 @@ impl Groups {
         ensures { (s : State) → Holds s self.now → result ≡ (s.contents o).slot n }
     {
         self.find(o, n).map(|descriptor| descriptor.obj)
-    }
-
-    /// The close-on-exec mark with which a number of a group was opened. None exactly where it isn't open.
-    pub fn closes_on_exec(&self, o: u32, n: u32) -> Option<bool>
-        requires { IsLive self.now o }
-        ensures { IsSound self.now → result ≡ mark_of self.now o n }
-    {
-        self.find(o, n).map(|descriptor| descriptor.cloexec)
     }
 
     /// The lowest number of a group that isn't open, whatever the limit is.

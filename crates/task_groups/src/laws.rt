@@ -10,7 +10,7 @@ ghost use Rattle.hist_model.specs.declared.event.Actor.TheVariants.{Task};
 ghost use Rattle.hist_model.specs.declared.event.Event.{Event};
 ghost use Rattle.hist_model.specs.declared.event.What.TheVariants.{Native};
 ghost use Rattle.hist_model.specs.declared.script.Script.{Script};
-ghost use Rattle.history_frames.specs.Ordinals.{groups_made, group_of};
+ghost use Rattle.history_frames.specs.Ordinals.{group_of};
 ghost use Rattle.task_groups.specs.Groups.{Holds, HasRow, IsLive};
 ghost use Rattle.task_groups.specs.Rows.{SameGroups};
 ghost use Rattle.task_groups.specs.Stands.{IsCopyOf, IsFresh, IsInstall, IsOther, IsPlant, IsPoke, bytes_done, slot_done, state};

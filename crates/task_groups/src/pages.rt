@@ -1,8 +1,7 @@
 //! Pages, which the lists of spaces share.
 
 ghost use Rattle.std.specs.Prelude.{◌≡◌, ◌≢◌, ℕ, ◌+◌, ◌-◌, ◌*◌, ◌%◌, ◌<◌, ◌≤◌, ◌++◌, ◌^◌, length, Some, None, OnOk, IsOk, vec_len, vec_capacity, slice_index};
-ghost use Rattle.slab.specs.Slab.{get, HasRoomFor};
-ghost use Rattle.hist_model.specs.Memory.{byte_or, byte_stored};
+ghost use Rattle.slab.specs.Slab.{get};
 ghost use Rattle.task_groups.specs.Lists.{NumbersRise, slot_of};
 ghost use Rattle.task_groups.specs.Pages.{count_at, bytes_at_some, byte_in, bytes_from, IsStore, IsList, HasPages, pages_touched, IsLeft, IsLeftBySome, IsPageAdded, IsOwned, IsPut, IsStored, IsSharedOnce, IsShared, IsLeftByAll};
 

@@ -27,14 +27,6 @@ snoc-parts (x ∷ m) (y ∷ n) k j q =
 pub parent-snoc : (m : Name) (k : ℕ) → parent (m ++ k ∷ []) ≡ m
 parent-snoc m k = take_at m (k ∷ []) (length (m ++ k ∷ []) - 1) (omega (arith, length-append m (k ∷ [])))
 
--- a name that isn't empty has a last number
-pub last-split : (n : Name) → (n ≡ [] → ⊥) → (m : Name) × (k : ℕ) × (n ≡ m ++ k ∷ [])
-last-split [] h = absurd (h refl)
-last-split (x ∷ []) h = ([], x, refl)
-last-split (x ∷ y ∷ r) h =
-    let p = last-split (y ∷ r) (λ q. cc) in
-    (x ∷ p.0, p.1, ap (λ (l : Name). x ∷ l) p.2)
-
 -- what a list with one more item has at a place
 pub get-snoc : {X : Type 0} → (xs : List X) (x y : X) (j : ℕ) → slice_get (xs ++ x ∷ []) j ≡ Some y → (slice_get xs j ≡ Some y) ⊎ ((j ≡ length xs) × (x ≡ y))
 get-snoc [] x y zero q = inr (refl, cc)

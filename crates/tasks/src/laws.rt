@@ -2,7 +2,6 @@
 
 ghost use Rattle.std.specs.Prelude.{◌≡◌, ◌↔◌, ℕ, ◌<◌, ◌≤◌, Bool, List, ◌∷◌, Option, Some, not, true, false};
 ghost use Rattle.hist_model.specs.Kinds.{skips};
-ghost use Rattle.hist_model.specs.Legal.{system_of};
 ghost use Rattle.hist_model.specs.Look.{Name};
 ghost use Rattle.hist_model.specs.Signals.{call_of};
 ghost use Rattle.hist_model.specs.Steps.{deliver_or, living_step, opened, task_place, task_step};

@@ -1,7 +1,6 @@
 //! Ledgers that are refused, and why.
 
 use broker_core::deed::Got;
-use hist_model::policy::Policy;
 use policy_reader::read_policy;
 use script_reader::read_script;
 use std::alloc::Global;

@@ -1,7 +1,6 @@
 //! Callers of a queue: one that fills it and empties it, and two that hand items over.
 
 ghost use Rattle.std.specs.Prelude.{◌≡◌, [], IfSome};
-ghost use Rattle.lane_queue.specs.Passes.{PassFacts};
 
 use lane_queue::{Full, Handoff, LaneQueue, PLACES, PutPass, TakePass};
 use std::alloc::Global;

@@ -1,12 +1,12 @@
 -- Splitting, joining and closing keep the rule.
 -- By the lemmas of `Totals` and `Views`, and by cases on whether a view is one of those that change.
 use Rattle.std.proofs.Common.{◌≡◌, ◌≢◌, ℕ, ◌+◌, ◌%◌, ◌^◌, ◌<◌, List, [], ◌∷◌, ◌++◌, length, set, sym, refl, ap, ◌∙◌, subst, inl, inr, ⊎_elim, arith, true, true≢false, Option, Some}
-use mathlib.Core.Option.{some, none, some-injective, some-ne-none}
+use mathlib.Core.Option.{some, some-injective}
 use mathlib.Core.Option as maybe
 use mathlib.Core.Logic.{dite}
 use native.Mathlib.Decide.{ℕ_discrete}
 use lib.ListN.{get_elem?}
-use Rattle.atomic_table.specs.Table.{State, Me, Splits, Joins, Final}
+use Rattle.atomic_table.specs.Table.{State, Splits, Joins, Final}
 use Rattle.atomic_table.specs.Table as Table
 use Rattle.atomic_table.proofs.Lists.{set_else, at_snoc, at_longer}
 use Rattle.turn_lock.specs.declared.view.View.{View}

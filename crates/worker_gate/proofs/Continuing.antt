@@ -1,6 +1,6 @@
 -- What a machine that keeps a limit keeps after a try of an actor, and after a try behind one that made no step.
 -- By cases on the limit and on whether the actor stepped: a step that was made is no skip, and its actor is within the limit.
-use Rattle.std.proofs.Common.{◌≡◌, ℕ, ◌≤◌, Bool, true, false, List, [], ◌∷◌, Option, Some, None, inl, inr, ◌∙◌, arith}
+use Rattle.std.proofs.Common.{◌≡◌, ℕ, Bool, true, false, List, [], ◌∷◌, Option, Some, None, inl, inr, ◌∙◌, arith}
 use Rattle.std.specs.Prelude.{Result, Ok, Err, IfOk, OnErr, ⊤}
 use Rattle.hist_model.specs.Kinds.{skips}
 use Rattle.hist_model.specs.Legal.{IsWithin}
@@ -32,10 +32,6 @@ task_may (Some l) n = tt
 pub worker_may : (limit : Option ℕ) (w : ℕ) → MayServe limit (Some w) → MayAct limit (Worker w)
 worker_may None w may = tt
 worker_may (Some l) w may = may.0
-
-pub is_worker_number : (limit : Option ℕ) (w : ℕ) → MayServe limit (Some w) → w ≤ 16
-is_worker_number None w may = may
-is_worker_number (Some l) w may = may.1
 
 within_more : (limit : Option ℕ) (K : List Event) (a : Actor) (what : What) → MayAct limit a → skips what ≡ false → IsWithinLimit limit K → IsWithinLimit limit (ev a what ∷ K)
 within_more None K a what may steps within = tt

@@ -1,7 +1,7 @@
 //! Hands, which serve notifications and step tasks side by side, in turns of the listener's lock.
 
 ghost use Rattle.std.specs.Prelude.{◌≡◌, ◌≤◌, ◌<◌, ◌+◌, true, false, length, All, IfOk, OnErr, OnOk, Some};
-ghost use Rattle.turn_lock.specs.Facts.{IsAlone, IsPassOf, PassFacts};
+ghost use Rattle.turn_lock.specs.Facts.{IsAlone, IsPassOf};
 ghost use Rattle.turn_lock.specs.Lists.{Begins};
 ghost use Rattle.worker_gate.specs.Hands.{DoesAll, Ends, IsServedWhole};
 ghost use Rattle.worker_gate.specs.Keeping.{MayServe};

@@ -102,9 +102,6 @@ pub record IsReplayed (P : Policy) (F : Figures) (own : List What) (all left : L
   pub stood : AllStand (rules_of P F) own all → AllStand (rules_of P F) steps left
   pub after : after_answers (rules_of P F) steps left ≡ after_answers (rules_of P F) own all
 
-pub replayed_none : (P : Policy) (F : Figures) (own : List What) (all : List Answer) (w : Worker) → Remembers P own w → IsReplayed P F own all all w
-replayed_none P F own all w r = record { steps = own; remembers = r; stand = λ h. h; stood = λ h. h; after = refl }
-
 pub replayed_more : (P : Policy) (F : Figures) (own : List What) (all left : List Answer) (a : Answer) (w x : Worker) → (is : IsReplayed P F own all (a ∷ left) w)
     → ReplaysOne P F is.steps a true x → IsReplayed P F own all left x
 replayed_more P F own all left a w x is one = record {
@@ -194,17 +191,8 @@ module _ (P : Policy) (taken : ℕ) (last : Option Answer) (s : Successor) (own 
   abbrev outcome : Result Resumed LedgerError
   outcome = caught R taken last s.ledger.count own told
 
-  pub comes_same : Remembers P own s.worker → s.ledger.count ≡ taken → Comes P s.worker.figures s.ledger.no taken outcome (Ok s)
-  comes_same r e = rw (eq-eqb s.ledger.count taken e) (record { remembers = r; figures = refl; number = refl; count = e; told = refl })
-
   other : (s.ledger.count ≡ taken → ⊥) → (s.ledger.count == taken) ≡ false
   other n = ne_eqb s.ledger.count taken n
-
-  pub comes_stale : (s.ledger.count ≡ taken → ⊥) → (s.ledger.count + 1 ≡ taken → ⊥) → Comes P s.worker.figures s.ledger.no taken outcome (Err (Refused (Stale s.ledger.count taken)))
-  comes_stale n m = rw (other n, ne_eqb (s.ledger.count + 1) taken m) refl
-
-  pub comes_missing : (s.ledger.count ≡ taken → ⊥) → s.ledger.count + 1 ≡ taken → last ≡ None → Comes P s.worker.figures s.ledger.no taken outcome (Err (Refused Unfit))
-  comes_missing n m e = rw (other n, eq-eqb (s.ledger.count + 1) taken m, e) refl
 
   pub comes_unfit : (a : Answer) (b : Bool) (t : Successor) → (s.ledger.count ≡ taken → ⊥) → s.ledger.count + 1 ≡ taken → last ≡ Some a → b ≡ false → TakesLast P s own a b t → Comes P s.worker.figures s.ledger.no taken outcome (Err (Refused Unfit))
   comes_unfit a b t n m e f l =
@@ -273,8 +261,3 @@ was_found P F w taken last bytes s (Err (Refused (Stale a b))) is h = (s.ledger.
 was_found P F w taken last bytes s (Err (Refused Unfit)) is h = (s.ledger.count, all_heard s.ledger.own.items, is.ledger)
 was_found P F w taken last bytes s (Err (Refused NotLedger)) is h = λ count own l.
     not-none P F w taken count (count == taken) (count + 1 == taken) _ _ (not-with P F w taken (rules_of P F) (after_answers (rules_of P F) [] own) own last) (came P F w taken last bytes s (Err (Refused NotLedger)) is h count own l)
-
--- no ledger comes to nothing
-pub none_came : (P : Policy) (F : Figures) (w taken : ℕ) (last : Option Answer) (bytes : List ℕ) → ((count : ℕ) (own : List Answer) → IsLedger (rules_of P F) w bytes count own → ⊥)
-    → (count : ℕ) (own : List Answer) → IsLedger (rules_of P F) w bytes count own → Comes P F w taken (resumed (rules_of P F) taken last count own) (Err (Refused NotLedger))
-none_came P F w taken last bytes none count own l = absurd (none count own l)

@@ -1,6 +1,6 @@
 -- The parts of a ledger's text lack the marks that end them, and stand where they were put.
 -- By the digits that numbers and bytes are written with, and by the laws of appending.
-use Rattle.std.proofs.Common.{◌≡◌, ℕ, ◌+◌, ◌<◌, ◌≤◌, ◌%◌, true, false, List, [], ◌∷◌, ◌++◌, refl, sym, ap, ◌∙◌, arith, append_assoc, codes, get_or, append-nil}
+use Rattle.std.proofs.Common.{◌≡◌, ℕ, ◌+◌, ◌<◌, ◌≤◌, ◌%◌, true, false, List, [], ◌∷◌, ◌++◌, refl, sym, ap, ◌∙◌, arith, append_assoc, codes, get_or}
 use Rattle.std.specs.Prelude.{◌==◌, not, decimal, ◌^◌}
 use Rattle.std.specs.List.{AllPass, flat_map}
 use Rattle.std.proofs.lemmas.Bool.{and_parts, ne_eqb}
@@ -9,10 +9,10 @@ use Rattle.std.proofs.lemmas.Fmt.{decimal_by_steps}
 use Rattle.hex.specs.Hex.{IsBytes, encode_lower, is_hex_digit}
 use Rattle.hex.proofs.HexLemmas.{decode_of-encode_lower, decode_of-ok}
 use Rattle.worker_ledger.specs.Cuts.{lacks}
-use Rattle.worker_ledger.specs.Ledgers.{AreAnswers, IsAnswer, answer_text, answers_text, hex_object, ledger_text, number_object}
+use Rattle.worker_ledger.specs.Ledgers.{AreAnswers, IsAnswer, answer_text, answers_text, hex_object, number_object}
 use Rattle.worker_ledger.specs.Heard.{all_heard, heard}
 use Rattle.worker_ledger.specs.declared.heard.Heard.{Heard}
-use Rattle.broker_core.specs.Answers.{Answer, Received, Done, Bytes, Number, NotYet, Failed}
+use Rattle.broker_core.specs.Answers.{Answer}
 
 abbrev digit_holds : ℕ → Type 0
 digit_holds c = is_hex_digit c ≡ true
@@ -57,32 +57,6 @@ number_parts text front n rest e = e ∙ append_assoc front (decimal n ++ codes 
 
 -- ---- Answers
 
--- the byte that tells the kind of an answer
-abbrev pub kind : Answer → ℕ
-kind (Received notif) = 111
-kind Done = 34
-kind (Bytes bytes) = 121
-kind (Number n) = 117
-kind (Failed e) = 97
-kind NotYet = 0
-
-pub kind_at : (a : Answer) (rest : List ℕ) → IsAnswer a → get_or (answer_text a ++ rest) 3 0 ≡ kind a
-kind_at (Received notif) rest is = refl
-kind_at Done rest is = refl
-kind_at (Bytes bytes) rest is = refl
-kind_at (Number n) rest is = refl
-kind_at (Failed e) rest is = refl
-kind_at NotYet rest is = absurd is
-
--- an answer begins with no bracket
-first-byte : (a : Answer) (rest : List ℕ) → IsAnswer a → get_or (answer_text a ++ rest) 0 0 ≡ 93 → ⊥
-first-byte (Received notif) rest is e = omega arith
-first-byte Done rest is e = omega arith
-first-byte (Bytes bytes) rest is e = omega arith
-first-byte (Number n) rest is e = omega arith
-first-byte (Failed e) rest is q = omega arith
-first-byte NotYet rest is e = is
-
 -- what is left of the answers of a ledger, and of the text, where some were read
 pub record IsLeft (own : List Answer) (rest : List ℕ) (read : List Answer) (left : List ℕ) : Type 0 where
   pub more : List Answer
@@ -120,23 +94,6 @@ left_more own rest read left behind next h is open_ found comma end = by is.more
           text = past-comma more rest behind next f.1 comma end;
         }
 
--- the bracket ends them
-pub left_none : (own : List Answer) (rest : List ℕ) (read : List Answer) (left : List ℕ) → IsLeft own rest read left → get_or left 0 0 ≡ 93 → read ≡ own
-left_none own rest read left is end = by is.more is.told is.split is.text
-  where
-    by : (more : List Answer) → AreAnswers more → own ≡ read ++ more → left ≡ answers_text more ++ (93 ∷ rest) → read ≡ own
-    by [] told split text = sym (split ∙ append-nil read)
-    by (a ∷ more) told split text = absurd (first-byte a (tail_text more ++ (93 ∷ rest)) told.0 (rw (text ∙ next-text a more rest) at end))
-
--- before it there is one
-pub left_some : (own : List Answer) (rest : List ℕ) (read : List Answer) (left : List ℕ) → IsLeft own rest read left → (get_or left 0 0 ≡ 93 → ⊥)
-    → ((a : Answer) (t : List ℕ) → IsAnswer a → left ≡ answer_text a ++ t → ⊥) → ⊥
-left_some own rest read left is open_ none = by is.more is.told is.text
-  where
-    by : (more : List Answer) → AreAnswers more → left ≡ answers_text more ++ (93 ∷ rest) → ⊥
-    by [] told text = open_ (rw text refl)
-    by (a ∷ more) told text = none a (tail_text more ++ (93 ∷ rest)) told.0 (text ∙ next-text a more rest)
-
 pub left_all : (own : List Answer) (rest text : List ℕ) → AreAnswers own → text ≡ answers_text own ++ (93 ∷ rest) → IsLeft own rest [] text
 left_all own rest text told e = record { more = own; told = told; split = refl; text = e }
 
@@ -145,10 +102,6 @@ heard_more [] h = refl
 heard_more (g ∷ answers) h = ap (λ more. heard g ∷ more) (heard_more answers h)
 
 -- ---- Ledgers
-
-pub ledger_count : (text : List ℕ) (worker count : ℕ) (own : List Answer) → text ≡ ledger_text worker count own
-    → text ≡ codes "{\"count\":" ++ (decimal count ++ (44 ∷ (codes "\"own\":[" ++ (answers_text own ++ (93 ∷ (codes ",\"worker\":" ++ (decimal worker ++ codes "}")))))))
-ledger_count text worker count own e = e
 
 pub lacks_comma : (n : ℕ) → n < 2 ^ 64 → lacks 44 (decimal n) ≡ true
 lacks_comma n l =

@@ -116,13 +116,6 @@ impl Ledger {
         self.count
     }
 
-    /// Sets the count, from which it goes on, and nothing else.
-    pub fn set_count(&mut self, count: u64)
-        ensures { self.new ≡ record self.old { count = count } }
-    {
-        self.count = count;
-    }
-
     /// What the worker was told in its session, the oldest answer first.
     pub fn answers(&self) -> &[Heard]
         ensures { result.now ≡ self.now.own.items }

@@ -1,5 +1,5 @@
 -- The title is written, and then the report; its counts are added behind both.
-use Rattle.std.proofs.Common.{rules, ◌≡◌, ◌++◌, Ok, Err, subst}
+use Rattle.std.proofs.Common.{rules, ◌≡◌, Ok, Err, subst}
 use Rattle.audit_log.proofs.Writing.{wrote_more, wrote_stopped}
 use Rattle.audit_log.specs.Written.{Wrote}
 use Rattle.audit_log.specs.declared.error.ReportError.TheVariants.{NoMemory}
