@@ -1,12 +1,15 @@
 -- What a task does that waits in a listed call.
--- By the order of its steps, and the oldest request of its call.
-use Rattle.std.proofs.Common.{◌≡◌, ℕ, true, false, Some, None, Result, refl, sym, ap, ◌∙◌}
+-- By the order of its steps, and the oldest request of its call; by cases on each of these for whether it is able to step.
+use Rattle.std.proofs.Common.{◌≡◌, ℕ, true, false, ◌||◌, not, List, Option, Some, None, Result, refl, sym, ap, ◌∙◌}
+use Rattle.std.specs.Prelude.{is_some}
 use Rattle.hist_model.specs.Calls.{queue, settled}
 use Rattle.hist_model.specs.Files.{asked_in, files, first_request, request_for, slot_in}
+use Rattle.hist_model.specs.Kinds.{skips}
 use Rattle.hist_model.specs.Look.{event_at}
 use Rattle.hist_model.specs.Memory.{group_named}
 use Rattle.hist_model.specs.Steps.{deliver_or, install_step, living_step, place_or, slot_answer}
 use Rattle.hist_model.specs.declared.event.Back.{Back}
+use Rattle.hist_model.specs.declared.event.Event.{Event}
 use Rattle.listener.proofs.Stand.{IsOldest, oldest-first, oldest-none}
 use Rattle.tasks.proofs.Told.{steps-living}
 use Rattle.listener.specs.Stands.{IsInstall, IsSettledBy, oldest_in}
@@ -62,3 +65,27 @@ due-install k o c x m w h none = waiting-order k o c x m w h ∙ ap (λ d. deliv
 -- without a request there is no step
 pub due-none : (k : Kernel) (o c x : ℕ) → MayStep k o → WaitsIn k o c x → settled (past k) c ≡ false → signal_due k o ≡ None → oldest_in (past k) (queue (past k) c) ≡ None → due_step k o ≡ Skip
 due-none k o c x m w h none q = due-install k o c x m w h none ∙ ap (install_step (system k) (past k) c) (oldest-none (past k) c q)
+
+-- ---- who is able to step
+
+-- the task whose call is settled
+pub settled-able : (k : Kernel) (o c x : ℕ) (r : Option Back) → MayStep k o → WaitsIn k o c x → IsSettledBy (past k) c r → is_some r ≡ true → true ≡ not (skips (due_step k o))
+settled-able k o c x (Some back) m w settled q = ap (λ w. not (skips w)) (sym (due-resume k o c x back m w settled))
+settled-able k o c x None m w settled q = cc
+
+pub unsettled : (K : List Event) (c : ℕ) (r : Option Back) → IsSettledBy K c r → is_some r ≡ false → settled K c ≡ false
+unsettled K c (Some back) s q = cc
+unsettled K c None s q = s
+
+-- the one that a signal or a request is there for
+pub waiting-able : (k : Kernel) (o c x : ℕ) → MayStep k o → WaitsIn k o c x → settled (past k) c ≡ false
+    → not (skips (due_step k o)) ≡ (is_some (signal_due k o) || is_some (oldest_in (past k) (queue (past k) c)))
+waiting-able k o c x m w h = ap (λ w. not (skips w)) (waiting-order k o c x m w h) ∙ by (signal_due k o)
+  where
+    installs : (a : Option Addfd) → oldest_in (past k) (queue (past k) c) ≡ a → not (skips (install_step (system k) (past k) c (queue (past k) c))) ≡ is_some a
+    installs (Some a) q = ap (λ r. not (skips (install_step (system k) (past k) c r))) (oldest-first (past k) c a q).queue_is
+    installs None q = ap (λ r. not (skips (install_step (system k) (past k) c r))) (oldest-none (past k) c q)
+
+    by : (d : Option ℕ) → not (skips (deliver_or d (delivered k o true) (install_step (system k) (past k) c (queue (past k) c)))) ≡ (is_some d || is_some (oldest_in (past k) (queue (past k) c)))
+    by (Some sig) = refl
+    by None = installs (oldest_in (past k) (queue (past k) c)) refl

@@ -47,6 +47,11 @@ makes_child (Some (instr.Spawn program)) = true
 makes_child (Some (instr.Thread program)) = true
 makes_child i = false
 
+-- the instruction waits for a child
+abbrev pub is_wait : Option Instr → Bool
+is_wait (Some instr.Wait) = true
+is_wait i = false
+
 -- where the next instruction of the task makes a child, that takes no memory
 abbrev pub HasChildRoom : Kernel → ℕ → Type 0
 HasChildRoom k o = makes_child (own_instr k o) ≡ true → HasTaskRoom k.tasks o

@@ -9,6 +9,7 @@
 //! workers have open and how often the caps were spent are rows of the kernel's own.
 #![tactic(auto)]
 
+mod able;
 mod deeds;
 mod kernel;
 pub mod laws;

@@ -318,7 +318,7 @@ impl Kernel {
     }
 
     /// Whether only fatal signals end the wait in the listed call with this id.
-    fn holds_back(&self, id: u64) -> bool
+    pub(crate) fn holds_back(&self, id: u64) -> bool
         requires { IsKernel self.now }
         ensures { (c : ℕ) → IsListedAs (past self.now) c id → result ≡ (self.now.script.killable && fetched (past self.now) c) }
     {

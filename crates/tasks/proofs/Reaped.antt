@@ -1,12 +1,12 @@
 -- The table after a task has waited for a child, and what a wait finds.
 -- By the row of each task, and since those for which a task may wait stand in order.
 use Rattle.std.proofs.Common.{◌≡◌, ◌⊎◌, inl, inr, ℕ, zero, suc, ◌+◌, ◌-◌, ◌<◌, ◌≤◌, ◌^◌, Bool, true, false, ◌&&◌, ◌||◌, not, List, [], ◌∷◌, ◌++◌, length, set, Option, Some, None, refl, sym, ap, ◌∙◌, subst, arith, leb}
-use Rattle.std.specs.Prelude.{if◌then◌else◌, find, slice_get, count_by, Ok, Err}
+use Rattle.std.specs.Prelude.{if◌then◌else◌, find, slice_get, count_by, Ok, Err, IfNone, IfSome, is_some}
 use Rattle.std.specs.List.{remove}
 use Rattle.std.proofs.lemmas.Bool.{cases_order, both_ways, and_parts, and_from, false_from_ne_true}
 use Rattle.std.proofs.lemmas.List.{length-set, length-append}
 use Rattle.std.proofs.lemmas.Option.{slice_get-map, slice_get_within}
-use Rattle.hist_model.specs.Kinds.{makes}
+use Rattle.hist_model.specs.Kinds.{makes, skips}
 use Rattle.hist_model.specs.Look.{Name, name_eq, oldest}
 use Rattle.hist_model.specs.Steps.{is_child, is_ended_child, wait_step}
 use Rattle.hist_model.specs.Tasks.{ended, has_parent, parent}
@@ -382,6 +382,23 @@ module _ (S : Script) (K : List Event) (T : Table) (s : IsTableOf S K T) (o : �
 
   pub found-wait : (k a : ℕ) (c : Member) → slice_get t.waiting k ≡ Some a → task_at T a ≡ Some c → lives_at T.tasks (Some a) ≡ false → ((j : ℕ) → j < k → IsEndedAt T o j → ⊥) → Reap (Ok c.name) ≡ waits
   found-wait k a c q ct d sooner = answers (Reap (Ok c.name)) (first-found T s.whole o t at goes-on k a c q ct d sooner st refl)
+
+  -- so a wait answers where a child for which the task may wait has ended, and doesn't where there are some and none has
+  pub childless-answers : t.waiting ≡ [] → true ≡ not (skips waits)
+  childless-answers e = ap (λ w. not (skips w)) (childless-wait e)
+
+  ended-answers : (k : ℕ) → IsEndedAt T o k → ((j : ℕ) → j < k → IsEndedAt T o j → ⊥) → true ≡ not (skips waits)
+  ended-answers k (u, here, a, q, d) sooner =
+      let same : u ≡ t = let z : Some u ≡ Some t = sym here ∙ at in cc in
+      let q' : slice_get t.waiting k ≡ Some a = ap (λ (x : Member). slice_get x.waiting k) (sym same) ∙ q in
+      let own = (s.whole.waiting o t at).listed k a q' in
+      let found = found-wait k a own.0 q' own.1 d sooner in
+      ap (λ (w : What). not (skips w)) found
+
+  pub found-answers : (found : Option ℕ) (k a : ℕ) → slice_get t.waiting k ≡ Some a → IfSome found (IsEndedAt T o) → IfSome found (λ p. (j : ℕ) → j < p → IsEndedAt T o j → ⊥)
+      → IfNone found ((j : ℕ) → IsEndedAt T o j → ⊥) → is_some found ≡ not (skips waits)
+  found-answers (Some p) k a q ended sooner never = ended-answers p ended sooner
+  found-answers None k a q ended sooner never = ap (λ w. not (skips w)) (idle-wait k a q never)
 
 -- the child that was found, and its name in a vector with room for it
 pub found-child : (old took : Table) (H : IsWhole old) (o k a : ℕ) (t : Member) (name : Name) (room : ℕ) → task_at old o ≡ Some t → slice_get t.waiting k ≡ Some a → took ≡ with_task old o (without_waiting t k)

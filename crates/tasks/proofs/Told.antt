@@ -1,7 +1,7 @@
 -- What is told of the tasks of a history for which they stand: events that are no steps of tasks, other room, names, places and lives.
 -- By the table, and by the definitions of a task's step.
 use Rattle.std.proofs.Common.{◌≡◌, ℕ, ◌<◌, Bool, true, false, ◌&&◌, not, List, ◌∷◌, length, Option, Some, None, refl, sym, ap, ◌∙◌, subst, arith}
-use Rattle.std.specs.Prelude.{◌↔◌}
+use Rattle.std.specs.Prelude.{◌↔◌, is_some}
 use Rattle.std.proofs.lemmas.Bool.{and_parts, and_from}
 use Rattle.std.proofs.lemmas.List.{length-map}
 use Rattle.hist_model.specs.Look.{Name, name_eq, event_at}
@@ -89,9 +89,16 @@ alive-is K n m = rw m
 
 -- ---- deliveries
 
+same-some : (K : List Event) (n : Name) (due : Option ℕ) → is_some (with_disposition K n due) ≡ is_some due
+same-some K n None = refl
+same-some K n (Some sig) = refl
+
 pub due-is : (S : Script) (K : List Event) (n : Name) (r : Row) (holding : Bool) → IsRow S K n r → holding ≡ held S.killable K n → next_of r.pending r.dispositions holding ≡ with_disposition K n (next_signal S.killable K n)
 due-is S K n r holding i h =
     ap (λ p. next_of p r.dispositions holding) i.pending_is ∙ (ap (λ m. next_of (pending_of K n) m holding) i.dispositions_is ∙ (ap (next_of (pending_of K n) (dispositions_of K n)) h ∙ next-signal-is S.killable K n))
+
+pub due-some : (S : Script) (K : List Event) (n : Name) (r : Row) (holding : Bool) → IsRow S K n r → holding ≡ held S.killable K n → is_some (next_of r.pending r.dispositions holding) ≡ is_some (next_signal S.killable K n)
+due-some S K n r holding i h = ap is_some (due-is S K n r holding i h) ∙ same-some K n (next_signal S.killable K n)
 
 pub delivered : (K : List Event) (n : Name) (in_call : Bool) (due : Option ℕ) (sig : ℕ) (m : Disposition) (effect : Delivered) → Some (sig, m) ≡ with_disposition K n due → effect ≡ effect_of in_call sig m → Some (Deliver sig effect) ≡ delivery K n in_call due
 delivered K n in_call None sig m effect q f = cc

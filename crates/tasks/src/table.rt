@@ -1,8 +1,8 @@
 //! The table of the tasks.
 
-ghost use Rattle.std.specs.Prelude.{◌≡◌, ◌↔◌, ℕ, ◌+◌, ◌-◌, ◌<◌, ◌≤◌, ◌^◌, List, [], ◌∷◌, ◌++◌, length, map, set, Option, Some, None, Ok, Err, IfOk, OnOk, IfSome, IfNone, IsOk, IsSome, Bool, true, false, ◌&&◌, not, slice_get, slice_index_or, vec_len, vec_capacity};
+ghost use Rattle.std.specs.Prelude.{◌≡◌, ◌↔◌, ℕ, ◌+◌, ◌-◌, ◌<◌, ◌≤◌, ◌^◌, List, [], ◌∷◌, ◌++◌, length, map, set, Option, Some, None, Ok, Err, IfOk, OnOk, IfSome, IfNone, IsOk, IsSome, is_some, Bool, true, false, ◌&&◌, not, slice_get, slice_index_or, vec_len, vec_capacity};
 ghost use Rattle.std.specs.Option.{option_copied};
-ghost use Rattle.hist_model.specs.Kinds.{exits};
+ghost use Rattle.hist_model.specs.Kinds.{exits, skips};
 ghost use Rattle.hist_model.specs.Legal.{system_of};
 ghost use Rattle.hist_model.specs.Look.{Name, event_at, oldest};
 ghost use Rattle.hist_model.specs.Memory.{last_call};
@@ -505,6 +505,18 @@ impl Tasks {
         Some(what)
     }
 
+    /// Whether a signal is due for a task. Where `held` is set, only signals that end the task are due.
+    pub fn is_due(&self, o: u32, held: bool) -> bool
+        ensures { (S : Script) (K : List Event) → StandsFor S K self.now → o < tasks_made K → held ≡ held_back S.killable K (task_name_of K o) → result ≡ is_some (next_signal S.killable K (task_name_of K o)) }
+    {
+        match self.task(o) {
+            Some(task) => {
+                next_due(&task.progress.pending, &task.progress.dispositions, held).is_some()
+            }
+            None => false,
+        }
+    }
+
     /// A task sets what it does at a signal (sigaction(2)).
     pub fn handler(&mut self, o: u32, sig: u8, disposition: Disposition)
         ensures stands { (S : Script) (K : List Event) (e : Event) → StandsFor S K self.old → IsStepOf S K e o → e.what ≡ Handler sig disposition → StandsFor S (e ∷ K) self.new }
@@ -569,6 +581,17 @@ impl Tasks {
             place += 1;
         }
         None
+    }
+
+    /// Whether a wait of a task, which is alive, would answer (wait(2)): it has a child that has ended and isn't reaped, or no
+    /// child that isn't reaped.
+    pub fn wait_answers(&self, o: u32) -> bool
+        ensures { (S : Script) (K : List Event) → StandsFor S K self.now → o < tasks_made K → ended K (task_name_of K o) ≡ false → result ≡ not (skips (wait_step K (oldest (is_child K (task_name_of K o)) (length K)) (oldest (is_ended_child K (task_name_of K o)) (length K)))) }
+    {
+        match self.task(o) {
+            Some(task) => task.waiting.is_empty() || self.first_ended(o).is_some(),
+            None => false,
+        }
     }
 
     /// Takes the child at a place from those for which a task may wait.

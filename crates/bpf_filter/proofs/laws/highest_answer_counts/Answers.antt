@@ -2,4 +2,4 @@ use Rattle.bpf_filter.proofs.Highest.{combine_highest}
 use Rattle.bpf_filter.proofs.laws.highest_answer_counts.Goals as goal
 
 pub returns : goal.returns
-returns = combine_highest
+returns c values l = combine_highest values l
