@@ -170,7 +170,7 @@ impl LineBuffer {
     }
 
     /// Adds bytes as digits of base 16.
-    pub(crate) fn push_hex(&mut self, bytes: &[u8]) -> Result<(), NoMemory>
+    pub fn push_hex(&mut self, bytes: &[u8]) -> Result<(), NoMemory>
         ensures { OnOk result (self.new ≡ self.old ++ hex bytes.now) }
     {
         let mut at = 0;
@@ -263,7 +263,7 @@ impl LineBuffer {
     }
 
     /// Adds a number that may be negative.
-    pub(crate) fn push_signed(&mut self, n: i64) -> Result<(), NoMemory>
+    pub fn push_signed(&mut self, n: i64) -> Result<(), NoMemory>
         ensures { OnOk result (self.new ≡ self.old ++ signed_decimal n) }
     {
         if n < 0 {

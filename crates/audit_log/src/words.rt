@@ -12,7 +12,7 @@ use sys_abi::errno::Errno;
 use sys_abi::memory::NoMemory;
 
 /// Adds bytes as digits of base 16, or `-` where there are none.
-pub(crate) fn push_hex_or_dash(line: &mut LineBuffer, bytes: &[u8]) -> Result<(), NoMemory>
+pub fn push_hex_or_dash(line: &mut LineBuffer, bytes: &[u8]) -> Result<(), NoMemory>
     ensures { OnOk result (line.new ≡ line.old ++ hex_or_dash bytes.now) }
 {
     if bytes.is_empty() {
@@ -131,7 +131,7 @@ pub(crate) fn push_back(line: &mut LineBuffer, back: Back) -> Result<(), NoMemor
 
 /// Adds who takes a step.
 #[inline(always)]
-pub(crate) fn push_actor(line: &mut LineBuffer, who: &Actor) -> Result<(), NoMemory>
+pub fn push_actor(line: &mut LineBuffer, who: &Actor) -> Result<(), NoMemory>
     ensures { OnOk result (line.new ≡ line.old ++ actor_text who.now) }
 {
     match who {
