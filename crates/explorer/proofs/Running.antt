@@ -31,7 +31,6 @@ unfolding session
 task_after K n a w = refl
 
 module _ (P : Policy) (old new : Run) (going : IsGoing P old) where
-
   -- an actor that may step, and whose step is one
   able : (a : Actor) → may_step (story old) a ≡ true → skips (step (system_of (script_in old)) (rules_of P (script_in old).figures) (story old) a) ≡ false → is_able P (script_in old) (story old) a ≡ true
   able a m s = rw (m, s) refl
