@@ -29,6 +29,8 @@ class Tree:
 
     def __init__(self, script):
         self.nodes, self.attrs, self.mounts, self.root = [(None, b"/", "dir", None)], {}, [], 0
+        # the newest node of each directory and name
+        self.entries = {}
         for line in script.decode("latin-1").splitlines():
             words = tokens(line)
             if words[:1] == ["prog"]:
@@ -50,10 +52,11 @@ class Tree:
 
     def make(self, parent, name, kind, target=None):
         self.nodes.append((parent, name, kind, target))
+        self.entries[parent, name] = len(self.nodes) - 1
         return len(self.nodes) - 1
 
     def entry(self, directory, name):
-        return next((at for at in reversed(range(1, len(self.nodes))) if self.nodes[at][:2] == (directory, name)), None)
+        return self.entries.get((directory, name))
 
     def mounted_on(self, node):
         """The root of the newest mount on a node."""

@@ -25,6 +25,21 @@ FIRST_LINE = re.compile(r"^(?![ \t]*(?:#|\r?$)).*", re.M)
 YAML_LINE = re.compile(r"(?:- )?[A-Za-z_][\w.-]*:(?: |\r?$)|---\s*$")
 
 
+@dataclass(frozen=True)
+class Subject:
+    """What a text should be, for what is said where it is no JSON: its name, the least one, what stands in place of a comment, how many objects and arrays
+    of it stand in one another, and its greatest number."""
+
+    name: str
+    least: str
+    remark: str
+    nested: str
+    greatest: int
+
+
+POLICY = Subject("policy", "`{}`, which passes every call", "a rule's `name` can say what the rule is for", "six", 2**32 - 1)
+
+
 class NotJson(Exception):
     """A place at which a text is no JSON: from where to where, a name, what is wrong, and what would be right."""
 
@@ -75,8 +90,8 @@ def yaml_line(text):
 
 
 class Scanner:
-    def __init__(self, text):
-        self.text, self.at, self.open = text, 0, []
+    def __init__(self, text, subject=POLICY):
+        self.text, self.subject, self.at, self.open = text, subject, 0, []
 
     def skip(self):
         self.at = SPACE.match(self.text, self.at).end()
@@ -92,7 +107,7 @@ class Scanner:
         """The value that the whole text is."""
         self.look_at_bytes()
         if not self.text.strip():
-            self.refuse("empty-file", "the file has nothing in it", "the least policy is `{}`, which passes every call", 0)
+            self.refuse("empty-file", "the file has nothing in it", f"the least {self.subject.name} is {self.subject.least}", 0)
         self.skip()
         value = self.value()
         self.skip()
@@ -113,14 +128,14 @@ class Scanner:
         self.refuse_comment()
         if self.next() in ("}", "]"):
             self.refuse("unopened", f"nothing is open that this `{self.next()}` could close", "remove it, or open its object or array further up")
-        self.refuse("text-behind-the-end", "the JSON value has ended, and there is more behind it", "a policy is one object: put everything between its `{` and its `}`")
+        self.refuse("text-behind-the-end", "the JSON value has ended, and there is more behind it", f"a {self.subject.name} is one object: put everything between its `{{` and its `}}`")
 
     def refuse_comment(self):
         """Refuses a comment, where one begins here."""
         for mark in ("//", "/*", "#"):
             if self.text.startswith(mark, self.at):
                 end = self.text.find("\n", self.at)
-                self.refuse("comment", "JSON has no comments", "remove it; a rule's `name` can say what the rule is for", end=len(self.text) if end < 0 else end)
+                self.refuse("comment", "JSON has no comments", f"remove it; {self.subject.remark}", end=len(self.text) if end < 0 else end)
 
     def refuse_end(self, what):
         """The file ends inside of what is open."""
@@ -141,7 +156,7 @@ class Scanner:
     def nested(self, letter):
         self.open.append(self.at)
         if len(self.open) > MOST_NESTED:
-            self.refuse("too-deep", f"more than {MOST_NESTED} objects and arrays stand in one another", "a policy needs six at most")
+            self.refuse("too-deep", f"more than {MOST_NESTED} objects and arrays stand in one another", f"a {self.subject.name} needs {self.subject.nested} at most")
         value = self.object() if letter == "{" else self.array()
         value.end = self.at
         self.open.pop()
@@ -260,7 +275,7 @@ class Scanner:
         if NUMBER.fullmatch(word) and math.isfinite(float(word)):
             self.at = found.end()
             return Value("number", start, self.at, word)
-        self.refuse("bare-word", *bare_word(word), end=found.end())
+        self.refuse("bare-word", *bare_word(word, self.subject), end=found.end())
 
     def string(self):
         """The text of a string, whose opening quote is next."""
@@ -315,7 +330,7 @@ class Scanner:
         self.refuse("unknown-escape", f"JSON has no escape `\\{letter}`", cure, end=self.at + 2)
 
 
-def bare_word(word):
+def bare_word(word, subject):
     """What is wrong with a word where a value belongs, and what would be right."""
     if word in FOREIGN_LITERALS:
         return f"JSON has no word {word}", f"write `{FOREIGN_LITERALS[word]}`, or the text `\"{word}\"`"
@@ -326,7 +341,7 @@ def bare_word(word):
     if re.fullmatch(r"\+\d+", word, re.ASCII):
         return "a number of JSON has no `+` before it", f"write `{word[1:]}`"
     if NUMBER.fullmatch(word):
-        return "the number is too great", "no number of a policy is above 4294967295"
+        return "the number is too great", f"no number of a {subject.name} is above {subject.greatest}"
     if re.match(r"[-+.]?\d", word, re.ASCII):
         return f"{word} is no number of JSON", "a number has decimal digits, as `259`; a text stands in double quotes, as `\"1:3\"`"
     found = near(word, LITERALS)

@@ -1,9 +1,11 @@
 "use strict";
 
 followScheme(document.querySelector(".scheme"));
-const picture = new Picture(document.getElementById("place"), JSON.parse(document.getElementById("scene").textContent), { address: true });
+const shown = show(document.getElementById("place"), JSON.parse(document.getElementById("view").textContent), { address: true });
+const picture = shown instanceof Picture ? shown : shown.picture ?? null;
 window.addEventListener("hashchange", () => {
+  if (!shown.address) return;
   const place = picture.placeOfAddress();
   if (place !== picture.chosen) picture.choose(place, { quiet: true });
 });
-picture.parts.picture.focus({ preventScroll: true, focusVisible: false });
+shown.focus();

@@ -6,8 +6,8 @@ import json
 import os
 
 FOLDER = os.path.dirname(os.path.realpath(__file__))
-PICTURE_SCRIPTS = ("scheme.js", "model.js", "marks.js", "details.js", "picture.js")
-PICTURE_STYLES = ("picture.css",)
+PICTURE_SCRIPTS = ("scheme.js", "model.js", "marks.js", "details.js", "picture.js", "exploration.js", "views.js")
+PICTURE_STYLES = ("picture.css", "exploration.css")
 
 
 def part(name):
@@ -34,10 +34,10 @@ def digest(text):
     return f"'sha256-{base64.b64encode(hashlib.sha256(text.encode()).digest()).decode()}'"
 
 
-def picture_page(scene, title):
-    """The page of a picture. Its policy lets only its own script and style count, and nothing be fetched."""
+def picture_page(view, title):
+    """The page of a picture of an output. Its policy lets only its own script and style count, and nothing be fetched."""
     script, style = joined((*PICTURE_SCRIPTS, "alone.js")), joined(PICTURE_STYLES)
     policy = f"default-src 'none'; script-src {digest(script)}; style-src {digest(style)}; base-uri 'none'; form-action 'none'"
     return filled(part("picture.html"), {
-        "POLICY": policy, "TITLE": html.escape(title), "STYLE": style, "PARTS": part("parts.html"), "SCENE": as_json(scene), "SCRIPT": script,
+        "POLICY": policy, "TITLE": html.escape(title), "STYLE": style, "PARTS": part("parts.html"), "VIEW": as_json(view), "SCRIPT": script,
     })

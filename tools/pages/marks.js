@@ -15,7 +15,7 @@ function make(name, attributes = {}, ...children) {
   return element;
 }
 
-const SVG_NAMES = new Set(["svg", "g", "path", "rect", "line", "circle", "title"]);
+const SVG_NAMES = new Set(["svg", "g", "path", "rect", "line", "circle", "text", "title"]);
 
 const CIRCLE = "M-.85 0a.85 .85 0 1 0 1.7 0a.85 .85 0 1 0-1.7 0Z";
 const DOT = "M-.5 0a.5 .5 0 1 0 1 0a.5 .5 0 1 0-1 0Z";

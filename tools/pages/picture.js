@@ -2,7 +2,7 @@
 
 const NOTES = {
   other: "another task is opened", reused: "PID reused", gone: "caller or call gone", lost: "answer lost", restarted: "call made again",
-  fault: "arguments unreadable", deny: "call denied", spent: "grant spent", open: "call comes to nothing",
+  fault: "arguments unreadable", deny: "call denied", spent: "grant spent", open: "call comes to nothing", replaced: "worker replaced",
 };
 const LEAST_WITH_WORDS = 14;
 const NARROW = 640;
@@ -520,6 +520,10 @@ class Picture {
       this.parts.find.select();
       event.preventDefault();
     }
+  }
+
+  focus() {
+    this.parts.picture.focus({ preventScroll: true, focusVisible: false });
   }
 
   /** Ends what the picture watches, before another one takes its place. */

@@ -3,27 +3,32 @@
 // a link keeps no longer texts than these, packed and unpacked
 const LONGEST_LINK = 60_000;
 const LONGEST_CASE = 10_000_000;
+const USUAL_DELAYS = "3";
+const SLOW = "several hundred times slower than the proved program";
 
 const by = (id) => document.getElementById(id);
 
 class Playground {
   constructor(about) {
     this.about = about;
-    this.report = null;
-    this.picture = null;
+    // what is shown below, the output that it is of, the report that can be checked, and the exploration of which an order was played
+    this.shown = this.output = this.report = this.exploration = null;
     const changed = () => this.changed();
     this.editors = { policy: new Editor(by("policy"), "Policy", changed), script: new Editor(by("script"), "Script", changed) };
-    by("program").textContent = `on ${about.program}`;
+    this.tellProgram(about);
+    by("delays").append(...about.delays.map((bound) => make("option", { value: bound, selected: bound === USUAL_DELAYS }, bound)));
+    by("seconds").max = about.seconds.most;
+    by("seconds").value = about.seconds.usual;
     by("example").append(make("option", { value: "" }, "choose one"), ...Object.keys(about.examples).map((name) => make("option", { value: name }, name)));
     for (const button of document.querySelectorAll("[data-form]")) {
       button.closest(".joined, button").hidden = !about.forms.includes(button.dataset.form);
-      button.addEventListener("click", () => this.ask(button.dataset.form));
+      button.addEventListener("click", () => (button.dataset.form === "explore" ? this.explore() : this.ask(button.dataset.form)));
     }
     by("example").addEventListener("change", () => by("example").value && this.example(by("example").value));
     by("link").addEventListener("click", () => this.copyLink());
     by("open").addEventListener("click", () => by("opened").showModal());
     by("opened").addEventListener("close", () => by("opened").returnValue === "open" && this.open(by("pasted").value));
-    by("save-report").addEventListener("click", () => save("report.txt", "text/plain", this.report));
+    by("save-report").addEventListener("click", () => save(`${this.report === null ? "output" : "report"}.txt`, "text/plain", this.output));
     by("save-picture").addEventListener("click", () => this.savePicture());
     document.addEventListener("keydown", (event) => {
       if (event.key === "Enter" && (event.ctrlKey || event.metaKey) && !by("opened").open) this.ask("play");
@@ -101,30 +106,48 @@ class Playground {
     }
   }
 
+  tellProgram({ program, slow }) {
+    this.slow = slow;
+    by("program").textContent = `on ${program}${slow ? `, ${SLOW}` : ""}`;
+    by("program").title = by("program").textContent;
+  }
+
   // ---- what the program says
 
   /** Sends something to the server, and gives what it answers, or null where it refuses. */
   async send(path, body) {
-    document.body.classList.add("busy");
-    for (const button of document.querySelectorAll("[data-form]")) button.disabled = true;
+    this.busy(true);
     try {
-      const answer = await fetch(path, { method: "POST", headers: { "Content-Type": "application/json" }, body: JSON.stringify(body) });
+      const answer = await post(path, body);
       const told = await answer.json();
-      if (told.program) by("program").textContent = `on ${told.program}`;
+      if (told.program) this.tellProgram(told);
       if (answer.ok) return told;
-      this.tell("refused", make("p", {}, `The server refuses this: ${told.error}.`));
+      this.tellRefusal(told);
     } catch {
-      this.tell("refused", make("p", {}, "The server doesn't answer. Is the playground still running?"));
+      this.tellSilence();
     } finally {
-      document.body.classList.remove("busy");
-      for (const button of document.querySelectorAll("[data-form]")) button.disabled = button.dataset.form === "audit-check" && this.report === null;
+      this.busy(false);
     }
     return null;
   }
 
-  async ask(form) {
+  tellRefusal(told) {
+    this.tell("refused", make("p", {}, `The server refuses this: ${told.error}.`));
+  }
+
+  tellSilence() {
+    this.tell("refused", make("p", {}, "The server doesn't answer. Is the playground still running?"));
+  }
+
+  /** While something runs, nothing else can be asked for. */
+  busy(is) {
+    document.body.classList.toggle("busy", is);
+    for (const button of document.querySelectorAll("[data-form]")) button.disabled = is || (button.dataset.form === "audit-check" && this.report === null);
+  }
+
+  async ask(form, how = { play: "Played", run: "Run" }[form]) {
     const texts = { policy: this.editors.policy.text, script: this.editors.script.text };
-    const more = { run: () => ({ workers: number("workers"), cpus: number("cpus") }), "audit-check": () => ({ report: this.report }) }[form];
+    const more = { run: () => ({ workers: number("workers", 0, 16), cpus: number("cpus", 0, 16) }), "audit-check": () => ({ report: this.report }) }[form];
     if (form === "audit-check" && this.report === null) return;
     this.unmark();
     if (form === "audit-check") by("result").classList.remove("old");
@@ -133,23 +156,89 @@ class Playground {
     if (!told) return;
     if (told.status !== 0) this.refused(told, form);
     else if (form === "audit-check") this.checked(told.output);
-    else this.show(told.scene, form === "play" ? "Played" : "Run");
+    else this.show(told.view, `${told.view.scene.lines.join("\n")}\n`, how);
   }
 
-  show(scene, how) {
-    this.picture?.leave();
-    this.report = `${scene.lines.join("\n")}\n`;
+  /** The picture of the report that is shown, or null where something else is. */
+  get picture() {
+    return this.shown instanceof Picture ? this.shown : null;
+  }
+
+  /** Shows a view of an output below. */
+  put(view, output, options = {}) {
+    this.shown?.leave();
+    this.output = output;
+    this.report = view.scene ? reportOf(output) : null;
     by("result").classList.remove("old");
-    this.picture = new Picture(by("result"), scene);
+    this.shown = show(by("result"), view, options);
     for (const name of ["save-report", "save-picture"]) by(name).disabled = false;
-    document.querySelector('[data-form="audit-check"]').disabled = false;
-    const { events, notified, answered } = scene.summary;
-    this.tell("good", make("p", {}, `${how}: ${events} events, ${notified} notification${notified === 1 ? "" : "s"}, ${answered} answered.`), make("button", { type: "button", class: "small", onclick: () => this.look() }, "See the picture"));
+    document.querySelector('[data-form="audit-check"]').disabled = this.report === null;
+  }
+
+  show(view, output, how) {
+    this.put(view, output);
+    const told = view.kind === "exploration" ? counted(view.outcomes.length, "outcome") : view.kind === "pod" ? counted(view.scenes.length, "container") : summaryText(view.scene.summary);
+    const back = this.exploration === null ? null : make("button", { type: "button", class: "small", onclick: () => this.backToOutcomes() }, "Back to the outcomes");
+    this.tell("good", make("p", {}, `${how}: ${told}.`), make("button", { type: "button", class: "small", onclick: () => this.look() }, view.kind === "exploration" ? "See the outcomes" : "See the picture"), back);
   }
 
   look() {
     by("result").scrollIntoView({ block: "end" });
-    this.picture.parts.picture.focus({ preventScroll: true });
+    this.shown.focus();
+  }
+
+  // ---- explorations
+
+  async explore() {
+    this.unmark();
+    this.exploration = null;
+    const asked = { policy: this.editors.policy.text, script: this.editors.script.text, workers: number("explorers", 1, 16) - 1, delays: by("delays").value, seconds: number("seconds", 1, this.about.seconds.most) };
+    const exploring = new Exploring(asked.delays);
+    this.tell("", exploring.words, exploring.button, this.slow ? make("p", { class: "soft" }, `This is ${this.about.program}, ${SLOW}.`) : null);
+    this.busy(true);
+    try {
+      const answer = await post("explore", asked, exploring.signal);
+      if (!answer.ok) return this.tellRefusal(await answer.json());
+      await exploring.follow(answer.body);
+    } catch {
+      if (!exploring.stopped) return this.tellSilence();
+    } finally {
+      this.busy(false);
+    }
+    return this.explored(exploring, asked);
+  }
+
+  /** Shows what an exploration came to that has ended, was stopped, or took too long. */
+  explored({ last, known, stopped }, { delays, seconds }) {
+    if (last.program) this.tellProgram(last);
+    if (last.over === "ended" && last.status !== 0) return this.refused(last, "explore");
+    const took = `${last.seconds ?? 0} s`;
+    const why = stopped ? `Stopped after ${took}` : last.over === "limit" ? `Ended at the limit of ${seconds} s` : last.over === "ended" ? `Explored in ${took}` : "The server broke off";
+    const whole = last.over === "ended" && !stopped;
+    if (known === null) return this.tell("refused", make("p", {}, `${why}, and no smaller bound had ended by then. Take fewer delays, or more seconds.`));
+    const words = whole ? "" : `${why}. Bound ${last.bound} has ended, which is the first part of ${delays === "all" ? "all orders" : `bound ${delays}`}.`;
+    this.exploration = { ...known, words };
+    this.showOutcomes();
+    return this.tell(whole ? "good" : "", make("p", {}, `${why}: ${counted(known.view.outcomes.length, "outcome")} of ${counted(known.view.histories, "order")}, `, make("code", {}, `whole=${known.view.whole}`), ". ", whole ? "" : words.slice(why.length + 2)), make("button", { type: "button", class: "small", onclick: () => this.look() }, "See the outcomes"));
+  }
+
+  showOutcomes() {
+    const { view, output, words } = this.exploration;
+    this.put(view, output, { words, play: (schedule, number) => this.playOrder(schedule, number) });
+  }
+
+  backToOutcomes() {
+    this.showOutcomes();
+    this.tell("");
+    this.look();
+  }
+
+  /** Puts the schedule of an outcome into the script, and plays it. */
+  async playOrder(schedule, number) {
+    this.editors.script.set(withSchedule(this.editors.script.text, schedule));
+    by("example").value = "";
+    this.keep();
+    await this.ask("play", `Outcome ${number} played`);
   }
 
   refused(told, form) {
@@ -187,18 +276,89 @@ class Playground {
   async open(text) {
     const told = await this.send("picture", { report: text.endsWith("\n") || text === "" ? text : `${text}\n` });
     if (!told) return;
+    this.exploration = null;
     if (told.status !== 0) this.tell("refused", make("p", {}, told.line));
-    else this.show(told.scene, "Opened");
+    else this.show(told.view, text.endsWith("\n") ? text : `${text}\n`, "Opened");
   }
 
   async savePicture() {
-    const told = await this.send("page", { report: this.report });
+    const told = await this.send("page", { report: this.output });
     if (told?.page) save("picture.html", "text/html", told.page);
   }
 }
 
-function number(id) {
-  return Math.max(0, Math.min(16, Math.trunc(Number(by(id).value)) || 0));
+function number(id, least, most) {
+  return Math.max(least, Math.min(most, Math.trunc(Number(by(id).value)) || least));
+}
+
+function post(path, body, signal) {
+  return fetch(path, { method: "POST", headers: { "Content-Type": "application/json" }, body: JSON.stringify(body), signal });
+}
+
+function summaryText({ events, notified, answered }) {
+  return `${counted(events, "event")}, ${counted(notified, "notification")}, ${answered} answered`;
+}
+
+/** The report of an output, without the ledgers of a handover. */
+function reportOf(output) {
+  const at = output.indexOf("\nhandovers ");
+  return at < 0 ? output : output.slice(0, at + 1);
+}
+
+/** A script with another schedule in place of its own. */
+function withSchedule(script, schedule) {
+  const kept = [];
+  let inside = false;
+  for (const line of script.split("\n")) {
+    const word = line.trim().split(/\s+/)[0];
+    if (word === "schedule") inside = true;
+    if (!inside) kept.push(line);
+    if (inside && word === "end") inside = false;
+  }
+  while (kept.length > 0 && kept.at(-1).trim() === "") kept.pop();
+  return [...kept, "", ...scheduleLines(schedule), ""].join("\n");
+}
+
+/** An exploration that goes on: it tells how far it is, can be stopped, and keeps what is known so far. */
+class Exploring {
+  constructor(delays) {
+    this.what = delays === "all" ? "all orders" : `bound ${delays}`;
+    this.known = null;
+    this.last = {};
+    this.stopped = false;
+    this.abort = new AbortController();
+    this.words = make("p", { "aria-live": "off" }, `Exploring ${this.what} …`);
+    this.button = make("button", { type: "button", class: "small stop", onclick: () => this.stop() }, "Stop");
+  }
+
+  get signal() {
+    return this.abort.signal;
+  }
+
+  stop() {
+    this.stopped = true;
+    this.abort.abort();
+  }
+
+  /** Takes the messages, a line of JSON each, until there are no more. */
+  async follow(body) {
+    const reader = body.pipeThrough(new TextDecoderStream()).getReader();
+    let text = "";
+    for (let piece = await reader.read(); !piece.done; piece = await reader.read()) {
+      const lines = (text + piece.value).split("\n");
+      text = lines.pop();
+      lines.forEach((line) => this.take(JSON.parse(line)));
+    }
+  }
+
+  take(message) {
+    const { known, ...rest } = message;
+    this.known = known ?? this.known;
+    this.last = { ...this.last, ...rest };
+    const { seconds, bound, histories, outcomes } = this.last;
+    const far = bound === null || bound === undefined ? "no smaller bound has ended yet" : `bound ${bound} has ended: ${counted(histories, "order")}, ${counted(outcomes, "outcome")}`;
+    this.words.textContent = `Exploring ${this.what}: ${seconds} s; ${far}`;
+  }
 }
 
 function save(name, type, text) {

@@ -17,13 +17,15 @@ LIMITED = f'ulimit -c 0; ulimit -f {REPORT_LIMIT // 512}; exec "$@"'
 # what ./broker says of a program that isn't proved, and how each line of its own begins
 NOT_PROVED, OF_THE_BROKER = "broker: this build isn't proved", "broker: "
 
-# the forms of words that the page can ask for: the texts that become files, and numbers with their greatest value. Another form is one
-# more entry here and a button with its name in playground.html, which is hidden where the program hasn't the form.
-Form = namedtuple("Form", "texts numbers")
+# the forms of words that the page can ask for: the texts that become files, numbers with their greatest value, and words that stand in a list. Another form is
+# one more entry here and a button with its name in playground.html, which is hidden where the program hasn't the form.
+Form = namedtuple("Form", "texts numbers choices", defaults=({}, {}))
+GREATEST_BOUND, ALL = 8, "all"
 FORMS = {
-    "play": Form(("policy", "script"), {}),
+    "play": Form(("policy", "script")),
     "run": Form(("policy", "script"), {"workers": 16, "cpus": 16}),
-    "audit-check": Form(("policy", "script", "report"), {}),
+    "explore": Form(("policy", "script"), {"workers": 15}, {"delays": (*map(str, range(GREATEST_BOUND + 1)), ALL)}),
+    "audit-check": Form(("policy", "script", "report")),
 }
 
 # `line` is what the program said; `marked` is the text and the line that this is about, where that is known, and of a policy from where
@@ -33,6 +35,44 @@ Ended = namedtuple("Ended", "status output line marked")
 
 class Late(Exception):
     """A run that took too long, and was ended."""
+
+
+class Running:
+    """The program with the words of a form, in a folder that has the texts, and in a group of processes that is ended with it."""
+
+    def __init__(self, path, form, texts, words):
+        self.room = tempfile.TemporaryDirectory(prefix="playground-")
+        self.output, self.said = tempfile.TemporaryFile(), tempfile.TemporaryFile()
+        for name, text in texts.items():
+            with open(f"{self.room.name}/{name}", "wb") as file:
+                file.write(text)
+        whole = [path, form, *texts, *map(str, words)]
+        self.process = subprocess.Popen(["/bin/sh", "-c", LIMITED, "sh", *whole], cwd=self.room.name, stdin=subprocess.DEVNULL, stdout=self.output, stderr=self.said, start_new_session=True)
+
+    def status(self, seconds):
+        """How it ended; None where it hasn't after so many seconds."""
+        try:
+            return self.process.wait(seconds)
+        except subprocess.TimeoutExpired:
+            return None
+
+    def end(self):
+        """Ends it, and all that it started, also where it has ended itself."""
+        try:
+            os.killpg(self.process.pid, signal.SIGKILL)
+        except ProcessLookupError:
+            pass
+        self.process.wait()
+        self.room.cleanup()
+
+    def printed(self):
+        self.output.seek(0)
+        return self.output.read()
+
+    def lines(self):
+        """What it said on standard error."""
+        self.said.seek(0)
+        return self.said.read(65536).decode("utf-8", "replace").splitlines()
 
 
 class Program:
@@ -48,39 +88,37 @@ class Program:
         offered = {form.split()[0] for form in usage[0][len("usage: "):].split(" | ")}
         self.forms = [form for form in FORMS if form in offered]
         self.named = path != broker
-        self.kind = self.kind_of(said)
+        self.learn(said)
 
-    def kind_of(self, said):
-        """Which program it was that said these lines."""
-        if self.named:
-            return f"the program at {self.path}"
-        return "a trial build, which isn't proved" if any(line.startswith(NOT_PROVED) for line in said) else "the proved program"
+    def learn(self, said):
+        """Notes which program it was that said these lines."""
+        self.is_slow = any(line.startswith(NOT_PROVED) for line in said)
+        self.kind = f"the program at {self.path}" if self.named else "a trial build, which isn't proved" if self.is_slow else "the proved program"
 
-    def run(self, form, texts, numbers):
-        """What the program does with the words of a form, whose texts and numbers are looked at already."""
-        with tempfile.TemporaryDirectory(prefix="playground-") as room, tempfile.TemporaryFile() as output, tempfile.TemporaryFile() as said:
-            for name, text in texts.items():
-                with open(f"{room}/{name}", "wb") as file:
-                    file.write(text)
-            words = [self.path, form, *texts, *map(str, numbers.values())]
-            process = subprocess.Popen(["/bin/sh", "-c", LIMITED, "sh", *words], cwd=room, stdin=subprocess.DEVNULL, stdout=output, stderr=said, start_new_session=True)
-            try:
-                status = process.wait(SECONDS)
-            except subprocess.TimeoutExpired:
+    def about(self):
+        """What a page tells of the program."""
+        return {"program": self.kind, "slow": self.is_slow}
+
+    def begun(self, form, texts, words):
+        return Running(self.path, form, texts, words)
+
+    def run(self, form, texts, words):
+        """What the program does with the words of a form, whose texts and words are looked at already."""
+        running = self.begun(form, texts, words)
+        try:
+            status = running.status(SECONDS)
+            if status is None:
                 raise Late from None
-            finally:
-                # also where it has ended: nothing that it started is left behind
-                try:
-                    os.killpg(process.pid, signal.SIGKILL)
-                except ProcessLookupError:
-                    pass
-                process.wait()
-            output.seek(0)
-            said.seek(0)
-            lines = said.read(65536).decode("utf-8", "replace").splitlines()
-            line = "\n".join(line for line in lines if not line.startswith(OF_THE_BROKER))
-            self.kind = self.kind_of(lines)
-            return Ended(status, output.read(), line, marked_by(line, texts))
+        finally:
+            running.end()
+        return self.ended(running, status, texts)
+
+    def ended(self, running, status, texts):
+        """What came of a run that has ended."""
+        lines = running.lines()
+        line = "\n".join(line for line in lines if not line.startswith(OF_THE_BROKER))
+        self.learn(lines)
+        return Ended(status, running.printed(), line, marked_by(line, texts))
 
 
 def marked_by(line, texts):

@@ -11,9 +11,10 @@ import traceback
 from http.server import BaseHTTPRequestHandler, ThreadingHTTPServer
 
 from documents import PICTURE_SCRIPTS, PICTURE_STYLES, filled, joined, part, picture_page
-from reports import NotAReport, read
-from runs import FORMS, LIMITS, SECONDS, Late
-from scenes import scene_of
+from explorations import EXPLORE, MOST_SECONDS, USUAL_SECONDS, explored
+from reports import NotAReport
+from runs import FORMS, LIMITS, SECONDS, Form, Late
+from views import TITLES, view_of
 
 AT_ONCE = 4
 CONNECTIONS = 256
@@ -30,7 +31,9 @@ HEADERS = {
     "Cross-Origin-Resource-Policy": "same-origin",
     "Cache-Control": "no-store",
 }
-JSON = "application/json"
+JSON, JSON_LINES = "application/json", "application/x-ndjson"
+# the numbers that a request has beside those that become words of the program
+OF_THE_PAGE = {EXPLORE: {"seconds": MOST_SECONDS}}
 
 
 class Refused(Exception):
@@ -44,19 +47,22 @@ def greatest_body(texts):
     return 2 * sum(LIMITS[name] for name in texts) + 1024
 
 
-def asked_of(body, texts, numbers):
-    """The texts as bytes and the numbers of a request, each within its limits."""
+def asked_of(body, form, more):
+    """The texts of a request as bytes, and its words and numbers, each within its limits: those of a form, and `more` numbers."""
     try:
         asked = json.loads(body)
     except (ValueError, RecursionError):
         raise Refused(400, "the body is no JSON") from None
-    if not isinstance(asked, dict) or set(asked) != {*texts, *numbers}:
+    if not isinstance(asked, dict) or set(asked) != {*form.texts, *form.numbers, *form.choices, *more}:
         raise Refused(400, "the body has other keys")
-    found = {name: bytes_of(name, asked[name]) for name in texts}
-    for name, most in numbers.items():
+    found = {name: bytes_of(name, asked[name]) for name in form.texts}
+    for name, most in {**form.numbers, **more}.items():
         if type(asked[name]) is not int or not 0 <= asked[name] <= most:
             raise Refused(400, f"{name} isn't a number from 0 to {most}")
-    return found, {name: asked[name] for name in numbers}
+    for name, known in form.choices.items():
+        if type(asked[name]) is not str or asked[name] not in known:
+            raise Refused(400, f"{name} is none of {', '.join(known)}")
+    return found, {name: asked[name] for name in (*form.numbers, *form.choices, *more)}
 
 
 def bytes_of(name, text):
@@ -79,7 +85,14 @@ class Handler(BaseHTTPRequestHandler):
 
     def setup(self):
         super().setup()
-        self.last = threading.Timer(LONGEST, self.hang_up)
+        self.last = None
+        self.lasts(LONGEST)
+
+    def lasts(self, seconds):
+        """Lets the connection last so long from now on."""
+        if self.last is not None:
+            self.last.cancel()
+        self.last = threading.Timer(seconds, self.hang_up)
         self.last.daemon = True
         self.last.start()
 
@@ -103,11 +116,12 @@ class Handler(BaseHTTPRequestHandler):
         self.answered(self.asked)
 
     def answered(self, action):
-        """Answers with what the action gives, or tells why it is refused."""
+        """Answers with what the action gives, or tells why it is refused. An action that has answered already gives nothing."""
         try:
             self.look_at_host()
-            kind, body = action()
-            self.say(200, kind, body)
+            answer = action()
+            if answer is not None:
+                self.say(200, *answer)
         except Refused as fault:
             self.say_why(fault.status, str(fault))
         except OSError:
@@ -137,17 +151,19 @@ class Handler(BaseHTTPRequestHandler):
         return self.server.pages[self.path]
 
     def asked(self):
-        actions = {"/picture": ("report",), "/page": ("report",), **{f"/{form}": FORMS[form].texts for form in self.server.program.forms}}
-        if self.path not in actions:
+        forms = {"/picture": Form(("report",)), "/page": Form(("report",)), **{f"/{form}": FORMS[form] for form in self.server.program.forms}}
+        if self.path not in forms:
             raise Refused(404, "there is nothing here")
-        name, texts = self.path[1:], actions[self.path]
-        length = self.length(greatest_body(texts))
+        name, form = self.path[1:], forms[self.path]
+        length = self.length(greatest_body(form.texts))
         # (before the body is read, so that there are no more bodies than turns)
         if not self.server.turns.acquire(blocking=False):
             raise Refused(503, f"{AT_ONCE} are at work already; try again")
         try:
-            found, numbers = asked_of(self.body(length), texts, FORMS[name].numbers if name in FORMS else {})
-            told = self.ran(name, found, numbers) if name in FORMS else self.drawn(name, found["report"])
+            found, words = asked_of(self.body(length), form, OF_THE_PAGE.get(name, {}))
+            if name == EXPLORE:
+                return self.explored(found, **words)
+            told = self.ran(name, found, list(words.values())) if name in FORMS else self.drawn(name, found["report"])
             return JSON, json.dumps(told).encode()
         finally:
             self.server.turns.release()
@@ -178,40 +194,55 @@ class Handler(BaseHTTPRequestHandler):
             body += piece
         return bytes(body)
 
-    def ran(self, form, texts, numbers):
+    def ran(self, form, texts, words):
         try:
-            ended = self.server.program.run(form, texts, numbers)
+            ended = self.server.program.run(form, texts, words)
         except Late:
-            return {"status": None, "line": f"The run was ended after {SECONDS} seconds.", "marked": None}
-        told = {"status": ended.status, "line": ended.line or (f"The program ended with status {ended.status}." if ended.status else ""), "marked": ended.marked,
-                "program": self.server.program.kind}
+            slow = " The program is a trial build, which is slow." if self.server.program.is_slow else ""
+            return {"status": None, "line": f"The run was ended after {SECONDS} seconds.{slow}", "marked": None}
+        line = ended.line or (f"The program ended with status {ended.status}." if ended.status else "")
+        told = {"status": ended.status, "line": line, "marked": ended.marked, **self.server.program.about()}
         if ended.status == 0 and form == "audit-check":
             told["output"] = ended.output.decode("latin-1")
         elif ended.status == 0:
             told.update(self.drawn("picture", ended.output))
         return told
 
-    def drawn(self, name, report):
-        """The scene of a report, or its page."""
-        lines = report.count(b"\n")
+    def explored(self, texts, workers, delays, seconds):
+        """Sends the messages of an exploration, a line each. Where the other end hangs up, it is ended."""
+        self.lasts(seconds + LONGEST)
+        messages = explored(self.server.program, texts, workers, delays, seconds)
+        try:
+            self.head(200, {"Content-Type": JSON_LINES})
+            for message in messages:
+                self.wfile.write(json.dumps(message).encode() + b"\n")
+        finally:
+            messages.close()
+
+    def drawn(self, name, output):
+        """What a page shows of an output, or the page of it."""
+        lines = output.count(b"\n")
         if lines > MOST_LINES:
             return {"status": None, "line": f"The report has {lines:,} lines, and this page draws no more than {MOST_LINES:,}. The tool `picture` draws it.", "marked": None}
         try:
-            scene = scene_of(read(report))
+            view = view_of(output)
         except NotAReport as fault:
             return {"status": None, "line": f"This is no report: {fault}", "marked": ["report", fault.line]}
-        return {"status": 0, "line": "", "marked": None, **({"scene": scene} if name == "picture" else {"page": picture_page(scene, "A report")})}
+        return {"status": 0, "line": "", "marked": None, **({"view": view} if name == "picture" else {"page": picture_page(view, TITLES[view["kind"]])})}
 
     # ---- how
 
-    def say(self, status, kind, body):
+    def head(self, status, headers):
         self.send_response(status)
-        for name, value in {**HEADERS, "Content-Type": kind, "Content-Length": str(len(body)), "Connection": "close"}.items():
+        for name, value in {**HEADERS, **headers, "Connection": "close"}.items():
             self.send_header(name, value)
         self.end_headers()
+        self.close_connection = True
+
+    def say(self, status, kind, body):
+        self.head(status, {"Content-Type": kind, "Content-Length": str(len(body))})
         if self.command != "HEAD":
             self.wfile.write(body)
-        self.close_connection = True
 
     def say_why(self, status, text):
         self.say(status, JSON, json.dumps({"error": text}).encode())
@@ -250,7 +281,8 @@ class Server(ThreadingHTTPServer):
         self.hosts = [f"{name}:{self.server_port}" for name in ("127.0.0.1", "localhost")]
         self.turns = threading.BoundedSemaphore(AT_ONCE)
         self.connections = threading.BoundedSemaphore(CONNECTIONS)
-        about = {"program": program.kind, "forms": program.forms, "limits": LIMITS, "examples": examples}
+        seconds = {"usual": USUAL_SECONDS, "most": MOST_SECONDS}
+        about = {**program.about(), "forms": program.forms, "limits": LIMITS, "delays": FORMS[EXPLORE].choices["delays"], "seconds": seconds, "examples": examples}
         self.pages = {
             "/": ("text/html; charset=utf-8", filled(part("playground.html"), {"PARTS": part("parts.html")}).encode()),
             "/page.css": ("text/css; charset=utf-8", joined((*PICTURE_STYLES, "playground.css")).encode()),

@@ -40,12 +40,21 @@ def of_no_form(made):
 
 def script(made, filters):
     """The lines of the script. `filters` are those of its filters."""
-    lines = [f"# {it}" for it in findings(made)]
+    return [*settings(made), *filters, *programs(made)]
+
+
+def settings(made):
+    """What it found out, and the settings but for the filters."""
     tree = made.tree.lines()
-    lines += ["", *tree, *made.tree.finds.lines(made.tree), *made.figures, *pages(made), *filters]
+    return [*(f"# {it}" for it in findings(made)), "", *tree, *made.tree.finds.lines(made.tree), *made.figures, *pages(made)]
+
+
+def programs(made):
+    """The programs of the script and its schedule."""
+    lines = []
     for task in reversed(made.all):
-        programs = f": {plain(', '.join(task.process.programs))}" if task.process and task.process.programs else ""
-        lines += ["", *([f"# process {task.process.pid}{programs}"] if task.process else []), f"prog {task.program}", *task.lines, "end"]
+        executed = f": {plain(', '.join(task.process.programs))}" if task.process and task.process.programs else ""
+        lines += ["", *([f"# process {task.process.pid}{executed}"] if task.process else []), f"prog {task.program}", *task.lines, "end"]
     return lines + ["", *made.schedule.lines()]
 
 

@@ -4,6 +4,7 @@ A rule counts where all of `includes` hold and none of `excludes`: of capabiliti
 conditions are for one argument is a rule for each condition.
 """
 import os
+import re
 import tempfile
 from collections import Counter
 from dataclasses import dataclass, field
@@ -20,10 +21,26 @@ NATIVE, NAME_OF_NATIVE = "SCMP_ARCH_X86_64", "amd64"
 ARCHITECTURES = {"SCMP_ARCH_X86_64": "X86_64", "SCMP_ARCH_X86": "X86", "SCMP_ARCH_X32": "X32"}
 EPERM = 1
 UNKNOWN = -1  # the number of a call that libseccomp doesn't know
+# capabilities(7)
+CAPABILITIES = tuple(f"CAP_{it.upper()}" for it in """audit_control audit_read audit_write block_suspend bpf checkpoint_restore chown dac_override dac_read_search fowner fsetid ipc_lock
+ipc_owner kill lease linux_immutable mac_admin mac_override mknod net_admin net_bind_service net_broadcast net_raw perfmon setfcap setgid setpcap setuid sys_admin sys_boot sys_chroot
+sys_module sys_nice sys_pacct sys_ptrace sys_rawio sys_resource sys_time sys_tty_config syslog wake_alarm""".split())
+ALL, NONE = "CAP_ALL", "CAP_NONE"
+# what libseccomp says of a rule
+ERROR = re.compile(r"errno = -(\d+)")
+TAKEN = 17
 
 
 class Refused(Exception):
-    """The profile can't be made into a filter. The text says why."""
+    """The profile can't be made into a filter. The text says why, and `entry` is the number of the entry of `syscalls` that it is about, where it is about one."""
+
+    def __init__(self, text, cure="", entry=None):
+        super().__init__(text)
+        self.cure, self.entry = cure, entry
+
+
+class NoCapability(ValueError):
+    """No capability has this name."""
 
 
 @dataclass
@@ -51,6 +68,20 @@ def library(tool):
     except ImportError as fault:
         raise Refused(MISSING.format(tool=tool)) from fault
     return seccomp
+
+
+def with_prefix(prefix, name):
+    """A name in capitals, as libseccomp and capabilities(7) have it."""
+    return name.upper() if name.upper().startswith(prefix) else f"{prefix}{name.upper()}"
+
+
+def capabilities(names):
+    """The capabilities with these names, with or without CAP_; all and none are names too. Raises NoCapability."""
+    found = {with_prefix("CAP_", it) for it in names}
+    unknown = found - {*CAPABILITIES, ALL, NONE}
+    if unknown:
+        raise NoCapability(min(unknown))
+    return set(CAPABILITIES) if ALL in found else found - {NONE}
 
 
 def version(text):
@@ -136,10 +167,22 @@ def add_rules(module, rule, made, found, default, notified):
                 found.rules += 1
 
 
+def add_entry(module, number, rule, made, found, default, notified):
+    """Adds the rules of an entry, by its number, which stands in what is said of it."""
+    try:
+        add_rules(module, rule, made, found, default, notified)
+    except Refused as fault:
+        fault.entry = number
+        raise
+
+
 def add_rule(made, action, name, each):
     try:
         made.add_rule(action, name, *each)
     except RuntimeError as fault:
+        number = ERROR.search(str(fault))
+        if number and int(number[1]) == TAKEN:
+            raise Refused(f"an entry above has another action for {name} where the same holds of its arguments", "a call has one action for the same arguments: leave it out of one of the two") from fault
         raise Refused(f"libseccomp refuses the rule for {name}: {fault}") from fault
 
 
@@ -155,9 +198,9 @@ def filter_of(profile, asked, tool):
     module, found = library(tool), Made(architectures=architectures_of(profile, asked))
     try:
         made, default = new_filter(module, profile, asked)
-        for rule in profile.get("syscalls") or []:
+        for number, rule in enumerate(profile.get("syscalls") or []):
             if is_meant(rule, asked):
-                add_rules(module, rule, made, found, default, set(asked.notify))
+                add_entry(module, number, rule, made, found, default, set(asked.notify))
             else:
                 found.not_meant += 1
         for name in asked.notify:

@@ -58,6 +58,8 @@ class Workload:
         self.tree, self.schedule, self.figures = Tree(), Schedule(), []
         self.tasks, self.all, self.in_call, self.names = {}, [], {}, Counter()
         self.written, self.left_out, self.remarks = Counter(), Counter(), Counter()
+        # of each task the calls of its program: each with that of the trace, or None for one that was added; and those that no program has, each with the reason
+        self.entered, self.omitted = {}, []
         self.instructions, self.calls, self.bytes, self.cut_at, self.cut_by = 0, 0, 0, None, ""
         self.make()
 
@@ -183,6 +185,7 @@ class Workload:
     def leave_out(self, call, task, why):
         """Puts a line in the place of a call."""
         self.left_out[call.name, why] += 1
+        self.omitted.append((call, why))
         self.put(task, f"# line {call.first}: {shown(call)}; left out: {why}")
 
     def enter(self, call, task):
@@ -258,6 +261,7 @@ class Workload:
         self.instructions += len(pokes)
         self.instruct(task, " ".join(["call", found.name, *map(as_written, found.parts, arguments)]), len(pokes) + 1)
         self.calls += 1
+        self.entered.setdefault(task, []).append((call, found))
         self.in_call[task] = (call, InCall(found, verdict, calls.pieces(found), path))
         if verdict == "notify":
             if not self.schedule.has_free_worker:

@@ -5,21 +5,27 @@ import re
 import subprocess
 import tempfile
 from dataclasses import dataclass
+from functools import cached_property
 
-from json_documents.explorations import exploration_of, turn_line
+from explored import Report, outcome_of as outcome_of_report
+from json_documents.explorations import TOO_LONG, exploration_of, outcome_of, turn_line
+from json_documents.lines import Lines
 from messages import scripts
 from messages.findings import Finding, advice, listed, meant
+from messages.profiles import is_profile
 from messages.refusals import Said, entry_of, read_fault
 from messages.script_words import MOST_BROKER
 from real_workloads import bpf
 from real_workloads.script_text import CALLS, TOKEN
 from reports import NotAReport
+from testing import profiles
 from testing.found import Deed, Found, MISSING
 from testing.lines import NotUnderstood
 
 POLICY_REFUSED, SCRIPT_REFUSED = 4, 5
 GREATEST_OF_BROKER = 1023
 LINE = re.compile(r"\bline (\d+)\b")
+ONLY_OUTCOME = "outcome 1 histories=1"
 
 
 class NotAsked(Exception):
@@ -56,9 +62,14 @@ class Outcome:
     made: tuple
     schedule: tuple
 
+    @cached_property
+    def last(self):
+        """What came of each step the last time that it was made."""
+        return {(it.place, id(it.step)): it.found for it in self.made}
+
     def found(self, place, step):
         """What came of a step of a task; that it was never made where that is so. A call that was interrupted and not entered again counts as that."""
-        last = next((it.found for it in reversed(self.made) if it.place == place and it.step is step), MISSING)
+        last = self.last.get((place, id(step)), MISSING)
         return MISSING if last.outcome == "restarted" else last
 
 
@@ -87,11 +98,11 @@ def found_of(call):
 def made_of(instances, calls):
     """The calls of an outcome with the steps that made them. A call that is entered again after a signal is of the same step."""
     named, at = {it.place: it for it in instances}, {}
+    steps = {it.place: [step for step in it.task.steps if step.call is not None] for it in instances}
     for call in calls:
         instance = named[call["task"]]
-        steps = [step for step in instance.task.steps if step.call is not None]
         found = found_of(call)
-        yield Made(instance.task.name, instance.place, steps[at.get(instance.place, 0)], found)
+        yield Made(instance.task.name, instance.place, steps[instance.place][at.get(instance.place, 0)], found)
         at[instance.place] = at.get(instance.place, 0) + (found.outcome != "restarted")
 
 
@@ -105,36 +116,55 @@ def explored_of(instances, output):
     return Explored(outcomes, document["histories"], document["whole"])
 
 
+def played_of(script, report):
+    """The outcome of the one order of steps that a report tells, as an exploration prints it."""
+    lines = outcome_of_report(Report(report.decode("latin-1")), script.data)
+    document = outcome_of(Lines("\n".join([ONLY_OUTCOME, *(lines or ["none"]), TOO_LONG, ""]).encode()))
+    return Explored((Outcome(1, tuple(made_of(script.instances, document["calls"])), ()),), 1, "yes")
+
+
 class Program:
     """The program, which is asked with scripts in a folder that is gone afterwards."""
 
     def __init__(self, path, command):
-        self.path, self.command, self.entry = path, command, entry_of("explore")
+        self.path, self.command = path, command
         self.room = tempfile.TemporaryDirectory(prefix="test-")
 
     def explore(self, policy, script, workers=0, delays="0"):
         """Explores a script under a policy."""
+        return self.understood(lambda output: explored_of(script.instances, output), self.asked("explore", policy, script, str(workers), delays))
+
+    def play(self, policy, script):
+        """Plays a script's own schedule under a policy."""
+        return self.understood(lambda output: played_of(script, output), self.asked("play", policy, script))
+
+    @staticmethod
+    def understood(read, output):
+        try:
+            return read(output)
+        except NotAReport as fault:
+            raise NotAsked(f"what the program printed isn't understood: {fault}") from None
+
+    def asked(self, word, policy, script, *bounds):
+        """What the program prints of a script under a policy."""
         with tempfile.NamedTemporaryFile(dir=self.room.name, suffix=".txt", delete=False) as file:
             file.write(script.data)
-        words = [policy, file.name, str(workers), delays]
+        words = [policy, file.name, *bounds]
         try:
-            ended = subprocess.run([self.path, "explore", *words], stdin=subprocess.DEVNULL, stdout=subprocess.PIPE, stderr=subprocess.PIPE)
+            ended = subprocess.run([self.path, word, *words], stdin=subprocess.DEVNULL, stdout=subprocess.PIPE, stderr=subprocess.PIPE)
         except OSError as fault:
             raise NotAsked(f"{self.path}: {fault.strerror}") from None
         finally:
             os.unlink(file.name)
         if ended.returncode:
-            raise self.refusal(ended, words, script)
-        try:
-            return explored_of(script.instances, ended.stdout)
-        except NotAReport as fault:
-            raise NotAsked(f"what the program printed isn't understood: {fault}") from None
+            raise self.refusal(ended, word, words, script)
+        return ended.stdout
 
-    def refusal(self, ended, words, script):
+    def refusal(self, ended, word, words, script):
         """Why the program doesn't answer."""
         line = (ended.stderr.decode("utf-8", "replace").splitlines() or [f"the program ended with status {ended.returncode}"])[-1]
         if ended.returncode == POLICY_REFUSED:
-            return PolicyRefused([line, *Said(self.entry, words, line, self.command).explained()])
+            return PolicyRefused([line, *Said(entry_of(word), words, line, self.command).explained()])
         if ended.returncode == SCRIPT_REFUSED:
             return NotUnderstood(refused_line(script, line))
         return NotAsked(line)
@@ -178,18 +208,23 @@ def data_of(folder, word):
         raise word.fault(f"{path}: {fault.strerror}", near[0] if near else "a file is named from the folder of the test file on") from None
 
 
-def filter_lines(folder, word):
-    """The lines of the filters in the file that a word names, for a script."""
-    text = data_of(folder, word).decode("utf-8", "replace")
-    if text.lstrip().startswith("{"):
-        raise word.fault(f"{word.text} isn't the filter of a script", "make one of a seccomp profile by `filter-of-profile -o FILE`, and name that file")
+def filter_lines(folder, filters):
+    """The lines of the filters that a `filter` line names, for a script, and what is likely a mistake in a profile."""
+    word, data = filters.file, data_of(folder, filters.file)
+    text = data.decode("utf-8", "replace")
+    if is_profile(text):
+        return profiles.lines_of(path_of(folder, word), data, filters)
+    if filters.options:
+        name = next(iter(filters.options))
+        raise filters.word_of(name).fault(f"{name}= is for a profile, and {word.text} has filters as a script has them", "leave it out: what a filter answers stands in its lines")
+    forms = "the file is a seccomp profile, or has blocks `filter` and `filter listener`, as `filter-of-profile` and `filter-of-process` write them"
     try:
-        filters = bpf.read_blocks(text)
+        found = bpf.read_blocks(text)
     except (ValueError, KeyError, IndexError) as fault:
-        raise word.fault(f"{word.text}: {fault}", "the file has blocks `filter` and `filter listener`, as `filter-of-profile` and `filter-of-process` write them") from None
-    if not filters:
-        raise word.fault(f"{word.text} has no filter", "the file has blocks `filter` and `filter listener`, as `filter-of-profile` and `filter-of-process` write them")
-    return text.splitlines()
+        raise word.fault(f"{word.text}: {fault}", forms) from None
+    if not found:
+        raise word.fault(f"{word.text} has no filter", forms)
+    return text.splitlines(), []
 
 
 def rules_of(data):

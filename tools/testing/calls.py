@@ -128,7 +128,8 @@ class Reader:
     def __init__(self, line, name, given):
         self.line, self.name, self.given, self.at = line, name, given, 0
         self.form = words.FORMS_OF_CALLS[name]
-        self.values = {}
+        # the operands by their names, and the words in which they stand
+        self.values, self.places = {}, {}
 
     @property
     def next(self):
@@ -176,23 +177,26 @@ class Reader:
         behind = Word("", place.line, place.end, place.end + 1)
         return behind.fault(f"{operand.name} of `{self.name}` is missing", self.written())
 
-    def read(self):
+    def read(self, is_whole=True):
+        """The operands by their names. Where it needn't be the whole call, those behind the last word may be missing."""
         for operand in self.form.operands:
             if self.next is None and not operand.is_optional:
+                if not is_whole:
+                    break
                 raise self.missing(operand)
             if not operand.is_optional or self.is_here(operand):
-                self.values[operand.name] = self.value(operand, self.next)
+                self.values[operand.name], self.places[operand.name] = self.value(operand, self.next), self.next
                 self.at += 1
             if operand.kind == "device":
-                self.check_device(operand)
+                self.check_device(operand, is_whole)
         if self.next is not None:
             raise self.next.fault(f"`{self.name}` takes no {self.next.text} here", self.written())
         return self.values
 
-    def check_device(self, operand):
+    def check_device(self, operand, is_whole):
         """A device has its numbers, and another node none."""
         is_device, is_given = self.values["KIND"] in words.DEVICES, operand.name in self.values
-        if is_device and not is_given:
+        if is_device and not is_given and is_whole:
             raise self.missing(operand)
         if is_given and not is_device:
             raise self.given[self.at - 1].fault(f"a {self.values['KIND']} has no numbers of a device", "write `c` for a character device, or `b` for a block device")
@@ -216,18 +220,22 @@ def arguments_of(name, values):
     return (values["NUMBER"],) if name == "close" else ()
 
 
+def name_of(word):
+    """The name of a call that a word is."""
+    if word.text not in words.FORMS_OF_CALLS or word.is_quoted:
+        other = words.OTHER_CALLS.get(word.text)
+        hint = f"did you mean `{other}`? " if other else "" if word.text in words.NOT_NAMED else meant(word.text, words.CALL_NAMES)
+        raise word.fault(f"{word.text} is no call that a test names", advice(hint, f"the calls are {listed(words.CALL_NAMES)}"))
+    return word.text
+
+
 def call_of(line, given, text):
     """The call that these words of a line are; `text` is how they stand there."""
     if not given:
         raise missing(line, "the call", "call mknod /dev/null c 1:3 -> granted")
-    name = given[0]
-    if name.text not in words.FORMS_OF_CALLS or name.is_quoted:
-        other = words.OTHER_CALLS.get(name.text)
-        hint = f"did you mean `{other}`? " if other else "" if name.text in words.NOT_NAMED else meant(name.text, words.CALL_NAMES)
-        raise name.fault(f"{name.text} is no call that a test names", advice(hint, f"the calls are {listed(words.CALL_NAMES)}"))
-    values = Reader(line, name.text, given[1:]).read()
-    stored = arguments_of(name.text, values)
+    name = name_of(given[0])
+    stored = arguments_of(name, Reader(line, name, given[1:]).read())
     rest = sum(len(it.content) for it in stored if isinstance(it, Stored) and not it.is_path)
     if rest > PAGE:
-        raise name.fault(f"the texts of the call have {rest} bytes", f"beside its path they have at most {PAGE}")
-    return Call(name.text, stored, text)
+        raise given[0].fault(f"the texts of the call have {rest} bytes", f"beside its path they have at most {PAGE}")
+    return Call(name, stored, text)

@@ -55,24 +55,25 @@ def show_scripts(paths):
     """Prints the scripts that are made of the files, each with the command that answers it."""
     status = PASSED
     for path in paths:
-        file = read(path)
+        file, about = read(path), ()
         try:
             jobs = Tests(file).jobs() if not file.faults else []
         except NotUnderstood as fault:
             file.faults.append(fault.found)
+            about = fault.about
         if file.faults:
-            say_faults(path, file)
+            say_faults(path, file, about)
             status = NOT_UNDERSTOOD
             continue
         for job in jobs:
             lines = ", ".join(map(str, job.names))
             words = "line" if len(job.names) == 1 else "lines"
-            show([f"# {path}, {words} {lines}", f"# explore {job.policy} SCRIPT {job.workers} {job.delays}", job.script.data.decode("utf-8", "surrogateescape").rstrip("\n")])
+            show([f"# {path}, {words} {lines}", f"# {job.words}", job.script.data.decode("utf-8", "surrogateescape").rstrip("\n")])
     return status
 
 
-def say_faults(path, file):
-    spoken.say([line for it in file.faults for line in output.message(it, path, file.text)])
+def say_faults(path, file, about):
+    spoken.say([*(line for it in file.faults for line in output.message(it, path, file.text)), *about])
 
 
 def show(lines):
@@ -105,7 +106,7 @@ def watched(paths):
     found = {}
     for path in paths:
         file, folder = read(path), os.path.dirname(path)
-        named = [asking.path_of(folder, word) for group in file.groups for word in (group.policy, group.filters) if word is not None]
+        named = [asking.path_of(folder, word) for group in file.groups for word in group.files]
         for name in (path, *named):
             try:
                 found[name] = os.stat(name).st_mtime_ns

@@ -10,6 +10,7 @@ from messages.findings import advice, listed, meant
 from testing import words
 from testing.expectations import BY, is_result
 from testing.lines import Word, missing
+from testing.selections import some
 
 AND, OR, NOT, OPEN, CLOSE = "and", "or", "not", "(", ")"
 OPERATORS = (AND, OR, NOT)
@@ -184,7 +185,7 @@ class Reader:
         """The bytes of a word that names a text of a call."""
         if word.content not in self.texts:
             known = [it.decode("utf-8", "surrogateescape") for it in self.texts]
-            raise word.fault(f"no call of this container has the text {word.text}", advice(meant(word.text, known), f"their texts are {listed(known)}" if known else "none of them has one"))
+            raise word.fault(f"no call of this container has the text {word.text}", advice(meant(word.text, known), f"their texts are {some(known)}" if known else "none of them has one"))
         return word.content
 
     def of_nothing(self, subject):
@@ -193,7 +194,7 @@ class Reader:
         if not made:
             return self.line.first.fault("no task of this container makes a call", "add one to a task, as `mknod /dev/null c 1:3`")
         whole = Word(" ".join(it.text for it in subject), self.line.number, subject[0].start, subject[-1].end)
-        return whole.fault(f"no task makes this call: {whole.text}", f"the calls of this container are {listed(made)}")
+        return whole.fault(f"no task makes this call: {whole.text}", f"the calls of this container are {some(made)}")
 
     # ---- of one call
 
@@ -269,7 +270,7 @@ class Reader:
         if key != word.text:
             return word.fault(f"there is no condition {key}=", advice(meant(key, KEYS), f"it is {listed((f'{it}=' for it in KEYS), 'or')}"))
         near = meant(word.text, (*self.tasks, *words.CALL_NAMES, *PREDICATES, *OPERATORS))
-        tasks = f"a task ({listed(self.tasks, 'or')}), " if self.tasks else ""
+        tasks = f"a task ({some(self.tasks, 'or')}), " if self.tasks else ""
         says = listed((words.DONE, "ended", "0", "EPERM", "granted", "reply=lost"), "or")
         return word.fault(f"{word.text} says nothing of a call", advice(near, f"a condition names {tasks}a call or a text, and then says {says} and the like"))
 

@@ -20,8 +20,10 @@ class Alternative:
     result: str = ""
     rule: str = ""
 
-    def fits(self, found):
-        """Whether it is what was found of a call."""
+    def fits(self, found, traced):
+        """Whether it is what was found of a call, which is one of a trace or None."""
+        if self.word == words.AS_TRACED:
+            return traced.is_answered(found.outcome)
         return (not self.word or found.is_called(self.word)) and self.result in ("", found.outcome) and self.rule in ("", found.rule)
 
 
@@ -33,8 +35,8 @@ class Expected:
     rules: tuple
     text: str
 
-    def fits(self, found):
-        return any(it.fits(found) for it in self.alternatives)
+    def fits(self, found, traced=None):
+        return any(it.fits(found, traced) for it in self.alternatives)
 
     @property
     def asks_tree(self):
@@ -53,8 +55,8 @@ def unknown_error(word):
 class Reader:
     """Reads the words behind an arrow."""
 
-    def __init__(self, line, given):
-        self.line, self.given, self.at, self.rules = line, given, 0, []
+    def __init__(self, line, given, of_trace):
+        self.line, self.given, self.of_trace, self.at, self.rules = line, given, of_trace, 0, []
 
     @property
     def next(self):
@@ -103,8 +105,12 @@ class Reader:
             return Alternative(result=word.text)
         if word.text == words.KILLED and not word.is_quoted:
             return Alternative(words.KILLED)
+        if word.text == words.AS_TRACED and not word.is_quoted:
+            if not self.of_trace:
+                raise word.fault(f"{words.AS_TRACED} is said of a call that isn't one of a trace", "it stands below `traced`; name what this call returns, as `0`")
+            return Alternative(words.AS_TRACED)
         if word.text not in words.EXPECTED or word.is_quoted:
-            raise unknown_expected(word)
+            raise unknown_expected(word, self.of_trace)
         result = self.result(word.text)
         return Alternative(word.text, result, self.rule() if word.text in words.VERDICTS else "")
 
@@ -119,16 +125,17 @@ class Reader:
         return found
 
 
-def unknown_expected(word):
+def unknown_expected(word, of_trace):
     """The exception for a word with which nothing that is expected begins."""
     if re.fullmatch(r"E[A-Z]+", word.text):
         return unknown_error(word)
+    known = (*words.EXPECTED, words.AS_TRACED) if of_trace else words.EXPECTED
     other = words.OTHER_EXPECTED.get(word.text.lower())
-    hint = f"did you mean `{other}`? " if other else meant(word.text, (*words.EXPECTED, *ERRORS))
-    return word.fault(f"{word.text} is nothing that comes of a call", advice(hint, f"it is a number, the name of an error, {listed(words.EXPECTED, 'or')}"))
+    hint = f"did you mean `{other}`? " if other else meant(word.text, (*known, *ERRORS))
+    return word.fault(f"{word.text} is nothing that comes of a call", advice(hint, f"it is a number, the name of an error, {listed(known, 'or')}"))
 
 
-def expected_of(line, given, text):
-    """What these words of a line expect; `text` is how they stand there."""
-    reader = Reader(line, given)
+def expected_of(line, given, text, of_trace=False):
+    """What these words of a line expect, of calls of a trace or of others; `text` is how they stand there."""
+    reader = Reader(line, given, of_trace)
     return Expected(tuple(reader.read()), tuple(reader.rules), text)

@@ -5,12 +5,13 @@ from typing import Optional
 
 from messages.findings import advice, listed, meant, whole_file
 from messages.script_words import begins_as_script
-from testing import words
+from testing import options, words
 from testing.calls import call_of, text_of
 from testing.conditions import OPERATORS, PREDICATES, condition_of
 from testing.expectations import expected_of
 from testing.instances import Instances
 from testing.lines import ARROW, OTHER_ARROWS, NotUnderstood, line_of, missing
+from testing.selections import selection_of
 
 POLICY_LINE = re.compile(r"^[ \t]*policy\b", re.M)
 NAME = re.compile(r"[A-Za-z][A-Za-z0-9_.-]{0,63}")
@@ -56,10 +57,43 @@ class Exploring:
     claims: list = field(default_factory=list)
 
 
+@dataclass(frozen=True)
+class OfTrace:
+    """What is expected of calls of a trace: the line, the words that name them, which calls these are, and what is expected."""
+
+    line: object
+    text: str
+    selection: object
+    expected: object
+
+
+@dataclass
+class NamesFile:
+    """A line that names a file: the word with its name, and the options behind it by their names."""
+
+    line: object
+    file: object
+    options: dict
+
+    def word_of(self, option):
+        """The word that an option stands in."""
+        return next(it for it in self.line.rest[1:] if options.split(it)[0] == option)
+
+
+@dataclass
+class Traced(NamesFile):
+    """A `traced` line, which stands in place of a container's tasks, with what is expected of the calls of the trace. Claims on these are read once the trace is
+    known: each is a function that does so."""
+
+    expectations: list = field(default_factory=list)
+    claims: list = field(default_factory=list)
+
+
 @dataclass
 class Container:
     line: object
     settings: list = field(default_factory=list)
+    traced: Optional[Traced] = None
     tasks: list = field(default_factory=list)
     explorings: list = field(default_factory=list)
 
@@ -82,12 +116,18 @@ class Single:
 
 @dataclass
 class Group:
-    """What is tried under one policy and one filter, which are words with the names of their files; a filter may be None."""
+    """What is tried under one policy, which is the word with the name of its file, and under the filters of one line or none."""
 
     policy: object
-    filters: Optional[object]
+    filters: Optional[NamesFile]
     singles: list = field(default_factory=list)
     containers: list = field(default_factory=list)
+
+    @property
+    def files(self):
+        """The words that name files."""
+        traces = [it.traced.file for it in self.containers if it.traced is not None]
+        return [self.policy, *([self.filters.file] if self.filters is not None else []), *traces]
 
 
 @dataclass
@@ -163,10 +203,14 @@ class Reader:
             {words.POLICY: self.policy_line, words.FILTER: self.filter_line, words.CALL: self.call_line, words.CONTAINER: self.container_line}[word](line)
         elif word == words.TASK:
             self.task_line(line)
+        elif word == words.TRACED:
+            self.traced_line(line)
         elif word == words.EXPLORE:
             self.explore_line(line)
         elif word in words.CLAIMS:
             self.claim_line(line)
+        elif self.traced is not None and self.names_calls(line, word):
+            self.of_trace(line)
         elif self.task is not None and (word in words.STEPS or word in words.CALL_NAMES):
             self.step(line, word)
         elif self.container is not None and self.is_setting(line, word):
@@ -176,10 +220,18 @@ class Reader:
 
     # ---- lines outside of a container
 
+    @property
+    def traced(self):
+        """The trace of the container, if it has one."""
+        return self.container.traced if self.container is not None else None
+
     def leave(self):
         """Ends the container."""
-        for claim in self.pending:
-            self.trying(claim)
+        if self.traced is not None:
+            self.traced.claims.extend(self.pending)
+        else:
+            for claim in self.pending:
+                self.trying(claim)
         if self.container is not None and not self.file.faults:
             self.trying(lambda: self.check(self.container))
         self.pending, self.container, self.task, self.exploring = [], None, None, None
@@ -187,18 +239,25 @@ class Reader:
     @staticmethod
     def check(container):
         """Raises what is wrong with a container as a whole."""
+        if container.traced is not None:
+            if not container.traced.expectations and not container.traced.claims:
+                raise container.line.first.fault("nothing is expected of the container", f"add a line that names calls of the trace, as `mknod {ARROW} granted`, or `explore` and a claim")
+            return
         if not container.tasks:
             raise container.line.first.fault("the container has no task", "add `task main`, and its calls below it")
         if not any(step.expected for task in container.tasks for step in task.steps) and not any(it.claims for it in container.explorings):
             raise container.line.first.fault("nothing is expected of the container", f"add `{ARROW}` and what is expected to a call of a task, or `explore` and a claim")
         Instances(container)
 
-    def file_of(self, line):
-        """The name of the file that a line names."""
+    def file_of(self, line, known=None):
+        """The name of the file that a line names. Options may stand behind it where some are known."""
         if not line.rest:
-            raise missing(line, "the name of a file", f"{line.first.text} ../policy.json")
-        if len(line.rest) > 1:
-            raise line.rest[1].fault(f"one file stands behind `{line.first.text}`", "put its name in quotes where it has a blank")
+            raise missing(line, "the name of a file", f"{line.first.text} {words.EXAMPLES_OF_FILES[line.first.text]}")
+        if options.is_option(line.rest[0]) and known and options.split(line.rest[0])[0] in known:
+            raise line.rest[0].fault("an option stands in front of the name of the file", f"write `{line.first.text} {words.EXAMPLES_OF_FILES[line.first.text]} {line.rest[0].text}`")
+        other = next((it for it in line.rest[1:] if not (known and options.is_option(it))), None)
+        if other is not None:
+            raise other.fault(f"one file stands behind `{line.first.text}`", "put its name in quotes where it has a blank")
         text_of(line.rest[0])
         return line.rest[0]
 
@@ -208,8 +267,10 @@ class Reader:
         self.policy = self.file_of(line)
 
     def filter_line(self, line):
-        self.filters, self.group = self.file_of(line), None
+        # (the lines below are read, whatever the options)
+        self.filters, self.group = NamesFile(line, self.file_of(line, options.OF_PROFILES), {}), None
         self.check_policy(line)
+        self.filters.options.update(options.read(line, line.rest[1:], options.OF_PROFILES))
 
     def check_policy(self, line):
         if self.policy is None:
@@ -249,12 +310,41 @@ class Reader:
         return self.container
 
     def is_setting(self, line, word):
-        return self.task is None and word in words.SETTINGS_OF_CONTAINERS
+        return self.task is None and self.traced is None and word in words.SETTINGS_OF_CONTAINERS
 
     def setting(self, line):
         self.container.settings.append(line)
 
+    def traced_line(self, line):
+        if self.traced is not None:
+            raise line.first.fault("a second trace stands in the container", "begin another one by `container`")
+        try:
+            container = self.within(line)
+            if container.tasks:
+                raise line.first.fault("a trace stands behind a task", "it stands in place of a container's tasks: begin another one by `container`")
+        finally:
+            # (the lines below are read as those on its calls, wherever it stands and whatever its file)
+            self.container.traced, self.task = Traced(line, line.first, {}), None
+        container.traced.file = self.file_of(line, options.OF_TRACES)
+        container.traced.options.update(options.read(line, line.rest[1:], options.OF_TRACES))
+
+    @staticmethod
+    def names_calls(line, word):
+        """Whether a line says something of calls of the trace."""
+        return word in (*words.CALL_NAMES, words.LINE_OF_TRACE, words.EVERY) or words.PROCESS_OF_TRACE.fullmatch(word) is not None
+
+    def of_trace(self, line):
+        if self.exploring is not None:
+            raise line.first.fault(f"`{line.first.text}` stands below `explore`", f"below it stand {listed(words.CLAIMS)}; put what is expected of calls in front of it")
+        named, behind = split_at_arrow(line.words)
+        selection = selection_of(line, named)
+        if behind is None:
+            raise missing(line, "what is expected", f"{line.text} {ARROW} granted")
+        self.traced.expectations.append(OfTrace(line, text_between(line, named), selection, expected_of(line, behind, text_between(line, behind), of_trace=True)))
+
     def task_line(self, line):
+        if self.traced is not None:
+            raise line.first.fault("a task stands behind `traced`, which is in the place of all tasks", "begin another container for it by `container`")
         # (the lines below are read as its steps, whatever its name)
         self.task = Task(line, "")
         container = self.within(line)
@@ -311,7 +401,7 @@ class Reader:
 
     def explore_line(self, line):
         container = self.within(line)
-        if not container.tasks:
+        if not container.tasks and container.traced is None:
             raise line.first.fault("`explore` stands in front of the container's tasks", "put it behind them")
         # (the lines below are read as its claims, whatever its bounds)
         self.exploring = Exploring(line, 0, "0")
@@ -354,8 +444,14 @@ class Reader:
             known, what = (*words.CALL_NAMES, *words.STEPS, words.TASK, words.EXPLORE, *words.LINES), "line of a task"
             if word.text in words.SETTINGS_OF_CONTAINERS:
                 return word.fault(f"`{word.text}` is a setting, and stands behind a task", "put it in front of the container's first task")
+        elif self.traced is not None:
+            known, what = (*words.CALL_NAMES, words.LINE_OF_TRACE, words.EVERY, words.EXPLORE, *words.LINES), "line behind `traced`"
+            if word.text in words.SETTINGS_OF_CONTAINERS:
+                return word.fault(f"`{word.text}` is a setting, and stands behind `traced`", "put it in front of that line")
+            if word.text in words.STEPS:
+                return word.fault(f"`{word.text}` is a step of a task, and a traced container takes those of the trace", "name calls of the trace, as `mknod /dev/null -> granted`")
         elif self.container is not None:
-            known, what = (*words.SETTINGS_OF_CONTAINERS, words.TASK, *words.LINES), "line of a container"
+            known, what = (*words.SETTINGS_OF_CONTAINERS, words.TASK, words.TRACED, *words.LINES), "line of a container"
             if word.text in (*words.CALL_NAMES, *words.STEPS):
                 return word.fault(f"`{word.text}` stands in no task", "begin one by `task main`")
         else:

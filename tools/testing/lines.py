@@ -12,11 +12,11 @@ WRONG_ESCAPE = re.compile(r'\\(?!x[0-9a-fA-F]{2}|[0n\\"])')
 
 
 class NotUnderstood(Exception):
-    """A place of a test file that can't be understood: what is wrong there, and what would be right."""
+    """A place of a test file that can't be understood: what is wrong there, and what would be right. `about` are lines on a file that stands there."""
 
-    def __init__(self, found):
+    def __init__(self, found, about=()):
         super().__init__(found.words)
-        self.found = found
+        self.found, self.about = found, about
 
 
 @dataclass(frozen=True)

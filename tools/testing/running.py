@@ -7,24 +7,33 @@ from functools import lru_cache
 
 from messages import policies
 from messages.findings import Finding, Text, message, whole_file
-from testing import asking, files
+from testing import asking, files, traces
 from testing.lines import Line, NotUnderstood
 from testing.results import FileResults, Result
 from testing.scripts import batches, container_of, script_of
 
 MOST_BYTES = 1_048_576
+# the bounds of an exploration of one order of steps
+ONE_ORDER = (0, "0")
 
 
 @dataclass(frozen=True)
 class Job:
-    """A script that the program is asked about: its policy, the bounds, and what makes results of the answer."""
+    """A script that the program is asked about: its policy, the bounds, and what makes results of the answer. Without bounds its own schedule is played."""
 
     policy: str
     script: object
-    workers: int
-    delays: str
+    bounds: tuple
     judge: object
     names: tuple  # lines of the test file that it is about
+
+    @property
+    def words(self):
+        """The words of the program that answer it."""
+        return " ".join(["explore" if self.bounds else "play", self.policy, "SCRIPT", *map(str, self.bounds)])
+
+    def answer(self, program):
+        return program.explore(self.policy, self.script, *self.bounds) if self.bounds else program.play(self.policy, self.script)
 
 
 # ---- results
@@ -43,6 +52,19 @@ def of_step(instance, step, exploring, explored):
     count = share(sum(it.histories for it in wrong), explored) if wrong else ""
     within, schedule = (reach(exploring, explored), wrong[0].schedule if wrong else ()) if exploring else ("", ())
     return Result(step.line.number, f"{instance.program}: {step.call.text}", step.expected.text, f"{shown}{count}", not wrong, within, schedule)
+
+
+def of_trace(expectation, chosen, exploring, explored):
+    """The result of a line on calls of a trace, in each order of steps that was explored."""
+    calls = [(order, step.call, order.found(instance.place, step)) for order in explored.outcomes for instance, step in chosen]
+    wrong = [it for it in calls if not expectation.expected.fits(it[2], it[1])]
+    first, call, found = (wrong or calls)[0]
+    failed = {it[1] for it in wrong}
+    count = share(sum(order.histories for order in {id(it[0]): it[0] for it in wrong}.values()), explored) if wrong else ""
+    several = f" ({len(failed)} of {len(chosen)} calls)" if wrong and len(chosen) > 1 else ""
+    within = [expectation.selection.counted([step.call for _, step in chosen]), reach(exploring, explored) if exploring else ""]
+    return Result(expectation.line.number, expectation.text, expectation.expected.text, f"{found.shown()} at line {call.line}: {call.text}{several}{count}", not wrong, ", ".join(filter(None, within)),
+                  first.schedule if wrong else ())
 
 
 def share(count, explored):
@@ -92,38 +114,61 @@ class Tests:
     def jobs(self):
         return [job for group in self.file.groups for job in self.of_group(group)]
 
+    def warn(self, lines):
+        """Adds lines to the warnings, unless they stand there already."""
+        if lines and not any(self.warnings[at:at + len(lines)] == list(lines) for at in range(len(self.warnings))):
+            self.warnings += lines
+
     def of_group(self, group):
         policy = asking.path_of(self.folder, group.policy)
         data = asking.data_of(self.folder, group.policy)
-        self.warnings += [line for line in warnings_of(policy, data) if line not in self.warnings]
+        self.warn(warnings_of(policy, data))
         rules = asking.rules_of(data)
+        filters = self.filters_of(group)
+        descriptors = asking.descriptors_of(rules)
+        containers = [(it, self.script_of(it, filters, descriptors)) for it in group.containers]
         for word in named_rules(group):
             asking.check_rule(word, rules)
-        filters = None
-        if group.filters is not None:
-            named = Line(group.filters.line, (group.filters,), group.filters.text)
-            filters = [(line, named) for line in asking.filter_lines(self.folder, group.filters)]
-        descriptors = asking.descriptors_of(rules)
         for singles in batches(group.singles, any("times" in it for it in rules)):
             yield self.of_singles(policy, singles, script_of(container_of(singles), filters, descriptors))
-        for container in group.containers:
-            yield from self.of_container(policy, container, script_of(container, filters, descriptors))
+        for container, script in containers:
+            yield from self.of_container(policy, container, script)
+
+    def filters_of(self, group):
+        """The lines of the filters of a group with their source; None where it has none."""
+        if group.filters is None:
+            return None
+        word = group.filters.file
+        named = Line(word.line, (word,), word.text)
+        lines, warnings = asking.filter_lines(self.folder, group.filters)
+        self.warn(warnings)
+        return [(line, named) for line in lines]
+
+    def script_of(self, container, filters, descriptors):
+        """The script of a container. Of one that is traced the claims are read now, since its calls are known."""
+        if container.traced is None:
+            return script_of(container, filters, descriptors)
+        script = traces.script_of(container, asking.data_of(self.folder, container.traced.file), filters, descriptors)
+        container.tasks[:] = [it.task for it in script.instances]
+        for read_claim in container.traced.claims:
+            read_claim()
+        return script
 
     @staticmethod
     def of_singles(policy, singles, script):
         callers = script.instances[1:]
-        return Job(policy, script, 0, "0", lambda explored: [of_single(it, it.task.steps[0], explored) for it in callers],
-                   tuple(it.line.number for it in singles))
+        return Job(policy, script, ONE_ORDER, lambda explored: [of_single(it, it.task.steps[0], explored) for it in callers], tuple(it.line.number for it in singles))
 
     @staticmethod
     def of_container(policy, container, script):
         asked = [(it, step) for it in script.instances for step in it.task.steps if step.expected is not None]
-        explorings = container.explorings or [None]
-        for exploring in explorings:
+        traced = [(it, script.chosen(it.selection)) for it in (container.traced.expectations if container.traced is not None else ())]
+        alone = () if container.traced is not None else ONE_ORDER
+        for exploring in container.explorings or [None]:
             def judge(explored, exploring=exploring):
-                steps = [of_step(it, step, exploring, explored) for it, step in asked]
+                steps = [of_step(it, step, exploring, explored) for it, step in asked] + [of_trace(it, chosen, exploring, explored) for it, chosen in traced]
                 return steps + [of_claim(it, exploring, explored) for it in (exploring.claims if exploring else ())]
-            yield Job(policy, script, exploring.workers if exploring else 0, exploring.delays if exploring else "0", judge, (container.line.number,))
+            yield Job(policy, script, (exploring.workers, exploring.delays) if exploring else alone, judge, (container.line.number,))
 
 
 @lru_cache(maxsize=None)
@@ -137,6 +182,7 @@ def named_rules(group):
     for single in group.singles:
         yield from single.expected.rules
     for container in group.containers:
+        yield from (word for it in (container.traced.expectations if container.traced is not None else ()) for word in it.expected.rules)
         for task in container.tasks:
             yield from (word for step in task.steps if step.expected is not None for word in step.expected.rules)
         for exploring in container.explorings:
@@ -191,12 +237,13 @@ class Runner:
             jobs = tests.jobs() if not file.faults else []
         except NotUnderstood as fault:
             results.findings.append(fault.found)
+            results.about += fault.about
         results.warnings = tests.warnings
         return [(job, pool.submit(self.answer, job)) for job in jobs]
 
     def answer(self, job):
         begun = time.monotonic()
-        explored = self.program.explore(job.policy, job.script, job.workers, job.delays)
+        explored = job.answer(self.program)
         self.progress.step()
         return explored, time.monotonic() - begun
 

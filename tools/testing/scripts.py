@@ -58,11 +58,23 @@ def settings_of(container, instances, filters, descriptors):
                 tree.need(step.call)
     pages = PAGES_OF_A_TASK * max(it.area + 1 for it in instances)
     memory = [(f"map 0x{FIRST_ADDRESS:x} {pages}", None)] if pages > FIRST_PAGES else []
-    stated = {line.first.text for line in container.settings}
-    brokers = [] if "broker" in stated else [(f"broker {it}", None) for it in descriptors]
-    if filters is None:
-        filters = [] if "notify" in stated else [(f"notify {' '.join(words.CALL_NAMES)}", None)]
-    return [*tree.lines, *filters, *memory, *brokers, *others]
+    filters = default_listener(container) if filters is None else filters
+    return [*tree.lines, *filters, *memory, *descriptor_lines(container, descriptors), *others]
+
+
+def states(container, word):
+    """Whether a setting of the container begins with this word."""
+    return any(line.first.text == word for line in container.settings)
+
+
+def default_listener(container):
+    """The line that notifies each call with a name, unless the container says which are notified."""
+    return [] if states(container, "notify") else [(f"notify {' '.join(words.CALL_NAMES)}", None)]
+
+
+def descriptor_lines(container, descriptors):
+    """The lines that open the broker's descriptors, unless the container says which it has open."""
+    return [] if states(container, "broker") else [(f"broker {it}", None) for it in descriptors]
 
 
 def written(name, at, value):

@@ -1,4 +1,5 @@
 """The words of a test file: its lines, its calls, what is expected of them, and the names of numbers."""
+import re
 from dataclasses import dataclass
 
 from messages.policy_words import FLAGS
@@ -78,8 +79,12 @@ OTHER_EXPECTED = {"grant": "granted", "grants": "granted", "pass": "passed", "pa
                   "inject": "injected", "allow": "allowed", "ok": "0", "success": "0", "succeeds": "0", "fail": "EPERM", "ended": "killed", "dead": "killed", "error": "EPERM"}
 
 # lines outside of a container, and those that stand in one beside its settings
-POLICY, FILTER, CALL, CONTAINER, TASK, EXPLORE = "policy", "filter", "call", "container", "task", "explore"
+POLICY, FILTER, CALL, CONTAINER, TASK, TRACED, EXPLORE = "policy", "filter", "call", "container", "task", "traced", "explore"
 LINES = (POLICY, FILTER, CALL, CONTAINER)
+EXAMPLES_OF_FILES = {POLICY: "../policy.json", FILTER: "profile.json", TRACED: "trace.txt"}
+# what stands below `traced` in front of what is expected, beside calls: a line of the trace, all calls, and the name that a process of it has
+LINE_OF_TRACE, EVERY, PROCESS_OF_TRACE = "line", "every", re.compile(r"p\d{1,9}(?:-\d{1,9})?", re.ASCII)
+AS_TRACED = "as-traced"
 CLAIMS = ("never:", "always:", "some:")
 NOT_SETTINGS = ("filter", "map", "prog", "schedule")
 SETTINGS_OF_CONTAINERS = tuple(word for word, form in FORMS.items() if form.part == SETTINGS and word not in NOT_SETTINGS)
@@ -88,7 +93,7 @@ STEPS = {"spawn": (("TASK",), "spawn helper"), "thread": (("TASK",), "thread hel
          "overwrite": (("TASK", "PATH"), "overwrite main /dev/zero"), "handler": (("SIGNAL", "MODE"), "handler USR1 restart"), "wait": ((), "wait"), "exit": ((), "exit")}
 OTHER_LINES = {"policies": "policy", "seccomp": "filter", "profile": "filter", "container:": "container", "explores": "explore", "never": "never:",
                "always": "always:", "some": "some:", "sometimes:": "some:", "sometimes": "some:", "fork": "spawn", "clone": "spawn", "waitpid": "wait",
-               "mkdir": "dir", "file": "reg", "test": "call"}
+               "mkdir": "dir", "file": "reg", "test": "call", "trace": "traced", "strace": "traced"}
 # the numbers that may stand behind `explore`, each with what stands without it, the least and the greatest
 BOUNDS = {"workers": ("1", 1, 16), "delays": ("3", 0, 8)}
 ALL = "all"
