@@ -192,7 +192,7 @@ impl LineBuffer {
     }
 
     /// Adds a text between quotes.
-    pub(crate) fn push_quoted(&mut self, text: &[u8]) -> Result<(), NoMemory>
+    pub fn push_quoted(&mut self, text: &[u8]) -> Result<(), NoMemory>
         ensures { OnOk result (self.new ≡ self.old ++ quoted text.now) }
     {
         let len = self.len;

@@ -64,7 +64,7 @@ fn push_mknod(
 }
 
 /// Adds the call that makes a node, with the number from which its path goes.
-fn push_maker(line: &mut LineBuffer, dirfd: Option<i32>) -> Result<(), NoMemory>
+pub fn push_maker(line: &mut LineBuffer, dirfd: Option<i32>) -> Result<(), NoMemory>
     ensures { OnOk result (line.new ≡ line.old ++ maker_text dirfd) }
 {
     match dirfd {
@@ -78,7 +78,7 @@ fn push_maker(line: &mut LineBuffer, dirfd: Option<i32>) -> Result<(), NoMemory>
 }
 
 /// Adds a kind of node, with the numbers of a device.
-fn push_node(line: &mut LineBuffer, kind: Kind, dev: u32) -> Result<(), NoMemory>
+pub fn push_node(line: &mut LineBuffer, kind: Kind, dev: u32) -> Result<(), NoMemory>
     ensures { OnOk result (line.new ≡ line.old ++ node_text kind dev) }
 {
     match kind {

@@ -72,7 +72,7 @@ fn push_pointed(line: &mut LineBuffer, numbers: &[u32]) -> Result<(), NoMemory>
 
 /// Adds an error's name, or `E` and its number.
 #[inline(never)]
-pub(crate) fn push_errno(line: &mut LineBuffer, error: Errno) -> Result<(), NoMemory>
+pub fn push_errno(line: &mut LineBuffer, error: Errno) -> Result<(), NoMemory>
     ensures { OnOk result (line.new ≡ line.old ++ errno_text error) }
 {
     match error.name() {

@@ -44,21 +44,3 @@ outside-able k o m none = ap (λ w. not (skips w)) (due-outside k o m none) ∙ 
     by : (b : Bool) → owes_native (past k) (named k o) ≡ b → not (skips (living_step (system k) (past k) (named k o) None)) ≡ (b || (is_some (signal_due k o) || not (skips (own_step k o))))
     by true q = rw q refl
     by false q = rw q (later (signal_due k o))
-
--- only a wait may have to go on
-pub own-able : (k : Kernel) (o : ℕ)
-    → not (skips (own_step k o)) ≡ (not (is_wait (own_instr k o)) || not (skips (wait_step (past k) (oldest (is_child (past k) (named k o)) (length (past k))) (oldest (is_ended_child (past k) (named k o)) (length (past k))))))
-own-able k o = by (own_instr k o)
-  where
-    by : (i : Option Instr) → not (skips (instr_step (system k) (past k) (named k o) i))
-        ≡ (not (is_wait i) || not (skips (wait_step (past k) (oldest (is_child (past k) (named k o)) (length (past k))) (oldest (is_ended_child (past k) (named k o)) (length (past k))))))
-    by None = refl
-    by (Some (instr.Poke a b)) = refl
-    by (Some (instr.Fill a n b)) = refl
-    by (Some (instr.Call nr args)) = refl
-    by (Some (instr.Spawn p)) = refl
-    by (Some (instr.Thread p)) = refl
-    by (Some (instr.Kill whom s)) = refl
-    by (Some (instr.Handler s m)) = refl
-    by (Some instr.Wait) = refl
-    by (Some instr.Exit) = refl

@@ -1,4 +1,4 @@
-//! Whether a rule fits a request.
+//! Whether a rule fits a request, and what its conditions see of one.
 
 ghost use Rattle.std.specs.Prelude.{◌≡◌, ◌==◌, ◌&&◌, ◌++◌, ◌∷◌, [], nat_eq, bytes_eq, not, bit_and};
 ghost use Rattle.std.specs.Option.{option_copied};
@@ -48,7 +48,7 @@ pub fn fits(rule: &Rule, request: &Request) -> bool
 }
 
 /// Whether the calls include this number.
-fn covers(calls: &Calls, nr: i32) -> bool
+pub fn covers(calls: &Calls, nr: i32) -> bool
     ensures { result ≡ covers calls.now nr }
 {
     match calls {
@@ -65,7 +65,7 @@ fn meets_all(conds: &[Cond], request: &Request) -> bool
 }
 
 /// Whether the request meets the condition.
-fn meets(cond: &Cond, request: &Request) -> bool
+pub fn meets(cond: &Cond, request: &Request) -> bool
     ensures { result ≡ meets cond.now request.now }
 {
     match cond {
@@ -109,7 +109,7 @@ fn is_same(a: &[u8], b: &[u8]) -> bool
 }
 
 /// The path of the request, which for a mount is its target.
-fn path_of(request: &Request) -> Option<&[u8]>
+pub fn path_of(request: &Request) -> Option<&[u8]>
     ensures { option_copied result ≡ path_of request.now }
 {
     match request {
@@ -122,7 +122,7 @@ fn path_of(request: &Request) -> Option<&[u8]>
 }
 
 /// The type of file system that is to be mounted.
-fn fstype_of(request: &Request) -> Option<&[u8]>
+pub fn fstype_of(request: &Request) -> Option<&[u8]>
     ensures { option_copied result ≡ fstype_of request.now }
 {
     match request {
@@ -132,7 +132,7 @@ fn fstype_of(request: &Request) -> Option<&[u8]>
 }
 
 /// The source that is to be mounted.
-fn source_of(request: &Request) -> Option<&[u8]>
+pub fn source_of(request: &Request) -> Option<&[u8]>
     ensures { option_copied result ≡ source_of request.now }
 {
     match request {
@@ -142,7 +142,7 @@ fn source_of(request: &Request) -> Option<&[u8]>
 }
 
 /// The name of the attribute that is to be set.
-fn attribute_of(request: &Request) -> Option<&[u8]>
+pub fn attribute_of(request: &Request) -> Option<&[u8]>
     ensures { option_copied result ≡ attribute_of request.now }
 {
     match request {
@@ -152,7 +152,7 @@ fn attribute_of(request: &Request) -> Option<&[u8]>
 }
 
 /// The value of the attribute that is to be set.
-fn value_of(request: &Request) -> Option<&[u8]>
+pub fn value_of(request: &Request) -> Option<&[u8]>
     ensures { option_copied result ≡ value_of request.now }
 {
     match request {
@@ -172,7 +172,7 @@ fn dirfd_or_cwd(dirfd: Option<i32>) -> i32
 }
 
 /// The descriptor of the directory from which the path of a node or a file goes, where it is relative.
-fn dirfd_of(request: &Request) -> Option<i32>
+pub fn dirfd_of(request: &Request) -> Option<i32>
     ensures { result ≡ dirfd_of request.now }
 {
     match request {
@@ -204,7 +204,7 @@ fn mount_flags(flags: u64) -> u64
 }
 
 /// Whether the flag is one of the request's call, and is set.
-fn has_flag(request: &Request, flag: Flag) -> bool
+pub fn has_flag(request: &Request, flag: Flag) -> bool
     ensures { result ≡ has_flag request.now flag }
 {
     match (request, flag) {

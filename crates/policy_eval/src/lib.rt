@@ -11,7 +11,7 @@
 ghost use Rattle.std.specs.Prelude.{◌≡◌, ◌<◌, ◌^◌, ℕ, length, OnOk, OnErr};
 ghost use Rattle.hist_model.specs.Decisions.{decide, rule_name, granted_by, cap_of};
 
-mod conditions;
+pub mod conditions;
 mod defaults;
 mod reasons;
 

@@ -1,5 +1,5 @@
 -- The conditions of a rule: their keys, the values that they have, and the calls that they are for.
-use Rattle.std.specs.Prelude.{ℕ, not, if◌then◌else◌, List, [], ◌∷◌, ◌++◌, find, Option, Some, None, option_map, option_and_then, Ok, Err, ℤ}
+use Rattle.std.specs.Prelude.{ℕ, ◌≤◌, ⊤, not, if◌then◌else◌, List, [], ◌∷◌, ◌++◌, find, Option, Some, None, option_map, option_and_then, Ok, Err, ℤ}
 use Rattle.std.specs.Prelude.{pos, negsuc, ◌||◌, ◌&&◌, codes}
 use Rattle.std.specs.List.{list_all}
 use Rattle.std.specs.Int.Signed.{le_z}
@@ -55,6 +55,11 @@ device_condition _ _ = None
 abbrev pub device_parts : List ℕ × Option (List ℕ) → Option Cond
 device_parts (major, None) = None
 device_parts (major, Some minor) = device_condition (decimal_up_to major_max major) (decimal_up_to minor_max minor)
+
+-- a device's numbers have at most 12 and 20 bits
+abbrev pub HasSmallNumbers : Cond → Type 0
+HasSmallNumbers (Dev major minor) = (major ≤ major_max) × (minor ≤ minor_max)
+HasSmallNumbers _ = ⊤
 
 -- the condition of a key and its text
 abbrev pub condition_of : TextKey → List ℕ → Option Cond

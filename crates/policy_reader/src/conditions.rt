@@ -1,13 +1,13 @@
 //! The conditions of a rule: their keys, the values that they have, and the calls that they are for.
 
-ghost use Rattle.std.specs.Prelude.{◌≡◌, ◌++◌, codes, IfOk, option_and_then, option_map};
+ghost use Rattle.std.specs.Prelude.{◌≡◌, ◌++◌, codes, IfOk, IfSome, option_and_then, option_map};
 ghost use Rattle.std.specs.List.{list_all};
 ghost use Rattle.std.specs.Option.{option_copied};
 ghost use Rattle.hist_model.specs.RuleParts.{are_flags_of, call_of_flag, is_directory, is_for};
 ghost use Rattle.hist_model.specs.declared.policy.Cond.TheVariants as cond;
 ghost use Rattle.policy_reader.specs.declared.conditions.CondKey.TheVariants as key;
 ghost use Rattle.policy_reader.specs.declared.conditions.TextKey.TheVariants as text_key;
-ghost use Rattle.policy_reader.specs.Conditions.{condition, condition_at, condition_key, condition_keys, condition_of, condition_place, conditions_of, descriptor, descriptor_of, device_parts, kinds, misfit, profile_keys};
+ghost use Rattle.policy_reader.specs.Conditions.{HasSmallNumbers, condition, condition_at, condition_key, condition_keys, condition_of, condition_place, conditions_of, descriptor, descriptor_of, device_parts, kinds, misfit, profile_keys};
 ghost use Rattle.policy_reader.specs.Readings.{Gives, good, named, rule_place};
 ghost use Rattle.policy_reader.specs.Texts.{cut_at};
 ghost use Rattle.serde_json.specs.View.{view};
@@ -124,15 +124,16 @@ fn key_named(profile: Profile, name: &str) -> Option<CondKey>
 }
 
 /// The kind of this name.
-fn kind_named(name: &str) -> Option<Kind>
+pub fn kind_named(name: &[u8]) -> Option<Kind>
     ensures { result ≡ named kinds name.now }
 {
-    named(&KINDS, name.as_bytes())
+    named(&KINDS, name)
 }
 
 /// A device as `MAJOR:MINOR`.
-fn device_of(text: &[u8]) -> Option<Cond>
-    ensures { result ≡ device_parts (cut_at 58 text.now) }
+pub fn device_of(text: &[u8]) -> Option<Cond>
+    ensures value { result ≡ device_parts (cut_at 58 text.now) }
+    ensures numbers { IfSome result HasSmallNumbers }
 {
     let (major, minor) = cut_at(text, b':');
     let minor = minor?;
@@ -173,7 +174,7 @@ fn condition_of(alloc: Global, key: TextKey, text: &str) -> Result<Option<Cond>,
     match key {
         TextKey::Dev => Ok(device_of(text.as_bytes())),
         TextKey::Fstype => Ok(Some(Cond::Fstype(copied(alloc, text)?))),
-        TextKey::Kind => Ok(kind_named(text).map(Cond::Kind)),
+        TextKey::Kind => Ok(kind_named(text.as_bytes()).map(Cond::Kind)),
         TextKey::Name => Ok(Some(Cond::Name(copied(alloc, text)?))),
         TextKey::Path => Ok(Some(Cond::Path(copied(alloc, text)?))),
         TextKey::Source => Ok(Some(Cond::Source(copied(alloc, text)?))),

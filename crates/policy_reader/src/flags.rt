@@ -27,7 +27,7 @@ pub(crate) struct FlagLists {
 }
 
 /// The flags that have names.
-const FLAGS: [(&'static str, Flag); 24] = [
+pub const FLAGS: [(&'static str, Flag); 24] = [
     ("RDONLY", Flag::Mount(1)),
     ("NOSUID", Flag::Mount(2)),
     ("NODEV", Flag::Mount(4)),
@@ -58,10 +58,10 @@ const FLAGS: [(&'static str, Flag); 24] = [
 const KEYS: [(&'static str, FlagsKey); 2] = [("all", FlagsKey::Set), ("none", FlagsKey::Unset)];
 
 /// The flag of this name.
-fn flag_named(name: &str) -> Option<Flag>
+pub fn flag_named(name: &[u8]) -> Option<Flag>
     ensures { result ≡ named flag_names name.now }
 {
-    named(&FLAGS, name.as_bytes())
+    named(&FLAGS, name)
 }
 
 /// The key of this name.
@@ -76,7 +76,7 @@ fn flag_of(value: &Value) -> Option<Flag>
     ensures { result ≡ flag_of (view value.now) }
 {
     match value.as_str() {
-        Some(name) => flag_named(name),
+        Some(name) => flag_named(name.as_bytes()),
         None => None,
     }
 }

@@ -22,8 +22,10 @@ mod readings;
 mod rules;
 mod settings;
 mod switches;
-mod texts;
+pub mod texts;
 mod verdicts;
 
+pub use conditions::{device_of, kind_named};
 pub use error::PolicyError;
+pub use flags::{FLAGS, flag_named};
 pub use policies::read_policy;

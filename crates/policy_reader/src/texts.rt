@@ -1,6 +1,6 @@
 //! What the texts in a policy stand for: numbers, names, and items between commas.
 
-ghost use Rattle.std.specs.Prelude.{◌≡◌, ◌<◌, ◌==◌, length, map, position, IfOk, IfSome};
+ghost use Rattle.std.specs.Prelude.{◌≡◌, ◌<◌, ◌≤◌, ◌==◌, length, map, position, IfOk, IfSome};
 ghost use Rattle.std.specs.List.{list_all};
 ghost use Rattle.std.specs.Option.{option_copied};
 ghost use Rattle.policy_reader.specs.Readings.{named};
@@ -15,7 +15,7 @@ use std::alloc::Global;
 use sys_abi::memory::NoMemory;
 
 /// What stands beside a name in a table.
-pub(crate) fn named<T: Copy>(table: &[(&'static str, T)], name: &[u8]) -> Option<T>
+pub fn named<T: Copy>(table: &[(&'static str, T)], name: &[u8]) -> Option<T>
     ensures { result ≡ named (rows_of table.now) name.now }
 {
     let row = table.iter().find(|row| row.0.as_bytes() == name)?;
@@ -30,7 +30,7 @@ pub(crate) fn is_among(texts: &[&'static str], name: &[u8]) -> bool
 }
 
 /// What stands behind the bytes with which a text begins.
-pub(crate) fn behind<'a>(front: &[u8], text: &'a [u8]) -> Option<&'a [u8]>
+pub fn behind<'a>(front: &[u8], text: &'a [u8]) -> Option<&'a [u8]>
     ensures { option_copied result ≡ behind front.now text.now }
 {
     if text.starts_with(front) {
@@ -49,7 +49,8 @@ fn leads_with_zero(text: &[u8]) -> bool
 
 /// The number that a decimal text without leading zeros is, where it is at most this.
 pub(crate) fn decimal_up_to(text: &[u8], high: u32) -> Option<u32>
-    ensures { result ≡ decimal_up_to high text.now }
+    ensures value { result ≡ decimal_up_to high text.now }
+    ensures bound { IfSome result (λ n. n ≤ high) }
 {
     if leads_with_zero(text) {
         return None;
@@ -125,7 +126,7 @@ fn trimmed(text: &[u8]) -> &[u8]
 }
 
 /// The items between commas, without the spaces around them; what is empty is no item.
-pub(crate) fn items_of(alloc: Global, text: &[u8]) -> Result<Vec<&[u8]>, NoMemory>
+pub fn items_of(alloc: Global, text: &[u8]) -> Result<Vec<&[u8]>, NoMemory>
     ensures { IfOk result (λ items. map (λ item. item.now) items.items ≡ items_of text.now) }
 {
     let mut items = Vec::new(alloc);

@@ -1,0 +1,5 @@
+pub mod Readings
+pub mod Operands
+pub mod Requests
+pub mod Calls
+pub mod Laws
