@@ -1,0 +1,5 @@
+pub mod OperandFaults
+pub mod Structures
+pub mod Acts
+pub mod Alone
+mod WorkedLines

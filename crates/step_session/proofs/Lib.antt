@@ -1,0 +1,12 @@
+pub mod Cuts
+pub mod Files
+pub mod Histories
+pub mod Requests
+pub mod Sessions
+pub mod Splits
+pub mod Asked
+pub mod Kept
+pub mod AbleTasks
+pub mod Told
+pub mod Unclosed
+pub mod Stepping

@@ -1,0 +1,118 @@
+-- What a container answers.
+-- By whether its listener is closed, of which the history's newest event tells.
+use Rattle.std.proofs.Common.{◌≡◌, ℕ, Bool, true, false, List, ◌++◌, Option, Some, None, refl, sym, ap, subst, ◌∙◌}
+use Rattle.std.specs.Prelude.{Result, Ok, Err, OnOk}
+use Rattle.hist_model.specs.Deeds.{Deed}
+use Rattle.hist_model.specs.Kinds.{closes, skips}
+use Rattle.hist_model.specs.Legal.{system_of}
+use Rattle.hist_model.specs.Look.{Name}
+use Rattle.hist_model.specs.Steps.{deed_step, task_step}
+use Rattle.hist_model.specs.Tasks.{is_made}
+use Rattle.hist_model.specs.declared.event.Actor.{Actor}
+use Rattle.hist_model.specs.declared.event.Actor.TheVariants.{Task, Worker}
+use Rattle.hist_model.specs.declared.event.Event.{Event}
+use Rattle.hist_model.specs.declared.event.What.{What}
+use Rattle.hist_model.specs.declared.history.History.{History}
+use Rattle.hist_model.specs.declared.policy.Policy.{Policy}
+use Rattle.hist_model.specs.declared.script.Script.{Script}
+use Rattle.model_kernel.specs.Kernels.{past}
+use Rattle.model_kernel.specs.declared.kernel.Kernel.{Kernel}
+use Rattle.step_requests.specs.declared.request.Asked.{Asked}
+use Rattle.step_requests.specs.declared.request.StepRequest.{StepRequest}
+use Rattle.step_requests.specs.declared.request.StepRequest.TheVariants as step
+use Rattle.step_session.specs.Answers.{answered, closed_answer, deed_answer, is_closed, open_answer, report_text, task_answer, with_step, worker_answer}
+use Rattle.step_session.specs.Asking.{deed_of}
+use Rattle.step_session.specs.Stands.{Answers, IsAnswered, IsInOrder, IsOpen, IsStanding, Stands, StateStands}
+use Rattle.step_session.specs.Texts.{refused_text}
+use Rattle.step_session.specs.declared.container.Container.{Container}
+use Rattle.step_session.specs.declared.container.State.{State}
+use Rattle.step_session.specs.declared.container.State.TheVariants.{Open, Closed}
+use Rattle.step_session.specs.declared.refusal.Refusal.{Refusal}
+use Rattle.step_session.specs.declared.refusal.Refusal.TheVariants as refusal
+use Rattle.step_session.proofs.Unclosed.{deed_unclosed, task_unclosed}
+
+pub on_ok : {T E X Y : Type 0} (r : Result T E) → (X → Y) → OnOk r X → OnOk r Y
+on_ok (Ok x) f h = f h
+on_ok (Err e) f h = h
+
+pub open-is : (P : Policy) (S : Script) (K : List Event) (r : StepRequest) → is_closed K ≡ false → answered P S K r ≡ open_answer P S K r
+open-is P S K r q = rw q refl
+
+pub closed-is : (P : Policy) (S : Script) (K : List Event) (r : StepRequest) → is_closed K ≡ true → answered P S K r ≡ closed_answer P K r
+closed-is P S K r q = rw q refl
+
+report-is : (P : Policy) (S : Script) (K : List Event) → answered P S K step.Report ≡ (K, report_text P K)
+report-is P S K = by (is_closed K) refl
+  where
+    by : (b : Bool) → is_closed K ≡ b → answered P S K step.Report ≡ (K, report_text P K)
+    by true q = closed-is P S K step.Report q
+    by false q = open-is P S K step.Report q
+
+-- what was added is the answer
+told : (P : Policy) (r : StepRequest) (S : Script) (K H : List Event) (new : Container) (before after text : List ℕ) → answered P S K r ≡ (H, text) → Stands S H new → after ≡ before ++ text
+    → Stands S (answered P S K r).0 new × (after ≡ before ++ (answered P S K r).1)
+told P r S K H new before after text is stands added =
+    (subst (λ x. Stands S x new) (ap (λ (a : List Event × List ℕ). a.0) (sym is)) stands, added ∙ ap (λ (a : List Event × List ℕ). before ++ a.1) (sym is))
+
+pub reported : (P : Policy) (c : Container) (before after : List ℕ) (events : List Event) → ((S : Script) (K : List Event) → Stands S K c → events ≡ K) → after ≡ before ++ report_text P events
+    → IsAnswered P step.Report c before after c
+reported P c before after events is added S K stands =
+    told P step.Report S K K c before after (report_text P K) (report-is P S K) stands (added ∙ ap (λ H. before ++ report_text P H) (is S K stands))
+
+-- ---- containers whose listener is open, and others
+
+open_kept_step : (K : List Event) (who : Actor) (what : What) → is_closed K ≡ false → closes what ≡ false → is_closed (with_step who what K) ≡ false
+open_kept_step K who what q h = by (skips what) refl
+  where
+    by : (b : Bool) → skips what ≡ b → is_closed (with_step who what K) ≡ false
+    by true s = rw s q
+    by false s = rw s h
+
+pub task_keeps_open : (S : Script) (K : List Event) (n : Name) → is_closed K ≡ false → is_closed (task_answer S K n).0 ≡ false
+task_keeps_open S K n q = by (is_made K n) refl
+  where
+    by : (b : Bool) → is_made K n ≡ b → is_closed (task_answer S K n).0 ≡ false
+    by true m = rw m (open_kept_step K (Task n) (task_step (system_of S) K n) q (task_unclosed (system_of S) K n))
+    by false m = rw m q
+
+deed_keeps_open : (S : Script) (K : List Event) (w : ℕ) (d : Option Deed) → is_closed K ≡ false → is_closed (deed_answer S K w d).0 ≡ false
+deed_keeps_open S K w None q = q
+deed_keeps_open S K w (Some d) q = open_kept_step K (Worker w) (deed_step (system_of S) K w d) q (deed_unclosed (system_of S) K w d)
+
+pub worker_keeps_open : (S : Script) (K : List Event) (w : ℕ) (asked : Asked) (why : Option Refusal) → is_closed K ≡ false → is_closed (worker_answer S K w asked why).0 ≡ false
+worker_keeps_open S K w asked (Some why) q = q
+worker_keeps_open S K w asked None q = deed_keeps_open S K w (deed_of asked) q
+
+-- an open container is the one whose kernel is open
+of_open : (S : Script) (K : List Event) (c : Container) (k : Kernel) → c.state ≡ Open k → Stands S K c → IsOpen S K k
+of_open S K c k is stands = subst (StateStands S K) is stands
+
+-- what a kernel answers is what the container does, and its listener stays open
+pub answered_open : (P : Policy) (r : StepRequest) (c : Container) (k new : Kernel) (before after : List ℕ) → c.state ≡ Open k → ((S : Script) (K : List Event) → is_closed K ≡ false → is_closed (open_answer P S K r).0 ≡ false)
+    → Answers k (open_answer P k.script (past k) r) before after new → IsAnswered P r c before after (record { state = Open new })
+answered_open P r c k new before after is keeps answers S K stands =
+    let here = of_open S K c k is stands in
+    let same : open_answer P k.script (past k) r ≡ open_answer P S K r = ap (λ s. open_answer P s (past k) r) here.script ∙ ap (λ H. open_answer P S H r) here.past in
+    let kept : IsOpen S (open_answer P S K r).0 new = record {
+      kernel = answers.kernel;
+      script = answers.script ∙ here.script;
+      past = answers.past ∙ ap (λ (a : List Event × List ℕ). a.0) same;
+      open_still = keeps S K here.open_still;
+    } in
+    told P r S K (open_answer P S K r).0 (record { state = Open new }) before after (open_answer P S K r).1 (open-is P S K r here.open_still) kept
+    (answers.line ∙ ap (λ (a : List Event × List ℕ). before ++ a.1) same)
+
+-- what is asked of a closed container is refused
+pub answered_closed : (P : Policy) (r : StepRequest) (c : Container) (h : History) (before after : List ℕ) → c.state ≡ Closed h → ((K : List Event) → closed_answer P K r ≡ (K, refused_text refusal.Closed))
+    → after ≡ before ++ refused_text refusal.Closed → IsAnswered P r c before after c
+answered_closed P r c h before after is refused added S K stands =
+    let closed : is_closed K ≡ true = (subst (StateStands S K) is stands).1 in
+    told P r S K K c before after (refused_text refusal.Closed) (closed-is P S K r closed ∙ refused K) stands added
+
+-- a container that stands for a history has its tables in order
+state_in_order : (S : Script) (K : List Event) (s : State) → StateStands S K s → IsInOrder s
+state_in_order S K (Open k) stands = stands.kernel
+state_in_order S K (Closed h) stands = tt
+
+pub in_order : (c : Container) → IsStanding c → IsInOrder c.state
+in_order c (S, (K, stands)) = state_in_order S K c.state stands

@@ -1,0 +1,103 @@
+-- What `step` answers to a request, and the history after it. A history has its newest event first.
+use Rattle.std.specs.Prelude.{ℕ, zero, suc, Bool, false, not, if◌then◌else◌, ◌==◌, ◌≡◌, ◌<◌, ◌≤◌, true, List, [], ◌∷◌, ◌++◌, length, Option, Some, None, codes, decimal}
+use Rattle.hist_model.specs.Calls.{count}
+use Rattle.hist_model.specs.Deeds.{Deed}
+use Rattle.hist_model.specs.Kinds.{closes, skips}
+use Rattle.hist_model.specs.Legal.{system_of}
+use Rattle.hist_model.specs.Look.{Name, ev}
+use Rattle.hist_model.specs.Names.{is_task_name}
+use Rattle.hist_model.specs.Report.{report}
+use Rattle.hist_model.specs.ReportAudit.{judging_by}
+use Rattle.hist_model.specs.Steps.{IsOfKernel, deed_step, task_step}
+use Rattle.hist_model.specs.Tasks.{is_made}
+use Rattle.hist_model.specs.declared.event.Actor.{Actor}
+use Rattle.hist_model.specs.declared.event.Actor.TheVariants.{Listener, Task, Worker}
+use Rattle.hist_model.specs.declared.event.Event.{Event}
+use Rattle.hist_model.specs.declared.event.What.{What}
+use Rattle.hist_model.specs.declared.event.What.TheVariants.{Close}
+use Rattle.hist_model.specs.declared.policy.Policy.{Policy}
+use Rattle.hist_model.specs.declared.script.Script.{Script}
+use Rattle.history_frames.specs.Ordinals.{task_name_of, tasks_made}
+use Rattle.step_requests.specs.declared.request.Asked.{Asked}
+use Rattle.step_requests.specs.declared.request.StepRequest.{StepRequest}
+use Rattle.step_requests.specs.declared.request.StepRequest.TheVariants as step
+use Rattle.step_session.specs.Asking.{deed_of, refused}
+use Rattle.step_session.specs.Texts.{able_name, able_recv, invalid_text, refused_text, step_text}
+use Rattle.step_session.specs.declared.refusal.Refusal.{Refusal}
+use Rattle.step_session.specs.declared.refusal.Refusal.TheVariants as refusal
+
+-- ---- steps
+
+-- the history with an actor's step, which is an event unless it is a skip
+abbrev pub with_step : Actor → What → List Event → List Event
+with_step who what K = if skips what then K else ev who what ∷ K
+
+abbrev pub stepped : List Event → Actor → What → List Event × List ℕ
+stepped K who what = (with_step who what K, step_text K who what)
+
+abbrev pub task_answer : Script → List Event → Name → List Event × List ℕ
+task_answer S K n = if is_made K n then stepped K (Task n) (task_step (system_of S) K n) else (K, refused_text refusal.NoTask)
+
+abbrev pub deed_answer : Script → List Event → ℕ → Option Deed → List Event × List ℕ
+deed_answer S K w None = (K, invalid_text)
+deed_answer S K w (Some d) = stepped K (Worker w) (deed_step (system_of S) K w d)
+
+abbrev pub worker_answer : Script → List Event → ℕ → Asked → Option Refusal → List Event × List ℕ
+worker_answer S K w asked (Some why) = (K, refused_text why)
+worker_answer S K w asked None = deed_answer S K w (deed_of asked)
+
+-- ---- what is told without a step
+
+-- the task that was made after so many others is able to step
+abbrev pub is_able : Script → List Event → ℕ → Bool
+is_able S K o = not (skips (task_step (system_of S) K (task_name_of K o)))
+
+-- those of the first n tasks that are able to step
+unfoldable pub able_tasks : Script → List Event → ℕ → List ℕ
+able_tasks S K zero = []
+able_tasks S K (suc n) = able_tasks S K n ++ able_name (is_able S K n) (task_name_of K n)
+
+-- all of them, and whether a receive wouldn't wait
+abbrev pub able_text : Script → List Event → List ℕ
+able_text S K = codes "able" ++ able_tasks S K (tasks_made K) ++ able_recv (not (count K == 0)) ++ codes "\n"
+
+abbrev pub sized : List ℕ → List ℕ
+sized text = codes "report " ++ decimal (length text) ++ codes "\n" ++ text
+
+-- the report so far, behind its length
+abbrev pub report_text : Policy → List Event → List ℕ
+report_text P K = sized (report (judging_by P.rules) K)
+
+-- ---- all requests
+
+-- the listener is closed
+abbrev pub is_closed : List Event → Bool
+is_closed [] = false
+is_closed (e ∷ K) = closes e.what
+
+abbrev pub open_answer : Policy → Script → List Event → StepRequest → List Event × List ℕ
+open_answer P S K step.Able = (K, able_text S K)
+open_answer P S K (step.Task n) = task_answer S K n
+open_answer P S K (step.Worker w asked) = worker_answer S K w asked (refused K w asked)
+open_answer P S K step.Report = (K, report_text P K)
+open_answer P S K step.Close = stepped K Listener Close
+
+abbrev pub closed_answer : Policy → List Event → StepRequest → List Event × List ℕ
+closed_answer P K step.Report = (K, report_text P K)
+closed_answer P K r = (K, refused_text refusal.Closed)
+
+-- the history after a request, and the answer to it
+abbrev pub answered : Policy → Script → List Event → StepRequest → List Event × List ℕ
+answered P S K r = if is_closed K then closed_answer P K r else open_answer P S K r
+
+-- ---- the requests that lines are
+
+-- a task has a name of the form, and a worker a number from 0 to 15
+abbrev pub IsAsked : StepRequest → Type 0
+IsAsked (step.Task n) = is_task_name n ≡ true
+IsAsked (step.Worker w asked) = w ≤ 15
+IsAsked r = Unit {0}
+
+-- a history of the kernel, whoever its workers are, with its first event at least
+abbrev pub IsBegun : Script → List Event → Type 0
+IsBegun S K = (0 < length K) × IsOfKernel (system_of S) K

@@ -1,0 +1,87 @@
+//! The lines of the requests, and the answer to one.
+
+ghost use Rattle.std.specs.Prelude.{◌≡◌, ◌++◌, false, MatchOption, OnOk};
+ghost use Rattle.step_session.specs.Answers.{IsAsked};
+ghost use Rattle.step_session.specs.Stands.{IsAnswered, IsInOrder, IsStanding};
+ghost use Rattle.step_session.specs.Lines.{EndsAt, IsCut, has_end, long_text};
+ghost use Rattle.step_session.specs.Owing.{IsLineAnswered};
+
+use crate::container::Container;
+use crate::texts::push_fault;
+use audit_log::line::LineBuffer;
+use hist_model::policy::Policy;
+use memchr::memchr;
+use std::alloc::Global;
+use step_requests::{StepRequest, read_request};
+use sys_abi::memory::{NoMemory, OrNoMemory};
+
+/// How many bytes a line has at most, without the byte that ends it.
+pub(crate) const LONGEST: usize = 65536;
+
+/// The place of the byte that ends the first line.
+#[tactic(auto, using(crate::proofs::Cuts::first_end))]
+fn line_end(text: &[u8]) -> Option<usize>
+    ensures { MatchOption result (has_end text.now ≡ false) (λ place. EndsAt text.now place) }
+{
+    memchr(b'\n', text)
+}
+
+/// The first line that ends in a text, without the byte that ends it, and what stands behind that.
+pub(crate) fn first_line(text: &[u8]) -> Option<(&[u8], &[u8])>
+    ensures { MatchOption result (has_end text.now ≡ false) (λ cut. IsCut text.now cut.0.now cut.1.now) }
+{
+    match line_end(text) {
+        Some(end) => Some((&text[..end], &text[end + 1..])),
+        None => None,
+    }
+}
+
+/// Adds the answer to a line that is too long.
+pub(crate) fn push_long(answers: &mut LineBuffer) -> Result<(), NoMemory>
+    ensures { OnOk result (answers.new ≡ answers.old ++ long_text) }
+{
+    answers.push("refused long line\n")
+}
+
+/// Does what a request asks for, and adds the answer.
+fn answer_request(
+    alloc: Global,
+    policy: &Policy,
+    container: &mut Container,
+    request: &StepRequest,
+    answers: &mut LineBuffer,
+) -> Result<(), NoMemory>
+    requires order { IsInOrder container.old.state }
+    requires asked { IsAsked request.now }
+    ensures { OnOk result (IsAnswered policy.now request.now container.old answers.old answers.new container.new) }
+{
+    match request {
+        StepRequest::Able => container.able(alloc, answers),
+        StepRequest::Task(name) => container.task(alloc, name, answers),
+        StepRequest::Worker { number, asked } => container.worker(alloc, *number, asked, answers),
+        StepRequest::Report => container.report(alloc, policy, answers),
+        StepRequest::Close => container.close(alloc, answers),
+    }
+}
+
+/// Answers a line.
+pub(crate) fn answer_line(
+    alloc: Global,
+    policy: &Policy,
+    container: &mut Container,
+    line: &[u8],
+    answers: &mut LineBuffer,
+) -> Result<(), NoMemory>
+    requires { IsStanding container.old }
+    ensures answered { OnOk result (IsLineAnswered policy.now line.now container.old answers.old container.new answers.new) }
+    ensures standing { OnOk result (IsStanding container.new) }
+{
+    if line.len() > LONGEST {
+        return push_long(answers);
+    }
+    match read_request(alloc, line) {
+        Ok(request) => answer_request(alloc, policy, container, &request, answers),
+        Err(OrNoMemory::Refused(fault)) => push_fault(answers, fault),
+        Err(OrNoMemory::NoMemory) => Err(NoMemory),
+    }
+}
