@@ -10,9 +10,9 @@ use Rattle.policy_reader.specs.Policies.{policy as policy_of}
 use Rattle.policy_reader.specs.declared.error.PolicyError.{PolicyError}
 use Rattle.script_reader.specs.Scripts.{script as script_of}
 use Rattle.script_reader.specs.declared.error.ScriptError.{ScriptError}
-use Rattle.broker_app.specs.Inputs.{HasBytes, PolicyIs, ReadsAs, ReportIs, ScriptIs, policy_limit, report_limit, script_limit}
-use Rattle.broker_app.specs.Refusals.{CannotRead, FileRefused, InputRefused, PolicyRefused, ReportRefused, ScriptRefused}
-use Rattle.broker_app.specs.declared.status.InputFile.TheVariants.{Policy as PolicyFile, Script as ScriptFile, Report as ReportFile}
+use Rattle.broker_app.specs.Inputs.{CallsAre, HasBytes, PolicyIs, ReadsAs, ReportIs, ScriptIs, calls_limit, policy_limit, report_limit, script_limit}
+use Rattle.broker_app.specs.Refusals.{CallsRefused, CannotRead, FileRefused, InputRefused, PolicyRefused, ReportRefused, ScriptRefused}
+use Rattle.broker_app.specs.declared.status.InputFile.TheVariants.{Policy as PolicyFile, Script as ScriptFile, Report as ReportFile, Calls as CallsFile}
 use Rattle.broker_app.specs.declared.status.Refusal.{Refusal}
 use Rattle.broker_app.specs.declared.status.Refusal.TheVariants.{ReadFault, TooLong, BadPolicy, BadScript}
 use Rattle.broker_app.specs.declared.status.Status.{Status}
@@ -45,6 +45,14 @@ report_unread files after name (Refused (TooLong file)) h = let other = h.0 in c
 report_unread files after name NoMemory h = tt
 report_unread files after name status h = absurd h
 
+pub calls_unread : (files after : FileState) (name : List ℕ) (status : Status) → FileRefused CallsFile calls_limit files after name status → CallsRefused files after name status
+calls_unread files after name (Refused (ReadFault CallsFile)) h = h.1
+calls_unread files after name (Refused (ReadFault file)) h = let other = h.0 in cc
+calls_unread files after name (Refused (TooLong CallsFile)) h = h.1
+calls_unread files after name (Refused (TooLong file)) h = let other = h.0 in cc
+calls_unread files after name NoMemory h = tt
+calls_unread files after name status h = absurd h
+
 -- ---- Files of which others were read before
 
 module _ (files mid after : FileState) (name : List ℕ) (same : SameFiles files mid) where
@@ -59,6 +67,9 @@ module _ (files mid after : FileState) (name : List ℕ) (same : SameFiles files
 
   pub report_is_before : (bytes : List ℕ) → ReportIs mid name bytes → ReportIs files name bytes
   report_is_before bytes h = λ t. subst (λ f. HasBytes report_limit f bytes) bytes_before (h (same.tells ∙ t))
+
+  pub calls_are_before : (bytes : List ℕ) → CallsAre mid name bytes → CallsAre files name bytes
+  calls_are_before bytes h = λ t. subst (λ f. HasBytes calls_limit f bytes) bytes_before (h (same.tells ∙ t))
 
   past_before : (limit : ℕ) → ReadsPast limit mid name after → ReadsPast limit files name after
   past_before limit h = record {
@@ -89,6 +100,12 @@ module _ (files mid after : FileState) (name : List ℕ) (same : SameFiles files
   report_before (Refused (TooLong ReportFile)) h = past_before report_limit h
   report_before NoMemory h = tt
   report_before status h = absurd h
+
+  pub calls_before : (status : Status) → CallsRefused mid after name status → CallsRefused files after name status
+  calls_before (Refused (ReadFault CallsFile)) h = cannot_before h
+  calls_before (Refused (TooLong CallsFile)) h = past_before calls_limit h
+  calls_before NoMemory h = tt
+  calls_before status h = absurd h
 
 -- ---- The policy and the script
 

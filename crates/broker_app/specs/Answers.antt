@@ -16,6 +16,7 @@ use Rattle.io_edge.specs.SinkState.{SinkState, AddsPrefix}
 use Rattle.generated_input.specs.GeneratedPolicy.{generated_policy}
 use Rattle.generated_input.specs.GeneratedScript.{generated_script}
 use Rattle.broker_app.specs.Checks.{CheckEnds}
+use Rattle.broker_app.specs.Explanations.{ExplainEnds}
 use Rattle.broker_app.specs.Explorations.{ExploreEnds}
 use Rattle.broker_app.specs.Findings.{findings}
 use Rattle.broker_app.specs.Handovers.{handover_report, handovers}
@@ -23,7 +24,8 @@ use Rattle.broker_app.specs.Plays.{PlayEnds, report_of}
 use Rattle.broker_app.specs.Pods.{PodEnds}
 use Rattle.broker_app.specs.Refusals.{Stands, TookNothing}
 use Rattle.broker_app.specs.Runs.{ByLanes, ByWorkers, RunEnds}
-use Rattle.broker_app.specs.Words.{Form, AuditCheck, Explore, Handover, Lanes, Play, Pod, Run, Stress}
+use Rattle.broker_app.specs.Stepping.{StepEnds}
+use Rattle.broker_app.specs.Words.{Form, AuditCheck, Explain, Explore, Handover, Lanes, Play, Pod, Run, Step, Stress}
 use Rattle.broker_app.specs.declared.printing.Printout.{Printout}
 use Rattle.broker_app.specs.declared.printing.Printout.TheVariants.{Report, Handovers, Summary, Findings}
 use Rattle.broker_app.specs.declared.status.Status.{Status}
@@ -103,6 +105,8 @@ Answers (Some (Handover policy script every)) files after old new status =
 Answers (Some (Pod workers cpus pairs)) files after old new status = PodEnds files after old new workers pairs status
 Answers (Some (Explore policy script workers delays)) files after old new status =
     ExploreEnds files after old new policy script workers delays status
+Answers (Some (Step policy script)) files after old new status = StepEnds files after old new policy script status
+Answers (Some (Explain policy calls)) files after old new status = ExplainEnds files after old new policy calls status
 
 -- the status that an outcome is
 abbrev pub status_of : Result (Unit {0}) Status → Status

@@ -2,12 +2,12 @@
 use Rattle.std.specs.Prelude.{◌≡◌, ℕ, ◌<◌, ◌≤◌, true, List, length, map, String}
 use Rattle.std.specs.String.{string_bytes}
 use Rattle.std.specs.declared.alloc.Global.{Global}
-use Rattle.broker_app.specs.Words.{Form as Meaning, AuditCheck as Checks, Explore as Explores, Handover as Hands, Lanes as RunsByLanes}
-use Rattle.broker_app.specs.Words.{Play as Plays, Pod as ServesPod, Run as Runs, Stress as Stresses, are_pairs, in_pairs}
+use Rattle.broker_app.specs.Words.{Form as Meaning, AuditCheck as Checks, Explain as Explains, Explore as Explores, Handover as Hands, Lanes as RunsByLanes}
+use Rattle.broker_app.specs.Words.{Play as Plays, Pod as ServesPod, Run as Runs, Step as Steps, Stress as Stresses, are_pairs, in_pairs}
 use Rattle.broker_app.specs.declared.words.Form.{Form}
 use Rattle.broker_app.specs.declared.words.Form.TheVariants.{Job as IsJob, Lanes, Pod, Run}
 use Rattle.broker_app.specs.declared.words.Job.{Job}
-use Rattle.broker_app.specs.declared.words.Job.TheVariants.{AuditCheck, Explore, Handover, Play, Stress}
+use Rattle.broker_app.specs.declared.words.Job.TheVariants.{AuditCheck, Explain, Explore, Handover, Play, Step, Stress}
 
 -- the bytes of the words
 abbrev pub texts : List (String Global) → List (List ℕ)
@@ -20,6 +20,8 @@ job_of (Stress from count) = Stresses from count
 job_of (AuditCheck policy script report) = Checks policy.now script.now report.now
 job_of (Handover policy script every) = Hands policy.now script.now every
 job_of (Explore policy script workers delays) = Explores policy.now script.now workers delays
+job_of (Step policy script) = Steps policy.now script.now
+job_of (Explain policy calls) = Explains policy.now calls.now
 
 -- the form that the words have
 abbrev pub form_of : Form → Meaning

@@ -18,6 +18,10 @@ script_limit = 8388608
 abbrev pub report_limit : ℕ
 report_limit = 33554432
 
+-- and that calls have
+abbrev pub calls_limit : ℕ
+calls_limit = 8388608
+
 -- the file is there and within the limit, and its bytes are read as this
 abbrev pub ReadsAs : {A : Type 0} → (List ℕ → A) → ℕ → Option (List ℕ) → A → Type 0
 ReadsAs read limit None reading = ⊥
@@ -38,3 +42,7 @@ ScriptIs files name reading = files.tells ≡ true → ReadsAs script script_lim
 -- and these are the bytes of this report
 abbrev pub ReportIs : FileState → List ℕ → List ℕ → Type 0
 ReportIs files name bytes = files.tells ≡ true → HasBytes report_limit (files.bytes name) bytes
+
+-- and of these calls
+abbrev pub CallsAre : FileState → List ℕ → List ℕ → Type 0
+CallsAre files name bytes = files.tells ≡ true → HasBytes calls_limit (files.bytes name) bytes

@@ -1,3 +1,4 @@
+pub mod Stepping
 pub mod Words
 pub mod Forms
 pub mod Lines
@@ -10,5 +11,6 @@ pub mod Plays
 pub mod Handovers
 pub mod PodText
 pub mod Pods
+pub mod Explanations
 pub mod Explorations
 pub mod Answers

@@ -1,5 +1,5 @@
 -- What the answer of a pod means: which containers were read and served, what is printed of them, and why it stopped.
-use Rattle.std.specs.Prelude.{◌≡◌, ℕ, ◌+◌, ◌<◌, ◌++◌, ◌∷◌, ◌⊎◌, Bool, true, false, List, get_or, length, map, Ok}
+use Rattle.std.specs.Prelude.{◌≡◌, ℕ, ◌<◌, ◌++◌, ◌∷◌, ◌⊎◌, Bool, true, false, List, get_or, length, map, Ok}
 use Rattle.std.specs.List.{AllZip}
 use Rattle.io_edge.specs.Faults.{Rose}
 use Rattle.io_edge.specs.FileState.{FileState}

@@ -5,9 +5,9 @@ use Rattle.hist_model.specs.declared.script.Script.{Script}
 use Rattle.io_edge.specs.Faults.{Rose}
 use Rattle.io_edge.specs.FileState.{FileState, ReadsPast}
 use Rattle.io_edge.specs.SinkState.{SinkState}
-use Rattle.broker_app.specs.Inputs.{PolicyIs, ScriptIs, policy_limit, script_limit, report_limit}
+use Rattle.broker_app.specs.Inputs.{PolicyIs, ScriptIs, policy_limit, script_limit, report_limit, calls_limit}
 use Rattle.broker_app.specs.declared.status.InputFile.{InputFile}
-use Rattle.broker_app.specs.declared.status.InputFile.TheVariants.{Policy as PolicyFile, Script as ScriptFile, Report as ReportFile}
+use Rattle.broker_app.specs.declared.status.InputFile.TheVariants.{Policy as PolicyFile, Script as ScriptFile, Report as ReportFile, Calls as CallsFile}
 use Rattle.broker_app.specs.declared.status.Refusal.TheVariants.{ReadFault, TooLong, BadPolicy, BadScript}
 use Rattle.broker_app.specs.declared.status.Status.{Status}
 use Rattle.broker_app.specs.declared.status.Status.TheVariants.{Refused, NoMemory}
@@ -70,6 +70,17 @@ ReportRefused files after report (Refused (ReadFault ReportFile)) = CannotRead f
 ReportRefused files after report (Refused (TooLong ReportFile)) = ReadsPast report_limit files report after
 ReportRefused files after report NoMemory = Unit {0}
 ReportRefused files after report _ = ⊥
+
+-- why the calls weren't taken
+abbrev pub CallsRefused : FileState → FileState → List ℕ → Status → Type 0
+CallsRefused files after calls (Refused (ReadFault CallsFile)) = CannotRead files after calls
+CallsRefused files after calls (Refused (TooLong CallsFile)) = ReadsPast calls_limit files calls after
+CallsRefused files after calls NoMemory = Unit {0}
+CallsRefused files after calls _ = ⊥
+
+-- a policy was taken, and then the calls weren't
+abbrev pub OnlyPolicyOfCalls : FileState → FileState → List ℕ → List ℕ → Status → Type 0
+OnlyPolicyOfCalls files after policy calls status = (P : Policy) × PolicyIs files policy (Ok P) × CallsRefused files after calls status
 
 -- a policy and a script were taken, and then the report wasn't
 abbrev pub OnlyScript : FileState → FileState → List ℕ → List ℕ → List ℕ → Status → Type 0

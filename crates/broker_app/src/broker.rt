@@ -22,6 +22,7 @@ ghost use Rattle.broker_app.specs.declared.status.InputFile.TheVariants.{Policy 
 ghost use Rattle.broker_app.specs.declared.status.Refusal.TheVariants.{ReadFault};
 ghost use Rattle.broker_app.specs.declared.status.Status.TheVariants.{Refused};
 
+use crate::explaining::explain_files;
 use crate::exploring::explore_files;
 use crate::inputs::{read_inputs, read_report};
 use crate::lines::say;
@@ -30,6 +31,7 @@ use crate::pod_printing::print_pod;
 use crate::pods::{read_containers, see_ranges};
 use crate::printing::{Printout, print_history};
 use crate::status::Status;
+use crate::stepping::step_files;
 use crate::words::{Form, Job, read_form};
 use audit_check::check::check_report;
 use audit_check::found::Found;
@@ -288,6 +290,8 @@ fn answer<P: Player, F: Files, O: Sink>(
                 delays,
             },
         ) => explore_files(alloc, files, policy, script, workers, delays, out),
+        Some(Job::Step { policy, script }) => step_files(alloc, files, policy, script, out),
+        Some(Job::Explain { policy, calls }) => explain_files(alloc, files, policy, calls, out),
     }
 }
 

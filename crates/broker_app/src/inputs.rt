@@ -2,8 +2,8 @@
 
 ghost use Rattle.std.specs.Prelude.{◌≡◌, ◌^◌, ◌-◌, ◌<◌, ◌≤◌, true, length, None, Some, Ok, IfOk, IfErr, OnOk, Err};
 ghost use Rattle.io_edge.specs.FileState.{SameFiles};
-ghost use Rattle.broker_app.specs.Inputs.{HasBytes, PolicyIs, ReportIs, ScriptIs};
-ghost use Rattle.broker_app.specs.Refusals.{FileRefused, InputRefused, PolicyRefused, ReportRefused, ScriptRefused};
+ghost use Rattle.broker_app.specs.Inputs.{CallsAre, HasBytes, PolicyIs, ReportIs, ScriptIs};
+ghost use Rattle.broker_app.specs.Refusals.{CallsRefused, FileRefused, InputRefused, PolicyRefused, ReportRefused, ScriptRefused};
 ghost use Rattle.broker_app.specs.declared.status.InputFile.TheVariants.{Policy as PolicyFile, Script as ScriptFile};
 ghost use Rattle.broker_app.specs.declared.status.Refusal.TheVariants.{ReadFault};
 ghost use Rattle.broker_app.specs.declared.status.Status.TheVariants.{Refused};
@@ -21,6 +21,9 @@ const POLICY_LIMIT: u64 = 1_048_576;
 
 /// How many bytes of a script are read at most.
 const SCRIPT_LIMIT: u64 = 8_388_608;
+
+/// How many bytes of calls are read at most.
+const CALLS_LIMIT: u64 = 8_388_608;
 
 /// How many bytes of a report are read at most.
 const REPORT_LIMIT: u64 = 33_554_432;
@@ -52,7 +55,11 @@ fn read_file<F: Files>(
 
 /// Reads the policy of this name.
 #[tactic(auto, using(crate::proofs::Reading::reads_as, crate::proofs::Reading::policy_unread))]
-fn read_policy<F: Files>(alloc: Global, files: &mut F, name: &str) -> Result<Policy, Status>
+pub(crate) fn read_policy<F: Files>(
+    alloc: Global,
+    files: &mut F,
+    name: &str,
+) -> Result<Policy, Status>
     ensures same { SameFiles (F.state files.old) (F.state files.new) }
     ensures read { IfOk result (λ p. PolicyIs (F.state files.old) name.now (Ok p)) }
     ensures refused { IfErr result (λ s. PolicyRefused (F.state files.old) (F.state files.new) name.now s) }
@@ -114,4 +121,19 @@ pub(crate) fn read_report<F: Files>(
     ensures refused { IfErr result (λ s. ReportRefused (F.state files.old) (F.state files.new) name.now s) }
 {
     read_file(alloc, files, name, InputFile::Report, REPORT_LIMIT)
+}
+
+/// Reads the bytes of the calls of this name.
+#[tactic(auto, using(crate::proofs::Reading::calls_unread))]
+pub(crate) fn read_calls<F: Files>(
+    alloc: Global,
+    files: &mut F,
+    name: &str,
+) -> Result<Vec<u8>, Status>
+    ensures same { SameFiles (F.state files.old) (F.state files.new) }
+    ensures read { IfOk result (λ bytes. CallsAre (F.state files.old) name.now bytes.items) }
+    ensures within { IfOk result (λ bytes. length bytes.items ≤ 8388608) }
+    ensures refused { IfErr result (λ s. CallsRefused (F.state files.old) (F.state files.new) name.now s) }
+{
+    read_file(alloc, files, name, InputFile::Calls, CALLS_LIMIT)
 }

@@ -18,6 +18,7 @@
 #![tactic(auto)]
 
 pub mod broker;
+mod explaining;
 mod exploring;
 mod inputs;
 mod lines;
@@ -27,4 +28,5 @@ mod pod_printing;
 mod pods;
 mod printing;
 pub mod status;
+mod stepping;
 pub mod words;

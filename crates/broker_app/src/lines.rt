@@ -3,39 +3,15 @@
 ghost use Rattle.std.specs.Prelude.{◌≡◌, ◌++◌, codes, decimal};
 ghost use Rattle.io_edge.specs.SinkState.{Writes};
 ghost use Rattle.broker_app.specs.Answers.{Said};
-ghost use Rattle.broker_app.specs.Lines.{container_front, line_of, overlap_line, policy_line, refusal_line, script_line, script_line_of, reason_text, file_named};
+ghost use Rattle.broker_app.specs.Lines.{calls_line, container_front, line_of, overlap_line, policy_line, refusal_line, script_line, numbered_line, file_named};
 
 use crate::status::{InputFile, Refusal, Status};
+use call_lines::CallsError;
 use io_edge::fault::Failed;
 use io_edge::sink::Sink;
-use lex_core::Reason;
 use policy_reader::PolicyError;
 use script_reader::ScriptError;
-
-/// The text of a reason.
-fn reason_text(reason: Reason) -> &'static [u8]
-    ensures { result.now ≡ reason_text reason }
-{
-    match reason {
-        Reason::BadByte => b"bad byte",
-        Reason::BadQuote => b"bad quote",
-        Reason::UnknownWord => b"unknown word",
-        Reason::OutOfPlace => b"out of place",
-        Reason::WrongCount => b"wrong count",
-        Reason::WrongForm => b"wrong form",
-        Reason::BadNumber => b"bad number",
-        Reason::OutOfRange => b"out of range",
-        Reason::BadPath => b"bad path",
-        Reason::UnknownName => b"unknown name",
-        Reason::Duplicate => b"duplicate",
-        Reason::Unmapped => b"unmapped",
-        Reason::SecondListener => b"second listener",
-        Reason::BadFilter => b"bad filter",
-        Reason::NotClosed => b"not closed",
-        Reason::NoProgram => b"no program",
-        Reason::NoListener => b"no listener",
-    }
-}
+use step_session::reasons::reason_text;
 
 /// The name of a file, with the byte that ends the line.
 fn file_named(file: InputFile) -> &'static [u8]
@@ -45,6 +21,8 @@ fn file_named(file: InputFile) -> &'static [u8]
         InputFile::Policy => b"policy\n",
         InputFile::Script => b"script\n",
         InputFile::Report => b"report\n",
+        InputFile::Calls => b"calls\n",
+        InputFile::Requests => b"requests\n",
     }
 }
 
@@ -92,13 +70,24 @@ fn write_numbered<E: Sink>(number: u32, reason: &[u8], err: &mut E) -> Result<()
     write_ended(b": ", reason, err)
 }
 
-/// Writes the line of a script's line.
-#[tactic(auto, using(crate::proofs::Saying::writes_front, crate::proofs::Saying::writes_more))]
-fn write_line_of<E: Sink>(number: u32, reason: &[u8], err: &mut E) -> Result<(), Failed>
-    ensures { Writes (E.state err.old) (script_line_of number reason.now) result (E.state err.new) }
+/// Writes the number of a file's line behind a front, and what is wrong with the line.
+fn write_line_of<E: Sink>(
+    front: &[u8],
+    number: u32,
+    reason: &[u8],
+    err: &mut E,
+) -> Result<(), Failed>
+    ensures { Writes (E.state err.old) (numbered_line front.now number reason.now) result (E.state err.new) }
 {
-    err.write(b"script: line ")?;
+    err.write(front)?;
     write_numbered(number, reason, err)
+}
+
+/// Writes why calls are refused.
+fn write_calls_line<E: Sink>(error: &CallsError, err: &mut E) -> Result<(), Failed>
+    ensures { Writes (E.state err.old) (calls_line error.now) result (E.state err.new) }
+{
+    write_line_of(b"calls: line ", error.line, reason_text(error.reason), err)
 }
 
 /// Writes why a script is refused.
@@ -106,8 +95,12 @@ fn write_script_line<E: Sink>(error: &ScriptError, err: &mut E) -> Result<(), Fa
     ensures { Writes (E.state err.old) (script_line error.now) result (E.state err.new) }
 {
     match *error {
-        ScriptError::BadLine { line, reason } => write_line_of(line, reason_text(reason), err),
-        ScriptError::TooLarge { line } => write_line_of(line, b"too large", err),
+        ScriptError::BadLine { line, reason } => {
+            write_line_of(b"script: line ", line, reason_text(reason), err)
+        }
+        ScriptError::TooLarge { line } => {
+            write_line_of(b"script: line ", line, b"too large", err)
+        }
     }
 }
 
@@ -128,6 +121,7 @@ fn write_refusal<E: Sink>(refusal: &Refusal, err: &mut E) -> Result<(), Failed>
         Refusal::TooLong(file) => write_two(b"too long: ", file_named(*file), err),
         Refusal::BadPolicy(error) => write_policy_line(error, err),
         Refusal::BadScript(error) => write_script_line(error, err),
+        Refusal::BadCalls(error) => write_calls_line(error, err),
     }
 }
 
@@ -172,7 +166,7 @@ fn write_status<E: Sink>(status: &Status, err: &mut E) -> Result<(), Failed>
     match status {
         Status::Done => err.write(b""),
         Status::Usage => err.write(
-            b"usage: play POLICY SCRIPT | run POLICY SCRIPT WORKERS CPUS | stress FROM COUNT | audit-check POLICY SCRIPT REPORT | lanes POLICY SCRIPT CPUS | handover POLICY SCRIPT EVERY | pod WORKERS CPUS POLICY SCRIPT .. | explore POLICY SCRIPT WORKERS DELAYS\n",
+            b"usage: play POLICY SCRIPT | run POLICY SCRIPT WORKERS CPUS | stress FROM COUNT | audit-check POLICY SCRIPT REPORT | lanes POLICY SCRIPT CPUS | handover POLICY SCRIPT EVERY | pod WORKERS CPUS POLICY SCRIPT .. | explore POLICY SCRIPT WORKERS DELAYS | step POLICY SCRIPT | explain POLICY CALLS\n",
         ),
         Status::Refused(refusal) => write_refusal(refusal, err),
         Status::ContainerRefused { container, refusal } => {

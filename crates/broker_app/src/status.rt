@@ -4,6 +4,7 @@ ghost use Rattle.std.specs.Prelude.{◌≡◌};
 ghost use Rattle.broker_app.specs.Lines.{code_of, code_of_refusal};
 
 use audit_log::error::ReportError;
+use call_lines::CallsError;
 use policy_reader::PolicyError;
 use script_reader::ScriptError;
 use sys_abi::memory;
@@ -14,6 +15,10 @@ pub enum InputFile {
     Policy,
     Script,
     Report,
+    /// The calls that are explained.
+    Calls,
+    /// The requests of `step`: the standard input.
+    Requests,
 }
 
 /// Why a file wasn't taken.
@@ -21,12 +26,14 @@ pub enum InputFile {
 pub enum Refusal {
     /// It couldn't be read.
     ReadFault(InputFile),
-    /// It has more bytes than it may have: 1,048,576 of a policy, 8,388,608 of a script, 33,554,432 of a report.
+    /// It has more bytes than it may have: 1,048,576 of a policy, 8,388,608 of a script and of calls, 33,554,432 of a report.
     TooLong(InputFile),
     /// The policy is refused.
     BadPolicy(PolicyError),
     /// The script is refused.
     BadScript(ScriptError),
+    /// The calls are refused.
+    BadCalls(CallsError),
 }
 
 impl Refusal {
@@ -38,7 +45,7 @@ impl Refusal {
             Refusal::ReadFault(_) => 2,
             Refusal::TooLong(_) => 3,
             Refusal::BadPolicy(_) => 4,
-            Refusal::BadScript(_) => 5,
+            Refusal::BadScript(_) | Refusal::BadCalls(_) => 5,
         }
     }
 }

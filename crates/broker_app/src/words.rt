@@ -42,6 +42,16 @@ pub enum Job<'a> {
         workers: u8,
         delays: Option<u64>,
     },
+    /// Step a script as the requests on the standard input ask for: the names of the policy's and the script's files.
+    Step {
+        policy: &'a str,
+        script: &'a str,
+    },
+    /// Explain which rule decides each call: the names of the files of the policy and the calls.
+    Explain {
+        policy: &'a str,
+        calls: &'a str,
+    },
 }
 
 /// A form of the words.
@@ -186,6 +196,16 @@ fn three_words<'a>(command: &str, a: &'a str, b: &'a str) -> Option<Form<'a>>
         }))
     } else if command.as_bytes() == b"stress".as_slice() {
         stress_form(a, b)
+    } else if command.as_bytes() == b"step".as_slice() {
+        Some(Form::Job(Job::Step {
+            policy: a,
+            script: b,
+        }))
+    } else if command.as_bytes() == b"explain".as_slice() {
+        Some(Form::Job(Job::Explain {
+            policy: a,
+            calls: b,
+        }))
     } else {
         None
     }

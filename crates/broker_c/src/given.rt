@@ -4,7 +4,6 @@ ghost use Rattle.std.specs.Prelude.{◌≡◌, ◌≤◌, refl, [], length, drop
 ghost use Rattle.std.specs.Option.{ForSome, option_map_or};
 ghost use Rattle.broker_c.specs.Given.{bytes_of, file_of, files_at, files_of};
 
-use broker_app::status::InputFile;
 use io_edge::fault::Failed;
 use io_edge::files::Files;
 
@@ -17,6 +16,14 @@ pub(crate) const SCRIPT: &str = "script";
 /// The name of the report's file.
 pub(crate) const REPORT: &str = "report";
 
+/// One of the files in memory.
+#[derive(Clone, Copy)]
+pub(crate) enum GivenFile {
+    Policy,
+    Script,
+    Report,
+}
+
 /// A policy, a script and a report in memory, as the files of three names. Every other name isn't there. A read gives as many bytes as
 /// there are left and fit into the buffer.
 #[derive(Drop)]
@@ -24,7 +31,7 @@ pub(crate) struct GivenFiles<'a> {
     policy: &'a [u8],
     script: &'a [u8],
     report: &'a [u8],
-    current: Option<InputFile>,
+    current: Option<GivenFile>,
     // how many bytes reads gave since the last `open`
     given: usize,
     faults: u64,
@@ -32,15 +39,15 @@ pub(crate) struct GivenFiles<'a> {
 }
 
 /// The file of this name.
-fn file_of(name: &str) -> Option<InputFile>
+fn file_of(name: &str) -> Option<GivenFile>
     ensures { result ≡ file_of name.now }
 {
     if name.as_bytes() == b"policy".as_slice() {
-        Some(InputFile::Policy)
+        Some(GivenFile::Policy)
     } else if name.as_bytes() == b"script".as_slice() {
-        Some(InputFile::Script)
+        Some(GivenFile::Script)
     } else if name.as_bytes() == b"report".as_slice() {
-        Some(InputFile::Report)
+        Some(GivenFile::Report)
     } else {
         None
     }
@@ -62,13 +69,13 @@ impl<'a> GivenFiles<'a> {
     }
 
     /// The bytes of a file.
-    fn bytes(&self, file: InputFile) -> &[u8]
+    fn bytes(&self, file: GivenFile) -> &[u8]
         ensures { result.now ≡ bytes_of self.now.policy.now self.now.script.now self.now.report.now file }
     {
         match file {
-            InputFile::Policy => self.policy,
-            InputFile::Script => self.script,
-            InputFile::Report => self.report,
+            GivenFile::Policy => self.policy,
+            GivenFile::Script => self.script,
+            GivenFile::Report => self.report,
         }
     }
 

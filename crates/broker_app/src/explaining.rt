@@ -1,0 +1,72 @@
+//! Which rule of a policy decides each call of a file.
+
+ghost use Rattle.std.specs.Prelude.{◌≡◌, ◌≤◌, length, OnOk};
+ghost use Rattle.audit_log.specs.Written.{Wrote};
+ghost use Rattle.broker_app.specs.Answers.{Printed, status_of};
+ghost use Rattle.broker_app.specs.Explanations.{BytesExplainEnds, ExplainEnds};
+ghost use Rattle.broker_app.specs.Refusals.{Stands};
+
+use crate::inputs::{read_calls, read_policy};
+use crate::status::{Refusal, Status};
+use audit_log::error::ReportError;
+use audit_log::line::LineBuffer;
+use audit_log::part::write_line;
+use hist_model::policy::Policy;
+use io_edge::files::Files;
+use io_edge::sink::Sink;
+use policy_explain::explain;
+use std::alloc::Global;
+use sys_abi::memory::OrNoMemory;
+
+/// Writes a text, and flushes it.
+#[tactic(auto, using(crate::proofs::Ends::flushed))]
+fn write_flushed<O: Sink>(text: &LineBuffer, out: &mut O) -> Result<(), ReportError>
+    ensures wrote { Wrote (O.state out.old) text.now result (O.state out.new) }
+    ensures stands { OnOk result (Stands (O.state out.new)) }
+{
+    write_line(text, out)?;
+    out.flush()?;
+    Ok(())
+}
+
+/// Prints a text.
+#[tactic(auto, using(crate::proofs::Ends::printed_whole, crate::proofs::Ends::printed_part))]
+fn print_line<O: Sink>(text: &LineBuffer, out: &mut O) -> Result<(), Status>
+    ensures { Printed text.now (O.state out.old) (O.state out.new) result }
+{
+    write_flushed(text, out)?;
+    Ok(())
+}
+
+/// Explains the calls that bytes state, and prints what is told of them.
+fn explain_bytes<O: Sink>(
+    alloc: Global,
+    policy: &Policy,
+    calls: &[u8],
+    out: &mut O,
+) -> Result<(), Status>
+    requires { length calls.now ≤ 8388608 }
+    ensures { BytesExplainEnds policy.now calls.now (O.state out.old) (O.state out.new) (status_of result) }
+{
+    match explain(alloc, policy, calls) {
+        Ok(text) => print_line(&text, out),
+        Err(OrNoMemory::Refused(error)) => Err(Status::Refused(Refusal::BadCalls(error))),
+        Err(OrNoMemory::NoMemory) => Err(Status::NoMemory),
+    }
+}
+
+/// Explains the calls of one file under the policy of another, and prints what is told of them.
+#[tactic(auto, using(crate::proofs::ExplainEnds::policy_stops, crate::proofs::ExplainEnds::calls_stop))]
+pub(crate) fn explain_files<F: Files, O: Sink>(
+    alloc: Global,
+    files: &mut F,
+    policy: &str,
+    calls: &str,
+    out: &mut O,
+) -> Result<(), Status>
+    ensures { ExplainEnds (F.state files.old) (F.state files.new) (O.state out.old) (O.state out.new) policy.now calls.now (status_of result) }
+{
+    let policy = read_policy(alloc, files, policy)?;
+    let calls = read_calls(alloc, files, calls)?;
+    explain_bytes(alloc, &policy, calls.as_slice(), out)
+}
