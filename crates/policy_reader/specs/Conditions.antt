@@ -1,6 +1,6 @@
 -- The conditions of a rule: their keys, the values that they have, and the calls that they are for.
-use Rattle.std.specs.Prelude.{ℕ, ◌≤◌, ⊤, not, if◌then◌else◌, List, [], ◌∷◌, ◌++◌, find, Option, Some, None, option_map, option_and_then, Ok, Err, ℤ}
-use Rattle.std.specs.Prelude.{pos, negsuc, ◌||◌, ◌&&◌, codes}
+use Rattle.std.specs.Prelude.{ℕ, ◌≤◌, ⊤, not, if◌then◌else◌, List, [], ◌∷◌, ◌++◌, find, Option, Some, None, option_map, option_and_then}
+use Rattle.std.specs.Prelude.{Ok, Err, ℤ, pos, negsuc, ◌||◌, ◌&&◌, codes}
 use Rattle.std.specs.List.{list_all}
 use Rattle.std.specs.Int.Signed.{le_z}
 use Rattle.std.specs.Ordering.{int_eq}
