@@ -2,7 +2,8 @@
 use Rattle.std.specs.Prelude.{◌≡◌, ℕ, ◌<◌, ◌≤◌, true, List, length, map, String}
 use Rattle.std.specs.String.{string_bytes}
 use Rattle.std.specs.declared.alloc.Global.{Global}
-use Rattle.broker_app.specs.Words.{Form as Meaning, AuditCheck as Checks, Explain as Explains, Explore as Explores, Handover as Hands, Lanes as RunsByLanes}
+use Rattle.broker_app.specs.Words.{Form as Meaning, AuditCheck as Checks, Explain as Explains, Explore as Explores, Handover as Hands}
+use Rattle.broker_app.specs.Words.{Lanes as RunsByLanes}
 use Rattle.broker_app.specs.Words.{Play as Plays, Pod as ServesPod, Run as Runs, Step as Steps, Stress as Stresses, are_pairs, in_pairs}
 use Rattle.broker_app.specs.declared.words.Form.{Form}
 use Rattle.broker_app.specs.declared.words.Form.TheVariants.{Job as IsJob, Lanes, Pod, Run}

@@ -7,7 +7,8 @@ use Rattle.io_edge.specs.FileState.{FileState, ReadsPast}
 use Rattle.io_edge.specs.SinkState.{SinkState}
 use Rattle.broker_app.specs.Inputs.{PolicyIs, ScriptIs, policy_limit, script_limit, report_limit, calls_limit}
 use Rattle.broker_app.specs.declared.status.InputFile.{InputFile}
-use Rattle.broker_app.specs.declared.status.InputFile.TheVariants.{Policy as PolicyFile, Script as ScriptFile, Report as ReportFile, Calls as CallsFile}
+use Rattle.broker_app.specs.declared.status.InputFile.TheVariants.{Policy as PolicyFile, Script as ScriptFile, Report as ReportFile}
+use Rattle.broker_app.specs.declared.status.InputFile.TheVariants.{Calls as CallsFile}
 use Rattle.broker_app.specs.declared.status.Refusal.TheVariants.{ReadFault, TooLong, BadPolicy, BadScript}
 use Rattle.broker_app.specs.declared.status.Status.{Status}
 use Rattle.broker_app.specs.declared.status.Status.TheVariants.{Refused, NoMemory}

@@ -100,14 +100,18 @@ MknodIsMknodat = (number path mode dev : Token)
 -- the request of a line is that of a call with these arguments and texts, whose addresses don't matter; a mount is what a
 -- rule with its program and its shift grants of such a call
 pub record AreOfCalls (line : List Token) : Type 0 where
-  pub mknod : (path : ℕ) → asked deed.Mknod line ≡ Act (calls.request (pos nr_mknod) (path ∷ word_at line 5 ∷ wide_at line 6 ∷ []) (bytes_at line 4 ∷ []))
+  pub mknod : (path : ℕ) → asked deed.Mknod line
+      ≡ Act (calls.request (pos nr_mknod) (path ∷ word_at line 5 ∷ wide_at line 6 ∷ []) (bytes_at line 4 ∷ []))
   pub mknodat : (path : ℕ) → asked deed.Mknodat line
-      ≡ Act (calls.request (pos nr_mknodat) (cast_unsigned w32 (signed_word_at line 4) ∷ path ∷ word_at line 6 ∷ wide_at line 7 ∷ []) (bytes_at line 5 ∷ []))
-  pub mount : (rule : Rule) (source target fstype options : ℕ) → rule.via ≡ program_of line → rule.shift ≡ has_shift line → asked deed.Mount line
+      ≡ Act (calls.request (pos nr_mknodat)
+      (cast_unsigned w32 (signed_word_at line 4) ∷ path ∷ word_at line 6 ∷ wide_at line 7 ∷ []) (bytes_at line 5 ∷ []))
+  pub mount : (rule : Rule) (source target fstype options : ℕ) → rule.via ≡ program_of line → rule.shift ≡ has_shift line
+      → asked deed.Mount line
       ≡ Act (calls.granted rule (calls.request (pos nr_mount) (source ∷ target ∷ fstype ∷ wide_at line 7 ∷ options ∷ [])
       (bytes_at line 4 ∷ bytes_at line 5 ∷ bytes_at line 6 ∷ bytes_at line 8 ∷ [])))
   pub setxattr : (path name value size : ℕ) → asked deed.SetXattr line
-      ≡ Act (calls.request (pos nr_setxattr) (path ∷ name ∷ value ∷ size ∷ wide_at line 7 ∷ []) (bytes_at line 4 ∷ bytes_at line 5 ∷ bytes_at line 6 ∷ []))
+      ≡ Act (calls.request (pos nr_setxattr) (path ∷ name ∷ value ∷ size ∷ wide_at line 7 ∷ [])
+      (bytes_at line 4 ∷ bytes_at line 5 ∷ bytes_at line 6 ∷ []))
 
 abbrev pub ActsAreOfCalls : Type 0
 ActsAreOfCalls = (line : List Token) → AreOfCalls line

@@ -1,5 +1,6 @@
 -- What a line without a fault asks for. Its values have the places of their tokens in the line, counted from 0.
-use Rattle.std.specs.Prelude.{ℕ, ◌+◌, ◌^◌, Bool, ◌||◌, ◌==◌, nat_le, if◌then◌else◌, List, [], length, slice_get, replicate, Option, Some, None}
+use Rattle.std.specs.Prelude.{ℕ, ◌+◌, ◌^◌, Bool, ◌||◌, ◌==◌, nat_le, if◌then◌else◌, List, [], length, slice_get, replicate, Option}
+use Rattle.std.specs.Prelude.{Some, None}
 use Rattle.std.specs.Prelude.{◌-◌, unwrap_or, ℤ, pos, neg_ℤ, Result, Ok, Err}
 use Rattle.hex.specs.Hex.{decode_sized}
 use Rattle.hex.specs.declared.error.FromHexError.{FromHexError}
@@ -89,7 +90,8 @@ abbrev pub has_shift : List Token → Bool
 has_shift line = (length line == 10) || (length line == 12)
 
 abbrev pub mount_of : List Token → Request
-mount_of line = call.Mount (bytes_at line 4) (bytes_at line 5) (bytes_at line 6) (bytes_at line 8) (program_of line) (wide_at line 7) (has_shift line)
+mount_of line =
+    call.Mount (bytes_at line 4) (bytes_at line 5) (bytes_at line 6) (bytes_at line 8) (program_of line) (wide_at line 7) (has_shift line)
 
 -- of the flags the low 32 bits are kept, as of a call's argument
 abbrev pub setxattr_of : List Token → Request

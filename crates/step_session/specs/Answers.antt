@@ -1,5 +1,6 @@
 -- What `step` answers to a request, and the history after it. A history has its newest event first.
-use Rattle.std.specs.Prelude.{ℕ, zero, suc, Bool, false, not, if◌then◌else◌, ◌==◌, ◌≡◌, ◌<◌, ◌≤◌, true, List, [], ◌∷◌, ◌++◌, length, Option, Some, None, codes, decimal}
+use Rattle.std.specs.Prelude.{ℕ, zero, suc, Bool, false, not, if◌then◌else◌, ◌==◌, ◌≡◌, ◌<◌, ◌≤◌, true, List, [], ◌∷◌, ◌++◌, length}
+use Rattle.std.specs.Prelude.{Option, Some, None, codes, decimal}
 use Rattle.hist_model.specs.Calls.{count}
 use Rattle.hist_model.specs.Deeds.{Deed}
 use Rattle.hist_model.specs.Kinds.{closes, skips}

@@ -45,9 +45,11 @@ abbrev pub Comes : Kernel → ℕ → Asked → Came → Kernel → Type 0
 Comes old w asked (came.Refused why) new = (refused (past old) w asked ≡ Some why) × IsSame old new
 Comes old w asked came.Invalid new = (refused (past old) w asked ≡ None) × (deed_of asked ≡ None) × IsSame old new
 Comes old w asked came.Waits new =
-    (refused (past old) w asked ≡ None) × ((d : Deed) × (deed_of asked ≡ Some d) × (deed_step (system old) (past old) w d ≡ Skip) × IsSame old new)
+    (refused (past old) w asked ≡ None)
+    × ((d : Deed) × (deed_of asked ≡ Some d) × (deed_step (system old) (past old) w d ≡ Skip) × IsSame old new)
 Comes old w asked came.Stepped new =
-    (refused (past old) w asked ≡ None) × ((d : Deed) × (deed_of asked ≡ Some d) × (skips (deed_step (system old) (past old) w d) ≡ false) × DoesDeed old w d new)
+    (refused (past old) w asked ≡ None)
+    × ((d : Deed) × (deed_of asked ≡ Some d) × (skips (deed_step (system old) (past old) w d) ≡ false) × DoesDeed old w d new)
 
 -- a kernel that is asked has its tables in order
 abbrev pub IsInOrder : State → Type 0
