@@ -1,0 +1,416 @@
+// Package step lets a broker of one's own serve the written kernel, which the program `seccomp-broker step POLICY SCRIPT` runs
+// (docs/YOUR_BROKER.md).
+//
+// A call that the kernel refuses gives an *Error, which wraps the error of its manual page: errors.Is(err, syscall.ENOENT). With
+// syscall.EAGAIN the real call would wait: nothing has happened; let tasks step, and ask again. Besides those that a call names, each call may give
+// ECHRNG (there are 16 seats), ESHUTDOWN (the listener is closed), EMSGSIZE (the texts of the call are too long), EPIPE (the program has
+// ended) and EPROTO (its answer can't be understood). The calls of one Kernel are for one goroutine at a time.
+package step
+
+import (
+	"bufio"
+	"bytes"
+	"encoding/binary"
+	"encoding/hex"
+	"errors"
+	"fmt"
+	"io"
+	"os"
+	"os/exec"
+	"strconv"
+	"strings"
+	"syscall"
+)
+
+// The flags of seccomp_unotify(2), and AT_FDCWD of openat(2).
+const (
+	Continue   = 1 // SECCOMP_USER_NOTIF_FLAG_CONTINUE
+	AddfdSetfd = 1 // SECCOMP_ADDFD_FLAG_SETFD
+	AddfdSend  = 2 // SECCOMP_ADDFD_FLAG_SEND
+	AtFdcwd    = -100
+)
+
+// MostRead is how many bytes are read at once.
+const MostRead = 4096
+
+// Error is why a call did nothing: the error, and what the program answered.
+type Error struct {
+	Errno  syscall.Errno
+	Answer string
+}
+
+func (e *Error) Error() string { return fmt.Sprintf("%s: %s", e.Errno.Error(), e.Answer) }
+
+func (e *Error) Unwrap() error { return e.Errno }
+
+// Notif is a notification (struct seccomp_notif).
+type Notif struct {
+	ID    uint64
+	Pid   uint32
+	Flags uint32
+	Nr    int32
+	Arch  uint32
+	IP    uint64
+	Args  [6]uint64
+}
+
+// Response is the answer to one (struct seccomp_notif_resp). Error is 0 or a negated error number.
+type Response struct {
+	ID    uint64
+	Val   int64
+	Error int32
+	Flags uint32
+}
+
+// Addfd is a request for a descriptor (struct seccomp_notif_addfd).
+type Addfd struct {
+	ID         uint64
+	Flags      uint32
+	SrcFd      uint32
+	NewFd      uint32
+	NewFdFlags uint32
+}
+
+// Mount is what mount(2) takes; and by which program it is made, where Via isn't empty, and whether with shifted ids.
+type Mount struct {
+	Source, Target, Type string
+	Flags                uint64
+	Data                 string
+	Via                  string
+	Shift                bool
+}
+
+var errnos = map[string]syscall.Errno{
+	"EPERM": syscall.EPERM, "ENOENT": syscall.ENOENT, "ESRCH": syscall.ESRCH, "EINTR": syscall.EINTR, "E2BIG": syscall.E2BIG, "EBADF": syscall.EBADF,
+	"ECHILD": syscall.ECHILD, "EAGAIN": syscall.EAGAIN, "EACCES": syscall.EACCES, "EFAULT": syscall.EFAULT, "EBUSY": syscall.EBUSY, "EEXIST": syscall.EEXIST,
+	"ENODEV": syscall.ENODEV, "ENOTDIR": syscall.ENOTDIR, "EINVAL": syscall.EINVAL, "EMFILE": syscall.EMFILE, "ERANGE": syscall.ERANGE,
+	"ENAMETOOLONG": syscall.ENAMETOOLONG, "ENOSYS": syscall.ENOSYS, "ELOOP": syscall.ELOOP, "ENODATA": syscall.ENODATA, "EINPROGRESS": syscall.EINPROGRESS,
+	"EDQUOT": syscall.EDQUOT,
+}
+
+var refusals = map[string]syscall.Errno{
+	"no task": syscall.ESRCH, "worker": syscall.ECHRNG, "memory is open": syscall.EBUSY, "no memory is open": syscall.EBADF, "request is put": syscall.EALREADY,
+	"no request": syscall.ENOMSG, "closed": syscall.ESHUTDOWN, "long line": syscall.EMSGSIZE,
+}
+
+// errnoNamed gives the error of a name as ENOENT or E999, or 0.
+func errnoNamed(word string) syscall.Errno {
+	if errno, known := errnos[word]; known {
+		return errno
+	}
+	if number, err := strconv.Atoi(strings.TrimPrefix(word, "E")); err == nil && strings.HasPrefix(word, "E") && number > 0 {
+		return syscall.Errno(number)
+	}
+	return 0
+}
+
+// Kernel is a written kernel with a container, and the program that runs it.
+type Kernel struct {
+	program *exec.Cmd
+	input   io.WriteCloser
+	output  *bufio.Reader
+	answer  string
+}
+
+// Open starts the program that SECCOMP_BROKER names, or else `seccomp-broker`, on a policy and a script. EINVAL: it refuses one of them,
+// and has said why on standard error.
+func Open(policy, script string) (*Kernel, error) {
+	program := os.Getenv("SECCOMP_BROKER")
+	if program == "" {
+		program = "seccomp-broker"
+	}
+	return OpenProgram(program, policy, script)
+}
+
+// OpenProgram does the same with a program that is named here.
+func OpenProgram(program, policy, script string) (*Kernel, error) {
+	command := exec.Command(program, "step", policy, script)
+	command.Stderr = os.Stderr
+	input, err := command.StdinPipe()
+	if err != nil {
+		return nil, err
+	}
+	output, err := command.StdoutPipe()
+	if err != nil {
+		return nil, err
+	}
+	if err := command.Start(); err != nil {
+		return nil, err
+	}
+	kernel := &Kernel{program: command, input: input, output: bufio.NewReader(output)}
+	// The first answer shows that policy and script were taken.
+	if _, _, err := kernel.Able(); err != nil {
+		status, _ := kernel.Close()
+		if errors.Is(err, syscall.EPIPE) {
+			err = &Error{syscall.EINVAL, fmt.Sprintf("status %d", status)}
+		}
+		return nil, err
+	}
+	return kernel, nil
+}
+
+// Close closes the program's input, which closes the listener, and waits for it. It gives the exit status.
+func (k *Kernel) Close() (int, error) {
+	k.input.Close()
+	// What is left of an answer is read, so that the program's write doesn't fail.
+	io.Copy(io.Discard, k.output)
+	err := k.program.Wait()
+	var ended *exec.ExitError
+	if errors.As(err, &ended) {
+		return ended.ExitCode(), nil
+	}
+	return 0, err
+}
+
+// Answer is the program's answer to the newest request: the journal's line of the event, `skip`, or why it was refused.
+func (k *Kernel) Answer() string { return k.answer }
+
+// ask sends a request, and gives its answer.
+func (k *Kernel) ask(request string) (string, error) {
+	if _, err := io.WriteString(k.input, request+"\n"); err != nil {
+		return "", &Error{syscall.EPIPE, err.Error()}
+	}
+	line, err := k.output.ReadString('\n')
+	if err != nil {
+		return "", &Error{syscall.EPIPE, "the program has ended"}
+	}
+	k.answer = strings.TrimSuffix(line, "\n")
+	kind, rest, _ := strings.Cut(k.answer, " ")
+	switch kind {
+	case "skip":
+		return "", &Error{syscall.EAGAIN, k.answer}
+	case "error":
+		if errno := errnoNamed(rest); errno != 0 {
+			return "", &Error{errno, k.answer}
+		}
+		return "", &Error{syscall.EPROTO, k.answer}
+	case "refused":
+		if errno, known := refusals[rest]; known {
+			return "", &Error{errno, k.answer}
+		}
+		return "", &Error{syscall.EPROTO, k.answer}
+	}
+	return k.answer, nil
+}
+
+// result sends a request, and gives the last word of its answer, unless that is an error.
+func (k *Kernel) result(request string) (string, error) {
+	answer, err := k.ask(request)
+	if err != nil {
+		return "", err
+	}
+	word := answer[strings.LastIndexByte(answer, ' ')+1:]
+	if errno := errnoNamed(word); errno != 0 {
+		return "", &Error{errno, answer}
+	}
+	return word, nil
+}
+
+// Able gives the names of the tasks that can step, and whether a receive wouldn't wait: a notification is there, or the call
+// that there was is gone.
+func (k *Kernel) Able() (tasks []string, notified bool, err error) {
+	answer, err := k.ask("able")
+	if err != nil {
+		return nil, false, err
+	}
+	words := strings.Fields(answer)
+	if len(words) == 0 || words[0] != "able" {
+		return nil, false, &Error{syscall.EPROTO, answer}
+	}
+	tasks = words[1:]
+	if last := len(tasks) - 1; last >= 0 && tasks[last] == "recv" {
+		return tasks[:last], true, nil
+	}
+	return tasks, false, nil
+}
+
+// Step lets a task make its next step, and gives the journal's line of it. EAGAIN: it has none to make. ESRCH: no such task was made.
+func (k *Kernel) Step(task string) (string, error) {
+	if strings.Trim(task, "0123456789.") != "" {
+		return "", &Error{syscall.ESRCH, task}
+	}
+	answer, err := k.ask("t " + task)
+	if errors.Is(err, syscall.EPROTO) && strings.HasPrefix(k.answer, "refused line") {
+		return "", &Error{syscall.ESRCH, k.answer}
+	}
+	return answer, err
+}
+
+// Run lets a task step until it waits or has ended.
+func (k *Kernel) Run(task string) error {
+	for {
+		if _, err := k.Step(task); err != nil {
+			if errors.Is(err, syscall.EAGAIN) {
+				return nil
+			}
+			return err
+		}
+	}
+}
+
+// Report gives the report so far, as `seccomp-broker play` prints it.
+func (k *Kernel) Report() (string, error) {
+	answer, err := k.ask("report")
+	if err != nil {
+		return "", err
+	}
+	length, err := strconv.Atoi(strings.TrimPrefix(answer, "report "))
+	if err != nil || length < 0 {
+		return "", &Error{syscall.EPROTO, answer}
+	}
+	report := make([]byte, length)
+	if _, err := io.ReadFull(k.output, report); err != nil {
+		return "", &Error{syscall.EPIPE, "the program has ended"}
+	}
+	return string(report), nil
+}
+
+// CloseListener closes the listener, as the end of the broker does. Behind it only Report and Close do something.
+func (k *Kernel) CloseListener() error {
+	_, err := k.ask("close")
+	return err
+}
+
+// Seat gives the seat with a number from 0 to 15.
+func (k *Kernel) Seat(worker int) *Seat { return &Seat{k, worker} }
+
+// Seat is a place for one notification, from Recv to LetGo, with the memory and the directory that are opened for it.
+type Seat struct {
+	kernel *Kernel
+	worker int
+}
+
+func (s *Seat) request(format string, values ...any) string {
+	return fmt.Sprintf("w %d ", s.worker) + fmt.Sprintf(format, values...)
+}
+
+func (s *Seat) do(format string, values ...any) error {
+	_, err := s.kernel.result(s.request(format, values...))
+	return err
+}
+
+// raw gives the bytes of a structure as they lie in memory, in hexadecimal.
+func raw(structure any) string {
+	var buffer bytes.Buffer
+	// (a structure of numbers alone can be written)
+	binary.Write(&buffer, binary.LittleEndian, structure)
+	return hex.EncodeToString(buffer.Bytes())
+}
+
+// quoted writes a text as scripts do.
+func quoted(text string) string {
+	var found strings.Builder
+	found.WriteByte('"')
+	for at := 0; at < len(text); at++ {
+		switch letter := text[at]; {
+		case letter == '"' || letter == '\\':
+			found.WriteByte('\\')
+			found.WriteByte(letter)
+		case letter < 0x20:
+			fmt.Fprintf(&found, "\\x%02x", letter)
+		default:
+			found.WriteByte(letter)
+		}
+	}
+	found.WriteByte('"')
+	return found.String()
+}
+
+// Recv receives the oldest notification (SECCOMP_IOCTL_NOTIF_RECV). EAGAIN: none is there. ENOENT: its call has gone.
+func (s *Seat) Recv() (Notif, error) {
+	var notif Notif
+	answer, err := s.kernel.result(s.request("recv"))
+	if err != nil {
+		return notif, err
+	}
+	fields := s.kernel.answer[strings.Index(s.kernel.answer, " recv ")+1:]
+	args := &notif.Args
+	count, err := fmt.Sscanf(fields, "recv id=%d pid=%d flags=%d nr=%d arch=%d ip=%d args=%d,%d,%d,%d,%d,%d", &notif.ID, &notif.Pid, &notif.Flags, &notif.Nr,
+		&notif.Arch, &notif.IP, &args[0], &args[1], &args[2], &args[3], &args[4], &args[5])
+	if err != nil || count != 12 {
+		return Notif{}, &Error{syscall.EPROTO, answer}
+	}
+	return notif, nil
+}
+
+// IDValid tells whether the call still waits for an answer (SECCOMP_IOCTL_NOTIF_ID_VALID). ENOENT: it doesn't.
+func (s *Seat) IDValid(id uint64) error { return s.do("check %d", id) }
+
+// Send answers a call (SECCOMP_IOCTL_NOTIF_SEND): EINVAL, ENOENT, EINPROGRESS.
+func (s *Seat) Send(response Response) error { return s.do("send-raw %s", raw(response)) }
+
+// Addfd asks for a descriptor to be put into the caller (SECCOMP_IOCTL_NOTIF_ADDFD), which a step of the caller does: EINVAL, EBADF, ENOENT,
+// EINPROGRESS, EBUSY, and EALREADY where the last result wasn't taken.
+func (s *Seat) Addfd(asked Addfd) error { return s.do("addfd-raw %s", raw(asked)) }
+
+// AddfdResult gives the number that the descriptor got: EAGAIN where it isn't installed yet, EBADF, EMFILE, ENOENT, ENOMSG.
+func (s *Seat) AddfdResult() (int, error) {
+	word, err := s.kernel.result(s.request("addfd-result"))
+	if err != nil {
+		return 0, err
+	}
+	number, err := strconv.Atoi(word)
+	if err != nil {
+		return 0, &Error{syscall.EPROTO, s.kernel.answer}
+	}
+	return number, nil
+}
+
+// LetGo lets go of the notification, and closes what was opened for it.
+func (s *Seat) LetGo() error {
+	_, err := s.kernel.ask(s.request("let-go"))
+	return err
+}
+
+// OpenMem opens the memory of whoever has this PID by now (/proc/PID/mem): ESRCH, and EBUSY where one is open.
+func (s *Seat) OpenMem(pid uint32) error { return s.do("open-mem %d", pid) }
+
+// Pread reads from the memory that is open, at most MostRead bytes, and as many as are mapped. EFAULT: none is.
+func (s *Seat) Pread(buffer []byte, address uint64) (int, error) {
+	if len(buffer) > MostRead {
+		buffer = buffer[:MostRead]
+	}
+	word, err := s.kernel.result(s.request("read %d %d", address, len(buffer)))
+	if err != nil {
+		return 0, err
+	}
+	digits := strings.TrimPrefix(strings.TrimPrefix(word, "bytes="), "-")
+	content, err := hex.DecodeString(digits)
+	if err != nil || len(content) > len(buffer) {
+		return 0, &Error{syscall.EPROTO, s.kernel.answer}
+	}
+	return copy(buffer, content), nil
+}
+
+// WriteSysinfo writes a struct sysinfo: EFAULT where not all of its place is mapped, EBADF where no memory is open.
+func (s *Seat) WriteSysinfo(address uint64, info *[112]byte) error {
+	return s.do("plant %d %x", address, info[:])
+}
+
+// OpenDir opens the directory from which relative paths go (/proc/PID/cwd, or /proc/PID/fd/N): ESRCH, EBADF.
+func (s *Seat) OpenDir(pid uint32, dirfd int32) error { return s.do("open-base %d %d", pid, dirfd) }
+
+// Mknodat is mknodat(2). dirfd is the caller's number, for the report's sake: the directory is that of OpenDir.
+func (s *Seat) Mknodat(dirfd int32, path string, mode uint32, device uint64) error {
+	if dirfd == AtFdcwd {
+		return s.do("act mknod %s %d %d", quoted(path), mode, device)
+	}
+	return s.do("act mknodat %d %s %d %d", dirfd, quoted(path), mode, device)
+}
+
+// Mount is mount(2).
+func (s *Seat) Mount(mount Mount) error {
+	more := ""
+	if mount.Via != "" {
+		more += " via " + quoted(mount.Via)
+	}
+	if mount.Shift {
+		more += " shift"
+	}
+	return s.do("act mount %s %s %s %d %s%s", quoted(mount.Source), quoted(mount.Target), quoted(mount.Type), mount.Flags, quoted(mount.Data), more)
+}
+
+// Setxattr is setxattr(2).
+func (s *Seat) Setxattr(path, name string, value []byte, flags uint32) error {
+	return s.do("act setxattr %s %s %s %d", quoted(path), quoted(name), quoted(string(value)), flags)
+}

@@ -1,0 +1,248 @@
+"""A broker of one's own on the written kernel, which the program `seccomp-broker step POLICY SCRIPT` runs (docs/YOUR_BROKER.md).
+
+    with Kernel("policy.json", "script.txt") as kernel:
+        for line in kernel.steps("0"):
+            print(line)
+        seat = kernel.seat(0)
+        notif = seat.recv()
+        seat.send(notif.id, error=errno.EPERM)
+
+A call that the kernel refuses raises OSError with the error of its manual page: FileNotFoundError for ENOENT, ProcessLookupError for ESRCH and so
+on. BlockingIOError says that the real call would wait: nothing has happened; let tasks step, and ask again. Besides these, each call may raise
+OSError with ECHRNG (there are 16 seats), ESHUTDOWN (the listener is closed), EMSGSIZE (the texts of the call are too long), EPIPE (the program
+has ended) and EPROTO (its answer can't be understood). Calls of one Kernel come from one thread at a time.
+"""
+import errno
+import os
+import struct
+import subprocess
+from typing import NamedTuple
+
+CONTINUE = 1  # SECCOMP_USER_NOTIF_FLAG_CONTINUE
+ADDFD_SETFD, ADDFD_SEND = 1, 2  # SECCOMP_ADDFD_FLAG_SETFD, SECCOMP_ADDFD_FLAG_SEND
+AT_FDCWD = -100
+MOST_READ = 4096
+RESPONSE, ADDFD = struct.Struct("<QqiI"), struct.Struct("<QIIII")
+REFUSALS = {
+    "no task": errno.ESRCH, "worker": errno.ECHRNG, "memory is open": errno.EBUSY, "no memory is open": errno.EBADF, "request is put": errno.EALREADY,
+    "no request": errno.ENOMSG, "closed": errno.ESHUTDOWN, "long line": errno.EMSGSIZE,
+}
+
+
+class Notif(NamedTuple):
+    """A notification (struct seccomp_notif)."""
+
+    id: int
+    pid: int
+    flags: int
+    nr: int
+    arch: int
+    ip: int
+    args: tuple
+
+
+def quoted(text):
+    """A text as scripts write it."""
+    content = text.encode() if isinstance(text, str) else text
+    return b'"' + b"".join(b"\\" + bytes([byte]) if byte in b'"\\' else b"\\x%02x" % byte if byte < 0x20 else bytes([byte]) for byte in content) + b'"'
+
+
+def error_of(word):
+    """The number of an error by its name, as ENOENT or E999; None of another word."""
+    number = getattr(errno, word, None) if word.startswith("E") else None
+    return number if number else int(word[1:]) if word.startswith("E") and word[1:].isdigit() else None
+
+
+def failed(number, answer):
+    return OSError(number, f"{os.strerror(number)}: {answer}")
+
+
+def result_of(answer):
+    """The last word of an event's line. Raises OSError where that is an error."""
+    word = answer.rpartition(" ")[2]
+    if error_of(word):
+        raise failed(error_of(word), answer)
+    return word
+
+
+class Kernel:
+    """A written kernel with a container, and the program that runs it."""
+
+    def __init__(self, policy, script, program=None):
+        """Starts the program: by default what SECCOMP_BROKER names, or else `seccomp-broker`. Raises OSError with EINVAL where the program
+        refuses the policy or the script; it says why on standard error."""
+        words = [program or os.environ.get("SECCOMP_BROKER") or "seccomp-broker", "step", os.fspath(policy), os.fspath(script)]
+        self.program = subprocess.Popen(words, stdin=subprocess.PIPE, stdout=subprocess.PIPE)
+        self.answer = ""
+        try:
+            self.able()
+        except BrokenPipeError:
+            raise failed(errno.EINVAL, f"status {self.close()}") from None
+
+    def __enter__(self):
+        return self
+
+    def __exit__(self, *_):
+        self.close()
+
+    def close(self):
+        """Closes the program's input, which closes the listener, and waits for it. Returns its exit status."""
+        # communicate() closes the input, and reads what is left
+        if self.program.returncode is None:
+            self.program.communicate()
+        return self.program.returncode
+
+    def ask(self, request):
+        """Sends one request, and gives its answer."""
+        try:
+            self.program.stdin.write((request.encode() if isinstance(request, str) else request) + b"\n")
+            self.program.stdin.flush()
+        except ValueError:
+            raise failed(errno.ESHUTDOWN, "the kernel is closed") from None
+        line = self.program.stdout.readline()
+        if not line.endswith(b"\n"):
+            raise failed(errno.EPIPE, "the program has ended")
+        self.answer = answer = line[:-1].decode("latin-1")
+        if answer == "skip":
+            raise failed(errno.EAGAIN, answer)
+        kind, _, rest = answer.partition(" ")
+        if kind == "refused":
+            raise failed(REFUSALS.get(rest, errno.EPROTO), answer)
+        if kind == "error":
+            raise failed(error_of(rest) or errno.EPROTO, answer)
+        return answer
+
+    # ---- the container's tasks
+
+    def able(self):
+        """The names of the tasks that can step."""
+        return [word for word in self.ask("able").split(" ")[1:] if word != "recv"]
+
+    def is_notified(self):
+        """Whether a receive wouldn't wait: a notification is there, or the call that there was is gone."""
+        return self.ask("able").endswith(" recv")
+
+    def step(self, task):
+        """Lets a task make its next step, and gives the journal's line of it. Raises BlockingIOError where it has none to make, and
+        ProcessLookupError where no such task was made."""
+        try:
+            return self.ask(f"t {task}")
+        except OSError as error:
+            if self.answer.startswith("refused line"):
+                raise failed(errno.ESRCH, self.answer) from error
+            raise
+
+    def steps(self, task):
+        """Lets a task step until it waits or has ended: each line."""
+        try:
+            while True:
+                yield self.step(task)
+        except BlockingIOError:
+            return
+
+    def report(self):
+        """The report so far, as `seccomp-broker play` prints it."""
+        count = int(self.ask("report").split(" ")[1])
+        return self.program.stdout.read(count).decode("latin-1")
+
+    def close_listener(self):
+        """Closes the listener, as the end of the broker does. Behind it only report and close do something."""
+        self.ask("close")
+
+    def seat(self, worker):
+        """The seat with a number from 0 to 15."""
+        return Seat(self, worker)
+
+
+class Seat:
+    """A place for one notification, from recv to let_go, with the memory and the directory that are opened for it."""
+
+    def __init__(self, kernel, worker):
+        self.kernel, self.worker = kernel, worker
+
+    def ask(self, *words):
+        return self.kernel.ask(b" ".join(word if isinstance(word, bytes) else str(word).encode() for word in ("w", self.worker, *words)))
+
+    # ---- the listener (seccomp_unotify(2))
+
+    def recv(self):
+        """Receives the oldest notification. Raises BlockingIOError where none is there, and FileNotFoundError where its call has gone."""
+        answer = self.ask("recv")
+        event, _, fields = answer.partition(" flags=")
+        if not fields:
+            result_of(event)
+        words = dict(word.split("=") for word in answer.split(" ") if "=" in word)
+        numbers = [int(words[name]) for name in ("id", "pid", "flags", "nr", "arch", "ip")]
+        return Notif(*numbers, tuple(map(int, words["args"].split(","))))
+
+    def notifications(self):
+        """Receives until none is there. Each is to be served before the next one is asked for."""
+        while True:
+            try:
+                yield self.recv()
+            except BlockingIOError:
+                return
+            except FileNotFoundError:
+                continue
+
+    def id_valid(self, identifier):
+        """Whether the call still waits for an answer."""
+        try:
+            result_of(self.ask("check", identifier))
+        except FileNotFoundError:
+            return False
+        return True
+
+    def send(self, identifier, value=0, error=0, flags=0):
+        """Answers a call: with a value, or an error above 0, or CONTINUE as flags. Raises OSError: FileNotFoundError (it waits no more), EINPROGRESS
+        (it was answered, or not received), EINVAL (the kernel takes no such answer)."""
+        result_of(self.ask("send-raw", RESPONSE.pack(identifier, value, -error, flags).hex()))
+
+    def addfd(self, identifier, srcfd, flags=ADDFD_SEND, newfd=0, newfd_flags=0):
+        """Asks for a descriptor to be put into the caller, which a step of the caller does. Raises OSError: EBADF, ENOENT, EINPROGRESS,
+        EBUSY, EINVAL, or EALREADY where the last result wasn't taken."""
+        result_of(self.ask("addfd-raw", ADDFD.pack(identifier, flags, srcfd, newfd, newfd_flags).hex()))
+
+    def addfd_result(self):
+        """The number that it got. Raises BlockingIOError where it isn't installed yet, or OSError: EBADF, EMFILE, ENOENT, ENOMSG."""
+        return int(result_of(self.ask("addfd-result")))
+
+    def let_go(self):
+        """Lets go of the notification, and closes what was opened for it."""
+        self.ask("let-go")
+
+    # ---- the caller's memory (proc(5))
+
+    def open_mem(self, pid):
+        """Opens the memory of whoever has this PID by now. Raises ProcessLookupError, or OSError with EBUSY where one is open."""
+        result_of(self.ask("open-mem", pid))
+
+    def pread(self, count, address):
+        """At most 4,096 bytes of the memory that is open, and as many as are mapped. Raises OSError with EFAULT where none is."""
+        answer = self.ask("read", address, min(count, MOST_READ))
+        digits = result_of(answer).partition("bytes=")[2]
+        return b"" if digits == "-" else bytes.fromhex(digits)
+
+    def write_sysinfo(self, address, info):
+        """Writes the 112 bytes of a struct sysinfo. Raises OSError with EFAULT where not all is mapped."""
+        result_of(self.ask("plant", address, bytes(info).hex()))
+
+    # ---- what the broker does with its rights
+
+    def open_dir(self, pid, dirfd=AT_FDCWD):
+        """Opens the directory from which relative paths go. Raises ProcessLookupError, or OSError with EBADF."""
+        result_of(self.ask("open-base", pid, dirfd))
+
+    def mknodat(self, path, mode, device=0, dirfd=AT_FDCWD):
+        """mknodat(2). `dirfd` is the caller's number, for the report's sake: the directory is that of open_dir."""
+        words = ("mknod",) if dirfd == AT_FDCWD else ("mknodat", dirfd)
+        result_of(self.ask("act", *words, quoted(path), mode, device))
+
+    def mount(self, source, target, fstype, flags=0, data="", via=None, shift=False):
+        """mount(2), and by which program and with shifted ids where LXD would do that."""
+        more = (*(("via", quoted(via)) if via is not None else ()), *(("shift",) if shift else ()))
+        result_of(self.ask("act", "mount", quoted(source), quoted(target), quoted(fstype), flags, quoted(data), *more))
+
+    def setxattr(self, path, name, value, flags=0):
+        """setxattr(2)."""
+        result_of(self.ask("act", "setxattr", quoted(path), quoted(name), quoted(value), flags))

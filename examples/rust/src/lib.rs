@@ -1,0 +1,464 @@
+//! A broker of one's own on the written kernel, which the program `seccomp-broker step POLICY SCRIPT` runs (docs/YOUR_BROKER.md).
+//!
+//! ```no_run
+//! # fn main() -> std::io::Result<()> {
+//! use seccomp_step::{Kernel, Response};
+//!
+//! let mut kernel = Kernel::open("policy.json", "script.txt")?;
+//! kernel.run("0")?;
+//! let notif = kernel.seat(0).recv()?;
+//! kernel.seat(0).send(&Response { id: notif.id, error: -1, ..Response::default() })?;
+//! # Ok(())
+//! # }
+//! ```
+//!
+//! A call that the kernel refuses gives an [`io::Error`] with the error of its manual page, as `raw_os_error` tells it; [`errno`] has the numbers.
+//! [`io::ErrorKind::WouldBlock`] says that the real call would wait: nothing has happened; let tasks step, and ask again. Besides those that a call
+//! names, each call may give `ECHRNG` (there are 16 seats), `ESHUTDOWN` (the listener is closed), `EMSGSIZE` (the texts of the call are too long), `EPIPE`
+//! (the program has ended) and `EPROTO` (its answer can't be understood). [`Kernel::answer`] is what the program said.
+use std::ffi::OsStr;
+use std::fmt::Write as _;
+use std::io::{self, BufRead, BufReader, Read, Write};
+use std::process::{Child, ChildStdin, ChildStdout, Command, ExitStatus, Stdio};
+
+/// The errors that calls give, on Linux on x86-64.
+pub mod errno {
+    pub const EPERM: i32 = 1;
+    pub const ENOENT: i32 = 2;
+    pub const ESRCH: i32 = 3;
+    pub const EINTR: i32 = 4;
+    pub const E2BIG: i32 = 7;
+    pub const EBADF: i32 = 9;
+    pub const ECHILD: i32 = 10;
+    pub const EAGAIN: i32 = 11;
+    pub const EACCES: i32 = 13;
+    pub const EFAULT: i32 = 14;
+    pub const EBUSY: i32 = 16;
+    pub const EEXIST: i32 = 17;
+    pub const ENODEV: i32 = 19;
+    pub const ENOTDIR: i32 = 20;
+    pub const EINVAL: i32 = 22;
+    pub const EMFILE: i32 = 24;
+    pub const EPIPE: i32 = 32;
+    pub const ERANGE: i32 = 34;
+    pub const ENAMETOOLONG: i32 = 36;
+    pub const ENOSYS: i32 = 38;
+    pub const ELOOP: i32 = 40;
+    pub const ENOMSG: i32 = 42;
+    pub const ECHRNG: i32 = 44;
+    pub const ENODATA: i32 = 61;
+    pub const EPROTO: i32 = 71;
+    pub const EMSGSIZE: i32 = 90;
+    pub const ESHUTDOWN: i32 = 108;
+    pub const EALREADY: i32 = 114;
+    pub const EINPROGRESS: i32 = 115;
+    pub const EDQUOT: i32 = 122;
+}
+use errno::*;
+
+/// `SECCOMP_USER_NOTIF_FLAG_CONTINUE`: the kernel runs the call, without the broker's rights.
+pub const CONTINUE: u32 = 1;
+/// `SECCOMP_ADDFD_FLAG_SETFD`: the descriptor gets the number that is asked for.
+pub const ADDFD_SETFD: u32 = 1;
+/// `SECCOMP_ADDFD_FLAG_SEND`: its number is the call's answer.
+pub const ADDFD_SEND: u32 = 2;
+/// The caller's working directory, in the place of a directory's descriptor.
+pub const AT_FDCWD: i32 = -100;
+/// How many bytes are read at once.
+pub const MOST_READ: usize = 4096;
+
+const ERRORS: [(&str, i32); 23] = [
+    ("EPERM", EPERM),
+    ("ENOENT", ENOENT),
+    ("ESRCH", ESRCH),
+    ("EINTR", EINTR),
+    ("E2BIG", E2BIG),
+    ("EBADF", EBADF),
+    ("ECHILD", ECHILD),
+    ("EAGAIN", EAGAIN),
+    ("EACCES", EACCES),
+    ("EFAULT", EFAULT),
+    ("EBUSY", EBUSY),
+    ("EEXIST", EEXIST),
+    ("ENODEV", ENODEV),
+    ("ENOTDIR", ENOTDIR),
+    ("EINVAL", EINVAL),
+    ("EMFILE", EMFILE),
+    ("ERANGE", ERANGE),
+    ("ENAMETOOLONG", ENAMETOOLONG),
+    ("ENOSYS", ENOSYS),
+    ("ELOOP", ELOOP),
+    ("ENODATA", ENODATA),
+    ("EINPROGRESS", EINPROGRESS),
+    ("EDQUOT", EDQUOT),
+];
+
+const REFUSALS: [(&str, i32); 8] = [
+    ("no task", ESRCH),
+    ("worker", ECHRNG),
+    ("memory is open", EBUSY),
+    ("no memory is open", EBADF),
+    ("request is put", EALREADY),
+    ("no request", ENOMSG),
+    ("closed", ESHUTDOWN),
+    ("long line", EMSGSIZE),
+];
+
+/// A notification (`struct seccomp_notif`).
+#[derive(Clone, Copy, Debug, Default, PartialEq, Eq)]
+pub struct Notif {
+    pub id: u64,
+    pub pid: u32,
+    pub flags: u32,
+    pub nr: i32,
+    pub arch: u32,
+    pub ip: u64,
+    pub args: [u64; 6],
+}
+
+/// The answer to one (`struct seccomp_notif_resp`). `error` is 0 or a negated error number.
+#[derive(Clone, Copy, Debug, Default)]
+pub struct Response {
+    pub id: u64,
+    pub val: i64,
+    pub error: i32,
+    pub flags: u32,
+}
+
+/// A request for a descriptor (`struct seccomp_notif_addfd`).
+#[derive(Clone, Copy, Debug, Default)]
+pub struct Addfd {
+    pub id: u64,
+    pub flags: u32,
+    pub srcfd: u32,
+    pub newfd: u32,
+    pub newfd_flags: u32,
+}
+
+/// What mount(2) takes; and by which program the mount is made, where that isn't empty, and whether with shifted ids.
+#[derive(Clone, Copy, Debug, Default)]
+pub struct Mount<'a> {
+    pub source: &'a [u8],
+    pub target: &'a [u8],
+    pub fstype: &'a [u8],
+    pub flags: u64,
+    pub data: &'a [u8],
+    pub via: &'a [u8],
+    pub shift: bool,
+}
+
+fn failed<T>(errno: i32) -> io::Result<T> {
+    Err(io::Error::from_raw_os_error(errno))
+}
+
+/// The number of an error by its name, as `ENOENT` or `E999`.
+fn error_named(word: &str) -> Option<i32> {
+    let named = ERRORS.iter().find(|(name, _)| *name == word);
+    named.map(|(_, number)| *number).or_else(|| word.strip_prefix('E')?.parse().ok())
+}
+
+fn last_word(answer: &str) -> &str {
+    answer.rsplit(' ').next().unwrap_or(answer)
+}
+
+/// A text as scripts write it.
+fn quoted(text: &[u8]) -> Vec<u8> {
+    let mut found = vec![b'"'];
+    for &byte in text {
+        match byte {
+            b'"' | b'\\' => found.extend([b'\\', byte]),
+            0..=0x1f => found.extend(format!("\\x{byte:02x}").bytes()),
+            _ => found.push(byte),
+        }
+    }
+    found.push(b'"');
+    found
+}
+
+fn hex(bytes: &[u8]) -> String {
+    bytes.iter().fold(String::new(), |mut found, byte| {
+        let _ = write!(found, "{byte:02x}");
+        found
+    })
+}
+
+fn from_hex(digits: &str) -> Option<Vec<u8>> {
+    if digits == "-" {
+        return Some(Vec::new());
+    }
+    if digits.len() % 2 != 0 || !digits.is_ascii() {
+        return None;
+    }
+    (0..digits.len() / 2).map(|at| u8::from_str_radix(&digits[2 * at..2 * at + 2], 16).ok()).collect()
+}
+
+/// A written kernel with a container, and the program that runs it.
+pub struct Kernel {
+    program: Child,
+    input: Option<ChildStdin>,
+    output: BufReader<ChildStdout>,
+    answer: String,
+}
+
+impl Kernel {
+    /// Starts the program that `SECCOMP_BROKER` names, or else `seccomp-broker`. `EINVAL`: it refuses the policy or the script, and has said why on
+    /// standard error.
+    pub fn open(policy: impl AsRef<OsStr>, script: impl AsRef<OsStr>) -> io::Result<Kernel> {
+        let program = std::env::var_os("SECCOMP_BROKER").filter(|name| !name.is_empty());
+        Kernel::open_program(program.unwrap_or_else(|| "seccomp-broker".into()), policy, script)
+    }
+
+    /// The same with a program that is named here.
+    pub fn open_program(program: impl AsRef<OsStr>, policy: impl AsRef<OsStr>, script: impl AsRef<OsStr>) -> io::Result<Kernel> {
+        let mut command = Command::new(program);
+        command.arg("step").arg(policy).arg(script).stdin(Stdio::piped()).stdout(Stdio::piped());
+        let mut program = command.spawn()?;
+        let (Some(input), Some(output)) = (program.stdin.take(), program.stdout.take()) else {
+            return failed(EPIPE);
+        };
+        let mut kernel = Kernel { program, input: Some(input), output: BufReader::new(output), answer: String::new() };
+        // The first answer shows that policy and script were taken.
+        match kernel.able() {
+            Ok(_) => Ok(kernel),
+            Err(error) if error.raw_os_error() == Some(EPIPE) => failed(EINVAL),
+            Err(error) => Err(error),
+        }
+    }
+
+    /// Closes the program's input, which closes the listener, and waits for it. A kernel that is dropped does the same.
+    pub fn close(mut self) -> io::Result<ExitStatus> {
+        self.end()
+    }
+
+    fn end(&mut self) -> io::Result<ExitStatus> {
+        self.input = None;
+        // What is left of an answer is read, so that the program's write doesn't fail.
+        io::copy(&mut self.output, &mut io::sink())?;
+        self.program.wait()
+    }
+
+    /// The program's answer to the newest request: the journal's line of the event, `skip`, or why it was refused.
+    pub fn answer(&self) -> &str {
+        &self.answer
+    }
+
+    /// Sends a request, and reads its answer.
+    fn ask(&mut self, request: &[u8]) -> io::Result<&str> {
+        let Some(input) = self.input.as_mut() else {
+            return failed(ESHUTDOWN);
+        };
+        input.write_all(request)?;
+        input.write_all(b"\n")?;
+        input.flush()?;
+        let mut line = Vec::new();
+        self.output.read_until(b'\n', &mut line)?;
+        if line.pop() != Some(b'\n') {
+            return failed(EPIPE);
+        }
+        self.answer = String::from_utf8_lossy(&line).into_owned();
+        match self.answer.split_once(' ').unwrap_or((&self.answer, "")) {
+            ("skip", _) => failed(EAGAIN),
+            ("error", name) => failed(error_named(name).unwrap_or(EPROTO)),
+            ("refused", reason) => failed(REFUSALS.iter().find(|(text, _)| *text == reason).map_or(EPROTO, |(_, number)| *number)),
+            _ => Ok(&self.answer),
+        }
+    }
+
+    /// The last word of the answer to a request, unless that is an error.
+    fn result(&mut self, request: &[u8]) -> io::Result<&str> {
+        let word = last_word(self.ask(request)?);
+        error_named(word).map_or(Ok(word), failed)
+    }
+
+    /// The names of the tasks that can step, and whether a receive wouldn't wait: a notification is there, or the call
+    /// that there was is gone.
+    pub fn able(&mut self) -> io::Result<(Vec<String>, bool)> {
+        let mut words: Vec<String> = self.ask(b"able")?.split(' ').map(str::to_owned).collect();
+        if words.remove(0) != "able" {
+            return failed(EPROTO);
+        }
+        let notified = words.last().is_some_and(|word| word == "recv");
+        words.truncate(words.len() - usize::from(notified));
+        Ok((words, notified))
+    }
+
+    /// Lets a task make its next step, and gives the journal's line of it. `EAGAIN`: it has none to make. `ESRCH`: no such task was made.
+    pub fn step(&mut self, task: &str) -> io::Result<String> {
+        if task.is_empty() || !task.bytes().all(|byte| byte.is_ascii_digit() || byte == b'.') {
+            return failed(ESRCH);
+        }
+        match self.ask(format!("t {task}").as_bytes()).map(str::to_owned) {
+            Err(_) if self.answer.starts_with("refused line") => failed(ESRCH),
+            step => step,
+        }
+    }
+
+    /// Lets a task step until it waits or has ended.
+    pub fn run(&mut self, task: &str) -> io::Result<()> {
+        loop {
+            match self.step(task) {
+                Err(error) if error.kind() == io::ErrorKind::WouldBlock => return Ok(()),
+                step => step?,
+            };
+        }
+    }
+
+    /// The report so far, as `seccomp-broker play` prints it.
+    pub fn report(&mut self) -> io::Result<String> {
+        let Some(length) = self.ask(b"report")?.strip_prefix("report ").and_then(|count| count.parse().ok()) else {
+            return failed(EPROTO);
+        };
+        let mut report = vec![0; length];
+        self.output.read_exact(&mut report)?;
+        String::from_utf8(report).or_else(|_| failed(EPROTO))
+    }
+
+    /// Closes the listener, as the end of the broker does. Behind it only a report and the close of the kernel do something.
+    pub fn close_listener(&mut self) -> io::Result<()> {
+        self.ask(b"close").map(drop)
+    }
+
+    /// The seat with a number from 0 to 15.
+    pub fn seat(&mut self, worker: u32) -> Seat<'_> {
+        Seat { kernel: self, worker }
+    }
+}
+
+impl Drop for Kernel {
+    fn drop(&mut self) {
+        // (a kernel that was closed has been waited for, and is so again at once)
+        let _ = self.end();
+    }
+}
+
+/// A place for one notification, from [`Seat::recv`] to [`Seat::let_go`], with the memory and the directory that are opened for it. A seat is
+/// asked for again at each call; what it holds is the kernel's.
+pub struct Seat<'k> {
+    kernel: &'k mut Kernel,
+    worker: u32,
+}
+
+impl Seat<'_> {
+    fn request(&self, words: &[&[u8]]) -> Vec<u8> {
+        let mut request = format!("w {}", self.worker).into_bytes();
+        for word in words {
+            request.push(b' ');
+            request.extend_from_slice(word);
+        }
+        request
+    }
+
+    fn result(&mut self, words: &[&[u8]]) -> io::Result<&str> {
+        let request = self.request(words);
+        self.kernel.result(&request)
+    }
+
+    fn act(&mut self, words: &[&[u8]]) -> io::Result<()> {
+        self.result(words).map(drop)
+    }
+
+    // ---- the listener (seccomp_unotify(2))
+
+    /// `SECCOMP_IOCTL_NOTIF_RECV`: the oldest notification. `EAGAIN`: none is there. `ENOENT`: its call has gone.
+    pub fn recv(&mut self) -> io::Result<Notif> {
+        self.result(&[b"recv"])?;
+        read_notif(&self.kernel.answer).map_or_else(|| failed(EPROTO), Ok)
+    }
+
+    /// `SECCOMP_IOCTL_NOTIF_ID_VALID`: whether the call still waits for an answer. `ENOENT`: it doesn't.
+    pub fn id_valid(&mut self, id: u64) -> io::Result<()> {
+        self.act(&[b"check", id.to_string().as_bytes()])
+    }
+
+    /// `SECCOMP_IOCTL_NOTIF_SEND`: `EINVAL`, `ENOENT`, `EINPROGRESS`.
+    pub fn send(&mut self, response: &Response) -> io::Result<()> {
+        let Response { id, val, error, flags } = *response;
+        let fields = [&id.to_le_bytes()[..], &val.to_le_bytes(), &error.to_le_bytes(), &flags.to_le_bytes()];
+        self.act(&[b"send-raw", hex(&fields.concat()).as_bytes()])
+    }
+
+    /// `SECCOMP_IOCTL_NOTIF_ADDFD`, its first half: a step of the caller installs the descriptor. `EINVAL`, `EBADF`, `ENOENT`, `EINPROGRESS`,
+    /// `EBUSY`, and `EALREADY` where the last result wasn't taken.
+    pub fn addfd(&mut self, asked: &Addfd) -> io::Result<()> {
+        let Addfd { id, flags, srcfd, newfd, newfd_flags } = *asked;
+        let fields = [&id.to_le_bytes()[..], &flags.to_le_bytes(), &srcfd.to_le_bytes(), &newfd.to_le_bytes(), &newfd_flags.to_le_bytes()];
+        self.act(&[b"addfd-raw", hex(&fields.concat()).as_bytes()])
+    }
+
+    /// The number that it got: `EAGAIN` where it isn't installed yet, `EBADF`, `EMFILE`, `ENOENT`, `ENOMSG`.
+    pub fn addfd_result(&mut self) -> io::Result<u32> {
+        self.result(&[b"addfd-result"])?.parse().or_else(|_| failed(EPROTO))
+    }
+
+    /// Lets go of the notification, and closes what was opened for it.
+    pub fn let_go(&mut self) -> io::Result<()> {
+        let request = self.request(&[b"let-go"]);
+        self.kernel.ask(&request).map(drop)
+    }
+
+    // ---- the caller's memory (proc(5))
+
+    /// Opens the memory of whoever has this PID by now: `ESRCH`, and `EBUSY` where one is open.
+    pub fn open_mem(&mut self, pid: u32) -> io::Result<()> {
+        self.act(&[b"open-mem", pid.to_string().as_bytes()])
+    }
+
+    /// At most [`MOST_READ`] bytes of the memory that is open, and as many as are mapped. `EFAULT`: none is.
+    pub fn pread(&mut self, count: usize, address: u64) -> io::Result<Vec<u8>> {
+        let word = self.result(&[b"read", address.to_string().as_bytes(), count.min(MOST_READ).to_string().as_bytes()])?;
+        word.strip_prefix("bytes=").and_then(from_hex).map_or_else(|| failed(EPROTO), Ok)
+    }
+
+    /// Writes a `struct sysinfo`: `EFAULT` where not all of its place is mapped, `EBADF` where no memory is open.
+    pub fn write_sysinfo(&mut self, address: u64, info: &[u8; 112]) -> io::Result<()> {
+        self.act(&[b"plant", address.to_string().as_bytes(), hex(info).as_bytes()])
+    }
+
+    // ---- what the broker does with its rights
+
+    /// Opens the directory from which relative paths go: `ESRCH`, `EBADF`.
+    pub fn open_dir(&mut self, pid: u32, dirfd: i32) -> io::Result<()> {
+        self.act(&[b"open-base", pid.to_string().as_bytes(), dirfd.to_string().as_bytes()])
+    }
+
+    /// mknodat(2). `dirfd` is the caller's number, for the report's sake: the directory is that of [`Seat::open_dir`].
+    pub fn mknodat(&mut self, dirfd: i32, path: &[u8], mode: u32, device: u64) -> io::Result<()> {
+        let maker = if dirfd == AT_FDCWD { "mknod".to_owned() } else { format!("mknodat {dirfd}") };
+        self.act(&[b"act", maker.as_bytes(), &quoted(path), mode.to_string().as_bytes(), device.to_string().as_bytes()])
+    }
+
+    /// mount(2).
+    pub fn mount(&mut self, mount: &Mount) -> io::Result<()> {
+        let texts = [quoted(mount.source), quoted(mount.target), quoted(mount.fstype), quoted(mount.data), quoted(mount.via)];
+        let [source, target, fstype, data, via] = texts.each_ref().map(Vec::as_slice);
+        let flags = mount.flags.to_string();
+        let mut words: Vec<&[u8]> = vec![b"act", b"mount", source, target, fstype, flags.as_bytes(), data];
+        if !mount.via.is_empty() {
+            words.extend([&b"via"[..], via]);
+        }
+        if mount.shift {
+            words.push(b"shift");
+        }
+        self.act(&words)
+    }
+
+    /// setxattr(2).
+    pub fn setxattr(&mut self, path: &[u8], name: &[u8], value: &[u8], flags: u32) -> io::Result<()> {
+        self.act(&[b"act", b"setxattr", &quoted(path), &quoted(name), &quoted(value), flags.to_string().as_bytes()])
+    }
+}
+
+/// The notification that an answer tells of.
+fn read_notif(answer: &str) -> Option<Notif> {
+    let field = |name: &str| answer.split(' ').find_map(|word| word.strip_prefix(name)?.strip_prefix('='));
+    let args: Vec<u64> = field("args")?.split(',').map(str::parse).collect::<Result<_, _>>().ok()?;
+    Some(Notif {
+        id: field("id")?.parse().ok()?,
+        pid: field("pid")?.parse().ok()?,
+        flags: field("flags")?.parse().ok()?,
+        nr: field("nr")?.parse().ok()?,
+        arch: field("arch")?.parse().ok()?,
+        ip: field("ip")?.parse().ok()?,
+        args: args.try_into().ok()?,
+    })
+}

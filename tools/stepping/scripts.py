@@ -1,0 +1,328 @@
+"""A script's bytes, read whole: what the container is and what its tasks do, or the first line that is refused and why (docs/FORMATS.md, Script)."""
+from collections import namedtuple
+from dataclasses import dataclass, field
+
+from messages import operands
+from messages import script_words as words
+from messages.limits import MOST_STORED, Totals, own
+from messages.script_lines import FILTER, PROGRAM, SETTINGS, Line, Script, number_of
+from real_workloads.script_text import CALLS, FIRST_ADDRESS, FIRST_PAGES, MOST_CALLS, MOST_DEPTH, MOST_FILTERS, MOST_INSTRUCTIONS, MOST_PAGES, MOST_STEPS, MOST_TASKS
+from stepping import filters, lexing
+from stepping.lexing import LineFault
+
+REASONS = (
+    "bad byte", "bad quote", "unknown word", "out of place", "wrong count", "wrong form", "bad number", "out of range", "bad path", "unknown name", "duplicate", "unmapped",
+    "second listener", "no listener", "bad filter", "too large",
+)
+ONCE = ("pidmax", "pidbase", "firstid", "rlimit", "root", "figures", "killable")
+MOST_TREE_LINES, MOST_BROKER, MOST_PROGRAMS = words.MOST_TREE_LINES, words.MOST_BROKER, words.MOST_PROGRAMS
+PAGE, WIDE = 4096, 2**64
+DEFAULT_PIDS, DEFAULT_DESCRIPTORS = 32_768, 1024
+
+Node = namedtuple("Node", "directory name kind device target")
+Instruction = namedtuple("Instruction", "word operands")
+
+
+class Refused(Exception):
+    """A script that isn't taken; the text is what stands behind `script: `."""
+
+    def __init__(self, line, reason):
+        super().__init__(f"line {line}: {reason}")
+
+
+@dataclass
+class Container:
+    """What a script states, but for its schedule."""
+
+    nodes: list = field(default_factory=lambda: [Node(0, b"", "dir", None, None)])
+    attributes: dict = field(default_factory=dict)
+    root: int = 0
+    pidmax: int = DEFAULT_PIDS
+    pidbase: int = 0
+    firstid: int = 1
+    rlimit: int = DEFAULT_DESCRIPTORS
+    broker: set = field(default_factory=set)
+    ranges: list = field(default_factory=list)
+    limits: list = field(default_factory=list)
+    figures: tuple = (0, 0, 0, 0, 0, 0)
+    filters: list = field(default_factory=list)
+    killable: bool = False
+    programs: list = field(default_factory=list)
+
+    @property
+    def pages(self):
+        """The numbers of the mapped pages."""
+        stated = self.ranges or [(FIRST_ADDRESS, FIRST_PAGES)]
+        return {start // PAGE + at for start, count in stated for at in range(count)}
+
+
+class Reader:
+    """Reads a script line by line."""
+
+    def __init__(self):
+        self.script, self.container = Script(), Container()
+        self.paths = {b"/": 0}
+        self.program_places, self.totals = {}, {}
+        self.tree_lines, self.steps = 0, 0
+
+    # ---- which reasons a line shows
+
+    def reasons(self, line):
+        """The reasons for which a line is refused, each by the first test that shows it."""
+        if line.tokens[0].is_quoted or line.word not in words.FORMS:
+            yield "unknown word"
+            return
+        if self.is_misplaced(line):
+            yield "out of place"
+            return
+        if not operands.is_counted(line):
+            yield "wrong count"
+            return
+        alone = list(operand_reasons(line))
+        yield from alone
+        if not alone:
+            yield from self.reasons_above(line)
+
+    def is_misplaced(self, line):
+        word, block = line.word, self.script.open
+        if block is not None:
+            ended = block.kind == PROGRAM and block.lines and block.lines[-1].word == "exit"
+            return word != "end" and bool(ended or word in words.BLOCKS or words.FORMS[word].part != block.kind)
+        if word == "end" or self.script.schedule is not None:
+            return True
+        if self.script.part == SETTINGS:
+            late = word == "pidmax" and self.script.named("pidbase")
+            return bool(late) or (words.FORMS[word].part != SETTINGS)
+        return word not in ("prog", "schedule")
+
+    def reasons_above(self, line):
+        """What a line shows beside those above it, all its operands being right by themselves."""
+        word = line.word
+        if word in TESTS:
+            yield from TESTS[word](self, line)
+        if word in ONCE and self.script.named(word):
+            yield "duplicate"
+
+    # ---- the settings
+
+    def node_reasons(self, line):
+        path = line.operands[0].content
+        parent = path.rpartition(b"/")[0] or b"/"
+        if path in self.paths or parent not in self.paths or self.container.nodes[self.paths[parent]].kind != "dir":
+            yield "bad path"
+        yield from self.tree_limit()
+
+    def tree_limit(self):
+        if self.tree_lines >= MOST_TREE_LINES:
+            yield "too large"
+
+    def attr_reasons(self, line):
+        if line.operands[0].content not in self.paths:
+            yield "bad path"
+        yield from self.tree_limit()
+
+    def root_reasons(self, line):
+        path = line.operands[0].content
+        if path not in self.paths or self.container.nodes[self.paths[path]].kind != "dir":
+            yield "bad path"
+
+    def pidbase_reasons(self, line):
+        if number(line, 0) + self.container.pidmax > words.GREATEST_PID:
+            yield "out of range"
+
+    def broker_reasons(self, line):
+        if number(line, 0) in self.container.broker:
+            yield "duplicate"
+        if len(self.container.broker) >= MOST_BROKER:
+            yield "too large"
+
+    def map_reasons(self, line):
+        start, count = number(line, 0), number(line, 1)
+        end = start + count * PAGE
+        if end > operands.END_OF_ADDRESSES or any(start < other + pages * PAGE and other < end for other, pages in self.container.ranges):
+            yield "out of range"
+        if sum(pages for _, pages in self.container.ranges) + count > MOST_PAGES:
+            yield "too large"
+
+    def filter_reasons(self, line):
+        if (line.word == "notify" or line.operands) and self.has_listener():
+            yield "second listener"
+        if len(self.container.filters) >= MOST_FILTERS:
+            yield "too large"
+
+    def has_listener(self):
+        return any(listener for _, listener in self.container.filters)
+
+    def killable_reasons(self, line):
+        if not self.has_listener():
+            yield "no listener"
+
+    # ---- the programs and the schedule
+
+    def prog_reasons(self, line):
+        if line.operands[0].text in self.program_places:
+            yield "duplicate"
+        if len(self.container.programs) >= MOST_PROGRAMS:
+            yield "too large"
+
+    def start_reasons(self, line):
+        if line.operands[0].text not in self.program_places:
+            yield "unknown name"
+
+    def store_reasons(self, line):
+        start = number(line, 0)
+        length = len(line.operands[1].content) if line.word == "poke" else number(line, 1)
+        pages = self.container.pages
+        if any(page not in pages for page in range(start // PAGE, (start + length - 1) // PAGE + 1)):
+            yield "unmapped"
+
+    def step_reasons(self, line):
+        if self.steps + count_of(line) > MOST_STEPS:
+            yield "too large"
+
+    def end_reasons(self, line):
+        block = self.script.open
+        if block.kind == FILTER and filters.fault_of([instruction_of(it) for it in block.lines]):
+            yield "bad filter"
+        if block.kind == PROGRAM:
+            sums = self.totals_of(block)
+            if sums.instructions > MOST_INSTRUCTIONS or sums.calls > MOST_CALLS or sums.tasks > MOST_TASKS or sums.stored > MOST_STORED or sums.depth > MOST_DEPTH:
+                yield "too large"
+
+    def totals_of(self, program):
+        """What a program and all that it starts come to."""
+        found = Totals(instructions=not any(line.word == "exit" for line in program.lines))
+        for line in program.lines:
+            found = found.plus(own(line, self.totals))
+        return found
+
+    # ---- what a line states
+
+    def take(self, line):
+        """Notes what a line states that shows no reason."""
+        block = self.script.open
+        if line.word in SETTERS:
+            SETTERS[line.word](self, line)
+        if line.word == "end" and block.kind == FILTER:
+            self.container.filters.append(([instruction_of(it) for it in block.lines], bool(block.opening.operands)))
+        elif line.word == "end" and block.kind == PROGRAM:
+            self.totals[block.name] = self.totals_of(block)
+            self.program_places[block.name] = len(self.container.programs)
+            self.container.programs.append([self.instruction(it) for it in block.lines])
+        self.script.take(line)
+
+    def take_node(self, line):
+        path = line.operands[0].content
+        parent, _, name = path.rpartition(b"/")
+        device = (number(line, 1), number(line, 2)) if line.word in ("chr", "blk") else None
+        target = line.operands[1].content if line.word == "link" else None
+        self.tree_lines += 1
+        self.paths[path] = len(self.container.nodes)
+        self.container.nodes.append(Node(self.paths[parent or b"/"], name, line.word, device, target))
+
+    def take_attr(self, line):
+        path, name, value = (it.content for it in line.operands)
+        self.tree_lines += 1
+        self.container.attributes[self.paths[path], name] = value
+
+    def take_notify(self, line):
+        self.container.filters.append((filters.notifying([CALLS[it.text] for it in line.operands]), True))
+
+    def take_step(self, line):
+        self.steps += count_of(line)
+
+    def instruction(self, line):
+        """An instruction of a program."""
+        word, values = line.word, line.operands
+        if word == "poke":
+            return Instruction(word, (number(line, 0), values[1].content))
+        if word == "fill":
+            return Instruction("poke", (number(line, 0), bytes([number(line, 2)]) * number(line, 1)))
+        if word == "call":
+            named = values[0].text
+            args = [number_of(it.text) % WIDE for it in values[1:]]
+            return Instruction(word, (number_of(named) if operands.begins_number(named) else CALLS[named], tuple(args + [0] * (6 - len(args)))))
+        if word in ("spawn", "thread"):
+            return Instruction(word, (self.program_places[values[0].text],))
+        if word == "kill":
+            return Instruction(word, (values[0].text, number(line, 1) if len(values) == 3 else None, number_of(values[-1].text)))
+        if word == "handler":
+            return Instruction(word, (number(line, 0), values[1].text))
+        return Instruction(word, ())
+
+
+def operand_reasons(line):
+    """The reasons that the operands of a line show by themselves."""
+    unknown_whom = line.word == "kill" and operands.form_of(line) is words.FORMS["kill"] and len(line.operands) == 3
+    for place, token in enumerate(line.operands):
+        operand = operands.form_of(line).operand(place)
+        # behind a word that isn't known stands any number, and then the signal
+        if unknown_whom and place == 1:
+            operand = words.Operand("N", least=-(2**100), most=2**100)
+        reason = operands.reason_of(operand, token)
+        if reason:
+            yield reason
+
+
+def number(line, place):
+    return number_of(line.operands[place].text)
+
+
+def count_of(line):
+    return number(line, 1) if len(line.operands) > 1 else 1
+
+
+def instruction_of(line):
+    """An instruction of a filter: its word, K, JT and JF."""
+    values = [number_of(it.text) for it in line.operands]
+    return (line.word, *values, *[0] * (3 - len(values)))
+
+
+def setter(name):
+    return lambda reader, line: setattr(reader.container, name, number(line, 0))
+
+
+TESTS = {
+    **{word: Reader.node_reasons for word in words.NODES}, "attr": Reader.attr_reasons, "root": Reader.root_reasons, "pidbase": Reader.pidbase_reasons,
+    "broker": Reader.broker_reasons, "map": Reader.map_reasons, "filter": Reader.filter_reasons, "notify": Reader.filter_reasons, "killable": Reader.killable_reasons,
+    "prog": Reader.prog_reasons, "spawn": Reader.start_reasons, "thread": Reader.start_reasons, "poke": Reader.store_reasons, "fill": Reader.store_reasons,
+    "t": Reader.step_reasons, "w": Reader.step_reasons, "end": Reader.end_reasons,
+}
+SETTERS = {
+    **{word: Reader.take_node for word in words.NODES}, "attr": Reader.take_attr, "notify": Reader.take_notify,
+    **{name: setter(name) for name in ("pidmax", "pidbase", "firstid", "rlimit")},
+    "root": lambda reader, line: setattr(reader.container, "root", reader.paths[line.operands[0].content]),
+    "broker": lambda reader, line: reader.container.broker.add(number(line, 0)),
+    "map": lambda reader, line: reader.container.ranges.append((number(line, 0), number(line, 1))),
+    "cgroup": lambda reader, line: reader.container.limits.append((number(line, 0), number(line, 1))),
+    "figures": lambda reader, line: setattr(reader.container, "figures", tuple(number(line, place) for place in range(6))),
+    "killable": lambda reader, line: setattr(reader.container, "killable", True), "t": Reader.take_step, "w": Reader.take_step,
+}
+
+
+def lines_of(data):
+    """The lines of a text with their numbers; what stands behind the last newline is one where it has a byte."""
+    lines = data.split(b"\n")
+    return enumerate(lines[:-1] if not lines[-1] else lines, 1)
+
+
+def read_script(data):
+    """The container that a script describes. Raises Refused."""
+    reader = Reader()
+    for place, raw in lines_of(data):
+        try:
+            tokens = lexing.tokens_of(raw)
+        except LineFault as fault:
+            raise Refused(place, str(fault)) from None
+        if not tokens:
+            continue
+        line = Line(place, tuple(tokens))
+        found = min(reader.reasons(line), key=REASONS.index, default=None)
+        if found:
+            raise Refused(place, found)
+        reader.take(line)
+    if reader.script.open is not None:
+        raise Refused(reader.script.open.opening.number, "not closed")
+    if not reader.container.programs:
+        raise Refused(0, "no program")
+    return reader.container
