@@ -44,10 +44,15 @@ def text_of(quoted):
     return unescaped(quoted[1:-1].encode("ascii")).replace(b"\\", b"\\\\").decode("utf-8", "backslashreplace")
 
 
-def quoted_of(text):
-    """The same text between quotes, as a report has it."""
-    escaped = TO_ESCAPE.sub(lambda found: b"\\" + found[0] if found[0] in b'"\\' else b"\\x%02x" % found[0][0], unescaped(text.encode("utf-8")))
+def quoted(content):
+    """Bytes between quotes, as a report has them."""
+    escaped = TO_ESCAPE.sub(lambda found: b"\\" + found[0] if found[0] in b'"\\' else b"\\x%02x" % found[0][0], content)
     return f'"{escaped.decode("ascii")}"'
+
+
+def quoted_of(text):
+    """The same text between quotes."""
+    return quoted(unescaped(text.encode("utf-8")))
 
 
 # ---- what comes of something: always an object, whose `kind` says what else it has
@@ -119,6 +124,7 @@ def actor_word(actor):
 NUMBER = Kind(int, str)
 WORD = LARGE = Kind(str, str)
 TEXT = Kind(text_of, quoted_of)
+QUOTED_BYTES = Kind(lambda word: unescaped(word[1:-1].encode("ascii")).hex(), lambda value: quoted(bytes.fromhex(value)))
 HEX = Kind(str, str)
 HEX_OR_DASH = Kind(lambda word: "" if word == "-" else word, lambda value: value or "-")
 ARGUMENTS = Kind(str.split, " ".join)

@@ -5,23 +5,25 @@ from dataclasses import dataclass
 from typing import Callable
 
 from command_line import table
-from messages import policies, scripts
+from messages import calls, policies, scripts
 from messages.findings import Text, filled, message, near, shown
 
-READ_FAULT, TOO_LONG, OVERLAP = re.compile(r"read fault: (policy|script|report)"), re.compile(r"too long: (policy|script|report)"), re.compile(r"pod: pids overlap: (\d+) (\d+)")
+READ_FAULT, TOO_LONG = re.compile(r"read fault: (policy|script|calls|report|requests)"), re.compile(r"too long: (policy|script|calls|report)")
+OVERLAP = re.compile(r"pod: pids overlap: (\d+) (\d+)")
 POLICY, SCRIPT, CONTAINER = re.compile(r"policy: (.*)", re.S), re.compile(r"script: line (\d+): (.*)"), re.compile(r"container (\d): (.*)", re.S)
-REPORT, USAGE = re.compile(r"report: line (\d+)"), re.compile(r"usage: .*")
+CALLS, REPORT, USAGE = re.compile(r"calls: line (\d+): (.*)"), re.compile(r"report: line (\d+)"), re.compile(r"usage: .*")
 OPTIONS = ("--explain", "--help", "-h")
-LIMITS = {"policy": 1_048_576, "script": 8_388_608, "report": 33_554_432}
+LIMITS = {"policy": 1_048_576, "script": 8_388_608, "calls": 8_388_608, "report": 33_554_432}
+CALLED = {"calls": "a file of calls"}
 
 
 def files_in(entry, operands, container):
-    """The files that the operands name, by policy, script and report; of a pod those of one container."""
+    """The files that the operands name, by policy, script, calls and report; of a pod those of one container."""
     if entry["word"] == "pod":
         pairs = operands[2:]
         return dict(zip(("policy", "script"), pairs[2 * container:2 * container + 2]))
     names = [it["name"] for it in entry["operands"]]
-    return {name.lower(): operand for name, operand in zip(names, operands) if name in ("POLICY", "SCRIPT", "REPORT")}
+    return {name.lower(): operand for name, operand in zip(names, operands) if name.lower() in LIMITS}
 
 
 def data_of(path):
@@ -36,7 +38,9 @@ def data_of(path):
 
 
 def read_fault(path):
-    """Why a file can't be read, and which one is near."""
+    """Why a file can't be read, and which one is near; without a path it is standard input."""
+    if path is None:
+        return ["standard input can't be opened as /dev/stdin, or can't be read", *filled("help: ", "give it a pipe, a file or a terminal; a socket, or an input that is closed, can't be opened")]
     try:
         with open(path, "rb") as file:
             file.read(1)
@@ -53,7 +57,7 @@ def read_fault(path):
 
 def too_long(kind, path):
     size = os.path.getsize(path) if os.path.isfile(path) else None
-    return [f"{shown(path)}: {f'it has {size} bytes' if size is not None else 'it is longer'}, and a {kind} has at most {LIMITS[kind]}"]
+    return [f"{shown(path)}: {f'it has {size} bytes' if size is not None else 'it is longer'}, and {CALLED.get(kind, f'a {kind}')} has at most {LIMITS[kind]}"]
 
 
 def overlap(one, other):
@@ -115,18 +119,20 @@ class Said:
         line, files = self.split()
         if USAGE.fullmatch(line):
             return usage(self.entry, self.operands, self.command)
-        for form, explain in ((READ_FAULT, lambda kind: read_fault(files[kind])), (TOO_LONG, lambda kind: too_long(kind, files[kind])), (OVERLAP, overlap)):
+        for form, explain in ((READ_FAULT, lambda kind: read_fault(files.get(kind))), (TOO_LONG, lambda kind: too_long(kind, files[kind])), (OVERLAP, overlap)):
             found = form.fullmatch(line)
             if found:
                 return explain(*found.groups())
         return self.of_text(line, files, of_report)
 
     def of_text(self, line, files, of_report):
-        policy, script, report = (form.fullmatch(line) for form in (POLICY, SCRIPT, REPORT))
+        policy, script, asked, report = (form.fullmatch(line) for form in (POLICY, SCRIPT, CALLS, REPORT))
         if policy:
             return explained_text(files["policy"], lambda data: policies.finding_of(data, policy[1]))
         if script:
             return explained_text(files["script"], lambda data: scripts.finding_of(data, int(script[1]), script[2]))
+        if asked:
+            return explained_text(files["calls"], lambda data: calls.finding_of(data, int(asked[1]), asked[2]))
         return of_report(files, int(report[1])) if report and of_report else []
 
 
