@@ -56,7 +56,7 @@ def files_below(folder):
     """The files of a folder that stand in the repository, by their names in it."""
     found = {}
     for at, folders, names in os.walk(f"{TOP}/{folder}"):
-        folders[:] = [name for name in folders if name not in ("__pycache__", "out")]
+        folders[:] = [name for name in folders if name not in ("__pycache__", "out", "target")]
         for name in names:
             found[os.path.relpath(f"{at}/{name}", f"{TOP}/{folder}")] = read(f"{at}/{name}")
     return found
@@ -64,10 +64,16 @@ def files_below(folder):
 
 def examples():
     found = files_below("examples")
-    found.pop("c/policy_test", None)
+    for built in ("c/policy_test", "c/step_broker_test"):
+        found.pop(built, None)
     for name, pairs in INSTALLED.items():
         found[name] = File(replaced(found[name].data.decode(), pairs, name).encode())
     return found
+
+
+def calls_of_step():
+    """The header and the source that a broker of one's own in C takes; they stand beside the examples as they do in a checkout."""
+    return {name: read(f"{TOP}/{name}") for name in ("include/seccomp_step.h", "lib/seccomp_step.c")}
 
 
 def files_of(module):
@@ -101,9 +107,9 @@ def command(made, python="/usr/bin/env python3"):
     """The command with its tools, pages, examples, man pages and completions."""
     home = {**tools(python), "seccomp_broker": read(made.program)._replace(mode=0o755), "examples": Link("../../share/seccomp-broker/examples"),
             "about.json": text(json.dumps(making.about(made), indent=1) + "\n")}
-    share = {**below(examples(), "examples"), "proof.txt": text(making.proof_text(made))}
+    share = {**below(examples(), "examples"), **calls_of_step(), "proof.txt": text(making.proof_text(made))}
     found = {"bin/seccomp-broker": Link("../lib/seccomp-broker/broker"), **below(home, HOME), **below(share, SHARE)}
-    for name, page in manual.pages(made.name, made.time, 1, 5).items():
+    for name, page in manual.pages(made.name, made.time).items():
         found[f"share/man/man{name[-1]}/{name}.gz"] = File(zipped(page.encode()))
     for path, content in completions.files().items():
         found[f"share/{path}"] = text(content)
@@ -119,8 +125,8 @@ def development(made, libdir, prefix):
     """What is needed to link with the library."""
     found = {"include/seccomp_broker.h": read(f"{TOP}/include/seccomp_broker.h"), f"{libdir}/libseccomp_broker.a": read(f"{made.library}/lib/libseccomp_broker.a"),
              f"{libdir}/libseccomp_broker.so": Link(SONAME), f"{libdir}/pkgconfig/seccomp_broker.pc": text(PKG_CONFIG.format(prefix=prefix, libdir=libdir, version=made.version))}
-    for name, page in manual.pages(made.name, made.time, 3).items():
-        found[f"share/man/man3/{name}.gz"] = File(zipped(page.encode()))
+    for name, page in manual.pages(made.name, made.time, "library").items():
+        found[f"share/man/man{name[-1]}/{name}.gz"] = File(zipped(page.encode()))
     return found
 
 
@@ -133,8 +139,8 @@ def tarball(made):
 
 
 def go_module(made):
-    """The Go module with the archive: a `replace` line names its folder."""
-    found = {name: read(f"{TOP}/examples/go/{name}") for name in ("broker.go", "go.mod", "policy_test.go")}
+    """The Go module with the archive, and its packages for a broker of one's own: a `replace` line names its folder."""
+    found = {name: read(f"{TOP}/examples/go/{name}") for name in ("broker.go", "go.mod", "policy_test.go", "step/step.go", "stepbroker/broker.go")}
     found["broker.go"] = text(replaced(found["broker.go"].data.decode(), OF_MODULE, "examples/go/broker.go"))
     found.update({"include/seccomp_broker.h": read(f"{TOP}/include/seccomp_broker.h"), "lib/libseccomp_broker.a": read(f"{made.library}/lib/libseccomp_broker.a"),
                   "proof.txt": text(making.proof_text(made))})

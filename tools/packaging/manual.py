@@ -83,11 +83,11 @@ def of_document(known, page, version, time):
     return [*found, *see_also(known, page["name"], page["section"])]
 
 
-def pages(version, time, *sections):
-    """The pages of these sections of the manual, by the names of their files."""
+def pages(version, time, of="command"):
+    """The pages that stand with the command, or with the C library, by the names of their files."""
     known = table.read()
-    found = {f"{COMMAND}.1": of_command(known, version, time)} if 1 in sections else {}
+    found = {f"{COMMAND}.1": of_command(known, version, time)} if of == "command" else {}
     for page in known["manual"]:
-        if page["section"] in sections:
+        if page.get("of", "command") == of:
             found[f"{page['name']}.{page['section']}"] = of_document(known, page, version, time)
     return {name: "\n".join(lines) + "\n" for name, lines in found.items()}
