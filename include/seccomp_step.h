@@ -26,6 +26,10 @@
  * Processes. sb_open starts a child process, and sb_close waits for it. The library changes no signal's disposition, and no SIGPIPE comes
  * of it. A program that waits for any child (waitpid(-1, ..)) takes the status away from sb_close, which then returns -ECHILD.
  *
+ * Variables. Where SECCOMP_BROKER_KERNEL names a Unix socket, sb_open connects there, and starts no program: another one holds the kernel and
+ * steps the tasks, as tools/explore-broker does. Then a call that would wait waits, and sb_step and sb_close_listener aren't for the broker.
+ * Where SECCOMP_BROKER_SESSION names a file, requests and answers are written there, for tools/judge-slowly; each sb_open writes it anew.
+ *
  * A whole session, which makes the device that a container asks for (examples/c/step_broker.c has a real one):
  *
  *   struct sb_kernel *kernel;
@@ -70,9 +74,10 @@ struct sb_kernel;
 
 /* Starts the program on a policy and a script, and waits until the container has started: its first task is there and hasn't stepped.
  * `program` is a path, or a name that is looked for on the PATH. Where it is NULL, the variable SECCOMP_BROKER of the environment says it,
- * and where that isn't set it is `seccomp-broker`. Where 0 is returned, *kernel has to be given to sb_close; else it is NULL.
+ * and where that isn't set it is `seccomp-broker`. Where 0 is returned, *kernel has to be given to sb_close; else it is NULL. With SECCOMP_BROKER_KERNEL
+ * all three may be NULL.
  *
- *   -ENOENT, -EACCES, ..  the program can't be started (execve(2))
+ *   -ENOENT, -EACCES, ..  the program can't be started (execve(2)), the socket can't be connected to (connect(2)), or a file can't be written
  *   -EINVAL               the program took no request: it refuses the policy or the script, and has said why on standard error
  *
  *   int error = sb_open(&kernel, NULL, "policy.json", "script.txt"); */

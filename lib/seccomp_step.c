@@ -12,6 +12,8 @@
 #include <stdio.h>
 #include <stdlib.h>
 #include <string.h>
+#include <sys/socket.h>
+#include <sys/un.h>
 #include <sys/wait.h>
 #include <time.h>
 #include <unistd.h>
@@ -34,6 +36,8 @@ struct sb_kernel {
   struct text read;
   /* Why no further request is sent, or 0. */
   int broken;
+  /* Where requests and answers are written down, or NULL. */
+  FILE *session;
 };
 
 /* ---- texts */
@@ -247,6 +251,16 @@ static struct text *request_of(struct sb_kernel *kernel, unsigned worker, const 
   return &kernel->request;
 }
 
+/* Writes the request, which has its newline, and the line that answers it to the file of the session. */
+static void write_down(struct sb_kernel *kernel) {
+  if (kernel->session == NULL)
+    return;
+  fputs("> ", kernel->session);
+  fwrite(kernel->request.bytes, 1, kernel->request.used, kernel->session);
+  fprintf(kernel->session, "< %s\n", kernel->answer.bytes);
+  fflush(kernel->session);
+}
+
 /* Sends the request, and reads its answer: 0 where it tells of an event, or of what was asked for. */
 static int ask(struct sb_kernel *kernel) {
   if (kernel->broken != 0)
@@ -259,6 +273,7 @@ static int ask(struct sb_kernel *kernel) {
     error = read_line(kernel);
   if (error != 0)
     return error;
+  write_down(kernel);
   const char *answer = kernel->answer.bytes, *rest;
   if (strcmp(answer, "skip") == 0)
     return -EAGAIN;
@@ -316,21 +331,54 @@ static int start(struct sb_kernel *kernel, const char *program, const char *poli
   return -error;
 }
 
+/* A variable of the environment, or NULL where it isn't set or is empty. */
+static const char *variable(const char *name) {
+  const char *value = getenv(name);
+  return value == NULL || *value == '\0' ? NULL : value;
+}
+
 static const char *program_or(const char *program) {
-  const char *named = program == NULL ? getenv("SECCOMP_BROKER") : program;
+  const char *named = program == NULL ? variable("SECCOMP_BROKER") : program;
   return named == NULL || *named == '\0' ? "seccomp-broker" : named;
+}
+
+/* Connects to a socket behind which another program holds the kernel. */
+static int connect_to(struct sb_kernel *kernel, const char *path) {
+  struct sockaddr_un address = {.sun_family = AF_UNIX};
+  if (strlen(path) >= sizeof address.sun_path)
+    return -ENAMETOOLONG;
+  memcpy(address.sun_path, path, strlen(path));
+  kernel->requests = socket(AF_UNIX, SOCK_STREAM | SOCK_CLOEXEC, 0);
+  if (kernel->requests < 0)
+    return -errno;
+  if (connect(kernel->requests, (const struct sockaddr *)&address, sizeof address) != 0)
+    return -errno;
+  kernel->answers = fcntl(kernel->requests, F_DUPFD_CLOEXEC, 0);
+  return kernel->answers < 0 ? -errno : 0;
+}
+
+/* Opens the file in which requests and answers are written down, if one is wanted. */
+static int open_session(struct sb_kernel *kernel) {
+  const char *path = variable("SECCOMP_BROKER_SESSION");
+  if (path == NULL)
+    return 0;
+  kernel->session = fopen(path, "we");
+  return kernel->session == NULL ? -errno : 0;
 }
 
 int sb_open(struct sb_kernel **opened, const char *program, const char *policy, const char *script) {
   *opened = NULL;
-  if (policy == NULL || script == NULL)
+  const char *socket_path = variable("SECCOMP_BROKER_KERNEL");
+  if (socket_path == NULL && (policy == NULL || script == NULL))
     return -EFAULT;
   struct sb_kernel *kernel = calloc(1, sizeof *kernel);
   if (kernel == NULL)
     return -ENOMEM;
   kernel->requests = -1;
   kernel->answers = -1;
-  int error = start(kernel, program_or(program), policy, script);
+  int error = open_session(kernel);
+  if (error == 0)
+    error = socket_path != NULL ? connect_to(kernel, socket_path) : start(kernel, program_or(program), policy, script);
   if (error == 0) {
     /* (the first answer shows that policy and script were taken) */
     error = sb_able(kernel, NULL, 0);
@@ -359,9 +407,12 @@ int sb_close(struct sb_kernel *kernel) {
   if (kernel == NULL)
     return 0;
   int status = 0;
-  /* (what is left of an answer is read, so that the program's write doesn't fail) */
-  if (kernel->requests >= 0)
+  /* (what is left of an answer is read, so that the program's write doesn't fail; of a socket that is closed in one direction the other end sees it) */
+  if (kernel->requests >= 0) {
+    if (kernel->program == 0)
+      shutdown(kernel->requests, SHUT_WR);
     close(kernel->requests);
+  }
   if (kernel->answers >= 0) {
     while (read_more(kernel) == 0)
       kernel->read.used = 0;
@@ -369,6 +420,8 @@ int sb_close(struct sb_kernel *kernel) {
   }
   if (kernel->program > 0)
     status = status_of(kernel->program);
+  if (kernel->session != NULL)
+    fclose(kernel->session);
   free(kernel->request.bytes);
   free(kernel->answer.bytes);
   free(kernel->read.bytes);

@@ -11,9 +11,13 @@ A call that the kernel refuses raises OSError with the error of its manual page:
 on. BlockingIOError says that the real call would wait: nothing has happened; let tasks step, and ask again. Besides these, each call may raise
 OSError with ECHRNG (there are 16 seats), ESHUTDOWN (the listener is closed), EMSGSIZE (the texts of the call are too long), EPIPE (the program
 has ended) and EPROTO (its answer can't be understood). Calls of one Kernel come from one thread at a time.
+
+Where the variable SECCOMP_BROKER_KERNEL names a socket, the kernel is behind that, and another program steps the tasks, as tools/explore-broker does: then a call that
+would wait waits. Where SECCOMP_BROKER_SESSION names a file, each request and its answer is written there, for tools/judge-slowly.
 """
 import errno
 import os
+import socket
 import struct
 import subprocess
 from typing import NamedTuple
@@ -65,14 +69,52 @@ def result_of(answer):
     return word
 
 
-class Kernel:
-    """A written kernel with a container, and the program that runs it."""
+class ProgramChannel:
+    """The program, with a pipe to it and one from it."""
 
-    def __init__(self, policy, script, program=None):
-        """Starts the program: by default what SECCOMP_BROKER names, or else `seccomp-broker`. Raises OSError with EINVAL where the program
-        refuses the policy or the script; it says why on standard error."""
-        words = [program or os.environ.get("SECCOMP_BROKER") or "seccomp-broker", "step", os.fspath(policy), os.fspath(script)]
+    def __init__(self, words):
         self.program = subprocess.Popen(words, stdin=subprocess.PIPE, stdout=subprocess.PIPE)
+        self.requests, self.answers = self.program.stdin, self.program.stdout
+
+    def close(self):
+        """Closes the program's input, and waits for it. Returns its exit status."""
+        # communicate() closes the input, and reads what is left
+        if self.program.returncode is None:
+            self.program.communicate()
+        return self.program.returncode
+
+
+class SocketChannel:
+    """A socket behind which another program holds the kernel."""
+
+    def __init__(self, path):
+        with socket.socket(socket.AF_UNIX) as connected:
+            connected.connect(path)
+            self.requests, self.answers = connected.makefile("wb"), connected.makefile("rb")
+
+    def close(self):
+        self.requests.close()
+        self.answers.close()
+        return 0
+
+
+def channel_to(policy, script, program):
+    """A way to the kernel: the socket that is named, or a program that is started."""
+    path = os.environ.get("SECCOMP_BROKER_KERNEL")
+    if path:
+        return SocketChannel(path)
+    return ProgramChannel([program or os.environ.get("SECCOMP_BROKER") or "seccomp-broker", "step", os.fspath(policy), os.fspath(script)])
+
+
+class Kernel:
+    """A written kernel with a container, and the way to it."""
+
+    def __init__(self, policy=None, script=None, program=None, channel=None):
+        """Starts the program: by default what SECCOMP_BROKER names, or else `seccomp-broker`. Raises OSError with EINVAL where the program
+        refuses the policy or the script; it says why on standard error. Neither is needed where SECCOMP_BROKER_KERNEL names a socket."""
+        self.channel = channel or channel_to(policy, script, program)
+        session = os.environ.get("SECCOMP_BROKER_SESSION")
+        self.session = open(session, "wb") if session else None
         self.answer = ""
         try:
             self.able()
@@ -87,22 +129,25 @@ class Kernel:
 
     def close(self):
         """Closes the program's input, which closes the listener, and waits for it. Returns its exit status."""
-        # communicate() closes the input, and reads what is left
-        if self.program.returncode is None:
-            self.program.communicate()
-        return self.program.returncode
+        if self.session is not None:
+            self.session.close()
+        return self.channel.close()
 
     def ask(self, request):
         """Sends one request, and gives its answer."""
+        line = (request.encode() if isinstance(request, str) else request) + b"\n"
         try:
-            self.program.stdin.write((request.encode() if isinstance(request, str) else request) + b"\n")
-            self.program.stdin.flush()
+            self.channel.requests.write(line)
+            self.channel.requests.flush()
         except ValueError:
             raise failed(errno.ESHUTDOWN, "the kernel is closed") from None
-        line = self.program.stdout.readline()
-        if not line.endswith(b"\n"):
+        told = self.channel.answers.readline()
+        if not told.endswith(b"\n"):
             raise failed(errno.EPIPE, "the program has ended")
-        self.answer = answer = line[:-1].decode("latin-1")
+        if self.session is not None:
+            self.session.write(b"> " + line + b"< " + told)
+            self.session.flush()
+        self.answer = answer = told[:-1].decode("latin-1")
         if answer == "skip":
             raise failed(errno.EAGAIN, answer)
         kind, _, rest = answer.partition(" ")
@@ -143,7 +188,7 @@ class Kernel:
     def report(self):
         """The report so far, as `seccomp-broker play` prints it."""
         count = int(self.ask("report").split(" ")[1])
-        return self.program.stdout.read(count).decode("latin-1")
+        return self.channel.answers.read(count).decode("latin-1")
 
     def close_listener(self):
         """Closes the listener, as the end of the broker does. Behind it only report and close do something."""
@@ -176,14 +221,16 @@ class Seat:
         return Notif(*numbers, tuple(map(int, words["args"].split(","))))
 
     def notifications(self):
-        """Receives until none is there. Each is to be served before the next one is asked for."""
+        """Receives until none is there, or the listener is closed. Each is to be served before the next one is asked for."""
         while True:
             try:
                 yield self.recv()
-            except BlockingIOError:
-                return
             except FileNotFoundError:
                 continue
+            except OSError as error:
+                if error.errno not in (errno.EAGAIN, errno.ESHUTDOWN):
+                    raise
+                return
 
     def id_valid(self, identifier):
         """Whether the call still waits for an answer."""

@@ -5,8 +5,9 @@ The order is that of seccomp_unotify(2): open the caller's memory, check, read, 
 import errno
 import os
 import stat
+import sys
 
-from seccomp_step import CONTINUE
+from seccomp_step import CONTINUE, Kernel
 
 SYS_MKNOD = 133
 # null, zero, full, random, urandom and tty: none of them reaches the host's disks or memory
@@ -73,3 +74,18 @@ def serve(seat, notif):
         raise CallerGone from None
     finally:
         seat.let_go()
+
+
+def main():
+    """Serves the kernel of SECCOMP_BROKER_KERNEL, or the program on a policy and a script, until the listener is closed."""
+    with Kernel(*sys.argv[1:3]) as kernel:
+        seat = kernel.seat(0)
+        for notif in seat.notifications():
+            try:
+                serve(seat, notif)
+            except CallerGone:
+                continue
+
+
+if __name__ == "__main__":
+    main()

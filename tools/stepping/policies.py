@@ -1,4 +1,5 @@
 """A policy's bytes, read whole: its rules in the order in which they are tried, or the first refusal (docs/FORMATS.md, Policy)."""
+import errno
 import json
 import re
 
@@ -127,14 +128,14 @@ class Switches:
             return []
         found = []
         for fstype, program in self.fuse.items():
-            found += [mount_rule("lxd.mount.fuse.", fstype)] if program else self.type_rules(fstype)
+            found += [mount_rule("lxd.mount.fuse.", fstype)._replace(via=program.encode(), shift=self.shift)] if program else self.type_rules(fstype)
         return found + [rule for fstype in self.allowed for rule in self.type_rules(fstype)]
 
     def type_rules(self, fstype):
         """The rules of a type that the kernel mounts: none of what is no name."""
         if not SHORT_NAME.fullmatch(fstype):
             return []
-        return [mount_rule("lxd.mount.", fstype, *([condition("flags", (), PROPAGATION)] if self.profile else []))]
+        return [mount_rule("lxd.mount.", fstype, *([condition("flags", (), PROPAGATION)] if self.profile else []))._replace(shift=self.shift)]
 
     def setxattr_rules(self):
         more = (condition("value", b"y"),) if self.profile else ()
@@ -181,7 +182,9 @@ class RuleReader:
 
     def __init__(self, version, profile, place, used):
         self.version, self.profile, self.place, self.used = version, profile, f"rules[{place}]", used
-        self.stated = {"conditions": (), "answer": {}}
+        self.stated = {"conditions": ()}
+        # what a denial or an injection says besides
+        self.details = {}
 
     def read(self, value):
         for key, member in members(value, self.place):
@@ -192,13 +195,7 @@ class RuleReader:
         conditions = self.stated["conditions"]
         self.test(name, calls, verdict, conditions)
         granted_mount = verdict == "grant" and "mount" in calls
-        return Rule(name, calls, (*conditions, PLAIN_MOUNT) if granted_mount else conditions, verdict, self.answer_of(verdict))
-
-    def answer_of(self, verdict):
-        if verdict == "grant":
-            return f" times={self.stated['times']}" if "times" in self.stated else ""
-        answer = self.stated["answer"]
-        return {"pass": "", "deny": f" error={answer.get('deny')}", "inject": f" src={answer.get('inject')} at={answer.get('at', '-')}"}[verdict]
+        return Rule(name, calls, (*conditions, PLAIN_MOUNT) if granted_mount else conditions, verdict, times=self.stated.get("times"), **self.details)
 
     def test(self, name, calls, verdict, conditions):
         """The tests of the rule as a whole."""
@@ -236,8 +233,8 @@ class RuleReader:
                     refuse_key(f"{place}.{quoted_key(key)}")
                 need(member if key == "deny" and isinstance(member, str) and member in words.ERRORS else whole(member, 0) if key != "deny" else None, f"{place}.{key}")
             keys = set(value)
-            self.stated["answer"] = value
             self.stated["then"] = need("deny" if keys == {"deny"} else "inject" if keys in ({"inject"}, {"inject", "at"}) else None, place)
+            self.details = {"error": getattr(errno, value["deny"])} if "deny" in value else {"source": value["inject"], "place": value.get("at")}
         else:
             self.stated["then"] = need(value if value in ("grant", "pass") and isinstance(value, str) else None, place)
 

@@ -1,14 +1,15 @@
 """Which rule of a policy decides a request, and how far the copy of a call's arguments has come (docs/FORMATS.md, Policy and Audit)."""
-from typing import NamedTuple
+import errno
+from typing import NamedTuple, Optional
 
-from messages.policy_words import FLAGS
+from messages import policy_words as words
 from real_workloads.script_text import NAME_LIMIT, PATH_LIMIT, PIECE, VALUE_LIMIT
 from stepping.facts import AT_FDCWD, CALL_NAMES, Fail, major_of, minor_of, signed
 
 OTHER_CALLS = "other"
 MAGIC_MASK, MAGIC = 0xFFFF0000, 0xC0ED0000
 BITS = {
-    **{name: bit for name, bit in zip(FLAGS["mount"], (1, 2, 4, 8, 16, 32, 64, 128, 256, 1024, 2048, 4096, 8192, 16384, 32768, 131072, 262144, 524288, 1048576, 2097152, 16777216, 33554432))},
+    **{name: bit for name, bit in zip(words.FLAGS["mount"], (1, 2, 4, 8, 16, 32, 64, 128, 256, 1024, 2048, 4096, 8192, 16384, 32768, 131072, 262144, 524288, 1048576, 2097152, 16777216, 33554432))},
     "CREATE": 1, "REPLACE": 2,
 }
 NEVER_GRANTED = BITS["REMOUNT"] | BITS["BIND"] | BITS["MOVE"]
@@ -181,13 +182,27 @@ class Condition(NamedTuple):
 
 
 class Rule(NamedTuple):
-    """`answer` is what stands behind the verdict where a rule is explained: the error, the descriptors, how often it grants."""
+    """A rule: what it fits, and what it says. `error` is that of a denial, `source` and `place` those of an injection, `times` is how often it grants, `via` and `shift` say how a mount is made."""
 
     name: str
     calls: object
     conditions: tuple
     verdict: str
-    answer: str = ""
+    error: int = 0
+    source: int = 0
+    place: Optional[int] = None
+    times: Optional[int] = None
+    via: bytes = b""
+    shift: bool = False
+
+    @property
+    def answer(self):
+        """What stands behind the verdict where the rule is explained: how often it grants, the error, or the descriptors."""
+        if self.verdict == "grant":
+            return "" if self.times is None else f" times={self.times}"
+        if self.verdict == "deny":
+            return f" error={next(name for name in words.ERRORS if getattr(errno, name) == self.error)}"
+        return f" src={self.source} at={'-' if self.place is None else self.place}" if self.verdict == "inject" else ""
 
 
 def condition(name, *values):
@@ -233,7 +248,7 @@ def flags_of(request):
 
 def has_flag(request, flag):
     call = "mount" if isinstance(request, Mount) else "setxattr" if isinstance(request, SetXattr) else None
-    return call is not None and flag in FLAGS[call] and flags_of(request) & BITS[flag] != 0
+    return call is not None and flag in words.FLAGS[call] and flags_of(request) & BITS[flag] != 0
 
 
 MEETS = {
@@ -252,10 +267,18 @@ MEETS = {
 }
 
 
-def fits(rule, request):
+def covers(rule, request):
+    """Whether the request's call is one of the rule's."""
     call = call_of(request)
-    covered = call is None if rule.calls == OTHER_CALLS else call in rule.calls
-    return covered and all(MEETS[it.name](request, *it.values) for it in rule.conditions)
+    return call is None if rule.calls == OTHER_CALLS else call in rule.calls
+
+
+def meets(request, stated):
+    return MEETS[stated.name](request, *stated.values)
+
+
+def fits(rule, request):
+    return covers(rule, request) and all(meets(request, it) for it in rule.conditions)
 
 
 def decide(rules, request):

@@ -5,6 +5,10 @@
 // syscall.EAGAIN the real call would wait: nothing has happened; let tasks step, and ask again. Besides those that a call names, each call may give
 // ECHRNG (there are 16 seats), ESHUTDOWN (the listener is closed), EMSGSIZE (the texts of the call are too long), EPIPE (the program has
 // ended) and EPROTO (its answer can't be understood). The calls of one Kernel are for one goroutine at a time.
+//
+// Where the variable SECCOMP_BROKER_KERNEL names a Unix socket, Open connects there and starts no program: another one holds the kernel and steps the
+// tasks, as tools/explore-broker does. Then a call that would wait waits. Where SECCOMP_BROKER_SESSION names a file, requests and answers are written
+// there, for tools/judge-slowly.
 package step
 
 import (
@@ -15,6 +19,7 @@ import (
 	"errors"
 	"fmt"
 	"io"
+	"net"
 	"os"
 	"os/exec"
 	"strconv"
@@ -104,17 +109,21 @@ func errnoNamed(word string) syscall.Errno {
 	return 0
 }
 
-// Kernel is a written kernel with a container, and the program that runs it.
+// Kernel is a written kernel with a container, and the program that runs it; none where it is behind a socket.
 type Kernel struct {
 	program *exec.Cmd
 	input   io.WriteCloser
 	output  *bufio.Reader
+	session io.WriteCloser
 	answer  string
 }
 
 // Open starts the program that SECCOMP_BROKER names, or else `seccomp-broker`, on a policy and a script. EINVAL: it refuses one of them,
-// and has said why on standard error.
+// and has said why on standard error. With SECCOMP_BROKER_KERNEL both may be empty.
 func Open(policy, script string) (*Kernel, error) {
+	if path := os.Getenv("SECCOMP_BROKER_KERNEL"); path != "" {
+		return connect(path)
+	}
 	program := os.Getenv("SECCOMP_BROKER")
 	if program == "" {
 		program = "seccomp-broker"
@@ -137,7 +146,28 @@ func OpenProgram(program, policy, script string) (*Kernel, error) {
 	if err := command.Start(); err != nil {
 		return nil, err
 	}
-	kernel := &Kernel{program: command, input: input, output: bufio.NewReader(output)}
+	return opened(&Kernel{program: command, input: input, output: bufio.NewReader(output)})
+}
+
+// connect goes to a socket behind which another program holds the kernel.
+func connect(path string) (*Kernel, error) {
+	connection, err := net.Dial("unix", path)
+	if err != nil {
+		return nil, err
+	}
+	return opened(&Kernel{input: connection, output: bufio.NewReader(connection)})
+}
+
+// opened gives a kernel that has answered.
+func opened(kernel *Kernel) (*Kernel, error) {
+	if path := os.Getenv("SECCOMP_BROKER_SESSION"); path != "" {
+		session, err := os.Create(path)
+		if err != nil {
+			kernel.Close()
+			return nil, err
+		}
+		kernel.session = session
+	}
 	// The first answer shows that policy and script were taken.
 	if _, _, err := kernel.Able(); err != nil {
 		status, _ := kernel.Close()
@@ -152,6 +182,12 @@ func OpenProgram(program, policy, script string) (*Kernel, error) {
 // Close closes the program's input, which closes the listener, and waits for it. It gives the exit status.
 func (k *Kernel) Close() (int, error) {
 	k.input.Close()
+	if k.session != nil {
+		k.session.Close()
+	}
+	if k.program == nil {
+		return 0, nil
+	}
 	// What is left of an answer is read, so that the program's write doesn't fail.
 	io.Copy(io.Discard, k.output)
 	err := k.program.Wait()
@@ -175,6 +211,9 @@ func (k *Kernel) ask(request string) (string, error) {
 		return "", &Error{syscall.EPIPE, "the program has ended"}
 	}
 	k.answer = strings.TrimSuffix(line, "\n")
+	if k.session != nil {
+		fmt.Fprintf(k.session, "> %s\n< %s\n", request, k.answer)
+	}
 	kind, rest, _ := strings.Cut(k.answer, " ")
 	switch kind {
 	case "skip":

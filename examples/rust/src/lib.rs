@@ -16,10 +16,18 @@
 //! [`io::ErrorKind::WouldBlock`] says that the real call would wait: nothing has happened; let tasks step, and ask again. Besides those that a call
 //! names, each call may give `ECHRNG` (there are 16 seats), `ESHUTDOWN` (the listener is closed), `EMSGSIZE` (the texts of the call are too long), `EPIPE`
 //! (the program has ended) and `EPROTO` (its answer can't be understood). [`Kernel::answer`] is what the program said.
-use std::ffi::OsStr;
+//!
+//! Where the variable `SECCOMP_BROKER_KERNEL` names a Unix socket, [`Kernel::open`] connects there and starts no program: another one holds the kernel and
+//! steps the tasks, as `tools/explore-broker` does. Then a call that would wait waits. Where `SECCOMP_BROKER_SESSION` names a file, requests and answers
+//! are written there, for `tools/judge-slowly`.
+use std::env;
+use std::ffi::{OsStr, OsString};
 use std::fmt::Write as _;
+use std::fs::File;
 use std::io::{self, BufRead, BufReader, Read, Write};
-use std::process::{Child, ChildStdin, ChildStdout, Command, ExitStatus, Stdio};
+use std::os::unix::net::UnixStream;
+use std::os::unix::process::ExitStatusExt;
+use std::process::{Child, Command, ExitStatus, Stdio};
 
 /// The errors that calls give, on Linux on x86-64.
 pub mod errno {
@@ -192,20 +200,29 @@ fn from_hex(digits: &str) -> Option<Vec<u8>> {
     (0..digits.len() / 2).map(|at| u8::from_str_radix(&digits[2 * at..2 * at + 2], 16).ok()).collect()
 }
 
-/// A written kernel with a container, and the program that runs it.
+/// A variable of the environment, where it is set and isn't empty.
+fn variable(name: &str) -> Option<OsString> {
+    env::var_os(name).filter(|value| !value.is_empty())
+}
+
+/// A written kernel with a container, and the program that runs it; none where it is behind a socket.
 pub struct Kernel {
-    program: Child,
-    input: Option<ChildStdin>,
-    output: BufReader<ChildStdout>,
+    program: Option<Child>,
+    input: Option<Box<dyn Write>>,
+    output: BufReader<Box<dyn Read>>,
+    session: Option<File>,
     answer: String,
 }
 
 impl Kernel {
     /// Starts the program that `SECCOMP_BROKER` names, or else `seccomp-broker`. `EINVAL`: it refuses the policy or the script, and has said why on
-    /// standard error.
+    /// standard error. With `SECCOMP_BROKER_KERNEL` both may be empty.
     pub fn open(policy: impl AsRef<OsStr>, script: impl AsRef<OsStr>) -> io::Result<Kernel> {
-        let program = std::env::var_os("SECCOMP_BROKER").filter(|name| !name.is_empty());
-        Kernel::open_program(program.unwrap_or_else(|| "seccomp-broker".into()), policy, script)
+        if let Some(path) = variable("SECCOMP_BROKER_KERNEL") {
+            let connection = UnixStream::connect(path)?;
+            return Kernel::opened(None, Box::new(connection.try_clone()?), Box::new(connection));
+        }
+        Kernel::open_program(variable("SECCOMP_BROKER").unwrap_or_else(|| "seccomp-broker".into()), policy, script)
     }
 
     /// The same with a program that is named here.
@@ -216,7 +233,13 @@ impl Kernel {
         let (Some(input), Some(output)) = (program.stdin.take(), program.stdout.take()) else {
             return failed(EPIPE);
         };
-        let mut kernel = Kernel { program, input: Some(input), output: BufReader::new(output), answer: String::new() };
+        Kernel::opened(Some(program), Box::new(input), Box::new(output))
+    }
+
+    /// A kernel that has answered.
+    fn opened(program: Option<Child>, input: Box<dyn Write>, output: Box<dyn Read>) -> io::Result<Kernel> {
+        let session = variable("SECCOMP_BROKER_SESSION").map(File::create).transpose()?;
+        let mut kernel = Kernel { program, input: Some(input), output: BufReader::new(output), session, answer: String::new() };
         // The first answer shows that policy and script were taken.
         match kernel.able() {
             Ok(_) => Ok(kernel),
@@ -232,9 +255,12 @@ impl Kernel {
 
     fn end(&mut self) -> io::Result<ExitStatus> {
         self.input = None;
+        let Some(program) = self.program.as_mut() else {
+            return Ok(ExitStatus::from_raw(0));
+        };
         // What is left of an answer is read, so that the program's write doesn't fail.
         io::copy(&mut self.output, &mut io::sink())?;
-        self.program.wait()
+        program.wait()
     }
 
     /// The program's answer to the newest request: the journal's line of the event, `skip`, or why it was refused.
@@ -256,6 +282,9 @@ impl Kernel {
             return failed(EPIPE);
         }
         self.answer = String::from_utf8_lossy(&line).into_owned();
+        if let Some(session) = self.session.as_mut() {
+            session.write_all(&[b"> ", request, b"\n< ", &line[..], b"\n"].concat())?;
+        }
         match self.answer.split_once(' ').unwrap_or((&self.answer, "")) {
             ("skip", _) => failed(EAGAIN),
             ("error", name) => failed(error_named(name).unwrap_or(EPROTO)),

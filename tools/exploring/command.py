@@ -1,0 +1,113 @@
+"""The command explore-broker: its words, and how it ends."""
+import os
+import sys
+import tempfile
+
+from command_line import place
+from exploring import telling
+from exploring.exploration import Explored, explore
+from exploring.instances import ProcessInstance
+from exploring.runs import SEATS, Files, Setting
+from judging.command import Ended, Words, read_files
+
+FOUND, UNDECIDED, WRITE_FAULT, INTERRUPTED = 11, 12, 6, 130
+NO_PROGRAM = 7
+MOST_DELAYS, MOST_JOBS, MOST_PATIENCE = 8, 64, 86_400
+PATIENCE = 10
+
+
+def number(least, most):
+    """Reads a word as a number within a range."""
+    def read(text):
+        found = int(text)
+        if not least <= found <= most:
+            raise ValueError(text)
+        return found
+    read.__name__ = f"number from {least} to {most}"
+    return read
+
+
+def words_of(words):
+    """The words up to `--`, read, and the command behind it."""
+    parser = Words("explore-broker", " -- COMMAND [WORD ..]")
+    parser.add_argument("policy", metavar="POLICY")
+    parser.add_argument("script", metavar="SCRIPT")
+    parser.add_argument("delays", metavar="DELAYS", type=number(0, MOST_DELAYS))
+    parser.add_argument("--instances", metavar="N", type=number(1, SEATS), default=1)
+    parser.add_argument("--limit", metavar="RUNS", type=number(1, 10**9))
+    parser.add_argument("--jobs", metavar="N", type=number(1, MOST_JOBS), default=min(os.cpu_count() or 1, MOST_JOBS))
+    parser.add_argument("--patience", metavar="SECONDS", type=number(1, MOST_PATIENCE), default=PATIENCE)
+    parser.add_argument("--save", metavar="FOLDER")
+    parser.add_argument("--shim", metavar="FILE", type=os.path.abspath)
+    parser.add_argument("--program", metavar="PATH")
+    parser.add_argument("--no-program", action="store_true")
+    at = words.index("--") if "--" in words else len(words)
+    asked = parser.parse_args(words[:at])
+    asked.command = words[at + 1:]
+    if not asked.command:
+        parser.error("behind `--` stands the command that starts the broker")
+    return asked
+
+
+class Progress:
+    """A line on standard error that says how far an exploration is, where that is a terminal."""
+
+    def __init__(self):
+        self.is_shown = sys.stderr.isatty()
+        self.explored = None
+
+    def tell(self, explored: Explored):
+        self.explored = explored
+        if self.is_shown:
+            print(f"\r{explored.runs} runs, {len(explored.findings)} findings", end="", file=sys.stderr, flush=True)
+
+    def clear(self):
+        if self.is_shown:
+            print("\r\x1b[K", end="", file=sys.stderr, flush=True)
+
+
+def setting_of(asked, room):
+    """What all runs have in common. Raises Ended."""
+    files = Files(asked.policy, asked.script, *read_files(asked.policy, asked.script))
+    program = None
+    if not asked.no_program:
+        program = asked.program or place.runnable()
+        if program is None:
+            raise Ended(NO_PROGRAM, "explore-broker: there is no program; --no-program asks the kernel in Python alone")
+
+    def make():
+        return [ProcessInstance(asked.command, room, f"{os.getpid()}-{at}", asked.patience, asked.shim) for at in range(asked.instances)]
+
+    return Setting(files, make, program)
+
+
+def status_of(explored):
+    return FOUND if explored.has_found else 0 if explored.is_decided else UNDECIDED
+
+
+def run(words):
+    asked, progress = words_of(words), Progress()
+    with tempfile.TemporaryDirectory(prefix="explore-broker-") as room:
+        setting, status = setting_of(asked, room), None
+        try:
+            explored = explore(setting, asked.delays, asked.limit, asked.jobs, progress.tell)
+        except KeyboardInterrupt:
+            explored, status = progress.explored or Explored(asked.delays), INTERRUPTED
+            explored.is_whole = False
+        progress.clear()
+        sys.stdout.buffer.write(telling.whole_text(explored).encode("utf-8", "backslashreplace"))
+        sys.stdout.flush()
+        if asked.save is not None:
+            telling.save(asked.save, explored)
+    return status_of(explored) if status is None else status
+
+
+def main(words):
+    try:
+        return run(words)
+    except Ended as ended:
+        print(ended.args[1], file=sys.stderr)
+        return ended.args[0]
+    except OSError as error:
+        print(f"explore-broker: {error}", file=sys.stderr)
+        return WRITE_FAULT

@@ -1,0 +1,118 @@
+"""All runs of a broker within a bound of delays, and what was found in them."""
+import multiprocessing
+import signal
+import sys
+from contextlib import contextmanager
+from dataclasses import dataclass, field
+from itertools import islice
+from typing import Dict, List, Optional
+
+from exploring.runs import Kind, Played, Run, Setting
+from exploring.schedules import Planned, followers
+
+# how many runs one process takes at once
+AT_ONCE = 8
+# these leave open what else there is
+UNDECIDED = {Kind.HANGS, Kind.UNLIKE, Kind.NOT_SUPPORTED, Kind.KERNELS_DIFFER}
+
+
+@dataclass
+class Found:
+    """Something that was found, by its smallest run, and in how many runs it was."""
+
+    played: Played
+    runs: int = 1
+
+    @property
+    def size(self):
+        return self.played.planned.total, self.played.steps, self.played.planned.order()
+
+
+@dataclass
+class Explored:
+    """What came of an exploration."""
+
+    delays: int
+    runs: int = 0
+    histories: set = field(default_factory=set)
+    findings: Dict[tuple, Found] = field(default_factory=dict)
+    troubles: Dict[tuple, Found] = field(default_factory=dict)
+    is_whole: bool = True
+
+    def take(self, played: Played):
+        self.runs += 1
+        self.histories.add(played.digest)
+        if played.told is not None:
+            self.note(self.findings, played.told.about, played)
+        if played.trouble is not None:
+            self.note(self.troubles, tuple(played.trouble), played)
+
+    @staticmethod
+    def note(known, key, played):
+        """Keeps the smallest run of each thing that was found."""
+        found = known.setdefault(key, Found(played, 0))
+        found.runs += 1
+        if Found(played).size < found.size:
+            found.played = played
+
+    @property
+    def is_decided(self):
+        return not any(kind in UNDECIDED for kind, _, _ in self.troubles)
+
+    def in_order(self, known) -> List[Found]:
+        """What was found, the smallest first."""
+        return sorted(known.values(), key=lambda found: found.size)
+
+    @property
+    def has_found(self):
+        return bool(self.findings) or any(kind is Kind.DIED for kind, _, _ in self.troubles)
+
+
+# the setting of the process that runs; a process of a pool gets it when it is made
+current: Optional[Setting] = None
+
+
+def set_current(setting):
+    global current
+    current = setting
+
+
+def begin_process():
+    """What a process of a pool does first: an interrupt is for the one that has made it, which ends it so that it ends what it has started."""
+    signal.signal(signal.SIGINT, signal.SIG_IGN)
+    signal.signal(signal.SIGTERM, lambda *_: sys.exit(1))
+
+
+def run_one(planned) -> Played:
+    return Run(current, planned).play()
+
+
+@contextmanager
+def runner(setting, jobs):
+    """A function that runs schedules, in order, with so many processes."""
+    set_current(setting)
+    if jobs == 1:
+        yield lambda batch: map(run_one, batch)
+        return
+    with multiprocessing.get_context("fork").Pool(jobs, begin_process) as pool:
+        yield lambda batch: pool.imap(run_one, batch, AT_ONCE)
+
+
+def explore(setting, delays, limit=None, jobs=1, tell=lambda explored: None) -> Explored:
+    """Runs a broker with every schedule of at most so many delays, those with fewer delays first; of more schedules than the limit only the first ones."""
+    explored, planned = Explored(delays), {0: [Planned()]}
+    with runner(setting, jobs) as run:
+        for total in range(delays + 1):
+            batch = sorted(planned.pop(total, []), key=Planned.order)
+            left = len(batch) if limit is None else max(limit - explored.runs, 0)
+            if left < len(batch):
+                explored.is_whole = False
+            for played in run(islice(batch, left)):
+                explored.take(played)
+                tell(explored)
+                if not explored.is_decided:
+                    explored.is_whole = False
+                    return explored
+                for follower in followers(played.planned, played.choices, delays):
+                    planned.setdefault(follower.total, []).append(follower)
+    return explored

@@ -1,0 +1,278 @@
+"""One run of a broker, in the order that a schedule says."""
+import re
+from dataclasses import dataclass, field
+from enum import Enum
+from hashlib import blake2b
+from typing import Callable, List, NamedTuple, Optional
+
+from exploring.instances import Hangs, InlineInstance, NotSupported, drive
+from exploring.kernels import Asked, Differs, Kernel
+from exploring.schedules import Choice, Planned
+from stepping.sessions import Session
+
+SEATS = 16
+# how many calls of the kernel may come to nothing one after another, and how many events a run may have
+MOST_IDLE, MOST_EVENTS = 1_000, 100_000
+OF_WORKER = re.compile(rb"w (\d+) (\S+)(.*)", re.S)
+RECEIVES = (b"recv", b"recv-raw")
+# a receive into a structure of zeros, as the kernel wants it
+ZEROED = re.compile(rb"recv-raw 0{160}")
+
+
+class Files(NamedTuple):
+    """A policy and a script: where they are, and what they say."""
+
+    policy: str
+    script: str
+    rules: list
+    container: object
+
+
+class Setting(NamedTuple):
+    """What all runs of an exploration have in common."""
+
+    files: Files
+    # gives the instances of the broker, not yet started
+    make: Callable
+    program: Optional[str] = None
+
+    def seats_each(self, instances):
+        return SEATS // len(instances)
+
+
+class Kind(Enum):
+    """What came of a run besides a broken clause."""
+
+    DIED = "died"
+    HANGS = "hangs"
+    UNLIKE = "unlike"
+    NOT_SUPPORTED = "not supported"
+    KERNELS_DIFFER = "kernels differ"
+
+
+class Trouble(NamedTuple):
+    kind: Kind
+    instance: int
+    text: str
+
+
+class Told(NamedTuple):
+    """A broken clause, as it is told: its name and class, the call that it is about, and the judge's text."""
+
+    clause: str
+    gravity: str
+    task: str
+    ordinal: int
+    text: str
+
+    @property
+    def about(self):
+        return self.clause, self.task, self.ordinal
+
+
+@dataclass
+class Played:
+    """What came of a run."""
+
+    planned: Planned
+    choices: List[Choice] = field(default_factory=list)
+    steps: int = 0
+    digest: bytes = b""
+    told: Optional[Told] = None
+    trouble: Optional[Trouble] = None
+    # of a run that is told: what was asked, how much of it leads to the broken clause, the report, and what the broker has written
+    session: List[Asked] = field(default_factory=list)
+    shown: int = 0
+    report: str = ""
+    output: bytes = b""
+
+
+class Unlike(Exception):
+    """The run isn't the one that it was planned to be."""
+
+
+class Actor(NamedTuple):
+    """A task by its name, or an instance by its number."""
+
+    task: Optional[tuple] = None
+    instance: int = -1
+
+
+class Run:
+    def __init__(self, setting: Setting, planned: Planned):
+        self.planned = planned
+        self.delays = {delay.choice: delay.count for delay in planned.delays}
+        self.kernel = Kernel(setting.files, setting.program)
+        self.instances = setting.make()
+        self.seats = setting.seats_each(self.instances)
+        # of each instance the request that isn't answered yet; None where it has ended
+        self.pending = [None] * len(self.instances)
+        self.polled_at, self.idle_calls = {}, [0] * len(self.instances)
+        self.has_stepped = [False] * len(self.instances)
+        # the instance that was heard last
+        self.current = 0
+        self.last = Actor(task=(0,))
+        self.hash = blake2b(digest_size=8)
+        # how many requests had been made when a clause was broken
+        self.shown = None
+        self.played = Played(planned)
+
+    # ---- the whole
+
+    def play(self) -> Played:
+        try:
+            if isinstance(self.instances[0], InlineInstance):
+                self.instances[0].drive(self.course())
+            else:
+                drive(self.instances, self.course())
+        except Hangs:
+            self.trouble(Kind.HANGS, "it makes no call of the kernel, and doesn't end")
+        except NotSupported as wrong:
+            self.trouble(Kind.NOT_SUPPORTED, wrong.args[0])
+        except Differs as differs:
+            self.trouble(Kind.KERNELS_DIFFER, "`{}` is answered `{}` by the kernel in Python, and `{}` by the program".format(*(it.decode("latin-1").rstrip() for it in differs.args)))
+        except Unlike:
+            self.trouble(Kind.UNLIKE, "it doesn't make the same calls as when it ran before, up to here")
+        finally:
+            for instance in self.instances:
+                instance.stop()
+            self.kernel.close()
+        self.tell()
+        return self.played
+
+    def course(self):
+        """The run: it gives the number of each instance whose next call it wants to hear, and is sent the call. It goes on behind a broken clause, without delays, so that the broker ends as it would."""
+        for number, instance in enumerate(self.instances):
+            self.current = number
+            instance.start()
+            self.pending[number] = yield number
+            if self.pending[number] == b"able":
+                # (a client asks it to see that policy and script were taken)
+                self.answer(number)
+                yield from self.hear(number)
+        while able := self.able():
+            self.last = able[self.choose(len(able))]
+            if self.last.task is not None:
+                self.ask(b"t " + ".".join(map(str, self.last.task)).encode())
+            else:
+                self.has_stepped[self.last.instance] = True
+                self.answer(self.last.instance)
+                yield from self.hear(self.last.instance)
+            if len(self.kernel.state.events) > MOST_EVENTS:
+                raise Hangs
+        self.kernel.judge.note_idle()
+
+    def tell(self):
+        """Writes down what came of the run."""
+        state, fault = self.kernel.state, self.kernel.judge.fault
+        self.played.steps = fault.place if fault is not None else len(state.events) - 1
+        self.played.digest = self.hash.digest()
+        self.played.shown = self.shown if self.shown is not None else len(self.kernel.session)
+        if fault is not None:
+            entry = self.kernel.judge.entries.get(fault.call)
+            task = fault.call.task.actor if fault.call is not None else "-"
+            self.played.told = Told(fault.clause.name, fault.gravity.value, task, entry.ordinal if entry else 0, fault.text(state.events))
+        if fault is not None or self.played.trouble is not None:
+            self.played.session = self.kernel.session
+            self.played.report = self.report()
+            self.played.output = b"".join(instance.output for instance in self.instances)
+
+    def report(self):
+        session: Session = self.kernel.follower.session
+        if not self.kernel.state.is_closed:
+            session.answer(b"close")
+        return session.answer(b"report").partition("\n")[2]
+
+    def trouble(self, kind, text):
+        if self.played.trouble is None:
+            self.played.trouble = Trouble(kind, self.current, text)
+
+    # ---- turns
+
+    def choose(self, width):
+        """How many able actors are passed over. Raises Unlike."""
+        if width == 1 or self.shown is not None:
+            return 0
+        at, digest = len(self.played.choices), self.hash.digest()
+        self.played.choices.append(Choice(width, digest))
+        count = self.delays.get(at, 0)
+        is_last = self.planned.delays and at == self.planned.delays[-1].choice
+        if count >= width or (is_last and self.planned.wanted not in (None, digest)):
+            raise Unlike
+        return count
+
+    def able(self):
+        """The actors that can step, round the circle from the one that stepped last."""
+        circle = [Actor(task=name) for name in self.kernel.state.tasks] + [Actor(instance=number) for number in range(len(self.instances))]
+        begin = circle.index(self.last)
+        return [actor for actor in circle[begin:] + circle[:begin] if self.is_able(actor)]
+
+    def is_able(self, actor):
+        if actor.task is not None:
+            return self.kernel.state.step_of(self.kernel.state.tasks[actor.task]) is not None
+        return self.pending[actor.instance] is not None and not self.is_waiting(actor.instance) and not self.is_alike(actor.instance)
+
+    def is_alike(self, number):
+        """Whether an instance before this one has done nothing yet either, and waits for the same."""
+        alike = (before for before in range(number) if not self.has_stepped[before] and self.pending[before] == self.pending[number])
+        return not self.has_stepped[number] and next(alike, None) is not None
+
+    def is_waiting(self, number):
+        """Whether the real call would wait: a receive, the result of a descriptor, and a poll that was answered just before."""
+        state, request = self.kernel.state, self.pending[number]
+        if request == b"able":
+            return self.polled_at.get(number) == len(state.events)
+        found = OF_WORKER.fullmatch(request)
+        if not found or int(found[1]) >= self.seats:
+            return False
+        if found[2] in RECEIVES:
+            return state.received == state.entered_calls
+        put = state.worker(self.seat(number, int(found[1]))).request
+        return found[2] == b"addfd-result" and put is not None and put.answer is None and put.call.is_listed
+
+    # ---- calls of the broker
+
+    def ask(self, request):
+        told = self.kernel.ask(request)
+        self.hash.update(request + b"\n" + told)
+        if self.kernel.judge.fault is not None and self.shown is None:
+            self.shown = len(self.kernel.session)
+        return told
+
+    def seat(self, number, seat):
+        """The worker that the seat of an instance is."""
+        return number * self.seats + seat
+
+    def mapped(self, number, request):
+        """A request of an instance as the kernel gets it. Raises NotSupported."""
+        found = OF_WORKER.fullmatch(ZEROED.sub(b"recv", request))
+        if not found:
+            if request.split(b" ")[0] in (b"t", b"close"):
+                raise NotSupported(f"the broker asks for `{request.decode('latin-1')}`: under this tool the tasks step by themselves")
+            return request
+        seat = int(found[1])
+        return request if seat >= SEATS else b"w %d %s%s" % (self.seat(number, seat) if seat < self.seats else SEATS, found[2], found[3])
+
+    def answer(self, number):
+        """Makes the call that an instance waits for."""
+        request, before = self.pending[number], len(self.kernel.state.events)
+        told = self.ask(self.mapped(number, request))
+        if request == b"able":
+            self.polled_at[number] = len(self.kernel.state.events)
+        self.idle_calls[number] = 0 if len(self.kernel.state.events) > before else self.idle_calls[number] + 1
+        if self.idle_calls[number] > MOST_IDLE:
+            raise Hangs
+        self.instances[number].reply(told)
+
+    def hear(self, number):
+        """Wants the next call of an instance, or to hear of its end."""
+        self.current = number
+        self.pending[number] = yield number
+        if self.pending[number] is None:
+            self.note_end(number)
+
+    def note_end(self, number):
+        """Notes that an instance has ended in the midst of the run."""
+        status = self.instances[number].status
+        if status:
+            self.trouble(Kind.DIED, f"it was ended by signal {-status}" if status < 0 else f"it ended with status {status}")

@@ -1,0 +1,42 @@
+"""Orders of steps: where a turn is passed on although its owner could step (docs/EXPLORE.md, What a bound means).
+
+A choice is there wherever more than one actor is able to step. Choices are counted from 0; a schedule has the delays at those where there are some, and there are none at the others.
+"""
+from typing import NamedTuple, Optional, Tuple
+
+
+class Delay(NamedTuple):
+    """So many able actors are passed over at a choice."""
+
+    choice: int
+    count: int
+
+
+class Planned(NamedTuple):
+    """A schedule that is to be run, and what the run has to have been like up to its last delay, by its digest."""
+
+    delays: Tuple[Delay, ...] = ()
+    wanted: Optional[bytes] = None
+
+    @property
+    def total(self):
+        return sum(delay.count for delay in self.delays)
+
+    def order(self):
+        """The key by which schedules with equally many delays are ordered: at the first choice where two differ, fewer delays come first."""
+        return [(-delay.choice, delay.count) for delay in self.delays]
+
+
+class Choice(NamedTuple):
+    """A choice of a run: how many actors were able, and the digest of all that had happened."""
+
+    able: int
+    digest: bytes
+
+
+def followers(planned, choices, most):
+    """The schedules that have one delay more than a run, behind its last one, with at most so many delays in all."""
+    begin, left = planned.delays[-1].choice + 1 if planned.delays else 0, most - planned.total
+    for at in range(begin, len(choices)):
+        for count in range(1, min(choices[at].able - 1, left) + 1):
+            yield Planned((*planned.delays, Delay(at, count)), choices[at].digest)

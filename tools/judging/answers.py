@@ -1,0 +1,150 @@
+"""The clauses of an answer that is sent. Each test gives None where its clause is kept, and else why it is broken."""
+from dataclasses import dataclass
+from functools import cached_property
+from typing import Optional
+
+from judging import clauses, decisions
+from judging.faults import Reason
+from judging.servings import Effect, Serving
+from stepping.facts import CONTINUE, Fail, error_text
+from stepping.trees import EBADF
+
+EDQUOT = 122
+
+
+@dataclass
+class TriedAnswer:
+    """An answer: to which id, what the call is to return, and what the kernel said."""
+
+    place: int
+    serving: Optional[Serving]
+    id: int
+    back: object
+    answer: Optional[Fail]
+    judge: object
+
+    @property
+    def call(self):
+        return self.serving.call
+
+    @property
+    def effect(self) -> Optional[Effect]:
+        return self.serving.effect
+
+    @property
+    def is_value(self):
+        return self.back != CONTINUE and not isinstance(self.back, Fail)
+
+    @cached_property
+    def copy(self):
+        return self.serving.valid_copy()
+
+    @cached_property
+    def by_registers(self):
+        return decisions.rule_by_registers(self.judge.rules, self.call)
+
+    @cached_property
+    def rule(self):
+        """The rule that decides, by the copy, or by registers where there is none; None where neither tells."""
+        if self.effect is not None:
+            return self.effect.rule
+        if self.copy.texts is not None:
+            return self.judge.rule_for(self.call, self.copy.texts)
+        return self.by_registers
+
+    @cached_property
+    def remembered(self) -> Optional[Effect]:
+        """An effect of an earlier call, entered anew, whose result nobody was told."""
+        return self.judge.unused_effect(self.call, self.copy.texts)
+
+
+def no_call(tried):
+    return [] if tried.serving is None else None
+
+
+def other_answer(tried):
+    return [Reason(f"the call in hand has the id {tried.call.id}", tried.serving.place)] if tried.id != tried.call.id else None
+
+
+def uncaused(tried):
+    if tried.effect is not None or tried.copy.is_known or tried.by_registers is not None:
+        return None
+    reads, name = tried.serving.reads, decisions.names_of_texts(tried.call.number)[tried.copy.missing_part]
+    last = [Reason("the last good check of this call", reads.checks[-1])] if reads.checks else [Reason("no good check of this call since here", tried.serving.place)]
+    return [Reason(f"byte {tried.copy.missing_byte} of the {name} is missing"), *last]
+
+
+def says(tried):
+    """What the policy says, in words."""
+    if tried.effect is None and tried.copy.fault is not None and (tried.by_registers is None or tried.by_registers.verdict in ("grant", "inject")):
+        return Reason(f"the copy has the fault {error_text(tried.copy.fault)}")
+    rule = tried.rule
+    return Reason(f"rule {rule.name} says {rule.verdict}" + (f" {error_text(rule.error)}" if rule.verdict == "deny" else ""))
+
+
+def is_base_error(tried):
+    """Whether a relative path was refused since the call's descriptor leads to no directory."""
+    texts = tried.copy.texts
+    if tried.back.number != EBADF or tried.serving.base_refused_at is None or texts is None:
+        return False
+    paths = [text for name, text in zip(decisions.names_of_texts(tried.call.number), texts) if name in ("path", "target")]
+    return not any(path.startswith(b"/") for path in paths)
+
+
+def is_said(tried):
+    """Whether an error without an effect is what the policy says, or the fault of the copy."""
+    number, rule = tried.back.number, tried.rule
+    if number == tried.copy.fault:
+        return True
+    if rule is None:
+        return False
+    if rule.verdict == "deny":
+        return number == rule.error
+    return rule.verdict == "grant" and (number == EDQUOT and tried.judge.is_spent(rule) or is_base_error(tried))
+
+
+def denied_otherwise(tried):
+    if tried.effect is not None or not isinstance(tried.back, Fail) or is_said(tried):
+        return None
+    return [says(tried)]
+
+
+def passed_otherwise(tried):
+    if tried.back != CONTINUE:
+        return None
+    if tried.effect is not None:
+        return [Reason("this was done for the call", tried.effect.place)]
+    if tried.copy.fault is not None and tried.by_registers is None:
+        return [says(tried)]
+    return None if tried.rule.verdict == "pass" else [says(tried)]
+
+
+def granted_not_done(tried):
+    if not tried.is_value or (tried.effect is not None and tried.effect.has_succeeded) or tried.remembered is not None:
+        return None
+    if tried.effect is not None:
+        return [Reason("this has not succeeded", tried.effect.place)]
+    return [Reason("there was no effect since here", tried.serving.place)]
+
+
+def other_outcome(tried):
+    effect = tried.effect
+    if tried.is_value:
+        source = effect if effect is not None and effect.has_succeeded else tried.remembered
+        return None if source.outcome == tried.back else [Reason(f"its result is {source.outcome}", source.place)]
+    if effect is None or tried.back == CONTINUE or effect.allows_error(tried.back.number):
+        return None
+    return [Reason("its result is another one", effect.place)]
+
+
+def answered_already(tried):
+    if tried.answer is None or not tried.serving.was_answered:
+        return None
+    first = tried.serving.answered_at
+    return [Reason("the first one", tried.effect.place if first is None else first)]
+
+
+CLAUSES = (
+    (clauses.ANSWER_WITHOUT_CALL, no_call), (clauses.OTHER_ANSWER, other_answer), (clauses.UNCAUSED, uncaused), (clauses.DENIED_OTHERWISE, denied_otherwise),
+    (clauses.PASSED_OTHERWISE, passed_otherwise), (clauses.GRANTED_NOT_DONE, granted_not_done), (clauses.OTHER_OUTCOME, other_outcome), (clauses.ANSWERED_ALREADY, answered_already),
+)

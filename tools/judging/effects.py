@@ -1,0 +1,190 @@
+"""The clauses of an effect. Each test gives None where its clause is kept, and else why it is broken."""
+from dataclasses import dataclass
+from typing import Optional
+
+from judging import clauses, decisions
+from judging.copies import Quality
+from judging.faults import Reason
+from judging.servings import Serving
+from stepping.facts import CALL_NAMES, O_CLOEXEC, Fail, error_text
+
+ACT, PLANT, PUT = "act", "plant", "addfd-put"
+
+
+@dataclass
+class TriedEffect:
+    """An effect, as it was asked for: `asked` is a request, an address or the structure of a descriptor's request, `content` what a plant writes."""
+
+    place: int
+    kind: str
+    serving: Optional[Serving]
+    asked: object
+    answer: Optional[Fail]
+    # the directory from which it was done, and where that was opened
+    base: Optional[int] = None
+    base_opened_at: Optional[int] = None
+    memory: object = None
+    content: bytes = b""
+
+    @property
+    def texts(self):
+        """The texts for which it is done: those that it names, or else the newest copy of the best reads that make one."""
+        if self.kind == ACT:
+            return decisions.texts_of(self.asked)
+        copies = (self.serving.reads.copy(quality).texts for quality in reversed(Quality))
+        return next((texts for texts in copies if texts is not None), ())
+
+
+# ---- what it is about
+
+
+def no_call(tried, _):
+    return [] if tried.serving is None else None
+
+
+def numbers_of(tried):
+    if tried.kind == ACT:
+        return decisions.numbers_of_act(tried.asked)
+    if tried.kind == PLANT:
+        return decisions.Numbers("sysinfo", address=tried.asked)
+    return decisions.Numbers("openat", flags=tried.asked.newfd_flags & O_CLOEXEC)
+
+
+def other_request(tried, _):
+    call = tried.serving.call
+    differences = decisions.numbers_of_call(call.number, call.args).differences(numbers_of(tried))
+    if tried.kind == PUT and tried.asked.id != call.id:
+        differences.insert(0, "id")
+    if not differences:
+        return None
+    called = CALL_NAMES.get(call.number, str(call.number))
+    return [Reason(f"the call is {called}" if "call" in differences else f"another {differences[0]}", tried.serving.entry.place)]
+
+
+# ---- the copy that it rests on
+
+
+def weakest(tried):
+    """The byte of its texts with the worst reads: how good the best of them is, the part, the byte, and that read."""
+    reads = tried.serving.reads
+    found = (Quality.CHECKED, None, None, None)
+    if tried.kind == ACT:
+        for at, text in enumerate(tried.texts):
+            for byte, (quality, read) in enumerate(reads.support(at, text)):
+                if quality < found[0]:
+                    found = (quality, at, byte, read)
+    elif tried.kind == PUT:
+        for quality in (Quality.ANY, Quality.OF_CALLER, Quality.WHILE_LISTED, Quality.CHECKED):
+            copy = reads.copy(quality)
+            if copy.texts is None:
+                better = reads.at_least(Quality(quality - 1))
+                return Quality(quality - 1), copy.missing_part, copy.missing_byte, better[-1] if better else None
+    return found
+
+
+def named(tried, at):
+    return decisions.names_of_texts(tried.serving.call.number)[at]
+
+
+def unread(tried, _):
+    misfit = tried.serving.reads.misfit(tried.texts) if tried.kind == ACT else None
+    since = Reason("since here", tried.serving.place)
+    if misfit is not None:
+        return [Reason(f"the call has no such {named(tried, misfit)}"), since]
+    quality, at, byte, _ = weakest(tried)
+    if quality != Quality.NONE:
+        return None
+    fault = tried.serving.reads.copy(Quality.ANY).fault if tried.kind == PUT else None
+    return [Reason(f"byte {byte} of the {named(tried, at)}" if fault is None else f"the copy has the fault {error_text(fault)}"), since]
+
+
+def other_memory(tried, judge):
+    if tried.kind == PLANT:
+        if tried.memory is tried.serving.call.task.group:
+            return None
+        return [Reason(judge.whose(tried.memory), judge.memory_opened_at(tried.serving.worker))]
+    quality, at, byte, read = weakest(tried)
+    return [Reason(f"byte {byte} of the {named(tried, at)}, from {judge.whose(read.memory)}", read.place)] if quality == Quality.ANY else None
+
+
+def stale_copy(tried, _):
+    quality, at, byte, read = weakest(tried)
+    if quality != Quality.OF_CALLER:
+        return None
+    return [Reason("here the call left the list", tried.serving.entry.left_at), Reason(f"byte {byte} of the {named(tried, at)}", read.place)]
+
+
+def unchecked(tried, _):
+    reads = tried.serving.reads
+    if not reads.parts:
+        return None if reads.checks else [Reason("no check since here", tried.serving.place)]
+    quality, at, byte, read = weakest(tried)
+    if quality != Quality.WHILE_LISTED:
+        return None
+    before = [Reason("the last good check of this call", reads.checks[-1])] if reads.checks else [Reason("no check since here", tried.serving.place)]
+    return [*before, Reason(f"byte {byte} of the {named(tried, at)}", read.place)]
+
+
+# ---- where it is done
+
+
+def other_base(tried, judge):
+    if tried.kind != ACT or decisions.path_of(tried.asked).startswith(b"/"):
+        return None
+    serving = tried.serving
+    if tried.base is None:
+        return None if serving.base_refused_at is not None else [Reason("no directory was opened since here", serving.place)]
+    right = judge.tables.directory(serving.call.task.group, decisions.dirfd_of(serving.call), tried.base_opened_at)
+    return None if right == tried.base else [Reason(f"the call's descriptor {decisions.dirfd_of(serving.call)} leads elsewhere", tried.base_opened_at)]
+
+
+# ---- the policy
+
+
+def is_granted(tried, rule, judge):
+    if tried.kind == PUT:
+        return rule.verdict == "inject" and decisions.is_just_put(rule, tried.asked)
+    if rule.verdict != "grant":
+        return False
+    return decisions.is_just_so(rule, tried.asked) if tried.kind == ACT else tried.content == judge.kernel.container_sysinfo()
+
+
+def readings(tried):
+    """Reads on which its texts may rest, as few as the newest ones make it."""
+    found = {read.place: f"the {named(tried, at)} was read here" for at, text in enumerate(tried.texts) for read in tried.serving.reads.newest_support(at, text)}
+    return [Reason(text, place) for place, text in sorted(found.items())]
+
+
+def ungranted(tried, judge):
+    rule = judge.rule_for(tried.serving.call, tried.texts)
+    if is_granted(tried, rule, judge):
+        return None
+    says = f"rule {rule.name} says {rule.verdict}"
+    return [*readings(tried), Reason(says if rule.verdict not in ("grant", "inject") else f"{says}, but not just this")]
+
+
+def spent(tried, judge):
+    rule = judge.rule_for(tried.serving.call, tried.texts)
+    if tried.answer is not None or not judge.is_spent(rule):
+        return None
+    return [Reason(f"rule {rule.name} grants {rule.times} in all"), *(Reason("one of them", place) for place in judge.times[rule.name])]
+
+
+# ---- what was done before
+
+
+def again(tried, _):
+    effect = tried.serving.effect
+    return None if effect is None else [Reason("the first one", effect.place)]
+
+
+def after_answer(tried, _):
+    place = tried.serving.answered_at
+    return None if place is None else [Reason("the answer", place)]
+
+
+ABOUT_CALL = ((clauses.EFFECT_WITHOUT_CALL, no_call), (clauses.OTHER_REQUEST, other_request))
+OF_CALL = (
+    (clauses.UNREAD, unread), (clauses.OTHER_MEMORY, other_memory), (clauses.STALE_COPY, stale_copy), (clauses.UNCHECKED, unchecked), (clauses.OTHER_BASE, other_base),
+    (clauses.UNGRANTED, ungranted), (clauses.SPENT, spent), (clauses.AGAIN, again), (clauses.AFTER_ANSWER, after_answer),
+)

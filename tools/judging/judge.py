@@ -1,0 +1,231 @@
+"""Follows a history of the kernel, whoever its workers are, and finds the first clause that is broken."""
+from dataclasses import dataclass
+from typing import Dict, List, Optional
+
+from judging import answers, clauses, decisions, effects
+from judging.clauses import Clause, Gravity
+from judging.copies import Read, Reads
+from judging.effects import ACT, PLANT, PUT, TriedEffect
+from judging.faults import Fault, Reason
+from judging.servings import Effect, Entry, Serving
+from judging.tables import Tables
+from stepping.facts import SEND, Fail
+from stepping.kernel import Call, Kernel, Task
+from stepping.trees import EBADF
+
+
+@dataclass
+class Counts:
+    """What a history has: the calls that were received, and what was done and sent for them."""
+
+    calls: int = 0
+    effects: int = 0
+    answers: int = 0
+
+
+class Judge:
+    """Hears each event of a kernel right behind it. `fault` is what was found first; nothing is looked for behind it."""
+
+    def __init__(self, kernel: Kernel, rules):
+        self.kernel, self.rules = kernel, rules
+        self.fault: Optional[Fault] = None
+        self.counts = Counts()
+        self.tables = Tables(kernel)
+        self.entries: Dict[Call, Entry] = {}
+        # how many calls each task has entered
+        self.entered: Dict[Task, int] = {}
+        self.servings: Dict[int, Serving] = {}
+        # of each task the listed call in which it waits
+        self.entered_in: Dict[Task, Call] = {}
+        self.effects: List[Effect] = []
+        # of each rule with a limit the places of the effects that have spent its times
+        self.times: Dict[str, List[int]] = {}
+        # where each worker has opened the memory and the directory that it has
+        self.opened_memory: Dict[int, int] = {}
+        self.opened_base: Dict[int, int] = {}
+
+    def take(self, place, event, content=b""):
+        """Takes an event; `content` is what a plant was asked to write."""
+        if self.fault is not None:
+            return
+        if event.actor[0] == "w":
+            self.take_of_worker(place, int(event.actor[1:]), event.kind, event.facts, content)
+        elif event.actor[0] == "t":
+            self.take_of_task(place, self.task_of(event.actor), event.kind, event.facts)
+
+    def task_of(self, actor):
+        return self.kernel.tasks[tuple(map(int, actor[1:].split(".")))]
+
+    # ---- tasks
+
+    def take_of_task(self, place, task, kind, facts):
+        if kind == "call":
+            ordinal = self.entered[task] = self.entered.get(task, 0) + 1
+            if task.call is not None:
+                self.entries[task.call] = Entry(place, ordinal)
+                self.entered_in[task] = task.call
+        elif kind in ("resume", "deliver"):
+            self.note_leaving(place, task)
+        elif kind == "native":
+            self.tables.note(place, task.group)
+        elif kind == "install":
+            self.tables.note(place, task.group)
+            self.test_waiting(place, task.call)
+        elif kind == "spawn" and not isinstance(facts[1], Fail):
+            self.tables.note(place, self.kernel.tasks[facts[0]].group)
+
+    def note_leaving(self, place, task):
+        """Notes where the call in which a task was has left the list."""
+        call = self.entered_in.get(task)
+        if call is not None and not call.is_listed:
+            self.entries[call].left_at = place
+            del self.entered_in[task]
+
+    # ---- workers
+
+    def take_of_worker(self, place, worker, kind, facts, content):
+        serving = self.servings.get(worker)
+        if kind == "recv":
+            self.receive(place, worker, facts[0])
+        elif kind == "open-mem":
+            self.note_memory(place, worker, facts[1])
+        elif kind == "open-base":
+            self.note_base(place, worker, facts[1], facts[2])
+        elif kind == "check":
+            self.note_check(place, serving, facts[0], facts[1])
+        elif kind == "read" and serving is not None:
+            serving.reads.reads.append(Read(place, self.kernel.worker(worker).memory, facts[0], facts[1], facts[2], serving.call.is_listed))
+        elif kind in (ACT, PLANT, PUT):
+            self.take_effect(place, worker, kind, facts, content)
+        elif kind == "send":
+            self.take_answer(place, serving, *facts)
+        elif kind == "let-go":
+            self.let_go(place, worker)
+
+    def receive(self, place, worker, notif):
+        if isinstance(notif, Fail):
+            return
+        self.let_go(place, worker)
+        self.counts.calls += 1
+        call = self.kernel.named(notif.id)
+        self.servings[worker] = Serving(worker, place, call, self.entries[call], Reads(call, call.task.group))
+
+    def let_go(self, place, worker):
+        serving = self.servings.pop(worker, None)
+        if serving is not None:
+            self.test_waiting(place, serving.call)
+
+    def note_memory(self, place, worker, answer):
+        if answer is None:
+            self.opened_memory[worker] = place
+
+    def note_base(self, place, worker, dirfd, answer):
+        serving = self.servings.get(worker)
+        if answer is None:
+            self.opened_base[worker] = place
+        elif serving is not None and answer.number == EBADF and dirfd == decisions.dirfd_of(serving.call):
+            if self.tables.directory(serving.call.task.group, dirfd, place) is None:
+                serving.base_refused_at = place
+
+    def note_check(self, place, serving, identifier, answer):
+        if serving is not None and answer is None and identifier == serving.call.id:
+            serving.reads.checks.append(place)
+
+    def memory_opened_at(self, worker):
+        return self.opened_memory.get(worker)
+
+    def whose(self, memory):
+        """Whose a memory is, in words."""
+        owners = [task for task in self.kernel.tasks.values() if task.group is memory]
+        return f"the memory of {owners[0].actor}" if owners else "no memory that is open"
+
+    # ---- the policy
+
+    def rule_for(self, call, texts):
+        return decisions.rule_for(self.rules, call, texts)
+
+    def is_spent(self, rule):
+        return rule.times is not None and len(self.times.get(rule.name, ())) >= rule.times
+
+    # ---- effects and answers
+
+    def take_effect(self, place, worker, kind, facts, content):
+        serving, of_worker = self.servings.get(worker), self.kernel.worker(worker)
+        tried = TriedEffect(place, kind, serving, facts[0], facts[1], of_worker.base, self.opened_base.get(worker), of_worker.memory, content)
+        self.counts.effects += 1
+        self.counts.answers += kind == PUT and facts[0].flags & SEND != 0
+        if not self.test(tried, effects.ABOUT_CALL, self) and not self.test(tried, effects.OF_CALL, self):
+            self.note_effect(tried)
+
+    def note_effect(self, tried):
+        texts, call = tried.texts, tried.serving.call
+        rule = self.rule_for(call, texts)
+        is_put = tried.kind == PUT
+        request = self.kernel.worker(tried.serving.worker).request if is_put and tried.answer is None else None
+        effect = Effect(tried.place, tried.kind, call, rule, texts, tried.answer, request, tried.asked.flags if is_put else 0)
+        tried.serving.effect = effect
+        self.effects.append(effect)
+        if tried.answer is None and rule.times is not None:
+            self.times.setdefault(rule.name, []).append(tried.place)
+
+    def take_answer(self, place, serving, identifier, back, answer):
+        self.counts.answers += 1
+        tried = answers.TriedAnswer(place, serving, identifier, back, answer, self)
+        if self.test(tried, answers.CLAUSES):
+            return
+        if serving.answered_at is None:
+            serving.answered_at = place
+        source = tried.effect if tried.effect is not None and tried.effect.has_succeeded else tried.remembered if tried.is_value else None
+        if source is not None and answer is None:
+            source.used_at = place
+
+    def unused_effect(self, call, texts):
+        """An effect that succeeded for an earlier call of the same task, with equal registers and texts, and whose outcome no call has returned."""
+        alike = (
+            effect for effect in self.effects
+            if effect.call is not call and effect.call.task is call.task and (effect.call.number, effect.call.args) == (call.number, call.args)
+        )
+        return next((it for it in alike if texts is not None and it.texts == texts and it.has_succeeded and it.used_at is None and it.call.back is None), None)
+
+    # ---- what is found
+
+    def test(self, tried, table, *more):
+        """Finds the first clause of a table that is broken, and whether there is one. What breaks only the order is as grave as what breaks behind it."""
+        broken = ((clause, reasons) for clause, test in table for reasons in [test(tried, *more)] if reasons is not None)
+        clause, reasons = next(broken, (None, None))
+        if clause is None:
+            return False
+        gravity = clause.gravity
+        if gravity == Gravity.ORDER:
+            gravity = next((later.gravity for later, _ in broken), gravity)
+        self.find(tried.place, clause, tried.serving.call if tried.serving else None, reasons, gravity)
+        return True
+
+    def find(self, place, clause: Clause, call, reasons, gravity=None):
+        entered_at = self.entries[call].place if call is not None else None
+        self.fault = Fault(place, clause, gravity or clause.gravity, call, entered_at, reasons)
+
+    def test_waiting(self, place, call):
+        """A call that was received and waits is somebody's."""
+        if call is None or not self.waits(call) or any(serving.call is call for serving in self.servings.values()):
+            return
+        self.find(place, clauses.UNANSWERED, call, [])
+
+    @staticmethod
+    def waits(call):
+        return call.is_listed and call.is_waiting
+
+    def note_idle(self):
+        """The broker does nothing more by itself: each call that it has received is answered, or has gone."""
+        waiting = next((call for call in self.kernel.calls if self.waits(call)), None)
+        if self.fault is None and waiting is not None:
+            received = next((serving.place for serving in self.servings.values() if serving.call is waiting), None)
+            reasons = [Reason("it was received here", received)] if received is not None else []
+            self.find(len(self.kernel.events) - 1, clauses.UNANSWERED, waiting, reasons)
+
+    def text(self):
+        """What is printed: that the broker has mediated, or what it has broken."""
+        if self.fault is not None:
+            return self.fault.text(self.kernel.events)
+        counts = self.counts
+        return f"mediated events={len(self.kernel.events)} calls={counts.calls} effects={counts.effects} answers={counts.answers}\n"
