@@ -106,4 +106,3 @@ def rule_by_registers(rules, call):
 def dirfd_of(call):
     """The descriptor from which the relative paths of a call go."""
     return base_of(call.number, call.args)
-
