@@ -3,6 +3,7 @@ import os
 import shutil
 import subprocess
 import sys
+import tempfile
 
 # a user without rights
 NOBODY = 65534
@@ -36,6 +37,17 @@ class Trials:
         return 1 if self.failed else 0
 
 
+def input_of(data):
+    """What a command reads as standard input. It is a file that every user may open anew, as `step` does; a pipe of this one couldn't be opened by another."""
+    if data is None:
+        return open(os.devnull, "rb")
+    source = tempfile.TemporaryFile()
+    os.fchmod(source.fileno(), 0o644)
+    source.write(data)
+    source.seek(0)
+    return source
+
+
 class Ended:
     """What a command came to."""
 
@@ -46,8 +58,9 @@ class Ended:
             os.setuid(user)
 
         try:
-            ended = subprocess.run(words, cwd=folder, env=environment, stdin=None if data is not None else subprocess.DEVNULL, input=data, stdout=subprocess.PIPE,
-                                   stderr=subprocess.PIPE, timeout=seconds, preexec_fn=drop_rights if user is not None else None)
+            with input_of(data) as source:
+                ended = subprocess.run(words, cwd=folder, env=environment, stdin=source, stdout=subprocess.PIPE, stderr=subprocess.PIPE, timeout=seconds,
+                                       preexec_fn=drop_rights if user is not None else None)
             self.status, self.out, self.said = ended.returncode, ended.stdout.decode(errors="replace"), ended.stderr.decode(errors="replace")
         except subprocess.TimeoutExpired:
             self.status, self.out, self.said = -1, "", f"{words[0]} hadn't ended after {seconds} seconds"
