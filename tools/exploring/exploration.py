@@ -68,8 +68,9 @@ class Explored:
         return bool(self.findings) or any(kind is Kind.DIED for kind, _, _ in self.troubles)
 
 
-# the setting of the process that runs; a process of a pool gets it when it is made
+# the setting of the process that runs, and whether no more is to be run; a process of a pool gets them when it is made
 current: Optional[Setting] = None
+over = None
 
 
 def set_current(setting):
@@ -77,25 +78,34 @@ def set_current(setting):
     current = setting
 
 
-def begin_process():
-    """What a process of a pool does first: an interrupt is for the one that has made it, which ends it so that it ends what it has started."""
+def begin_process(is_over):
+    """What a process of a pool does first: an interrupt is for the one that has made it, and the end is told by `is_over`."""
+    global over
+    over = is_over
     signal.signal(signal.SIGINT, signal.SIG_IGN)
     signal.signal(signal.SIGTERM, lambda *_: sys.exit(1))
 
 
-def run_one(planned) -> Played:
-    return Run(current, planned).play()
+def run_one(planned) -> Optional[Played]:
+    return None if over is not None and over.is_set() else Run(current, planned).play()
 
 
 @contextmanager
 def runner(setting, jobs):
-    """A function that runs schedules, in order, with so many processes."""
+    """A function that runs schedules, in order, with so many processes. At the end each process finishes its run, and ends with all that it has started; none is killed, which could leave a lock of the pool taken."""
     set_current(setting)
     if jobs == 1:
         yield lambda batch: map(run_one, batch)
         return
-    with multiprocessing.get_context("fork").Pool(jobs, begin_process) as pool:
+    context = multiprocessing.get_context("fork")
+    is_over = context.Event()
+    pool = context.Pool(jobs, begin_process, (is_over,))
+    try:
         yield lambda batch: pool.imap(run_one, batch, AT_ONCE)
+    finally:
+        is_over.set()
+        pool.close()
+        pool.join()
 
 
 def explore(setting, delays, limit=None, jobs=1, tell=lambda explored: None) -> Explored:
