@@ -1,0 +1,14 @@
+pub mod AllCalls
+pub mod Conditions
+pub mod FieldEq
+pub mod Flags
+pub mod Kept
+pub mod Left
+pub mod Lists
+pub mod NodeCases
+pub mod Searched
+pub mod Sights
+pub mod Stands
+pub mod StandingCalls
+pub mod TextCases
+pub mod Untouched

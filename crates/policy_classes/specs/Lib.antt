@@ -1,0 +1,11 @@
+pub mod Asked
+pub mod Atoms
+pub mod Changed
+pub mod Choices
+pub mod Chosen
+pub mod Classes
+pub mod Fields
+pub mod Laws
+pub mod Plain
+pub mod Search
+pub mod Standing

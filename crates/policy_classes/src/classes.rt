@@ -1,0 +1,14 @@
+//! Classes of calls.
+
+use hist_model::request::Request;
+
+/// The calls for which one rule of the old policy and one of the new policy decide, with one of them.
+#[derive(Debug, Drop)]
+pub struct Class {
+    /// The place of the deciding rule in the old policy, from 0; the number of rules where none decides.
+    pub old_place: usize,
+    /// That in the new policy.
+    pub new_place: usize,
+    /// A call of the class.
+    pub witness: Request,
+}
