@@ -4,7 +4,6 @@ use Rattle.std.proofs.Common.{◌≡◌, ℕ, List, ◌++◌, length, ◌∙◌,
 use Rattle.std.proofs.lemmas.List.{take_all}
 use Rattle.std.specs.Prelude.{Result, Ok, Err}
 use Rattle.hist_model.specs.Legal.{played}
-use Rattle.hist_model.specs.Mediated.{Mediated}
 use Rattle.hist_model.specs.ReportAudit.{judging_by}
 use Rattle.hist_model.specs.declared.event.Event.{Event}
 use Rattle.hist_model.specs.declared.policy.Policy.{Policy}
@@ -19,14 +18,17 @@ use Rattle.audit_log.specs.declared.error.ReportError.TheVariants.{WriteFault, N
 use Rattle.generated_input.specs.GeneratedPolicy.{generated_policy}
 use Rattle.generated_input.specs.GeneratedScript.{generated_script}
 use Rattle.broker_app.specs.Answers.{GeneratedIsMediated, Printed, StressEnds, generated_summary, printout_of, status_of, text_of}
-use Rattle.broker_app.specs.Inputs.{PolicyIs, ScriptIs}
+use Rattle.script_reader.specs.declared.file.ScriptFile.{ScriptFile}
+use Rattle.broker_app.specs.Inputs.{PolicyIs, ScriptFileIs}
+use Rattle.broker_app.specs.Handovers.{HandoverEnds, IsHandedOver, handover_report, with_ledgers}
 use Rattle.broker_app.specs.Lines.{status_of_report}
 use Rattle.broker_app.specs.Plays.{AreRead, PlayEnds, Printing}
 use Rattle.broker_app.specs.Refusals.{InputRefused, Stands}
 use Rattle.broker_app.specs.declared.printing.Printout.{Printout}
 use Rattle.broker_app.specs.declared.printing.Printout.TheVariants.{Summary}
 use Rattle.broker_app.specs.declared.status.Status.{Status}
-use Rattle.broker_app.specs.declared.status.Status.TheVariants.{Done, NoMemory as OutOfMemory, WriteFault as CannotWrite}
+use Rattle.broker_app.specs.declared.status.Refusal.TheVariants.{HasRequests}
+use Rattle.broker_app.specs.declared.status.Status.TheVariants.{Done, NoMemory as OutOfMemory, Refused, WriteFault as CannotWrite}
 
 same_printout : (printout : Printout) (Q P : Policy) (K L : List Event) → Q ≡ P → K ≡ L → text_of printout (judging_by Q.rules) K ≡ text_of printout (judging_by P.rules) L
 same_printout printout Q P K L q e = rw (q, e) refl
@@ -89,23 +91,42 @@ stress_ends from count old new (Err Done) m p = absurd p
 stress_ends from count old new (Err status) m p = p
 
 -- what two files play was printed, or a part of it
-pub play_ends : (files after : FileState) (old new : SinkState) (policy script : List ℕ) (text : Printing) (P : Policy) (S : Script) (r : Result (Unit {0}) Status) → PolicyIs files policy (Ok P)
-    → ScriptIs files script (Ok S) → Mediated P S (played P S) → Printed (text P S) old new r → PlayEnds files after old new policy script text (status_of r)
-play_ends files after old new policy script text P S r policy_is script_is mediated printed = by r printed
+pub play_ends : (files after : FileState) (old new : SinkState) (policy script : List ℕ) (printing : Printing) (P : Policy) (F : ScriptFile) (r : Result (Unit {0}) Status) → PolicyIs files policy (Ok P)
+    → ScriptFileIs files script (Ok F) → printing.Holds P F → Printed (printing.text P F) old new r → PlayEnds files after old new policy script printing (status_of r)
+play_ends files after old new policy script printing P F r policy_is file_is holds printed = by r printed
   where
-    are : AreRead files policy script P S
-    are = record { policy_is = policy_is; script_is = script_is; mediated = mediated }
+    are : AreRead files policy script printing P F
+    are = record { policy_is = policy_is; file_is = file_is; holds = holds }
 
-    by : (r : Result (Unit {0}) Status) → Printed (text P S) old new r → PlayEnds files after old new policy script text (status_of r)
-    by (Ok u) p = ((P, S, are, p.0), p.1)
-    by (Err CannotWrite) p = (p.0, (P, S, are, p.1))
-    by (Err OutOfMemory) p = inr (P, S, are, p)
+    by : (r : Result (Unit {0}) Status) → Printed (printing.text P F) old new r → PlayEnds files after old new policy script printing (status_of r)
+    by (Ok u) p = ((P, F, are, p.0), p.1)
+    by (Err CannotWrite) p = (p.0, (P, F, are, p.1))
+    by (Err OutOfMemory) p = inr (P, F, are, p)
     by (Err status) p = absurd p
 
 -- nothing was played, since the policy or the script wasn't taken
-pub play_stops : (files after : FileState) (sink : SinkState) (policy script : List ℕ) (text : Printing) (status : Status) → InputRefused files after policy script status
-    → PlayEnds files after sink sink policy script text status
-play_stops files after sink policy script text OutOfMemory h = inl (λ t. refl)
-play_stops files after sink policy script text Done h = absurd h
-play_stops files after sink policy script text CannotWrite h = absurd h
-play_stops files after sink policy script text status h = (h, λ t. refl)
+pub play_stops : (files after : FileState) (sink : SinkState) (policy script : List ℕ) (printing : Printing) (status : Status) → InputRefused files after policy script status
+    → PlayEnds files after sink sink policy script printing status
+play_stops files after sink policy script printing OutOfMemory h = inl (λ t. refl)
+play_stops files after sink policy script printing Done h = absurd h
+play_stops files after sink policy script printing CannotWrite h = absurd h
+play_stops files after sink policy script printing status h = (h, λ t. refl)
+
+-- the same where workers would have been replaced
+pub handover_stops : (files after : FileState) (sink : SinkState) (policy script : List ℕ) (every : ℕ) (status : Status) → InputRefused files after policy script status
+    → HandoverEnds files after sink sink policy script every status
+handover_stops files after sink policy script every (Refused HasRequests) h = absurd h
+handover_stops files after sink policy script every (Refused refusal) h = play_stops files after sink policy script (with_ledgers every) (Refused refusal) h
+handover_stops files after sink policy script every status h = play_stops files after sink policy script (with_ledgers every) status h
+
+-- and where they were
+pub handover_ends : (files after : FileState) (old new : SinkState) (policy script : List ℕ) (every : ℕ) (P : Policy) (F : ScriptFile) (r : Result (Unit {0}) Status) → PolicyIs files policy (Ok P)
+    → ScriptFileIs files script (Ok F) → IsHandedOver P F → Printed (handover_report every P F.script) old new r → HandoverEnds files after old new policy script every (status_of r)
+handover_ends files after old new policy script every P F r policy_is file_is handed printed = by r printed (play_ends files after old new policy script (with_ledgers every) P F r policy_is file_is handed printed)
+  where
+    by : (r : Result (Unit {0}) Status) → Printed (handover_report every P F.script) old new r → PlayEnds files after old new policy script (with_ledgers every) (status_of r)
+        → HandoverEnds files after old new policy script every (status_of r)
+    by (Ok u) p e = e
+    by (Err (Refused HasRequests)) p e = absurd p
+    by (Err (Refused refusal)) p e = e
+    by (Err status) p e = e

@@ -1,12 +1,9 @@
 -- The text of a play whose workers were replaced.
 -- By the lines one after another, and since the same history and the same ledgers have one text.
-use Rattle.std.proofs.Common.{◌≡◌, ℕ, ◌+◌, ◌<◌, List, [], ◌∷◌, ◌++◌, length, suc, ◌≤◌, take, drop, get_or, refl, sym, ap, subst, ◌∙◌, append-nil}
+use Rattle.std.proofs.Common.{◌≡◌, ℕ, ◌<◌, List, [], ◌∷◌, ◌++◌, length, suc, ◌≤◌, take, get_or, refl, sym, ap, subst, ◌∙◌}
 use Rattle.std.specs.Prelude.{Result, Ok, Err}
 use Rattle.std.specs.List.{flat_map}
-use Rattle.std.proofs.lemmas.Grind.{flat_map-append}
-use Rattle.std.proofs.lemmas.List.{take-append-drop, take_all, take_more}
 use Rattle.std.proofs.lemmas.List.Concat.{flat_map-cons}
-use Rattle.audit_log.proofs.Writing.{wrote_front, wrote_more}
 use Rattle.audit_log.specs.Written.{Wrote}
 use Rattle.audit_log.specs.declared.error.ReportError.{ReportError}
 use Rattle.hist_model.specs.Legal.{played}
@@ -19,6 +16,7 @@ use Rattle.io_edge.specs.SinkState.{SinkState}
 use Rattle.handover.specs.Handing.{handed}
 use Rattle.handover.specs.Keeping.{all_handed, handed_as}
 use Rattle.handover.specs.declared.ledgers.Handover.{Handover}
+use Rattle.broker_app.proofs.Items.{all_written, one_failed}
 use Rattle.broker_app.specs.Answers.{Printed}
 use Rattle.broker_app.specs.Handovers.{handover_report, handovers, ledger_line}
 use Rattle.broker_app.specs.declared.status.Status.{Status}
@@ -38,30 +36,14 @@ pub all_lines : (hs : List Handover) → flat_map line_of_handed hs ≡ flat_map
 all_lines [] = refl
 all_lines (h ∷ more) = flat_map-cons line_of_handed h more ∙ (ap (λ ys. ledger_line (handed_as h) ++ ys) (all_lines more) ∙ sym (flat_map-cons ledger_line (handed_as h) (all_handed more)))
 
-line_more : (hs : List Handover) (i : ℕ) (h : Handover) → i < length hs → h ≡ get_or hs i h → flat_map line_of_handed (take (i + 1) hs) ≡ flat_map line_of_handed (take i hs) ++ line_of_handed h
-line_more hs i h l is =
-    ap (flat_map line_of_handed) (take_more hs i h l)
-    ∙ (flat_map-append line_of_handed (take i hs) (get_or hs i h ∷ [])
-    ∙ ap (λ ys. flat_map line_of_handed (take i hs) ++ ys) (append-nil (line_of_handed (get_or hs i h)) ∙ ap line_of_handed (sym is)))
-
--- one more line was written
-pub ledger_written : (hs : List Handover) (i : ℕ) (h : Handover) (old mid new : SinkState) → i < length hs → h ≡ get_or hs i h
-    → Wrote old (flat_map line_of_handed (take i hs)) (Ok tt) mid → Wrote mid (line_of_handed h) (Ok tt) new → Wrote old (flat_map line_of_handed (take (i + 1) hs)) (Ok tt) new
-ledger_written hs i h old mid new l is before now = rw (line_more hs i h l is) (wrote_more old mid new (flat_map line_of_handed (take i hs)) (line_of_handed h) (Ok tt) before now)
-
 -- one more line failed
 pub ledger_failed : (hs : List Handover) (i : ℕ) (h : Handover) (e : ReportError) (old mid new : SinkState) → i < length hs → h ≡ get_or hs i h
     → Wrote old (flat_map line_of_handed (take i hs)) (Ok tt) mid → Wrote mid (line_of_handed h) (Err e) new → Wrote old (flat_map ledger_line (all_handed hs)) (Err e) new
-ledger_failed hs i h e old mid new l is before now =
-    let one = wrote_more old mid new (flat_map line_of_handed (take i hs)) (line_of_handed h) (Err e) before now in
-    let whole : flat_map ledger_line (all_handed hs) ≡ (flat_map line_of_handed (take i hs) ++ line_of_handed h) ++ flat_map line_of_handed (drop (i + 1) hs) =
-    sym (all_lines hs) ∙ (ap (flat_map line_of_handed) (sym (take-append-drop (i + 1) hs))
-    ∙ (flat_map-append line_of_handed (take (i + 1) hs) (drop (i + 1) hs) ∙ ap (λ ys. ys ++ flat_map line_of_handed (drop (i + 1) hs)) (line_more hs i h l is))) in
-    rw whole (wrote_front old new (flat_map line_of_handed (take i hs) ++ line_of_handed h) (flat_map line_of_handed (drop (i + 1) hs)) e one)
+ledger_failed hs i h e old mid new l is before now = rw (all_lines hs) at (one_failed line_of_handed hs i h e old mid new l is before now)
 
 -- all lines were written
-pub all_written : (hs : List Handover) (i : ℕ) (old new : SinkState) → length hs ≤ i → Wrote old (flat_map line_of_handed (take i hs)) (Ok tt) new → Wrote old (flat_map ledger_line (all_handed hs)) (Ok tt) new
-all_written hs i old new l w = rw (take_all i hs l, all_lines hs) at w
+pub ledgers_written : (hs : List Handover) (i : ℕ) (old new : SinkState) → length hs ≤ i → Wrote old (flat_map line_of_handed (take i hs)) (Ok tt) new → Wrote old (flat_map ledger_line (all_handed hs)) (Ok tt) new
+ledgers_written hs i old new l w = rw (all_lines hs) at (all_written line_of_handed hs i old new l w)
 
 -- ---- The report
 

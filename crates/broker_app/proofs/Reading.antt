@@ -1,16 +1,17 @@
 -- What the bytes of a file are read as, where the file told them, and why there are none; the same of files that others were read before.
 -- By the equation that says which bytes they are, since no reading changes files, and by cases on the status.
 use Rattle.std.proofs.Common.{◌≡◌, ℕ, ◌<◌, List, length, Option, Result, Ok, Err, ◌∙◌, ap, sym, subst}
-use Rattle.std.specs.Prelude.{IsSomeAnd}
+use Rattle.std.specs.Prelude.{IsSomeAnd, Some, None}
 use Rattle.hist_model.specs.declared.policy.Policy.{Policy}
 use Rattle.hist_model.specs.declared.script.Script.{Script}
 use Rattle.io_edge.proofs.Laws.{then_rose}
 use Rattle.io_edge.specs.FileState.{FileState, ReadsPast, SameFiles}
 use Rattle.policy_reader.specs.Policies.{policy as policy_of}
 use Rattle.policy_reader.specs.declared.error.PolicyError.{PolicyError}
-use Rattle.script_reader.specs.Scripts.{script as script_of}
+use Rattle.script_reader.specs.Scripts.{script as script_of, script_file, script_in}
+use Rattle.script_reader.specs.declared.file.ScriptFile.{ScriptFile as ScriptFileValue}
 use Rattle.script_reader.specs.declared.error.ScriptError.{ScriptError}
-use Rattle.broker_app.specs.Inputs.{CallsAre, HasBytes, PolicyIs, ReadsAs, ReportIs, ScriptIs, calls_limit, policy_limit, report_limit, script_limit}
+use Rattle.broker_app.specs.Inputs.{CallsAre, HasBytes, PolicyIs, ReadsAs, ReportIs, ScriptFileIs, ScriptHas, ScriptIs, calls_limit, policy_limit, report_limit, script_limit}
 use Rattle.broker_app.specs.Refusals.{CallsRefused, CannotRead, FileRefused, InputRefused, PolicyRefused, ReportRefused, ScriptRefused}
 use Rattle.broker_app.specs.declared.status.InputFile.TheVariants.{Policy as PolicyFile, Script as ScriptFile, Report as ReportFile, Calls as CallsFile}
 use Rattle.broker_app.specs.declared.status.Refusal.{Refusal}
@@ -53,6 +54,17 @@ calls_unread files after name (Refused (TooLong file)) h = let other = h.0 in cc
 calls_unread files after name NoMemory h = tt
 calls_unread files after name status h = absurd h
 
+-- a script is what its file states, without the lines of another broker's workers
+alone : (file : Option (List ℕ)) (reading : Result ScriptFileValue ScriptError) → ReadsAs script_file script_limit file reading → ReadsAs script_of script_limit file (script_in reading)
+alone None reading h = absurd h
+alone (Some bytes) reading (within, is) = (within, ap script_in is)
+
+pub script_alone : (files : FileState) (name : List ℕ) (F : ScriptFileValue) → ScriptFileIs files name (Ok F) → ScriptIs files name (Ok F.script)
+script_alone files name F h = λ t. alone (files.bytes name) (Ok F) (h t)
+
+pub script_refused : (files : FileState) (name : List ℕ) (error : ScriptError) → ScriptFileIs files name (Err error) → ScriptIs files name (Err error)
+script_refused files name error h = λ t. alone (files.bytes name) (Err error) (h t)
+
 -- ---- Files of which others were read before
 
 module _ (files mid after : FileState) (name : List ℕ) (same : SameFiles files mid) where
@@ -61,6 +73,12 @@ module _ (files mid after : FileState) (name : List ℕ) (same : SameFiles files
 
   pub script_is_before : (reading : Result Script ScriptError) → ScriptIs mid name reading → ScriptIs files name reading
   script_is_before reading h = λ t. subst (λ f. ReadsAs script_of script_limit f reading) bytes_before (h (same.tells ∙ t))
+
+  pub file_is_before : (reading : Result ScriptFileValue ScriptError) → ScriptFileIs mid name reading → ScriptFileIs files name reading
+  file_is_before reading h = λ t. subst (λ f. ReadsAs script_file script_limit f reading) bytes_before (h (same.tells ∙ t))
+
+  pub script_has_before : (bytes : List ℕ) → ScriptHas mid name bytes → ScriptHas files name bytes
+  script_has_before bytes h = λ t. subst (λ f. HasBytes script_limit f bytes) bytes_before (h (same.tells ∙ t))
 
   pub policy_is_before : (reading : Result Policy PolicyError) → PolicyIs mid name reading → PolicyIs files name reading
   policy_is_before reading h = λ t. subst (λ f. ReadsAs policy_of policy_limit f reading) bytes_before (h (same.tells ∙ t))

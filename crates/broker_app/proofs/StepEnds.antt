@@ -3,7 +3,8 @@
 use Rattle.std.proofs.Common.{◌≡◌, ℕ, true, List, None, inl, inr, refl, sym, ap, subst, ◌∙◌}
 use Rattle.std.specs.Prelude.{Option, Ok, IsSomeAnd, MatchOption, ◌++◌}
 use Rattle.hist_model.specs.Legal.{started}
-use Rattle.hist_model.specs.declared.policy.Policy.{Policy}
+use Rattle.step_session.specs.Scripts.{before_schedule}
+use Rattle.step_session.specs.declared.origin.Origin.{Origin}
 use Rattle.hist_model.specs.declared.script.Script.{Script}
 use Rattle.io_edge.proofs.Laws.{then_rose}
 use Rattle.io_edge.specs.Faults.{Rose}
@@ -32,10 +33,11 @@ step_stops files after sink policy script (Refused (BadScript error)) h = (h, λ
 step_stops files after sink policy script status h = absurd h
 
 -- both were taken
-module _ (files mid after : FileState) (old new : SinkState) (policy script : List ℕ) (P : Policy) (S : Script) (same : SameFiles files mid) (policy_is : PolicyIs files policy (Ok P))
-    (script_is : ScriptIs files script (Ok S)) (kernel : (lines : List (List ℕ)) → IsBegun S (history_after P S (started S) lines)) where
+module _ (files mid after : FileState) (old new : SinkState) (policy script : List ℕ) (P : Origin) (S : Script) (same : SameFiles files mid) (policy_is : PolicyIs files policy (Ok P.policy))
+    (script_is : ScriptIs files script (Ok S)) (front_is : files.tells ≡ true → IsSomeAnd (files.bytes script) (λ bytes. P.front ≡ before_schedule bytes))
+    (kernel : (lines : List (List ℕ)) → IsBegun S (history_after P S (started S) lines)) where
   are : AreStepped files policy script P S
-  are = record { policy_is = policy_is; script_is = script_is; kernel = kernel }
+  are = record { policy_is = policy_is; script_is = script_is; front_is = front_is; kernel = kernel }
 
   bytes_same : mid.bytes requests_name ≡ files.bytes requests_name
   bytes_same = ap (λ bytes. bytes requests_name) same.bytes

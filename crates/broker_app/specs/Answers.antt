@@ -19,8 +19,8 @@ use Rattle.broker_app.specs.Checks.{CheckEnds}
 use Rattle.broker_app.specs.Explanations.{ExplainEnds}
 use Rattle.broker_app.specs.Explorations.{ExploreEnds}
 use Rattle.broker_app.specs.Findings.{findings}
-use Rattle.broker_app.specs.Handovers.{handover_report, handovers}
-use Rattle.broker_app.specs.Plays.{PlayEnds, report_of}
+use Rattle.broker_app.specs.Handovers.{HandoverEnds, handovers}
+use Rattle.broker_app.specs.Plays.{PlayEnds, as_report}
 use Rattle.broker_app.specs.Pods.{PodEnds}
 use Rattle.broker_app.specs.Refusals.{Stands, TookNothing}
 use Rattle.broker_app.specs.Runs.{ByLanes, ByWorkers, RunEnds}
@@ -94,14 +94,13 @@ IsUsage _ = ⊥
 -- what the answer means, by the form of the words: usage exactly where they have none
 abbrev pub Answers : Option Form → FileState → FileState → SinkState → SinkState → Status → Type 0
 Answers None files after old new status = IsUsage status × TookNothing old new
-Answers (Some (Play policy script)) files after old new status = PlayEnds files after old new policy script report_of status
+Answers (Some (Play policy script)) files after old new status = PlayEnds files after old new policy script as_report status
 Answers (Some (Stress from count)) files after old new status = StressEnds from count old new status
 Answers (Some (Run policy script workers cpus)) files after old new status =
     RunEnds files after old new policy script (ByWorkers workers) status
 Answers (Some (Lanes policy script cpus)) files after old new status = RunEnds files after old new policy script ByLanes status
 Answers (Some (AuditCheck policy script report)) files after old new status = CheckEnds files after old new policy script report status
-Answers (Some (Handover policy script every)) files after old new status =
-    PlayEnds files after old new policy script (handover_report every) status
+Answers (Some (Handover policy script every)) files after old new status = HandoverEnds files after old new policy script every status
 Answers (Some (Pod workers cpus pairs)) files after old new status = PodEnds files after old new workers pairs status
 Answers (Some (Explore policy script workers delays)) files after old new status =
     ExploreEnds files after old new policy script workers delays status

@@ -1,11 +1,22 @@
--- What is printed of a play whose workers were replaced.
-use Rattle.std.specs.Prelude.{ℕ, ◌++◌, List, length, codes, decimal}
+-- What is printed of a play whose workers were replaced, and how it ended.
+use Rattle.std.specs.Prelude.{◌≡◌, ℕ, ◌++◌, List, [], length, Ok, codes, decimal}
 use Rattle.std.specs.List.{flat_map}
 use Rattle.hist_model.specs.Legal.{played}
+use Rattle.hist_model.specs.Mediated.{Mediated}
+use Rattle.hist_model.specs.Report.{report}
+use Rattle.hist_model.specs.ReportAudit.{judging_by}
 use Rattle.hist_model.specs.declared.policy.Policy.{Policy}
 use Rattle.hist_model.specs.declared.script.Script.{Script}
 use Rattle.handover.specs.Handing.{Handed, handed}
-use Rattle.broker_app.specs.Plays.{report_of}
+use Rattle.io_edge.specs.FileState.{FileState}
+use Rattle.io_edge.specs.SinkState.{SinkState}
+use Rattle.script_reader.specs.declared.file.ScriptFile.{ScriptFile}
+use Rattle.broker_app.specs.Inputs.{PolicyIs, ScriptFileIs}
+use Rattle.broker_app.specs.Plays.{PlayEnds, Printing}
+use Rattle.broker_app.specs.Refusals.{TookNothing}
+use Rattle.broker_app.specs.declared.status.Refusal.TheVariants.{HasRequests}
+use Rattle.broker_app.specs.declared.status.Status.{Status}
+use Rattle.broker_app.specs.declared.status.Status.TheVariants.{Refused}
 
 -- the line of a ledger from which a worker was replaced
 abbrev pub ledger_line : Handed → List ℕ
@@ -22,4 +33,24 @@ handovers all = handovers_title (length all) ++ flat_map ledger_line all
 -- the report of the history that a policy and a script play, and the ledgers from which workers are replaced
 -- in it after each so many of their steps
 abbrev pub handover_report : ℕ → Policy → Script → List ℕ
-handover_report every P S = report_of P S ++ handovers (handed every (played P S))
+handover_report every P S = report (judging_by P.rules) (played P S) ++ handovers (handed every (played P S))
+
+-- ---- How it ended
+
+-- what a script's own schedule plays is mediated; there are no lines of another broker's workers, which nobody can replace
+pub record IsHandedOver (P : Policy) (F : ScriptFile) : Type 0 where
+  pub turns : F.turns ≡ []
+  pub mediated : Mediated P F.script (played P F.script)
+
+abbrev pub with_ledgers : ℕ → Printing
+with_ledgers every = record { text = λ P F. handover_report every P F.script; Holds = IsHandedOver }
+
+-- the files were read, and the script has such lines
+abbrev pub HasTurns : FileState → List ℕ → List ℕ → Type 0
+HasTurns files policy script =
+    (P : Policy) × (F : ScriptFile) × PolicyIs files policy (Ok P) × ScriptFileIs files script (Ok F) × (F.turns ≡ [] → ⊥)
+
+-- how a play ended whose workers are replaced after each so many of their steps
+abbrev pub HandoverEnds : FileState → FileState → SinkState → SinkState → List ℕ → List ℕ → ℕ → Status → Type 0
+HandoverEnds files after old new policy script every (Refused HasRequests) = HasTurns files policy script × TookNothing old new
+HandoverEnds files after old new policy script every status = PlayEnds files after old new policy script (with_ledgers every) status

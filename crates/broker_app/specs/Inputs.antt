@@ -5,8 +5,9 @@ use Rattle.hist_model.specs.declared.script.Script.{Script}
 use Rattle.io_edge.specs.FileState.{FileState}
 use Rattle.policy_reader.specs.Policies.{policy}
 use Rattle.policy_reader.specs.declared.error.PolicyError.{PolicyError}
-use Rattle.script_reader.specs.Scripts.{script}
+use Rattle.script_reader.specs.Scripts.{script, script_file}
 use Rattle.script_reader.specs.declared.error.ScriptError.{ScriptError}
+use Rattle.script_reader.specs.declared.file.ScriptFile.{ScriptFile}
 
 -- the bytes that a policy has at most, a script, and a report
 abbrev pub policy_limit : ℕ
@@ -38,6 +39,14 @@ PolicyIs files name reading = files.tells ≡ true → ReadsAs policy policy_lim
 -- and this script
 abbrev pub ScriptIs : FileState → List ℕ → Result Script ScriptError → Type 0
 ScriptIs files name reading = files.tells ≡ true → ReadsAs script script_limit (files.bytes name) reading
+
+-- and states this script, with these lines of another broker's workers
+abbrev pub ScriptFileIs : FileState → List ℕ → Result ScriptFile ScriptError → Type 0
+ScriptFileIs files name reading = files.tells ≡ true → ReadsAs script_file script_limit (files.bytes name) reading
+
+-- and these are its bytes
+abbrev pub ScriptHas : FileState → List ℕ → List ℕ → Type 0
+ScriptHas files name bytes = files.tells ≡ true → HasBytes script_limit (files.bytes name) bytes
 
 -- and these are the bytes of this report
 abbrev pub ReportIs : FileState → List ℕ → List ℕ → Type 0

@@ -13,7 +13,7 @@ use Rattle.broker_app.specs.declared.status.InputFile.TheVariants.{Policy as Pol
 use Rattle.broker_app.specs.declared.status.InputFile.TheVariants.{Calls as CallsFile}
 use Rattle.broker_app.specs.declared.status.InputFile.TheVariants.{Requests as RequestsFile}
 use Rattle.broker_app.specs.declared.status.Refusal.{Refusal}
-use Rattle.broker_app.specs.declared.status.Refusal.TheVariants.{ReadFault, TooLong, BadPolicy, BadScript, BadCalls}
+use Rattle.broker_app.specs.declared.status.Refusal.TheVariants.{ReadFault, TooLong, BadPolicy, BadScript, BadCalls, HasRequests}
 use Rattle.broker_app.specs.declared.status.Status.{Status}
 use Rattle.broker_app.specs.declared.status.Status.TheVariants.{Done, Usage, Refused, ContainerRefused}
 use Rattle.broker_app.specs.declared.status.Status.TheVariants.{WriteFault, NoMemory, NotReport, PidsOverlap}
@@ -24,6 +24,7 @@ code_of_refusal (TooLong file) = 3
 code_of_refusal (BadPolicy error) = 4
 code_of_refusal (BadScript error) = 5
 code_of_refusal (BadCalls error) = 5
+code_of_refusal HasRequests = 5
 
 abbrev pub code_of : Status → ℕ
 code_of Done = 0
@@ -68,6 +69,7 @@ refusal_line (TooLong file) = codes "too long: " ++ file_named file
 refusal_line (BadPolicy error) = policy_line error
 refusal_line (BadScript error) = script_line error
 refusal_line (BadCalls error) = calls_line error
+refusal_line HasRequests = codes "script: requests in the schedule\n"
 
 -- of which container the file is
 abbrev pub container_front : ℕ → List ℕ

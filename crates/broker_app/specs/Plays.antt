@@ -1,50 +1,75 @@
 -- What the answer of a play of two files means: what is printed of the history that they play, and why it stopped.
-use Rattle.std.specs.Prelude.{◌≡◌, ℕ, ◌++◌, ◌⊎◌, true, List, Ok}
+use Rattle.std.specs.Prelude.{◌≡◌, ℕ, ◌++◌, ◌⊎◌, true, List, [], ◌∷◌, Ok}
 use Rattle.hist_model.specs.Legal.{played}
 use Rattle.hist_model.specs.Mediated.{Mediated}
 use Rattle.hist_model.specs.Report.{report}
 use Rattle.hist_model.specs.ReportAudit.{judging_by}
+use Rattle.hist_model.specs.declared.event.Event.{Event}
 use Rattle.hist_model.specs.declared.policy.Policy.{Policy}
 use Rattle.hist_model.specs.declared.script.Script.{Script}
 use Rattle.io_edge.specs.Faults.{Rose}
 use Rattle.io_edge.specs.FileState.{FileState}
 use Rattle.io_edge.specs.SinkState.{SinkState, AddsPrefix}
-use Rattle.broker_app.specs.Inputs.{PolicyIs, ScriptIs}
+use Rattle.script_reader.specs.declared.file.ScriptFile.{ScriptFile}
+use Rattle.step_requests.specs.declared.request.Turn.{Turn}
+use Rattle.step_session.specs.Answers.{IsBegun}
+use Rattle.turn_player.specs.Turns.{turned}
+use Rattle.broker_app.specs.Inputs.{PolicyIs, ScriptFileIs}
 use Rattle.broker_app.specs.Refusals.{InputRefused, Stands, TookNothing}
 use Rattle.broker_app.specs.declared.status.Status.{Status}
 use Rattle.broker_app.specs.declared.status.Status.TheVariants.{Done, WriteFault, NoMemory}
 
+-- ---- What is played
+
+-- the history that a policy and a script play by the script's own schedule, or by its lines where a worker of another broker has requests
+abbrev pub played_by : Policy → Script → List Turn → List Event
+played_by P S [] = played P S
+played_by P S (t ∷ turns) = turned P S (t ∷ turns)
+
+-- and what holds of it: it is mediated, or whatever such workers ask for, it is one of the kernel
+abbrev pub IsLawfullyPlayed : Policy → Script → List Turn → Type 0
+IsLawfullyPlayed P S [] = Mediated P S (played P S)
+IsLawfullyPlayed P S (t ∷ turns) = IsBegun S (turned P S (t ∷ turns))
+
 -- ---- What was printed
 
--- what is printed of what a policy and a script play
-abbrev pub Printing : Type 0
-Printing = Policy → Script → List ℕ
+-- what is printed of what a policy and a script's file play, and what holds of that
+pub record Printing : Type 1 where
+  pub text : Policy → ScriptFile → List ℕ
+  pub Holds : Policy → ScriptFile → Type 0
 
 -- the report of the history that they play
-abbrev pub report_of : Policy → Script → List ℕ
-report_of P S = report (judging_by P.rules) (played P S)
+abbrev pub report_of : Policy → ScriptFile → List ℕ
+report_of P F = report (judging_by P.rules) (played_by P F.script F.turns)
 
--- these are the policy and the script of the named files, and what they play is mediated
-pub record AreRead (files : FileState) (policy script : List ℕ) (P : Policy) (S : Script) : Type 0 where
+abbrev pub as_report : Printing
+as_report = record { text = report_of; Holds = λ P F. IsLawfullyPlayed P F.script F.turns }
+
+-- these are the policy and the script of the named files, and what is printed of them holds
+pub record AreRead (files : FileState) (policy script : List ℕ) (printing : Printing) (P : Policy) (F : ScriptFile) : Type 0 where
   pub policy_is : PolicyIs files policy (Ok P)
-  pub script_is : ScriptIs files script (Ok S)
-  pub mediated : Mediated P S (played P S)
+  pub file_is : ScriptFileIs files script (Ok F)
+  pub holds : printing.Holds P F
 
 -- the sink took a prefix of what is printed of what the two files play
 abbrev pub TookPlayPrefix : FileState → List ℕ → List ℕ → Printing → SinkState → SinkState → Type 0
-TookPlayPrefix files policy script text old new =
-    (P : Policy) × (S : Script) × AreRead files policy script P S × (old.tells ≡ true → AddsPrefix old.taken (text P S) new.taken)
+TookPlayPrefix files policy script printing old new =
+    (P : Policy) × (F : ScriptFile) × AreRead files policy script printing P F
+    × (old.tells ≡ true → AddsPrefix old.taken (printing.text P F) new.taken)
 
 -- the sink took the whole of it
 abbrev pub TookPlay : FileState → List ℕ → List ℕ → Printing → SinkState → SinkState → Type 0
-TookPlay files policy script text old new =
-    (P : Policy) × (S : Script) × AreRead files policy script P S × (old.tells ≡ true → new.taken ≡ old.taken ++ text P S)
+TookPlay files policy script printing old new =
+    (P : Policy) × (F : ScriptFile) × AreRead files policy script printing P F
+    × (old.tells ≡ true → new.taken ≡ old.taken ++ printing.text P F)
 
 -- ---- How it ended
 
 -- how the play of a policy's and a script's files ended
 abbrev pub PlayEnds : FileState → FileState → SinkState → SinkState → List ℕ → List ℕ → Printing → Status → Type 0
-PlayEnds files after old new policy script text Done = TookPlay files policy script text old new × Stands new
-PlayEnds files after old new policy script text WriteFault = Rose old.faults new.faults × TookPlayPrefix files policy script text old new
-PlayEnds files after old new policy script text NoMemory = TookNothing old new ⊎ TookPlayPrefix files policy script text old new
-PlayEnds files after old new policy script text status = InputRefused files after policy script status × TookNothing old new
+PlayEnds files after old new policy script printing Done = TookPlay files policy script printing old new × Stands new
+PlayEnds files after old new policy script printing WriteFault =
+    Rose old.faults new.faults × TookPlayPrefix files policy script printing old new
+PlayEnds files after old new policy script printing NoMemory =
+    TookNothing old new ⊎ TookPlayPrefix files policy script printing old new
+PlayEnds files after old new policy script printing status = InputRefused files after policy script status × TookNothing old new

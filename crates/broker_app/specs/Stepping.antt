@@ -1,7 +1,8 @@
 -- What the answer of `step` means: what is answered to the requests on the standard input, and why it stopped.
-use Rattle.std.specs.Prelude.{◌≡◌, ℕ, true, List, None, Ok, ◌⊎◌, codes}
+use Rattle.std.specs.Prelude.{◌≡◌, ℕ, true, IsSomeAnd, List, None, Ok, ◌⊎◌, codes}
 use Rattle.hist_model.specs.Legal.{started}
-use Rattle.hist_model.specs.declared.policy.Policy.{Policy}
+use Rattle.step_session.specs.Scripts.{before_schedule}
+use Rattle.step_session.specs.declared.origin.Origin.{Origin}
 use Rattle.hist_model.specs.declared.script.Script.{Script}
 use Rattle.io_edge.specs.Faults.{Rose}
 use Rattle.io_edge.specs.FileState.{FileState}
@@ -21,20 +22,21 @@ abbrev pub requests_name : List ℕ
 requests_name = codes "/dev/stdin"
 
 -- these are the policy and the script of the named files, and whatever is asked, the history is one of the kernel
-pub record AreStepped (files : FileState) (policy script : List ℕ) (P : Policy) (S : Script) : Type 0 where
-  pub policy_is : PolicyIs files policy (Ok P)
+pub record AreStepped (files : FileState) (policy script : List ℕ) (origin : Origin) (S : Script) : Type 0 where
+  pub policy_is : PolicyIs files policy (Ok origin.policy)
   pub script_is : ScriptIs files script (Ok S)
-  pub kernel : (lines : List (List ℕ)) → IsBegun S (history_after P S (started S) lines)
+  pub front_is : files.tells ≡ true → IsSomeAnd (files.bytes script) (λ bytes. origin.front ≡ before_schedule bytes)
+  pub kernel : (lines : List (List ℕ)) → IsBegun S (history_after origin S (started S) lines)
 
 -- the sink took the answers to all requests
 abbrev pub TookAnswers : FileState → List ℕ → List ℕ → SinkState → SinkState → Type 0
 TookAnswers files policy script old new =
-    (P : Policy) × (S : Script) × AreStepped files policy script P S × TookAll P S files requests_name old new
+    (origin : Origin) × (S : Script) × AreStepped files policy script origin S × TookAll origin S files requests_name old new
 
 -- the sink took a prefix of them
 abbrev pub TookAnswersPrefix : FileState → List ℕ → List ℕ → SinkState → SinkState → Type 0
 TookAnswersPrefix files policy script old new =
-    (P : Policy) × (S : Script) × AreStepped files policy script P S × TookPart P S files requests_name old new
+    (origin : Origin) × (S : Script) × AreStepped files policy script origin S × TookPart origin S files requests_name old new
 
 -- the requests couldn't be read: over a sound source, only where there are none
 abbrev pub RequestsFail : FileState → FileState → Type 0

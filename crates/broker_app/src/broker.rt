@@ -11,8 +11,13 @@ ghost use Rattle.hist_model.specs.declared.script.Script.{Script};
 ghost use Rattle.std.specs.Option.{option_map};
 ghost use Rattle.broker_app.specs.Forms.{IsJobInRange, IsInRange, form_of, job_of, texts};
 ghost use Rattle.broker_app.specs.Answers.{Answers, GeneratedIsMediated, IsPrintable, Printed, Said, StressEnds, generated_summary, printout_of, status_of, text_of};
-ghost use Rattle.broker_app.specs.Handovers.{handover_report};
-ghost use Rattle.broker_app.specs.Plays.{PlayEnds, report_of};
+ghost use Rattle.broker_app.specs.Handovers.{HandoverEnds, handover_report};
+ghost use Rattle.broker_app.specs.Plays.{IsLawfullyPlayed, PlayEnds, as_report, report_of};
+ghost use Rattle.hist_model.specs.Report.{report};
+ghost use Rattle.script_reader.specs.Rules.{AreTurns};
+ghost use Rattle.std.specs.List.{All};
+ghost use Rattle.step_requests.specs.Turns.{AreApart};
+ghost use Rattle.turn_player.specs.Turns.{IsTurn, turned};
 ghost use Rattle.broker_app.specs.Checks.{BytesCheckEnds, CheckEnds};
 ghost use Rattle.broker_app.specs.Lines.{line_of};
 ghost use Rattle.broker_app.specs.Pods.{PodEnds};
@@ -24,13 +29,13 @@ ghost use Rattle.broker_app.specs.declared.status.Status.TheVariants.{Refused};
 
 use crate::explaining::explain_files;
 use crate::exploring::explore_files;
-use crate::inputs::{read_inputs, read_report};
+use crate::inputs::{Inputs, read_inputs, read_report, read_stated};
 use crate::lines::say;
 use crate::players::{Player, TurnTaker, run_container, run_container_by_lanes};
 use crate::pod_printing::print_pod;
 use crate::pods::{read_containers, see_ranges};
 use crate::printing::{Printout, print_history};
-use crate::status::Status;
+use crate::status::{Refusal, Status};
 use crate::stepping::step_files;
 use crate::words::{Form, Job, read_form};
 use audit_check::check::check_report;
@@ -42,9 +47,13 @@ use hist_model::script::Script;
 use io_edge::files::Files;
 use io_edge::sink::Sink;
 use pod_broker::{OpenPod, serve_pod};
+use script_reader::ScriptFile;
 use std::alloc::Global;
 use std::sync::Wait;
 use std::thread::Threads;
+use step_requests::Turn;
+use turn_player::laws::turned_is_of_the_kernel;
+use turn_player::play_turns;
 use worker_gate::{Gate, Played};
 
 /// Prints what is asked of a history.
@@ -137,6 +146,49 @@ fn stress<P: Player, O: Sink>(
     print_generated(player, alloc, from, count, out)
 }
 
+/// Plays a script by the lines of a schedule in which a worker of another broker has requests, and prints the report.
+fn print_turned<O: Sink>(
+    alloc: Global,
+    policy: &Policy,
+    script: Script,
+    turns: &[Turn],
+    out: &mut O,
+) -> Result<(), Status>
+    requires turns { All IsTurn turns.now }
+    requires apart { AreApart turns.now }
+    ensures { Printed (report (judging_by policy.now.rules) (turned policy.now script turns.now)) (O.state out.old) (O.state out.new) result }
+{
+    let (_script, history) = play_turns(alloc, policy, script, turns)?;
+    print_text(alloc, Printout::Report, policy, &history, out)
+}
+
+/// Plays what the file of a script states, and prints the report.
+fn print_file_played<P: Player, O: Sink>(
+    player: &P,
+    alloc: Global,
+    policy: Policy,
+    file: ScriptFile,
+    out: &mut O,
+) -> Result<(), Status>
+    requires { AreTurns file.turns }
+    ensures { Printed (report_of policy file) (O.state out.old) (O.state out.new) result }
+{
+    let ScriptFile { script, turns } = file;
+    if turns.items().is_empty() {
+        return print_played(player, alloc, Printout::Report, policy, script, out);
+    }
+    print_turned(alloc, &policy, script, turns.items(), out)
+}
+
+/// What the file of a script states is played lawfully: it is mediated, or the history is one of the kernel.
+fn is_lawful(policy: &Policy, file: &ScriptFile)
+    requires { AreTurns file.now.turns }
+    ensures { IsLawfullyPlayed policy.now file.now.script file.now.turns }
+{
+    is_mediated(policy, &file.script);
+    turned_is_of_the_kernel();
+}
+
 /// Plays the script in one file under the policy in another, and writes the report.
 #[tactic(auto, using(crate::proofs::Ends::play_stops))]
 fn play_files<P: Player, F: Files, O: Sink>(
@@ -147,12 +199,16 @@ fn play_files<P: Player, F: Files, O: Sink>(
     script: &str,
     out: &mut O,
 ) -> Result<(), Status>
-    ensures ends { PlayEnds (F.state files.old) (F.state files.new) (O.state out.old) (O.state out.new) policy.now script.now report_of (status_of result) }
+    ensures ends { PlayEnds (F.state files.old) (F.state files.new) (O.state out.old) (O.state out.new) policy.now script.now as_report (status_of result) }
     ensures absent { (F.state files.old).sound ≡ true → (F.state files.old).bytes policy.now ≡ None → result ≡ Err (Refused (ReadFault PolicyFile)) }
 {
-    let (policy, script) = read_inputs(alloc, files, policy, script)?;
-    is_mediated(&policy, &script);
-    print_played(player, alloc, Printout::Report, policy, script, out)
+    let Inputs {
+        policy,
+        file,
+        bytes: _bytes,
+    } = read_stated(alloc, files, policy, script)?;
+    is_lawful(&policy, &file);
+    print_file_played(player, alloc, policy, file, out)
 }
 
 /// Plays a script under a policy with workers that are replaced, and prints the report and the ledgers.
@@ -176,8 +232,9 @@ fn print_handed_play<P: Player, O: Sink>(
     printed
 }
 
-/// Plays the script in one file under the policy in another with workers that are replaced, and writes the report and the ledgers.
-#[tactic(auto, using(crate::proofs::Ends::play_stops))]
+/// Plays the script in one file under the policy in another with workers that are replaced, and writes the report and the ledgers. One
+/// whose schedule says what another broker's workers ask for is refused: nobody can replace those.
+#[tactic(auto, using(crate::proofs::Ends::handover_stops))]
 fn hand_over_files<P: Player, F: Files, O: Sink>(
     player: &P,
     alloc: Global,
@@ -188,9 +245,17 @@ fn hand_over_files<P: Player, F: Files, O: Sink>(
     out: &mut O,
 ) -> Result<(), Status>
     requires { 0 < every }
-    ensures { PlayEnds (F.state files.old) (F.state files.new) (O.state out.old) (O.state out.new) policy.now script.now (handover_report every) (status_of result) }
+    ensures { HandoverEnds (F.state files.old) (F.state files.new) (O.state out.old) (O.state out.new) policy.now script.now every (status_of result) }
 {
-    let (policy, script) = read_inputs(alloc, files, policy, script)?;
+    let Inputs {
+        policy,
+        file,
+        bytes: _bytes,
+    } = read_stated(alloc, files, policy, script)?;
+    let ScriptFile { script, turns } = file;
+    if !turns.items().is_empty() {
+        return Err(Status::Refused(Refusal::HasRequests));
+    }
     is_mediated(&policy, &script);
     print_handed_play(player, alloc, policy, script, every, out)
 }

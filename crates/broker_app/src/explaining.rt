@@ -5,36 +5,79 @@ ghost use Rattle.audit_log.specs.Written.{Wrote};
 ghost use Rattle.broker_app.specs.Answers.{Printed, status_of};
 ghost use Rattle.broker_app.specs.Explanations.{BytesExplainEnds, ExplainEnds};
 ghost use Rattle.broker_app.specs.Refusals.{Stands};
+ghost use Rattle.policy_explain.specs.Blocks.{block_text, explained};
 
 use crate::inputs::{read_calls, read_policy};
 use crate::status::{Refusal, Status};
 use audit_log::error::ReportError;
 use audit_log::line::LineBuffer;
 use audit_log::part::write_line;
+use call_lines::Call;
 use hist_model::policy::Policy;
 use io_edge::files::Files;
 use io_edge::sink::Sink;
-use policy_explain::explain;
+use policy_explain::push_block;
 use std::alloc::Global;
 use sys_abi::memory::OrNoMemory;
 
-/// Writes a text, and flushes it.
+/// Writes what is told of a call.
+fn write_block<O: Sink>(
+    alloc: Global,
+    text: &mut LineBuffer,
+    policy: &Policy,
+    call: &Call,
+    out: &mut O,
+) -> Result<(), ReportError>
+    ensures { Wrote (O.state out.old) (block_text policy.now.rules call.now) result (O.state out.new) }
+{
+    text.clear();
+    push_block(alloc, text, policy, call)?;
+    write_line(text, out)
+}
+
+/// Writes what is told of calls, one after another.
+fn write_blocks<O: Sink>(
+    alloc: Global,
+    policy: &Policy,
+    calls: &[Call],
+    out: &mut O,
+) -> Result<(), ReportError>
+    ensures { Wrote (O.state out.old) (explained policy.now.rules calls.now) result (O.state out.new) }
+{
+    let mut text = LineBuffer::new(alloc);
+    for index in 0..calls.len() {
+        write_block(alloc, &mut text, policy, &calls[index], out)?;
+    }
+    Ok(())
+}
+
+/// Writes what is told of calls, and flushes it.
 #[tactic(auto, using(crate::proofs::Ends::flushed))]
-fn write_flushed<O: Sink>(text: &LineBuffer, out: &mut O) -> Result<(), ReportError>
-    ensures wrote { Wrote (O.state out.old) text.now result (O.state out.new) }
+fn write_flushed<O: Sink>(
+    alloc: Global,
+    policy: &Policy,
+    calls: &[Call],
+    out: &mut O,
+) -> Result<(), ReportError>
+    ensures wrote { Wrote (O.state out.old) (explained policy.now.rules calls.now) result (O.state out.new) }
     ensures stands { OnOk result (Stands (O.state out.new)) }
 {
-    write_line(text, out)?;
+    write_blocks(alloc, policy, calls, out)?;
     out.flush()?;
     Ok(())
 }
 
-/// Prints a text.
+/// Prints what is told of calls.
 #[tactic(auto, using(crate::proofs::Ends::printed_whole, crate::proofs::Ends::printed_part))]
-fn print_line<O: Sink>(text: &LineBuffer, out: &mut O) -> Result<(), Status>
-    ensures { Printed text.now (O.state out.old) (O.state out.new) result }
+fn print_explained<O: Sink>(
+    alloc: Global,
+    policy: &Policy,
+    calls: &[Call],
+    out: &mut O,
+) -> Result<(), Status>
+    ensures { Printed (explained policy.now.rules calls.now) (O.state out.old) (O.state out.new) result }
 {
-    write_flushed(text, out)?;
+    write_flushed(alloc, policy, calls, out)?;
     Ok(())
 }
 
@@ -42,14 +85,14 @@ fn print_line<O: Sink>(text: &LineBuffer, out: &mut O) -> Result<(), Status>
 fn explain_bytes<O: Sink>(
     alloc: Global,
     policy: &Policy,
-    calls: &[u8],
+    bytes: &[u8],
     out: &mut O,
 ) -> Result<(), Status>
-    requires { length calls.now ≤ 8388608 }
-    ensures { BytesExplainEnds policy.now calls.now (O.state out.old) (O.state out.new) (status_of result) }
+    requires { length bytes.now ≤ 8388608 }
+    ensures { BytesExplainEnds policy.now bytes.now (O.state out.old) (O.state out.new) (status_of result) }
 {
-    match explain(alloc, policy, calls) {
-        Ok(text) => print_line(&text, out),
+    match call_lines::read_calls(alloc, bytes) {
+        Ok(calls) => print_explained(alloc, policy, calls.items(), out),
         Err(OrNoMemory::Refused(error)) => Err(Status::Refused(Refusal::BadCalls(error))),
         Err(OrNoMemory::NoMemory) => Err(Status::NoMemory),
     }

@@ -2,9 +2,10 @@
 
 ghost use Rattle.std.specs.Prelude.{◌≡◌, ◌^◌, ◌-◌, ◌<◌, ◌≤◌, true, length, None, Some, Ok, IfOk, IfErr, OnOk, Err};
 ghost use Rattle.io_edge.specs.FileState.{SameFiles};
-ghost use Rattle.broker_app.specs.Inputs.{CallsAre, HasBytes, PolicyIs, ReportIs, ScriptIs};
+ghost use Rattle.broker_app.specs.Inputs.{CallsAre, HasBytes, PolicyIs, ReportIs, ScriptFileIs, ScriptHas, ScriptIs};
+ghost use Rattle.script_reader.specs.Rules.{AreTurns};
 ghost use Rattle.broker_app.specs.Refusals.{CallsRefused, FileRefused, InputRefused, PolicyRefused, ReportRefused, ScriptRefused};
-ghost use Rattle.broker_app.specs.declared.status.InputFile.TheVariants.{Policy as PolicyFile, Script as ScriptFile};
+ghost use Rattle.broker_app.specs.declared.status.InputFile.TheVariants as input;
 ghost use Rattle.broker_app.specs.declared.status.Refusal.TheVariants.{ReadFault};
 ghost use Rattle.broker_app.specs.declared.status.Status.TheVariants.{Refused};
 
@@ -13,6 +14,7 @@ use hist_model::policy::Policy;
 use hist_model::script::Script;
 use io_edge::files::Files;
 use io_edge::whole::{ReadAllError, read_all};
+use script_reader::ScriptFile;
 use std::alloc::Global;
 use sys_abi::memory::OrNoMemory;
 
@@ -63,7 +65,7 @@ pub(crate) fn read_policy<F: Files>(
     ensures same { SameFiles (F.state files.old) (F.state files.new) }
     ensures read { IfOk result (λ p. PolicyIs (F.state files.old) name.now (Ok p)) }
     ensures refused { IfErr result (λ s. PolicyRefused (F.state files.old) (F.state files.new) name.now s) }
-    ensures absent { (F.state files.old).sound ≡ true → (F.state files.old).bytes name.now ≡ None → result ≡ Err (Refused (ReadFault PolicyFile)) }
+    ensures absent { (F.state files.old).sound ≡ true → (F.state files.old).bytes name.now ≡ None → result ≡ Err (Refused (ReadFault input.Policy)) }
 {
     let bytes = read_file(alloc, files, name, InputFile::Policy, POLICY_LIMIT)?;
     match policy_reader::read_policy(alloc, bytes.as_slice()) {
@@ -73,24 +75,62 @@ pub(crate) fn read_policy<F: Files>(
     }
 }
 
-/// Reads the script of this name.
+/// Reads what the file of a script states, and gives the bytes of the file too.
 #[tactic(auto, using(crate::proofs::Reading::reads_as, crate::proofs::Reading::script_unread))]
-fn read_script<F: Files>(alloc: Global, files: &mut F, name: &str) -> Result<Script, Status>
+fn read_script_file<F: Files>(
+    alloc: Global,
+    files: &mut F,
+    name: &str,
+) -> Result<(ScriptFile, Vec<u8>), Status>
     ensures same { SameFiles (F.state files.old) (F.state files.new) }
-    ensures read { IfOk result (λ s. ScriptIs (F.state files.old) name.now (Ok s)) }
+    ensures read { IfOk result (λ r. ScriptFileIs (F.state files.old) name.now (Ok r.0)) }
+    ensures turns { IfOk result (λ r. AreTurns r.0.turns) }
+    ensures bytes { IfOk result (λ r. ScriptHas (F.state files.old) name.now r.1.items) }
     ensures refused { IfErr result (λ s. ScriptRefused (F.state files.old) (F.state files.new) name.now s) }
-    ensures absent { (F.state files.old).sound ≡ true → (F.state files.old).bytes name.now ≡ None → result ≡ Err (Refused (ReadFault ScriptFile)) }
+    ensures absent { (F.state files.old).sound ≡ true → (F.state files.old).bytes name.now ≡ None → result ≡ Err (Refused (ReadFault input.Script)) }
 {
     let bytes = read_file(alloc, files, name, InputFile::Script, SCRIPT_LIMIT)?;
-    match script_reader::read_script(alloc, bytes.as_slice()) {
-        Ok(script) => Ok(script),
+    match script_reader::read_file(alloc, bytes.as_slice()) {
+        Ok(file) => Ok((file, bytes)),
         Err(OrNoMemory::Refused(error)) => Err(Status::Refused(Refusal::BadScript(error))),
         Err(OrNoMemory::NoMemory) => Err(Status::NoMemory),
     }
 }
 
+/// A policy, what the file of a script states, and the bytes of that file.
+pub(crate) struct Inputs {
+    pub(crate) policy: Policy,
+    pub(crate) file: ScriptFile,
+    pub(crate) bytes: Vec<u8>,
+}
+
 /// Reads the policy and then the script of these names.
 #[tactic(auto, using(crate::proofs::Reading::policy_stops, crate::proofs::Reading::script_stops))]
+pub(crate) fn read_stated<F: Files>(
+    alloc: Global,
+    files: &mut F,
+    policy: &str,
+    script: &str,
+) -> Result<Inputs, Status>
+    ensures same { SameFiles (F.state files.old) (F.state files.new) }
+    ensures policy { IfOk result (λ read. PolicyIs (F.state files.old) policy.now (Ok read.policy)) }
+    ensures file { IfOk result (λ read. ScriptFileIs (F.state files.old) script.now (Ok read.file)) }
+    ensures turns { IfOk result (λ read. AreTurns read.file.turns) }
+    ensures bytes { IfOk result (λ read. ScriptHas (F.state files.old) script.now read.bytes.items) }
+    ensures refused { IfErr result (λ s. InputRefused (F.state files.old) (F.state files.new) policy.now script.now s) }
+    ensures absent { (F.state files.old).sound ≡ true → (F.state files.old).bytes policy.now ≡ None → result ≡ Err (Refused (ReadFault input.Policy)) }
+{
+    let policy = read_policy(alloc, files, policy)?;
+    let (file, bytes) = read_script_file(alloc, files, script)?;
+    Ok(Inputs {
+        policy,
+        file,
+        bytes,
+    })
+}
+
+/// Reads the policy and then the script of these names, where the script's schedule doesn't matter.
+#[tactic(auto, using(crate::proofs::Reading::script_alone))]
 pub(crate) fn read_inputs<F: Files>(
     alloc: Global,
     files: &mut F,
@@ -101,10 +141,14 @@ pub(crate) fn read_inputs<F: Files>(
     ensures policy { IfOk result (λ read. PolicyIs (F.state files.old) policy.now (Ok read.0)) }
     ensures script { IfOk result (λ read. ScriptIs (F.state files.old) script.now (Ok read.1)) }
     ensures refused { IfErr result (λ s. InputRefused (F.state files.old) (F.state files.new) policy.now script.now s) }
-    ensures absent { (F.state files.old).sound ≡ true → (F.state files.old).bytes policy.now ≡ None → result ≡ Err (Refused (ReadFault PolicyFile)) }
+    ensures absent { (F.state files.old).sound ≡ true → (F.state files.old).bytes policy.now ≡ None → result ≡ Err (Refused (ReadFault input.Policy)) }
 {
-    let policy = read_policy(alloc, files, policy)?;
-    let script = read_script(alloc, files, script)?;
+    let Inputs {
+        policy,
+        file,
+        bytes: _bytes,
+    } = read_stated(alloc, files, policy, script)?;
+    let ScriptFile { script, .. } = file;
     Ok((policy, script))
 }
 

@@ -122,6 +122,7 @@ fn write_refusal<E: Sink>(refusal: &Refusal, err: &mut E) -> Result<(), Failed>
         Refusal::BadPolicy(error) => write_policy_line(error, err),
         Refusal::BadScript(error) => write_script_line(error, err),
         Refusal::BadCalls(error) => write_calls_line(error, err),
+        Refusal::HasRequests => err.write(b"script: requests in the schedule\n"),
     }
 }
 

@@ -34,6 +34,8 @@ pub enum Refusal {
     BadScript(ScriptError),
     /// The calls are refused.
     BadCalls(CallsError),
+    /// The script's schedule says what the workers of another broker ask for, and they would have to be replaced.
+    HasRequests,
 }
 
 impl Refusal {
@@ -45,7 +47,7 @@ impl Refusal {
             Refusal::ReadFault(_) => 2,
             Refusal::TooLong(_) => 3,
             Refusal::BadPolicy(_) => 4,
-            Refusal::BadScript(_) | Refusal::BadCalls(_) => 5,
+            Refusal::BadScript(_) | Refusal::BadCalls(_) | Refusal::HasRequests => 5,
         }
     }
 }

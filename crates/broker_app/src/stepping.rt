@@ -3,13 +3,14 @@
 ghost use Rattle.broker_app.specs.Answers.{status_of};
 ghost use Rattle.broker_app.specs.Stepping.{StepEnds};
 
-use crate::inputs::read_inputs;
+use crate::inputs::{Inputs, read_stated};
 use crate::status::{InputFile, Refusal, Status};
 use io_edge::files::Files;
 use io_edge::sink::Sink;
+use script_reader::ScriptFile;
 use std::alloc::Global;
 use step_session::laws::histories_are_of_the_kernel;
-use step_session::{StepFault, serve};
+use step_session::{Origin, StepFault, serve};
 
 /// The file of the requests: the standard input (proc_pid_fd(5)).
 const REQUESTS: &str = "/dev/stdin";
@@ -25,9 +26,15 @@ pub(crate) fn step_files<F: Files, O: Sink>(
 ) -> Result<(), Status>
     ensures { StepEnds (F.state files.old) (F.state files.new) (O.state out.old) (O.state out.new) policy.now script.now (status_of result) }
 {
-    let (policy, script) = read_inputs(alloc, files, policy, script)?;
+    let Inputs {
+        policy,
+        file,
+        bytes,
+    } = read_stated(alloc, files, policy, script)?;
     histories_are_of_the_kernel();
-    match serve(alloc, &policy, script, files, REQUESTS, out) {
+    let origin = Origin::new(alloc, policy, bytes.as_slice())?;
+    let ScriptFile { script, .. } = file;
+    match serve(alloc, &origin, script, files, REQUESTS, out) {
         Ok(()) => Ok(()),
         Err(StepFault::ReadFault) => Err(Status::Refused(Refusal::ReadFault(InputFile::Requests))),
         Err(StepFault::WriteFault) => Err(Status::WriteFault),

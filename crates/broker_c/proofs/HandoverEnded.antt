@@ -6,22 +6,43 @@ use Rattle.std.proofs.lemmas.Bool.{ltb-true}
 use Rattle.io_edge.specs.FileState.{FileState}
 use Rattle.io_edge.specs.SinkState.{SinkState}
 use Rattle.broker_app.specs.Answers.{Answers, IsUsage}
-use Rattle.broker_app.specs.Handovers.{handover_report}
+use Rattle.broker_app.specs.Handovers.{HandoverEnds, with_ledgers}
 use Rattle.broker_app.specs.Words.{Form, Handover}
 use Rattle.broker_app.specs.declared.status.Status.{Status}
-use Rattle.broker_app.specs.declared.status.Status.TheVariants.{Usage, NoMemory}
+use Rattle.broker_app.specs.declared.status.Status.TheVariants.{Usage, NoMemory, Refused}
+use Rattle.broker_app.specs.declared.status.Refusal.TheVariants.{HasRequests}
 use Rattle.broker_c.proofs.PlayEnded.{ended_gives}
 use Rattle.broker_c.proofs.Ranges.{in_range, out_of_range}
 use Rattle.broker_c.specs.Given.{files_of}
 use Rattle.broker_c.specs.Held.{empty_sink}
-use Rattle.broker_c.specs.Outcomes.{HandoverGives, IsEvery, PlayGives, settled}
+use Rattle.broker_c.specs.Outcomes.{GivesTurns, HandoverGives, IsEvery, PlayGives, settled}
 
 -- where they can be replaced, it ends as a play
-replaced : (policy script : List ℕ) (every room : ℕ) (printed : List ℕ) (status : Status) → IsEvery every → PlayGives (handover_report every) policy script room printed status
+replaced : (policy script : List ℕ) (every room : ℕ) (printed : List ℕ) (status : Status) → IsEvery every → PlayGives (with_ledgers every) policy script room printed status
     → HandoverGives policy script every room printed status
 replaced policy script every room printed Usage can gives = absurd gives
 replaced policy script every room printed NoMemory can gives = gives
+replaced policy script every room printed (Refused HasRequests) can gives = absurd gives
+replaced policy script every room printed (Refused refusal) can gives = (can, gives)
 replaced policy script every room printed status can gives = (can, gives)
+
+-- a script is refused that says what another broker's workers ask for
+refused : (policy script : List ℕ) (every room : ℕ) (over failed : Bool) (new : SinkState) → nat_lt room (length new.taken) ≡ over → IsEvery every → GivesTurns policy script → new.taken ≡ []
+    → HandoverGives policy script every room new.taken (settled over failed (Refused HasRequests))
+refused policy script every room true failed new is can turns nothing = let over = ltb-true room (length new.taken) is in absurd (grind arith)
+refused policy script every room false true new is can turns nothing = inl nothing
+refused policy script every room false false new is can turns nothing = (can, turns, nothing)
+
+-- so it ends where they can be replaced after so many steps
+by_status : (policy script : List ℕ) (every room : ℕ) (failed : Bool) (after : FileState) (new : SinkState) (status : Status) → IsEvery every
+    → HandoverEnds (files_of policy script []) after empty_sink new (codes "policy") (codes "script") every status
+    → HandoverGives policy script every room new.taken (settled (nat_lt room (length new.taken)) failed status)
+by_status policy script every room failed after new (Refused HasRequests) can (turns, nothing) =
+    refused policy script every room (nat_lt room (length new.taken)) failed new refl can (turns.0, turns.1, turns.2 refl, turns.3 refl, turns.4) (nothing refl)
+by_status policy script every room failed after new (Refused refusal) can e =
+    replaced policy script every room new.taken _ can (ended_gives (with_ledgers every) policy script room failed after new (Refused refusal) e)
+by_status policy script every room failed after new status can e =
+    replaced policy script every room new.taken _ can (ended_gives (with_ledgers every) policy script room failed after new status e)
 
 -- nothing is printed where they can't
 unreplaced : (policy script : List ℕ) (every room : ℕ) (over failed : Bool) (new : SinkState) (status : Status) → nat_lt room (length new.taken) ≡ over → ¬ (IsEvery every) → IsUsage status → new.taken ≡ []
@@ -43,7 +64,7 @@ by_every policy script every room failed after new status answers = by (nat_le 1
     by : (within : Bool) → (nat_le 1 every && nat_le every 200000) ≡ within
         → Answers (if within then Some (Handover (codes "policy") (codes "script") every) else None) (files_of policy script []) after empty_sink new status
         → HandoverGives policy script every room new.taken (settled (nat_lt room (length new.taken)) failed status)
-    by true is e = replaced policy script every room new.taken _ (in_range 200000 every is) (ended_gives (handover_report every) policy script room failed after new status e)
+    by true is e = by_status policy script every room failed after new status (in_range 200000 every is) e
     by false is e = unreplaced policy script every room (nat_lt room (length new.taken)) failed new status refl (out_of_range 200000 every is) e.0 (e.1 refl)
 
 -- what the play of the bytes gave whose workers were replaced

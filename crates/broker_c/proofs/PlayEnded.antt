@@ -5,7 +5,7 @@ use Rattle.std.specs.Prelude.{codes, nat_lt}
 use Rattle.io_edge.specs.FileState.{FileState}
 use Rattle.io_edge.specs.SinkState.{SinkState}
 use Rattle.hist_model.specs.declared.policy.Policy.{Policy}
-use Rattle.hist_model.specs.declared.script.Script.{Script}
+use Rattle.script_reader.specs.declared.file.ScriptFile.{ScriptFile}
 use Rattle.broker_app.specs.Plays.{AreRead, PlayEnds, Printing, TookPlayPrefix}
 use Rattle.broker_app.specs.declared.status.Status.{Status}
 use Rattle.broker_app.specs.declared.status.Status.TheVariants.{Done, WriteFault, NoMemory}
@@ -21,13 +21,14 @@ abbrev Ends : Printing → List ℕ → List ℕ → FileState → SinkState →
 Ends text policy script after new status = PlayEnds (files_of policy script []) after empty_sink new (codes "policy") (codes "script") text status
 
 -- what is read of the files is read of the bytes
-are_given : (policy script : List ℕ) (P : Policy) (S : Script) → AreRead (files_of policy script []) (codes "policy") (codes "script") P S → AreGiven policy script P S
-are_given policy script P S read = record { policy_is = read.policy_is refl; script_is = read.script_is refl; mediated = read.mediated }
+are_given : (policy script : List ℕ) (printing : Printing) (P : Policy) (F : ScriptFile) → AreRead (files_of policy script []) (codes "policy") (codes "script") printing P F
+    → AreGiven policy script printing P F
+are_given policy script printing P F read = record { policy_is = read.policy_is refl; file_is = read.file_is refl; holds = read.holds }
 
 -- a sink that took a prefix of what is printed of the files took one of what is printed of the bytes
 took_beginning : (text : Printing) (policy script : List ℕ) (new : SinkState) → TookPlayPrefix (files_of policy script []) (codes "policy") (codes "script") text empty_sink new
     → BeginsPlay text policy script new.taken
-took_beginning text policy script new p = (p.0, p.1, are_given policy script p.0 p.1 p.2, p.3 refl)
+took_beginning text policy script new p = (p.0, p.1, are_given policy script text p.0 p.1 p.2, p.3 refl)
 
 -- the whole of it begins it
 begins_whole : (text : Printing) (policy script printed : List ℕ) → IsPlay text policy script printed → BeginsPlay text policy script printed
@@ -35,7 +36,7 @@ begins_whole text policy script printed p = (p.0, p.1, p.2, adds_whole _ printed
 
 -- with status 0 all of it was printed
 done : (text : Printing) (policy script : List ℕ) (after : FileState) (new : SinkState) → Ends text policy script after new Done → IsPlay text policy script new.taken
-done text policy script after new e = let p = e.0 in (p.0, p.1, are_given policy script p.0 p.1 p.2, p.3 refl)
+done text policy script after new e = let p = e.0 in (p.0, p.1, are_given policy script text p.0 p.1 p.2, p.3 refl)
 
 -- nothing was printed, or a prefix of it
 begun : (text : Printing) (policy script : List ℕ) (after : FileState) (new : SinkState) (status : Status) → Ends text policy script after new status → (new.taken ≡ []) ⊎ BeginsPlay text policy script new.taken

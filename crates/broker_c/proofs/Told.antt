@@ -5,7 +5,7 @@ use Rattle.std.specs.Prelude.{nat_lt}
 use Rattle.std.proofs.lemmas.Bool.{ltb-false}
 use Rattle.std.proofs.lemmas.List.{take_all}
 use Rattle.std.proofs.lemmas.Grind.{common_steps}
-use Rattle.broker_app.specs.Handovers.{handover_report}
+use Rattle.broker_app.specs.Handovers.{with_ledgers}
 use Rattle.broker_app.specs.Plays.{Printing}
 use Rattle.broker_app.specs.declared.status.Refusal.TheVariants.{ReadFault}
 use Rattle.broker_app.specs.declared.status.Status.{Status}
@@ -61,7 +61,7 @@ pub handover_told : (policy script : List ℕ) (every room : ℕ) (status : Stat
 handover_told policy script every room status printed old new told number gives is held zero =
     let fits = number-0 status (length printed) (length old) (sym is ∙ zero) in
     let whole : HandoverGives policy script every room printed Done = subst (λ s. HandoverGives policy script every room printed s) fits.0 gives in
-    play_told (handover_report every) policy script room Done printed old new told 0 whole.1 (sym zero ∙ (is ∙ ap (λ s. number_of s (length printed) (length old)) fits.0)) held refl
+    play_told (with_ledgers every) policy script room Done printed old new told 0 whole.1 (sym zero ∙ (is ∙ ap (λ s. number_of s (length printed) (length old)) fits.0)) held refl
 
 -- and what a script can come to
 pub exploration_told : (policy script : List ℕ) (workers delays room : ℕ) (status : Status) (printed old new : List ℕ) (told number : ℕ) → ExploreGives policy script workers delays room printed status

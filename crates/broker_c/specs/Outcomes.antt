@@ -3,26 +3,25 @@ use Rattle.std.specs.Prelude.{◌≡◌, ℕ, ◌<◌, ◌≤◌, ◌⊎◌, ◌
 use Rattle.std.specs.Prelude.{Result, Ok, Err, codes}
 use Rattle.hist_model.specs.ReportAudit.{judging_by}
 use Rattle.hist_model.specs.declared.event.Event.{Event}
-use Rattle.hist_model.specs.Legal.{played}
-use Rattle.hist_model.specs.Mediated.{Mediated}
 use Rattle.hist_model.specs.declared.policy.Policy.{Policy}
 use Rattle.hist_model.specs.declared.script.Script.{Script}
 use Rattle.io_edge.specs.SinkState.{AddsPrefix}
 use Rattle.policy_reader.specs.Policies.{policy as policy_of}
 use Rattle.policy_reader.specs.declared.error.PolicyError.{PolicyError}
-use Rattle.script_reader.specs.Scripts.{script as script_of}
+use Rattle.script_reader.specs.Scripts.{script as script_of, script_file}
 use Rattle.script_reader.specs.declared.error.ScriptError.{ScriptError}
+use Rattle.script_reader.specs.declared.file.ScriptFile.{ScriptFile}
 use Rattle.broker_app.specs.Answers.{GeneratedIsMediated, generated_summary}
 use Rattle.broker_app.specs.Checks.{IsFound, IsNotFound}
 use Rattle.broker_app.specs.Explorations.{ExploredLaws, explored_text}
 use Rattle.broker_app.specs.Findings.{findings}
-use Rattle.broker_app.specs.Handovers.{handover_report}
+use Rattle.broker_app.specs.Handovers.{with_ledgers}
 use Rattle.broker_app.specs.Inputs.{ReadsAs, policy_limit, report_limit, script_limit}
 use Rattle.broker_app.specs.Lines.{line_of}
-use Rattle.broker_app.specs.Plays.{Printing, report_of}
+use Rattle.broker_app.specs.Plays.{Printing, as_report}
 use Rattle.broker_app.specs.Words.{Form, Explore}
-use Rattle.broker_app.specs.declared.status.InputFile.TheVariants.{Policy as PolicyFile, Script as ScriptFile, Report as ReportFile}
-use Rattle.broker_app.specs.declared.status.Refusal.TheVariants.{TooLong, BadPolicy, BadScript}
+use Rattle.broker_app.specs.declared.status.InputFile.TheVariants.{Policy as PolicyFile, Script as ScriptsFile, Report as ReportFile}
+use Rattle.broker_app.specs.declared.status.Refusal.TheVariants.{TooLong, BadPolicy, BadScript, HasRequests}
 use Rattle.broker_app.specs.declared.status.Status.{Status}
 use Rattle.broker_app.specs.declared.status.Status.TheVariants.{Done, Usage, Refused, WriteFault, NoMemory, NotReport}
 
@@ -36,6 +35,10 @@ PolicyReads policy reading = ReadsAs policy_of policy_limit (Some policy) readin
 abbrev pub ScriptReads : List ℕ → Result Script ScriptError → Type 0
 ScriptReads script reading = ReadsAs script_of script_limit (Some script) reading
 
+-- with these lines of another broker's workers
+abbrev pub FileReads : List ℕ → Result ScriptFile ScriptError → Type 0
+FileReads script reading = ReadsAs script_file script_limit (Some script) reading
+
 -- the bytes are a policy
 abbrev pub IsPolicy : List ℕ → Type 0
 IsPolicy policy = (P : Policy) × PolicyReads policy (Ok P)
@@ -48,29 +51,35 @@ AreInput policy script P S = PolicyReads policy (Ok P) × ScriptReads script (Ok
 abbrev pub IsInput : List ℕ → List ℕ → Type 0
 IsInput policy script = (P : Policy) × (S : Script) × AreInput policy script P S
 
--- and what they play is mediated
-pub record AreGiven (policy script : List ℕ) (P : Policy) (S : Script) : Type 0 where
+-- these are the policy of the bytes, and what those of the script state, and what is printed of them holds
+pub record AreGiven (policy script : List ℕ) (printing : Printing) (P : Policy) (F : ScriptFile) : Type 0 where
   pub policy_is : PolicyReads policy (Ok P)
-  pub script_is : ScriptReads script (Ok S)
-  pub mediated : Mediated P S (played P S)
+  pub file_is : FileReads script (Ok F)
+  pub holds : printing.Holds P F
+
+-- the bytes are a policy and a script, and its schedule says what another broker's workers ask for
+abbrev pub GivesTurns : List ℕ → List ℕ → Type 0
+GivesTurns policy script = (P : Policy) × (F : ScriptFile) × PolicyReads policy (Ok P) × FileReads script (Ok F) × (F.turns ≡ [] → ⊥)
 
 -- ---- What was printed
 
 -- what is printed of what the policy and the script of the bytes play
 abbrev pub IsPlay : Printing → List ℕ → List ℕ → List ℕ → Type 0
-IsPlay text policy script printed = (P : Policy) × (S : Script) × AreGiven policy script P S × (printed ≡ text P S)
+IsPlay printing policy script printed =
+    (P : Policy) × (F : ScriptFile) × AreGiven policy script printing P F × (printed ≡ printing.text P F)
 
 -- a prefix of it
 abbrev pub BeginsPlay : Printing → List ℕ → List ℕ → List ℕ → Type 0
-BeginsPlay text policy script printed = (P : Policy) × (S : Script) × AreGiven policy script P S × AddsPrefix [] (text P S) printed
+BeginsPlay printing policy script printed =
+    (P : Policy) × (F : ScriptFile) × AreGiven policy script printing P F × AddsPrefix [] (printing.text P F) printed
 
 -- the report of the history that they play
 abbrev pub IsReport : List ℕ → List ℕ → List ℕ → Type 0
-IsReport policy script printed = IsPlay report_of policy script printed
+IsReport policy script printed = IsPlay as_report policy script printed
 
 -- that report, and the ledgers from which workers are replaced after each so many of their steps
 abbrev pub IsHandover : List ℕ → List ℕ → ℕ → List ℕ → Type 0
-IsHandover policy script every printed = IsPlay (handover_report every) policy script printed
+IsHandover policy script every printed = IsPlay (with_ledgers every) policy script printed
 
 -- what is found of the history that the bytes of a report tell
 abbrev pub IsFindings : List ℕ → List ℕ → List ℕ → List ℕ → Type 0
@@ -136,7 +145,7 @@ IsAskedExploration policy script workers delays printed =
 abbrev pub InputGives : List ℕ → List ℕ → List ℕ → Status → Type 0
 InputGives policy script printed (Refused (TooLong PolicyFile)) = (policy_limit < length policy) × (printed ≡ [])
 InputGives policy script printed (Refused (BadPolicy error)) = PolicyReads policy (Err error) × (printed ≡ [])
-InputGives policy script printed (Refused (TooLong ScriptFile)) = IsPolicy policy × (script_limit < length script) × (printed ≡ [])
+InputGives policy script printed (Refused (TooLong ScriptsFile)) = IsPolicy policy × (script_limit < length script) × (printed ≡ [])
 InputGives policy script printed (Refused (BadScript error)) = IsPolicy policy × ScriptReads script (Err error) × (printed ≡ [])
 InputGives policy script printed NoMemory = printed ≡ []
 InputGives policy script printed _ = ⊥
@@ -155,8 +164,9 @@ IsEvery every = (1 ≤ every) × (every ≤ 200000)
 -- and how it ended where workers were replaced: usage where they can't be after so many steps
 abbrev pub HandoverGives : List ℕ → List ℕ → ℕ → ℕ → List ℕ → Status → Type 0
 HandoverGives policy script every room printed Usage = ¬ (IsEvery every) × (printed ≡ [])
-HandoverGives policy script every room printed NoMemory = PlayGives (handover_report every) policy script room printed NoMemory
-HandoverGives policy script every room printed status = IsEvery every × PlayGives (handover_report every) policy script room printed status
+HandoverGives policy script every room printed NoMemory = PlayGives (with_ledgers every) policy script room printed NoMemory
+HandoverGives policy script every room printed (Refused HasRequests) = IsEvery every × GivesTurns policy script × (printed ≡ [])
+HandoverGives policy script every room printed status = IsEvery every × PlayGives (with_ledgers every) policy script room printed status
 
 -- how the exploration of a policy's and a script's bytes ended, by workers up to this one and within this bound
 abbrev pub ExplorationGives : List ℕ → List ℕ → ℕ → Option ℕ → ℕ → List ℕ → Status → Type 0

@@ -2,7 +2,7 @@
 
 ghost use Rattle.std.specs.Prelude.{◌≡◌, length, min, take};
 ghost use Rattle.broker_app.specs.Lines.{line_of};
-ghost use Rattle.broker_app.specs.Plays.{report_of};
+ghost use Rattle.broker_app.specs.Plays.{as_report};
 ghost use Rattle.broker_c.specs.Buffers.{Holds, Tells, number_of};
 ghost use Rattle.broker_c.specs.Outcomes.{CheckGives, ExploreGives, HandoverGives, IsAskedExploration, IsFindings, IsHandover, IsReport, IsSummary, PlayGives, Says, StressGives};
 
@@ -79,7 +79,7 @@ pub extern "C" fn broker_play(
     line_length: &mut usize,
 ) -> u32
     ensures done { result ≡ 0 → IsReport policy.now script.now (take out_length.new out.new) }
-    ensures tells { Tells (PlayGives report_of policy.now script.now (min room ROOM_LIMIT)) result out.old out.new out_length.new line.old line.new line_length.new }
+    ensures tells { Tells (PlayGives as_report policy.now script.now (min room ROOM_LIMIT)) result out.old out.new out_length.new line.old line.new line_length.new }
 {
     let outcome = play(alloc, policy, script, room.min(ROOM_LIMIT));
     tell(&outcome, out, out_length, line, line_length)

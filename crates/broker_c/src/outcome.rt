@@ -6,7 +6,7 @@ ghost use Rattle.broker_app.specs.Words.{Explore, Handover, Stress};
 ghost use Rattle.broker_app.specs.Answers.{Said};
 ghost use Rattle.broker_app.specs.Forms.{IsJobInRange, job_of};
 ghost use Rattle.broker_app.specs.Lines.{line_of};
-ghost use Rattle.broker_app.specs.Plays.{report_of};
+ghost use Rattle.broker_app.specs.Plays.{as_report};
 ghost use Rattle.broker_c.specs.Held.{empty_sink};
 ghost use Rattle.broker_c.specs.Outcomes.{CheckGives, ExploreGives, HandoverGives, PlayGives, Says, StressGives, bound_meant, explore_asked, settled};
 
@@ -66,7 +66,7 @@ fn outcome_of(status: Status, room: usize, out: HeldBytes, err: HeldBytes) -> Ou
 /// Plays a script under a policy, with room for so many bytes of a report.
 pub(crate) fn play(alloc: Global, policy: &[u8], script: &[u8], room: usize) -> Outcome
     requires { room < 2 ^ 63 }
-    ensures gives { PlayGives report_of policy.now script.now room result.printed.items result.status }
+    ensures gives { PlayGives as_report policy.now script.now room result.printed.items result.status }
     ensures says { Says result.status result.said.items }
 {
     let mut files = GivenFiles::new(policy, script, &[]);

@@ -1,5 +1,5 @@
 -- What the workers of a broker remember, and what the kernel knows of a worker before a deed and after it.
-use Rattle.std.specs.Prelude.{◌≡◌, ◌<◌, ℕ, Bool, true, false, List, length, get_or, None, ⊤}
+use Rattle.std.specs.Prelude.{◌≡◌, ◌<◌, ◌^◌, ℕ, Bool, true, false, List, length, get_or, None, ⊤}
 use Rattle.listener.specs.Puts.{is_known}
 use Rattle.hist_model.specs.Legal.{rules_of}
 use Rattle.hist_model.specs.Sessions.{deed, session}
@@ -53,6 +53,10 @@ pub record KeepsOn (old new : Worker) : Type 0 where
 -- the deed that a worker has next, by the definitions
 abbrev pub next_of : Policy → Kernel → ℕ → definition.Deed
 next_of P k n = deed (rules_of P k.script.figures) (session (past k) n)
+
+-- what the worker has open and asked for allows the deed that it has next
+abbrev pub IsAllowed : Policy → Kernel → ℕ → Type 0
+IsAllowed P k n = length (past k) < 2 ^ 64 → Allows (past k) n (shown (next_of P k n))
 
 -- the deed was done, which was a step; or it waits, and nothing has changed
 abbrev pub TriesDeed : Kernel → ℕ → definition.Deed → Bool → Kernel → Type 0

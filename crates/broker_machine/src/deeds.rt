@@ -7,14 +7,14 @@ ghost use Rattle.broker_core.specs.declared.deed.Deed.TheVariants.{Act};
 ghost use Rattle.hist_model.specs.Deeds as definition;
 ghost use Rattle.hist_model.specs.Legal.{rules_of};
 ghost use Rattle.hist_model.specs.Sessions.{deed, session};
-ghost use Rattle.hist_model.specs.Steps.{IsLegal, mem, request_of};
+ghost use Rattle.hist_model.specs.Steps.{mem, request_of};
 ghost use Rattle.hist_model.specs.declared.event.Event.{Event};
 ghost use Rattle.hist_model.specs.declared.event.What.{What};
 ghost use Rattle.hist_model.specs.declared.policy.Cap.{Cap as CapValue};
 ghost use Rattle.hist_model.specs.declared.policy.Policy.{Policy as PolicyValue};
 ghost use Rattle.model_kernel.specs.Kernels.{DoesDeed, IsKernel, past, system};
 ghost use Rattle.model_kernel.specs.Ready.{IsSame};
-ghost use Rattle.broker_machine.specs.Workers.{Allows, KeepsOn, TriesDeed, TriesStep, is_step};
+ghost use Rattle.broker_machine.specs.Workers.{Allows, IsAllowed, KeepsOn, TriesDeed, TriesStep, is_step};
 
 use broker_core::deed::{Deed, answer_of};
 use broker_core::worker::Worker;
@@ -193,8 +193,9 @@ fn newest(kernel: &Kernel) -> &What
     }
 }
 
-/// A worker's turn: what it does next, with the kernel's answer, which it takes, unless it waits; says what came of it.
-pub(crate) fn worker_turn(
+/// A worker's turn: what it does next, with the kernel's answer, which it takes, unless it waits; says what came of it. The other
+/// workers may be free to ask for anything, as long as what this one has open and asked for allows what it does next.
+pub fn worker_turn(
     alloc: Global,
     policy: &Policy,
     kernel: &mut Kernel,
@@ -202,7 +203,7 @@ pub(crate) fn worker_turn(
     worker: &mut Worker,
 ) -> Result<Outcome, NoMemory>
     requires kernel { IsKernel kernel.old }
-    requires legal { IsLegal (system kernel.old) (rules_of policy.now kernel.old.script.figures) (past kernel.old) }
+    requires allowed { IsAllowed policy.now kernel.old number }
     requires number { number ≤ 16 }
     requires remembers { Remembers policy.now (session (past kernel.old) number) worker.old }
     requires figures { worker.old.figures ≡ kernel.old.script.figures }

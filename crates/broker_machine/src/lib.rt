@@ -9,6 +9,8 @@
 //! far, each worker's session) is `specs/Serving.antt`. The kernel asks of a deed what an order of deeds gives it, as that a worker
 //! opens no second memory: the history is legal, so it holds (`proofs/Held.antt`).
 //!
+//! `worker_turn` is a worker's turn alone, on a kernel whose other workers may be another broker's.
+//!
 //! Below stand the workers (`broker_core`) and the kernel (`model_kernel`).
 #![tactic(auto)]
 
@@ -16,6 +18,6 @@ mod deeds;
 mod machine;
 mod names;
 
-pub use deeds::Outcome;
+pub use deeds::{Outcome, worker_turn};
 pub use machine::Machine;
 pub use names::is_task_name;

@@ -12,6 +12,16 @@ use Rattle.lex_core.specs.declared.reason.Reason.TheVariants as reason
 use Rattle.bpf_filter.specs.Text.{insn_of, insn_text, is_quoted, number, with_fields, word_insn}
 use Rattle.bpf_filter.specs.Words.{form_in, instructions}
 use Rattle.hist_model.specs.declared.script.Insn.{Insn}
+use Rattle.hex.specs.Hex.{decode_sized}
+use Rattle.hex.specs.declared.error.FromHexError.{FromHexError}
+use Rattle.hex.specs.declared.error.FromHexError.TheVariants.{InvalidHexCharacter}
+use Rattle.step_requests.specs.Operands as request
+use Rattle.step_requests.specs.Operands.{fault_from as request_fault_from}
+use Rattle.step_requests.specs.Words.{form_of}
+use Rattle.step_requests.specs.declared.operand.Operand.{Operand as RequestOperand}
+use Rattle.step_requests.specs.declared.operand.Operand.TheVariants as kinds
+use Rattle.step_requests.specs.declared.word.Deed.{Deed}
+use Rattle.step_requests.specs.declared.word.Form.TheVariants.{Worker}
 use Rattle.script_reader.specs.declared.error.Fault.{Fault}
 use Rattle.script_reader.specs.declared.error.Fault.TheVariants.{Wrong}
 use Rattle.script_reader.specs.declared.operand.Operand.{Operand}
@@ -24,8 +34,9 @@ use Rattle.script_reader.specs.Above.{Above, statement_fault}
 use Rattle.script_reader.specs.Faults.{or_else, too_large_if, wrong_if}
 use Rattle.script_reader.specs.Lines.{beside, bytes_statement, ends_block, insn_statement, is_in_place, operands_statement, other_word, plain_statement, tokens_statement, unless_faulty}
 use Rattle.script_reader.specs.Operands.{begins_number, earlier, fault_from, fault_unless, is_allowed, is_call_name, is_counted, number_fault, operand_at, operand_fault, operands_fault, rank}
-use Rattle.script_reader.specs.Table.{FirstRowDecides, form_faults, insn_fault, insn_faults, is_first, operand_faults, own_faults, plain_faults, reason_row, refusal_of, row, stands_at, stands_from, stated_faults, statement_faults, word_faults, wrong}
-use Rattle.script_reader.specs.Words.{in_filter, word_of}
+use Rattle.script_reader.specs.Requests.{deed_in, deed_statement, is_request, is_seated, request_fault, request_stated, request_statement, unless_wrong, with_seat}
+use Rattle.script_reader.specs.Table.{FirstRowDecides, deed_faults, form_faults, insn_fault, insn_faults, is_first, operand_faults, own_faults, plain_faults, reason_row, refusal_of, request_faults, row, stands_at, stands_from, stated_faults, statement_faults, token_faults, word_faults, wrong}
+use Rattle.script_reader.specs.Words.{in_filter, in_schedule, word_of}
 use Rattle.lex_core.specs.Numbers as numbers
 
 -- ---- one test before others
@@ -112,7 +123,9 @@ statement-first (states.Prog name) A = wrong-large _ _ reason.Duplicate refl
 statement-first (states.Does i) A = one _
 statement-first (states.Starts thread name) A = one _
 statement-first states.Schedule A = record { found = refl }
-statement-first (states.Takes step) A = one _
+statement-first (states.Steps task count) A = one _
+statement-first (states.Counts worker count) A = wrong-large _ _ reason.OutOfPlace refl
+statement-first (states.Asks worker asked) A = wrong-large _ _ reason.OutOfPlace refl
 statement-first states.End A = one _
 
 -- ---- operands
@@ -269,13 +282,147 @@ insn-first (Bare bytes ∷ operands) = form-first (form_in instructions bytes) b
 insn-first (Quoted bytes ∷ operands) = refl
 insn-first [] = refl
 
+-- ---- requests
+
+-- the reason is one that a token of a request shows
+abbrev is_shown : Option Reason → Bool
+is_shown None = true
+is_shown (Some reason.WrongForm) = true
+is_shown (Some reason.BadNumber) = true
+is_shown (Some reason.OutOfRange) = true
+is_shown (Some reason.UnknownName) = true
+is_shown (Some r) = false
+
+shown-ranked : (found : Option Reason) → is_shown found ≡ true → is_ranked found ≡ true
+shown-ranked None h = refl
+shown-ranked (Some reason.WrongForm) h = refl
+shown-ranked (Some reason.BadNumber) h = refl
+shown-ranked (Some reason.OutOfRange) h = refl
+shown-ranked (Some reason.UnknownName) h = refl
+shown-ranked (Some r) h = cc
+
+-- of two such reasons the same one comes first here and in a line of `step`
+same-earlier : (found others : Option Reason) → is_shown found ≡ true → is_shown others ≡ true → request.earlier found others ≡ earlier found others
+same-earlier None others f o = refl
+same-earlier (Some r) None f o = refl
+same-earlier (Some reason.WrongForm) (Some reason.WrongForm) f o = refl
+same-earlier (Some reason.WrongForm) (Some reason.BadNumber) f o = refl
+same-earlier (Some reason.WrongForm) (Some reason.OutOfRange) f o = refl
+same-earlier (Some reason.WrongForm) (Some reason.UnknownName) f o = refl
+same-earlier (Some reason.BadNumber) (Some reason.WrongForm) f o = refl
+same-earlier (Some reason.BadNumber) (Some reason.BadNumber) f o = refl
+same-earlier (Some reason.BadNumber) (Some reason.OutOfRange) f o = refl
+same-earlier (Some reason.BadNumber) (Some reason.UnknownName) f o = refl
+same-earlier (Some reason.OutOfRange) (Some reason.WrongForm) f o = refl
+same-earlier (Some reason.OutOfRange) (Some reason.BadNumber) f o = refl
+same-earlier (Some reason.OutOfRange) (Some reason.OutOfRange) f o = refl
+same-earlier (Some reason.OutOfRange) (Some reason.UnknownName) f o = refl
+same-earlier (Some reason.UnknownName) (Some reason.WrongForm) f o = refl
+same-earlier (Some reason.UnknownName) (Some reason.BadNumber) f o = refl
+same-earlier (Some reason.UnknownName) (Some reason.OutOfRange) f o = refl
+same-earlier (Some reason.UnknownName) (Some reason.UnknownName) f o = refl
+same-earlier (Some r) (Some q) f o = cc
+
+either-shown : (sooner : Bool) (r q : Reason) → is_shown (Some r) ≡ true → is_shown (Some q) ≡ true → is_shown (if sooner then Some r else Some q) ≡ true
+either-shown true r q f o = f
+either-shown false r q f o = o
+
+earlier-shown : (found others : Option Reason) → is_shown found ≡ true → is_shown others ≡ true → is_shown (request.earlier found others) ≡ true
+earlier-shown None others f o = o
+earlier-shown (Some r) None f o = f
+earlier-shown (Some r) (Some q) f o = either-shown (nat_le (request.rank r) (request.rank q)) r q f o
+
+-- the reason of one token or of the others, and their tests
+abbrev IsShownFirst : Option Reason → List (Option Fault) → Type 0
+IsShownFirst found faults = (is_first (wrong found) faults ≡ true) × (is_shown found ≡ true)
+
+both-shown : (found others : Option Reason) (faults : List (Option Fault)) → is_shown found ≡ true → IsShownFirst others faults
+    → IsShownFirst (request.earlier found others) (wrong found ∷ faults)
+both-shown found others faults shown h =
+    let first = both found others faults (shown-ranked found shown) (h.0, shown-ranked others h.1) in
+    (subst (λ r. is_first (wrong r) (wrong found ∷ faults) ≡ true) (sym (same-earlier found others shown h.1)) first.0, earlier-shown found others shown h.1)
+
+unless-shown : (b : Bool) (r : Reason) → is_shown (Some r) ≡ true → is_shown (request.fault_unless b r) ≡ true
+unless-shown true r h = refl
+unless-shown false r h = h
+
+number-shown : (least most : ℤ) (n : Option ℤ) → is_shown (request.number_fault least most n) ≡ true
+number-shown least most None = refl
+number-shown least most (Some n) = unless-shown _ reason.OutOfRange refl
+
+decoding-shown : (decoded : Result (List ℕ) FromHexError) → is_shown (request.decoding_fault decoded) ≡ true
+decoding-shown (Ok bytes) = refl
+decoding-shown (Err (InvalidHexCharacter c i)) = refl
+decoding-shown (Err other) = refl
+
+token-shown : (kind : RequestOperand) (token : Token) → is_shown (request.operand_fault kind token) ≡ true
+token-shown kinds.Word (Bare bytes) = refl
+token-shown (kinds.Number least most) (Bare bytes) = number-shown least most (numbers.number bytes)
+token-shown (kinds.Bytes structure) (Bare bytes) = decoding-shown (decode_sized bytes (request.size_of structure))
+token-shown kinds.Task (Bare bytes) = unless-shown _ reason.BadNumber refl
+token-shown kinds.Via (Bare bytes) = unless-shown _ reason.UnknownName refl
+token-shown kinds.Shift (Bare bytes) = unless-shown _ reason.UnknownName refl
+token-shown (kinds.Text zeros) (Bare bytes) = refl
+token-shown (kinds.Text zeros) (Quoted bytes) = unless-shown _ reason.OutOfRange refl
+token-shown kind (Quoted bytes) = refl
+
+tokens-first : (d : Deed) (count place : ℕ) (tokens : List Token) → IsShownFirst (request_fault_from (Worker d) count place tokens) (token_faults d count place tokens)
+unfolding request_fault_from
+tokens-first d count place [] = (refl, refl)
+tokens-first d count place (token ∷ more) =
+    both-shown (request.operand_fault (request.operand_at (Worker d) count place) token) (request_fault_from (Worker d) count (place + 1) more) (token_faults d count (place + 1) more)
+    (token-shown (request.operand_at (Worker d) count place) token) (tokens-first d count (place + 1) more)
+
+tokens-from : (n : ℕ) (d : Deed) (count place : ℕ) (tokens : List Token) → n ≤ 5 → AllFrom n (token_faults d count place tokens)
+tokens-from n d count place [] l = refl
+tokens-from n d count place (token ∷ more) l =
+    let kind = request.operand_at (Worker d) count place in
+    and_from _ _ (ranked-from n (request.operand_fault kind token) l (shown-ranked _ (token-shown kind token))) (tokens-from n d count (place + 1) more l)
+
+-- the number of the worker is tested with the other tokens
+seat-first : (seated : Bool) (found : Option Reason) (tests : List (Option Fault)) → IsShownFirst found tests
+    → is_first (wrong (with_seat seated found)) (wrong_if (not seated) reason.OutOfRange ∷ tests) ≡ true
+seat-first true found tests h = skip-none (wrong found) tests h.0
+seat-first false None tests h = head-first (Wrong reason.OutOfRange) tests (none-from 7 tests h.0)
+seat-first false (Some reason.UnknownName) tests h = head-first (Wrong reason.OutOfRange) tests (all-later 7 tests 9 (omega arith) (and_parts _ _ h.0).1)
+seat-first false (Some reason.OutOfRange) tests h = head-first (Wrong reason.OutOfRange) tests (and_parts _ _ h.0).1
+seat-first false (Some reason.BadNumber) tests h = h.0
+seat-first false (Some reason.WrongForm) tests h = h.0
+seat-first false (Some r) tests h = let shown = h.1 in cc
+
+count-first : (counted seated : Bool) (found : Option Reason) (tests : List (Option Fault)) → IsShownFirst found tests → AllFrom 4 tests
+    → is_first (wrong (with_seat seated (if counted then found else Some reason.WrongCount))) (wrong_if (not counted) reason.WrongCount ∷ wrong_if (not seated) reason.OutOfRange ∷ tests) ≡ true
+count-first true seated found tests h from = skip-none (wrong (with_seat seated found)) _ (seat-first seated found tests h)
+count-first false true found tests h from = head-first (Wrong reason.WrongCount) (None ∷ tests) from
+count-first false false found tests h from = head-first (Wrong reason.WrongCount) (Some (Wrong reason.OutOfRange) ∷ tests) from
+
+refused-unless : (found : Option Reason) (s : Statement) → refusal_of (unless_wrong found s) ≡ wrong found
+refused-unless None s = refl
+refused-unless (Some r) s = refl
+
+deed-first : (deed : Result Deed Reason) (line : List Token) → is_first (refusal_of (deed_statement deed line)) (deed_faults deed line) ≡ true
+deed-first (Err why) line = alone (Some (Wrong why))
+deed-first (Ok d) line =
+    subst (λ fault. is_first fault (deed_faults (Ok d) line) ≡ true) (sym (refused-unless (request_fault d line) (request_stated d line)))
+    (count-first (request.is_counted (Worker d) line) (is_seated line) (request_fault_from (Worker d) (length line) 0 line) (token_faults d (length line) 0 line)
+    (tokens-first d (length line) 0 line) (tokens-from 4 d (length line) 0 line (omega arith)))
+
+request-first : (line : List Token) → is_first (refusal_of (request_statement line)) (request_faults line) ≡ true
+request-first line = deed-first (deed_in (form_of line)) line
+
 -- ---- lines
 
-own-either : (inside : Bool) (part : Part) (base_is_stated : Bool) (tokens : List Token)
-    → is_first (refusal_of (if inside then insn_statement (insn_text tokens) else plain_statement part base_is_stated tokens))
-    (if inside then insn_faults tokens else plain_faults part base_is_stated tokens) ≡ true
-own-either true part base_is_stated tokens = subst (λ fault. is_first fault (insn_faults tokens) ≡ true) (sym (insn-refused (insn_text tokens))) (insn-first tokens)
-own-either false part base_is_stated tokens = plain-first part base_is_stated tokens
+schedule-either : (asks : Bool) (part : Part) (base_is_stated : Bool) (tokens : List Token)
+    → is_first (refusal_of (if asks then request_statement tokens else plain_statement part base_is_stated tokens))
+    (if asks then request_faults tokens else plain_faults part base_is_stated tokens) ≡ true
+schedule-either true part base_is_stated tokens = request-first tokens
+schedule-either false part base_is_stated tokens = plain-first part base_is_stated tokens
+
+own-either : (inside asks : Bool) (part : Part) (base_is_stated : Bool) (tokens : List Token)
+    → is_first (refusal_of (if inside then insn_statement (insn_text tokens) else (if asks then request_statement tokens else plain_statement part base_is_stated tokens)))
+    (if inside then insn_faults tokens else (if asks then request_faults tokens else plain_faults part base_is_stated tokens)) ≡ true
+own-either true asks part base_is_stated tokens = subst (λ fault. is_first fault (insn_faults tokens) ≡ true) (sym (insn-refused (insn_text tokens))) (insn-first tokens)
+own-either false asks part base_is_stated tokens = schedule-either asks part base_is_stated tokens
 
 behind-none : (own faults : List (Option Fault)) (fault : Option Fault) → list_all is_none own ≡ true → is_first fault faults ≡ true → is_first fault (own ++ faults) ≡ true
 behind-none [] faults fault none h = h
@@ -297,4 +444,4 @@ pub first_row_decides : (A : Above) (line : Result (List Token) Reason) → Firs
 first_row_decides A (Err r) = alone (Some (Wrong r))
 first_row_decides A (Ok tokens) =
     beside-first A (tokens_statement A.part (is_some A.settings.pidbase) tokens) (own_faults A.part (is_some A.settings.pidbase) tokens)
-    (own-either (in_filter A.part && not (ends_block tokens)) A.part (is_some A.settings.pidbase) tokens)
+    (own-either (in_filter A.part && not (ends_block tokens)) (in_schedule A.part && is_request tokens) A.part (is_some A.settings.pidbase) tokens)

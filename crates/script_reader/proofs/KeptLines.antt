@@ -17,6 +17,7 @@ use Rattle.hist_model.specs.declared.script.FilterLine.{FilterLine}
 use Rattle.hist_model.specs.declared.script.Instr.{Instr}
 use Rattle.hist_model.specs.declared.script.MapRange.{MapRange}
 use Rattle.lex_core.specs.declared.reason.Reason.TheVariants.{Unmapped}
+use Rattle.script_reader.specs.declared.file.ScriptFile.{ScriptFile}
 use Rattle.script_reader.specs.declared.settings.Limits.{Limits}
 use Rattle.script_reader.specs.declared.settings.Settings.{Settings}
 use Rattle.script_reader.specs.declared.statement.Statement.{Statement}
@@ -28,14 +29,16 @@ use Rattle.script_reader.specs.Above.{Above, close_block, end_fault, nothing_abo
 use Rattle.script_reader.specs.Blocks.{FiltersState, filter_line, has_listener, with_insn}
 use Rattle.script_reader.specs.Programs.{ProgramsState, open_program, starting, with_instr, with_start}
 use Rattle.script_reader.specs.Ranges.{in_force}
-use Rattle.script_reader.specs.Rules.{FitsPart, HasNoPrograms, HasNumbers, HasPrograms, HasRanges, IsKept, IsSound, bytes_of_path, has_length, has_pages, is_found, is_sound_instruction, limits_or_none}
-use Rattle.script_reader.specs.Scripts.{has_items, script_of}
+use Rattle.script_reader.specs.Rules.{AreTurns, FitsPart, HasNoPrograms, HasNumbers, HasPrograms, HasRanges, HasSchedule, IsKept, IsSound, bytes_of_path, has_length, has_pages, is_found, is_sound_instruction, limits_or_none}
+use Rattle.script_reader.specs.Schedule.{ScheduleState}
+use Rattle.script_reader.specs.Scripts.{file_of, has_items, script_of}
 use Rattle.script_reader.specs.Settings.{with_group}
 use Rattle.script_reader.specs.Paths.{root_path}
 use Rattle.script_reader.specs.Tree.{bare_tree, found_node, is_stated, node_ref}
 use Rattle.script_reader.specs.Words.{among_settings, in_program}
 use Rattle.script_reader.proofs.Pushed.{any_last, none_more, none_first, none_then, not_full, not_wrong}
-use Rattle.script_reader.proofs.KeptRules.{attr_kept, descriptors_kept, directory_found, directory_kept, exit_last, exits_nowhere, filters_kept, flag_kept, instruction_kept, node_kept, program_kept, ranges_kept, schedule_kept, start_kept, starts_low}
+use Rattle.script_reader.proofs.KeptRules.{attr_kept, descriptors_kept, directory_found, directory_kept, exit_last, exits_nowhere, filters_kept, flag_kept, instruction_kept, node_kept, program_kept, ranges_kept, start_kept, starts_low}
+use Rattle.script_reader.proofs.KeptSchedule.{request_kept, steps_made, task_kept, turns_made, worker_kept}
 
 -- ---- single settings
 
@@ -149,6 +152,20 @@ programs-kept p A P k programs fits = record {
   programs = programs;
   schedule = k.schedule;
   block = fits;
+}
+
+scheduled-kept : (A : Above) (S : ScheduleState) → IsKept A → HasSchedule S → IsKept (record A { schedule = S })
+scheduled-kept A S k schedule = record {
+  settings = k.settings;
+  tree = k.tree;
+  root = k.root;
+  descriptors = k.descriptors;
+  map = k.map;
+  filters = k.filters;
+  killable = k.killable;
+  programs = k.programs;
+  schedule = schedule;
+  block = k.block;
 }
 
 opened : (map : List MapRange) (P : ProgramsState) (name : List ℕ) → HasPrograms map P → HasPrograms map (open_program name P)
@@ -295,18 +312,12 @@ statement-kept (states.Does i) A k sound fine =
 statement-kept (states.Starts thread name) A k sound fine =
     programs-kept A.part A _ k (start_kept (in_force A.map) A.programs thread name k.programs fine) (starts-fits A.part A.filters A.programs thread name sound k.block)
 statement-kept states.Schedule A k sound fine = programs-kept part.Schedule A A.programs k k.programs tt
-statement-kept (states.Takes step) A k sound fine = record {
-  settings = k.settings;
-  tree = k.tree;
-  root = k.root;
-  descriptors = k.descriptors;
-  map = k.map;
-  filters = k.filters;
-  killable = k.killable;
-  programs = k.programs;
-  schedule = schedule_kept A.schedule step k.schedule fine sound.0 sound.1;
-  block = k.block;
-}
+statement-kept (states.Steps task count) A k sound fine =
+    scheduled-kept A _ k (task_kept A.schedule task count k.schedule fine sound.0 sound.1)
+statement-kept (states.Counts worker count) A k sound fine =
+    scheduled-kept A _ k (worker_kept A.schedule worker count k.schedule fine sound.0 sound.1)
+statement-kept (states.Asks worker asked) A k sound fine =
+    scheduled-kept A _ k (request_kept A.schedule worker asked k.schedule fine sound)
 statement-kept states.End A k sound fine = end-kept A.part A k k.block fine
 
 -- the number of the line that opened a block is no rule's
@@ -358,7 +369,7 @@ nothing-kept = record {
   filters = record { accepted = refl; few = omega arith; listener = omega arith };
   killable = refl;
   programs = record { earlier = refl; instructions = refl; mapped = refl; exits = refl; few = omega arith; counted = refl; totals = refl; current = refl; named = λ name. refl };
-  schedule = record { counted = refl; few = omega arith; scheduled = refl; counts = refl };
+  schedule = record { counted = omega arith; few = omega arith; scheduled = refl; counts = refl; turns = refl; workers = refl; alike = refl };
   block = (refl, refl);
 }
 
@@ -419,8 +430,11 @@ script-kept A k some =
       totals = subst (λ totals. list_all (λ t. not (are_too_many t)) totals ≡ true) k.programs.counted k.programs.totals;
       schedule = k.schedule.scheduled;
       counts = k.schedule.counts;
-      steps = rw k.schedule.counted k.schedule.few;
+      steps = steps_made A.schedule k.schedule;
     }
 
 pub script_made : (A : Above) (S : ScriptRecord) → S ≡ script_of A → IsKept A → has_items A.programs.bodies ≡ true → IsScript S
 script_made A S e k some = rw e (script-kept A k some)
+
+pub turns_kept : (A : Above) (file : ScriptFile) → file ≡ file_of A → IsKept A → AreTurns file.turns
+turns_kept A file e k = subst (λ (f : ScriptFile). AreTurns f.turns) (sym e) (turns_made A.schedule k.schedule)

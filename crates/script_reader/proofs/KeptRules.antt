@@ -1,4 +1,4 @@
--- What one more entry of each part keeps: of the tree, the descriptors, the ranges, the filters, the programs, the schedule.
+-- What one more entry of each part keeps: of the tree, the descriptors, the ranges, the filters, the programs.
 -- By the laws of lists, by induction on the entries, and by cases on what a path or a name led to.
 use Rattle.std.proofs.Common.{◌≡◌, ℕ, zero, suc, ◌+◌, ◌<◌, ◌≤◌, ◌^◌, List, [], ◌∷◌, ◌++◌, length, Option, Some, None, refl, ap, sym, subst, ◌∙◌, inl, inr, arith, bytes_eq, if◌then◌else◌, unwrap_or}
 use Rattle.std.specs.Prelude.{Bool, true, false, ◌&&◌, ◌||◌, not, ◌==◌, nat_le, nat_lt, slice_get, is_some}
@@ -7,7 +7,7 @@ use Rattle.std.proofs.lemmas.Bool.{and_from, and_parts, or_cases, or_left, or_ri
 use Rattle.std.proofs.lemmas.List.{length-append}
 use Rattle.std.proofs.lemmas.List.Sums.{sum_by_push}
 use Rattle.hist_model.specs.Ranges.{are_all_apart, are_apart, is_apart, is_range, end_of, pages_of}
-use Rattle.hist_model.specs.ScriptRules.{are_different, can_be_scheduled, exits_last, gives_listener, has_flag_listener, is_accepted, is_instruction, is_last, starts_below, start_earlier, stores_mapped}
+use Rattle.hist_model.specs.ScriptRules.{are_different, exits_last, gives_listener, has_flag_listener, is_accepted, is_instruction, is_last, starts_below, start_earlier, stores_mapped}
 use Rattle.hist_model.specs.Totals.{are_too_many, is_exit, program_totals, totals_behind, totals_of, with_end}
 use Rattle.hist_model.specs.TreeLines.{are_lines_behind, is_directory, is_line, is_made_in, is_node, is_stated_directory, is_text, is_true, nodes_behind, nodes_of, path_lengths, root_alone, with_line}
 use Rattle.hist_model.specs.declared.request.Node.{Node}
@@ -16,16 +16,14 @@ use Rattle.hist_model.specs.declared.script.FilterLine.{FilterLine}
 use Rattle.hist_model.specs.declared.script.Instr.{Instr}
 use Rattle.hist_model.specs.declared.script.Instr.TheVariants.{Spawn, Thread}
 use Rattle.hist_model.specs.declared.script.MapRange.{MapRange}
-use Rattle.hist_model.specs.declared.script.Step.{Step}
 use Rattle.hist_model.specs.declared.script.Totals.{Totals}
 use Rattle.hist_model.specs.declared.script.TreeLine.{TreeLine}
 use Rattle.hist_model.specs.declared.script.TreeLine.TheVariants.{Made, Attr}
 use Rattle.script_reader.specs.declared.settings.Found.{Found}
-use Rattle.script_reader.specs.Above.{ScheduleState, step_fault, with_step}
 use Rattle.script_reader.specs.Paths.{is_path, parent_of}
 use Rattle.script_reader.specs.Programs.{ProgramsState, close_program, open_totals, standing, starting, start_fault, totals_fault, with_instr, with_start}
 use Rattle.script_reader.specs.Ranges.{broker_fault, map_fault}
-use Rattle.script_reader.specs.Rules.{HasDescriptors, HasFilters, HasPrograms, HasRanges, HasSchedule, HasTree, has_length, has_pages, is_found, is_placed_below, is_sound_instruction, starts_nothing}
+use Rattle.script_reader.specs.Rules.{HasDescriptors, HasFilters, HasPrograms, HasRanges, HasTree, has_length, has_pages, is_found, is_placed_below, is_sound_instruction, starts_nothing}
 use Rattle.script_reader.specs.Tree.{TreeState, attr_fault, found_node, is_directory_found, is_stated, leading, made_line, node_at, node_fault, reference_of, with_attr, with_node}
 use Rattle.script_reader.proofs.KeptNames.{names_more, once_more, stated_more, stated_still}
 use Rattle.script_reader.proofs.KeptPaths.{lengths_more, paths_more}
@@ -308,13 +306,3 @@ program_kept map exited P h ends last few fine =
       named = λ name. subst (λ n. is_placed_below n (standing P.name (length P.bodies) P.place name) ≡ true) (sym longer)
           (placed-either (bytes_eq P.name name) (length P.bodies) (P.place name) (h.named name));
     }
-
--- ---- the schedule
-
-pub schedule_kept : (S : ScheduleState) (step : Step) → HasSchedule S → step_fault S step ≡ None → can_be_scheduled step.who ≡ true → nat_le 1 step.count ≡ true → HasSchedule (with_step step S)
-schedule_kept S step h fine who count = record {
-  counted = sum_by_push (λ (s : Step). s.count) S.lines step ∙ ap (λ n. n + step.count) h.counted;
-  few = ltb-false _ _ (not_large _ fine);
-  scheduled = all_more (λ (s : Step). can_be_scheduled s.who) S.lines step h.scheduled who;
-  counts = all_more (λ (s : Step). nat_le 1 s.count) S.lines step h.counts count;
-}

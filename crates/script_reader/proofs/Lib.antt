@@ -9,8 +9,11 @@ pub mod PathParts
 pub mod KeptNames
 pub mod KeptPaths
 pub mod KeptRules
+pub mod KeptSchedule
 pub mod KeptLines
 pub mod SoundStatements
+pub mod SoundRequests
+pub mod Turns
 pub mod Readings
 pub mod FirstRow
 pub mod WordSlots

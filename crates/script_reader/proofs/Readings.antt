@@ -6,16 +6,16 @@ use Rattle.lex_core.specs.Lexical.{tokens}
 use Rattle.lex_core.specs.Lines.{Numbered, lines_after}
 use Rattle.lex_core.specs.declared.line.Token.{Token}
 use Rattle.lex_core.specs.declared.reason.Reason.{Reason}
-use Rattle.hist_model.specs.declared.script.Script.{Script}
 use Rattle.sys_abi.specs.declared.memory.OrNoMemory.{OrNoMemory}
 use Rattle.sys_abi.specs.declared.memory.OrNoMemory.TheVariants.{Refused, NoMemory}
 use Rattle.script_reader.specs.Above.{Above, Stated, above, with_line, nothing_above}
 use Rattle.script_reader.specs.Lines.{line_statement}
 use Rattle.script_reader.specs.Outcomes.{EndsWith, States, reading_from, rest_of, with_reading}
-use Rattle.script_reader.specs.Scripts.{reading, script, script_at_end, after_line, refusal}
+use Rattle.script_reader.specs.Scripts.{reading, script, script_file, script_in, file_at_end, after_line, refusal}
 use Rattle.script_reader.specs.declared.error.Fault.{Fault}
 use Rattle.script_reader.specs.declared.error.ScriptError.{ScriptError}
 use Rattle.script_reader.specs.declared.error.ScriptError.TheVariants.{BadLine}
+use Rattle.script_reader.specs.declared.file.ScriptFile.{ScriptFile}
 use Rattle.script_reader.specs.declared.statement.Statement.{Statement}
 
 above-more : (n : ℕ) (s : Statement) (older : List Stated) → above (record { line = n; what = s } ∷ older) ≡ with_line n s (above older)
@@ -23,7 +23,7 @@ unfolding above
 above-more n s older = refl
 
 -- one line, where the lines behind it are read alike
-reading-line : (n : ℕ) (outcome : Result Statement Fault) (older : List Stated) (one : List Stated → Result Script ScriptError) (other : Above → Result Script ScriptError)
+reading-line : (n : ℕ) (outcome : Result Statement Fault) (older : List Stated) (one : List Stated → Result ScriptFile ScriptError) (other : Above → Result ScriptFile ScriptError)
     → ((all : List Stated) → one all ≡ other (above all)) → after_line n outcome older one ≡ rest_of n (with_reading n outcome (above older)) other
 reading-line n (Ok s) older one other same = same (record { line = n; what = s } ∷ older) ∙ ap other (above-more n s older)
 reading-line n (Err fault) older one other same = refl
@@ -39,10 +39,10 @@ unfolding above
 above-none = refl
 
 -- a file is read from its first line on, with nothing above
-pub script_read : (bytes : List ℕ) → script bytes ≡ reading_from (lines_after 0 bytes) nothing_above
-script_read bytes = reading-same (lines_after 0 bytes) [] ∙ ap (reading_from (lines_after 0 bytes)) above-none
+pub file_read : (bytes : List ℕ) → script_file bytes ≡ reading_from (lines_after 0 bytes) nothing_above
+file_read bytes = reading-same (lines_after 0 bytes) [] ∙ ap (reading_from (lines_after 0 bytes)) above-none
 
-reading-end : (A : Above) → reading_from [] A ≡ script_at_end A
+reading-end : (A : Above) → reading_from [] A ≡ file_at_end A
 unfolding reading_from
 reading-end A = refl
 
@@ -52,7 +52,7 @@ unfolding reading_from
 reading-more line lines A = refl
 
 -- no line is left
-pub read_all : (old : List Numbered) (A : Above) → old ≡ [] → reading_from old A ≡ script_at_end A
+pub read_all : (old : List Numbered) (A : Above) → old ≡ [] → reading_from old A ≡ file_at_end A
 read_all old A e = ap (λ lines. reading_from lines A) e ∙ reading-end A
 
 -- what a line with these tokens does
@@ -83,7 +83,16 @@ read_unread old n reason A h = reading-first old n (Err reason) A h
 -- a script whose first faulty line is the first that is left
 pub read_refused : (bytes : List ℕ) (old : List Numbered) (n : ℕ) (ts : List Token) (A : Above) (error : OrNoMemory ScriptError)
     → reading_from old A ≡ reading_from (lines_after 0 bytes) nothing_above → FirstReads old n (Ok ts)
-    → EndsWith n (with_reading n (line_statement A (Ok ts)) A) error → States (script bytes) (Err error)
+    → EndsWith n (with_reading n (line_statement A (Ok ts)) A) error → States (script_file bytes) (Err error)
 read_refused bytes old n ts A (Refused error) so h g =
-    script_read bytes ∙ (sym so ∙ read_faulty old n ts A g.0 error h g.1 g.2)
+    file_read bytes ∙ (sym so ∙ read_faulty old n ts A g.0 error h g.1 g.2)
 read_refused bytes old n ts A NoMemory so h g = tt
+
+-- ---- the script alone
+
+pub script_alone : (bytes : List ℕ) (file : ScriptFile) → script_file bytes ≡ Ok file → script bytes ≡ Ok file.script
+script_alone bytes file h = ap script_in h
+
+pub script_refused : (bytes : List ℕ) (error : OrNoMemory ScriptError) → States (script_file bytes) (Err error) → States (script bytes) (Err error)
+script_refused bytes (Refused error) h = ap script_in h
+script_refused bytes NoMemory h = tt

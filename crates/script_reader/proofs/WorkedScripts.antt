@@ -1,6 +1,6 @@
 -- Worked examples of scripts, computed by the definitions: what a file states, and for each reason the line that is refused.
 -- By computing, with the definitions unfolded.
-use Rattle.std.proofs.Common.{◌≡◌, ℕ, List, [], ◌∷◌, ◌++◌, Ok, Err, Some, None, refl}
+use Rattle.std.proofs.Common.{◌≡◌, ℕ, List, [], ◌∷◌, ◌++◌, Ok, Err, Some, None, refl, replicate}
 use Rattle.std.specs.Prelude.{Option, Result, codes, pos, true, false}
 use Rattle.lex_core.specs.Lexical.{tokens}
 use Rattle.lex_core.specs.Lines.{split, without_return, is_skipped, numbered}
@@ -12,14 +12,21 @@ use Rattle.hist_model.specs.declared.event.Actor.TheVariants.{Task, Worker}
 use Rattle.hist_model.specs.declared.event.Disposition.TheVariants.{Restart}
 use Rattle.hist_model.specs.declared.request.Node.TheVariants as node
 use Rattle.hist_model.specs.declared.script.Instr.TheVariants.{Poke, Fill, Call, Spawn, Kill, Handler, Wait, Exit}
+use Rattle.hist_model.specs.declared.request.Request.TheVariants as call
 use Rattle.hist_model.specs.declared.script.Script.{Script}
+use Rattle.hist_model.specs.declared.script.Step.{Step}
 use Rattle.hist_model.specs.declared.script.TreeLine.TheVariants.{Made, Attr}
 use Rattle.hist_model.specs.declared.script.Whom.TheVariants.{Child}
 use Rattle.script_reader.specs.declared.error.ScriptError.{ScriptError}
 use Rattle.script_reader.specs.declared.error.ScriptError.TheVariants.{BadLine, TooLarge}
+use Rattle.script_reader.specs.declared.file.ScriptFile.{ScriptFile}
+use Rattle.step_requests.specs.declared.request.Turn.{Turn}
+use Rattle.step_requests.specs.declared.request.Turn.TheVariants as turn
 use Rattle.script_reader.specs.Above.{above}
 use Rattle.script_reader.specs.Operands.{fault_from}
-use Rattle.script_reader.specs.Scripts.{script, reading}
+use Rattle.step_requests.specs.Operands.{fault_from as request_fault_from}
+use Rattle.step_requests.specs.declared.request.Asked.TheVariants as asks
+use Rattle.script_reader.specs.Scripts.{script, script_file, reading}
 use Rattle.script_reader.specs.Tree.{node_ref}
 
 -- the bytes of some lines, each ended by byte 10
@@ -103,6 +110,30 @@ all_kinds : script (text (settings ++ programs)) ≡ Ok (record {
 unfolding text settings programs tokens split without_return is_skipped numbered digits_value above fault_from reading fault_among
 all_kinds = refl
 
+-- the counts and the turns of a file's schedule
+lines_in : Result ScriptFile ScriptError → Option (List Step × List Turn)
+lines_in (Ok file) = Some (file.script.schedule, file.turns)
+lines_in (Err error) = None
+
+lines_of : List (List ℕ) → Option (List Step × List Turn)
+lines_of lines = lines_in (script_file (text (codes "prog main" ∷ codes "end" ∷ codes "schedule" ∷ lines ++ codes "end" ∷ [])))
+
+-- with a worker's request all lines are turns, also the counts of other workers; tasks and counts alone are counted
+requests :
+    lines_of (codes "t 0 3" ∷ codes "w 15 recv" ∷ codes "t 0.1" ∷ codes "w 0 act mknod \"/null\" 0o020666 259" ∷ codes "w 0 let-go" ∷ [])
+    ∷ lines_of (codes "w 1 2" ∷ codes "w 0 recv" ∷ codes "w 1" ∷ [])
+    ∷ lines_of (codes "t 0 3" ∷ codes "w 15 2" ∷ []) ∷ lines_of (codes "t 0" ∷ []) ∷ []
+    ≡ Some (
+      [],
+      turn.Steps (0 ∷ []) 3 ∷ turn.Asks 15 (asks.Recv (replicate 80 0)) ∷ turn.Steps (0 ∷ 1 ∷ []) 1
+          ∷ turn.Asks 0 (asks.Act (call.Mknod None (codes "/null") 8630 259)) ∷ turn.Asks 0 asks.LetGo ∷ [],
+    )
+    ∷ Some ([], turn.Serves 1 2 ∷ turn.Asks 0 (asks.Recv (replicate 80 0)) ∷ turn.Serves 1 1 ∷ [])
+    ∷ Some (record { who = Task (0 ∷ []); count = 3 } ∷ record { who = Worker 15; count = 2 } ∷ [], [])
+    ∷ Some (record { who = Task (0 ∷ []); count = 1 } ∷ [], []) ∷ []
+unfolding lines_of lines_in text tokens split without_return is_skipped numbered digits_value above fault_from request_fault_from reading fault_among
+requests = refl
+
 -- ---- what is refused
 
 -- the tokens, the word, and its place
@@ -168,3 +199,20 @@ ends :
     ∷ Some (BadLine 1 NotClosed) ∷ Some (BadLine 0 NoProgram) ∷ Some (BadLine 0 NoProgram) ∷ []
 unfolding refusal error_of text tokens split without_return is_skipped numbered digits_value above fault_from reading fault_among
 ends = refl
+
+-- counts and requests of one worker, of which a line's own faults come first, and the faults of requests
+mixed :
+    refusal (codes "schedule" ∷ codes "w 0 2" ∷ codes "t 0" ∷ codes "w 0 recv" ∷ []) ∷ refusal (codes "schedule" ∷ codes "w 1 recv" ∷ codes "w 1" ∷ [])
+    ∷ refusal (codes "schedule" ∷ codes "w 0 200000" ∷ codes "w 0 recv" ∷ []) ∷ refusal (codes "schedule" ∷ codes "w 1 recv" ∷ codes "w 1 0" ∷ [])
+    ∷ refusal (codes "schedule" ∷ codes "w 1" ∷ codes "w 1 act open" ∷ []) ∷ refusal (codes "schedule" ∷ codes "w 1" ∷ codes "w 1 act" ∷ [])
+    ∷ refusal (codes "w 0 recv" ∷ []) ∷ refusal (codes "schedule" ∷ codes "w 0 receive" ∷ []) ∷ refusal (codes "schedule" ∷ codes "w 0 recv 1" ∷ [])
+    ∷ refusal (codes "schedule" ∷ codes "w 16 recv" ∷ []) ∷ refusal (codes "schedule" ∷ codes "w 16 act mount \"\" \"/\" \"\" 0 \"\" shifted" ∷ [])
+    ∷ refusal (codes "schedule" ∷ codes "w 1 act mount \"\" \"/\" \"\" 0 \"\" shifted" ∷ []) ∷ refusal (codes "schedule" ∷ codes "t 0 200000" ∷ codes "w 0 recv" ∷ []) ∷ []
+    ≡ Some (BadLine 4 OutOfPlace) ∷ Some (BadLine 3 OutOfPlace)
+    ∷ Some (BadLine 3 OutOfPlace) ∷ Some (BadLine 3 OutOfRange)
+    ∷ Some (BadLine 3 UnknownWord) ∷ Some (BadLine 3 WrongCount)
+    ∷ Some (BadLine 1 OutOfPlace) ∷ Some (BadLine 2 BadNumber) ∷ Some (BadLine 2 WrongCount)
+    ∷ Some (BadLine 2 OutOfRange) ∷ Some (BadLine 2 OutOfRange)
+    ∷ Some (BadLine 2 UnknownName) ∷ Some (TooLarge 3) ∷ []
+unfolding refusal error_of text tokens split without_return is_skipped numbered digits_value above fault_from request_fault_from reading fault_among
+mixed = refl

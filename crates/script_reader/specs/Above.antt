@@ -1,10 +1,9 @@
 -- What the accepted lines above a line state, part by part, and the faults that a statement shows beside them.
-use Rattle.std.specs.Prelude.{ℕ, ◌+◌, Bool, true, false, if◌then◌else◌, nat_lt, List, [], ◌∷◌, ◌++◌, not, Option, Some, None, is_some}
+use Rattle.std.specs.Prelude.{ℕ, Bool, true, false, if◌then◌else◌, List, [], ◌∷◌, ◌++◌, not, Option, Some, None, is_some}
 use Rattle.lex_core.specs.declared.reason.Reason.TheVariants as reason
 use Rattle.hist_model.specs.Filters.{notify_filter}
 use Rattle.hist_model.specs.Totals.{is_exit}
 use Rattle.hist_model.specs.declared.script.MapRange.{MapRange}
-use Rattle.hist_model.specs.declared.script.Step.{Step}
 use Rattle.script_reader.specs.declared.error.Fault.{Fault}
 use Rattle.script_reader.specs.declared.settings.Settings.{Settings}
 use Rattle.script_reader.specs.declared.statement.Statement.{Statement}
@@ -13,10 +12,12 @@ use Rattle.script_reader.specs.declared.word.Part.{Part}
 use Rattle.script_reader.specs.declared.word.Part.TheVariants as part
 use Rattle.script_reader.specs.Blocks.{FiltersState, no_filters, with_filter, open_filter, with_insn}
 use Rattle.script_reader.specs.Blocks.{close_filter, filter_fault, insns_fault, killable_fault}
-use Rattle.script_reader.specs.Faults.{wrong_if, too_large_if, or_else, duplicate}
+use Rattle.script_reader.specs.Faults.{wrong_if, or_else, duplicate}
 use Rattle.script_reader.specs.Programs.{ProgramsState, no_programs, open_program, with_instr, with_start, close_program}
 use Rattle.script_reader.specs.Programs.{prog_fault, start_fault, instr_fault, totals_fault}
 use Rattle.script_reader.specs.Ranges.{map_fault, broker_fault}
+use Rattle.script_reader.specs.Schedule.{ScheduleState, no_steps, with_task, with_worker, with_request}
+use Rattle.script_reader.specs.Schedule.{steps_fault, counts_fault, request_fault}
 use Rattle.script_reader.specs.Settings.{no_settings, pidbase_fault, with_group}
 use Rattle.script_reader.specs.Tree.{TreeState, bare_tree, node_at, with_node, with_attr, node_fault, attr_fault, leads_to_directory}
 
@@ -24,14 +25,6 @@ use Rattle.script_reader.specs.Tree.{TreeState, bare_tree, node_at, with_node, w
 pub record Stated : Type 0 where
   pub line : ℕ
   pub what : Statement
-
--- the lines of the schedule, and how often its actors step, all together
-pub record ScheduleState : Type 0 where
-  pub lines : List Step
-  pub steps : ℕ
-
-abbrev pub no_steps : ScheduleState
-no_steps = record { lines = []; steps = 0 }
 
 -- what lines state, from the first line on
 pub record Above : Type 0 where
@@ -75,11 +68,11 @@ with_filters filters A = record A { filters = filters }
 abbrev pub with_programs : ProgramsState → Above → Above
 with_programs programs A = record A { programs = programs }
 
+abbrev pub with_schedule : ScheduleState → Above → Above
+with_schedule schedule A = record A { schedule = schedule }
+
 abbrev pub in_part : Part → Above → Above
 in_part part A = record A { part = part }
-
-abbrev pub with_step : Step → ScheduleState → ScheduleState
-with_step step schedule = record { lines = schedule.lines ++ step ∷ []; steps = schedule.steps + step.count }
 
 -- behind `exit` only the end of the block may stand
 abbrev pub part_behind : Bool → Part → Part
@@ -119,7 +112,9 @@ with_statement (states.Prog name) A = in_part part.Program (with_programs (open_
 with_statement (states.Does i) A = in_part (part_behind (is_exit i) A.part) (with_programs (with_instr i A.programs) A)
 with_statement (states.Starts thread name) A = with_programs (with_start thread name A.programs) A
 with_statement states.Schedule A = in_part part.Schedule A
-with_statement (states.Takes step) A = record A { schedule = with_step step A.schedule }
+with_statement (states.Steps task count) A = with_schedule (with_task task count A.schedule) A
+with_statement (states.Counts worker count) A = with_schedule (with_worker worker count A.schedule) A
+with_statement (states.Asks worker asked) A = with_schedule (with_request worker asked A.schedule) A
 with_statement states.End A = close_block A.part A
 
 -- the line opens a block
@@ -148,10 +143,6 @@ abbrev pub root_fault : Above → List ℕ → Option Fault
 root_fault A path =
     or_else (wrong_if (not (leads_to_directory A.tree path)) reason.BadPath) (duplicate (is_some A.settings.root))
 
--- the actors of the schedule step at most 200000 times
-abbrev pub step_fault : ScheduleState → Step → Option Fault
-step_fault schedule step = too_large_if (nat_lt 200000 (schedule.steps + step.count))
-
 -- of the block that ends
 abbrev pub end_fault : Part → Above → Option Fault
 end_fault part.Filter A = insns_fault A.filters.insns
@@ -179,5 +170,7 @@ statement_fault (states.Prog name) A = prog_fault A.programs name
 statement_fault (states.Does i) A = instr_fault A.map i
 statement_fault (states.Starts thread name) A = start_fault A.programs name
 statement_fault states.Schedule A = None
-statement_fault (states.Takes step) A = step_fault A.schedule step
+statement_fault (states.Steps task count) A = steps_fault A.schedule count
+statement_fault (states.Counts worker count) A = counts_fault A.schedule worker count
+statement_fault (states.Asks worker asked) A = request_fault A.schedule worker
 statement_fault states.End A = end_fault A.part A

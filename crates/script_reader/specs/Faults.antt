@@ -34,6 +34,12 @@ abbrev pub Judges : {T : Type 0} → Option Fault → Result T Fault → Type 0
 Judges fault (Ok t) = fault ≡ None
 Judges fault (Err found) = fault ≡ Some found
 
+-- there is no fault, and then this is counted, or it is this one; nothing is said of want of memory
+abbrev pub Counts : {T : Type 0} → Option Fault → T → Result T (OrNoMemory Fault) → Type 0
+Counts fault count (Ok found) = (fault ≡ None) × (found ≡ count)
+Counts fault count (Err (Refused found)) = fault ≡ Some found
+Counts fault count (Err NoMemory) = ⊤
+
 -- what was stated becomes this where there is no fault; nothing is said of want of memory
 abbrev pub Admits : {S T : Type 0} → Option Fault → S → Result T (OrNoMemory Fault) → S → Type 0
 Admits fault next (Ok t) new = (fault ≡ None) × (new ≡ next)

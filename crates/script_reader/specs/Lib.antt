@@ -1,8 +1,11 @@
 pub mod Words
+pub mod Lists
 pub mod Paths
 pub mod Operands
 pub mod Statements
 pub mod Faults
+pub mod Schedule
+pub mod Requests
 pub mod Settings
 pub mod Tree
 pub mod Ranges

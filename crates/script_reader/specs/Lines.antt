@@ -16,8 +16,9 @@ use Rattle.script_reader.specs.declared.word.Word.{Word}
 use Rattle.script_reader.specs.declared.word.Word.TheVariants as word
 use Rattle.script_reader.specs.Above.{Above, statement_fault}
 use Rattle.script_reader.specs.Operands.{operands_fault}
+use Rattle.script_reader.specs.Requests.{is_request, request_statement}
 use Rattle.script_reader.specs.Statements.{statement}
-use Rattle.script_reader.specs.Words.{belongs, word_of, in_filter}
+use Rattle.script_reader.specs.Words.{belongs, word_of, in_filter, in_schedule}
 
 -- a `pidmax` behind a `pidbase` is out of place, as is a word that belongs to another part
 abbrev pub comes_late : Bool → Word → Bool
@@ -62,10 +63,11 @@ plain_statement part base_is_stated (Bare bytes ∷ operands) = bytes_statement 
 plain_statement part base_is_stated (Quoted bytes ∷ operands) = Err (Wrong reason.UnknownWord)
 plain_statement part base_is_stated [] = Err (Wrong reason.UnknownWord)
 
--- in the block of a filter every line but its end is an instruction of bpf(4)
+-- in the block of a filter every line but its end is an instruction of bpf(4), and in the schedule a worker may ask for something
 abbrev pub tokens_statement : Part → Bool → List Token → Result Statement Fault
 tokens_statement part base_is_stated tokens =
-    if in_filter part && not (ends_block tokens) then insn_statement (insn_text tokens) else plain_statement part base_is_stated tokens
+    if in_filter part && not (ends_block tokens) then insn_statement (insn_text tokens)
+    else (if in_schedule part && is_request tokens then request_statement tokens else plain_statement part base_is_stated tokens)
 
 abbrev pub unless_faulty : Option Fault → Statement → Result Statement Fault
 unless_faulty None s = Ok s

@@ -5,14 +5,14 @@ use Rattle.lex_core.specs.Lexical.{tokens}
 use Rattle.lex_core.specs.Lines.{Numbered}
 use Rattle.sys_abi.specs.declared.memory.OrNoMemory.{OrNoMemory}
 use Rattle.sys_abi.specs.declared.memory.OrNoMemory.TheVariants.{Refused, NoMemory}
-use Rattle.hist_model.specs.declared.script.Script.{Script}
 use Rattle.script_reader.specs.declared.error.Fault.{Fault}
 use Rattle.script_reader.specs.declared.error.ScriptError.{ScriptError}
 use Rattle.script_reader.specs.declared.error.ScriptError.TheVariants as refused
+use Rattle.script_reader.specs.declared.file.ScriptFile.{ScriptFile}
 use Rattle.script_reader.specs.declared.statement.Statement.{Statement}
 use Rattle.script_reader.specs.Above.{Above, with_line}
 use Rattle.script_reader.specs.Lines.{line_statement}
-use Rattle.script_reader.specs.Scripts.{refusal, script_at_end}
+use Rattle.script_reader.specs.Scripts.{refusal, file_at_end}
 
 -- the answer is what is stated, or why it is refused; nothing is said of want of memory
 abbrev pub States : {T E : Type 0} → Result T E → Result T (OrNoMemory E) → Type 0
@@ -47,11 +47,11 @@ abbrev pub GoesOn : {T : Type 0} → ℕ → Result Above Fault → Result T (Or
 GoesOn n outcome (Ok t) new = outcome ≡ Ok new
 GoesOn n outcome (Err error) new = EndsWith n outcome error
 
-abbrev pub rest_of : ℕ → Result Above Fault → (Above → Result Script ScriptError) → Result Script ScriptError
+abbrev pub rest_of : ℕ → Result Above Fault → (Above → Result ScriptFile ScriptError) → Result ScriptFile ScriptError
 rest_of n (Ok A) rest = rest A
 rest_of n (Err fault) rest = Err (refusal n fault)
 
 -- the lines that are left, behind lines that state this
-unfoldable pub reading_from : List Numbered → Above → Result Script ScriptError
-reading_from [] A = script_at_end A
+unfoldable pub reading_from : List Numbered → Above → Result ScriptFile ScriptError
+reading_from [] A = file_at_end A
 reading_from (line ∷ lines) A = rest_of line.number (with_reading line.number (line_statement A (tokens line.bytes)) A) (reading_from lines)

@@ -1,7 +1,8 @@
 -- What lines keep, so that every script that is read keeps the rules of its type.
 use Rattle.std.specs.Prelude.{◌≡◌, ℕ, ◌+◌, ◌≤◌, ◌<◌, Bool, true, false, ◌&&◌, ◌||◌, not, if◌then◌else◌, nat_le, nat_lt, List, [], length}
-use Rattle.std.specs.Prelude.{slice_get, Option, Some, None, unwrap_or, bytes_eq, ⊤}
-use Rattle.std.specs.List.{list_all, list_any, count_by}
+use Rattle.std.specs.Prelude.{◌++◌, get_or, slice_get, sum_by, Option, Some, None, unwrap_or, bytes_eq, ⊤}
+use Rattle.std.specs.List.{list_all, list_any, count_by, filter_map}
+use Rattle.hist_model.specs.Names.{is_task_name}
 use Rattle.hist_model.specs.Ranges.{are_all_apart, is_page_address, is_range, pages_of}
 use Rattle.hist_model.specs.ScriptRules.{are_different, can_be_scheduled, exits_last, gives_listener, has_flag_listener, is_accepted}
 use Rattle.hist_model.specs.ScriptRules.{is_instruction, starts_below, start_earlier, steps_of, stores_mapped}
@@ -13,17 +14,22 @@ use Rattle.hist_model.specs.declared.script.Instr.{Instr}
 use Rattle.hist_model.specs.declared.script.Instr.TheVariants.{Spawn, Thread}
 use Rattle.hist_model.specs.declared.script.MapRange.{MapRange}
 use Rattle.hist_model.specs.declared.script.Step.{Step}
+use Rattle.step_requests.specs.declared.request.Turn.{Turn}
+use Rattle.step_requests.specs.declared.request.Turn.TheVariants as turn
+use Rattle.step_requests.specs.Turns.{AreApart}
+use Rattle.script_reader.specs.declared.schedule.WorkerLines.{WorkerLines}
 use Rattle.script_reader.specs.declared.settings.Found.{Found}
 use Rattle.script_reader.specs.declared.settings.Limits.{Limits}
 use Rattle.script_reader.specs.declared.statement.Statement.{Statement}
 use Rattle.script_reader.specs.declared.statement.Statement.TheVariants as states
 use Rattle.script_reader.specs.declared.word.Part.{Part}
 use Rattle.script_reader.specs.declared.word.Part.TheVariants as part
-use Rattle.script_reader.specs.Above.{Above, ScheduleState}
+use Rattle.script_reader.specs.Above.{Above}
 use Rattle.script_reader.specs.Blocks.{FiltersState, has_listener}
 use Rattle.script_reader.specs.Paths.{is_path, name_of, parent_of, root_path}
 use Rattle.script_reader.specs.Programs.{ProgramsState}
 use Rattle.script_reader.specs.Ranges.{in_force}
+use Rattle.script_reader.specs.Schedule.{ScheduleState, are_counts, are_requests, turn_of}
 use Rattle.script_reader.specs.Settings.{first_limits}
 use Rattle.script_reader.specs.Tree.{TreeState, is_stated, node_at, node_ref}
 use Rattle.script_reader.specs.Words.{among_settings, in_program}
@@ -54,7 +60,9 @@ IsSound p base_is_stated (states.Filter listener) = among_settings p ≡ true
 -- instructions that start a program are stated by its name
 IsSound p base_is_stated (states.Does i) = (in_program p ≡ true) × (starts_nothing i ≡ true) × (is_instruction i ≡ true)
 IsSound p base_is_stated (states.Starts thread name) = in_program p ≡ true
-IsSound p base_is_stated (states.Takes step) = (can_be_scheduled step.who ≡ true) × (nat_le 1 step.count ≡ true)
+IsSound p base_is_stated (states.Steps task count) = (is_task_name task ≡ true) × (nat_le 1 count ≡ true)
+IsSound p base_is_stated (states.Counts worker count) = (nat_lt worker 16 ≡ true) × (nat_le 1 count ≡ true)
+IsSound p base_is_stated (states.Asks worker asked) = nat_lt worker 16 ≡ true
 IsSound p base_is_stated _ = ⊤
 
 -- ---- what accepted lines come to, part by part
@@ -139,12 +147,40 @@ pub record HasPrograms (map : List MapRange) (P : ProgramsState) : Type 0 where
   -- each name stands for a closed program
   pub named : (name : List ℕ) → is_placed_below (length P.bodies) (P.place name) ≡ true
 
+-- a task or a worker steps once at least, and a worker's number is one of 0 to 15
+abbrev pub is_turn : Turn → Bool
+is_turn (turn.Steps task count) = is_task_name task && nat_le 1 count
+is_turn (turn.Serves worker count) = nat_lt worker 16 && nat_le 1 count
+is_turn (turn.Asks worker asked) = nat_lt worker 16
+
+-- how many steps a turn is
+abbrev pub turn_steps : Turn → ℕ
+turn_steps (turn.Steps task count) = count
+turn_steps (turn.Serves worker count) = count
+turn_steps (turn.Asks worker asked) = 1
+
+-- what the turns of a file keep: at most 200000 steps are scheduled, and a worker has counts or requests
+pub record AreTurns (turns : List Turn) : Type 0 where
+  pub each : list_all is_turn turns ≡ true
+  pub few : sum_by turn_steps turns ≤ 200000
+  pub apart : AreApart turns
+
+-- the line is of the kind that the table has for its worker
+abbrev pub is_as_others : List (Option WorkerLines) → Turn → Bool
+is_as_others workers (turn.Steps task count) = true
+is_as_others workers (turn.Serves worker count) = are_counts (get_or workers worker None)
+is_as_others workers (turn.Asks worker asked) = are_requests (get_or workers worker None)
+
 pub record HasSchedule (S : ScheduleState) : Type 0 where
   -- the steps of all lines are counted
-  pub counted : steps_of S.lines ≡ S.steps
+  pub counted : steps_of S.lines + sum_by turn_steps S.turns ≤ S.steps
   pub few : S.steps ≤ 200000
   pub scheduled : list_all (λ (s : Step). can_be_scheduled s.who) S.lines ≡ true
   pub counts : list_all (λ (s : Step). nat_le 1 s.count) S.lines ≡ true
+  pub turns : list_all is_turn S.turns ≡ true
+  -- the lines of a worker are of one kind
+  pub workers : length S.workers ≡ 16
+  pub alike : list_all (is_as_others S.workers) (S.turns ++ filter_map turn_of S.lines) ≡ true
 
 abbrev pub HasNoPrograms : ProgramsState → Type 0
 HasNoPrograms P = (P.bodies ≡ []) × (P.body ≡ [])

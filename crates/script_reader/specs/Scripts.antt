@@ -1,5 +1,5 @@
--- The script that a file states, or why it is refused.
-use Rattle.std.specs.Prelude.{ℕ, Bool, true, false, if◌then◌else◌, List, [], ◌∷◌, unwrap_or, Result, Ok, Err}
+-- The script that a file states and the turns of its schedule, or why it is refused.
+use Rattle.std.specs.Prelude.{ℕ, if◌then◌else◌, List, [], ◌∷◌, unwrap_or, Result, Ok, Err}
 use Rattle.lex_core.specs.Lexical.{tokens}
 use Rattle.lex_core.specs.Lines.{Numbered, lines_after}
 use Rattle.lex_core.specs.declared.reason.Reason.TheVariants as reason
@@ -8,9 +8,11 @@ use Rattle.script_reader.specs.declared.error.Fault.{Fault}
 use Rattle.script_reader.specs.declared.error.Fault.TheVariants as fault
 use Rattle.script_reader.specs.declared.error.ScriptError.{ScriptError}
 use Rattle.script_reader.specs.declared.error.ScriptError.TheVariants as refused
+use Rattle.script_reader.specs.declared.file.ScriptFile.{ScriptFile}
 use Rattle.script_reader.specs.declared.statement.Statement.{Statement}
 use Rattle.script_reader.specs.Above.{Above, Stated, above}
 use Rattle.script_reader.specs.Lines.{line_statement}
+pub use Rattle.script_reader.specs.Lists.{has_items}
 use Rattle.script_reader.specs.Ranges.{in_force}
 use Rattle.script_reader.specs.Settings.{figures_of, pidmax_of}
 use Rattle.script_reader.specs.Tree.{node_ref}
@@ -36,17 +38,17 @@ script_of A = record {
   schedule = A.schedule.lines;
 }
 
+-- and with it the lines of a schedule that has a worker's request
+abbrev pub file_of : Above → ScriptFile
+file_of A = record { script = script_of A; turns = A.schedule.turns }
+
 -- ---- the end of the file
 
-abbrev pub has_items : {T : Type 0} → List T → Bool
-has_items [] = false
-has_items (x ∷ xs) = true
-
 -- a block that isn't closed, at the line that opened it, and then a script without programs
-abbrev pub script_at_end : Above → Result Script ScriptError
-script_at_end A =
+abbrev pub file_at_end : Above → Result ScriptFile ScriptError
+file_at_end A =
     if in_block A.part then Err (refused.BadLine A.opened reason.NotClosed)
-    else (if has_items A.programs.bodies then Ok (script_of A) else Err (refused.BadLine 0 reason.NoProgram))
+    else (if has_items A.programs.bodies then Ok (file_of A) else Err (refused.BadLine 0 reason.NoProgram))
 
 -- ---- the lines
 
@@ -55,15 +57,26 @@ refusal n (fault.Wrong reason) = refused.BadLine n reason
 refusal n fault.TooLarge = refused.TooLarge n
 
 -- an accepted line joins those above; the first that isn't decides
-abbrev pub after_line : ℕ → Result Statement Fault → List Stated → (List Stated → Result Script ScriptError) → Result Script ScriptError
+abbrev pub after_line : ℕ → Result Statement Fault → List Stated → (List Stated → Result ScriptFile ScriptError)
+    → Result ScriptFile ScriptError
 after_line n (Ok s) older rest = rest (record { line = n; what = s } ∷ older)
 after_line n (Err fault) older rest = Err (refusal n fault)
 
 -- the lines that are left, behind accepted ones
-unfoldable pub reading : List Numbered → List Stated → Result Script ScriptError
-reading [] older = script_at_end (above older)
+unfoldable pub reading : List Numbered → List Stated → Result ScriptFile ScriptError
+reading [] older = file_at_end (above older)
 reading (line ∷ lines) older = after_line line.number (line_statement (above older) (tokens line.bytes)) older (reading lines)
+
+-- what the bytes of a file state, or why it is refused
+abbrev pub script_file : List ℕ → Result ScriptFile ScriptError
+script_file bytes = reading (lines_after 0 bytes) []
+
+-- ---- the script alone
+
+abbrev pub script_in : Result ScriptFile ScriptError → Result Script ScriptError
+script_in (Ok file) = Ok file.script
+script_in (Err error) = Err error
 
 -- the script that the bytes of a file state, or why it is refused
 abbrev pub script : List ℕ → Result Script ScriptError
-script bytes = reading (lines_after 0 bytes) []
+script bytes = script_in (script_file bytes)

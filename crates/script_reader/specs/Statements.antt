@@ -5,7 +5,6 @@ use Rattle.std.specs.Int.{w128, cast_unsigned}
 use Rattle.lex_core.specs.declared.line.Token.{Token}
 use Rattle.bpf_filter.specs.Text.{below, number_at}
 use Rattle.sys_abi.specs.Calls.{call_number_of}
-use Rattle.hist_model.specs.declared.event.Actor.TheVariants as actor
 use Rattle.hist_model.specs.declared.event.Disposition.{Disposition}
 use Rattle.hist_model.specs.declared.event.Disposition.TheVariants as disposition
 use Rattle.hist_model.specs.declared.request.Node.{Node}
@@ -13,7 +12,6 @@ use Rattle.hist_model.specs.declared.request.Node.TheVariants as node
 use Rattle.hist_model.specs.declared.script.Figures.{Figures}
 use Rattle.hist_model.specs.declared.script.Instr.{Instr}
 use Rattle.hist_model.specs.declared.script.Instr.TheVariants as instr
-use Rattle.hist_model.specs.declared.script.Step.{Step}
 use Rattle.hist_model.specs.declared.script.Whom.{Whom}
 use Rattle.hist_model.specs.declared.script.Whom.TheVariants as whom
 use Rattle.script_reader.specs.declared.operand.Addressee.{Addressee}
@@ -119,11 +117,11 @@ calls_named names = map (λ token. call_named (token_bytes token)) names
 abbrev pub poke_of : List Token → Instr
 poke_of operands = instr.Poke (wide_at operands 0) (bytes_at operands 1)
 
-abbrev pub task_step : List Token → Step
-task_step operands = record { who = actor.Task (task_numbers (bytes_at operands 0)); count = count_at operands 1 }
+abbrev pub steps_stated : List Token → Statement
+steps_stated operands = states.Steps (task_numbers (bytes_at operands 0)) (count_at operands 1)
 
-abbrev pub worker_step : List Token → Step
-worker_step operands = record { who = actor.Worker (byte_at operands 0); count = count_at operands 1 }
+abbrev pub counts_stated : List Token → Statement
+counts_stated operands = states.Counts (byte_at operands 0) (count_at operands 1)
 
 abbrev pub arguments : List Token → List ℕ
 arguments operands =
@@ -170,6 +168,6 @@ statement word.Handler operands = states.Does (instr.Handler (byte_at operands 0
 statement word.Wait operands = states.Does instr.Wait
 statement word.Exit operands = states.Does instr.Exit
 statement word.Schedule operands = states.Schedule
-statement word.Task operands = states.Takes (task_step operands)
-statement word.Worker operands = states.Takes (worker_step operands)
+statement word.Task operands = steps_stated operands
+statement word.Worker operands = counts_stated operands
 statement word.End operands = states.End

@@ -10,6 +10,10 @@ use Rattle.bpf_filter.specs.Text.{insn_of, is_quoted, number}
 use Rattle.bpf_filter.specs.Words.{form_in, instructions}
 use Rattle.hist_model.specs.Ranges.{end_of, is_apart, pages_of}
 use Rattle.hist_model.specs.declared.script.Insn.{Insn}
+use Rattle.step_requests.specs.Operands as request
+use Rattle.step_requests.specs.Words.{form_of}
+use Rattle.step_requests.specs.declared.word.Deed.{Deed}
+use Rattle.step_requests.specs.declared.word.Form.TheVariants.{Worker}
 use Rattle.script_reader.specs.declared.error.Fault.{Fault}
 use Rattle.script_reader.specs.declared.error.Fault.TheVariants.{Wrong, TooLarge}
 use Rattle.script_reader.specs.declared.statement.Statement.{Statement}
@@ -23,9 +27,11 @@ use Rattle.script_reader.specs.Lines.{ends_block, is_in_place, line_statement, o
 use Rattle.script_reader.specs.Operands.{is_counted, operand_at, operand_fault}
 use Rattle.script_reader.specs.Paths.{parent_of}
 use Rattle.script_reader.specs.Programs.{instr_fault, start_fault}
+use Rattle.script_reader.specs.Requests.{deed_in, is_request, is_seated}
+use Rattle.script_reader.specs.Schedule.{has_counts, has_requests}
 use Rattle.script_reader.specs.Settings.{pidmax_of}
 use Rattle.script_reader.specs.Tree.{is_stated, leads_to_directory}
-use Rattle.script_reader.specs.Words.{in_filter, word_of}
+use Rattle.script_reader.specs.Words.{in_filter, in_schedule, word_of}
 
 -- ---- the rows
 
@@ -94,10 +100,28 @@ insn_faults (Bare bytes ∷ operands) = form_faults (form_in instructions bytes)
 insn_faults (Quoted bytes ∷ operands) = Some (Wrong reason.UnknownWord) ∷ []
 insn_faults [] = Some (Wrong reason.UnknownWord) ∷ []
 
+-- what is wrong with each of the tokens of a request from a place on, in a line with so many
+abbrev pub token_faults : Deed → ℕ → ℕ → List Token → List (Option Fault)
+token_faults d count place [] = []
+token_faults d count place (token ∷ more) =
+    wrong (request.operand_fault (request.operand_at (Worker d) count place) token) ∷ token_faults d count (place + 1) more
+
+abbrev pub deed_faults : Result Deed Reason → List Token → List (Option Fault)
+deed_faults (Err why) line = Some (Wrong why) ∷ []
+deed_faults (Ok d) line =
+    wrong_if (not (request.is_counted (Worker d) line)) reason.WrongCount
+    ∷ wrong_if (not (is_seated line)) reason.OutOfRange ∷ token_faults d (length line) 0 line
+
+-- what a worker's request shows
+abbrev pub request_faults : List Token → List (Option Fault)
+request_faults line = deed_faults (deed_in (form_of line)) line
+
 -- what a line shows by itself
 abbrev pub own_faults : Part → Bool → List Token → List (Option Fault)
 own_faults part base_is_stated tokens =
-    if in_filter part && not (ends_block tokens) then insn_faults tokens else plain_faults part base_is_stated tokens
+    if in_filter part && not (ends_block tokens) then insn_faults tokens
+    else (if in_schedule part && is_request tokens then request_faults tokens
+    else plain_faults part base_is_stated tokens)
 
 -- what a statement shows beside the lines above
 abbrev pub statement_faults : Statement → Above → List (Option Fault)
@@ -128,7 +152,11 @@ statement_faults (states.Prog name) A = duplicate (is_some (A.programs.place nam
 statement_faults (states.Does i) A = instr_fault A.map i ∷ []
 statement_faults (states.Starts thread name) A = start_fault A.programs name ∷ []
 statement_faults states.Schedule A = []
-statement_faults (states.Takes step) A = too_large_if (nat_lt 200000 (A.schedule.steps + step.count)) ∷ []
+statement_faults (states.Steps task count) A = too_large_if (nat_lt 200000 (A.schedule.steps + count)) ∷ []
+statement_faults (states.Counts worker count) A =
+    wrong_if (has_requests A.schedule worker) reason.OutOfPlace ∷ too_large_if (nat_lt 200000 (A.schedule.steps + count)) ∷ []
+statement_faults (states.Asks worker asked) A =
+    wrong_if (has_counts A.schedule worker) reason.OutOfPlace ∷ too_large_if (nat_lt 200000 (A.schedule.steps + 1)) ∷ []
 statement_faults states.End A = end_fault A.part A ∷ []
 
 -- beside the lines above only what states something is tested

@@ -6,6 +6,7 @@ ghost use Rattle.script_reader.specs.Above.{opened_by, opens, part_behind};
 use crate::blocks::Filters;
 use crate::error::{Fault, ScriptError};
 use crate::fault::wrong_if;
+use crate::file::ScriptFile;
 use crate::programs::{Programs, refuse_instr};
 use crate::ranges::{in_force, refuse_broker, refuse_range};
 use crate::reading::read_line;
@@ -18,10 +19,11 @@ use crate::totals::is_exit;
 use crate::tree::StatedTree;
 use crate::word::{Part, in_block};
 use hist_model::request::{Node, NodeRef};
-use hist_model::script::{Figures, Insn, Instr, MapRange, Script, Step};
-use hist_model::text::{Sequence, Text};
+use hist_model::script::{Figures, Insn, Instr, MapRange, Script};
+use hist_model::text::{Sequence, TaskName, Text};
 use lex_core::{Line, Reason};
 use std::alloc::Global;
+use step_requests::Asked;
 use sys_abi::memory::{NoMemory, OrNoMemory};
 
 /// What the lines above state, part by part.
@@ -53,7 +55,7 @@ fn opens(statement: &Statement<'_>) -> bool
 }
 
 impl Builder {
-    ghost use Rattle.std.specs.Prelude.{◌≤◌, false, true, length, is_some, IfOk, OnOk};
+    ghost use Rattle.std.specs.Prelude.{◌<◌, ◌≤◌, false, true, length, is_some, IfOk, OnOk};
     ghost use Rattle.script_reader.specs.Faults.{Admits};
     ghost use Rattle.script_reader.specs.Above.{with_statement, statement_fault, nothing_above, end_fault, close_block, program_part};
     ghost use Rattle.script_reader.specs.Rules.{IsKept, IsSound};
@@ -228,10 +230,24 @@ impl Builder {
         Ok(())
     }
 
-    fn takes(&mut self, step: Step) -> Admitted
-        ensures { Admits (statement_fault (states.Takes step) (above_in self.old)) (with_statement (states.Takes step) (above_in self.old)) result (above_in self.new) }
+    fn steps(&mut self, task: TaskName, count: u32) -> Admitted
+        ensures { Admits (statement_fault (states.Steps task count) (above_in self.old)) (with_statement (states.Steps task count) (above_in self.old)) result (above_in self.new) }
     {
-        self.schedule.push(step)
+        self.schedule.push_task(task, count)
+    }
+
+    fn counts(&mut self, worker: u8, count: u32) -> Admitted
+        requires { worker < 16 }
+        ensures { Admits (statement_fault (states.Counts worker count) (above_in self.old)) (with_statement (states.Counts worker count) (above_in self.old)) result (above_in self.new) }
+    {
+        self.schedule.push_worker(worker, count)
+    }
+
+    fn asks(&mut self, worker: u8, asked: Asked) -> Admitted
+        requires { worker < 16 }
+        ensures { Admits (statement_fault (states.Asks worker asked) (above_in self.old)) (with_statement (states.Asks worker asked) (above_in self.old)) result (above_in self.new) }
+    {
+        self.schedule.push_request(worker, asked)
     }
 
     fn close_filter(&mut self) -> Admitted
@@ -295,7 +311,9 @@ impl Builder {
             Statement::Does(instr) => self.does(instr),
             Statement::Starts { thread, name } => self.starts(thread, name.items()),
             Statement::Schedule => self.schedule(),
-            Statement::Takes(step) => self.takes(step),
+            Statement::Steps { task, count } => self.steps(task, count),
+            Statement::Counts { worker, count } => self.counts(worker, count),
+            Statement::Asks { worker, asked } => self.asks(worker, asked),
             Statement::End => self.end(),
         }
     }
@@ -320,8 +338,8 @@ impl Builder {
     ghost use Rattle.script_reader.specs.Above.{statement_fault};
     ghost use Rattle.script_reader.specs.Lines.{line_statement, unless_faulty};
     ghost use Rattle.script_reader.specs.Outcomes.{Becomes, States, with_reading};
-    ghost use Rattle.script_reader.specs.Rules.{IsKept, IsSound};
-    ghost use Rattle.script_reader.specs.Scripts.{has_items, script_at_end, script_of};
+    ghost use Rattle.script_reader.specs.Rules.{AreTurns, IsKept, IsSound};
+    ghost use Rattle.script_reader.specs.Scripts.{file_at_end, file_of, has_items};
     ghost use Rattle.script_reader.specs.Views.{above_in};
 
     /// A line with this number joins those above, where its statement has no fault beside them.
@@ -347,10 +365,11 @@ impl Builder {
         self.join(line.number, statement)
     }
 
-    /// The script that the lines make, where all blocks are closed and there is a program.
-    pub fn finish(self) -> Result<Script, OrNoMemory<ScriptError>>
+    /// What the lines make, where all blocks are closed and there is a program.
+    pub fn finish(self) -> Result<ScriptFile, OrNoMemory<ScriptError>>
         requires { IsKept (above_in self) }
-        ensures { States (script_at_end (above_in self)) result }
+        ensures made { States (file_at_end (above_in self)) result }
+        ensures turns { IfOk result (λ file. AreTurns file.turns) }
     {
         if in_block(self.part) {
             return Err(OrNoMemory::Refused(ScriptError::BadLine {
@@ -364,14 +383,14 @@ impl Builder {
                 reason: Reason::NoProgram,
             }));
         }
-        Ok(self.into_script()?)
+        Ok(self.into_file()?)
     }
 
-    /// The script of all settings, each that isn't stated having its default.
-    fn into_script(self) -> Result<Script, NoMemory>
+    /// The script of all settings, each that isn't stated having its default, and the turns.
+    fn into_file(self) -> Result<ScriptFile, NoMemory>
         requires kept { IsKept (above_in self) }
         requires some { has_items self.programs.bodies.items ≡ true }
-        ensures { IfOk result (λ s. s ≡ script_of (above_in self)) }
+        ensures { IfOk result (λ file. file ≡ file_of (above_in self)) }
     {
         let Builder {
             alloc,
@@ -384,7 +403,8 @@ impl Builder {
             schedule,
             ..
         } = self;
-        Ok(Script {
+        let (counts, turns) = schedule.into_lines();
+        let script = Script {
             pidbase: settings.pidbase.unwrap_or(0),
             pidmax: pidmax_of(&settings),
             firstid: settings.firstid.unwrap_or(1),
@@ -397,7 +417,11 @@ impl Builder {
             map: Sequence::new(Vec::from_slice(alloc, in_force(&map))?),
             filters: Sequence::new(filters.into_closed()),
             programs: Sequence::new(programs.into_bodies()),
-            schedule: Sequence::new(schedule.into_lines()),
+            schedule: Sequence::new(counts),
+        };
+        Ok(ScriptFile {
+            script,
+            turns: Sequence::new(turns),
         })
     }
 }

@@ -7,7 +7,6 @@ ghost use Rattle.script_reader.specs.Above.{Above};
 ghost use Rattle.script_reader.specs.Table.{FirstRowDecides};
 
 /// A line is refused for the first row of the table of reasons whose test shows a fault, and for none where no test shows one.
-#[tactic(auto, using(crate::proofs::FirstRow::first_row_decides))]
 pub fn first_row_decides()
     ensures { (A : Above) (line : Result (List Token) Reason) → FirstRowDecides A line }
 {}

@@ -4,12 +4,13 @@ ghost use Rattle.std.specs.Prelude.{◌≡◌, ◌≤◌, Ok, length, IfOk, IfEr
 ghost use Rattle.lex_core.specs.Given.{GivesFirst};
 ghost use Rattle.script_reader.specs.Lines.{line_statement};
 ghost use Rattle.script_reader.specs.Outcomes.{FirstRefused, GoesOn, States, with_reading};
-ghost use Rattle.script_reader.specs.Rules.{IsKept};
-ghost use Rattle.script_reader.specs.Scripts.{refusal, script};
+ghost use Rattle.script_reader.specs.Rules.{AreTurns, IsKept};
+ghost use Rattle.script_reader.specs.Scripts.{refusal, script, script_file};
 ghost use Rattle.script_reader.specs.Views.{above_in};
 
 use crate::builder::Builder;
 use crate::error::{Fault, ScriptError};
+use crate::file::ScriptFile;
 use hist_model::script::Script;
 use lex_core::{Line, Lines};
 use std::alloc::Global;
@@ -53,12 +54,13 @@ fn read_line(builder: &mut Builder, line: &Line<'_>) -> Result<(), OrNoMemory<Sc
     }
 }
 
-/// The script that the bytes of a file state. The first faulty line decides, and within a line the reason that stands first in
+/// What the bytes of a file state. The first faulty line decides, and within a line the reason that stands first in
 /// the table of reasons; a block without its end and a script without programs are refused last.
-#[tactic(auto, using(crate::proofs::Readings::script_read, crate::proofs::Readings::read_all, crate::proofs::Readings::read_more, crate::proofs::Readings::read_refused, crate::proofs::Readings::read_unread))]
-pub fn read_script(alloc: Global, bytes: &[u8]) -> Result<Script, OrNoMemory<ScriptError>>
+#[tactic(auto, using(crate::proofs::Readings::file_read, crate::proofs::Readings::read_all, crate::proofs::Readings::read_more, crate::proofs::Readings::read_refused, crate::proofs::Readings::read_unread))]
+pub fn read_file(alloc: Global, bytes: &[u8]) -> Result<ScriptFile, OrNoMemory<ScriptError>>
     requires { length bytes.now ≤ 8388608 }
-    ensures { States (script bytes.now) result }
+    ensures reading { States (script_file bytes.now) result }
+    ensures turns { IfOk result (λ file. AreTurns file.turns) }
 {
     let mut lines = Lines::new(alloc, bytes);
     let mut builder = Builder::new(alloc)?;
@@ -69,4 +71,14 @@ pub fn read_script(alloc: Global, bytes: &[u8]) -> Result<Script, OrNoMemory<Scr
         lines.reuse(line.tokens);
     }
     builder.finish()
+}
+
+/// The script that the bytes of a file state, without its turns.
+#[tactic(auto, using(crate::proofs::Readings::script_alone, crate::proofs::Readings::script_refused))]
+pub fn read_script(alloc: Global, bytes: &[u8]) -> Result<Script, OrNoMemory<ScriptError>>
+    requires { length bytes.now ≤ 8388608 }
+    ensures { States (script bytes.now) result }
+{
+    let ScriptFile { script, .. } = read_file(alloc, bytes)?;
+    Ok(script)
 }

@@ -5,12 +5,13 @@ ghost use Rattle.bpf_filter.specs.Text.{insn_text};
 ghost use Rattle.script_reader.specs.Lines as definitions;
 ghost use Rattle.script_reader.specs.Outcomes.{States};
 ghost use Rattle.script_reader.specs.Rules.{IsSound};
-ghost use Rattle.script_reader.specs.Words.{in_filter, word_of};
+ghost use Rattle.script_reader.specs.Words.{in_filter, in_schedule, word_of};
 ghost use Rattle.script_reader.specs.declared.word.Part.{Part};
 
 use crate::error::Fault;
 use crate::operand::operands_fault;
 use crate::operands::Operands;
+use crate::request::{is_request, request_statement};
 use crate::statement::{Statement, statement_of};
 use crate::word::{Part, Word, belongs, word_of};
 use bpf_filter::{is_script_word, read_text};
@@ -152,6 +153,12 @@ fn in_filter(part: Part) -> bool
     matches!(part, Part::Filter)
 }
 
+fn in_schedule(part: Part) -> bool
+    ensures { result ≡ in_schedule part }
+{
+    matches!(part, Part::Schedule)
+}
+
 /// What a line states by itself, where it stands in a part and `base_is_stated` is whether a `pidbase` stands above. Its faults
 /// are those that it shows without the lines above.
 pub fn read_line<'a>(
@@ -165,6 +172,9 @@ pub fn read_line<'a>(
 {
     if in_filter(part) && !ends_block(line.tokens.items()) {
         return insn_statement(line);
+    }
+    if in_schedule(part) && is_request(line.tokens.items()) {
+        return request_statement(alloc, line.tokens.items());
     }
     plain_statement(alloc, part, base_is_stated, line.tokens.items())
 }

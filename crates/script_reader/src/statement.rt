@@ -2,19 +2,18 @@
 
 ghost use Rattle.std.specs.Prelude.{◌≡◌, pos, IfOk, map};
 ghost use Rattle.script_reader.specs.Statements as definitions;
-ghost use Rattle.hist_model.specs.declared.event.Actor.TheVariants.{Task, Worker};
-ghost use Rattle.script_reader.specs.declared.statement.Statement.TheVariants.{Takes};
 
 use crate::operand::{Addressee, addressee_in, begins_number};
 use crate::operands::{Operands, token_bytes};
 use crate::paths::task_name;
 use crate::word::Word;
-use hist_model::event::{Actor, Disposition};
+use hist_model::event::Disposition;
 use hist_model::request::Node;
-use hist_model::script::{Figures, Insn, Instr, MapRange, Step, Whom};
-use hist_model::text::{Sequence, Text};
+use hist_model::script::{Figures, Insn, Instr, MapRange, Whom};
+use hist_model::text::{Sequence, TaskName, Text};
 use lex_core::{Token, TokenBytes};
 use std::alloc::{AllocError, Global};
+use step_requests::Asked;
 use sys_abi::calls::call_number;
 use sys_abi::memory::NoMemory;
 
@@ -78,8 +77,21 @@ pub enum Statement<'a> {
     },
     /// `schedule`, which opens the block of the schedule.
     Schedule,
-    /// A line of the schedule.
-    Takes(Step),
+    /// `t`, steps of a task.
+    Steps {
+        task: TaskName,
+        count: u32,
+    },
+    /// `w` with a count, or alone: steps of a worker, 0 to 15.
+    Counts {
+        worker: u8,
+        count: u32,
+    },
+    /// `w` with a request: what a worker of another broker asks the kernel for, 0 to 15.
+    Asks {
+        worker: u8,
+        asked: Asked,
+    },
     /// `end`, of the block that is open.
     End,
 }
@@ -288,20 +300,20 @@ fn call_numbers(alloc: Global, names: &[Token<'_>]) -> Result<Vec<i32>, AllocErr
         .collect(alloc)
 }
 
-fn task_step(alloc: Global, operands: &Operands) -> Result<Step, NoMemory>
-    ensures { IfOk result (λ step. step ≡ definitions.task_step operands.now) }
+fn steps<'a>(alloc: Global, operands: &Operands<'a>) -> Result<Statement<'a>, NoMemory>
+    ensures { IfOk result (λ s. s ≡ definitions.steps_stated operands.now) }
 {
-    Ok(Step {
-        who: Actor::Task(task_name(alloc, bytes_at(operands, 0))?),
+    Ok(Statement::Steps {
+        task: task_name(alloc, bytes_at(operands, 0))?,
         count: count_at(operands, 1),
     })
 }
 
-fn worker_step(operands: &Operands<'_>) -> Step
-    ensures { result ≡ definitions.worker_step operands.now }
+fn counts<'a>(operands: &Operands<'a>) -> Statement<'a>
+    ensures { result ≡ definitions.counts_stated operands.now }
 {
-    Step {
-        who: Actor::Worker(byte_at(operands, 0)),
+    Statement::Counts {
+        worker: byte_at(operands, 0),
         count: count_at(operands, 1),
     }
 }
@@ -377,8 +389,8 @@ pub fn statement_of<'a>(
         Word::Wait => Statement::Does(Instr::Wait),
         Word::Exit => Statement::Does(Instr::Exit),
         Word::Schedule => Statement::Schedule,
-        Word::Task => Statement::Takes(task_step(alloc, operands)?),
-        Word::Worker => Statement::Takes(worker_step(operands)),
+        Word::Task => steps(alloc, operands)?,
+        Word::Worker => counts(operands),
         Word::End => Statement::End,
     })
 }

@@ -37,9 +37,9 @@ pub enum Word {
     Wait,
     Exit,
     Schedule,
-    /// `t`, a step of a task.
+    /// `t`, steps of a task.
     Task,
-    /// `w`, a step of a worker.
+    /// `w`, steps of a worker.
     Worker,
     End,
 }
@@ -160,10 +160,7 @@ pub fn belongs(word: Word, part: Part) -> bool
         | Word::Wait
         | Word::Exit => matches!(part, Part::Program),
         Word::Task | Word::Worker => matches!(part, Part::Schedule),
-        Word::End => matches!(
-            part,
-            Part::Filter | Part::Program | Part::Exited | Part::Schedule
-        ),
+        Word::End => in_block(part),
         _ => matches!(part, Part::Settings),
     }
 }

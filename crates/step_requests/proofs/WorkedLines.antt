@@ -18,8 +18,8 @@ use Rattle.step_requests.specs.Operands.{fault_from}
 use Rattle.step_requests.specs.Readings.{reads}
 
 plain_lines :
-    reads (codes "able") ∷ reads (codes " report # no comment") ∷ reads (codes "report\r") ∷ reads (codes "close\n") ∷ reads (codes "t 0.1.12") ∷ []
-    ≡ Ok step.Able ∷ Err (fault.Reason reason.WrongCount) ∷ Ok step.Report ∷ Ok step.Close ∷ Ok (step.Task (0 ∷ 1 ∷ 12 ∷ [])) ∷ []
+    reads (codes "able") ∷ reads (codes " report # no comment") ∷ reads (codes "report\r") ∷ reads (codes "script") ∷ reads (codes "close\n") ∷ reads (codes "t 0.1.12") ∷ []
+    ≡ Ok step.Able ∷ Err (fault.Reason reason.WrongCount) ∷ Ok step.Report ∷ Ok step.Script ∷ Ok step.Close ∷ Ok (step.Task (0 ∷ 1 ∷ 12 ∷ [])) ∷ []
 unfolding tokens split numbered without_return is_skipped digits_value decode_pairs fault_from
 plain_lines = refl
 

@@ -5,3 +5,4 @@ pub mod Operands
 pub mod Requests
 pub mod Readings
 pub mod Laws
+pub mod Turns

@@ -20,8 +20,9 @@ form_named word =
     if bytes_eq word (codes "able") then Some form.Able
     else (if bytes_eq word (codes "t") then Some form.Task
     else (if bytes_eq word (codes "report") then Some form.Report
+    else (if bytes_eq word (codes "script") then Some form.Script
     else (if bytes_eq word (codes "close") then Some form.Close
-    else None)))
+    else None))))
 
 -- what a worker does for the answer of a call
 abbrev pub answer_named : List ℕ → Option Deed

@@ -12,17 +12,17 @@
 //! structures. Whoever answers the requests stands above.
 #![tactic(auto)]
 
-mod asked;
+pub mod asked;
 pub mod fault;
 pub mod laws;
 mod names;
 pub mod operand;
 mod reading;
 pub mod request;
-mod values;
+pub mod values;
 pub mod word;
 
 pub use fault::LineFault;
 pub use lex_core::Reason;
 pub use reading::read_request;
-pub use request::{Asked, StepRequest};
+pub use request::{Asked, StepRequest, Turn};

@@ -58,6 +58,7 @@ fn request(
         Form::Task => Ok(StepRequest::Task(task_name(alloc, bytes_at(line, 1))?)),
         Form::Worker(deed) => worker_request(alloc, deed, line),
         Form::Report => Ok(StepRequest::Report),
+        Form::Script => Ok(StepRequest::Script),
         Form::Close => Ok(StepRequest::Close),
     }
 }

@@ -19,8 +19,21 @@ pub enum StepRequest {
     },
     /// The report so far.
     Report,
+    /// The script that plays the history so far again.
+    Script,
     /// That the listener be closed.
     Close,
+}
+
+/// A line of a schedule in which a worker of another broker has requests. A worker's number is 0 to 15.
+#[derive(Debug, Drop)]
+pub enum Turn {
+    /// A task steps so often.
+    Steps { task: TaskName, count: u32 },
+    /// A worker of this project steps so often.
+    Serves { worker: u8, count: u32 },
+    /// What a worker of another broker asks the kernel for.
+    Asks { worker: u8, asked: Asked },
 }
 
 /// What a worker asks the kernel for (seccomp_unotify(2)). The structures are their bytes in memory.

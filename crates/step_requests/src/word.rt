@@ -14,6 +14,7 @@ pub enum Form {
     /// `w`, and what a worker does.
     Worker(Deed),
     Report,
+    Script,
     Close,
 }
 
@@ -40,7 +41,7 @@ pub enum Deed {
 }
 
 /// The word that a token is; a text between quotes is none, and so is empty here.
-fn word_of<'a>(token: &'a Token<'_>) -> &'a [u8]
+pub fn word_of<'a>(token: &'a Token<'_>) -> &'a [u8]
     ensures { result.now ≡ definitions.word_of token.now }
 {
     match token {
@@ -59,6 +60,8 @@ fn form_named(word: &[u8]) -> Option<Form>
         Some(Form::Task)
     } else if word == b"report".as_slice() {
         Some(Form::Report)
+    } else if word == b"script".as_slice() {
+        Some(Form::Script)
     } else if word == b"close".as_slice() {
         Some(Form::Close)
     } else {
@@ -67,7 +70,7 @@ fn form_named(word: &[u8]) -> Option<Form>
 }
 
 /// What a worker does that a word names, but for `act`.
-fn deed_named(word: &[u8]) -> Option<Deed>
+pub fn deed_named(word: &[u8]) -> Option<Deed>
     ensures { result ≡ definitions.deed_named word.now }
 {
     if word == b"recv".as_slice() {

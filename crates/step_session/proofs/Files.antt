@@ -5,7 +5,7 @@ use Rattle.std.specs.Prelude.{Result, Ok, Err, MatchOption, IsErrOf, IsSomeAnd, 
 use Rattle.std.proofs.Math.Seq.{take-append_seam}
 use Rattle.std.proofs.lemmas.List.{append_cancel_left, length-take-le, take-append-drop, take-append-le}
 use Rattle.hist_model.specs.Legal.{started}
-use Rattle.hist_model.specs.declared.policy.Policy.{Policy}
+use Rattle.step_session.specs.declared.origin.Origin.{Origin}
 use Rattle.hist_model.specs.declared.script.Script.{Script}
 use Rattle.audit_log.specs.Written.{Wrote}
 use Rattle.audit_log.specs.declared.error.ReportError.{ReportError}
@@ -41,12 +41,12 @@ piece-read left buffer filled piece after n enough fills is next =
 
 -- ---- a session that is new
 
-owed-new : (P : Policy) (S : Script) (s : Session) (bytes : List ℕ) → IsNew S s → owed P S (started S) s bytes ≡ all_answers P S bytes
+owed-new : (P : Origin) (S : Script) (s : Session) (bytes : List ℕ) → IsNew S s → owed P S (started S) s bytes ≡ all_answers P S bytes
 owed-new P S s bytes new =
     ap (λ text. text ++ rest_answers P S (started S) s.begun bytes) new.answers ∙ fresh_rest s.begun P S (started S) bytes new.begun
 
 -- all was taken
-took-all : (P : Policy) (S : Script) (s : Session) (files : FileState) (name left : List ℕ) (old new : SinkState) → IsNew S s
+took-all : (P : Origin) (S : Script) (s : Session) (files : FileState) (name left : List ℕ) (old new : SinkState) → IsNew S s
     → (files.tells ≡ true → files.bytes name ≡ Some left) → (files.tells ≡ true → TookOwed P s left old new) → TookAll P S files name old new
 took-all P S s files name left old new fresh whole took told =
     subst (λ o. IsSomeAnd o (λ bytes. old.tells ≡ true → new.taken ≡ old.taken ++ all_answers P S bytes)) (sym (whole told))
@@ -64,7 +64,7 @@ prefix-of old all new (added, is) (more, whole) =
     )
 
 -- nothing was taken
-pub took_nothing : (P : Policy) (S : Script) (files : FileState) (name : List ℕ) (old : SinkState) → TookPart P S files name old old
+pub took_nothing : (P : Origin) (S : Script) (files : FileState) (name : List ℕ) (old : SinkState) → TookPart P S files name old old
 took_nothing P S files name old told t = by (files.bytes name)
   where
     by : (bytes : Option (List ℕ)) → MatchOption bytes (old.taken ≡ old.taken) (λ bs. AddsPrefix old.taken (all_answers P S bs) old.taken)
@@ -72,7 +72,7 @@ took_nothing P S files name old told t = by (files.bytes name)
     by (Some bs) = (0, omega arith, sym (append-nil old.taken))
 
 -- a part was taken
-took-part : (P : Policy) (S : Script) (s : Session) (files : FileState) (name left : List ℕ) (old new : SinkState) → IsNew S s
+took-part : (P : Origin) (S : Script) (s : Session) (files : FileState) (name left : List ℕ) (old new : SinkState) → IsNew S s
     → (files.tells ≡ true → files.bytes name ≡ Some left) → Adds old new → (files.tells ≡ true → TookFront P s left old new) → TookPart P S files name old new
 took-part P S s files name left old new fresh whole adds took told t =
     subst (λ o. MatchOption o (new.taken ≡ old.taken) (λ bytes. AddsPrefix old.taken (all_answers P S bytes) new.taken)) (sym (whole told))
@@ -81,10 +81,10 @@ took-part P S s files name left old new fresh whole adds took told t =
 
 -- ---- a piece that was read
 
-stops_piece : (P : Policy) (s : Session) (x y : SinkState) (left piece after : List ℕ) → left ≡ piece ++ after → Stops P s x piece y → TookFront P s left x y
+stops_piece : (P : Origin) (s : Session) (x y : SinkState) (left piece after : List ℕ) → left ≡ piece ++ after → Stops P s x piece y → TookFront P s left x y
 stops_piece P s x y left piece after cut stop = subst (λ bs. TookFront P s bs x y) (sym cut) (stop.front after)
 
-continues_piece : (P : Policy) (a b : Session) (x y : SinkState) (left piece after : List ℕ) → left ≡ piece ++ after → Continues P a x piece b y []
+continues_piece : (P : Origin) (a b : Session) (x y : SinkState) (left piece after : List ℕ) → left ≡ piece ++ after → Continues P a x piece b y []
     → Continues P a x left b y after
 continues_piece P a b x y left piece after cut goes = subst (λ bs. Continues P a x bs b y after) (sym cut) (continues_before P a b x y piece after goes)
 
@@ -102,7 +102,7 @@ rose_later : (a b c : ℕ) → a ≤ b → Rose b c → Rose a c
 rose_later a b c le rose = λ below. omega (arith, le, rose below)
 
 -- the answers couldn't be written
-pub piece_unwritten : (P : Policy) (s t : Session) (f : FileState) (x y : SinkState) (e : ReportError) (r : Result Next StepFault) → r ≡ Err (fault_of e)
+pub piece_unwritten : (P : Origin) (s t : Session) (f : FileState) (x y : SinkState) (e : ReportError) (r : Result Next StepFault) → r ≡ Err (fault_of e)
     → Wrote x s.answers (Err e) y → PieceEnds P s f x r t f y
 piece_unwritten P s t f x y e r is wrote = subst (λ q. PieceEnds P s f x q t f y) (sym is) (record {
   same = same_files f;
@@ -112,7 +112,7 @@ piece_unwritten P s t f x y e r is wrote = subst (λ q. PieceEnds P s f x q t f 
 })
 
 -- nothing could be read
-pub piece_unread : (P : Policy) (s t : Session) (f g : FileState) (x y : SinkState) (buffer filled : List ℕ) (u : Unit {0}) (e : Failed)
+pub piece_unread : (P : Origin) (s t : Session) (f g : FileState) (x y : SinkState) (buffer filled : List ℕ) (u : Unit {0}) (e : Failed)
     → Wrote x s.answers (Ok u) y → t ≡ record s { answers = [] } → Reads f buffer (Err e) filled g → PieceEnds P s f x (Err step.ReadFault) t g y
 piece_unread P s t f g x y buffer filled u e wrote is read = record {
   same = read.same;
@@ -122,7 +122,7 @@ piece_unread P s t f g x y buffer filled u e wrote is read = record {
 }
 
 -- the file is at its end
-pub piece_ended : (P : Policy) (s t v : Session) (f g : FileState) (x y z : SinkState) (buffer filled : List ℕ) (u : Unit {0}) (n : ℕ)
+pub piece_ended : (P : Origin) (s t v : Session) (f g : FileState) (x y z : SinkState) (buffer filled : List ℕ) (u : Unit {0}) (n : ℕ)
     → Wrote x s.answers (Ok u) y → t ≡ record s { answers = [] } → Reads {E = Failed} f buffer (Ok n) filled g → n ≡ 0 → 0 < length buffer
     → Adds y z → TookOwed P t [] y z → z.pending ≡ false → PieceEnds P s f x (Ok Ended) v g z
 piece_ended P s t v f g x y z buffer filled u n wrote is read none room adds took flushed = record {
@@ -137,7 +137,7 @@ piece_ended P s t v f g x y z buffer filled u n wrote is read none room adds too
 }
 
 -- it is, and the last answers couldn't be given
-pub piece_unfinished : (P : Policy) (s t v : Session) (f g : FileState) (x y z : SinkState) (buffer filled : List ℕ) (u : Unit {0}) (n : ℕ) (e : ReportError) (r : Result Next StepFault)
+pub piece_unfinished : (P : Origin) (s t v : Session) (f g : FileState) (x y z : SinkState) (buffer filled : List ℕ) (u : Unit {0}) (n : ℕ) (e : ReportError) (r : Result Next StepFault)
     → r ≡ Err (fault_of e) → Wrote x s.answers (Ok u) y → t ≡ record s { answers = [] } → Reads {E = Failed} f buffer (Ok n) filled g → n ≡ 0 → 0 < length buffer
     → Adds y z → TookFront P t [] y z → (IsErrOf {T = Unit {0}} (Err e) report.WriteFault → Rose y.faults z.faults) → PieceEnds P s f x r v g z
 piece_unfinished P s t v f g x y z buffer filled u n e r fails wrote is read none room adds took cause = subst (λ q. PieceEnds P s f x q v g z) (sym fails) (record {
@@ -154,7 +154,7 @@ read_cut : (f g : FileState) (buffer filled piece : List ℕ) (n : ℕ) → Read
 read_cut f g buffer filled piece n read front told = piece-read f.left buffer filled piece g.left n (read.enough told) (read.next told) front (read.left told)
 
 -- the lines in it couldn't be answered
-pub piece_untaken : (P : Policy) (s t v : Session) (f g : FileState) (x y z : SinkState) (buffer filled piece : List ℕ) (u : Unit {0}) (n : ℕ) (e : ReportError) (r : Result Next StepFault)
+pub piece_untaken : (P : Origin) (s t v : Session) (f g : FileState) (x y z : SinkState) (buffer filled piece : List ℕ) (u : Unit {0}) (n : ℕ) (e : ReportError) (r : Result Next StepFault)
     → r ≡ Err (fault_of e) → Wrote x s.answers (Ok u) y → t ≡ record s { answers = [] } → Reads {E = Failed} f buffer (Ok n) filled g → piece ≡ take n filled
     → Stops P t y piece z → (IsErrOf {T = Unit {0}} (Err e) report.WriteFault → Rose y.faults z.faults) → PieceEnds P s f x r v g z
 piece_untaken P s t v f g x y z buffer filled piece u n e r fails wrote is read front stop cause = subst (λ q. PieceEnds P s f x q v g z) (sym fails) (record {
@@ -169,7 +169,7 @@ piece_untaken P s t v f g x y z buffer filled piece u n e r fails wrote is read 
 })
 
 -- they were
-pub piece_taken : (P : Policy) (s t v : Session) (f g : FileState) (x y z : SinkState) (buffer filled piece : List ℕ) (u : Unit {0}) (n : ℕ)
+pub piece_taken : (P : Origin) (s t v : Session) (f g : FileState) (x y z : SinkState) (buffer filled piece : List ℕ) (u : Unit {0}) (n : ℕ)
     → Wrote x s.answers (Ok u) y → t ≡ record s { answers = [] } → Reads {E = Failed} f buffer (Ok n) filled g → piece ≡ take n filled
     → Continues P t y piece v z [] → IsStanding v.container → PieceEnds P s f x (Ok Read) v g z
 piece_taken P s t v f g x y z buffer filled piece u n wrote is read front goes standing = record {
@@ -186,7 +186,7 @@ piece_taken P s t v f g x y z buffer filled piece u n wrote is read front goes s
 
 -- ---- what is left of a file
 
-pub pieces_none : (P : Policy) (s : Session) (f : FileState) (x : SinkState) → IsStanding s.container → PieceEnds P s f x (Ok Read) s f x
+pub pieces_none : (P : Origin) (s : Session) (f : FileState) (x : SinkState) → IsStanding s.container → PieceEnds P s f x (Ok Read) s f x
 pieces_none P s f x standing = record { same = same_files f; current = refl; adds = adds_none x; came = (standing, λ told. continues_same P s x f.left) }
 
 cause_later : (fault : StepFault) (f g h : FileState) (x y z : SinkState) → SameFiles f g → x.faults ≤ y.faults → HasCause fault g h y z → HasCause fault f h x z
@@ -194,7 +194,7 @@ cause_later step.ReadFault f g h x y z same le cause = (rose_later f.faults g.fa
 cause_later step.WriteFault f g h x y z same le cause = rose_later x.faults y.faults z.faults le cause
 cause_later step.NoMemory f g h x y z same le cause = tt
 
-came_then : (P : Policy) (s t v : Session) (f g h : FileState) (x y z : SinkState) (r : Result Next StepFault) → PieceEnds P s f x (Ok Read) t g y → PieceCame P t g y r v h z
+came_then : (P : Origin) (s t v : Session) (f g h : FileState) (x y z : SinkState) (r : Result Next StepFault) → PieceEnds P s f x (Ok Read) t g y → PieceCame P t g y r v h z
     → PieceCame P s f x r v h z
 came_then P s t v f g h x y z (Ok Read) first came =
     (came.0, λ told. continues_then P s t v x y z f.left g.left h.left (first.came.1 told) (came.1 (first.same.tells ∙ told)))
@@ -204,7 +204,7 @@ came_then P s t v f g h x y z (Err fault) first came = (
   λ told. front_then P s t x y z f.left g.left (first.came.1 told) (came.1 (first.same.tells ∙ told)),
 )
 
-pieces-then : (P : Policy) (s t v : Session) (f g h : FileState) (x y z : SinkState) (r : Result Next StepFault) → PieceEnds P s f x (Ok Read) t g y → PieceEnds P t g y r v h z
+pieces-then : (P : Origin) (s t v : Session) (f g h : FileState) (x y z : SinkState) (r : Result Next StepFault) → PieceEnds P s f x (Ok Read) t g y → PieceEnds P t g y r v h z
     → PieceEnds P s f x r v h z
 pieces-then P s t v f g h x y z r first second = record {
   same = same_then f g h first.same second.same;
@@ -214,25 +214,25 @@ pieces-then P s t v f g h x y z r first second = record {
 }
 
 -- more was read
-pub pieces_more : (P : Policy) (s t v : Session) (f g h : FileState) (x y z : SinkState) (next : Next) → next ≡ Read → PieceEnds P s f x (Ok Read) t g y
+pub pieces_more : (P : Origin) (s t v : Session) (f g h : FileState) (x y z : SinkState) (next : Next) → next ≡ Read → PieceEnds P s f x (Ok Read) t g y
     → PieceEnds P t g y (Ok next) v h z → PieceEnds P s f x (Ok Read) v h z
 pieces_more P s t v f g h x y z next is first second = pieces-then P s t v f g h x y z (Ok Read) first (subst (λ n. PieceEnds P t g y (Ok n) v h z) is second)
 
 -- there was no more
-pub rest_ended : (P : Policy) (s t v : Session) (f g h : FileState) (x y z : SinkState) (next : Next) → next ≡ Ended → PieceEnds P s f x (Ok Read) t g y
+pub rest_ended : (P : Origin) (s t v : Session) (f g h : FileState) (x y z : SinkState) (next : Next) → next ≡ Ended → PieceEnds P s f x (Ok Read) t g y
     → PieceEnds P t g y (Ok next) v h z → RestEnds P s f x (Ok tt) h z
 rest_ended P s t v f g h x y z next is first second =
     let ends = pieces-then P s t v f g h x y z (Ok Ended) first (subst (λ n. PieceEnds P t g y (Ok n) v h z) is second) in
     record { same = ends.same; adds = ends.adds; came = ends.came }
 
 -- a piece failed
-pub rest_failed : (P : Policy) (s t v : Session) (f g h : FileState) (x y z : SinkState) (fault : StepFault) (r : Result (Unit {0}) StepFault) → r ≡ Err fault
+pub rest_failed : (P : Origin) (s t v : Session) (f g h : FileState) (x y z : SinkState) (fault : StepFault) (r : Result (Unit {0}) StepFault) → r ≡ Err fault
     → PieceEnds P s f x (Ok Read) t g y → PieceEnds P t g y (Err fault) v h z → RestEnds P s f x r h z
 rest_failed P s t v f g h x y z fault r is first second =
     let ends = pieces-then P s t v f g h x y z (Err fault) first second in
     subst (λ q. RestEnds P s f x q h z) (sym is) (record { same = ends.same; adds = ends.adds; came = ends.came })
 
-pub rest_unended : (P : Policy) (s t : Session) (f g : FileState) (x y : SinkState) → PieceEnds P s f x (Ok Read) t g y → RestEnds P s f x (Err step.NoMemory) g y
+pub rest_unended : (P : Origin) (s t : Session) (f g : FileState) (x y : SinkState) → PieceEnds P s f x (Ok Read) t g y → RestEnds P s f x (Err step.NoMemory) g y
 rest_unended P s t f g x y ends = record {
   same = ends.same;
   adds = ends.adds;
@@ -248,13 +248,13 @@ opened-whole : (f g : FileState) (name : List ℕ) (opened : Result (Unit {0}) F
 opened-whole f g name (Ok u) good opens told = opens.whole told
 opened-whole f g name (Err e) good opens told = cc
 
-pub served_all : (P : Policy) (S : Script) (s : Session) (f g h : FileState) (x y : SinkState) (name : List ℕ) (opened : Result (Unit {0}) Failed) → is_err opened ≡ false
+pub served_all : (P : Origin) (S : Script) (s : Session) (f g h : FileState) (x y : SinkState) (name : List ℕ) (opened : Result (Unit {0}) Failed) → is_err opened ≡ false
     → Opens f name opened g → IsNew S s → (r : Result (Unit {0}) StepFault) → RestEnds P s g x r h y → OnOk r (TookAll P S f name x y)
 served_all P S s f g h x y name opened good opens new (Ok u) ends =
     took-all P S s f name g.left x y new (opened-whole f g name opened good opens) (λ told. ends.came.1 (opens.same.tells ∙ told))
 served_all P S s f g h x y name opened good opens new (Err e) ends = tt
 
-pub served_part : (P : Policy) (S : Script) (s : Session) (f g h : FileState) (x y : SinkState) (name : List ℕ) (opened : Result (Unit {0}) Failed) → is_err opened ≡ false
+pub served_part : (P : Origin) (S : Script) (s : Session) (f g h : FileState) (x y : SinkState) (name : List ℕ) (opened : Result (Unit {0}) Failed) → is_err opened ≡ false
     → Opens f name opened g → IsNew S s → (r : Result (Unit {0}) StepFault) → RestEnds P s g x r h y → OnErr r (TookPart P S f name x y)
 served_part P S s f g h x y name opened good opens new (Ok u) ends = tt
 served_part P S s f g h x y name opened good opens new (Err e) ends =
@@ -264,6 +264,6 @@ pub opened_current : (f g : FileState) (name : List ℕ) (opened : Result (Unit 
 opened_current f g name (Ok u) good opens = opens.opened
 opened_current f g name (Err e) good opens = cc
 
-pub served_flushed : (P : Policy) (s : Session) (g h : FileState) (x y : SinkState) (r : Result (Unit {0}) StepFault) → RestEnds P s g x r h y → OnOk r (y.pending ≡ false)
+pub served_flushed : (P : Origin) (s : Session) (g h : FileState) (x y : SinkState) (r : Result (Unit {0}) StepFault) → RestEnds P s g x r h y → OnOk r (y.pending ≡ false)
 served_flushed P s g h x y (Ok u) ends = ends.came.0
 served_flushed P s g h x y (Err e) ends = tt

@@ -14,7 +14,7 @@ use Rattle.hist_model.specs.declared.event.Actor.TheVariants.{Listener, Task, Wo
 use Rattle.hist_model.specs.declared.event.Event.{Event}
 use Rattle.hist_model.specs.declared.event.What.{What}
 use Rattle.hist_model.specs.declared.event.What.TheVariants.{Close}
-use Rattle.hist_model.specs.declared.policy.Policy.{Policy}
+use Rattle.step_session.specs.declared.origin.Origin.{Origin}
 use Rattle.hist_model.specs.declared.script.Script.{Script}
 use Rattle.step_requests.specs.declared.request.Asked.{Asked}
 use Rattle.step_requests.specs.declared.request.StepRequest.{StepRequest}
@@ -26,9 +26,9 @@ use Rattle.step_session.specs.declared.refusal.Refusal.{Refusal}
 none-below : 0 < length {A = Event} [] → ⊥
 none-below l = omega (arith, l)
 
-step-kept : (S : Script) (K : List Event) (who : Actor) (what : What) → IsBegun S K → is_closed K ≡ false → IsKernelAnswer (system_of S) K who what → is_actor who ≡ true → IsBegun S (with_step who what K)
-step-kept S [] who what begun open-still answer actor = absurd (none-below begun.0)
-step-kept S (f ∷ K) who what begun open-still answer actor = by (skips what) refl
+pub step_kept : (S : Script) (K : List Event) (who : Actor) (what : What) → IsBegun S K → is_closed K ≡ false → IsKernelAnswer (system_of S) K who what → is_actor who ≡ true → IsBegun S (with_step who what K)
+step_kept S [] who what begun open-still answer actor = absurd (none-below begun.0)
+step_kept S (f ∷ K) who what begun open-still answer actor = by (skips what) refl
   where
     by : (b : Bool) → skips what ≡ b → IsBegun S (with_step who what (f ∷ K))
     by true q = rw q begun
@@ -36,36 +36,38 @@ step-kept S (f ∷ K) who what begun open-still answer actor = by (skips what) r
         let some : 0 < length (ev who what ∷ f ∷ K) = omega arith in
         rw q (some, ((open-still, answer, actor), begun.1))
 
-task-kept : (S : Script) (K : List Event) (n : Name) → is_task_name n ≡ true → IsBegun S K → is_closed K ≡ false → IsBegun S (task_answer S K n).0
-task-kept S K n name begun open-still = by (is_made K n) refl
+pub task_kept : (S : Script) (K : List Event) (n : Name) → is_task_name n ≡ true → IsBegun S K → is_closed K ≡ false → IsBegun S (task_answer S K n).0
+task_kept S K n name begun open-still = by (is_made K n) refl
   where
     by : (b : Bool) → is_made K n ≡ b → IsBegun S (task_answer S K n).0
-    by true q = rw q (step-kept S K (Task n) (task_step (system_of S) K n) begun open-still refl name)
+    by true q = rw q (step_kept S K (Task n) (task_step (system_of S) K n) begun open-still refl name)
     by false q = rw q begun
 
 deed-kept : (S : Script) (K : List Event) (w : ℕ) (d : Option Deed) → nat_le w 16 ≡ true → IsBegun S K → is_closed K ≡ false → IsBegun S (deed_answer S K w d).0
 deed-kept S K w None number begun open-still = begun
-deed-kept S K w (Some d) number begun open-still = step-kept S K (Worker w) (deed_step (system_of S) K w d) begun open-still (d, refl) number
+deed-kept S K w (Some d) number begun open-still = step_kept S K (Worker w) (deed_step (system_of S) K w d) begun open-still (d, refl) number
 
-worker-kept : (S : Script) (K : List Event) (w : ℕ) (asked : Asked) (why : Option Refusal) → nat_le w 16 ≡ true → IsBegun S K → is_closed K ≡ false → IsBegun S (worker_answer S K w asked why).0
-worker-kept S K w asked (Some why) number begun open-still = begun
-worker-kept S K w asked None number begun open-still = deed-kept S K w (deed_of asked) number begun open-still
+pub worker_kept : (S : Script) (K : List Event) (w : ℕ) (asked : Asked) (why : Option Refusal) → nat_le w 16 ≡ true → IsBegun S K → is_closed K ≡ false → IsBegun S (worker_answer S K w asked why).0
+worker_kept S K w asked (Some why) number begun open-still = begun
+worker_kept S K w asked None number begun open-still = deed-kept S K w (deed_of asked) number begun open-still
 
-open-kept : (P : Policy) (S : Script) (K : List Event) (r : StepRequest) → IsAsked r → IsBegun S K → is_closed K ≡ false → IsBegun S (open_answer P S K r).0
+open-kept : (P : Origin) (S : Script) (K : List Event) (r : StepRequest) → IsAsked r → IsBegun S K → is_closed K ≡ false → IsBegun S (open_answer P S K r).0
 open-kept P S K step.Able asked begun open-still = begun
-open-kept P S K (step.Task n) asked begun open-still = task-kept S K n asked begun open-still
-open-kept P S K (step.Worker w a) asked begun open-still = worker-kept S K w a (refused K w a) (le-leb w 16 (omega (arith, asked))) begun open-still
+open-kept P S K (step.Task n) asked begun open-still = task_kept S K n asked begun open-still
+open-kept P S K (step.Worker w a) asked begun open-still = worker_kept S K w a (refused K w a) (le-leb w 16 (omega (arith, asked))) begun open-still
 open-kept P S K step.Report asked begun open-still = begun
-open-kept P S K step.Close asked begun open-still = step-kept S K Listener Close begun open-still refl refl
+open-kept P S K step.Script asked begun open-still = begun
+open-kept P S K step.Close asked begun open-still = step_kept S K Listener Close begun open-still refl refl
 
-closed-kept : (P : Policy) (S : Script) (K : List Event) (r : StepRequest) → IsBegun S K → IsBegun S (closed_answer P K r).0
+closed-kept : (P : Origin) (S : Script) (K : List Event) (r : StepRequest) → IsBegun S K → IsBegun S (closed_answer P K r).0
 closed-kept P S K step.Able begun = begun
 closed-kept P S K (step.Task n) begun = begun
 closed-kept P S K (step.Worker w a) begun = begun
 closed-kept P S K step.Report begun = begun
+closed-kept P S K step.Script begun = begun
 closed-kept P S K step.Close begun = begun
 
-pub kept : (P : Policy) (S : Script) (K : List Event) (r : StepRequest) → IsAsked r → IsBegun S K → IsBegun S (answered P S K r).0
+pub kept : (P : Origin) (S : Script) (K : List Event) (r : StepRequest) → IsAsked r → IsBegun S K → IsBegun S (answered P S K r).0
 kept P S K r asked begun = by (is_closed K) refl
   where
     by : (b : Bool) → is_closed K ≡ b → IsBegun S (answered P S K r).0

@@ -4,6 +4,7 @@ pub mod Histories
 pub mod Requests
 pub mod Sessions
 pub mod Splits
+pub mod Fronts
 pub mod Asked
 pub mod Kept
 pub mod AbleTasks

@@ -7,7 +7,7 @@ use Rattle.std.proofs.lemmas.List.{take-append-drop}
 use Rattle.audit_log.specs.Written.{Wrote}
 use Rattle.audit_log.specs.declared.error.ReportError.{ReportError}
 use Rattle.hist_model.specs.declared.event.Event.{Event}
-use Rattle.hist_model.specs.declared.policy.Policy.{Policy}
+use Rattle.step_session.specs.declared.origin.Origin.{Origin}
 use Rattle.hist_model.specs.declared.script.Script.{Script}
 use Rattle.io_edge.specs.SinkState.{SinkState}
 use Rattle.step_session.specs.Stands.{IsAnswered, IsInOrder, IsStanding, Stands, StateStands}
@@ -57,7 +57,7 @@ goes_on_still old bytes begun open-still P S K rest =
     ∙ ap (λ b. rest_answers P S K b rest) (sym begun)
 
 -- where no line is begun, lines follow
-pub fresh_rest : (b : Begun) (P : Policy) (S : Script) (K : List Event) (rest : List ℕ) → IsFresh b → rest_answers P S K b rest ≡ answers P S K (request_lines rest)
+pub fresh_rest : (b : Begun) (P : Origin) (S : Script) (K : List Event) (rest : List ℕ) → IsFresh b → rest_answers P S K b rest ≡ answers P S K (request_lines rest)
 fresh_rest (Line kept) P S K rest fresh = ap (λ front. answers P S K (before_lines front (request_lines rest))) fresh
 fresh_rest TooLong P S K rest fresh = absurd fresh
 
@@ -68,23 +68,23 @@ on_ok (Ok u) A B f a = f a
 on_ok (Err e) A B f a = tt
 
 -- a request that is another one is answered as that
-pub answered_as : (P : Policy) (q r : StepRequest) (old new : Container) (before after : List ℕ) → q ≡ r → IsAnswered P r old before after new → IsAnswered P q old before after new
+pub answered_as : (P : Origin) (q r : StepRequest) (old new : Container) (before after : List ℕ) → q ≡ r → IsAnswered P r old before after new → IsAnswered P q old before after new
 answered_as P q r old new before after is answered = subst (λ x. IsAnswered P x old before after new) (sym is) answered
 
-pub answered_long : (P : Policy) (line : List ℕ) (c : Container) (before after : List ℕ) → longest < length line → after ≡ before ++ long_text
+pub answered_long : (P : Origin) (line : List ℕ) (c : Container) (before after : List ℕ) → longest < length line → after ≡ before ++ long_text
     → IsLineAnswered P line c before c after
 answered_long P line c before after long said S K stands =
     let is = long_answer P S K line long in
     (subst (λ a. Stands S a.0 c) (sym is) stands, said ∙ ap (λ a. before ++ a.1) (sym is))
 
-pub answered_read : (P : Policy) (line : List ℕ) (r : StepRequest) (old new : Container) (before after : List ℕ) → length line ≤ longest → reads line ≡ Ok r
+pub answered_read : (P : Origin) (line : List ℕ) (r : StepRequest) (old new : Container) (before after : List ℕ) → length line ≤ longest → reads line ≡ Ok r
     → IsAnswered P r old before after new → IsLineAnswered P line old before new after
 answered_read P line r old new before after short reading answered S K stands =
     let is = short_answer P S K line short ∙ ap (read_answer P S K) reading in
     let one = answered S K stands in
     (subst (λ a. Stands S a.0 new) (sym is) one.0, one.1 ∙ ap (λ a. before ++ a.1) (sym is))
 
-pub answered_faulty : (P : Policy) (line : List ℕ) (why : LineFault) (c : Container) (before after : List ℕ) → length line ≤ longest → reads line ≡ Err why
+pub answered_faulty : (P : Origin) (line : List ℕ) (why : LineFault) (c : Container) (before after : List ℕ) → length line ≤ longest → reads line ≡ Err why
     → after ≡ before ++ faulty_text why → IsLineAnswered P line c before c after
 answered_faulty P line why c before after short reading said S K stands =
     let is = short_answer P S K line short ∙ ap (read_answer P S K) reading in
@@ -97,7 +97,7 @@ in-order S K (Closed h) stands = tt
 pub standing_in_order : (c : Container) → IsStanding c → IsInOrder c.state
 standing_in_order c (S, (K, stands)) = in-order S K c.state stands
 
-pub still_standing : (P : Policy) (line : List ℕ) (old new : Container) (before after : List ℕ) → IsStanding old → IsLineAnswered P line old before new after → IsStanding new
+pub still_standing : (P : Origin) (line : List ℕ) (old new : Container) (before after : List ℕ) → IsStanding old → IsLineAnswered P line old before new after → IsStanding new
 still_standing P line old new before after (S, (K, stands)) answered = (S, ((line_answer P S K line).0, (answered S K stands).0))
 
 -- ---- sinks
@@ -121,13 +121,13 @@ wrote_adds old new text (Err e) wrote = record { tells = wrote.tells; faults = w
 
 -- ---- sessions that go on
 
-pub continues_same : (P : Policy) (s : Session) (out : SinkState) (bytes : List ℕ) → Continues P s out bytes s out bytes
+pub continues_same : (P : Origin) (s : Session) (out : SinkState) (bytes : List ℕ) → Continues P s out bytes s out bytes
 continues_same P s out bytes = record {
   adds = adds_none out;
   says = λ S K stands. record { history = K; stands = stands; same = λ rest t. refl };
 }
 
-pub continues_then : (P : Policy) (a b c : Session) (x y z : SinkState) (xs ys zs : List ℕ)
+pub continues_then : (P : Origin) (a b c : Session) (x y z : SinkState) (xs ys zs : List ℕ)
     → Continues P a x xs b y ys → Continues P b y ys c z zs → Continues P a x xs c z zs
 continues_then P a b c x y z xs ys zs first second = record {
   adds = adds_then x y z first.adds second.adds;
@@ -138,7 +138,7 @@ continues_then P a b c x y z xs ys zs first second = record {
 }
 
 -- bytes that stand behind are left
-pub continues_before : (P : Policy) (a b : Session) (x y : SinkState) (bytes more : List ℕ)
+pub continues_before : (P : Origin) (a b : Session) (x y : SinkState) (bytes more : List ℕ)
     → Continues P a x bytes b y [] → Continues P a x (bytes ++ more) b y more
 continues_before P a b x y bytes more goes = record {
   adds = goes.adds;
@@ -152,7 +152,7 @@ continues_before P a b x y bytes more goes = record {
 }
 
 -- answers are written
-pub continues_written : (P : Policy) (a b : Session) (x y : SinkState) (bytes : List ℕ) (u : Unit {0})
+pub continues_written : (P : Origin) (a b : Session) (x y : SinkState) (bytes : List ℕ) (u : Unit {0})
     → Wrote x a.answers (Ok u) y → b ≡ record a { answers = [] } → Continues P a x bytes b y bytes
 continues_written P a b x y bytes u wrote is = record {
   adds = wrote_adds x y a.answers (Ok u) wrote;
@@ -169,7 +169,7 @@ continues_written P a b x y bytes u wrote is = record {
 
 -- ---- what the sink took
 
-pub owed_then : (P : Policy) (a b : Session) (x y z : SinkState) (xs ys : List ℕ) → Continues P a x xs b y ys → TookOwed P b ys y z → TookOwed P a xs x z
+pub owed_then : (P : Origin) (a b : Session) (x y z : SinkState) (xs ys : List ℕ) → Continues P a x xs b y ys → TookOwed P b ys y z → TookOwed P a xs x z
 owed_then P a b x y z xs ys goes took S K stands t =
     let one = goes.says S K stands in
     took S one.history one.stands (goes.adds.tells ∙ t)
@@ -177,10 +177,10 @@ owed_then P a b x y z xs ys goes took S K stands t =
     ∙ sym (one.same [] t)
     ∙ ap (λ bs. x.taken ++ owed P S K a bs) (append-nil xs)
 
-pub front_here : (P : Policy) (s : Session) (bytes : List ℕ) (out : SinkState) → TookFront P s bytes out out
+pub front_here : (P : Origin) (s : Session) (bytes : List ℕ) (out : SinkState) → TookFront P s bytes out out
 front_here P s bytes out S K stands t = (owed P S K s bytes, refl)
 
-pub front_then : (P : Policy) (a b : Session) (x y z : SinkState) (xs ys : List ℕ) → Continues P a x xs b y ys → TookFront P b ys y z → TookFront P a xs x z
+pub front_then : (P : Origin) (a b : Session) (x y z : SinkState) (xs ys : List ℕ) → Continues P a x xs b y ys → TookFront P b ys y z → TookFront P a xs x z
 front_then P a b x y z xs ys goes took S K stands t =
     let one = goes.says S K stands in
     let part = took S one.history one.stands (goes.adds.tells ∙ t) in
@@ -188,7 +188,7 @@ front_then P a b x y z xs ys goes took S K stands t =
     (part.0, same ∙ part.1)
 
 -- the answers weren't all written
-pub front_written : (P : Policy) (s : Session) (x y : SinkState) (bytes : List ℕ) (e : ReportError) → Wrote x s.answers (Err e) y → TookFront P s bytes x y
+pub front_written : (P : Origin) (s : Session) (x y : SinkState) (bytes : List ℕ) (e : ReportError) → Wrote x s.answers (Err e) y → TookFront P s bytes x y
 front_written P s x y bytes e wrote S K stands t =
     let p = wrote.part t in
     let R = rest_answers P S K s.begun bytes in
@@ -200,17 +200,17 @@ front_written P s x y bytes e wrote S K stands t =
           ∙ ap (λ taken. taken ++ (drop p.0 s.answers ++ R)) (sym p.2),
     )
 
-pub stops_here : (P : Policy) (s : Session) (out : SinkState) (bytes : List ℕ) → Stops P s out bytes out
+pub stops_here : (P : Origin) (s : Session) (out : SinkState) (bytes : List ℕ) → Stops P s out bytes out
 stops_here P s out bytes = record { adds = adds_none out; front = λ rest. front_here P s (bytes ++ rest) out }
 
-pub stops_written : (P : Policy) (s : Session) (x y : SinkState) (bytes : List ℕ) (e : ReportError) → Wrote x s.answers (Err e) y → Stops P s x bytes y
+pub stops_written : (P : Origin) (s : Session) (x y : SinkState) (bytes : List ℕ) (e : ReportError) → Wrote x s.answers (Err e) y → Stops P s x bytes y
 stops_written P s x y bytes e wrote = record {
   adds = wrote_adds x y s.answers (Err e) wrote;
   front = λ rest. front_written P s x y (bytes ++ rest) e wrote;
 }
 
 -- with bytes behind on both sides
-continues-longer : (P : Policy) (a b : Session) (x y : SinkState) (xs ys more : List ℕ) → Continues P a x xs b y ys → Continues P a x (xs ++ more) b y (ys ++ more)
+continues-longer : (P : Origin) (a b : Session) (x y : SinkState) (xs ys more : List ℕ) → Continues P a x xs b y ys → Continues P a x (xs ++ more) b y (ys ++ more)
 continues-longer P a b x y xs ys more goes = record {
   adds = goes.adds;
   says = λ S K stands.
@@ -225,14 +225,14 @@ continues-longer P a b x y xs ys more goes = record {
       };
 }
 
-pub stops_then : (P : Policy) (a b : Session) (x y z : SinkState) (xs ys : List ℕ) → Continues P a x xs b y ys → Stops P b y ys z → Stops P a x xs z
+pub stops_then : (P : Origin) (a b : Session) (x y z : SinkState) (xs ys : List ℕ) → Continues P a x xs b y ys → Stops P b y ys z → Stops P a x xs z
 stops_then P a b x y z xs ys goes stop = record {
   adds = adds_then x y z goes.adds stop.adds;
   front = λ rest. front_then P a b x y z (xs ++ rest) (ys ++ rest) (continues-longer P a b x y xs ys rest goes) (stop.front rest);
 }
 
 -- so does one of fewer bytes
-pub stops_longer : (P : Policy) (s : Session) (x y : SinkState) (bytes more : List ℕ) → Stops P s x bytes y → Stops P s x (bytes ++ more) y
+pub stops_longer : (P : Origin) (s : Session) (x y : SinkState) (bytes more : List ℕ) → Stops P s x bytes y → Stops P s x (bytes ++ more) y
 stops_longer P s x y bytes more stop = record {
   adds = stop.adds;
   front = λ rest. subst (λ bs. TookFront P s bs x y) (sym (append_assoc bytes more rest)) (stop.front (more ++ rest));
@@ -240,7 +240,7 @@ stops_longer P s x y bytes more stop = record {
 
 -- ---- a line that ends
 
-pub continues_line : (P : Policy) (a b : Session) (kept : Vec ℕ Global) (bytes : List ℕ) (out : SinkState) → has_end bytes ≡ false → a.begun ≡ Line kept → IsFresh b.begun
+pub continues_line : (P : Origin) (a b : Session) (kept : Vec ℕ Global) (bytes : List ℕ) (out : SinkState) → has_end bytes ≡ false → a.begun ≡ Line kept → IsFresh b.begun
     → IsLineAnswered P (kept.items ++ bytes) a.container a.answers b.container b.answers → Continues P a out (bytes ++ 10 ∷ []) b out []
 continues_line P a b kept bytes out open-still begun fresh answered = record {
   adds = adds_none out;
@@ -269,7 +269,7 @@ continues_line P a b kept bytes out open-still begun fresh answered = record {
         ∙ ap (λ text. text ++ answers P S done.0 lines) (sym said)
         ∙ ap (λ text. b.answers ++ text) (sym (fresh_rest b.begun P S done.0 rest fresh))
 
-pub continues_long : (P : Policy) (a b : Session) (bytes : List ℕ) (out : SinkState) → has_end bytes ≡ false → a.begun ≡ TooLong → IsFresh b.begun
+pub continues_long : (P : Origin) (a b : Session) (bytes : List ℕ) (out : SinkState) → has_end bytes ≡ false → a.begun ≡ TooLong → IsFresh b.begun
     → b.container ≡ a.container → b.answers ≡ a.answers ++ long_text → Continues P a out (bytes ++ 10 ∷ []) b out []
 continues_long P a b bytes out open-still begun fresh same-container said = record {
   adds = adds_none out;
@@ -291,7 +291,7 @@ continues_long P a b bytes out open-still begun fresh same-container said = reco
         ∙ ap (λ text. b.answers ++ text) (sym (fresh_rest b.begun P S K rest fresh))
 
 -- the line that is begun goes on
-pub continues_begun : (P : Policy) (a b : Session) (bytes : List ℕ) (out : SinkState) → GoesOn a.begun bytes b.begun → b.container ≡ a.container → b.answers ≡ a.answers
+pub continues_begun : (P : Origin) (a b : Session) (bytes : List ℕ) (out : SinkState) → GoesOn a.begun bytes b.begun → b.container ≡ a.container → b.answers ≡ a.answers
     → Continues P a out bytes b out []
 continues_begun P a b bytes out goes same-container said = record {
   adds = adds_none out;
@@ -304,12 +304,12 @@ continues_begun P a b bytes out goes same-container said = record {
 }
 
 -- bytes behind the end of a line are left
-pub continues_cut : (P : Policy) (a b : Session) (x y : SinkState) (bytes line behind : List ℕ) → bytes ≡ line ++ 10 ∷ behind
+pub continues_cut : (P : Origin) (a b : Session) (x y : SinkState) (bytes line behind : List ℕ) → bytes ≡ line ++ 10 ∷ behind
     → Continues P a x (line ++ 10 ∷ []) b y [] → Continues P a x bytes b y behind
 continues_cut P a b x y bytes line behind cut goes =
     subst (λ bs. Continues P a x bs b y behind) (append_assoc line (10 ∷ []) behind ∙ sym cut) (continues_before P a b x y (line ++ 10 ∷ []) behind goes)
 
-pub stops_cut : (P : Policy) (s : Session) (x y : SinkState) (bytes line behind : List ℕ) → bytes ≡ line ++ 10 ∷ behind → Stops P s x (line ++ 10 ∷ []) y → Stops P s x bytes y
+pub stops_cut : (P : Origin) (s : Session) (x y : SinkState) (bytes line behind : List ℕ) → bytes ≡ line ++ 10 ∷ behind → Stops P s x (line ++ 10 ∷ []) y → Stops P s x bytes y
 stops_cut P s x y bytes line behind cut stop =
     subst (λ bs. Stops P s x bs y) (append_assoc line (10 ∷ []) behind ∙ sym cut) (stops_longer P s x y (line ++ 10 ∷ []) behind stop)
 
@@ -318,12 +318,12 @@ stops_cut P s x y bytes line behind cut stop =
 pub is_fresh : (b : Begun) (kept : Vec ℕ Global) → b ≡ Line kept → kept.items ≡ [] → IsFresh b
 is_fresh b kept is none = subst IsFresh (sym is) none
 
-pub ends_fresh : (P : Policy) (s : Session) → IsFresh s.begun → Ends P s s
+pub ends_fresh : (P : Origin) (s : Session) → IsFresh s.begun → Ends P s s
 ends_fresh P s fresh S K stands =
     ap (λ text. s.answers ++ text) (fresh_rest s.begun P S K [] fresh ∙ ap (answers P S K) no_lines ∙ answers_none P S K) ∙ append-nil s.answers
 
 -- where a line is begun, it is the same whether its end is there or not
-last-line : (b : Begun) (P : Policy) (S : Script) (K : List Event) → (IsFresh b → ⊥) → rest_answers P S K b [] ≡ rest_answers P S K b (10 ∷ [])
+last-line : (b : Begun) (P : Origin) (S : Script) (K : List Event) → (IsFresh b → ⊥) → rest_answers P S K b [] ≡ rest_answers P S K b (10 ∷ [])
 last-line (Line kept) P S K begun = by kept.items (λ none. begun none)
   where
     by : (front : List ℕ) → (front ≡ [] → ⊥) → answers P S K (before_lines front (request_lines [])) ≡ answers P S K (before_lines front (request_lines (10 ∷ [])))
@@ -339,7 +339,7 @@ last-line TooLong P S K begun =
 told : SinkState
 told = record { tells = true; taken = []; faults = 0; pending = false }
 
-pub ends_line : (P : Policy) (a b : Session) → (IsFresh a.begun → ⊥) → IsFresh b.begun → ((out : SinkState) → Continues P a out ([] ++ 10 ∷ []) b out []) → Ends P a b
+pub ends_line : (P : Origin) (a b : Session) → (IsFresh a.begun → ⊥) → IsFresh b.begun → ((out : SinkState) → Continues P a out ([] ++ 10 ∷ []) b out []) → Ends P a b
 unfolding told
 ends_line P a b begun fresh goes S K stands =
     let one = (goes told).says S K stands in
@@ -347,7 +347,7 @@ ends_line P a b begun fresh goes S K stands =
     ∙ one.same [] refl
     ∙ ends_fresh P b fresh S one.history one.stands
 
-pub took_ended : (P : Policy) (a b : Session) (x y : SinkState) (r : Result (Unit {0}) ReportError) → Ends P a b → Wrote x b.answers r y → OnErr r (TookFront P a [] x y)
+pub took_ended : (P : Origin) (a b : Session) (x y : SinkState) (r : Result (Unit {0}) ReportError) → Ends P a b → Wrote x b.answers r y → OnErr r (TookFront P a [] x y)
 took_ended P a b x y (Ok u) ends wrote = tt
 took_ended P a b x y (Err e) ends wrote = λ S K stands t.
     let p = wrote.part t in (

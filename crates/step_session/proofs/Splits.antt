@@ -4,7 +4,7 @@ use Rattle.std.proofs.Common.{◌≡◌, ℕ, ◌<◌, ◌≤◌, Bool, true, fa
 use Rattle.std.specs.Prelude.{◌||◌, ◌==◌, nat_lt}
 use Rattle.std.proofs.lemmas.Bool.Decides.{nat_tests}
 use Rattle.hist_model.specs.declared.event.Event.{Event}
-use Rattle.hist_model.specs.declared.policy.Policy.{Policy}
+use Rattle.step_session.specs.declared.origin.Origin.{Origin}
 use Rattle.hist_model.specs.declared.script.Script.{Script}
 use Rattle.lex_core.specs.Lines.{before_line, split, with_front}
 use Rattle.step_requests.specs.Readings.{reads}
@@ -67,29 +67,29 @@ behind_before (y ∷ ys) (line ∷ lines) = refl
 
 -- ---- answers
 
-pub answers_none : (P : Policy) (S : Script) (K : List Event) → answers P S K [] ≡ []
+pub answers_none : (P : Origin) (S : Script) (K : List Event) → answers P S K [] ≡ []
 unfolding answers
 answers_none P S K = refl
 
-pub answers_more : (P : Policy) (S : Script) (K : List Event) (line : List ℕ) (lines : List (List ℕ))
+pub answers_more : (P : Origin) (S : Script) (K : List Event) (line : List ℕ) (lines : List (List ℕ))
     → answers P S K (line ∷ lines) ≡ (line_answer P S K line).1 ++ answers P S (line_answer P S K line).0 lines
 unfolding answers
 answers_more P S K line lines = refl
 
-pub long_answer : (P : Policy) (S : Script) (K : List Event) (line : List ℕ) → longest < length line → line_answer P S K line ≡ (K, long_text)
+pub long_answer : (P : Origin) (S : Script) (K : List Event) (line : List ℕ) → longest < length line → line_answer P S K line ≡ (K, long_text)
 unfolding line_answer
 long_answer P S K line long = let is : nat_lt longest (length line) ≡ true = grind (arith, nat_tests) in rw is refl
 
-pub short_answer : (P : Policy) (S : Script) (K : List Event) (line : List ℕ) → length line ≤ longest → line_answer P S K line ≡ read_answer P S K (reads line)
+pub short_answer : (P : Origin) (S : Script) (K : List Event) (line : List ℕ) → length line ≤ longest → line_answer P S K line ≡ read_answer P S K (reads line)
 unfolding line_answer
 short_answer P S K line short = let is : nat_lt longest (length line) ≡ false = grind (arith, nat_tests) in rw is refl
 
-answers-long : (P : Policy) (S : Script) (K : List Event) (line : List ℕ) (lines : List (List ℕ)) → longest < length line
+answers-long : (P : Origin) (S : Script) (K : List Event) (line : List ℕ) (lines : List (List ℕ)) → longest < length line
     → answers P S K (line ∷ lines) ≡ long_text ++ answers P S K lines
 answers-long P S K line lines long = answers_more P S K line lines ∙ ap (λ a. a.1 ++ answers P S a.0 lines) (long_answer P S K line long)
 
 -- a front that is too long is that of a line that is
-pub answers_front : (P : Policy) (S : Script) (K : List Event) (front : List ℕ) (lines : List (List ℕ)) → longest < length front
+pub answers_front : (P : Origin) (S : Script) (K : List Event) (front : List ℕ) (lines : List (List ℕ)) → longest < length front
     → answers P S K (before_lines front lines) ≡ long_text ++ answers P S K (behind_first lines)
 answers_front P S K [] lines long = absurd (omega arith)
 answers_front P S K (b ∷ front) [] long = answers-long P S K (b ∷ front) [] long

@@ -1,6 +1,6 @@
 -- What a container answers to the step of a task and to what a worker asks for.
 -- By what the kernel's call tells: one more event, or the same history.
-use Rattle.std.proofs.Common.{◌≡◌, ℕ, ◌<◌, true, false, List, ◌∷◌, ◌++◌, length, None, refl, sym, ap, ◌∙◌}
+use Rattle.std.proofs.Common.{◌≡◌, ℕ, ◌<◌, true, false, List, [], ◌∷◌, ◌++◌, length, None, refl, sym, ap, ◌∙◌}
 use Rattle.std.specs.Prelude.{codes}
 use Rattle.hist_model.specs.Kinds.{skips}
 use Rattle.hist_model.specs.Legal.{system_of}
@@ -22,8 +22,9 @@ use Rattle.tasks.proofs.Named.{name-made}
 use Rattle.step_requests.specs.declared.request.Asked.{Asked}
 use Rattle.step_session.specs.Answers.{deed_answer, stepped, task_answer, worker_answer}
 use Rattle.step_session.specs.Asking.{deed_of, refused}
-use Rattle.step_session.specs.Stands.{Answers, Comes}
+use Rattle.step_session.specs.Stands.{Answers, CameTo, Comes}
 use Rattle.step_session.specs.Texts.{event_text, invalid_text, refused_text}
+use Rattle.step_session.specs.declared.asking.Came.{Came}
 use Rattle.step_session.specs.declared.asking.Came.TheVariants as came
 use Rattle.step_session.specs.declared.refusal.Refusal.{Refusal}
 use Rattle.step_session.specs.declared.refusal.Refusal.TheVariants.{NoTask}
@@ -53,6 +54,10 @@ answers-event old new answer before after text K kernel script events is added =
   past = events ∙ ap (λ (a : List Event × List ℕ). a.0) (sym is);
   line = added ∙ ap (λ (a : List Event × List ℕ). before ++ a.1) (sym is);
 }
+
+-- to answer is to come to the history of the answer
+came_of : (old new : Kernel) (answer : List Event × List ℕ) (before after : List ℕ) → Answers old answer before after new → CameTo old answer.0 new
+came_of old new answer before after a = record { kernel = a.kernel; script = a.script; past = a.past }
 
 -- ---- tasks
 
@@ -93,6 +98,20 @@ module _ (old mid new : Kernel) (o : ℕ) (n : Name) (same : IsSame old mid) (th
   task-skipped before after skip added =
       answers-same old mid (task_answer S K n) before after (codes "skip\n") same (made-answer S K n made ∙ skipped-is K (Task n) what (sym due-is ∙ skip)) added
 
+  -- the history alone
+  pub task_came : TakesStep mid o new → skips (due_step mid o) ≡ false → CameTo old (task_answer S K n).0 new
+  task_came takes steps = record {
+    kernel = takes.kernel;
+    script = takes.script ∙ same.script;
+    past = takes.events ∙ events-are ∙ ap (λ (a : List Event × List ℕ). a.0) (sym (made-answer S K n made ∙ stepped-is K (Task n) what (ap skips (sym due-is) ∙ steps)));
+  }
+
+  pub task_stayed : due_step mid o ≡ Skip → CameTo old (task_answer S K n).0 mid
+  task_stayed skip = came_of old mid (task_answer S K n) [] (codes "skip\n") (task-skipped [] (codes "skip\n") skip refl)
+
+pub task_missing : (k : Kernel) (n : Name) → IsKernel k → is_made (past k) n ≡ false → CameTo k (task_answer k.script (past k) n).0 k
+task_missing k n kernel q = came_of k k (task_answer k.script (past k) n) [] (refused_text NoTask) (no-task k n [] (refused_text NoTask) kernel q refl)
+
 -- ---- workers
 
 module _ (old new : Kernel) (w : ℕ) (asked : Asked) where
@@ -117,3 +136,16 @@ module _ (old new : Kernel) (w : ℕ) (asked : Asked) where
       let what = deed_step (system old) (past old) w d in
       answers-event old new answer before after (event_text (length (past old)) (Worker w) what) (ev (Worker w) what ∷ past old) done.kernel done.script done.events
       (allowed q ∙ (ap (deed_answer old.script (past old) w) is ∙ stepped-is (past old) (Worker w) what steps)) (added (ev (Worker w) what) (past old) done.events)
+
+  -- the history alone
+  pub worker_came : (c : Came) → Comes old w asked c new → CameTo old answer.0 new
+  worker_came (came.Refused why) comes = came_of old new answer [] (refused_text why) (worker-refused why [] (refused_text why) comes refl)
+  worker_came came.Invalid comes = came_of old new answer [] invalid_text (worker-invalid [] invalid_text comes refl)
+  worker_came came.Waits comes = came_of old new answer [] (codes "skip\n") (worker-waits [] (codes "skip\n") comes refl)
+  worker_came came.Stepped (q, (d, is, steps, done)) =
+      let what = deed_step (system old) (past old) w d in
+      record {
+        kernel = done.kernel;
+        script = done.script;
+        past = done.events ∙ ap (λ (a : List Event × List ℕ). a.0) (sym (allowed q ∙ (ap (deed_answer old.script (past old) w) is ∙ stepped-is (past old) (Worker w) what steps)));
+      }

@@ -13,14 +13,14 @@ use Rattle.hist_model.specs.declared.event.Actor.TheVariants.{Task, Worker}
 use Rattle.hist_model.specs.declared.event.Event.{Event}
 use Rattle.hist_model.specs.declared.event.What.{What}
 use Rattle.hist_model.specs.declared.history.History.{History}
-use Rattle.hist_model.specs.declared.policy.Policy.{Policy}
+use Rattle.step_session.specs.declared.origin.Origin.{Origin}
 use Rattle.hist_model.specs.declared.script.Script.{Script}
 use Rattle.model_kernel.specs.Kernels.{past}
 use Rattle.model_kernel.specs.declared.kernel.Kernel.{Kernel}
 use Rattle.step_requests.specs.declared.request.Asked.{Asked}
 use Rattle.step_requests.specs.declared.request.StepRequest.{StepRequest}
 use Rattle.step_requests.specs.declared.request.StepRequest.TheVariants as step
-use Rattle.step_session.specs.Answers.{answered, closed_answer, deed_answer, is_closed, open_answer, report_text, task_answer, with_step, worker_answer}
+use Rattle.step_session.specs.Answers.{answered, closed_answer, deed_answer, is_closed, open_answer, report_text, script_answer, task_answer, with_step, worker_answer}
 use Rattle.step_session.specs.Asking.{deed_of}
 use Rattle.step_session.specs.Stands.{Answers, IsAnswered, IsInOrder, IsOpen, IsStanding, Stands, StateStands}
 use Rattle.step_session.specs.Texts.{refused_text}
@@ -35,33 +35,44 @@ pub on_ok : {T E X Y : Type 0} (r : Result T E) → (X → Y) → OnOk r X → O
 on_ok (Ok x) f h = f h
 on_ok (Err e) f h = h
 
-pub open-is : (P : Policy) (S : Script) (K : List Event) (r : StepRequest) → is_closed K ≡ false → answered P S K r ≡ open_answer P S K r
+pub open-is : (P : Origin) (S : Script) (K : List Event) (r : StepRequest) → is_closed K ≡ false → answered P S K r ≡ open_answer P S K r
 open-is P S K r q = rw q refl
 
-pub closed-is : (P : Policy) (S : Script) (K : List Event) (r : StepRequest) → is_closed K ≡ true → answered P S K r ≡ closed_answer P K r
+pub closed-is : (P : Origin) (S : Script) (K : List Event) (r : StepRequest) → is_closed K ≡ true → answered P S K r ≡ closed_answer P K r
 closed-is P S K r q = rw q refl
 
-report-is : (P : Policy) (S : Script) (K : List Event) → answered P S K step.Report ≡ (K, report_text P K)
-report-is P S K = by (is_closed K) refl
+-- a request that is answered alike whether the listener is closed or not
+alike : (P : Origin) (S : Script) (K : List Event) (r : StepRequest) (a : List Event × List ℕ) → open_answer P S K r ≡ a → closed_answer P K r ≡ a → answered P S K r ≡ a
+alike P S K r a opened shut = by (is_closed K) refl
   where
-    by : (b : Bool) → is_closed K ≡ b → answered P S K step.Report ≡ (K, report_text P K)
-    by true q = closed-is P S K step.Report q
-    by false q = open-is P S K step.Report q
+    by : (b : Bool) → is_closed K ≡ b → answered P S K r ≡ a
+    by true q = closed-is P S K r q ∙ shut
+    by false q = open-is P S K r q ∙ opened
 
 -- what was added is the answer
-told : (P : Policy) (r : StepRequest) (S : Script) (K H : List Event) (new : Container) (before after text : List ℕ) → answered P S K r ≡ (H, text) → Stands S H new → after ≡ before ++ text
+told : (P : Origin) (r : StepRequest) (S : Script) (K H : List Event) (new : Container) (before after text : List ℕ) → answered P S K r ≡ (H, text) → Stands S H new → after ≡ before ++ text
     → Stands S (answered P S K r).0 new × (after ≡ before ++ (answered P S K r).1)
 told P r S K H new before after text is stands added =
     (subst (λ x. Stands S x new) (ap (λ (a : List Event × List ℕ). a.0) (sym is)) stands, added ∙ ap (λ (a : List Event × List ℕ). before ++ a.1) (sym is))
 
-pub reported : (P : Policy) (c : Container) (before after : List ℕ) (events : List Event) → ((S : Script) (K : List Event) → Stands S K c → events ≡ K) → after ≡ before ++ report_text P events
+-- a text that the history alone makes
+told_of : (P : Origin) (r : StepRequest) (text : List Event → List ℕ) (c : Container) (before after : List ℕ) (events : List Event)
+    → ((S : Script) (K : List Event) → answered P S K r ≡ (K, text K)) → ((S : Script) (K : List Event) → Stands S K c → events ≡ K) → after ≡ before ++ text events
+    → IsAnswered P r c before after c
+told_of P r text c before after events answer is added S K stands =
+    told P r S K K c before after (text K) (answer S K) stands (added ∙ ap (λ H. before ++ text H) (is S K stands))
+
+pub reported : (P : Origin) (c : Container) (before after : List ℕ) (events : List Event) → ((S : Script) (K : List Event) → Stands S K c → events ≡ K) → after ≡ before ++ report_text P events
     → IsAnswered P step.Report c before after c
-reported P c before after events is added S K stands =
-    told P step.Report S K K c before after (report_text P K) (report-is P S K) stands (added ∙ ap (λ H. before ++ report_text P H) (is S K stands))
+reported P c before after events = told_of P step.Report (report_text P) c before after events (λ S K. alike P S K step.Report (K, report_text P K) refl refl)
+
+pub scripted : (P : Origin) (c : Container) (before after : List ℕ) (events : List Event) → ((S : Script) (K : List Event) → Stands S K c → events ≡ K) → after ≡ before ++ script_answer P events
+    → IsAnswered P step.Script c before after c
+scripted P c before after events = told_of P step.Script (script_answer P) c before after events (λ S K. alike P S K step.Script (K, script_answer P K) refl refl)
 
 -- ---- containers whose listener is open, and others
 
-open_kept_step : (K : List Event) (who : Actor) (what : What) → is_closed K ≡ false → closes what ≡ false → is_closed (with_step who what K) ≡ false
+pub open_kept_step : (K : List Event) (who : Actor) (what : What) → is_closed K ≡ false → closes what ≡ false → is_closed (with_step who what K) ≡ false
 open_kept_step K who what q h = by (skips what) refl
   where
     by : (b : Bool) → skips what ≡ b → is_closed (with_step who what K) ≡ false
@@ -88,7 +99,7 @@ of_open : (S : Script) (K : List Event) (c : Container) (k : Kernel) → c.state
 of_open S K c k is stands = subst (StateStands S K) is stands
 
 -- what a kernel answers is what the container does, and its listener stays open
-pub answered_open : (P : Policy) (r : StepRequest) (c : Container) (k new : Kernel) (before after : List ℕ) → c.state ≡ Open k → ((S : Script) (K : List Event) → is_closed K ≡ false → is_closed (open_answer P S K r).0 ≡ false)
+pub answered_open : (P : Origin) (r : StepRequest) (c : Container) (k new : Kernel) (before after : List ℕ) → c.state ≡ Open k → ((S : Script) (K : List Event) → is_closed K ≡ false → is_closed (open_answer P S K r).0 ≡ false)
     → Answers k (open_answer P k.script (past k) r) before after new → IsAnswered P r c before after (record { state = Open new })
 answered_open P r c k new before after is keeps answers S K stands =
     let here = of_open S K c k is stands in
@@ -103,7 +114,7 @@ answered_open P r c k new before after is keeps answers S K stands =
     (answers.line ∙ ap (λ (a : List Event × List ℕ). before ++ a.1) same)
 
 -- what is asked of a closed container is refused
-pub answered_closed : (P : Policy) (r : StepRequest) (c : Container) (h : History) (before after : List ℕ) → c.state ≡ Closed h → ((K : List Event) → closed_answer P K r ≡ (K, refused_text refusal.Closed))
+pub answered_closed : (P : Origin) (r : StepRequest) (c : Container) (h : History) (before after : List ℕ) → c.state ≡ Closed h → ((K : List Event) → closed_answer P K r ≡ (K, refused_text refusal.Closed))
     → after ≡ before ++ refused_text refusal.Closed → IsAnswered P r c before after c
 answered_closed P r c h before after is refused added S K stands =
     let closed : is_closed K ≡ true = (subst (StateStands S K) is stands).1 in

@@ -1,6 +1,6 @@
 -- What `step` answers to a request, and the history after it. A history has its newest event first.
-use Rattle.std.specs.Prelude.{ℕ, zero, suc, Bool, false, not, if◌then◌else◌, ◌==◌, ◌≡◌, ◌<◌, ◌≤◌, true, List, [], ◌∷◌, ◌++◌, length}
-use Rattle.std.specs.Prelude.{Option, Some, None, codes, decimal}
+use Rattle.std.specs.Prelude.{nat_le, ℕ, zero, suc, Bool, false, not, if◌then◌else◌, ◌==◌, ◌≡◌, ◌<◌, ◌≤◌, true, List, [], ◌∷◌, ◌++◌}
+use Rattle.std.specs.Prelude.{length, Option, Some, None, codes}
 use Rattle.hist_model.specs.Calls.{count}
 use Rattle.hist_model.specs.Deeds.{Deed}
 use Rattle.hist_model.specs.Kinds.{closes, skips}
@@ -16,14 +16,15 @@ use Rattle.hist_model.specs.declared.event.Actor.TheVariants.{Listener, Task, Wo
 use Rattle.hist_model.specs.declared.event.Event.{Event}
 use Rattle.hist_model.specs.declared.event.What.{What}
 use Rattle.hist_model.specs.declared.event.What.TheVariants.{Close}
-use Rattle.hist_model.specs.declared.policy.Policy.{Policy}
+use Rattle.step_session.specs.declared.origin.Origin.{Origin}
 use Rattle.hist_model.specs.declared.script.Script.{Script}
 use Rattle.history_frames.specs.Ordinals.{task_name_of, tasks_made}
 use Rattle.step_requests.specs.declared.request.Asked.{Asked}
 use Rattle.step_requests.specs.declared.request.StepRequest.{StepRequest}
 use Rattle.step_requests.specs.declared.request.StepRequest.TheVariants as step
 use Rattle.step_session.specs.Asking.{deed_of, refused}
-use Rattle.step_session.specs.Texts.{able_name, able_recv, invalid_text, refused_text, step_text}
+use Rattle.step_session.specs.Scripts.{most_bytes, most_events, script_text}
+use Rattle.step_session.specs.Texts.{able_name, able_recv, invalid_text, refused_text, sized, step_text}
 use Rattle.step_session.specs.declared.refusal.Refusal.{Refusal}
 use Rattle.step_session.specs.declared.refusal.Refusal.TheVariants as refusal
 
@@ -62,33 +63,40 @@ able_tasks S K (suc n) = able_tasks S K n ++ able_name (is_able S K n) (task_nam
 abbrev pub able_text : Script → List Event → List ℕ
 able_text S K = codes "able" ++ able_tasks S K (tasks_made K) ++ able_recv (not (count K == 0)) ++ codes "\n"
 
-abbrev pub sized : List ℕ → List ℕ
-sized text = codes "report " ++ decimal (length text) ++ codes "\n" ++ text
-
--- the report so far, behind its length
-abbrev pub report_text : Policy → List Event → List ℕ
-report_text P K = sized (report (judging_by P.rules) K)
-
--- ---- all requests
+-- the report so far
+abbrev pub report_text : Origin → List Event → List ℕ
+report_text P K = sized (codes "report") (report (judging_by P.policy.rules) K)
 
 -- the listener is closed
 abbrev pub is_closed : List Event → Bool
 is_closed [] = false
 is_closed (e ∷ K) = closes e.what
 
-abbrev pub open_answer : Policy → Script → List Event → StepRequest → List Event × List ℕ
+-- the script that plays the history again, unless it is longer than a script may be
+abbrev pub unless_long : List ℕ → List ℕ
+unless_long text = if nat_le (length text) most_bytes then sized (codes "script") text else refused_text refusal.Full
+
+abbrev pub script_answer : Origin → List Event → List ℕ
+script_answer P K =
+    if nat_le (length K) (most_events (is_closed K)) then unless_long (script_text P.front K) else refused_text refusal.Full
+
+-- ---- all requests
+
+abbrev pub open_answer : Origin → Script → List Event → StepRequest → List Event × List ℕ
 open_answer P S K step.Able = (K, able_text S K)
 open_answer P S K (step.Task n) = task_answer S K n
 open_answer P S K (step.Worker w asked) = worker_answer S K w asked (refused K w asked)
 open_answer P S K step.Report = (K, report_text P K)
+open_answer P S K step.Script = (K, script_answer P K)
 open_answer P S K step.Close = stepped K Listener Close
 
-abbrev pub closed_answer : Policy → List Event → StepRequest → List Event × List ℕ
+abbrev pub closed_answer : Origin → List Event → StepRequest → List Event × List ℕ
 closed_answer P K step.Report = (K, report_text P K)
+closed_answer P K step.Script = (K, script_answer P K)
 closed_answer P K r = (K, refused_text refusal.Closed)
 
 -- the history after a request, and the answer to it
-abbrev pub answered : Policy → Script → List Event → StepRequest → List Event × List ℕ
+abbrev pub answered : Origin → Script → List Event → StepRequest → List Event × List ℕ
 answered P S K r = if is_closed K then closed_answer P K r else open_answer P S K r
 
 -- ---- the requests that lines are

@@ -1,4 +1,5 @@
 pub mod Lines
+pub mod Scripts
 pub mod Owing
 pub mod Serving
 pub mod Asking

@@ -5,7 +5,7 @@ use Rattle.std.specs.Prelude.{Result, Ok, Err}
 use Rattle.std.specs.List.{list_any}
 use Rattle.hist_model.specs.Legal.{started}
 use Rattle.hist_model.specs.declared.event.Event.{Event}
-use Rattle.hist_model.specs.declared.policy.Policy.{Policy}
+use Rattle.step_session.specs.declared.origin.Origin.{Origin}
 use Rattle.hist_model.specs.declared.script.Script.{Script}
 use Rattle.lex_core.specs.Lines.{split}
 use Rattle.step_session.specs.Answers.{answered}
@@ -45,26 +45,26 @@ longest = 65536
 abbrev pub long_text : List ℕ
 long_text = codes "refused long line\n"
 
-abbrev pub read_answer : Policy → Script → List Event → Result StepRequest LineFault → List Event × List ℕ
+abbrev pub read_answer : Origin → Script → List Event → Result StepRequest LineFault → List Event × List ℕ
 read_answer P S K (Ok r) = answered P S K r
 read_answer P S K (Err why) = (K, faulty_text why)
 
 -- the history after a line, and the answer to it
-unfoldable pub line_answer : Policy → Script → List Event → List ℕ → List Event × List ℕ
+unfoldable pub line_answer : Origin → Script → List Event → List ℕ → List Event × List ℕ
 line_answer P S K line = if nat_lt longest (length line) then (K, long_text) else read_answer P S K (reads line)
 
 -- ---- the answers to all lines
 
 -- the history after lines
-unfoldable pub history_after : Policy → Script → List Event → List (List ℕ) → List Event
+unfoldable pub history_after : Origin → Script → List Event → List (List ℕ) → List Event
 history_after P S K [] = K
 history_after P S K (line ∷ lines) = history_after P S (line_answer P S K line).0 lines
 
 -- the answers to lines
-unfoldable pub answers : Policy → Script → List Event → List (List ℕ) → List ℕ
+unfoldable pub answers : Origin → Script → List Event → List (List ℕ) → List ℕ
 answers P S K [] = []
 answers P S K (line ∷ lines) = (line_answer P S K line).1 ++ answers P S (line_answer P S K line).0 lines
 
 -- the answers to the lines of the input, where the container was started just before
-abbrev pub all_answers : Policy → Script → List ℕ → List ℕ
+abbrev pub all_answers : Origin → Script → List ℕ → List ℕ
 all_answers P S bytes = answers P S (started S) (request_lines bytes)

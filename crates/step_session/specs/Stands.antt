@@ -5,7 +5,7 @@ use Rattle.hist_model.specs.Kinds.{skips}
 use Rattle.hist_model.specs.Steps.{deed_step}
 use Rattle.hist_model.specs.declared.event.Event.{Event}
 use Rattle.hist_model.specs.declared.event.What.TheVariants.{Skip}
-use Rattle.hist_model.specs.declared.policy.Policy.{Policy}
+use Rattle.step_session.specs.declared.origin.Origin.{Origin}
 use Rattle.hist_model.specs.declared.script.Script.{Script}
 use Rattle.listener.specs.declared.listener.TakeError.{TakeError}
 use Rattle.listener.specs.declared.listener.TakeError.TheVariants.{Pending}
@@ -67,6 +67,12 @@ pub record Answers (old : Kernel) (answer : List Event × List ℕ) (before afte
   pub past : past new ≡ answer.0
   pub line : after ≡ before ++ answer.1
 
+-- the kernel came to this history
+pub record CameTo (old : Kernel) (K : List Event) (new : Kernel) : Type 0 where
+  pub kernel : IsKernel new
+  pub script : new.script ≡ old.script
+  pub past : past new ≡ K
+
 -- what a receive, and the taking of what came of a request, come to
 abbrev pub receipt : Result Notif FetchError → Came
 receipt (Err Empty) = came.Waits
@@ -77,6 +83,6 @@ taking (Err Pending) = came.Waits
 taking _ = came.Stepped
 
 -- the request was done, and its answer added to a line
-abbrev pub IsAnswered : Policy → StepRequest → Container → List ℕ → List ℕ → Container → Type 0
+abbrev pub IsAnswered : Origin → StepRequest → Container → List ℕ → List ℕ → Container → Type 0
 IsAnswered P r old before after new =
     (S : Script) (K : List Event) → Stands S K old → Stands S (answered P S K r).0 new × (after ≡ before ++ (answered P S K r).1)

@@ -60,6 +60,7 @@ refusal_text refusal.NoMemoryIsOpen = codes "no memory is open"
 refusal_text refusal.RequestIsPut = codes "request is put"
 refusal_text refusal.NoRequest = codes "no request"
 refusal_text refusal.Closed = codes "closed"
+refusal_text refusal.Full = codes "full"
 
 abbrev pub refused_text : Refusal → List ℕ
 refused_text why = codes "refused " ++ refusal_text why ++ codes "\n"
@@ -76,6 +77,12 @@ faulty_text why = codes "refused " ++ fault_text why ++ codes "\n"
 -- what is said of a structure that the listener refuses
 abbrev pub invalid_text : List ℕ
 invalid_text = codes "error EINVAL\n"
+
+-- ---- texts of many lines
+
+-- a text behind its word and its length
+abbrev pub sized : List ℕ → List ℕ → List ℕ
+sized word text = word ++ codes " " ++ decimal (length text) ++ codes "\n" ++ text
 
 -- ---- who is able to step
 

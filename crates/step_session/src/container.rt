@@ -6,7 +6,7 @@ ghost use Rattle.hist_model.specs.Look.{ev};
 ghost use Rattle.hist_model.specs.declared.event.Actor.TheVariants.{Listener};
 ghost use Rattle.hist_model.specs.declared.event.Event.{Event};
 ghost use Rattle.hist_model.specs.declared.event.What.TheVariants.{Close};
-ghost use Rattle.hist_model.specs.declared.policy.Policy.{Policy as PolicyValue};
+ghost use Rattle.step_session.specs.declared.origin.Origin.{Origin as OriginValue};
 ghost use Rattle.hist_model.specs.declared.script.Script.{Script as ScriptValue};
 ghost use Rattle.model_kernel.specs.Kernels.{IsKernel, past};
 ghost use Rattle.step_session.specs.Answers.{task_answer, worker_answer};
@@ -17,12 +17,13 @@ ghost use Rattle.step_requests.specs.declared.request.StepRequest.TheVariants as
 
 use crate::able::push_who_is_able;
 use crate::asking::{Came, ask};
+use crate::origin::Origin;
 use crate::refusal::Refusal;
 use crate::reports::push_report;
+use crate::scripts::push_script;
 use crate::texts::{push_event, push_refusal};
 use audit_log::line::LineBuffer;
 use hist_model::history::History;
-use hist_model::policy::Policy;
 use hist_model::script::Script;
 use hist_model::text::TaskName;
 use model_kernel::{CannotStep, Kernel};
@@ -133,7 +134,7 @@ impl Container {
     /// Tells who is able to step.
     pub(crate) fn able(&self, alloc: Global, line: &mut LineBuffer) -> Result<(), NoMemory>
         requires { IsInOrder self.now.state }
-        ensures { OnOk result ((P : PolicyValue) → IsAnswered P step.Able self.now line.old line.new self.now) }
+        ensures { OnOk result ((P : OriginValue) → IsAnswered P step.Able self.now line.old line.new self.now) }
     {
         match &self.state {
             State::Open(kernel) => push_who_is_able(alloc, line, kernel),
@@ -145,12 +146,24 @@ impl Container {
     pub(crate) fn report(
         &self,
         alloc: Global,
-        policy: &Policy,
+        origin: &Origin,
         line: &mut LineBuffer,
     ) -> Result<(), NoMemory>
-        ensures { OnOk result (IsAnswered policy.now step.Report self.now line.old line.new self.now) }
+        ensures { OnOk result (IsAnswered origin.now step.Report self.now line.old line.new self.now) }
     {
-        push_report(alloc, policy, self.history(), line)
+        push_report(alloc, origin, self.history(), line)
+    }
+
+    /// Tells the script that plays what has happened so far again.
+    pub(crate) fn script(
+        &self,
+        alloc: Global,
+        origin: &Origin,
+        line: &mut LineBuffer,
+    ) -> Result<(), NoMemory>
+        ensures { OnOk result (IsAnswered origin.now step.Script self.now line.old line.new self.now) }
+    {
+        push_script(alloc, origin, self.history(), line)
     }
 
     /// Lets the task of a name step.
@@ -161,7 +174,7 @@ impl Container {
         line: &mut LineBuffer,
     ) -> Result<(), NoMemory>
         requires { IsInOrder self.old.state }
-        ensures { OnOk result ((P : PolicyValue) → IsAnswered P (step.Task name.now) self.old line.old line.new self.new) }
+        ensures { OnOk result ((P : OriginValue) → IsAnswered P (step.Task name.now) self.old line.old line.new self.new) }
     {
         match &mut self.state {
             State::Open(kernel) => answer_task(alloc, kernel, name, line),
@@ -179,7 +192,7 @@ impl Container {
     ) -> Result<(), NoMemory>
         requires order { IsInOrder self.old.state }
         requires number { number ≤ 15 }
-        ensures { OnOk result ((P : PolicyValue) → IsAnswered P (step.Worker number asked.now) self.old line.old line.new self.new) }
+        ensures { OnOk result ((P : OriginValue) → IsAnswered P (step.Worker number asked.now) self.old line.old line.new self.new) }
     {
         match &mut self.state {
             State::Open(kernel) => answer_worker(alloc, kernel, number, asked, line),
@@ -189,7 +202,7 @@ impl Container {
 
     /// Closes the listener.
     pub(crate) fn close(&mut self, alloc: Global, line: &mut LineBuffer) -> Result<(), NoMemory>
-        ensures { OnOk result ((P : PolicyValue) → IsAnswered P step.Close self.old line.old line.new self.new) }
+        ensures { OnOk result ((P : OriginValue) → IsAnswered P step.Close self.old line.old line.new self.new) }
     {
         let ended = State::Closed(History::new(alloc));
         self.state = match mem::replace(&mut self.state, ended) {

@@ -6,7 +6,8 @@
 //!
 //! [`serve`] answers all requests of a file. It reads pieces of bytes, answers the lines that end in a piece, and writes the
 //! answers, which are flushed before more is read. So a program may write one request and wait for its answer, or send many at
-//! once. Of a line that is too long nothing is kept, so memory stays bounded by what the container takes.
+//! once. Of a line that is too long nothing is kept, so memory stays bounded by what the container takes. [`step_task`] and
+//! [`do_asked`] are single steps without an answer.
 //!
 //! The definitions stand in `specs/`: `Asking.antt` says which deed a worker asks for and why it may be none, `Texts.antt` has the
 //! lines of answers, and `Answers.antt` all answers, each with the history after it; `Lines.antt` has the lines of the input and their
@@ -23,12 +24,17 @@ mod container;
 pub mod fault;
 pub mod laws;
 mod lines;
+pub mod origin;
 pub mod reasons;
 mod refusal;
 mod reports;
+mod scripts;
 mod serving;
 mod session;
+mod steps;
 mod texts;
 
 pub use fault::StepFault;
+pub use origin::Origin;
 pub use serving::serve;
+pub use steps::{do_asked, step_task};

@@ -7,9 +7,9 @@ ghost use Rattle.step_session.specs.Lines.{EndsAt, IsCut, has_end, long_text};
 ghost use Rattle.step_session.specs.Owing.{IsLineAnswered};
 
 use crate::container::Container;
+use crate::origin::Origin;
 use crate::texts::push_fault;
 use audit_log::line::LineBuffer;
-use hist_model::policy::Policy;
 use memchr::memchr;
 use std::alloc::Global;
 use step_requests::{StepRequest, read_request};
@@ -46,20 +46,21 @@ pub(crate) fn push_long(answers: &mut LineBuffer) -> Result<(), NoMemory>
 /// Does what a request asks for, and adds the answer.
 fn answer_request(
     alloc: Global,
-    policy: &Policy,
+    origin: &Origin,
     container: &mut Container,
     request: &StepRequest,
     answers: &mut LineBuffer,
 ) -> Result<(), NoMemory>
     requires order { IsInOrder container.old.state }
     requires asked { IsAsked request.now }
-    ensures { OnOk result (IsAnswered policy.now request.now container.old answers.old answers.new container.new) }
+    ensures { OnOk result (IsAnswered origin.now request.now container.old answers.old answers.new container.new) }
 {
     match request {
         StepRequest::Able => container.able(alloc, answers),
         StepRequest::Task(name) => container.task(alloc, name, answers),
         StepRequest::Worker { number, asked } => container.worker(alloc, *number, asked, answers),
-        StepRequest::Report => container.report(alloc, policy, answers),
+        StepRequest::Report => container.report(alloc, origin, answers),
+        StepRequest::Script => container.script(alloc, origin, answers),
         StepRequest::Close => container.close(alloc, answers),
     }
 }
@@ -67,20 +68,20 @@ fn answer_request(
 /// Answers a line.
 pub(crate) fn answer_line(
     alloc: Global,
-    policy: &Policy,
+    origin: &Origin,
     container: &mut Container,
     line: &[u8],
     answers: &mut LineBuffer,
 ) -> Result<(), NoMemory>
     requires { IsStanding container.old }
-    ensures answered { OnOk result (IsLineAnswered policy.now line.now container.old answers.old container.new answers.new) }
+    ensures answered { OnOk result (IsLineAnswered origin.now line.now container.old answers.old container.new answers.new) }
     ensures standing { OnOk result (IsStanding container.new) }
 {
     if line.len() > LONGEST {
         return push_long(answers);
     }
     match read_request(alloc, line) {
-        Ok(request) => answer_request(alloc, policy, container, &request, answers),
+        Ok(request) => answer_request(alloc, origin, container, &request, answers),
         Err(OrNoMemory::Refused(fault)) => push_fault(answers, fault),
         Err(OrNoMemory::NoMemory) => Err(NoMemory),
     }

@@ -23,4 +23,7 @@ pub(crate) enum Refusal {
     /// The listener is closed.
     #[error("closed")]
     Closed,
+    /// The script of the history would have more steps or bytes than a script may have.
+    #[error("full")]
+    Full,
 }

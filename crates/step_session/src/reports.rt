@@ -3,8 +3,10 @@
 ghost use Rattle.std.specs.Prelude.{◌≡◌, ◌+◌, ◌-◌, ◌^◌, ◌++◌, [], length, true, false, min, OnOk, IfOk};
 ghost use Rattle.hist_model.specs.Report.{report};
 ghost use Rattle.hist_model.specs.ReportAudit.{judging_by};
-ghost use Rattle.step_session.specs.Answers.{report_text, sized};
+ghost use Rattle.step_session.specs.Answers.{report_text};
 
+use crate::origin::Origin;
+use crate::texts::push_sized;
 use audit_log::error::ReportError;
 use audit_log::journal::write_journal;
 use audit_log::line::LineBuffer;
@@ -71,25 +73,15 @@ fn report_of(alloc: Global, policy: &Policy, history: &History) -> Result<Vec<u8
     }
 }
 
-/// Adds a text behind a line that tells its length.
-fn push_sized(line: &mut LineBuffer, text: &[u8]) -> Result<(), NoMemory>
-    ensures { OnOk result (line.new ≡ line.old ++ sized text.now) }
-{
-    line.push("report ")?;
-    line.push_number(text.len() as u64)?;
-    line.push("\n")?;
-    line.push_bytes(text)
-}
-
 /// Adds the report so far, behind a line that tells its length.
 pub(crate) fn push_report(
     alloc: Global,
-    policy: &Policy,
+    origin: &Origin,
     history: &History,
     line: &mut LineBuffer,
 ) -> Result<(), NoMemory>
-    ensures { OnOk result (line.new ≡ line.old ++ report_text policy.now history.now.events) }
+    ensures { OnOk result (line.new ≡ line.old ++ report_text origin.now history.now.events) }
 {
-    let text = report_of(alloc, policy, history)?;
-    push_sized(line, text.as_slice())
+    let text = report_of(alloc, &origin.policy, history)?;
+    push_sized(line, "report", text.as_slice())
 }

@@ -8,8 +8,8 @@ ghost use Rattle.step_session.specs.Owing.{Adds};
 ghost use Rattle.step_session.specs.Serving.{PieceEnds, RestEnds, TookAll, TookPart};
 
 use crate::fault::StepFault;
+use crate::origin::Origin;
 use crate::session::Session;
-use hist_model::policy::Policy;
 use hist_model::script::Script;
 use io_edge::fault::Failed;
 use io_edge::files::Files;
@@ -45,7 +45,7 @@ enum Next {
 fn answer_piece<F: Files, O: Sink>(
     session: &mut Session,
     alloc: Global,
-    policy: &Policy,
+    origin: &Origin,
     files: &mut F,
     piece: &mut [u8],
     out: &mut O,
@@ -53,17 +53,17 @@ fn answer_piece<F: Files, O: Sink>(
     requires opened { IsSome (F.state files.old).current }
     requires standing { IsStanding session.old.container }
     requires room { 0 < length piece.old }
-    ensures { PieceEnds policy.now session.old (F.state files.old) (O.state out.old) result session.new (F.state files.new) (O.state out.new) }
+    ensures { PieceEnds origin.now session.old (F.state files.old) (O.state out.old) result session.new (F.state files.new) (O.state out.new) }
 {
     session.hand_over(out)?;
     let Ok(count) = read_piece(files, piece, out) else {
         return Err(StepFault::ReadFault);
     };
     if count == 0 {
-        session.finish(alloc, policy, out)?;
+        session.finish(alloc, origin, out)?;
         return Ok(Next::Ended);
     }
-    session.take(alloc, policy, &piece[..count], out)?;
+    session.take(alloc, origin, &piece[..count], out)?;
     Ok(Next::Read)
 }
 
@@ -71,7 +71,7 @@ fn answer_piece<F: Files, O: Sink>(
 fn answer_rest<F: Files, O: Sink>(
     session: &mut Session,
     alloc: Global,
-    policy: &Policy,
+    origin: &Origin,
     files: &mut F,
     piece: &mut [u8],
     out: &mut O,
@@ -79,10 +79,10 @@ fn answer_rest<F: Files, O: Sink>(
     requires opened { IsSome (F.state files.old).current }
     requires standing { IsStanding session.old.container }
     requires room { 0 < length piece.old }
-    ensures { RestEnds policy.now session.old (F.state files.old) (O.state out.old) result (F.state files.new) (O.state out.new) }
+    ensures { RestEnds origin.now session.old (F.state files.old) (O.state out.old) result (F.state files.new) (O.state out.new) }
 {
     'pieces: for _ in 0..u64::MAX {
-        match answer_piece(session, alloc, policy, files, piece, out)? {
+        match answer_piece(session, alloc, origin, files, piece, out)? {
             Next::Read => {}
             Next::Ended => return Ok(()),
         }
@@ -98,7 +98,7 @@ fn answer_rest<F: Files, O: Sink>(
 /// `WriteFault` comes only where the sink's count rose. After any error the sink has a prefix of the answers.
 pub fn serve<F: Files, O: Sink>(
     alloc: Global,
-    policy: &Policy,
+    origin: &Origin,
     script: Script,
     files: &mut F,
     name: &str,
@@ -106,9 +106,9 @@ pub fn serve<F: Files, O: Sink>(
 ) -> Result<(), StepFault>
     ensures same { SameFiles (F.state files.old) (F.state files.new) }
     ensures adds { Adds (O.state out.old) (O.state out.new) }
-    ensures answered { OnOk result (TookAll policy.now script (F.state files.old) name.now (O.state out.old) (O.state out.new)) }
+    ensures answered { OnOk result (TookAll origin.now script (F.state files.old) name.now (O.state out.old) (O.state out.new)) }
     ensures flushed { OnOk result ((O.state out.new).pending ≡ false) }
-    ensures part { OnErr result (TookPart policy.now script (F.state files.old) name.now (O.state out.old) (O.state out.new)) }
+    ensures part { OnErr result (TookPart origin.now script (F.state files.old) name.now (O.state out.old) (O.state out.new)) }
     ensures read_fault { IsErrOf result StepFault.ReadFault → Rose (F.state files.old).faults (F.state files.new).faults }
     ensures absent { (F.state files.old).sound ≡ true → (IsErrOf result StepFault.ReadFault ↔ ((F.state files.old).bytes name.now ≡ None)) }
     ensures write_fault { IsErrOf result StepFault.WriteFault → Rose (O.state out.old).faults (O.state out.new).faults }
@@ -121,7 +121,7 @@ pub fn serve<F: Files, O: Sink>(
     answer_rest(
         &mut session,
         alloc,
-        policy,
+        origin,
         files,
         piece.as_mut_slice(),
         out,

@@ -12,10 +12,10 @@ ghost use Rattle.step_session.specs.Owing.{Adds, Continues, Stops, TookFront, To
 use crate::begun::Begun;
 use crate::container::Container;
 use crate::lines::{answer_line, first_line, push_long};
+use crate::origin::Origin;
 use audit_log::error::ReportError;
 use audit_log::line::LineBuffer;
 use audit_log::part::write_line;
-use hist_model::policy::Policy;
 use hist_model::script::Script;
 use io_edge::sink::Sink;
 use std::alloc::Global;
@@ -53,22 +53,22 @@ impl Session {
     fn answer_kept(
         &mut self,
         alloc: Global,
-        policy: &Policy,
+        origin: &Origin,
         mut kept: Vec<u8>,
         bytes: &[u8],
     ) -> Result<(), NoMemory>
         requires { IsStanding self.old.container }
-        ensures answered { OnOk result (IsLineAnswered policy.now (kept.items ++ bytes.now) self.old.container self.old.answers self.new.container self.new.answers) }
+        ensures answered { OnOk result (IsLineAnswered origin.now (kept.items ++ bytes.now) self.old.container self.old.answers self.new.container self.new.answers) }
         ensures standing { OnOk result (IsStanding self.new.container) }
         ensures begun { self.new.begun ≡ self.old.begun }
     {
         if kept.is_empty() {
-            return answer_line(alloc, policy, &mut self.container, bytes, &mut self.answers);
+            return answer_line(alloc, origin, &mut self.container, bytes, &mut self.answers);
         }
         kept.extend_from_slice(bytes)?;
         answer_line(
             alloc,
-            policy,
+            origin,
             &mut self.container,
             kept.as_slice(),
             &mut self.answers,
@@ -76,28 +76,28 @@ impl Session {
     }
 
     /// Answers the line that is begun, and that ends behind these bytes.
-    fn end_line(&mut self, alloc: Global, policy: &Policy, bytes: &[u8]) -> Result<(), NoMemory>
+    fn end_line(&mut self, alloc: Global, origin: &Origin, bytes: &[u8]) -> Result<(), NoMemory>
         requires standing { IsStanding self.old.container }
         requires line { has_end bytes.now ≡ false }
-        ensures continues { OnOk result ((out : SinkState) → Continues policy.now self.old out (bytes.now ++ 10 ∷ []) self.new out []) }
+        ensures continues { OnOk result ((out : SinkState) → Continues origin.now self.old out (bytes.now ++ 10 ∷ []) self.new out []) }
         ensures standing { OnOk result (IsStanding self.new.container) }
         ensures fresh { OnOk result (IsFresh self.new.begun) }
     {
         match mem::replace(&mut self.begun, Begun::Line(Vec::new(alloc))) {
-            Begun::Line(kept) => self.answer_kept(alloc, policy, kept, bytes),
+            Begun::Line(kept) => self.answer_kept(alloc, origin, kept, bytes),
             Begun::TooLong => push_long(&mut self.answers),
         }
     }
 
     /// Answers the line that is begun, if there is one: it is the last one.
-    fn end(&mut self, alloc: Global, policy: &Policy) -> Result<(), NoMemory>
+    fn end(&mut self, alloc: Global, origin: &Origin) -> Result<(), NoMemory>
         requires { IsStanding self.old.container }
-        ensures { OnOk result (Ends policy.now self.old self.new) }
+        ensures { OnOk result (Ends origin.now self.old self.new) }
     {
         if self.begun.is_fresh() {
             return Ok(());
         }
-        self.end_line(alloc, policy, &[])
+        self.end_line(alloc, origin, &[])
     }
 
     /// Writes the answers that aren't written yet, in one write.
@@ -127,18 +127,18 @@ impl Session {
     fn take_line<O: Sink>(
         &mut self,
         alloc: Global,
-        policy: &Policy,
+        origin: &Origin,
         bytes: &[u8],
         out: &mut O,
     ) -> Result<(), ReportError>
         requires standing { IsStanding self.old.container }
         requires line { has_end bytes.now ≡ false }
-        ensures continues { OnOk result (Continues policy.now self.old (O.state out.old) (bytes.now ++ 10 ∷ []) self.new (O.state out.new) []) }
+        ensures continues { OnOk result (Continues origin.now self.old (O.state out.old) (bytes.now ++ 10 ∷ []) self.new (O.state out.new) []) }
         ensures standing { OnOk result (IsStanding self.new.container) }
-        ensures stops { OnErr result (Stops policy.now self.old (O.state out.old) (bytes.now ++ 10 ∷ []) (O.state out.new)) }
+        ensures stops { OnErr result (Stops origin.now self.old (O.state out.old) (bytes.now ++ 10 ∷ []) (O.state out.new)) }
         ensures cause { IsErrOf result WriteFault → Rose (O.state out.old).faults (O.state out.new).faults }
     {
-        self.end_line(alloc, policy, bytes)?;
+        self.end_line(alloc, origin, bytes)?;
         if self.answers.bytes().len() > MOST_GATHERED {
             self.write(out)?;
         }
@@ -149,19 +149,19 @@ impl Session {
     pub(crate) fn take<O: Sink>(
         &mut self,
         alloc: Global,
-        policy: &Policy,
+        origin: &Origin,
         piece: &[u8],
         out: &mut O,
     ) -> Result<(), ReportError>
         requires { IsStanding self.old.container }
-        ensures continues { OnOk result (Continues policy.now self.old (O.state out.old) piece.now self.new (O.state out.new) []) }
+        ensures continues { OnOk result (Continues origin.now self.old (O.state out.old) piece.now self.new (O.state out.new) []) }
         ensures standing { OnOk result (IsStanding self.new.container) }
-        ensures stops { OnErr result (Stops policy.now self.old (O.state out.old) piece.now (O.state out.new)) }
+        ensures stops { OnErr result (Stops origin.now self.old (O.state out.old) piece.now (O.state out.new)) }
         ensures cause { IsErrOf result WriteFault → Rose (O.state out.old).faults (O.state out.new).faults }
     {
         let mut rest = piece;
         'lines: while let Some((line, behind)) = first_line(rest) {
-            self.take_line(alloc, policy, line, out)?;
+            self.take_line(alloc, origin, line, out)?;
             rest = behind;
         }
         self.begun.go_on(rest)?;
@@ -171,17 +171,17 @@ impl Session {
     pub(crate) fn finish<O: Sink>(
         &mut self,
         alloc: Global,
-        policy: &Policy,
+        origin: &Origin,
         out: &mut O,
     ) -> Result<(), ReportError>
         requires { IsStanding self.old.container }
         ensures adds { Adds (O.state out.old) (O.state out.new) }
-        ensures took { OnOk result (TookOwed policy.now self.old [] (O.state out.old) (O.state out.new)) }
+        ensures took { OnOk result (TookOwed origin.now self.old [] (O.state out.old) (O.state out.new)) }
         ensures flushed { OnOk result ((O.state out.new).pending ≡ false) }
-        ensures front { OnErr result (TookFront policy.now self.old [] (O.state out.old) (O.state out.new)) }
+        ensures front { OnErr result (TookFront origin.now self.old [] (O.state out.old) (O.state out.new)) }
         ensures cause { IsErrOf result WriteFault → Rose (O.state out.old).faults (O.state out.new).faults }
     {
-        self.end(alloc, policy)?;
+        self.end(alloc, origin)?;
         self.hand_over(out)
     }
 }

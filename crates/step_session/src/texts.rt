@@ -1,7 +1,7 @@
 //! The lines of answers.
 
 ghost use Rattle.std.specs.Prelude.{◌≡◌, ◌++◌, OnOk};
-ghost use Rattle.step_session.specs.Texts.{event_front, event_text, fault_text, faulty_text, more_numbers, notif_text, numbers_text, refusal_text, refused_text, told};
+ghost use Rattle.step_session.specs.Texts.{event_front, event_text, fault_text, faulty_text, more_numbers, notif_text, numbers_text, refusal_text, refused_text, sized, told};
 
 use crate::reasons::reason_text;
 use crate::refusal::Refusal;
@@ -90,6 +90,17 @@ pub(crate) fn push_event(line: &mut LineBuffer, place: usize, event: &Event) -> 
     line.push("\n")
 }
 
+/// Adds a text behind a line with its word and its length.
+pub(crate) fn push_sized(line: &mut LineBuffer, word: &str, text: &[u8]) -> Result<(), NoMemory>
+    ensures { OnOk result (line.new ≡ line.old ++ sized word.now text.now) }
+{
+    line.push(word)?;
+    line.push(" ")?;
+    line.push_number(text.len() as u64)?;
+    line.push("\n")?;
+    line.push_bytes(text)
+}
+
 /// The text of a refusal.
 fn refusal_text(why: Refusal) -> &'static str
     ensures { result.now ≡ refusal_text why }
@@ -101,6 +112,7 @@ fn refusal_text(why: Refusal) -> &'static str
         Refusal::RequestIsPut => "request is put",
         Refusal::NoRequest => "no request",
         Refusal::Closed => "closed",
+        Refusal::Full => "full",
     }
 }
 

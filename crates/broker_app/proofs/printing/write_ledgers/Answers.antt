@@ -1,6 +1,7 @@
 -- One more line was written, or failed.
 use Rattle.std.proofs.Common.{rules, arith, ◌≡◌, Err}
-use Rattle.broker_app.proofs.Handovers.{all_written, ledger_failed, ledger_written}
+use Rattle.broker_app.proofs.Handovers.{ledger_failed, ledgers_written, line_of_handed}
+use Rattle.broker_app.proofs.Items.{one_written}
 use Rattle.broker_app.proofs.printing.write_ledgers.Goals as goal
 
 pub returns-in_err-write_ledger : goal.returns-in_err-write_ledger
@@ -13,9 +14,9 @@ returns-in_err-write_ledger g c =
 
 pub loop-index-preserved : goal.loop-index-preserved
 loop-index-preserved g c =
-    ledger_written c.args.handed.now c.loop-index.index c.index-handed-index.result
+    one_written line_of_handed c.args.handed.now c.loop-index.index c.index-handed-index.result
     (g.O.Sink.state c.args.out.now) (g.O.Sink.state c.loop-index.out) (g.O.Sink.state c.write_ledger.new.out)
     (omega arith) c.index-handed-index.is c.loop-index.invariant c.in_ok-write_ledger.ensures
 
 pub returns : goal.returns
-returns g c = all_written c.args.handed.now c.loop-index.index (g.O.Sink.state c.args.out.now) (g.O.Sink.state c.loop-index.out) (omega arith) c.loop-index.invariant
+returns g c = ledgers_written c.args.handed.now c.loop-index.index (g.O.Sink.state c.args.out.now) (g.O.Sink.state c.loop-index.out) (omega arith) c.loop-index.invariant

@@ -6,7 +6,6 @@ use Rattle.hist_model.specs.Sessions.{deed, session}
 use Rattle.hist_model.specs.Steps.{deed_step}
 use Rattle.broker_core.specs.Answers.{answer_of, told}
 use Rattle.model_kernel.specs.Kernels.{past, system}
-use Rattle.broker_machine.proofs.Allowed.{allows}
 use Rattle.broker_machine.proofs.Answered.{has-tried, newest-step, some-step, step-fits, step-remembered, tries-step, waits-on}
 use Rattle.broker_machine.proofs.Rooms.{readied}
 use Rattle.broker_machine.specs.Workers.{HasTried, TriesDeed, next_of}
@@ -26,7 +25,7 @@ do_deed-requires-clause-allows c =
     let r = c.in_ok-ready.ensures.known _ c.requires.remembers in
     let next = rw (c.in_ok-ready.ensures.figures ∙ c.requires.figures) at (c.next-next.ensures.deed P _ r) in
     let few : length (past old) < 2 ^ 64 = omega (arith, c.has_few_events.ensures) in
-    rw (c.in_ok-ready_event.ensures.past, next) (allows (system old) (rules_of P old.script.figures) (past old) c.args.number c.requires.legal few)
+    rw (c.in_ok-ready_event.ensures.past, next) (c.requires.allowed few)
 
 pub returns-in_err-do_deed-clause-remembers : goal.returns-in_err-do_deed-clause-remembers
 returns-in_err-do_deed-clause-remembers c =

@@ -3,7 +3,7 @@ use Rattle.std.proofs.Common.{rules, ap, sym, ◌∙◌}
 use Rattle.script_reader.specs.Statements.{statement}
 use Rattle.script_reader.specs.declared.statement.Statement.TheVariants.{Does}
 use Rattle.script_reader.proofs.statement.statement_of.Goals as goal
-use Rattle.script_reader.proofs.statement.statement_of.Goals.{in-Pidmax, in-Pidbase, in-Firstid, in-Rlimit, in-Killable, in-Dir, in-Reg, in-Fifo, in-Sock, in-Link+in_ok-link-in-Link, in-Chr, in-Blk, in-Attr+in_ok-attr-in-Attr, in-Root, in-Broker, in-Map, in-Cgroup, in-Figures, in-Notify+in_ok-call_numbers-in-Notify, in-Filter, in-Prog, in-Poke+in_ok-poke-in-Poke, in-Fill, in-Call, in-Spawn, in-Thread, in-Kill, in-Handler, in-Wait, in-Exit, in-Schedule, in-Task+in_ok-task_step-in-Task, in-Worker, in-End}
+use Rattle.script_reader.proofs.statement.statement_of.Goals.{in-Pidmax, in-Pidbase, in-Firstid, in-Rlimit, in-Killable, in-Dir, in-Reg, in-Fifo, in-Sock, in-Link+in_ok-link-in-Link, in-Chr, in-Blk, in-Attr+in_ok-attr-in-Attr, in-Root, in-Broker, in-Map, in-Cgroup, in-Figures, in-Notify+in_ok-call_numbers-in-Notify, in-Filter, in-Prog, in-Poke+in_ok-poke-in-Poke, in-Fill, in-Call, in-Spawn, in-Thread, in-Kill, in-Handler, in-Wait, in-Exit, in-Schedule, in-Task+in_ok-steps-in-Task, in-Worker, in-End}
 
 pub returns : goal.returns
 returns c =
@@ -39,7 +39,7 @@ returns c =
       | in-Wait w ↦ search rules
       | in-Exit w ↦ search rules
       | in-Schedule w ↦ search rules
-      | in-Task+in_ok-task_step-in-Task w ↦ search rules
+      | in-Task+in_ok-steps-in-Task w ↦ search rules
       | in-Worker w ↦ search rules
       | in-End w ↦ search rules
     ]

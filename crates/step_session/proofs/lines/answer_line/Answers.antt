@@ -6,7 +6,7 @@ use Rattle.step_session.proofs.lines.answer_line.Goals as goal
 
 pub returns-then-line-gt-LONGEST-clause-answered : goal.returns-then-line-gt-LONGEST-clause-answered
 returns-then-line-gt-LONGEST-clause-answered c =
-    on_ok c.push_long.result _ _ (answered_long c.args.policy.now c.args.line.now c.args.container.now c.args.answers.now c.push_long.new.answers (omega arith)) c.push_long.ensures
+    on_ok c.push_long.result _ _ (answered_long c.args.origin.now c.args.line.now c.args.container.now c.args.answers.now c.push_long.new.answers (omega arith)) c.push_long.ensures
 
 pub answer_request-requires-clause-order : goal.answer_request-requires-clause-order
 answer_request-requires-clause-order c = standing_in_order c.args.container.now c.requires
@@ -17,19 +17,19 @@ answer_request-requires-clause-asked c = may_be_asked c.args.line.now c.in-Ok.re
 pub returns-in-Ok-clause-answered : goal.returns-in-Ok-clause-answered
 returns-in-Ok-clause-answered c =
     on_ok c.answer_request.result _ _
-    (answered_read c.args.policy.now c.args.line.now c.in-Ok.request c.args.container.now c.answer_request.new.container c.args.answers.now c.answer_request.new.answers (omega arith) c.in-Ok.ensures.reading)
+    (answered_read c.args.origin.now c.args.line.now c.in-Ok.request c.args.container.now c.answer_request.new.container c.args.answers.now c.answer_request.new.answers (omega arith) c.in-Ok.ensures.reading)
     c.answer_request.ensures
 
 pub returns-in-Ok-clause-standing : goal.returns-in-Ok-clause-standing
 returns-in-Ok-clause-standing c =
     on_ok c.answer_request.result _ _
-    (λ answered. still_standing c.args.policy.now c.args.line.now c.args.container.now c.answer_request.new.container c.args.answers.now c.answer_request.new.answers c.requires
-    (answered_read c.args.policy.now c.args.line.now c.in-Ok.request c.args.container.now c.answer_request.new.container c.args.answers.now c.answer_request.new.answers (omega arith) c.in-Ok.ensures.reading answered))
+    (λ answered. still_standing c.args.origin.now c.args.line.now c.args.container.now c.answer_request.new.container c.args.answers.now c.answer_request.new.answers c.requires
+    (answered_read c.args.origin.now c.args.line.now c.in-Ok.request c.args.container.now c.answer_request.new.container c.args.answers.now c.answer_request.new.answers (omega arith) c.in-Ok.ensures.reading answered))
     c.answer_request.ensures
 
 pub returns-in-Err-Refused-clause-answered : goal.returns-in-Err-Refused-clause-answered
 returns-in-Err-Refused-clause-answered c =
     let refused = rw c.in-Err-Refused.field-0-is at c.in-Err-Refused.ensures.refused in
     on_ok c.push_fault.result _ _
-    (λ said. answered_faulty c.args.policy.now c.args.line.now c.in-Err-Refused.fault c.args.container.now c.args.answers.now c.push_fault.new.line (omega arith) refused (cc said))
+    (λ said. answered_faulty c.args.origin.now c.args.line.now c.in-Err-Refused.fault c.args.container.now c.args.answers.now c.push_fault.new.line (omega arith) refused (cc said))
     c.push_fault.ensures

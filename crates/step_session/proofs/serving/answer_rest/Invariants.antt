@@ -5,4 +5,4 @@ use Rattle.step_session.proofs.serving.answer_rest.Given as goal
 
 abbrev pub invariant-pieces : goal.invariant-pieces
 invariant-pieces g l =
-    PieceEnds l.policy l.initial.session (g.F.Files.state l.initial.files) (g.O.Sink.state l.initial.out) (Ok Read) l.session (g.F.Files.state l.files) (g.O.Sink.state l.out)
+    PieceEnds l.origin l.initial.session (g.F.Files.state l.initial.files) (g.O.Sink.state l.initial.out) (Ok Read) l.session (g.F.Files.state l.files) (g.O.Sink.state l.out)

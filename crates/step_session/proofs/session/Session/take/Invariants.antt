@@ -5,7 +5,7 @@ use Rattle.step_session.proofs.session.Session.take.Given as goal
 
 abbrev pub invariant-lines : goal.invariant-lines
 invariant-lines g l = record {
-  continues : Continues l.policy l.initial.self (g.O.Sink.state l.initial.out) l.piece l.self (g.O.Sink.state l.out) l.rest;
+  continues : Continues l.origin l.initial.self (g.O.Sink.state l.initial.out) l.piece l.self (g.O.Sink.state l.out) l.rest;
   standing : IsStanding l.self.container;
 }
 

@@ -5,7 +5,7 @@ use Rattle.script_reader.specs.Above.{nothing_above}
 use Rattle.script_reader.specs.Outcomes.{reading_from}
 use Rattle.script_reader.specs.Rules.{IsKept}
 use Rattle.script_reader.specs.Views.{above_in}
-use Rattle.script_reader.proofs.reader.read_script.Given as goal
+use Rattle.script_reader.proofs.reader.read_file.Given as goal
 
 abbrev pub invariant-loop-builder : goal.invariant-loop-builder
 invariant-loop-builder l = record {

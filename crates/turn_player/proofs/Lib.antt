@@ -1,0 +1,4 @@
+pub mod Times
+pub mod Servers
+pub mod Lines
+pub mod TurnedKept

@@ -1,0 +1,22 @@
+//! The player of a schedule in which a worker of another broker has requests.
+//!
+//! [`play_turns`] plays a script by the lines of such a schedule, under a policy. A task takes as many steps as its line says. So does
+//! a worker of this project, each time the step that it has next by the policy. A worker of another broker asks the kernel for what
+//! its line says. A worker's number belongs to one of the two in all lines. A step that can't be made leaves no event. So a broker
+//! can be tried beside this project's workers. The history is one of the kernel ([`laws`]), and need not be legal.
+//!
+//! Before a step of a worker of this project it is tested whether what the worker has open, and whether it has a request for a
+//! descriptor, allow the step. In a legal history they always do; of other histories that isn't known.
+//!
+//! The definitions stand in `specs/`: `Turns.antt` has the history that lines come to, and `Serving.antt` what the workers of this
+//! project remember on the way.
+//!
+//! Below stand the kernel (`model_kernel`), this project's workers (`broker_core`) with their turns (`broker_machine`), and the steps
+//! of tasks and of other brokers' workers (`step_session`).
+#![tactic(auto)]
+
+pub mod laws;
+mod serving;
+mod turns;
+
+pub use turns::play_turns;
