@@ -1,11 +1,13 @@
 """The kernel of a run: the written one in Python with the judge beside it, and the program, whose answers have to be equal."""
 import os
+import re
 import subprocess
 from typing import List, NamedTuple
 
 from judging.sessions import Follower
 
-REPORT = b"report "
+# behind such a line stand so many bytes
+SIZED = re.compile(rb"(?:report|script) (\d+)\n")
 
 
 class Differs(Exception):
@@ -26,15 +28,15 @@ class Program:
         self.process = subprocess.Popen(words, stdin=subprocess.PIPE, stdout=subprocess.PIPE)
 
     def ask(self, request: bytes) -> bytes:
-        """The answer to a request, of a report all of it; cut off where the program has ended."""
+        """The answer to a request, of a report and of a script all of it; cut off where the program has ended."""
         try:
             self.process.stdin.write(request + b"\n")
             self.process.stdin.flush()
         except BrokenPipeError:
             return b""
         told = self.process.stdout.readline()
-        length = told[len(REPORT):].strip() if told.startswith(REPORT) else b""
-        return told + self.process.stdout.read(int(length)) if length.isdigit() else told
+        sized = SIZED.fullmatch(told)
+        return told + self.process.stdout.read(int(sized[1])) if sized else told
 
     def close(self):
         try:

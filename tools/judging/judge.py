@@ -151,7 +151,7 @@ class Judge:
 
     def take_effect(self, place, worker, kind, facts, content):
         serving, of_worker = self.servings.get(worker), self.kernel.worker(worker)
-        tried = TriedEffect(place, kind, serving, facts[0], facts[1], of_worker.base, self.opened_base.get(worker), of_worker.memory, content)
+        tried = TriedEffect(place, kind, serving, facts[0], facts[-1], of_worker.base, self.opened_base.get(worker), of_worker.memory, content)
         self.counts.effects += 1
         self.counts.answers += kind == PUT and facts[0].flags & SEND != 0
         if not self.test(tried, effects.ABOUT_CALL, self) and not self.test(tried, effects.OF_CALL, self):

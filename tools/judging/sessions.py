@@ -1,12 +1,11 @@
 """Sessions of `step` as texts, and a kernel in Python that follows one with the judge beside it.
 
-A session is a text of lines. `> REQUEST` is a request as it was written to the program, and `< ANSWER` behind it is the line that answered; of a report the bytes are left out. Blank lines and
+A session is a text of lines. `> REQUEST` is a request as it was written to the program, and `< ANSWER` behind it is the line that answered; of a report and of a script the bytes are left out. Blank lines and
 those that begin with `#` say nothing.
 """
 from typing import List, NamedTuple, Optional
 
 from judging.judge import Judge
-from stepping.requests import read_request
 from stepping.sessions import Session
 
 REQUEST, ANSWER, COMMENT = b"> ", b"< ", b"#"
@@ -57,12 +56,12 @@ class Follower:
         self.judge = Judge(self.kernel, rules)
 
     def answer(self, request: bytes) -> str:
-        """The answer to a request, with its newline; of a report all of it."""
+        """The answer to a request, with its newline; of a report and of a script all of it."""
         before = len(self.kernel.events)
         told = self.session.answer(request)
         if len(self.kernel.events) > before:
             event = self.kernel.events[before]
-            self.judge.take(before, event, read_request(request).operands[1] if event.kind == "plant" else b"")
+            self.judge.take(before, event, event.facts[1] if event.kind == "plant" else b"")
         return told
 
     def follow(self, exchanges):

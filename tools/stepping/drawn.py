@@ -5,6 +5,7 @@ from collections import namedtuple
 from stepping.facts import AT_FDCWD, CALL_NAMES, SEND, SETFD, Fail, quoted
 from stepping.rules import PATH_LIMIT, PIECE, plan
 
+# the last two answers are the report and the script of the session, whose listener is closed
 Drawn = namedtuple("Drawn", "requests answers")
 SEATS, LONGEST = 4, 90
 KINDS = (0o010666, 0o020666, 0o060600, 0o100644, 0o140700, 0o040755, 0o150000, 0o666)
@@ -15,7 +16,8 @@ WORD_FAULTS = (
     "", "   ", "# able", "able 1", "able\t", "steps", '"able"', "t", "t 0 1", "t 00", "t 0.0", 't "0"', "t 0.9.9", "w", "w 0", "w 16 recv", "w 99 let-go", "w x recv", "w -1 recv",
     "w 0 send 1 0 0", "w 0 send 1 0 0 0 0", "w 0 check", "w 0 check x", "w 0 check -1", "w 0 check 18446744073709551616", "w 0 read 0 65536", "w 0 read 0 -1", "w 0 read 0x10000 0x10",
     "w 0 open-mem 4294967296", "w 0 open-base 1 2147483648", "w 0 open-base 1", 'w 0 act mknod /a 0 0', 'w 0 act mknod "/a" 0', 'w 0 act mknodat "/a" 0 0', 'w 0 act setxattr "a" "b" "c"',
-    'w 0 act mount "a" "/" "c" 0', "w 0 addfd 1 2 3 4", "w 0 addfd-result 1", 'w 0 act mknod "/a', 'w 0 act mknod "/a"x 0 0', "w 0 act mknod \\ 0 0", 'w 0 act mknod "\\q" 0 0', "ab\x01le", "t 0\r", "report x",
+    'w 0 act mount "a" "/" "c" 0', "w 0 addfd 1 2 3 4", "w 0 addfd-result 1", 'w 0 act mknod "/a', 'w 0 act mknod "/a"x 0 0', "w 0 act mknod \\ 0 0", 'w 0 act mknod "\\q" 0 0', "ab\x01le", "t 0\r", "report x", "script 1", "scripts",
+    "w x check", "w 16 check", 'w "0" frob', 'w 0 act mknod "/a" 0 x', "w x act", "w x act frob",
     'w 0 act mknod "/a\\0" 0 0', 'w 0 act setxattr "/a" "b\\0" "c" 0', 'w 0 act setxattr "/a" "b" "c" 4294967297', 'w 0 act mount "a" "/" "c" 0 "" via', 'w 0 act mount "a" "/" "c" 0 "" over "p"',
     'w 0 act mount "a" "/" "c" 0 "" shift shift', 'w 0 act mount "a" "/" "c" 0 "" shift via "p"', 'w 0 act mount "a" "/" "c" 0 "\\0"', 'w 0 act mount "a" "/" "c" 0 "" via "p\\0"',
 )
@@ -44,7 +46,8 @@ class Chooser:
             self.ask("close")
             for _ in range(3):
                 self.one()
-        self.ask("report")
+        for request in ("report", "script", "close", "report", "script"):
+            self.ask(request)
         return self.drawn
 
     def is_over(self):
@@ -55,8 +58,8 @@ class Chooser:
         kind = self.chance.random()
         if kind < 0.04:
             self.ask("able")
-        elif kind < 0.06:
-            self.ask("report")
+        elif kind < 0.07:
+            self.ask(self.chance.choice(("report", "script")))
         elif kind < 0.1:
             self.ask(self.chance.choice(WORD_FAULTS))
         elif kind < (0.5 if self.kernel.able() else 0.15):

@@ -35,7 +35,7 @@ def long_lines(chance, _):
 def many_lines(chance, _):
     """Very many requests."""
     kinds = (b"able", b"t 0", b"t 0.1", b"w 0 check 1", b"w 1 read 0x10000 16", b"w 2 let-go", b"w 3 recv", b"w 4 send 1 0 0 0", b"", b"w 5 addfd-result", b"frob")
-    return [chance.choice(kinds) for _ in range(MANY)] + [b"report"]
+    return [chance.choice(kinds) for _ in range(MANY)] + [b"report", b"script"]
 
 
 KINDS = {"random bytes": random_lines, "changed requests": changed_lines, "long lines": long_lines, f"{MANY} requests at once": many_lines}

@@ -395,9 +395,9 @@ class Kernel:
     def plant(self, number, address, content):
         memory = self.worker(number).memory
         if not memory.is_mapped(address, len(content)):
-            return self.note(f"w{number}", "plant", address, Fail(EFAULT))
+            return self.note(f"w{number}", "plant", address, content, Fail(EFAULT))
         memory.write(address, content)
-        return self.note(f"w{number}", "plant", address, None)
+        return self.note(f"w{number}", "plant", address, content, None)
 
     def put(self, number, asked):
         return self.note(f"w{number}", "addfd-put", asked, self.put_answer(number, asked))

@@ -71,12 +71,13 @@ WORDS = {
     "check": lambda identifier, answer: f"check {identifier} {result_text(answer)}",
     "read": read_text,
     "act": lambda request, answer: f"act {request_text(request)} {result_text(answer)}",
-    "plant": lambda address, answer: f"plant {address} {result_text(answer)}",
+    "plant": lambda address, _, answer: f"plant {address} {result_text(answer)}",
     "addfd-put": put_text,
     "addfd-take": lambda answer: f"addfd-take {number_text(answer)}",
     "send": lambda identifier, back, answer: f"send {identifier} {back_text(back)} {result_text(answer)}",
     "let-go": lambda: "let-go",
     "close": lambda: "close",
+    "skip": lambda: "skip",
 }
 
 

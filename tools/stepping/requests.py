@@ -1,4 +1,4 @@
-"""The requests of `step`: which lines are one, and why others aren't."""
+"""The requests of `step`: which lines are one, and why others aren't. Those of workers are lines of a schedule, too."""
 import re
 from typing import NamedTuple
 
@@ -96,12 +96,13 @@ def with_sign(bits):
 
 TEXT, VALUE = Text(), Text(zeros=True)
 PID, ID, ADDRESS, LENGTH, DIRFD = unsigned(32), unsigned(64), unsigned(64), unsigned(16), with_sign(32)
-ALONE = {"able": (), "report": (), "close": ()}
+ALONE = {"able": (), "report": (), "script": (), "close": ()}
 OF_WORKERS = {
     "recv": (), "open-mem": (PID,), "open-base": (PID, DIRFD), "check": (ID,), "read": (ADDRESS, LENGTH), "plant": (ADDRESS, Bytes(SYSINFO_SIZE)), "let-go": (),
     "addfd": (ID, unsigned(32), unsigned(32), unsigned(32), unsigned(32)), "addfd-result": (), "send": (ID, with_sign(64), with_sign(32), unsigned(32)),
     "recv-raw": (Bytes(RECV_SIZE),), "addfd-raw": (Bytes(ADDFD_SIZE),), "send-raw": (Bytes(SEND_SIZE),),
 }
+ACT = "act"
 MODE, DEVICE, FLAGS = unsigned(32), unsigned(64), unsigned(64)
 ACTS = {
     "mknod": (TEXT, MODE, DEVICE), "mknodat": (DIRFD, TEXT, MODE, DEVICE), "mount": (TEXT, TEXT, TEXT, FLAGS, TEXT), "setxattr": (TEXT, TEXT, VALUE, FLAGS),
@@ -128,46 +129,64 @@ def bare(token):
     return "" if token.is_quoted else token.text
 
 
-def act_of(tokens):
-    """What a worker asks to be done."""
-    word = bare(tokens[0]) if tokens else ""
-    if not tokens:
-        raise LineFault("wrong count")
-    if word not in ACTS:
-        raise LineFault("unknown word")
-    return mount_of(tokens[1:]) if word == "mount" else MADE[word](*values_of(tokens[1:], ACTS[word]))
+def kinds_of(call, count):
+    """What the operands of a call have to be that a worker makes itself, where there are so many."""
+    stated = ACTS[call]
+    return stated + BEHIND_MOUNT.get(count - len(stated), ()) if call == "mount" else stated
 
 
-def mount_of(tokens):
+def mount_of(source, target, fstype, flags, options, *behind):
     """A mount, behind which may stand `via` with a program, and `shift`."""
-    stated = len(ACTS["mount"])
-    source, target, fstype, flags, options, *behind = values_of(tokens, ACTS["mount"] + BEHIND_MOUNT.get(len(tokens) - stated, ()))
     return Mount(source, target, fstype, options, behind[1] if len(behind) > 1 else b"", flags, len(behind) in (1, 3))
 
 
 MADE = {
     "mknod": lambda path, mode, device: Mknod(None, path, mode % 2**16, device),
     "mknodat": lambda dirfd, path, mode, device: Mknod(dirfd, path, mode % 2**16, device),
+    "mount": mount_of,
     "setxattr": lambda path, name, value, flags: SetXattr(path, name, value, flags % 2**32),
 }
 
 
-def asked_of_worker(tokens):
+def words_of_worker(tokens):
+    """What the words of a worker's line ask for, and the call where that is an act; the tokens begin with the worker's number."""
     if len(tokens) < 2:
         raise LineFault("wrong count")
-    (number,), word = values_of(tokens[:1], (WORKER,)), bare(tokens[1])
-    if word == "act":
-        return Asked(word, (act_of(tokens[2:]),), number)
-    if word not in OF_WORKERS:
+    word = bare(tokens[1])
+    if word == ACT and len(tokens) < 3:
+        raise LineFault("wrong count")
+    call = bare(tokens[2]) if word == ACT else None
+    if call not in ACTS if word == ACT else word not in OF_WORKERS:
         raise LineFault("unknown word")
-    return Asked(word, values_of(tokens[2:], OF_WORKERS[word]), number)
+    return word, call
+
+
+def asked_of_worker(tokens):
+    word, call = words_of_worker(tokens)
+    operands = tokens[2:] if call is None else tokens[3:]
+    kinds = OF_WORKERS[word] if call is None else kinds_of(call, len(operands))
+    number, *values = values_of((tokens[0], *operands), (WORKER, *kinds))
+    return Asked(word, tuple(values) if call is None else (MADE[call](*values),), number)
+
+
+def is_asking(tokens):
+    """Whether the line of a schedule says what a worker asks for, by its third token."""
+    return len(tokens) > 2 and bare(tokens[0]) == "w" and bare(tokens[2]) in (ACT, *OF_WORKERS)
+
+
+def seat_reason(token):
+    """That a worker's number in a schedule is above 15; None where it isn't, or is no number."""
+    return "out of range" if not token.is_quoted and (number_of(token.text) or 0) > MOST_WORKER else None
 
 
 def read_request(line):
     """The request that a line is, without its newline; None of one without a token. Raises LineFault."""
     tokens = lexing.tokens_of(line)
-    if not tokens:
-        return None
+    return read_tokens(tokens) if tokens else None
+
+
+def read_tokens(tokens):
+    """The request that the tokens of a line are. Raises LineFault."""
     word = bare(tokens[0])
     if word == "w":
         return asked_of_worker(tokens[1:])

@@ -1,14 +1,15 @@
-"""A script's bytes, read whole: what the container is and what its tasks do, or the first line that is refused and why (docs/FORMATS.md, Script)."""
+"""A script's bytes, read whole: what the container is, what its tasks do and who steps, or the first line that is refused and why (docs/FORMATS.md, Script)."""
 from collections import namedtuple
 from dataclasses import dataclass, field
 
 from messages import operands
 from messages import script_words as words
 from messages.limits import MOST_STORED, Totals, own
-from messages.script_lines import FILTER, PROGRAM, SETTINGS, Line, Script, number_of
+from messages.script_lines import FILTER, PROGRAM, SCHEDULE, SETTINGS, Line, Script, number_of
 from real_workloads.script_text import CALLS, FIRST_ADDRESS, FIRST_PAGES, MOST_CALLS, MOST_DEPTH, MOST_FILTERS, MOST_INSTRUCTIONS, MOST_PAGES, MOST_STEPS, MOST_TASKS
 from stepping import filters, lexing
 from stepping.lexing import LineFault
+from stepping.requests import Asked, is_asking, read_tokens, seat_reason
 
 REASONS = (
     "bad byte", "bad quote", "unknown word", "out of place", "wrong count", "wrong form", "bad number", "out of range", "bad path", "unknown name", "duplicate", "unmapped",
@@ -21,6 +22,9 @@ DEFAULT_PIDS, DEFAULT_DESCRIPTORS = 32_768, 1024
 
 Node = namedtuple("Node", "directory name kind device target")
 Instruction = namedtuple("Instruction", "word operands")
+# how often a task steps, and a worker of this project's
+TaskSteps = namedtuple("TaskSteps", "name count")
+WorkerSteps = namedtuple("WorkerSteps", "number count")
 
 
 class Refused(Exception):
@@ -32,7 +36,7 @@ class Refused(Exception):
 
 @dataclass
 class Container:
-    """What a script states, but for its schedule."""
+    """What a script states. `front` are its lines before the schedule, and `schedule` the lines of that: TaskSteps, and either WorkerSteps or Asked."""
 
     nodes: list = field(default_factory=lambda: [Node(0, b"", "dir", None, None)])
     attributes: dict = field(default_factory=dict)
@@ -48,6 +52,8 @@ class Container:
     filters: list = field(default_factory=list)
     killable: bool = False
     programs: list = field(default_factory=list)
+    front: bytes = b""
+    schedule: list = field(default_factory=list)
 
     @property
     def pages(self):
@@ -64,6 +70,8 @@ class Reader:
         self.paths = {b"/": 0}
         self.program_places, self.totals = {}, {}
         self.tree_lines, self.steps = 0, 0
+        # which kinds of lines the schedule has
+        self.scheduled = set()
 
     # ---- which reasons a line shows
 
@@ -71,6 +79,9 @@ class Reader:
         """The reasons for which a line is refused, each by the first test that shows it."""
         if line.tokens[0].is_quoted or line.word not in words.FORMS:
             yield "unknown word"
+            return
+        if self.is_request(line):
+            yield from self.request_reasons(line)
             return
         if self.is_misplaced(line):
             yield "out of place"
@@ -87,13 +98,26 @@ class Reader:
         word, block = line.word, self.script.open
         if block is not None:
             ended = block.kind == PROGRAM and block.lines and block.lines[-1].word == "exit"
-            return word != "end" and bool(ended or word in words.BLOCKS or words.FORMS[word].part != block.kind)
+            mixed = word == "w" and Asked in self.scheduled
+            return word != "end" and bool(ended or mixed or word in words.BLOCKS or words.FORMS[word].part != block.kind)
         if word == "end" or self.script.schedule is not None:
             return True
         if self.script.part == SETTINGS:
             late = word == "pidmax" and self.script.named("pidbase")
             return bool(late) or (words.FORMS[word].part != SETTINGS)
         return word not in ("prog", "schedule")
+
+    # ---- what workers of another broker ask for
+
+    def is_request(self, line):
+        return self.script.open is not None and self.script.open.kind == SCHEDULE and is_asking(line.tokens)
+
+    def request_reasons(self, line):
+        """Why a worker's request is refused in a schedule."""
+        fault = fault_of(line)
+        yield from filter(None, ("out of place" if WorkerSteps in self.scheduled else None, fault, None if fault == "unknown word" else seat_reason(line.operands[0])))
+        if self.steps >= MOST_STEPS:
+            yield "too large"
 
     def reasons_above(self, line):
         """What a line shows beside those above it, all its operands being right by themselves."""
@@ -229,7 +253,10 @@ class Reader:
         self.container.filters.append((filters.notifying([CALLS[it.text] for it in line.operands]), True))
 
     def take_step(self, line):
+        """Notes a line of the schedule."""
         self.steps += count_of(line)
+        self.container.schedule.append(scheduled_by(line))
+        self.scheduled.add(type(self.container.schedule[-1]))
 
     def instruction(self, line):
         """An instruction of a program."""
@@ -269,7 +296,26 @@ def number(line, place):
 
 
 def count_of(line):
-    return number(line, 1) if len(line.operands) > 1 else 1
+    """How many steps a line of the schedule has; a request is one."""
+    return 1 if is_asking(line.tokens) or len(line.operands) == 1 else number(line, 1)
+
+
+def scheduled_by(line):
+    """What a line of the schedule states."""
+    if is_asking(line.tokens):
+        return read_tokens(line.tokens)
+    if line.word == "t":
+        return TaskSteps(tuple(map(int, line.operands[0].text.split("."))), count_of(line))
+    return WorkerSteps(number(line, 0), count_of(line))
+
+
+def fault_of(line):
+    """The reason that a worker's request shows by itself, or None."""
+    try:
+        read_tokens(line.tokens)
+    except LineFault as fault:
+        return str(fault)
+    return None
 
 
 def instruction_of(line):
@@ -325,4 +371,10 @@ def read_script(data):
         raise Refused(reader.script.open.opening.number, "not closed")
     if not reader.container.programs:
         raise Refused(0, "no program")
+    reader.container.front = front_of(data, reader.script.schedule)
     return reader.container
+
+
+def front_of(data, schedule):
+    """The lines of a text before the schedule, where there is one, each with its newline."""
+    return b"".join(raw + b"\n" for place, raw in lines_of(data) if schedule is None or place < schedule.opening.number)

@@ -6,6 +6,7 @@ from stepping.kernel import Kernel
 from stepping.lexing import LineFault
 from stepping.reports import line_of, report
 from stepping.requests import LONGEST, MOST_WORKER, read_request
+from stepping.turns import MOST_BYTES, MOST_EVENTS, script_text
 
 ADDFD, RESPONSE = struct.Struct("<QIIII"), struct.Struct("<QqiI")
 CONTINUE_FLAG, LOWEST_ERROR = 1, -4095
@@ -21,7 +22,7 @@ class Session:
         self.rules, self.kernel = rules, Kernel(container)
 
     def answer(self, line):
-        """What is written for a line, whose newline is dropped; a report's bytes with it."""
+        """What is written for a line, whose newline is dropped; the bytes of a report or a script with it."""
         try:
             return self.answered(line) + "\n" if len(line) <= LONGEST else "refused long line\n"
         except LineFault as fault:
@@ -35,18 +36,32 @@ class Session:
             raise Refused("empty line")
         if asked.worker > MOST_WORKER:
             raise Refused("worker")
-        if asked.word == "report":
-            text = report(self.kernel.events, self.rules)
-            return f"report {len(text)}\n{text[:-1]}"
+        if asked.word in TEXTS:
+            text = TEXTS[asked.word](self)
+            return f"{asked.word} {len(text)}\n{text[:-1]}"
         if self.kernel.is_closed:
             raise Refused("closed")
-        if asked.worker >= 0:
-            return OF_WORKERS[asked.word](self, asked.worker, *asked.operands)
-        return ALONE[asked.word](self, *asked.operands)
+        return self.done(asked) if asked.worker >= 0 else ALONE[asked.word](self, *asked.operands)
+
+    def done(self, asked):
+        """What comes of a worker's request. Raises Refused."""
+        return OF_WORKERS[asked.word](self, asked.worker, *asked.operands)
 
     def told(self, event):
         """The line of the newest event; `skip` where there is none."""
         return SKIP if event is None else line_of(len(self.kernel.events) - 1, event)
+
+    # ---- texts of many lines
+
+    def report(self):
+        return report(self.kernel.events, self.rules)
+
+    def script(self):
+        """The script that plays these events again."""
+        text = script_text(self.kernel.container.front, self.kernel.events)
+        if len(self.kernel.events) > MOST_EVENTS + self.kernel.is_closed or len(text) > MOST_BYTES:
+            raise Refused("full")
+        return text
 
     # ---- tasks and the listener
 
@@ -126,6 +141,7 @@ def told_by(deed):
     return lambda session, number, *operands: session.told(deed(session.kernel, number, *operands))
 
 
+TEXTS = {"report": Session.report, "script": Session.script}
 ALONE = {"able": Session.able, "t": Session.step, "close": Session.close}
 OF_WORKERS = {
     "recv": Session.receive, "recv-raw": Session.receive_into, "open-mem": Session.open_memory, "open-base": told_by(Kernel.open_base), "check": told_by(Kernel.check),
