@@ -101,6 +101,15 @@ const char *sb_answer(const struct sb_kernel *kernel);
  *   if (sb_report(kernel, &report, NULL) == 0) { fputs(report, stdout); free(report); } */
 int sb_report(struct sb_kernel *kernel, char **report, size_t *length);
 
+/* The script of what has happened so far, given as sb_report gives the report: the lines of the script before its schedule, and a schedule with each
+ * step of a task and each call of the broker that was an event. `seccomp-broker play` plays it, and prints the report that sb_report gives behind
+ * sb_close_listener. The script's own bytes are as they stand in its file; in a comment there may be a zero byte, so take the length.
+ *
+ *   -EFBIG  it would have more steps (200,000) or bytes (8,388,608) than a script may have
+ *
+ *   if (sb_script(kernel, &script, &length) == 0) { fwrite(script, 1, length, file); free(script); } */
+int sb_script(struct sb_kernel *kernel, char **script, size_t *length);
+
 /* ---- the container's tasks */
 
 /* Writes the names of the tasks that can step, with a blank between two, and returns 1 where sb_recv wouldn't wait, else 0: a notification is
@@ -120,7 +129,7 @@ int sb_able(struct sb_kernel *kernel, char *tasks, size_t size);
  *   while (sb_step(kernel, "0") == 0) ; */
 int sb_step(struct sb_kernel *kernel, const char *task);
 
-/* Closes the listener, as the end of the broker does. Behind it only sb_answer, sb_report and sb_close do something. */
+/* Closes the listener, as the end of the broker does. Behind it only sb_answer, sb_report, sb_script and sb_close do something. */
 int sb_close_listener(struct sb_kernel *kernel);
 
 /* ---- the listener: ioctl(2) with the requests of seccomp_unotify(2) */

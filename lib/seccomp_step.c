@@ -127,6 +127,7 @@ static const struct {
 } refusals[] = {
     {"no task", ESRCH},           {"worker", ECHRNG},      {"memory is open", EBUSY},  {"no memory is open", EBADF},
     {"request is put", EALREADY}, {"no request", ENOMSG},  {"closed", ESHUTDOWN},      {"long line", EMSGSIZE},
+    {"full", EFBIG},
 };
 
 /* The negated error of a result: 0 for `ok`, and -EPROTO for a word that is none. */
@@ -433,27 +434,36 @@ const char *sb_answer(const struct sb_kernel *kernel) {
   return kernel->answer.used == 0 ? "" : kernel->answer.bytes;
 }
 
-int sb_report(struct sb_kernel *kernel, char **report, size_t *length) {
-  *report = NULL;
-  add_format(request(kernel), "report");
+/* Asks for a text of many lines, whose length stands behind the word that is asked for. */
+static int ask_text(struct sb_kernel *kernel, const char *word, char **bytes, size_t *length) {
+  *bytes = NULL;
+  add(request(kernel), word, strlen(word));
   int error = ask(kernel);
   if (error != 0)
     return error;
-  const char *told = behind(kernel->answer.bytes, "report ");
+  const char *told = behind(kernel->answer.bytes, word);
   char *end;
   unsigned long long count = told == NULL ? 0 : strtoull(told, &end, 10);
-  if (told == NULL || end == told || *end != '\0' || count > SIZE_MAX / 4)
+  if (told == NULL || *told != ' ' || end == told || *end != '\0' || count > SIZE_MAX / 4)
     return broken(kernel, -EPROTO);
   error = read_bytes(kernel, (size_t)count);
   if (error != 0)
     return error;
-  *report = malloc((size_t)count + 1);
-  if (*report == NULL)
+  *bytes = malloc((size_t)count + 1);
+  if (*bytes == NULL)
     return -ENOMEM;
-  memcpy(*report, kernel->answer.bytes, (size_t)count + 1);
+  memcpy(*bytes, kernel->answer.bytes, (size_t)count + 1);
   if (length != NULL)
     *length = (size_t)count;
   return 0;
+}
+
+int sb_report(struct sb_kernel *kernel, char **report, size_t *length) {
+  return ask_text(kernel, "report", report, length);
+}
+
+int sb_script(struct sb_kernel *kernel, char **script, size_t *length) {
+  return ask_text(kernel, "script", script, length);
 }
 
 /* ---- tasks */

@@ -11,6 +11,7 @@
 #include <sys/stat.h>
 #include <sys/sysmacros.h>
 #include <sys/xattr.h>
+#include <unistd.h>
 
 static int failures;
 
@@ -216,6 +217,53 @@ static void test_effects(void) {
   WANTS(sb_close(kernel), 0);
 }
 
+/* A script as long as one may be, so that no schedule fits behind it. */
+static void write_longest(const char *path) {
+  static const char program[] = "prog main\nend\n";
+  FILE *file = fopen(path, "w");
+  if (file == NULL) {
+    perror(path);
+    exit(1);
+  }
+  for (size_t left = 8388608 - (sizeof program - 1); left > 1; left--)
+    fputc('#', file);
+  fprintf(file, "\n%s", program);
+  fclose(file);
+}
+
+static void test_script(void) {
+  struct sb_kernel *kernel = opened("calls.txt");
+  struct seccomp_notif notif = {0};
+  char *script;
+  size_t length;
+  run(kernel);
+  WANTS(sb_recv(kernel, 3, &notif), 0);
+  WANTS(sb_mknodat(kernel, 3, AT_FDCWD, "/dev/a \"b", S_IFIFO | 0600, 0), 0);
+  struct seccomp_notif_resp answer = {.id = 1, .error = -EPERM};
+  WANTS(sb_send(kernel, 3, &answer), 0);
+  WANTS(sb_script(kernel, &script, &length), 0);
+  if (script != NULL) {
+    static const char schedule[] = "\nend\nschedule\nt 0\nt 0\nw 3 recv\nw 3 act mknod \"/dev/a \\\"b\" 4480 0\nw 3 send 1 0 -1 0\nend\n";
+    WANTS(length, strlen(script));
+    WANTS(strncmp(script, "# A container that makes calls of each kind", 43), 0);
+    wants_text(__LINE__, length < sizeof schedule ? script : script + length - (sizeof schedule - 1), schedule);
+  }
+  free(script);
+  WANTS(sb_close_listener(kernel), 0);
+  WANTS(sb_script(kernel, &script, NULL), 0);
+  free(script);
+  WANTS(sb_close(kernel), 0);
+
+  char path[] = "/tmp/seccomp_step_test-XXXXXX";
+  close(mkstemp(path));
+  write_longest(path);
+  kernel = opened(path);
+  WANTS(sb_script(kernel, &script, NULL), -EFBIG);
+  WANTS(script == NULL, 1);
+  WANTS(sb_close(kernel), 0);
+  unlink(path);
+}
+
 static void test_ends(void) {
   struct sb_kernel *kernel = opened("calls.txt");
   char *report;
@@ -243,6 +291,7 @@ int main(void) {
   test_descriptors();
   test_memory();
   test_effects();
+  test_script();
   test_ends();
   return failures > 0;
 }

@@ -29,7 +29,7 @@ MOST_READ = 4096
 RESPONSE, ADDFD = struct.Struct("<QqiI"), struct.Struct("<QIIII")
 REFUSALS = {
     "no task": errno.ESRCH, "worker": errno.ECHRNG, "memory is open": errno.EBUSY, "no memory is open": errno.EBADF, "request is put": errno.EALREADY,
-    "no request": errno.ENOMSG, "closed": errno.ESHUTDOWN, "long line": errno.EMSGSIZE,
+    "no request": errno.ENOMSG, "closed": errno.ESHUTDOWN, "long line": errno.EMSGSIZE, "full": errno.EFBIG,
 }
 
 
@@ -185,13 +185,23 @@ class Kernel:
         except BlockingIOError:
             return
 
+    def text(self, word):
+        """The bytes of a text whose length stands behind its word."""
+        count = int(self.ask(word).split(" ")[1])
+        return self.channel.answers.read(count)
+
     def report(self):
         """The report so far, as `seccomp-broker play` prints it."""
-        count = int(self.ask("report").split(" ")[1])
-        return self.channel.answers.read(count).decode("latin-1")
+        return self.text("report").decode("latin-1")
+
+    def script(self):
+        """The script of what has happened so far, as the bytes of a file: the lines of the script before its schedule, and a schedule with each step of a task
+        and each request of a worker. `seccomp-broker play` plays it, and prints what report gives behind close_listener. Raises OSError with EFBIG where it
+        would have more steps or bytes than a script may have."""
+        return self.text("script")
 
     def close_listener(self):
-        """Closes the listener, as the end of the broker does. Behind it only report and close do something."""
+        """Closes the listener, as the end of the broker does. Behind it only report, script and close do something."""
         self.ask("close")
 
     def seat(self, worker):

@@ -3,6 +3,9 @@
 SECCOMP_BROKER names the program, if it isn't seccomp-broker on the PATH.
 """
 import errno
+import os
+import subprocess
+import tempfile
 import unittest
 from pathlib import Path
 
@@ -137,6 +140,32 @@ class OfCalls(unittest.TestCase):
         self.seat.setxattr("/log", "user.a", b"\0\xff")
         self.assert_fails(errno.ENODATA, self.seat.setxattr, "/log", "user.b", "", 2)
         self.assert_fails(errno.EMSGSIZE, self.seat.setxattr, "/log", "user.b", bytes(40_000))
+
+    def test_script(self):
+        """The script of a session has its steps and its requests, and plays to its report."""
+        list(self.kernel.steps("0"))
+        notif = self.seat.recv()
+        self.seat.mknodat('/dev/a "b', 0o010600)
+        self.seat.send(notif.id, error=errno.EPERM)
+        script = self.kernel.script()
+        wanted = b'schedule\nt 0\nt 0\nw 3 recv\nw 3 act mknod "/dev/a \\"b" 4480 0\nw 3 send 1 0 -1 0\nend\n'
+        self.assertEqual(script, (FOLDER / "calls.txt").read_bytes() + wanted)
+        self.kernel.close_listener()
+        self.assertEqual(self.kernel.script(), script)
+        with tempfile.TemporaryDirectory() as room:
+            Path(room, "script.txt").write_bytes(script)
+            words = [os.environ.get("SECCOMP_BROKER") or "seccomp-broker", "play", FOLDER / "policy.json", f"{room}/script.txt"]
+            played = subprocess.run(words, stdin=subprocess.DEVNULL, stdout=subprocess.PIPE, check=True)
+        self.assertEqual(played.stdout.decode("latin-1"), self.kernel.report())
+
+    def test_script_that_is_too_long(self):
+        """Behind the lines of a script that is as long as one may be no schedule fits."""
+        program = b"prog main\nend\n"
+        with tempfile.TemporaryDirectory() as room:
+            longest = Path(room, "script.txt")
+            longest.write_bytes(b"#" * (8_388_608 - len(program) - 1) + b"\n" + program)
+            with Kernel(FOLDER / "policy.json", longest) as kernel:
+                self.assert_fails(errno.EFBIG, kernel.script)
 
     def test_the_listener_is_closed(self):
         self.kernel.close_listener()

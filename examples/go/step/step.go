@@ -96,6 +96,7 @@ var errnos = map[string]syscall.Errno{
 var refusals = map[string]syscall.Errno{
 	"no task": syscall.ESRCH, "worker": syscall.ECHRNG, "memory is open": syscall.EBUSY, "no memory is open": syscall.EBADF, "request is put": syscall.EALREADY,
 	"no request": syscall.ENOMSG, "closed": syscall.ESHUTDOWN, "long line": syscall.EMSGSIZE,
+	"full": syscall.EFBIG,
 }
 
 // errnoNamed gives the error of a name as ENOENT or E999, or 0.
@@ -289,22 +290,34 @@ func (k *Kernel) Run(task string) error {
 
 // Report gives the report so far, as `seccomp-broker play` prints it.
 func (k *Kernel) Report() (string, error) {
-	answer, err := k.ask("report")
+	return k.text("report")
+}
+
+// Script gives the script of what has happened so far: the lines of the script before its schedule, and a schedule with each step of a task and
+// each request of a worker. `seccomp-broker play` plays it, and prints what Report gives behind CloseListener. EFBIG: it would have more steps or
+// bytes than a script may have.
+func (k *Kernel) Script() (string, error) {
+	return k.text("script")
+}
+
+// text gives a text whose length stands behind its word.
+func (k *Kernel) text(word string) (string, error) {
+	answer, err := k.ask(word)
 	if err != nil {
 		return "", err
 	}
-	length, err := strconv.Atoi(strings.TrimPrefix(answer, "report "))
+	length, err := strconv.Atoi(strings.TrimPrefix(answer, word+" "))
 	if err != nil || length < 0 {
 		return "", &Error{syscall.EPROTO, answer}
 	}
-	report := make([]byte, length)
-	if _, err := io.ReadFull(k.output, report); err != nil {
+	bytes := make([]byte, length)
+	if _, err := io.ReadFull(k.output, bytes); err != nil {
 		return "", &Error{syscall.EPIPE, "the program has ended"}
 	}
-	return string(report), nil
+	return string(bytes), nil
 }
 
-// CloseListener closes the listener, as the end of the broker does. Behind it only Report and Close do something.
+// CloseListener closes the listener, as the end of the broker does. Behind it only Report, Script and Close do something.
 func (k *Kernel) CloseListener() error {
 	_, err := k.ask("close")
 	return err

@@ -3,6 +3,7 @@ package step
 import (
 	"bytes"
 	"errors"
+	"os"
 	"strings"
 	"syscall"
 	"testing"
@@ -146,6 +147,39 @@ func TestEffects(t *testing.T) {
 	says(t, kernel, `5 w3 act setxattr "/log" "user.a" 00ff flags=0 ok`)
 	wants(t, "another one", seat.Setxattr("/log", "user.b", nil, 2), syscall.ENODATA)
 	wants(t, "a long one", seat.Setxattr("/log", "user.b", make([]byte, 40_000), 0), syscall.EMSGSIZE)
+}
+
+// The script of a session has its steps and its requests.
+func TestScript(t *testing.T) {
+	kernel, seat := calls(t, true)
+	notif, err := seat.Recv()
+	wants(t, "a notification", err, nil)
+	wants(t, "a node", seat.Mknodat(AtFdcwd, `/dev/a "b`, syscall.S_IFIFO|0o600, 0), nil)
+	wants(t, "an answer", seat.Send(Response{ID: notif.ID, Error: -int32(syscall.EPERM)}), nil)
+	script, err := kernel.Script()
+	if err != nil || !strings.HasSuffix(script, "\nend\nschedule\nt 0\nt 0\nw 3 recv\nw 3 act mknod \"/dev/a \\\"b\" 4480 0\nw 3 send 1 0 -1 0\nend\n") {
+		t.Error(script, err)
+	}
+	wants(t, "the listener is closed", kernel.CloseListener(), nil)
+	if again, err := kernel.Script(); err != nil || again != script {
+		t.Error(again, err)
+	}
+}
+
+// Behind the lines of a script that is as long as one may be no schedule fits.
+func TestScriptThatIsTooLong(t *testing.T) {
+	const program = "\nprog main\nend\n"
+	path := t.TempDir() + "/script.txt"
+	if err := os.WriteFile(path, []byte(strings.Repeat("#", 8_388_608-len(program))+program), 0o600); err != nil {
+		t.Fatal(err)
+	}
+	kernel, err := Open(folder+"policy.json", path)
+	if err != nil {
+		t.Fatal(err)
+	}
+	defer kernel.Close()
+	_, err = kernel.Script()
+	wants(t, "no schedule fits", err, syscall.EFBIG)
 }
 
 func TestEnds(t *testing.T) {

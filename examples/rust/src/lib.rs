@@ -47,6 +47,7 @@ pub mod errno {
     pub const ENOTDIR: i32 = 20;
     pub const EINVAL: i32 = 22;
     pub const EMFILE: i32 = 24;
+    pub const EFBIG: i32 = 27;
     pub const EPIPE: i32 = 32;
     pub const ERANGE: i32 = 34;
     pub const ENAMETOOLONG: i32 = 36;
@@ -101,7 +102,7 @@ const ERRORS: [(&str, i32); 23] = [
     ("EDQUOT", EDQUOT),
 ];
 
-const REFUSALS: [(&str, i32); 8] = [
+const REFUSALS: [(&str, i32); 9] = [
     ("no task", ESRCH),
     ("worker", ECHRNG),
     ("memory is open", EBUSY),
@@ -110,6 +111,7 @@ const REFUSALS: [(&str, i32); 8] = [
     ("no request", ENOMSG),
     ("closed", ESHUTDOWN),
     ("long line", EMSGSIZE),
+    ("full", EFBIG),
 ];
 
 /// A notification (`struct seccomp_notif`).
@@ -334,15 +336,27 @@ impl Kernel {
 
     /// The report so far, as `seccomp-broker play` prints it.
     pub fn report(&mut self) -> io::Result<String> {
-        let Some(length) = self.ask(b"report")?.strip_prefix("report ").and_then(|count| count.parse().ok()) else {
-            return failed(EPROTO);
-        };
-        let mut report = vec![0; length];
-        self.output.read_exact(&mut report)?;
-        String::from_utf8(report).or_else(|_| failed(EPROTO))
+        String::from_utf8(self.text("report ")?).or_else(|_| failed(EPROTO))
     }
 
-    /// Closes the listener, as the end of the broker does. Behind it only a report and the close of the kernel do something.
+    /// The script of what has happened so far, as the bytes of a file: the lines of the script before its schedule, and a schedule with each step of a task and
+    /// each request of a worker. `seccomp-broker play` plays it, and prints what [`Kernel::report`] gives behind [`Kernel::close_listener`]. `EFBIG`: it would
+    /// have more steps or bytes than a script may have.
+    pub fn script(&mut self) -> io::Result<Vec<u8>> {
+        self.text("script ")
+    }
+
+    /// The bytes of a text whose length stands behind its word and a blank.
+    fn text(&mut self, word: &str) -> io::Result<Vec<u8>> {
+        let Some(length) = self.ask(word.trim_end().as_bytes())?.strip_prefix(word).and_then(|count| count.parse().ok()) else {
+            return failed(EPROTO);
+        };
+        let mut text = vec![0; length];
+        self.output.read_exact(&mut text)?;
+        Ok(text)
+    }
+
+    /// Closes the listener, as the end of the broker does. Behind it only a report, a script and the close of the kernel do something.
     pub fn close_listener(&mut self) -> io::Result<()> {
         self.ask(b"close").map(drop)
     }

@@ -105,6 +105,31 @@ fn effects() {
     fails(kernel.seat(0).setxattr(b"/log", b"user.b", &[0; 40_000], 0), EMSGSIZE);
 }
 
+/// The script of a session has its steps and its requests.
+#[test]
+fn script() {
+    let mut kernel = asked();
+    let notif = kernel.seat(3).recv().unwrap();
+    kernel.seat(3).mknodat(AT_FDCWD, b"/dev/a \"b", FIFO, 0).unwrap();
+    kernel.seat(3).send(&Response { id: notif.id, error: -EPERM, ..Response::default() }).unwrap();
+    let script = kernel.script().unwrap();
+    let schedule = b"\nend\nschedule\nt 0\nt 0\nw 3 recv\nw 3 act mknod \"/dev/a \\\"b\" 4534 0\nw 3 send 1 0 -1 0\nend\n";
+    assert!(script.ends_with(schedule), "{}", String::from_utf8_lossy(&script));
+    kernel.close_listener().unwrap();
+    assert_eq!(kernel.script().unwrap(), script);
+}
+
+/// Behind the lines of a script that is as long as one may be no schedule fits.
+#[test]
+fn script_that_is_too_long() {
+    const PROGRAM: &str = "\nprog main\nend\n";
+    let path = std::env::temp_dir().join(format!("seccomp-step-{}.txt", std::process::id()));
+    std::fs::write(&path, "#".repeat(8_388_608 - PROGRAM.len()) + PROGRAM).unwrap();
+    let mut kernel = opened(path.to_str().unwrap());
+    std::fs::remove_file(&path).unwrap();
+    fails(kernel.script(), EFBIG);
+}
+
 #[test]
 fn ends() {
     let mut kernel = opened(CALLS);
