@@ -80,10 +80,11 @@ class Played:
     digest: bytes = b""
     told: Optional[Told] = None
     trouble: Optional[Trouble] = None
-    # of a run that is told: what was asked, how much of it leads to the broken clause, the report, and what the broker has written
+    # of a run that is told: what was asked, how much of it leads to the broken clause, the report, the script that plays to it, if there is one, and what the broker has written
     session: List[Asked] = field(default_factory=list)
     shown: int = 0
     report: str = ""
+    script: str = ""
     output: bytes = b""
 
 
@@ -174,14 +175,15 @@ class Run:
             self.played.told = Told(fault.clause.name, fault.gravity.value, task, entry.ordinal if entry else 0, fault.text(state.events))
         if fault is not None or self.played.trouble is not None:
             self.played.session = self.kernel.session
-            self.played.report = self.report()
+            self.played.report, self.played.script = self.texts()
             self.played.output = b"".join(instance.output for instance in self.instances)
 
-    def report(self):
+    def texts(self):
+        """The report of the whole run, and the script that plays to it; empty where that would be longer than a script may be."""
         session: Session = self.kernel.follower.session
         if not self.kernel.state.is_closed:
             session.answer(b"close")
-        return session.answer(b"report").partition("\n")[2]
+        return tuple(session.answer(word).partition("\n")[2] for word in (b"report", b"script"))
 
     def trouble(self, kind, text):
         if self.played.trouble is None:

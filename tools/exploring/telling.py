@@ -63,7 +63,8 @@ def save(folder, explored: Explored):
 
 def save_one(place, played):
     place.mkdir(parents=True, exist_ok=True)
-    (place / "requests.txt").write_bytes(requests_of(played))
+    if played.script:
+        (place / "script.txt").write_bytes(played.script.encode("latin-1"))
     (place / "session.txt").write_bytes(session_text(played.session))
     (place / "report.txt").write_text(played.report, encoding="latin-1")
     (place / "output.txt").write_bytes(played.output)

@@ -28,6 +28,10 @@ class Files(NamedTuple):
     def words(self, program):
         return [program, "step", self.policy, self.script]
 
+    def rules(self):
+        with open(self.policy, "rb") as policy:
+            return policies.read_policy(policy.read())
+
 
 def folders(top):
     """The folders of cases and examples with a policy and a script that are taken."""
@@ -36,6 +40,14 @@ def folders(top):
             files = Files(f"{top}/{part}/{name}/policy.json", f"{top}/{part}/{name}/script.txt")
             if all(map(os.path.isfile, files)) and is_taken(files):
                 yield f"{part}/{name}", files
+
+
+def play_ended(program, files, script, room):
+    """How a play of a script ends under the policy of files: its status, its output, and its line on standard error. It is written to a folder."""
+    with open(f"{room}/script.txt", "wb") as file:
+        file.write(script)
+    ended = subprocess.run([program, "play", files.policy, f"{room}/script.txt"], stdin=subprocess.DEVNULL, capture_output=True, timeout=PATIENCE)
+    return ended.returncode, ended.stdout, ended.stderr
 
 
 def is_taken(files):

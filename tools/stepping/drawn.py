@@ -204,3 +204,9 @@ DEEDS = (
 def drawn(session, seed):
     """The requests of a session, and their answers."""
     return Chooser(session, random.Random(seed)).draw()
+
+
+def script_and_report(session):
+    """The script of a drawn session, and the report that a play of it has to give."""
+    report, script = (answer.encode("latin-1").partition(b"\n")[2] for answer in session.answers[-2:])
+    return script, report

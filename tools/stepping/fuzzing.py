@@ -8,6 +8,31 @@ MANY = 100_000
 ROUNDS = 12
 
 
+# lines that may stand in a schedule, or may not
+OF_SCHEDULES = (
+    b"w 0 9", b"w 15", b"w 16", b"w 0 0", b"w", b"w 0 frob", b"w 0 able", b"w 0 act", b"w 0 act frob", b"w 0 act close", b'w 0 "recv"', b"w 16 recv", b"w 16 check", b"w 99 let-go",
+    b"w x recv", b"w -1 recv", b"w 18446744073709551616 recv", b"w 0 recv 1", b"w 0 recv", b"w 0 check", b"w 0 check x", b"w 16 check x", b"w 0 read 65536 65536", b"w 0 read 65536 256",
+    b"w 0 act mknod /a 0 0", b'w 0 act mknod "/a\\0" 0 0', b'w 0 act mount "a" "/" "c" 0 "" over "p"', b'w 16 act mount "a" "/" "c" 0 "" over "p"', b'w 0 act mount "a" "/" "c" 0 "" shifted',
+    b'w 0 act mount "a" "/" "c" 0 "" via "p" shift', b"w 0 plant 65536 00", b"w 0 plant 65536 " + b"0g" * 112, b"w 0 send-raw " + b"00" * 24, b"w 0 recv-raw " + b"01" * 80,
+    b"w 0 recv-raw " + b"00" * 80, b"w 0 addfd-raw " + b"ff" * 24, b"w 0 send 1 0 1 0", b"w 0 send 1 0 -9999 0", b"w 0 addfd 1 0 5 7 0", b"w 0 addfd-result", b"t 0 3", b"t 0.9", b"t 0.0", b"able",
+    b"report", b"script", b"close", b"end", b"schedule", b"poke 0 \"a\"", b"recv", b"# w 0 9", b"", b"w 0 let-go\r",
+)
+
+
+def changed_script(chance, script):
+    """The script of a session with some lines of its schedule cut, changed, dropped or moved, or with others between them."""
+    at = script.index(b"\nschedule\n") + len(b"\nschedule\n") if b"\nschedule\n" in script else len(b"schedule\n")
+    lines = script[at:].split(b"\n")[:-1]
+    for _ in range(chance.choice((1, 1, 2, 4))):
+        place = chance.randrange(len(lines))
+        line, cut = lines[place], chance.randrange(len(lines[place]) + 1)
+        other = chance.choice(OF_SCHEDULES)
+        lines[place:place + 1] = chance.choice((
+            [other, line], [other, line], [other, line], [], [line, line], [line[:cut]], [line[:cut] + bytes([chance.choice((32, 34, 48, 57, 92, 120))]) + line[cut:]], [chance.choice(lines), line],
+        )) or ([line] if len(lines) == 1 else [])
+    return script[:at] + b"".join(line + b"\n" for line in lines)
+
+
 def random_lines(chance, _):
     """Bytes of any value."""
     return bytes(chance.choice((chance.randrange(256), chance.randrange(32, 127), 10)) for _ in range(30_000)).split(b"\n")

@@ -1,7 +1,10 @@
 """The play of a script's schedule, where that has no steps of this project's own worker."""
+from stepping import scripts
 from stepping.requests import Asked
 from stepping.scripts import WorkerSteps
 from stepping.sessions import Refused, Session
+
+BAD_SCRIPT = 5
 
 
 class NotPlayed(Exception):
@@ -22,6 +25,18 @@ def play(rules, container):
             let_step(session.kernel, line, skips)
     session.kernel.close()
     return session.report()
+
+
+def ended_slowly(files, script):
+    """How a play of a script has to end under the policy of files: its status, its output, and its line on standard error. None where that isn't known here."""
+    try:
+        container = scripts.read_script(script)
+    except scripts.Refused as refused:
+        return BAD_SCRIPT, b"", f"script: {refused}\n".encode()
+    try:
+        return 0, play(files.rules(), container).encode("latin-1"), b""
+    except NotPlayed:
+        return None
 
 
 def ask(session, asked):
