@@ -42,7 +42,7 @@ class Likely:
     def octal_numbers(self):
         for line in self.statements():
             for place, token in enumerate(line.operands):
-                if not token.is_quoted and form_of(line).operand(place).kind not in ("program", "task") and is_like_octal(token.text):
+                if not token.is_quoted and form_of(line).operand(place).kind not in ("program", "task", "hex") and is_like_octal(token.text):
                     octal = f"0o{token.text}"
                     yield self.finding("leading-zero", line, token, f"{token.text} is the decimal number {number_of(token.text)} here; in C it would be octal, {number_of(octal)}",
                                        f"write `{octal}` for the octal number, or `{number_of(token.text)}` for the decimal one")

@@ -1,6 +1,7 @@
 """Which limit of a script a line exceeds, as docs/FORMATS.md has them (Limits)."""
 from dataclasses import dataclass
 
+from messages.requests import is_request
 from messages.script_lines import START, number_of
 from messages.script_words import MOST_BROKER, MOST_PROGRAMS, MOST_TREE_LINES, TREE
 from real_workloads.script_text import MOST_CALLS, MOST_DEPTH, MOST_FILTERS, MOST_INSTRUCTIONS, MOST_PAGES, MOST_STEPS, MOST_TASKS
@@ -67,6 +68,6 @@ def exceeded(script, line):
     if line.word == "prog":
         return f"this is program number {MOST_PROGRAMS + 1}", f"a script has at most {MOST_PROGRAMS}"
     if line.word in ("t", "w"):
-        steps = sum(number_of(it.operands[1].text) if len(it.operands) > 1 else 1 for it in [*script.open.lines, line])
+        steps = sum(1 if is_request(it) or len(it.operands) == 1 else number_of(it.operands[1].text) for it in [*script.open.lines, line])
         return f"the schedule has {steps} steps up to here", f"a schedule has at most {MOST_STEPS}"
     return None

@@ -1,8 +1,11 @@
 """What is wrong with an operand of a script's line, and what would be right. Which reason an operand shows is as the program tells it (docs/FORMATS.md, Refusals of a script)."""
+import errno
 import re
 
+from messages import requests
 from messages import script_words as words
 from messages.findings import advice, joined, listed, meant
+from messages.policy_words import ERRORS
 from messages.script_lines import NUMBER, Token, is_task, number_of
 
 WRONG_FORM, BAD_NUMBER, OUT_OF_RANGE, BAD_PATH, UNKNOWN_NAME = "wrong form", "bad number", "out of range", "bad path", "unknown name"
@@ -11,10 +14,28 @@ OF_CALLS = "`call` takes numbers: store the text with `poke ADDRESS \"TEXT\\0\"`
 
 
 def form_of(line):
-    """The form of a line, by its word; of `kill` by the word behind it too."""
+    """The form of a line, by its word; of `kill` by the word behind it too, and of a worker's request by what is asked for."""
+    if requests.is_request(line) and requests.form_of(line):
+        return requests.form_of(line)
     if line.word == "kill" and line.operands and line.operands[0].text in words.KILL_WITH_NUMBER:
         return words.KILL_WITH_NUMBER[line.operands[0].text]
     return words.FORMS[line.word]
+
+
+def named(line):
+    """What a line is called in a sentence: its word, or what a worker asks for."""
+    form = form_of(line)
+    return form.words if isinstance(form, requests.Request) else line.word
+
+
+def words_among(line):
+    """How many of the tokens behind a line's first word are no operands: a worker's number, and the words of what it asks for."""
+    form = form_of(line)
+    return 1 + len(form.words.split(" ")) if isinstance(form, requests.Request) else 0
+
+
+def has_words_alone(form):
+    return not form.operands or (isinstance(form, requests.Request) and not form.behind)
 
 
 def is_counted(line):
@@ -57,7 +78,15 @@ def begins_number(text):
     return text[:1] in ("-", *"0123456789")
 
 
-KNOWN = {"call name": words.CALL_NAMES, "disposition": words.DISPOSITIONS, "listener": ("listener",), "whom": words.WHOM}
+KNOWN = {"call name": words.CALL_NAMES, "disposition": words.DISPOSITIONS, "listener": ("listener",), "whom": words.WHOM, "via": ("via",), "shift": ("shift",)}
+DIGITS = re.compile(r"[0-9a-fA-F]*")
+
+
+def hex_reason(operand, digits):
+    """Why digits aren't the bytes of a structure; how many they are is looked at first."""
+    if len(digits) != 2 * operand.most:
+        return OUT_OF_RANGE
+    return None if DIGITS.fullmatch(digits) else BAD_NUMBER
 
 
 def reason_of(operand, token):
@@ -66,6 +95,10 @@ def reason_of(operand, token):
         return text_reason(operand, token.content) if token.is_quoted and operand.is_quoted else WRONG_FORM
     if operand.kind == "program":
         return None if len(token.text) <= operand.most else OUT_OF_RANGE
+    if operand.kind == "literal":
+        return None
+    if operand.kind == "hex":
+        return hex_reason(operand, token.text)
     if operand.kind in KNOWN:
         return None if token.text in KNOWN[operand.kind] else UNKNOWN_NAME
     if operand.kind == "task":
@@ -91,12 +124,14 @@ def wrong_form(line, token, operand):
         text = token.text.strip("'`")
         if token.text[:1] in "'`":
             return f"{operand.called} is in quotes of another kind", f'write `"{text}"`'
-        return f"{operand.called} of `{line.word}` isn't in double quotes", f'write `"{text}"`'
+        return f"{operand.called} of `{named(line)}` isn't in double quotes", f'write `"{text}"`'
     if line.word == "call":
         return "a text stands where a call takes an address or a number", OF_CALLS
     inner = Token(token.text[1:-1], token.start + 1, token.end - 1)
     form = form_of(line)
-    return f"{operand.called} of `{line.word}` is in quotes", f"the line is `{form.usage}`, as in `{form.example}`" if reason_of(operand, inner) else f"write `{inner.text}`"
+    if operand.name == "COUNT" and line.word == "w":
+        return f"{token.text} is in quotes", requests.A_REQUEST
+    return f"{operand.called} of `{named(line)}` is in quotes", f"the line is `{form.usage}`, as in `{form.example}`" if reason_of(operand, inner) else f"write `{inner.text}`"
 
 
 def packed(major, minor):
@@ -151,9 +186,19 @@ def bad_number(line, token, operand, script):
     text = token.text
     if operand.kind == "task":
         return bad_task(text, script)
+    if operand.kind == "hex":
+        at = DIGITS.match(text).end()
+        return f"{text[at]} is no hexadecimal digit", "the bytes of a structure are written as they lie in memory, two digits for each"
+    if operand.name == "COUNT" and requests.no_count(line):
+        return requests.no_count(line)
+    of_answer = answer_of(operand, text)
+    if of_answer:
+        return f"{text} is no number", f"write `{of_answer}`; `{form_of(line).usage}` has the fields of a struct seccomp_notif_resp"
     device = re.fullmatch(r"(\d{1,9})[:,](\d{1,9})", text, re.ASCII)
     if device:
         major, minor = int(device[1]), int(device[2])
+        if operand is requests.DEV:
+            return f"{text} is no number", f"a request has a device as one number, as makedev(3) packs it: `{packed(major, minor)}` is {major}:{minor}"
         if line.word in ("chr", "blk"):
             return f"{text} is no number", f"the two numbers of a device stand apart: `{major} {minor}`"
         if line.word == "call":
@@ -171,7 +216,16 @@ def bad_number(line, token, operand, script):
         return f"{text} is no number", "an octal number has the digits 0 to 7 alone"
     if NUMBER.match(text) and re.fullmatch(r"-?(?:0[xo])?[0-9a-fA-F]+", text):
         return f"{text} is no number", f"{HOW}, with at most 20, 16 or 22 digits"
-    return f"{text} is no number", f"{HOW}; {operand.called} of `{line.word}` is one, as in `{form_of(line).example}`"
+    return f"{text} is no number", f"{HOW}; {operand.called} of `{named(line)}` is one, as in `{form_of(line).example}`"
+
+
+def answer_of(operand, text):
+    """The number that a name of an error, or of a flag, stands for in an answer; None where it isn't one."""
+    if operand.name == "ERROR" and text.lstrip("-") in ERRORS:
+        return -getattr(errno, text.lstrip("-"))
+    if operand is requests.SMALL_FLAGS and text.lower() in ("continue", "seccomp_user_notif_flag_continue"):
+        return 1
+    return None
 
 
 def bad_task(text, script):
@@ -190,6 +244,9 @@ def bad_task(text, script):
     return f"{text} is no task's name", rule
 
 
+POWERS = {-(2**63): "-2^63", 2**63 - 1: "2^63 - 1", words.WIDE: "2^64 - 1"}
+
+
 def span(operand):
     """The range of a number, in words."""
     if operand.kind == "page":
@@ -197,8 +254,7 @@ def span(operand):
     if operand.kind in ("signal", "handled"):
         numbers = words.SIGNALS if operand.kind == "signal" else words.HANDLED
         return joined((f"{number} ({name})" for name, number in words.NAMES_OF_SIGNALS.items() if number in numbers), "or")
-    least = "-2^63" if operand.least == -(2**63) else operand.least
-    return f"{least} to {'2^64 - 1' if operand.most == words.WIDE else operand.most}"
+    return f"{POWERS.get(operand.least, operand.least)} to {POWERS.get(operand.most, operand.most)}"
 
 
 def out_of_range(line, token, operand):
@@ -206,6 +262,8 @@ def out_of_range(line, token, operand):
         return text_out_of_range(line, token, operand)
     if operand.kind == "program":
         return f"the name has {len(token.text)} bytes", "a program's name has at most 64"
+    if operand.kind == "hex":
+        return requests.hex_out_of_range(token, operand)
     number = number_of(token.text)
     if operand.kind == "page" and 0 <= number < END_OF_ADDRESSES:
         return f"{token.text} isn't the address of a page", f"a page begins at {span(operand)}: write `{hex(number - number % PAGE)}` or `{hex(number - number % PAGE + PAGE)}`"
@@ -214,7 +272,7 @@ def out_of_range(line, token, operand):
     if line.word == "map" and operand.name == "N" and number % PAGE == 0 and 1 <= number // PAGE <= operand.most:
         return f"{token.text} is outside of the range of N", f"N of `map` counts pages of {PAGE} bytes: write `{number // PAGE}`"
     octal = f"; in C {token.text} is octal, which is written `0o{token.text}` here" if is_like_octal(token.text) else ""
-    return f"{token.text} is outside of the range of {operand.name}", f"{operand.name} of `{line.word}` is {span(operand)}{octal}"
+    return f"{token.text} is outside of the range of {operand.name}", f"{operand.name} of `{named(line)}` is {span(operand)}{octal}"
 
 
 def is_like_octal(text):
@@ -226,7 +284,7 @@ def text_out_of_range(line, token, operand):
     if not operand.zeros and b"\0" in token.content:
         hint = "leave out the `\\0` at its end: only the bytes of `poke` need one" if token.content.endswith(b"\0") else "leave it out"
         return f"a zero byte stands in {operand.name}", hint
-    return f"{operand.name} has {len(token.content)} bytes", f"{operand.name} of `{line.word}` has {operand.least} to {operand.most}"
+    return f"{operand.name} has {len(token.content)} bytes", f"{operand.name} of `{named(line)}` has {operand.least} to {operand.most}"
 
 
 def bad_path(token):
@@ -258,6 +316,8 @@ def unknown_name(line, token, operand, script):
     text = token.text
     if operand.kind in ("call", "call name"):
         return unknown_call(line, text)
+    if operand.kind in ("via", "shift"):
+        return f"{text} stands in the place of `{operand.kind}`", "behind a mount's data stand `shift`, `via \"PROGRAM\"`, or both in the order `via \"PROGRAM\" shift`"
     if operand.kind == "whom":
         number = f"write `kill pid {text} ..` for a PID. " if text.isdecimal() else meant(text, words.WHOM)
         return f"`kill` knows nobody named {text}", advice(number, f"it is {listed(words.KILL_FORMS, 'or')}")

@@ -11,6 +11,7 @@ from messages.findings import Text, filled, message, near, shown
 READ_FAULT, TOO_LONG = re.compile(r"read fault: (policy|script|calls|report|requests)"), re.compile(r"too long: (policy|script|calls|report)")
 OVERLAP = re.compile(r"pod: pids overlap: (\d+) (\d+)")
 POLICY, SCRIPT, CONTAINER = re.compile(r"policy: (.*)", re.S), re.compile(r"script: line (\d+): (.*)"), re.compile(r"container (\d): (.*)", re.S)
+REQUESTS = re.compile(r"script: requests in the schedule")
 CALLS, REPORT, USAGE = re.compile(r"calls: line (\d+): (.*)"), re.compile(r"report: line (\d+)"), re.compile(r"usage: .*")
 OPTIONS = ("--explain", "--help", "-h")
 LIMITS = {"policy": 1_048_576, "script": 8_388_608, "calls": 8_388_608, "report": 33_554_432}
@@ -129,6 +130,8 @@ class Said:
         policy, script, asked, report = (form.fullmatch(line) for form in (POLICY, SCRIPT, CALLS, REPORT))
         if policy:
             return explained_text(files["policy"], lambda data: policies.finding_of(data, policy[1]))
+        if REQUESTS.fullmatch(line):
+            return explained_text(files["script"], scripts.finding_of_requests)
         if script:
             return explained_text(files["script"], lambda data: scripts.finding_of(data, int(script[1]), script[2]))
         if asked:

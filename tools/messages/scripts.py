@@ -1,7 +1,7 @@
 """Explains why the program refuses a script: the line and the reason that it named lead to the place, to what is wrong and to what would be right."""
 import re
 
-from messages import filters, limits, operands
+from messages import filters, limits, operands, requests
 from messages import script_words as words
 from messages.findings import Text, advice, listed, meant, whole_file
 from messages.script_lines import FILTER, PROGRAM, SCHEDULE, SETTINGS, Line, LineFault, number_of, script_of, tokens_of
@@ -64,6 +64,10 @@ def unknown_word(asked):
         return asked.on_word("a line begins with a word, and this is a quoted text", "write the word without quotes, as in `poke 0x10000 \"/null\\0\"`")
     if text.startswith(("//", ";", "--", "/*")):
         return asked.on_word(f"{text} begins no comment here", "a comment is a line of its own that begins with `#`")
+    if requests.is_request(asked.line):
+        return asked.at(asked.line.operands[2], requests.unknown_call(asked.line.operands[2]))
+    if asked.script.part == SCHEDULE and of_session(asked):
+        return asked.on_word(*of_session(asked))
     if text in words.CALL_NAMES:
         return asked.on_word(f"{text} is the name of a call, and no word of a script", f"a program makes a call by `call {text} ..`; a filter notifies it by `notify {text}`")
     if re.fullmatch(r"[wt]\d[\d.]*", text):
@@ -73,6 +77,20 @@ def unknown_word(asked):
     other = words.OTHER_WORDS.get(text.lower())
     hint = f"did you mean `{other}`? " if other else meant(text, known) or meant(text, words.FORMS)
     return asked.on_word(f"{text} is no word of a script", advice(hint, belongs_to(part, known)))
+
+
+def of_session(asked):
+    """What is wrong with a line of a session, or of a report, in a schedule; None of another line."""
+    text, whole = asked.first.text, asked.text.line(asked.number).strip()
+    if requests.OF_SESSION.fullmatch(text):
+        return f"`{text}` stands before a line of a session", "a schedule has the requests alone: leave out `> `, and the lines of answers, which begin with `< `"
+    if text in requests.OF_SESSIONS:
+        return f"`{text}` is a request of `step`, and no step", f"leave the line out: {requests.OF_SESSIONS[text]}"
+    event = requests.OF_JOURNAL.match(whole)
+    if event:
+        right = f"write `t {event[2]}`" if event[1] == "t" else f"write `w {event[2]}` and what the worker asked for, as `w {event[2]} recv`"
+        return "this is a line of a journal", f"{right}; `script` of `step` prints a session as a script"
+    return None
 
 
 def belongs_to(part, known):
@@ -93,6 +111,9 @@ def out_of_place(asked):
     ended = next((line for line in block.lines if line.word == "exit"), None)
     if block.kind == PROGRAM and ended:
         return asked.on_word(f"nothing follows the `exit` of line {ended.number}", f"close the program by `end`, or remove the `exit`: a program exits at its end")
+    if block.kind == SCHEDULE and word == "w":
+        other = next(line for line in block.lines if line.word == "w" and requests.is_request(line) != requests.is_request(asked.line))
+        return asked.on_word(*requests.mixed(asked.line, other))
     inside = f"the {block.kind} of line {block.opening.number} isn't closed yet"
     if word in words.BLOCKS:
         return asked.on_word(f"{inside}, and `{word}` opens another block", "put `end` before this line")
@@ -120,20 +141,25 @@ def misplaced(asked, word, script):
 
 def wrong_count(asked):
     line, form = asked.line, operands.form_of(asked.line)
+    if requests.is_request(line) and requests.form_of(line) is None:
+        return asked.at(line.operands[1], requests.no_call())
+    if requests.no_count(line):
+        return asked.at(line.operands[1], requests.no_count(line))
     if operands.is_counted(line):
         return None
     tokens = line.operands
     few = len(tokens) < form.fewest
     start = tokens[form.most].start if not few else line.tokens[-1].start
-    count = f"{len(tokens)} {'operand' if len(tokens) == 1 else 'operands'}" if tokens else "no operand"
+    number = len(tokens) - operands.words_among(line)
+    count = f"{number} {'operand' if number == 1 else 'operands'}" if number else "no operand"
     if line.word == "kill" and not (tokens and tokens[0].text in words.WHOM):
         form_text = f"it is {listed(words.KILL_FORMS, 'or')}"
     elif line.word == "poke" and not few and not tokens[1].is_quoted:
         form_text = 'put the bytes into double quotes, as `poke 0x10000 "/dev/null\\0"`'
     else:
         usage = form.usage if not form.operands or line.word != "kill" else f"kill {tokens[0].text} " + " ".join(it.name for it in form.operands[1:])
-        form_text = f"the line is `{usage}`, as in `{form.example}`" if form.operands else f"the line is `{usage}` alone"
-    return (start, line.tokens[-1].end, f"`{line.word}` has {count} here, which is too {'few' if few else 'many'}", form_text)
+        form_text = f"the line is `{usage}` alone" if operands.has_words_alone(form) else f"the line is `{usage}`, as in `{form.example}`"
+    return (start, line.tokens[-1].end, f"`{operands.named(line)}` has {count} here, which is too {'few' if few else 'many'}", form_text)
 
 
 def of_operand(reason, explain):
@@ -291,6 +317,18 @@ def place_and_words(asked, reason):
         return (comment.start, len(asked.text.line(asked.number).rstrip("\r")), "a comment stands behind a statement", "a comment is a line of its own that begins with `#`: put it above this line")
     explain = REASONS.get(reason)
     return explain(asked) if explain else None
+
+
+def finding_of_requests(data):
+    """What it means that a word refuses a schedule, since a worker of another broker asks for something there."""
+    text = Text(data)
+    schedule = script_of(text).schedule
+    line = next((it for it in schedule.lines if requests.is_request(it)), None) if schedule else None
+    if line is None:
+        return None
+    start = text.starts[line.number - 1]
+    return text.finding("requests-in-the-schedule", start + line.tokens[0].start, start + line.tokens[-1].end, "this is what a worker of another broker asks for",
+                        "`handover` replaces this project's own worker, whose steps are counted, as in `w 0 9`; `play` plays this schedule")
 
 
 def finding_of(data, number, reason):
