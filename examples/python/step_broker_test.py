@@ -2,7 +2,9 @@
 
 SECCOMP_BROKER names the program, if it isn't seccomp-broker on the PATH.
 """
+import contextlib
 import errno
+import itertools
 import os
 import subprocess
 import tempfile
@@ -64,6 +66,30 @@ class OfBroker(unittest.TestCase):
 
     def test_ends_well(self):
         self.assertEqual(self.kernel.close(), 0)
+
+
+class Replayed(Kernel):
+    """The kernel of a script that was kept: before each call of the broker the tasks step that stand before such a line there."""
+
+    def __init__(self, policy, script):
+        self.lines = iter(Path(script).read_text("latin-1").partition("\nschedule\n")[2].split("\n"))
+        super().__init__(policy, script)
+
+    def ask(self, request):
+        if request[:2] == b"w ":
+            for line in itertools.takewhile(lambda line: line[:2] == "t ", self.lines):
+                with contextlib.suppress(BlockingIOError):
+                    super().ask(line)
+        return super().ask(request)
+
+
+class OfKeptRaces(unittest.TestCase):
+    def test_caller_dies_during_the_copy(self):
+        """The tasks step where they did when a broker made a node for a caller that was gone; this one finds that."""
+        with Replayed(FOLDER / "policy.json", FOLDER / "race.txt") as kernel:
+            seat = kernel.seat(0)
+            self.assertRaises(CallerGone, serve, seat, seat.recv())
+            self.assertNotIn(" act ", kernel.report())
 
 
 class OfCalls(unittest.TestCase):
