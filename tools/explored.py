@@ -12,6 +12,8 @@ from container_tree import fates
 
 MOST_STEPS = 200_000
 MOST_EVENTS = 100_000_000
+# what a worker asks for; no other line of a script is like it
+REQUEST = re.compile(rb"^[ \t]*w[ \t]+\S+[ \t]+[a-z]", re.M)
 
 
 class NotPlayed(Exception):
@@ -38,6 +40,11 @@ class Broker:
         if ended.returncode != 0:
             raise NotPlayed(ended.stderr.decode(errors="replace").strip() or f"status {ended.returncode}")
         return ended.stdout.decode("latin-1")
+
+
+def has_requests(script):
+    """Whether a script's schedule says what the workers of another broker ask for."""
+    return REQUEST.search(script) is not None
 
 
 def without_schedule(script):
