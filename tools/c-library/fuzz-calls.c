@@ -518,7 +518,7 @@ static bool is_line_of(enum function function, enum broker_status status, char *
       [BROKER_USAGE] = {"usage: "},
       [BROKER_TOO_LONG] = {"too long: policy\n", "too long: script\n"},
       [BROKER_BAD_POLICY] = {"policy: not JSON\n", "policy: too many rules\n", "policy: unknown key at ", "policy: bad value at "},
-      [BROKER_BAD_SCRIPT] = {"script: line "},
+      [BROKER_BAD_SCRIPT] = {"script: line ", "script: requests in the schedule\n"},
   };
   if (!is_line((unsigned char *)line, length))
     return false;
