@@ -2,8 +2,9 @@
 import os
 import signal
 import sys
+import types
 
-from command_line import pages, place, table
+from command_line import place, table
 
 WRONG_WORDS = 1
 HELP_OPTIONS = ("--help", "-h")
@@ -38,8 +39,13 @@ def run_program(known, entry, operands, runnable):
 
 
 def run_tool(word, words):
+    """Runs a tool in this process, as if Python had been started with its file: it ends by itself."""
     path = f"{place.HOME}/tools/{word}"
-    return run(sys.executable or path, [sys.executable, path, *words] if sys.executable else [path, *words])
+    with open(path, "rb") as file:
+        code = compile(file.read(), path, "exec")
+    tool = sys.modules["__main__"] = types.ModuleType("__main__")
+    tool.__file__, sys.argv = path, [path, *words]
+    exec(code, tool.__dict__)
 
 
 def show(text):
@@ -52,6 +58,7 @@ def show(text):
 
 
 def list_of(known):
+    from command_line import pages
     return pages.list_page(known, place.command(), place.examples(), place.about() is None, place.documents())
 
 
@@ -73,7 +80,10 @@ def help_of(known, words):
     if not words or words[0] in (table.HELP, *HELP_OPTIONS):
         return show(list_of(known))
     entry = table.entry(known, words[0])
-    return show(pages.word_page(known, entry, place.command(), place.examples())) if entry else unknown(known, words[0])
+    if entry is None:
+        return unknown(known, words[0])
+    from command_line import pages
+    return show(pages.word_page(known, entry, place.command(), place.examples()))
 
 
 def main(words, runnable=place.runnable):

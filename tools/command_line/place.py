@@ -1,8 +1,6 @@
 """Where the command stands: in a checkout, or in a folder that a package made. Both have `broker`, tools/ and examples/."""
 import json
 import os
-import shutil
-import subprocess
 import sys
 
 HOME = os.path.dirname(os.path.dirname(os.path.dirname(os.path.realpath(__file__))))
@@ -49,6 +47,8 @@ def program():
         if not known["proved"]:
             print(NOT_PROVED, file=sys.stderr, flush=True)
         return f"{HOME}/seccomp_broker"
+    # (an installed command needs no other one, and begins sooner without it)
+    import subprocess
     found = subprocess.run([f"{HOME}/tools/program"], stdout=subprocess.PIPE)
     return os.fsdecode(found.stdout).rstrip("\n") if found.returncode == 0 else "" if found.returncode == 1 else None
 
@@ -61,6 +61,7 @@ def runnable():
 
 def said_by(*words):
     """What a command prints, or None where it fails or isn't there."""
+    import subprocess
     try:
         ended = subprocess.run(words, stdin=subprocess.DEVNULL, stdout=subprocess.PIPE, stderr=subprocess.DEVNULL, universal_newlines=True)
     except OSError:
@@ -85,6 +86,7 @@ def version_lines():
                 f"sources: {known['sources']}"]
     with open(f"{HOME}/VERSION", encoding="ascii") as file:
         version = file.read().strip()
+    import shutil
     commit = said_by("git", "-C", HOME, "describe", "--tags", "--always", "--dirty") or "unknown: this folder is no git checkout"
     toolchain = said_by("rt", "version") if shutil.which("rt") else None
     return [f"seccomp-broker {version}, in a checkout", f"proved: {state_of_checkout()}",
