@@ -10,7 +10,7 @@ import sys
 import threading
 import time
 
-from messages import running
+from messages import running, speaking
 
 INTERRUPTED = 130
 GREATEST_BOUND, ALL = 8, "all"
@@ -70,12 +70,12 @@ class Progress:
 
     def show(self):
         ended = f"; bound {self.found.bound} has ended" if self.found.bound is not None else ""
-        running.put(f"\rexploring {'all' if self.delays == ALL else f'bound {self.delays}'}: {self.seconds} s{ended}"[:WIDTH].ljust(WIDTH) + "\r")
+        speaking.put(f"\rexploring {'all' if self.delays == ALL else f'bound {self.delays}'}: {self.seconds} s{ended}"[:WIDTH].ljust(WIDTH) + "\r")
         self.shown = True
 
     def clear(self):
         if self.shown:
-            running.put(CLEAR)
+            speaking.put(CLEAR)
             self.shown = False
 
     def follow(self):
@@ -92,9 +92,9 @@ def interrupted(found, progress, delays):
     """Prints what there is at an interrupt, and says what it is."""
     asked = "the whole exploration" if delays == ALL else f"bound {delays}"
     if found.bound is None:
-        running.say([f"broker: interrupted after {progress.seconds} s; no smaller bound than what was asked for had ended"])
+        speaking.say([f"broker: interrupted after {progress.seconds} s; no smaller bound than what was asked for had ended"])
         return INTERRUPTED
-    running.say([f"broker: interrupted after {progress.seconds} s, before {asked} had ended; what is printed is bound {found.bound}, the greatest that had"])
+    speaking.say([f"broker: interrupted after {progress.seconds} s, before {asked} had ended; what is printed is bound {found.bound}, the greatest that had"])
     try:
         sys.stdout.buffer.write(found.output)
         sys.stdout.flush()

@@ -8,8 +8,8 @@ from messages.findings import Text, advice, listed, meant
 from messages.operands import in_c, written
 from messages.script_lines import Line, LineFault, Token, number_of, tokens_of
 from messages.script_words import CALL_NAMES, FORMS as SCRIPT_FORMS, OTHER_CALLS
+from real_workloads.named_numbers import MOUNT_FLAGS, OTHER_NAMES
 from real_workloads.script_text import CALLS
-from real_workloads.strace_text import MOUNT_FLAGS, OTHER_NAMES
 
 WRONG_COUNT, WRONG_FORM, BAD_NUMBER, OUT_OF_RANGE, UNKNOWN_NAME = "wrong count", "wrong form", "bad number", "out of range", "unknown name"
 # what is said where the place in the line can't be told, by the reason that the program names (docs/FORMATS.md, An explanation)

@@ -5,7 +5,7 @@ from dataclasses import dataclass
 from typing import Callable
 
 from command_line import table
-from messages import calls, policies, scripts
+from messages import policies
 from messages.findings import Text, filled, message, near, shown
 
 READ_FAULT, TOO_LONG = re.compile(r"read fault: (policy|script|calls|report|requests)"), re.compile(r"too long: (policy|script|calls|report)")
@@ -127,6 +127,8 @@ class Said:
         return self.of_text(line, files, of_report)
 
     def of_text(self, line, files, of_report):
+        # (a script isn't read for what is said of a policy)
+        from messages import calls, scripts
         policy, script, asked, report = (form.fullmatch(line) for form in (POLICY, SCRIPT, CALLS, REPORT))
         if policy:
             return explained_text(files["policy"], lambda data: policies.finding_of(data, policy[1]))

@@ -4,29 +4,16 @@ import signal
 import subprocess
 import sys
 
-from messages import likely, policies
+from messages import policies
 from messages.findings import Text, message
 from messages.refusals import Said, data_of, files_in
-from messages.reports import explained_report
+from messages.speaking import say
 
 OF_THE_COMMAND = b"broker: "
 # the words that play a script's schedule
 SCHEDULED = ("play", "handover")
 # what is likely a mistake, but only where a schedule is played
 OF_SCHEDULES = ("no-schedule", "task-never-comes", "task-never-steps", "no-worker-steps")
-
-
-def put(text):
-    """A text on standard error; where that fails, nothing is lost that the program has to say."""
-    try:
-        sys.stderr.write(text)
-        sys.stderr.flush()
-    except (OSError, UnicodeError):
-        pass
-
-
-def say(lines):
-    put("".join(f"{line}\n" for line in lines))
 
 
 def passed_on(process, before):
@@ -70,13 +57,16 @@ def warnings(entry, operands, asked):
             found = [*policies.foreign_keys(policy), *(policies.doubled_keys(policy) if asked else ())]
             yield from (message(it, files["policy"], Text(policy), "warning: ") for it in found)
         if script is not None and asked:
+            from messages import likely
             found = [it for it in likely.findings(Text(script)) if entry["word"] in SCHEDULED or it.name not in OF_SCHEDULES]
             yield from (message(it, files["script"], Text(script), "warning: ") for it in found)
 
 
 def told(entry, operands, command, path, status, line, asked):
     """The lines that are added to what the program said."""
+    # (what most calls don't need isn't read for them)
     if status > 0:
+        from messages.reports import explained_report
         said = Said(entry, operands, line, command)
         return said.explained(lambda files, number: explained_report(path, files, number))
     return [line for lines in warnings(entry, operands, asked) for line in lines] if status == 0 else []

@@ -6,8 +6,8 @@ import time
 
 from command_line import place
 from command_line.arguments import Parser
-from messages import running as spoken
-from testing import asking, output
+from messages import speaking
+from testing import asking, named_files, output
 from testing.lines import NotUnderstood
 from testing.running import Runner, Tests, read
 
@@ -21,7 +21,7 @@ def asked():
     parser = Parser("test")
     parser.add_argument("--junit", metavar="FILE", help="writes the results as XML")
     parser.add_argument("--json", action="store_true", help="prints a JSON document in place of the lines")
-    parser.add_argument("--show", action="store_true", help="prints the scripts that are made, and runs nothing")
+    parser.add_argument("--show", action="store_true", help="prints the scripts and the calls that are made, and runs nothing")
     parser.add_argument("--watch", action="store_true", help="runs again each time that a file changes")
     parser.add_argument("--program", metavar="PATH", help="asks this program, in place of the command's own")
     parser.add_argument("files", metavar="FILE", nargs="+", help="test files")
@@ -44,15 +44,15 @@ class Progress:
             now = time.monotonic()
             if self.is_shown and now - self.begun > BEGIN and now - self.said > TURN:
                 self.said = now
-                spoken.put(f"\rtesting: {self.done} of {self.count} scripts, {int(now - self.begun)} s")
+                speaking.put(f"\rtesting: {self.done} of {self.count} scripts, {int(now - self.begun)} s")
 
     def end(self):
         if self.said:
-            spoken.put(CLEAR)
+            speaking.put(CLEAR)
 
 
 def show_scripts(paths):
-    """Prints the scripts that are made of the files, each with the command that answers it."""
+    """Prints the scripts and the calls that are made of the files, each with the words that the program is asked by."""
     status = PASSED
     for path in paths:
         file, about = read(path), ()
@@ -68,12 +68,12 @@ def show_scripts(paths):
         for job in jobs:
             lines = ", ".join(map(str, job.names))
             words = "line" if len(job.names) == 1 else "lines"
-            show([f"# {path}, {words} {lines}", f"# {job.words}", job.script.data.decode("utf-8", "surrogateescape").rstrip("\n")])
+            show([f"# {path}, {words} {lines}", f"# {job.words}", *job.shown])
     return status
 
 
 def say_faults(path, file, about):
-    spoken.say([*(line for it in file.faults for line in output.message(it, path, file.text)), *about])
+    speaking.say([*(line for it in file.faults for line in output.message(it, path, file.text)), *about])
 
 
 def show(lines):
@@ -86,13 +86,15 @@ def run_once(words, program):
     """Runs the files, prints and writes what came of them, and answers the exit status."""
     every = Runner(program, Progress(sys.stderr.isatty())).run(words.files)
     if words.junit:
+        # (what most runs don't need isn't read for them)
+        from testing import junit
         with open(words.junit, "w", encoding="utf-8", errors="replace") as file:
-            file.write(output.junit_text(every))
+            file.write(junit.text_of(every))
     lines = output.Lines(output.has_colours(sys.stdout))
     for results in every:
-        spoken.say(results.warnings)
+        speaking.say(results.warnings)
         if not results.is_understood:
-            spoken.say(lines.of_file(results))
+            speaking.say(lines.of_file(results))
         elif not words.json:
             show(lines.of_file(results))
     show([output.json_text(every)] if words.json else [output.summary(every)])
@@ -106,7 +108,7 @@ def watched(paths):
     found = {}
     for path in paths:
         file, folder = read(path), os.path.dirname(path)
-        named = [asking.path_of(folder, word) for group in file.groups for word in group.files]
+        named = [named_files.path_of(folder, word) for group in file.groups for word in group.files]
         for name in (path, *named):
             try:
                 found[name] = os.stat(name).st_mtime_ns

@@ -7,7 +7,7 @@ from functools import lru_cache
 
 from messages import policies
 from messages.findings import Finding, Text, message, whole_file
-from testing import asking, files, traces
+from testing import asking, explained, files, named_files
 from testing.lines import Line, NotUnderstood
 from testing.results import FileResults, Result
 from testing.scripts import batches, container_of, script_of
@@ -32,17 +32,47 @@ class Job:
         """The words of the program that answer it."""
         return " ".join(["explore" if self.bounds else "play", self.policy, "SCRIPT", *map(str, self.bounds)])
 
+    @property
+    def shown(self):
+        """The lines of the script."""
+        return [line for line, _ in self.script.lines]
+
     def answer(self, program):
         return program.explore(self.policy, self.script, *self.bounds) if self.bounds else program.play(self.policy, self.script)
+
+
+@dataclass(frozen=True)
+class Explaining:
+    """`call` lines that a policy alone decides: the program explains them."""
+
+    policy: str
+    calls: explained.Calls
+
+    @property
+    def words(self):
+        return f"explain {self.policy} CALLS"
+
+    @property
+    def names(self):
+        return tuple(it.line.number for it in self.calls.singles)
+
+    @property
+    def shown(self):
+        return self.calls.shown
+
+    def answer(self, program):
+        return program.explain(self.policy, self.calls)
+
+    def judge(self, found):
+        return [of_single(single, one) for single, one in zip(self.calls.singles, found)]
 
 
 # ---- results
 
 
-def of_single(instance, step, explored):
-    """The result of a `call` line. What it finds in the tree isn't shown where nothing is expected of that, since it may share the tree with others."""
-    found = explored.outcomes[0].found(instance.place, step)
-    return Result(step.line.number, f"call {step.call.text}", step.expected.text, found.shown(step.expected.asks_tree), step.expected.fits(found))
+def of_single(single, found):
+    """The result of a `call` line, or of the step that stands for one. What it finds in the tree isn't shown where nothing is expected of that, since it may share the tree with others."""
+    return Result(single.line.number, f"call {single.call.text}", single.expected.text, found.shown(single.expected.asks_tree), single.expected.fits(found))
 
 
 def of_step(instance, step, exploring, explored):
@@ -120,16 +150,20 @@ class Tests:
             self.warnings += lines
 
     def of_group(self, group):
-        policy = asking.path_of(self.folder, group.policy)
-        data = asking.data_of(self.folder, group.policy)
+        policy = named_files.path_of(self.folder, group.policy)
+        data = named_files.data_of(self.folder, group.policy)
         self.warn(warnings_of(policy, data))
-        rules = asking.rules_of(data)
+        rules = named_files.rules_of(data)
         filters = self.filters_of(group)
-        descriptors = asking.descriptors_of(rules)
+        descriptors = named_files.descriptors_of(rules)
         containers = [(it, self.script_of(it, filters, descriptors)) for it in group.containers]
         for word in named_rules(group):
-            asking.check_rule(word, rules)
-        for singles in batches(group.singles, any("times" in it for it in rules)):
+            named_files.check_rule(word, rules)
+        # (where there are filters, these decide which calls the policy is asked of)
+        decided, played = parted(group.singles, lambda it: filters is None and explained.is_enough(it))
+        if decided:
+            yield Explaining(policy, explained.Calls(tuple(decided)))
+        for singles in batches(played, any("times" in it for it in rules)):
             yield self.of_singles(policy, singles, script_of(container_of(singles), filters, descriptors))
         for container, script in containers:
             yield from self.of_container(policy, container, script)
@@ -140,7 +174,7 @@ class Tests:
             return None
         word = group.filters.file
         named = Line(word.line, (word,), word.text)
-        lines, warnings = asking.filter_lines(self.folder, group.filters)
+        lines, warnings = named_files.filter_lines(self.folder, group.filters)
         self.warn(warnings)
         return [(line, named) for line in lines]
 
@@ -148,7 +182,9 @@ class Tests:
         """The script of a container. Of one that is traced the claims are read now, since its calls are known."""
         if container.traced is None:
             return script_of(container, filters, descriptors)
-        script = traces.script_of(container, asking.data_of(self.folder, container.traced.file), filters, descriptors)
+        # (what most test files don't need isn't read for them)
+        from testing import traces
+        script = traces.script_of(container, named_files.data_of(self.folder, container.traced.file), filters, descriptors)
         container.tasks[:] = [it.task for it in script.instances]
         for read_claim in container.traced.claims:
             read_claim()
@@ -156,8 +192,8 @@ class Tests:
 
     @staticmethod
     def of_singles(policy, singles, script):
-        callers = script.instances[1:]
-        return Job(policy, script, ONE_ORDER, lambda explored: [of_single(it, it.task.steps[0], explored) for it in callers], tuple(it.line.number for it in singles))
+        callers = [(it, it.task.steps[0]) for it in script.instances[1:]]
+        return Job(policy, script, ONE_ORDER, lambda explored: [of_single(step, explored.outcomes[0].found(it.place, step)) for it, step in callers], tuple(it.line.number for it in singles))
 
     @staticmethod
     def of_container(policy, container, script):
@@ -175,6 +211,12 @@ class Tests:
 def warnings_of(path, data):
     """What is said of the keys of a policy that are almost LXD's, which the program ignores."""
     return [line for it in policies.foreign_keys(data) for line in message(it, path, Text(data), "warning: ")]
+
+
+def parted(items, is_first):
+    """Those of some things of which something is so, and the others."""
+    items = [(it, is_first(it)) for it in items]
+    return [it for it, is_so in items if is_so], [it for it, is_so in items if not is_so]
 
 
 def named_rules(group):
@@ -203,7 +245,7 @@ def read(path):
 
 def policy_finding(file, job, fault):
     """The finding for a policy that the program refuses: at the line that names it."""
-    word = next(it.policy for it in file.groups if asking.path_of(os.path.dirname(file.path), it.policy) == job.policy)
+    word = next(it.policy for it in file.groups if named_files.path_of(os.path.dirname(file.path), it.policy) == job.policy)
     return Finding("", word.line, word.start, word.end - word.start, "this policy is refused", ""), tuple(fault.lines)
 
 

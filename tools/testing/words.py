@@ -4,7 +4,7 @@ from dataclasses import dataclass
 
 from messages.policy_words import FLAGS
 from messages.script_words import FORMS, NAMES_OF_SIGNALS, SETTINGS
-from real_workloads import strace_text
+from real_workloads.named_numbers import value_of
 from real_workloads.script_text import CALLS
 
 KINDS = {"reg": 0o100000, "chr": 0o020000, "blk": 0o060000, "fifo": 0o010000, "sock": 0o140000}
@@ -17,7 +17,7 @@ OPEN_FLAGS = ("RDONLY", "WRONLY", "RDWR", "CREAT", "EXCL", "NOCTTY", "TRUNC", "A
 
 def numbers_of(prefix, names):
     """The number of each name, with a prefix and without it."""
-    numbers = {name: strace_text.value_of(f"{prefix}{name}") for name in names}
+    numbers = {name: value_of(f"{prefix}{name}") for name in names}
     return {**numbers, **{f"{prefix}{name}": number for name, number in numbers.items()}}
 
 
