@@ -16,6 +16,9 @@ const MEANINGS = {
   ended: "Its task ended while it was in the call.",
 };
 
+// verdicts that a rule has given
+const DECIDED = ["grant", "deny", "pass", "inject", "spent"];
+
 const LEGEND = [
   ["call", false, "task", "A task makes a call. The bar below it lasts until the call returns; it is filled once a worker has received it."],
   ["resume", false, "task", "The call returns."],
@@ -32,11 +35,20 @@ const LEGEND = [
 
 /** What stands in the panel beside the picture: the trail of a call, an event, or how to read the picture. */
 class Details {
-  constructor(root, model, choose, only) {
-    Object.assign(this, { root, model, choose, only });
+  constructor(root, model, choose, only, explain) {
+    Object.assign(this, { root, model, choose, only, explain });
+    // why the sessions were decided so, as far as that was asked for
+    this.explanations = new Map();
+  }
+
+  /** What was explained is of a policy that has changed. */
+  forget() {
+    this.explanations.clear();
+    this.show(this.place);
   }
 
   show(place) {
+    this.place = place;
     const call = place >= 0 ? this.model.scene.call[place] : -1;
     const top = call >= 0 && call === this.shown ? this.root.scrollTop : 0;
     this.root.replaceChildren(...(place < 0 ? this.legend() : call < 0 ? this.event(place) : this.trail(this.model.calls[call], place)));
@@ -60,6 +72,15 @@ class Details {
     return make("dl", { class: "facts" }, ...rows.flatMap(([name, ...value]) => [make("dt", {}, name), make("dd", {}, ...value)]));
   }
 
+  /** Whether a word says that there is no outcome so far, of a history that goes on. */
+  goesOn(word) {
+    return word === "open" && this.model.scene.goes_on === true;
+  }
+
+  meaning(word) {
+    return this.goesOn(word) ? "The next steps bring it." : MEANINGS[word];
+  }
+
   button(text, action) {
     return make("button", { type: "button", class: "small", onclick: action }, text);
   }
@@ -72,7 +93,7 @@ class Details {
       make("h2", {}, make("code", {}, call.name), ` by ${laneName(lane)}`),
       this.facts([
         ["Process", call.pid],
-        ["Result", make("strong", {}, outcomeOf(call.outcome)), MEANINGS[call.outcome] && make("p", {}, MEANINGS[call.outcome])],
+        ["Result", make("strong", {}, this.goesOn(call.outcome) ? "isn't over" : outcomeOf(call.outcome)), this.meaning(call.outcome) && make("p", {}, this.meaning(call.outcome))],
         ["The filters", filterText(call.verdict)],
       ]),
       ...sessions.flatMap((session) => this.session(session, sessions.length)),
@@ -92,10 +113,35 @@ class Details {
     return [...title, this.facts([
       ["Notification", `${session.id}, served by `, this.actor(session.lane)],
       ["Rule", session.rule === "-" ? "none" : make("button", { type: "button", title: `Only rule ${session.rule}`, onclick: () => this.only({ kind: "rule", value: session.rule }) }, make("code", {}, session.rule))],
-      ["Verdict", make("strong", { class: `verdict ${session.verdict}` }, session.verdict), make("p", {}, MEANINGS[session.verdict])],
-      ["Answer", session.answer === "-" ? "none" : make("code", {}, session.answer), session.answer === "-" && session.reply === "none" ? null : make("p", { class: `reply ${session.reply}` }, MEANINGS[session.reply])],
+      ["Verdict", make("strong", { class: `verdict ${session.verdict}` }, this.goesOn(session.verdict) ? "undecided so far" : session.verdict), make("p", {}, this.meaning(session.verdict))],
+      ["Answer", session.answer === "-" ? "none" : make("code", {}, session.answer), session.answer === "-" && session.reply === "none" ? null : make("p", { class: `reply ${session.reply}` }, this.meaning(session.reply))],
       ...(session.copy.length ? [["The copy", ...session.copy.map(([, at, length, text]) => make("p", { class: "copy" }, make("code", {}, cut(text, 4096)), make("small", {}, ` ${length} bytes at ${at}`)))]] : []),
-    ])];
+    ]), ...this.why(session)];
+  }
+
+  /** Why the rule decides that did: where it was asked for, else the button that asks. */
+  why(session) {
+    if (this.explain === null || !DECIDED.includes(session.verdict)) return [];
+    const known = this.explanations.get(session.number);
+    if (known) return [known];
+    const button = this.button("Explain", async () => {
+      button.disabled = true;
+      const found = await this.explain(session, this.linesOf(session));
+      button.disabled = false;
+      if (found === null) return;
+      this.explanations.set(session.number, found);
+      button.parentElement.replaceWith(found);
+      found.focus({ preventScroll: true });
+    });
+    button.title = "Which rule decides, and what the call misses of each rule before it";
+    return [make("div", { class: "buttons" }, button)];
+  }
+
+  /** The lines of the journal with the call of a session, and with the session. */
+  linesOf({ call, lane, place, end }) {
+    const { scene, calls, lines } = this.model;
+    const events = calls[call].events.filter((at) => scene.lane[at] === lane && at >= place && at <= end);
+    return [calls[call].place, ...events].map((at) => lines[at + 1]);
   }
 
   steps(places, chosen) {

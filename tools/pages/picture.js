@@ -12,7 +12,7 @@ const BELOW = 24;
 
 /** A picture of a scene, with its trail and the report's text, in a copy of the template. */
 class Picture {
-  constructor(root, scene, { address = false } = {}) {
+  constructor(root, scene, { address = false, explain = null } = {}) {
     this.model = new Model(scene);
     this.address = address;
     this.chosen = -1;
@@ -21,7 +21,7 @@ class Picture {
     this.root = root.firstElementChild;
     const part = (name) => this.root.querySelector(`.${name}`);
     this.parts = Object.fromEntries(["picture", "heads", "head-lanes", "canvas", "numbers", "graph", "words", "hover", "band", "peek", "text", "find", "found", "only", "notes", "trail", "said"].map((name) => [name, part(name)]));
-    this.details = new Details(this.parts.trail, this.model, (place) => this.choose(place), (filter) => this.only(filter));
+    this.details = new Details(this.parts.trail, this.model, (place) => this.choose(place), (filter) => this.only(filter), explain);
     this.text = new TextLines(this.parts.text, this.model, (place) => this.choose(place, { from: "text" }));
     this.listen();
     this.fillOnly();

@@ -20,9 +20,10 @@ class Playground {
     by("seconds").max = about.seconds.most;
     by("seconds").value = about.seconds.usual;
     by("example").append(make("option", { value: "" }, "choose one"), ...Object.keys(about.examples).map((name) => make("option", { value: name }, name)));
+    this.stepping = new Stepping(this, by("stepping"));
     for (const button of document.querySelectorAll("[data-form]")) {
       button.closest(".joined, button").hidden = !about.forms.includes(button.dataset.form);
-      button.addEventListener("click", () => (button.dataset.form === "explore" ? this.explore() : this.ask(button.dataset.form)));
+      button.addEventListener("click", () => ({ explore: () => this.explore(), step: () => this.step() }[button.dataset.form] ?? (() => this.ask(button.dataset.form)))());
     }
     by("example").addEventListener("change", () => by("example").value && this.example(by("example").value));
     by("link").addEventListener("click", () => this.copyLink());
@@ -49,6 +50,7 @@ class Playground {
     this.editors.policy.set(policy);
     this.editors.script.set(script);
     by("example").value = name;
+    this.stepping.end();
     this.tell("");
     this.keep();
   }
@@ -57,6 +59,8 @@ class Playground {
   changed() {
     by("example").value = "";
     by("result").classList.add("old");
+    this.stepping.end();
+    this.picture?.details.forget();
     this.tell("");
     clearTimeout(this.waiting);
     this.waiting = setTimeout(() => this.keep(), 400);
@@ -80,6 +84,7 @@ class Playground {
       if (!Array.isArray(texts) || texts.length !== 2 || !texts.every((text) => typeof text === "string")) throw new Error("no case");
       this.editors.policy.set(texts[0]);
       this.editors.script.set(texts[1]);
+      this.stepping.end();
       by("example").value = Object.keys(this.about.examples).find((name) => this.about.examples[name].every((text, at) => text === texts[at])) ?? "";
       by("result").classList.add("old");
       this.tell("");
@@ -150,6 +155,7 @@ class Playground {
     const more = { run: () => ({ workers: number("workers", 0, 16), cpus: number("cpus", 0, 16) }), "audit-check": () => ({ report: this.report }) }[form];
     if (form === "audit-check" && this.report === null) return;
     this.unmark();
+    this.stepping.end();
     if (form === "audit-check") by("result").classList.remove("old");
     this.tell("", make("p", {}, "…"));
     const told = await this.send(form, { ...texts, ...(more ? more() : {}) });
@@ -176,10 +182,46 @@ class Playground {
   }
 
   show(view, output, how) {
-    this.put(view, output);
+    this.put(view, output, this.explaining);
     const told = view.kind === "exploration" ? counted(view.outcomes.length, "outcome") : view.kind === "pod" ? counted(view.scenes.length, "container") : summaryText(view.scene.summary);
     const back = this.exploration === null ? null : make("button", { type: "button", class: "small", onclick: () => this.backToOutcomes() }, "Back to the outcomes");
     this.tell("good", make("p", {}, `${how}: ${told}.`), make("button", { type: "button", class: "small", onclick: () => this.look() }, view.kind === "exploration" ? "See the outcomes" : "See the picture"), back);
+  }
+
+  // ---- why a rule decides, and steps one by one
+
+  /** What a picture is given so that its decisions can be explained. */
+  get explaining() {
+    return this.about.forms.includes("explain") ? { explain: (session, lines) => this.explain(session, lines) } : {};
+  }
+
+  /** The explanation of a session's decision, whose lines of the journal are given; null where there is none. */
+  async explain(session, lines) {
+    const told = await this.send("explain", { policy: this.editors.policy.text, trail: `${lines.join("\n")}\n` });
+    if (!told) return null;
+    if (told.status === 0) return explanation(told, session.rule);
+    this.refused(told, "explain");
+    return null;
+  }
+
+  step() {
+    this.unmark();
+    this.tell("");
+    this.exploration = null;
+    return this.stepping.begin();
+  }
+
+  /** Shows the report of the steps so far, at its last event. */
+  showSteps(view) {
+    this.put(view, `${view.scene.lines.join("\n")}\n`, this.explaining);
+    this.tell("");
+    this.picture.choose(view.scene.lane.length - 1);
+  }
+
+  takeScript(text) {
+    this.editors.script.set(text);
+    by("example").value = "";
+    this.keep();
   }
 
   look() {
@@ -191,6 +233,7 @@ class Playground {
 
   async explore() {
     this.unmark();
+    this.stepping.end();
     this.exploration = null;
     const asked = { policy: this.editors.policy.text, script: this.editors.script.text, workers: number("explorers", 1, 16) - 1, delays: by("delays").value, seconds: number("seconds", 1, this.about.seconds.most) };
     const exploring = new Exploring(asked.delays);
@@ -235,9 +278,7 @@ class Playground {
 
   /** Puts the schedule of an outcome into the script, and plays it. */
   async playOrder(schedule, number) {
-    this.editors.script.set(withSchedule(this.editors.script.text, schedule));
-    by("example").value = "";
-    this.keep();
+    this.takeScript(withSchedule(this.editors.script.text, schedule));
     await this.ask("play", `Outcome ${number} played`);
   }
 
@@ -277,6 +318,7 @@ class Playground {
     const told = await this.send("picture", { report: text.endsWith("\n") || text === "" ? text : `${text}\n` });
     if (!told) return;
     this.exploration = null;
+    this.stepping.end();
     if (told.status !== 0) this.tell("refused", make("p", {}, told.line));
     else this.show(told.view, text.endsWith("\n") ? text : `${text}\n`, "Opened");
   }

@@ -9,7 +9,8 @@ from collections import namedtuple
 from messages import policies
 from reports import LIMIT as REPORT_LIMIT
 
-LIMITS = {"policy": 1_048_576, "script": 8_388_608, "report": REPORT_LIMIT}
+# (a trail is the lines of a report that tell of one call)
+LIMITS = {"policy": 1_048_576, "script": 8_388_608, "report": REPORT_LIMIT, "trail": 1_048_576}
 SECONDS = 10
 # the limit of a file's size is told to the shell in blocks of 512 bytes
 LIMITED = f'ulimit -c 0; ulimit -f {REPORT_LIMIT // 512}; exec "$@"'
@@ -26,6 +27,9 @@ FORMS = {
     "run": Form(("policy", "script"), {"workers": 16, "cpus": 16}),
     "explore": Form(("policy", "script"), {"workers": 15}, {"delays": (*map(str, range(GREATEST_BOUND + 1)), ALL)}),
     "audit-check": Form(("policy", "script", "report")),
+    # (of these two the program is asked otherwise, see steps.py and decisions.py)
+    "step": Form(("policy", "script")),
+    "explain": Form(("policy", "trail")),
 }
 
 # `line` is what the program said; `marked` is the text and the line that this is about, where that is known, and of a policy from where
@@ -38,16 +42,19 @@ class Late(Exception):
 
 
 class Running:
-    """The program with the words of a form, in a folder that has the texts, and in a group of processes that is ended with it."""
+    """The program with the words of a form, in a folder that has the texts, and in a group of processes that is ended with it. `given` is its standard input."""
 
-    def __init__(self, path, form, texts, words):
+    def __init__(self, path, form, texts, words, given=b""):
         self.room = tempfile.TemporaryDirectory(prefix="playground-")
         self.output, self.said = tempfile.TemporaryFile(), tempfile.TemporaryFile()
         for name, text in texts.items():
             with open(f"{self.room.name}/{name}", "wb") as file:
                 file.write(text)
         whole = [path, form, *texts, *map(str, words)]
-        self.process = subprocess.Popen(["/bin/sh", "-c", LIMITED, "sh", *whole], cwd=self.room.name, stdin=subprocess.DEVNULL, stdout=self.output, stderr=self.said, start_new_session=True)
+        with tempfile.TemporaryFile() as source:
+            source.write(given)
+            source.seek(0)
+            self.process = subprocess.Popen(["/bin/sh", "-c", LIMITED, "sh", *whole], cwd=self.room.name, stdin=source, stdout=self.output, stderr=self.said, start_new_session=True)
 
     def status(self, seconds):
         """How it ended; None where it hasn't after so many seconds."""
@@ -99,12 +106,12 @@ class Program:
         """What a page tells of the program."""
         return {"program": self.kind, "slow": self.is_slow}
 
-    def begun(self, form, texts, words):
-        return Running(self.path, form, texts, words)
+    def begun(self, form, texts, words, given=b""):
+        return Running(self.path, form, texts, words, given)
 
-    def run(self, form, texts, words):
+    def run(self, form, texts, words, given=b""):
         """What the program does with the words of a form, whose texts and words are looked at already."""
-        running = self.begun(form, texts, words)
+        running = self.begun(form, texts, words, given)
         try:
             status = running.status(SECONDS)
             if status is None:
@@ -119,6 +126,12 @@ class Program:
         line = "\n".join(line for line in lines if not line.startswith(OF_THE_BROKER))
         self.learn(lines)
         return Ended(status, running.printed(), line, marked_by(line, texts))
+
+
+def told_of(program, ended):
+    """What a page is told of a run that has ended, beside what was printed."""
+    line = ended.line or (f"The program ended with status {ended.status}." if ended.status else "")
+    return {"status": ended.status, "line": line, "marked": ended.marked, **program.about()}
 
 
 def marked_by(line, texts):

@@ -10,10 +10,12 @@ import time
 import traceback
 from http.server import BaseHTTPRequestHandler, ThreadingHTTPServer
 
+from decisions import EXPLAIN, explained
 from documents import PICTURE_SCRIPTS, PICTURE_STYLES, filled, joined, part, picture_page
-from explorations import EXPLORE, MOST_SECONDS, USUAL_SECONDS, explored
+from explorations import EXPLORE, MOST_SECONDS, USUAL_SECONDS, explored as explored_orders
 from reports import NotAReport
-from runs import FORMS, LIMITS, SECONDS, Form, Late
+from runs import FORMS, LIMITS, SECONDS, Form, Late, told_of
+from steps import STEP, stepped
 from views import TITLES, view_of
 
 AT_ONCE = 4
@@ -163,7 +165,7 @@ class Handler(BaseHTTPRequestHandler):
             found, words = asked_of(self.body(length), form, OF_THE_PAGE.get(name, {}))
             if name == EXPLORE:
                 return self.explored(found, **words)
-            told = self.ran(name, found, list(words.values())) if name in FORMS else self.drawn(name, found["report"])
+            told = self.ran(name, found, words) if name in FORMS else self.drawn(name, found["report"])
             return JSON, json.dumps(told).encode()
         finally:
             self.server.turns.release()
@@ -196,12 +198,18 @@ class Handler(BaseHTTPRequestHandler):
 
     def ran(self, form, texts, words):
         try:
-            ended = self.server.program.run(form, texts, words)
+            if form == STEP:
+                return stepped(self.server.program, texts, lambda output: self.drawn("picture", output))
+            if form == EXPLAIN:
+                return explained(self.server.program, texts)
+            return self.printed(form, texts, list(words.values()))
         except Late:
             slow = " The program is a trial build, which is slow." if self.server.program.is_slow else ""
             return {"status": None, "line": f"The run was ended after {SECONDS} seconds.{slow}", "marked": None}
-        line = ended.line or (f"The program ended with status {ended.status}." if ended.status else "")
-        told = {"status": ended.status, "line": line, "marked": ended.marked, **self.server.program.about()}
+
+    def printed(self, form, texts, words):
+        ended = self.server.program.run(form, texts, words)
+        told = told_of(self.server.program, ended)
         if ended.status == 0 and form == "audit-check":
             told["output"] = ended.output.decode("latin-1")
         elif ended.status == 0:
@@ -211,7 +219,7 @@ class Handler(BaseHTTPRequestHandler):
     def explored(self, texts, workers, delays, seconds):
         """Sends the messages of an exploration, a line each. Where the other end hangs up, it is ended."""
         self.lasts(seconds + LONGEST)
-        messages = explored(self.server.program, texts, workers, delays, seconds)
+        messages = explored_orders(self.server.program, texts, workers, delays, seconds)
         try:
             self.head(200, {"Content-Type": JSON_LINES})
             for message in messages:
@@ -286,7 +294,7 @@ class Server(ThreadingHTTPServer):
         self.pages = {
             "/": ("text/html; charset=utf-8", filled(part("playground.html"), {"PARTS": part("parts.html")}).encode()),
             "/page.css": ("text/css; charset=utf-8", joined((*PICTURE_STYLES, "playground.css")).encode()),
-            "/page.js": ("text/javascript; charset=utf-8", joined((*PICTURE_SCRIPTS, "editor.js", "playground.js")).encode()),
+            "/page.js": ("text/javascript; charset=utf-8", joined((*PICTURE_SCRIPTS, "editor.js", "explanation.js", "stepping.js", "playground.js")).encode()),
             "/about": (JSON, json.dumps(about).encode()),
         }
 
