@@ -1,6 +1,7 @@
-"""Instances of a broker, each of which makes its calls of the kernel one after another: processes behind a socket each, or a function of this process.
+"""Instances of a broker, whose calls of the kernel come one after another: processes with a socket for each of their threads, or a function of this process.
 
-A run is a generator. It gives the number of the instance whose next call it wants to hear, and is sent that call, or None where the instance has ended.
+A run is a generator. It gives the number of the instance that it wants to hear, and is sent the calls that have come by the time that all its threads wait, each with the number of its thread; or None
+where the instance has ended.
 """
 import os
 import select
@@ -10,6 +11,8 @@ import subprocess
 import tempfile
 import time
 import traceback
+from dataclasses import dataclass
+from typing import Optional
 
 # how long a command has to connect, and to end when the listener is closed, in seconds
 START, LEAVE = 60, 2
@@ -21,6 +24,7 @@ MOST_OUTPUT = 65_536
 LISTENER, UNSUPPORTED = 100, 125
 UNSUPPORTED_LINE = b"shim: not supported: "
 POLL = 0.01
+PART = 65_536
 
 
 class Hangs(Exception):
@@ -62,11 +66,11 @@ class InlineInstance:
         if self.error is not None:
             raise self.error
 
-    def go_on(self, request):
+    def go_on(self, calls):
         """Lets the run go on. Where it is over the listener is closed, and the broker is told so."""
         if self.course is not None:
             try:
-                self.course.send(request)
+                self.course.send(calls)
                 return
             except StopIteration:
                 self.course = None
@@ -92,7 +96,7 @@ class InlineInstance:
         self.line = line
 
     def flush(self):
-        self.go_on(self.line.rstrip(b"\n"))
+        self.go_on([(0, self.line.rstrip(b"\n"))])
 
     def readline(self):
         line, _, self.told = self.told.partition(b"\n")
@@ -110,11 +114,65 @@ class InlineInstance:
     def start(self):
         pass
 
-    def reply(self, answer):
+    def reply(self, thread, answer):
         self.told = answer
 
     def stop(self):
         pass
+
+
+def has_ended_within(process, seconds):
+    """Waits for the end of a process; whether it came in time."""
+    try:
+        watched = os.pidfd_open(process.pid)
+    except (AttributeError, OSError):
+        # (an older Python, or an older kernel)
+        try:
+            process.wait(seconds)
+        except subprocess.TimeoutExpired:
+            return False
+        return True
+    try:
+        if not select.select([watched], [], [], seconds)[0]:
+            return False
+    finally:
+        os.close(watched)
+    process.wait()
+    return True
+
+
+@dataclass
+class Connection:
+    """The connection of one thread: what was received of its next call, and whether a call of it waits for its answer."""
+
+    socket: socket.socket
+    received: bytes = b""
+    is_asking: bool = False
+
+    def receive(self) -> Optional[bool]:
+        """Takes what has come; whether a whole call is there. None where the other end is closed."""
+        try:
+            part = self.socket.recv(PART)
+        except ConnectionError:
+            part = b""
+        if not part:
+            return None
+        self.received += part
+        return b"\n" in part
+
+    def take(self):
+        """The call that has come."""
+        line, _, self.received = self.received.partition(b"\n")
+        self.is_asking = True
+        return line
+
+    def reply(self, answer):
+        self.is_asking = False
+        try:
+            self.socket.sendall(answer)
+        except OSError:
+            # (it has ended, which the next wait tells)
+            pass
 
 
 class ProcessInstance:
@@ -124,20 +182,19 @@ class ProcessInstance:
         """`patience` is how long it may do something without a call of the kernel, in seconds. `shim` is the library that is preloaded into a broker as it is."""
         self.command, self.path, self.patience = command, f"{room}/{name}", patience
         # (the runs would write the file of a session one over another)
-        self.environment = {"SECCOMP_BROKER_KERNEL": self.path, "SECCOMP_BROKER_SESSION": ""}
+        self.environment = {**os.environ, "SECCOMP_BROKER_KERNEL": self.path, "SECCOMP_BROKER_SESSION": ""}
         if shim is not None:
             self.environment.update(LD_PRELOAD=shim, SECCOMP_BROKER_LISTENER=str(LISTENER))
         self.server = socket.socket(socket.AF_UNIX)
         self.server.bind(self.path)
         self.server.listen(1)
-        self.process, self.status, self.connection, self.received = None, None, None, b""
+        self.process, self.status, self.connection = None, None, None
         self.written, self.output = tempfile.TemporaryFile(), b""
 
     def start(self):
         """Starts the command, in a session of its own, so that all that it starts can be ended with it."""
-        environment = {**os.environ, **self.environment}
         try:
-            self.process = subprocess.Popen(self.command, stdin=subprocess.DEVNULL, stdout=self.written, stderr=self.written, env=environment, start_new_session=True)
+            self.process = subprocess.Popen(self.command, stdin=subprocess.DEVNULL, stdout=self.written, stderr=self.written, env=self.environment, start_new_session=True)
         except OSError as error:
             raise NotSupported(f"{self.command[0]} can't be started: {error.strerror}") from None
 
@@ -146,49 +203,36 @@ class ProcessInstance:
         until = time.monotonic() + max(START, self.patience)
         while time.monotonic() < until:
             if select.select([self.server], [], [], POLL)[0]:
-                self.connection = self.server.accept()[0]
+                self.connection = Connection(self.server.accept()[0])
+                self.connection.socket.settimeout(self.patience)
                 return True
             if self.process.poll() is not None:
                 return False
         raise Hangs
 
-    def wait(self, patience=None):
+    def wait(self):
         """The next call, or None where it has ended. Raises Hangs and NotSupported."""
         if self.connection is None and not self.accept():
             self.test_support(self.process.returncode)
             raise NotSupported(f"it has ended with status {self.process.returncode}, and hasn't connected to the socket that SECCOMP_BROKER_KERNEL names")
-        until = time.monotonic() + (patience or self.patience)
-        while b"\n" not in self.received:
-            if not select.select([self.connection], [], [], max(until - time.monotonic(), 0))[0]:
-                raise Hangs
-            part = self.part()
-            if not part:
+        while True:
+            try:
+                has_come = self.connection.receive()
+            except socket.timeout:
+                raise Hangs from None
+            if has_come is None:
                 self.leave()
                 return None
-            self.received += part
-        line, _, self.received = self.received.partition(b"\n")
-        return line
+            if has_come:
+                return [(0, self.connection.take())]
 
-    def part(self):
-        try:
-            return self.connection.recv(65_536)
-        except ConnectionError:
-            return b""
-
-    def reply(self, answer):
-        try:
-            self.connection.sendall(answer)
-        except OSError:
-            # (it has ended, which the next wait tells)
-            pass
+    def reply(self, thread, answer):
+        self.connection.reply(answer)
 
     def leave(self):
         """Waits for the end of a command that has closed its connection, and may wait for the other end of it."""
-        self.connection.close()
-        try:
-            self.status = self.process.wait(LEAVE)
-        except subprocess.TimeoutExpired:
-            self.status = 0
+        self.connection.socket.close()
+        self.status = self.process.returncode if has_ended_within(self.process, LEAVE) else 0
         self.test_support(self.status)
 
     def test_support(self, status):
@@ -204,10 +248,11 @@ class ProcessInstance:
 
     def finish(self):
         """Answers each of its calls by telling that the listener is closed, until it ends or has asked for too much."""
+        self.connection.socket.settimeout(LEAVE)
         try:
             for _ in range(MOST_REFUSALS):
-                self.reply(CLOSED)
-                if self.wait(LEAVE) is None:
+                self.reply(0, CLOSED)
+                if self.wait() is None:
                     return
         except Hangs:
             pass
@@ -218,7 +263,7 @@ class ProcessInstance:
             self.end()
         if self.connection is not None:
             # (for the second time, if the command has closed it)
-            self.connection.close()
+            self.connection.socket.close()
         self.server.close()
         os.unlink(self.path)
         self.output = self.output_so_far()
@@ -234,7 +279,7 @@ class ProcessInstance:
 
 
 def drive(instances, course):
-    """Lets processes run, each where the run wants to hear its next call, and to their ends behind it."""
+    """Lets processes run, each where the run wants to hear of it, and to their ends behind it."""
     number = next(course)
     try:
         while True:

@@ -1,17 +1,9 @@
-"""The kernel of a run: the written one in Python with the judge beside it, and the program, whose answers have to be equal."""
-import os
-import re
+"""The kernel of a run: the written one in Python with the judge beside it. Behind the run the program is asked for the same, and its answers have to be equal."""
 import subprocess
-from typing import List, NamedTuple
+import tempfile
+from typing import List, NamedTuple, Optional
 
 from judging.sessions import Follower
-
-# behind such a line stand so many bytes
-SIZED = re.compile(rb"(?:report|script) (\d+)\n")
-
-
-class Differs(Exception):
-    """The program answers otherwise than the kernel in Python; the arguments are the request and both answers."""
 
 
 class Asked(NamedTuple):
@@ -21,40 +13,22 @@ class Asked(NamedTuple):
     answer: bytes
 
 
-class Program:
-    """The program, which answers requests over two pipes."""
+class Difference(NamedTuple):
+    """The first request that the program answers otherwise than the kernel in Python: its place among all, and both answers."""
 
-    def __init__(self, words):
-        self.process = subprocess.Popen(words, stdin=subprocess.PIPE, stdout=subprocess.PIPE)
-
-    def ask(self, request: bytes) -> bytes:
-        """The answer to a request, of a report and of a script all of it; cut off where the program has ended."""
-        try:
-            self.process.stdin.write(request + b"\n")
-            self.process.stdin.flush()
-        except BrokenPipeError:
-            return b""
-        told = self.process.stdout.readline()
-        sized = SIZED.fullmatch(told)
-        return told + self.process.stdout.read(int(sized[1])) if sized else told
-
-    def close(self):
-        try:
-            self.process.stdin.close()
-        except BrokenPipeError:
-            # (it has ended already)
-            pass
-        self.process.stdout.close()
-        self.process.wait()
+    place: int
+    told: bytes
+    other: bytes
 
 
 class Kernel:
     """What a run asks for. It keeps all that was asked."""
 
-    def __init__(self, files, program=None):
+    def __init__(self, files):
         self.follower = Follower(files.rules, files.container)
-        self.program = Program([program, "step", os.fspath(files.policy), os.fspath(files.script)]) if program else None
         self.session: List[Asked] = []
+        # the answers, each with its newline, of a report all of it
+        self.answers: List[bytes] = []
 
     @property
     def state(self):
@@ -65,15 +39,25 @@ class Kernel:
         return self.follower.judge
 
     def ask(self, request: bytes) -> bytes:
-        """The answer to a request, with its newline. Raises Differs."""
+        """The answer to a request, with its newline."""
         told = self.follower.answer(request).encode("latin-1")
-        if self.program is not None:
-            other = self.program.ask(request)
-            if other != told:
-                raise Differs(request, told, other)
         self.session.append(Asked(request, told.partition(b"\n")[0]))
+        self.answers.append(told)
         return told
 
-    def close(self):
-        if self.program is not None:
-            self.program.close()
+    def difference(self, words) -> Optional[Difference]:
+        """Asks the program that these words start for all that was asked here, at once; None where it answers the same."""
+        with tempfile.TemporaryFile() as requests:
+            requests.write(b"".join(asked.request + b"\n" for asked in self.session))
+            requests.seek(0)
+            output = subprocess.run(words, stdin=requests, stdout=subprocess.PIPE, check=False).stdout
+        return None if output == b"".join(self.answers) else self.first_difference(output)
+
+    def first_difference(self, output):
+        at = 0
+        for place, told in enumerate(self.answers):
+            if not output.startswith(told, at):
+                line, newline, _ = output[at:].partition(b"\n")
+                return Difference(place, told, line + newline)
+            at += len(told)
+        return Difference(len(self.answers) - 1, self.answers[-1], self.answers[-1] + output[at:])

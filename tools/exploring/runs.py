@@ -1,12 +1,14 @@
 """One run of a broker, in the order that a schedule says."""
+import os
 import re
 from dataclasses import dataclass, field
 from enum import Enum
 from hashlib import blake2b
-from typing import Callable, List, NamedTuple, Optional
+from itertools import islice
+from typing import Callable, Dict, List, NamedTuple, Optional
 
 from exploring.instances import Hangs, InlineInstance, NotSupported, drive
-from exploring.kernels import Asked, Differs, Kernel
+from exploring.kernels import Asked, Kernel
 from exploring.schedules import Choice, Planned
 from stepping.sessions import Session
 
@@ -26,6 +28,10 @@ class Files(NamedTuple):
     script: str
     rules: list
     container: object
+
+    def words(self, program):
+        """The words that start a program on them."""
+        return [program, "step", os.fspath(self.policy), os.fspath(self.script)]
 
 
 class Setting(NamedTuple):
@@ -93,21 +99,25 @@ class Unlike(Exception):
 
 
 class Actor(NamedTuple):
-    """A task by its name, or an instance by its number."""
+    """A task by its name, or a thread of an instance by their numbers."""
 
     task: Optional[tuple] = None
     instance: int = -1
+    thread: int = 0
 
 
 class Run:
     def __init__(self, setting: Setting, planned: Planned):
         self.planned = planned
         self.delays = {delay.choice: delay.count for delay in planned.delays}
-        self.kernel = Kernel(setting.files, setting.program)
+        self.setting, self.kernel = setting, Kernel(setting.files)
         self.instances = setting.make()
         self.seats = setting.seats_each(self.instances)
-        # of each instance the request that isn't answered yet; None where it has ended
-        self.pending = [None] * len(self.instances)
+        # the tasks and the threads of instances that there are, in their order
+        self.tasks: List[Actor] = []
+        self.threads: List[Actor] = []
+        # of each thread the request that isn't answered yet
+        self.pending: Dict[Actor, bytes] = {}
         self.polled_at, self.idle_calls = {}, [0] * len(self.instances)
         self.has_stepped = [False] * len(self.instances)
         # the instance that was heard last
@@ -130,14 +140,13 @@ class Run:
             self.trouble(Kind.HANGS, "it makes no call of the kernel, and doesn't end")
         except NotSupported as wrong:
             self.trouble(Kind.NOT_SUPPORTED, wrong.args[0])
-        except Differs as differs:
-            self.trouble(Kind.KERNELS_DIFFER, "`{}` is answered `{}` by the kernel in Python, and `{}` by the program".format(*(it.decode("latin-1").rstrip() for it in differs.args)))
         except Unlike:
             self.trouble(Kind.UNLIKE, "it doesn't make the same calls as when it ran before, up to here")
         finally:
             for instance in self.instances:
                 instance.stop()
-            self.kernel.close()
+        if self.setting.program is not None:
+            self.compare_kernels()
         self.tell()
         return self.played
 
@@ -146,10 +155,11 @@ class Run:
         for number, instance in enumerate(self.instances):
             self.current = number
             instance.start()
-            self.pending[number] = yield number
-            if self.pending[number] == b"able":
+            self.note_calls(number, (yield number))
+            first = Actor(instance=number)
+            if self.pending.get(first) == b"able":
                 # (a client asks it to see that policy and script were taken)
-                self.answer(number)
+                self.answer(first)
                 yield from self.hear(number)
         while able := self.able():
             self.last = able[self.choose(len(able))]
@@ -157,11 +167,23 @@ class Run:
                 self.ask(b"t " + ".".join(map(str, self.last.task)).encode())
             else:
                 self.has_stepped[self.last.instance] = True
-                self.answer(self.last.instance)
+                self.answer(self.last)
                 yield from self.hear(self.last.instance)
             if len(self.kernel.state.events) > MOST_EVENTS:
                 raise Hangs
         self.kernel.judge.note_idle()
+
+    def compare_kernels(self):
+        """Asks the program for the same. Where it answers otherwise the run ends there."""
+        asked, difference = self.kernel.session, self.kernel.difference(self.setting.files.words(self.setting.program))
+        if difference is None:
+            return
+        request = asked[difference.place].request
+        self.kernel, self.shown, self.played.trouble = Kernel(self.setting.files), None, None
+        for before in asked[:difference.place]:
+            self.ask(before.request)
+        texts = (it.decode("latin-1").rstrip() for it in (request, difference.told, difference.other))
+        self.trouble(Kind.KERNELS_DIFFER, "`{}` is answered `{}` by the kernel in Python, and `{}` by the program".format(*texts))
 
     def tell(self):
         """Writes down what came of the run."""
@@ -205,32 +227,40 @@ class Run:
 
     def able(self):
         """The actors that can step, round the circle from the one that stepped last."""
-        circle = [Actor(task=name) for name in self.kernel.state.tasks] + [Actor(instance=number) for number in range(len(self.instances))]
+        self.tasks.extend(Actor(task=name) for name in islice(self.kernel.state.tasks, len(self.tasks), None))
+        circle = self.tasks + self.threads
         begin = circle.index(self.last)
         return [actor for actor in circle[begin:] + circle[:begin] if self.is_able(actor)]
 
     def is_able(self, actor):
         if actor.task is not None:
             return self.kernel.state.step_of(self.kernel.state.tasks[actor.task]) is not None
-        return self.pending[actor.instance] is not None and not self.is_waiting(actor.instance) and not self.is_alike(actor.instance)
+        return actor in self.pending and not self.is_waiting(actor) and not self.is_alike(actor.instance)
+
+    def calls_of(self, number):
+        """The requests of an instance that aren't answered yet."""
+        return {actor.thread: request for actor, request in self.pending.items() if actor.instance == number}
 
     def is_alike(self, number):
         """Whether an instance before this one has done nothing yet either, and waits for the same."""
-        alike = (before for before in range(number) if not self.has_stepped[before] and self.pending[before] == self.pending[number])
-        return not self.has_stepped[number] and next(alike, None) is not None
+        if self.has_stepped[number]:
+            return False
+        return any(not self.has_stepped[before] and self.calls_of(before) == self.calls_of(number) for before in range(number))
 
-    def is_waiting(self, number):
+    def is_waiting(self, actor):
         """Whether the real call would wait: a receive, the result of a descriptor, and a poll that was answered just before."""
-        state, request = self.kernel.state, self.pending[number]
+        state, request = self.kernel.state, self.pending[actor]
         if request == b"able":
-            return self.polled_at.get(number) == len(state.events)
+            return self.polled_at.get(actor) == len(state.events)
         found = OF_WORKER.fullmatch(request)
         if not found or int(found[1]) >= self.seats:
             return False
         if found[2] in RECEIVES:
             return state.received == state.entered_calls
-        put = state.worker(self.seat(number, int(found[1]))).request
-        return found[2] == b"addfd-result" and put is not None and put.answer is None and put.call.is_listed
+        if found[2] != b"addfd-result":
+            return False
+        put = state.worker(self.seat(actor.instance, int(found[1]))).request
+        return put is not None and put.answer is None and put.call.is_listed
 
     # ---- calls of the broker
 
@@ -255,26 +285,37 @@ class Run:
         seat = int(found[1])
         return request if seat >= SEATS else b"w %d %s%s" % (self.seat(number, seat) if seat < self.seats else SEATS, found[2], found[3])
 
-    def answer(self, number):
-        """Makes the call that an instance waits for."""
-        request, before = self.pending[number], len(self.kernel.state.events)
+    def answer(self, actor):
+        """Makes the call that a thread waits for."""
+        number, request, before = actor.instance, self.pending.pop(actor), len(self.kernel.state.events)
         told = self.ask(self.mapped(number, request))
         if request == b"able":
-            self.polled_at[number] = len(self.kernel.state.events)
+            self.polled_at[actor] = len(self.kernel.state.events)
         self.idle_calls[number] = 0 if len(self.kernel.state.events) > before else self.idle_calls[number] + 1
         if self.idle_calls[number] > MOST_IDLE:
             raise Hangs
-        self.instances[number].reply(told)
+        self.instances[number].reply(actor.thread, told)
 
     def hear(self, number):
-        """Wants the next call of an instance, or to hear of its end."""
+        """Wants the next calls of an instance, or to hear of its end."""
         self.current = number
-        self.pending[number] = yield number
-        if self.pending[number] is None:
+        self.note_calls(number, (yield number))
+
+    def note_calls(self, number, calls):
+        """Notes the calls that an instance waits for, each with its thread; or that it has ended."""
+        if calls is None:
             self.note_end(number)
+            return
+        for thread, request in calls:
+            actor = Actor(instance=number, thread=thread)
+            self.pending[actor] = request
+            if actor not in self.threads:
+                self.threads.append(actor)
+                self.threads.sort()
 
     def note_end(self, number):
         """Notes that an instance has ended in the midst of the run."""
+        self.pending = {actor: request for actor, request in self.pending.items() if actor.instance != number}
         status = self.instances[number].status
         if status:
             self.trouble(Kind.DIED, f"it was ended by signal {-status}" if status < 0 else f"it ended with status {status}")

@@ -1,5 +1,6 @@
 """The requests of `step`: which lines are one, and why others aren't. Those of workers are lines of a schedule, too."""
 import re
+from functools import lru_cache
 from typing import NamedTuple
 
 from messages.script_lines import is_task, number_of
@@ -10,6 +11,8 @@ from stepping.rules import Mknod, Mount, SetXattr
 # as docs/FORMATS.md has them, the first that is shown is told (Refusals of a script)
 REASONS = ("wrong count", "wrong form", "bad number", "out of range", "unknown name")
 LONGEST = 65_536
+# of so many lines with at most so many bytes is kept what they ask for
+KEPT, MOST_KEPT = 4_096, 512
 RECV_SIZE, ADDFD_SIZE, SEND_SIZE, SYSINFO_SIZE = 80, 24, 24, 112
 HEX = re.compile(r"[0-9a-fA-F]*")
 
@@ -181,6 +184,16 @@ def seat_reason(token):
 
 def read_request(line):
     """The request that a line is, without its newline; None of one without a token. Raises LineFault."""
+    return short_request(line) if len(line) <= MOST_KEPT else request_in(line)
+
+
+@lru_cache(KEPT)
+def short_request(line):
+    """The same of a short line, of which sessions have the same again and again."""
+    return request_in(line)
+
+
+def request_in(line):
     tokens = lexing.tokens_of(line)
     return read_tokens(tokens) if tokens else None
 
