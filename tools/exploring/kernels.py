@@ -26,17 +26,10 @@ class Kernel:
 
     def __init__(self, files):
         self.follower = Follower(files.rules, files.container)
+        self.state, self.judge = self.follower.kernel, self.follower.judge
         self.session: List[Asked] = []
         # the answers, each with its newline, of a report all of it
         self.answers: List[bytes] = []
-
-    @property
-    def state(self):
-        return self.follower.kernel
-
-    @property
-    def judge(self):
-        return self.follower.judge
 
     def ask(self, request: bytes) -> bytes:
         """The answer to a request, with its newline."""

@@ -234,7 +234,8 @@ class Run:
 
     def is_able(self, actor):
         if actor.task is not None:
-            return self.kernel.state.step_of(self.kernel.state.tasks[actor.task]) is not None
+            state = self.kernel.state
+            return state.step_of(state.tasks[actor.task]) is not None
         return actor in self.pending and not self.is_waiting(actor) and not self.is_alike(actor.instance)
 
     def calls_of(self, number):

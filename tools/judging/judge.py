@@ -11,6 +11,7 @@ from judging.servings import Effect, Entry, Serving
 from judging.tables import Tables
 from stepping.facts import SEND, Fail
 from stepping.kernel import Call, Kernel, Task
+from stepping.rules import Rule
 from stepping.trees import EBADF
 
 
@@ -38,6 +39,8 @@ class Judge:
         # of each task the listed call in which it waits
         self.entered_in: Dict[Task, Call] = {}
         self.effects: List[Effect] = []
+        # the rules that were found to decide, by the number, the arguments and the texts of a call
+        self.decided: Dict[tuple, Rule] = {}
         # of each rule with a limit the places of the effects that have spent its times
         self.times: Dict[str, List[int]] = {}
         # where each worker has opened the memory and the directory that it has
@@ -142,7 +145,10 @@ class Judge:
     # ---- the policy
 
     def rule_for(self, call, texts):
-        return decisions.rule_for(self.rules, call, texts)
+        asked = (call.number, call.args, texts)
+        if asked not in self.decided:
+            self.decided[asked] = decisions.rule_for(self.rules, call, texts)
+        return self.decided[asked]
 
     def is_spent(self, rule):
         return rule.times is not None and len(self.times.get(rule.name, ())) >= rule.times
