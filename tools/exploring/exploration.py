@@ -7,7 +7,7 @@ from dataclasses import dataclass, field
 from itertools import islice
 from typing import Dict, List, Optional
 
-from exploring.runs import Kind, Played, Run, Setting
+from exploring.runs import Foretold, Kind, Past, Played, Run, Setting
 from exploring.schedules import Planned, followers
 
 # how many runs one process takes at once
@@ -68,14 +68,15 @@ class Explored:
         return bool(self.findings) or any(kind is Kind.DIED for kind, _, _ in self.troubles)
 
 
-# the setting of the process that runs, and whether no more is to be run; a process of a pool gets them when it is made
+# the setting of the process that runs, its newest run, and whether no more is to be run; a process of a pool gets them when it is made
 current: Optional[Setting] = None
+past: Optional[Past] = None
 over = None
 
 
 def set_current(setting):
-    global current
-    current = setting
+    global current, past
+    current, past = setting, None
 
 
 def begin_process(is_over):
@@ -87,7 +88,19 @@ def begin_process(is_over):
 
 
 def run_one(planned) -> Optional[Played]:
-    return None if over is not None and over.is_set() else Run(current, planned).play()
+    """Runs a schedule, unless the end was told. Neighbours in their order have much in common, which is known from the run before."""
+    global past
+    if over is not None and over.is_set():
+        return None
+    run = Run(current, planned, past)
+    try:
+        played = run.play()
+    except Foretold:
+        # (so it isn't the same when it is run again, which the run tells that nothing is known of)
+        run = Run(current, planned)
+        played = run.play()
+    past = run.past if len(run.threads) == 1 else None
+    return played
 
 
 @contextmanager

@@ -12,7 +12,6 @@ import tempfile
 import time
 import traceback
 from dataclasses import dataclass
-from typing import Optional
 
 # how long a command has to connect, and to end when the listener is closed, in seconds
 START, LEAVE = 60, 2
@@ -25,6 +24,8 @@ LISTENER, UNSUPPORTED = 100, 125
 UNSUPPORTED_LINE = b"shim: not supported: "
 POLL = 0.01
 PART = 65_536
+# how many bytes of answers may wait in a connection before its calls
+MOST_FORETOLD = 32_768
 
 
 class Hangs(Exception):
@@ -111,7 +112,7 @@ class InlineInstance:
 
     # ---- what the run does
 
-    def start(self):
+    def start(self, foretold=()):
         pass
 
     def reply(self, thread, answer):
@@ -149,16 +150,14 @@ class Connection:
     received: bytes = b""
     is_asking: bool = False
 
-    def receive(self) -> Optional[bool]:
-        """Takes what has come; whether a whole call is there. None where the other end is closed."""
+    def receive(self):
+        """Takes what has come; whether the other end isn't closed."""
         try:
             part = self.socket.recv(PART)
         except ConnectionError:
             part = b""
-        if not part:
-            return None
         self.received += part
-        return b"\n" in part
+        return part != b""
 
     def take(self):
         """The call that has come."""
@@ -191,8 +190,9 @@ class ProcessInstance:
         self.process, self.status, self.connection = None, None, None
         self.written, self.output = tempfile.TemporaryFile(), b""
 
-    def start(self):
-        """Starts the command, in a session of its own, so that all that it starts can be ended with it."""
+    def start(self, foretold=()):
+        """Starts the command, in a session of its own, so that all that it starts can be ended with it. The answers that are known by now are sent before its calls, so that it needn't wait."""
+        self.foretold = list(foretold) if sum(map(len, foretold)) <= MOST_FORETOLD else []
         try:
             self.process = subprocess.Popen(self.command, stdin=subprocess.DEVNULL, stdout=self.written, stderr=self.written, env=self.environment, start_new_session=True)
         except OSError as error:
@@ -205,6 +205,7 @@ class ProcessInstance:
             if select.select([self.server], [], [], POLL)[0]:
                 self.connection = Connection(self.server.accept()[0])
                 self.connection.socket.settimeout(self.patience)
+                self.connection.reply(b"".join(self.foretold))
                 return True
             if self.process.poll() is not None:
                 return False
@@ -215,19 +216,21 @@ class ProcessInstance:
         if self.connection is None and not self.accept():
             self.test_support(self.process.returncode)
             raise NotSupported(f"it has ended with status {self.process.returncode}, and hasn't connected to the socket that SECCOMP_BROKER_KERNEL names")
-        while True:
+        while b"\n" not in self.connection.received:
             try:
-                has_come = self.connection.receive()
+                is_open = self.connection.receive()
             except socket.timeout:
                 raise Hangs from None
-            if has_come is None:
+            if not is_open:
                 self.leave()
                 return None
-            if has_come:
-                return [(0, self.connection.take())]
+        return [(0, self.connection.take())]
 
     def reply(self, thread, answer):
-        self.connection.reply(answer)
+        if self.foretold:
+            self.foretold.pop(0)
+        else:
+            self.connection.reply(answer)
 
     def leave(self):
         """Waits for the end of a command that has closed its connection, and may wait for the other end of it."""

@@ -9,7 +9,7 @@ from typing import Callable, Dict, List, NamedTuple, Optional
 
 from exploring.instances import Hangs, InlineInstance, NotSupported, drive
 from exploring.kernels import Asked, Kernel
-from exploring.schedules import Choice, Planned
+from exploring.schedules import Choice, Planned, first_difference
 from stepping.sessions import Session
 
 SEATS = 16
@@ -106,8 +106,43 @@ class Actor(NamedTuple):
     thread: int = 0
 
 
+class Foretold(Exception):
+    """The run isn't like the earlier one, by which it was answered in advance."""
+
+
+class Turn(NamedTuple):
+    """A turn of a run: how many actors were able, and which one stepped."""
+
+    able: int
+    actor: Actor
+
+
+class Exchange(NamedTuple):
+    """A request of a broker of one thread, and its answer."""
+
+    request: bytes
+    answer: bytes
+
+
+@dataclass
+class Past:
+    """What a run was like, by which a later one goes up to the first choice where the two differ. `marks` has how many turns and exchanges there were before each choice."""
+
+    delays: tuple = ()
+    turns: List[Turn] = field(default_factory=list)
+    exchanges: List[Exchange] = field(default_factory=list)
+    marks: List[tuple] = field(default_factory=list)
+
+    def shared(self, planned):
+        """The turns and the exchanges with which a run begins as this one did, as far as that is known."""
+        at = first_difference(self.delays, planned.delays)
+        turns, exchanges = self.marks[at] if at is not None and at < len(self.marks) else (0, 0)
+        return self.turns[:turns], self.exchanges[:exchanges]
+
+
 class Run:
-    def __init__(self, setting: Setting, planned: Planned):
+    def __init__(self, setting: Setting, planned: Planned, past: Optional[Past] = None):
+        """`past` is a run before, of a broker with one instance."""
         self.planned = planned
         self.delays = {delay.choice: delay.count for delay in planned.delays}
         self.setting, self.kernel = setting, Kernel(setting.files)
@@ -120,6 +155,9 @@ class Run:
         self.pending: Dict[Actor, bytes] = {}
         self.polled_at, self.idle_calls = {}, [0] * len(self.instances)
         self.has_stepped = [False] * len(self.instances)
+        # what is known in advance, and what there was
+        self.known_turns, self.foretold = past.shared(planned) if past is not None else ([], [])
+        self.past = Past(planned.delays)
         # the instance that was heard last
         self.current = 0
         self.last = Actor(task=(0,))
@@ -131,6 +169,7 @@ class Run:
     # ---- the whole
 
     def play(self) -> Played:
+        """Runs the broker. Raises Foretold."""
         try:
             if isinstance(self.instances[0], InlineInstance):
                 self.instances[0].drive(self.course())
@@ -154,15 +193,14 @@ class Run:
         """The run: it gives the number of each instance whose next call it wants to hear, and is sent the call. It goes on behind a broken clause, without delays, so that the broker ends as it would."""
         for number, instance in enumerate(self.instances):
             self.current = number
-            instance.start()
+            instance.start([exchange.answer for exchange in self.foretold])
             self.note_calls(number, (yield number))
             first = Actor(instance=number)
             if self.pending.get(first) == b"able":
                 # (a client asks it to see that policy and script were taken)
                 self.answer(first)
                 yield from self.hear(number)
-        while able := self.able():
-            self.last = able[self.choose(len(able))]
+        while self.take_turn():
             if self.last.task is not None:
                 self.ask(b"t " + ".".join(map(str, self.last.task)).encode())
             else:
@@ -219,11 +257,29 @@ class Run:
             return 0
         at, digest = len(self.played.choices), self.hash.digest()
         self.played.choices.append(Choice(width, digest))
+        self.past.marks.append((len(self.past.turns), len(self.past.exchanges)))
         count = self.delays.get(at, 0)
         is_last = self.planned.delays and at == self.planned.delays[-1].choice
         if count >= width or (is_last and self.planned.wanted not in (None, digest)):
             raise Unlike
         return count
+
+    def take_turn(self):
+        """Finds who steps next; whether anybody does. Raises Unlike and Foretold."""
+        at = len(self.past.turns)
+        if at < len(self.known_turns):
+            turn = self.known_turns[at]
+            self.choose(turn.able)
+            if turn.actor.task is None and turn.actor not in self.pending:
+                raise Foretold
+        else:
+            able = self.able()
+            if not able:
+                return False
+            turn = Turn(len(able), able[self.choose(len(able))])
+        self.past.turns.append(turn)
+        self.last = turn.actor
+        return True
 
     def able(self):
         """The actors that can step, round the circle from the one that stepped last."""
@@ -295,6 +351,10 @@ class Run:
         self.idle_calls[number] = 0 if len(self.kernel.state.events) > before else self.idle_calls[number] + 1
         if self.idle_calls[number] > MOST_IDLE:
             raise Hangs
+        at, exchange = len(self.past.exchanges), Exchange(request, told)
+        self.past.exchanges.append(exchange)
+        if at < len(self.foretold) and exchange != self.foretold[at]:
+            raise Foretold
         self.instances[number].reply(actor.thread, told)
 
     def hear(self, number):

@@ -27,6 +27,12 @@ class Planned(NamedTuple):
         return [(-delay.choice, delay.count) for delay in self.delays]
 
 
+def first_difference(delays, others):
+    """The first choice at which two schedules differ; None where they are the same."""
+    differing = [delay.choice for delay in set(delays) ^ set(others)]
+    return min(differing, default=None)
+
+
 class Choice(NamedTuple):
     """A choice of a run: how many actors were able, and the digest of all that had happened."""
 
