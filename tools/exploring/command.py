@@ -6,7 +6,8 @@ import tempfile
 from command_line import place
 from exploring import telling
 from exploring.exploration import Explored, explore
-from exploring.instances import ProcessInstance
+from exploring.instances import ProcessInstance, Shim
+from exploring.passing import Listening
 from exploring.runs import SEATS, Files, Setting
 from judging.command import Ended, Words, read_files
 
@@ -39,6 +40,9 @@ def words_of(words):
     parser.add_argument("--patience", metavar="SECONDS", type=number(1, MOST_PATIENCE), default=PATIENCE)
     parser.add_argument("--save", metavar="FOLDER")
     parser.add_argument("--shim", metavar="FILE", type=os.path.abspath)
+    parser.add_argument("--same-root", action="store_true")
+    parser.add_argument("--listener-path", metavar="SOCKET")
+    parser.add_argument("--listener-metadata", metavar="TEXT", default="")
     parser.add_argument("--program", metavar="PATH")
     parser.add_argument("--no-program", action="store_true")
     at = words.index("--") if "--" in words else len(words)
@@ -46,6 +50,13 @@ def words_of(words):
     asked.command = words[at + 1:]
     if not asked.command:
         parser.error("behind `--` stands the command that starts the broker")
+    if asked.same_root and asked.shim is None:
+        parser.error("--same-root is for a broker as it is, with --shim")
+    if asked.listener_path is not None and not any(asked.listener_path in word for word in asked.command):
+        # (all would wait at the same one)
+        if asked.instances > 1:
+            parser.error("of several instances each needs its own SOCKET, so it has to stand in COMMAND")
+        asked.jobs = 1
     return asked
 
 
@@ -75,8 +86,11 @@ def setting_of(asked, room):
         if program is None:
             raise Ended(NO_PROGRAM, "explore-broker: there is no program; --no-program asks the kernel in Python alone")
 
+    shim = Shim(asked.shim, asked.same_root) if asked.shim is not None else None
+    passing = Listening(asked.listener_path, asked.listener_metadata, files.container.pidbase + 1) if asked.listener_path is not None else None
+
     def make():
-        return [ProcessInstance(asked.command, room, f"{os.getpid()}-{at}", asked.patience, asked.shim) for at in range(asked.instances)]
+        return [ProcessInstance(asked.command, room, f"{os.getpid()}-{at}", asked.patience, shim, passing) for at in range(asked.instances)]
 
     return Setting(files, make, program)
 

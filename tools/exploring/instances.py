@@ -11,7 +11,11 @@ import subprocess
 import tempfile
 import time
 import traceback
-from dataclasses import dataclass
+from typing import List, NamedTuple
+
+from exploring.passing import Passing
+from exploring.processes import has_ended_within, has_gone, is_at_rest, peer_of
+
 
 # how long a command has to connect, and to end when the listener is closed, in seconds
 START, LEAVE = 60, 2
@@ -19,13 +23,17 @@ CLOSED = b"refused closed\n"
 # how often an instance may ask for more behind the close
 MOST_REFUSALS = 1_000
 MOST_OUTPUT = 65_536
-# the listener's descriptor of a broker as it is, and the status by which lib/shim.c says that it can't be tried
-LISTENER, UNSUPPORTED = 100, 125
+# the number that a broker as it is has for the listener, where that isn't passed to it
+LISTENER = 100
+# the status by which lib/shim.c says that a broker can't be tried, and its line
+UNSUPPORTED = 125
 UNSUPPORTED_LINE = b"shim: not supported: "
 POLL = 0.01
 PART = 65_536
 # how many bytes of answers may wait in a connection before its calls
 MOST_FORETOLD = 32_768
+# how many threads may connect at once, what they are told, and how long several threads are listened to before it is looked whether they rest, in seconds
+BACKLOG, ABLE, OPENED, PAUSE = 128, b"able", b"able\n", 0.0005
 
 
 class Hangs(Exception):
@@ -122,128 +130,224 @@ class InlineInstance:
         pass
 
 
-def has_ended_within(process, seconds):
-    """Waits for the end of a process; whether it came in time."""
-    try:
-        watched = os.pidfd_open(process.pid)
-    except (AttributeError, OSError):
-        # (an older Python, or an older kernel)
-        try:
-            process.wait(seconds)
-        except subprocess.TimeoutExpired:
-            return False
-        return True
-    try:
-        if not select.select([watched], [], [], seconds)[0]:
-            return False
-    finally:
-        os.close(watched)
-    process.wait()
-    return True
-
-
-@dataclass
 class Connection:
     """The connection of one thread: what was received of its next call, and whether a call of it waits for its answer."""
 
-    socket: socket.socket
-    received: bytes = b""
-    is_asking: bool = False
+    def __init__(self, socket_of_it):
+        self.socket, self.received = socket_of_it, b""
+        self.is_open, self.is_asking = True, False
 
     def receive(self):
-        """Takes what has come; whether the other end isn't closed."""
+        """Takes what has come; what the other end has closed is closed here, too."""
         try:
             part = self.socket.recv(PART)
         except ConnectionError:
             part = b""
         self.received += part
-        return part != b""
+        if not part:
+            self.close()
 
-    def take(self):
-        """The call that has come."""
-        line, _, self.received = self.received.partition(b"\n")
+    def next_call(self):
+        """The next call, once it is whole; else None."""
+        if b"\n" not in self.received or self.is_asking:
+            return None
         self.is_asking = True
+        line, _, self.received = self.received.partition(b"\n")
         return line
 
     def reply(self, answer):
         self.is_asking = False
+        self.send(answer)
+
+    def send(self, answer):
         try:
             self.socket.sendall(answer)
         except OSError:
             # (it has ended, which the next wait tells)
             pass
 
+    def close(self):
+        self.is_open = self.is_asking = False
+        self.socket.close()
+
+
+class Shim(NamedTuple):
+    """The library that is preloaded into a broker as it is, and whether that shares the container's root."""
+
+    file: str
+    has_same_root: bool
+
+    def variables(self, is_passed):
+        """The variables of its environment; `is_passed` says whether the listener is passed to it."""
+        found = {"LD_PRELOAD": self.file}
+        if not is_passed:
+            found["SECCOMP_BROKER_LISTENER"] = str(LISTENER)
+        if self.has_same_root:
+            found["SECCOMP_BROKER_SAME_ROOT"] = "1"
+        return found
+
+
+class Thread(Connection):
+    """The connection of a thread behind the first one, which lib/shim.c opens for it: the first request comes of that, and by the second one it asks whether it may begin."""
+
+    def __init__(self, socket_of_it):
+        super().__init__(socket_of_it)
+        self.requests, self.is_beginning = 0, False
+
+    def next_call(self):
+        line = super().next_call()
+        if line is None:
+            return None
+        self.requests += 1
+        if self.requests == 1:
+            self.reply(OPENED)
+        self.is_beginning = self.requests == 2 and line == ABLE
+        return None if self.requests == 1 or self.is_beginning else line
+
+    def begin(self):
+        self.is_beginning = False
+        self.reply(OPENED)
+
 
 class ProcessInstance:
     """A command that is started with a socket to the kernel in SECCOMP_BROKER_KERNEL."""
 
-    def __init__(self, command, room, name, patience, shim=None):
-        """`patience` is how long it may do something without a call of the kernel, in seconds. `shim` is the library that is preloaded into a broker as it is."""
-        self.command, self.path, self.patience = command, f"{room}/{name}", patience
+    def __init__(self, command, room, name, patience, shim=None, passing=None):
+        """`patience` is how long it may do something without a call of the kernel, in seconds. `shim` is the library that is preloaded into a broker as it is, and has the listener. `passing` says how the
+        listener is passed to it, if it is."""
+        self.path, self.patience = f"{room}/{name}", patience
+        self.passing, self.command = None, command
+        if passing is not None:
+            self.passing = Passing(passing, f"{self.path}-agent", command)
+            self.command = self.passing.command
         # (the runs would write the file of a session one over another)
-        self.environment = {**os.environ, "SECCOMP_BROKER_KERNEL": self.path, "SECCOMP_BROKER_SESSION": ""}
-        if shim is not None:
-            self.environment.update(LD_PRELOAD=shim, SECCOMP_BROKER_LISTENER=str(LISTENER))
+        self.environment = {**os.environ, "SECCOMP_BROKER_KERNEL": self.path, "SECCOMP_BROKER_SESSION": "", **(shim.variables(passing is not None) if shim is not None else {})}
         self.server = socket.socket(socket.AF_UNIX)
         self.server.bind(self.path)
-        self.server.listen(1)
-        self.process, self.status, self.connection = None, None, None
+        self.server.listen(BACKLOG)
+        # (only what is preloaded connects for each thread)
+        self.has_threads = shim is not None
+        self.watched = select.poll()
+        if self.has_threads:
+            self.watched.register(self.server, select.POLLIN)
+        self.connections: List[Connection] = []
+        self.process, self.broker, self.status = None, None, None
+        self.advance = 0
         self.written, self.output = tempfile.TemporaryFile(), b""
+
+    # ---- its start
 
     def start(self, foretold=()):
         """Starts the command, in a session of its own, so that all that it starts can be ended with it. The answers that are known by now are sent before its calls, so that it needn't wait."""
-        self.foretold = list(foretold) if sum(map(len, foretold)) <= MOST_FORETOLD else []
+        self.foretold = foretold if sum(map(len, foretold)) <= MOST_FORETOLD else ()
+        self.advance = len(self.foretold)
         try:
             self.process = subprocess.Popen(self.command, stdin=subprocess.DEVNULL, stdout=self.written, stderr=self.written, env=self.environment, start_new_session=True)
         except OSError as error:
             raise NotSupported(f"{self.command[0]} can't be started: {error.strerror}") from None
+        if self.passing is not None and not self.is_reached(self.passing.try_to_pass):
+            self.test_support(self.process.returncode)
+            raise NotSupported(f"it has ended with status {self.process.returncode}, and hasn't taken the listener at {self.passing.path}")
 
-    def accept(self):
-        """Waits for the command to connect; whether it did before it ended. Raises Hangs."""
+    def is_reached(self, attempt):
+        """Tries something until it comes about; whether it did before the command ended. Raises Hangs."""
         until = time.monotonic() + max(START, self.patience)
         while time.monotonic() < until:
-            if select.select([self.server], [], [], POLL)[0]:
-                self.connection = Connection(self.server.accept()[0])
-                self.connection.socket.settimeout(self.patience)
-                self.connection.reply(b"".join(self.foretold))
+            if attempt():
                 return True
             if self.process.poll() is not None:
                 return False
         raise Hangs
 
+    def has_connected(self):
+        """Whether the command has connected by now, for which it has a short while."""
+        if not select.select([self.server], [], [], POLL)[0]:
+            return False
+        connected = self.accept(Connection)
+        self.broker = peer_of(connected.socket)
+        connected.send(b"".join(self.foretold))
+        return True
+
+    def accept(self, kind):
+        connection = kind(self.server.accept()[0])
+        connection.socket.settimeout(self.patience)
+        self.connections.append(connection)
+        self.watched.register(connection.socket, select.POLLIN)
+        return connection
+
+    # ---- its calls
+
     def wait(self):
-        """The next call, or None where it has ended. Raises Hangs and NotSupported."""
-        if self.connection is None and not self.accept():
+        """The calls that have come by the time that all its threads wait, or None where it has ended. Raises Hangs and NotSupported."""
+        if not self.connections and not self.is_reached(self.has_connected):
             self.test_support(self.process.returncode)
             raise NotSupported(f"it has ended with status {self.process.returncode}, and hasn't connected to the socket that SECCOMP_BROKER_KERNEL names")
-        while b"\n" not in self.connection.received:
-            try:
-                is_open = self.connection.receive()
-            except socket.timeout:
-                raise Hangs from None
-            if not is_open:
+        until, calls = time.monotonic() + self.patience, []
+        while True:
+            calls += [(number, line) for number, it in enumerate(self.connections) for line in [it.next_call()] if line is not None]
+            if not any(it.is_open for it in self.connections):
                 self.leave()
                 return None
-        return [(0, self.connection.take())]
+            if all(it.is_asking for it in self.connections if it.is_open) and not self.begin_thread():
+                return calls
+            if self.has_heard(until):
+                continue
+            if len(self.connections) > 1 and is_at_rest(self.broker) and not self.has_heard(0) and not self.begin_thread():
+                return calls
+            if time.monotonic() >= until:
+                raise Hangs
+
+    def has_heard(self, until):
+        """Takes what has come, for which a single thread has until some time, and several ones have a short while; whether anything has."""
+        pause = PAUSE if len(self.connections) > 1 else max(until - time.monotonic(), 0)
+        ready = {fd for fd, _ in self.watched.poll(1000 * pause if until else 0)}
+        for it in [it for it in self.connections if it.is_open and it.socket.fileno() in ready]:
+            fd = it.socket.fileno()
+            it.receive()
+            if not it.is_open:
+                self.watched.unregister(fd)
+        if self.server.fileno() in ready:
+            self.accept(Thread)
+        return bool(ready)
+
+    def begin_thread(self):
+        """Lets the first of the threads begin that wait for it; whether there is one."""
+        beginner = next((it for it in self.connections[1:] if it.is_beginning), None)
+        if beginner is not None:
+            beginner.begin()
+        return beginner is not None
 
     def reply(self, thread, answer):
-        if self.foretold:
-            self.foretold.pop(0)
+        if self.advance > 0:
+            # (it has it already)
+            self.advance -= 1
+            self.connections[thread].is_asking = False
         else:
-            self.connection.reply(answer)
+            self.connections[thread].reply(answer)
+
+    # ---- its end
 
     def leave(self):
-        """Waits for the end of a command that has closed its connection, and may wait for the other end of it."""
-        self.connection.socket.close()
-        self.status = self.process.returncode if has_ended_within(self.process, LEAVE) else 0
+        """Waits for the end of a command whose connections are closed, and which may wait for the other end of them."""
+        self.status = self.process.returncode if self.has_ended() else 0
         self.test_support(self.status)
+
+    def has_ended(self):
+        """Whether the command ends in a while. One that isn't the broker may wait for something that doesn't come, behind the broker's end."""
+        until = time.monotonic() + LEAVE
+        if self.broker == self.process.pid:
+            return has_ended_within(self.process, LEAVE)
+        while self.process.poll() is None and time.monotonic() < until:
+            if has_gone(self.broker) and is_at_rest(self.process.pid) and self.process.poll() is None:
+                return False
+            time.sleep(PAUSE)
+        return self.process.returncode is not None
 
     def test_support(self, status):
         """Raises NotSupported where the shim has ended a broker as it is."""
-        if status == UNSUPPORTED:
-            line = next((line for line in self.output_so_far().split(b"\n") if line.startswith(UNSUPPORTED_LINE)), b"")
-            if line:
-                raise NotSupported(line[len(UNSUPPORTED_LINE):].decode("utf-8", "backslashreplace"))
+        line = next((line for line in self.output_so_far().split(b"\n") if line.startswith(UNSUPPORTED_LINE)), b"") if self.has_threads or status == UNSUPPORTED else b""
+        if line:
+            raise NotSupported(line[len(UNSUPPORTED_LINE):].decode("utf-8", "backslashreplace"))
 
     def output_so_far(self):
         self.written.seek(0)
@@ -251,11 +355,13 @@ class ProcessInstance:
 
     def finish(self):
         """Answers each of its calls by telling that the listener is closed, until it ends or has asked for too much."""
-        self.connection.socket.settimeout(LEAVE)
+        self.patience = LEAVE
         try:
             for _ in range(MOST_REFUSALS):
-                self.reply(0, CLOSED)
-                if self.wait() is None:
+                asking = [it for it in self.connections if it.is_asking]
+                for it in asking:
+                    it.reply(CLOSED)
+                if not asking or self.wait() is None:
                     return
         except Hangs:
             pass
@@ -264,9 +370,11 @@ class ProcessInstance:
         """Ends what is left of it, and takes what it has written."""
         if self.process is not None:
             self.end()
-        if self.connection is not None:
+        for it in self.connections:
             # (for the second time, if the command has closed it)
-            self.connection.socket.close()
+            it.close()
+        if self.passing is not None:
+            self.passing.close()
         self.server.close()
         os.unlink(self.path)
         self.output = self.output_so_far()

@@ -50,8 +50,16 @@ static int make(int root, int cwd, const char *path, mode_t mode, dev_t device) 
   return made == 0 ? 0 : errno;
 }
 
+#ifdef ONE_ID
+/* The id of the notification that is served. */
+static uint64_t served;
+#endif
+
 static void answer(const struct seccomp_notif *notif, int error, unsigned flags) {
   struct seccomp_notif_resp response = {.id = notif->id, .error = -error, .flags = flags};
+#ifdef ONE_ID
+  response.id = served;
+#endif
   /* (where the call has gone there is nobody to answer) */
   (void)ioctl(listener, SECCOMP_IOCTL_NOTIF_SEND, &response);
 }
@@ -78,6 +86,9 @@ static void serve_mknod(const struct seccomp_notif *notif, int memory, int root,
 }
 
 static void serve(const struct seccomp_notif *notif) {
+#ifdef ONE_ID
+  served = notif->id;
+#endif
   if (notif->data.nr != SYS_mknod) {
     answer(notif, 0, SECCOMP_USER_NOTIF_FLAG_CONTINUE);
     return;
@@ -89,6 +100,7 @@ static void serve(const struct seccomp_notif *notif) {
   close(cwd);
 }
 
+#ifndef OWN_MAIN
 int main(int argc, char **argv) {
   const char *named = argc > 1 ? argv[1] : getenv("SECCOMP_BROKER_LISTENER");
   listener = named == NULL ? -1 : atoi(named);
@@ -102,3 +114,4 @@ int main(int argc, char **argv) {
     }
   }
 }
+#endif
