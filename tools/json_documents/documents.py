@@ -2,6 +2,7 @@
 import re
 
 import pods
+from json_documents.answers import answer_lines, answers_of
 from json_documents.explanations import explanation_lines, explanation_of
 from json_documents.explorations import exploration_lines, exploration_of
 from json_documents.ledgers import handover_lines, handover_of
@@ -59,6 +60,7 @@ WORDS = {
     "handover": (handover_of, handover_lines),
     "explore": (exploration_of, exploration_lines),
     "explain": (explanation_of, explanation_lines),
+    "step": (answers_of, answer_lines),
     "run": (report_of, report_lines),
     "lanes": (report_of, report_lines),
     "pod": (pod_of, pod_lines),

@@ -10,6 +10,11 @@ class Lines:
     def __init__(self, data):
         self.lines, self.at = lines_of(data, most=len(data)), 0
 
+    @property
+    def next(self):
+        """The next line, where there is one."""
+        return self.lines[self.at]
+
     def next_is(self, text):
         return self.at < len(self.lines) and self.lines[self.at].startswith(text)
 

@@ -1,0 +1,99 @@
+"""What `step` prints: an answer to each request."""
+import re
+
+from json_documents.lines import Lines
+from json_documents.report import event_line, event_of, report_lines, report_of
+from json_documents.values import ARGUMENTS, Form, HEX_OR_DASH, Kind, LARGE, NUMBER
+from reports import ERRNO, NAME, NUMBER as DIGITS, SIGNED, SOME_HEX, NotAReport, event_of as read_event
+
+NOTIFICATION = re.compile(rf"flags=({DIGITS}) nr=({SIGNED}) arch=({DIGITS}) ip=({DIGITS}) args=((?:{DIGITS},){{5}}{DIGITS})")
+LISTED = Kind(lambda words: ARGUMENTS.read(words.replace(",", " ")), ",".join)
+OF_NOTIFICATION = Form("flags={flags} nr={call_number} arch={architecture} ip={instruction_pointer} args={arguments}", flags=NUMBER, call_number=NUMBER, architecture=NUMBER,
+                       instruction_pointer=LARGE, arguments=LISTED)
+# an event with what a worker is told beside it: of a notification that it receives, and of bytes that it reads
+RECEIVED, READ = re.compile(rf"({DIGITS} w\d+ recv id={DIGITS} pid={DIGITS}) (.*)"), re.compile(rf"({DIGITS} w\d+ read {DIGITS} {DIGITS} \S+) bytes=({SOME_HEX})")
+REPORT = re.compile(rf"report ({DIGITS})")
+# the other answers, each with what it is
+PLAIN = (
+    (re.compile(rf"able((?: {NAME})*)( recv)?"), lambda tasks, receive: {"kind": "able", "tasks": tasks.split(), "can_receive": receive is not None}),
+    (re.compile("skip"), lambda: {"kind": "skip"}),
+    (re.compile(rf"error ({ERRNO})"), lambda error: {"kind": "error", "error": error}),
+    (re.compile("refused (.+)"), lambda reason: {"kind": "refused", "reason": reason}),
+)
+
+
+def answer_of(lines):
+    """The next answer, which is a line, and of `report` the lines of a report too."""
+    line = lines.next
+    lines.at += 1
+    for form, read in PLAIN:
+        found = form.fullmatch(line)
+        if found:
+            return read(*found.groups())
+    told = REPORT.fullmatch(line)
+    return report_at(lines, int(told[1])) if told else step_of(line, lines.at)
+
+
+def report_at(lines, length):
+    """The report whose bytes are counted in the line in front of it."""
+    first, size = lines.at, 0
+    while size < length and lines.at < len(lines.lines):
+        size += len(lines.next) + 1
+        lines.at += 1
+    if size != length:
+        raise NotAReport(first, f"{length} bytes of a report should stand below")
+    try:
+        return {"kind": "report", "report": report_of("".join(f"{line}\n" for line in lines.lines[first:lines.at]).encode("ascii"))}
+    except NotAReport as fault:
+        raise NotAReport(first + fault.line, fault.why) from None
+
+
+def step_of(line, number):
+    """A step, with what a worker is told of it beside the event; `number` is the line's."""
+    received, read = RECEIVED.fullmatch(line), READ.fullmatch(line)
+    fields = received and NOTIFICATION.fullmatch(received[2])
+    event = event_in((received or read or [line, line])[1], number)
+    if received and not fields or event.get("result", {}).get("kind") in ("received", "bytes") and not (received or read):
+        raise NotAReport(number, "the fields of a notification, or the bytes that were read, should stand behind the event")
+    if received:
+        return {"kind": "received", "event": event, "notification": OF_NOTIFICATION.read(fields.groups())}
+    return {"kind": "read", "event": event, "bytes": HEX_OR_DASH.read(read[2])} if read else {"kind": "event", "event": event}
+
+
+def event_in(line, number):
+    """The event of a line, which begins with the event's place."""
+    place = line.split(" ", 1)[0]
+    try:
+        return event_of(int(place), read_event(line, place))
+    except ValueError as fault:
+        raise NotAReport(number, str(fault)) from None
+
+
+def answers_of(data):
+    lines, answers = Lines(data), []
+    while lines.at < len(lines.lines):
+        answers.append(answer_of(lines))
+    return {"answers": answers}
+
+
+def answer_lines(document):
+    for answer in document["answers"]:
+        yield from WRITTEN[answer["kind"]](answer)
+
+
+def report_text(answer):
+    report = list(report_lines(answer["report"]))
+    yield f"report {sum(len(line) + 1 for line in report)}"
+    yield from report
+
+
+WRITTEN = {
+    "able": lambda it: [" ".join(["able", *it["tasks"], *["recv"] * it["can_receive"]])],
+    "skip": lambda _: ["skip"],
+    "error": lambda it: [f"error {it['error']}"],
+    "refused": lambda it: [f"refused {it['reason']}"],
+    "event": lambda it: [event_line(it["event"])],
+    "received": lambda it: [f"{event_line(it['event'])} {OF_NOTIFICATION.write(it['notification'])}"],
+    "read": lambda it: [f"{event_line(it['event'])} bytes={HEX_OR_DASH.write(it['bytes'])}"],
+    "report": report_text,
+}
