@@ -5,6 +5,7 @@ It is in the folder `bytecode` of $XDG_CACHE_HOME/seccomp_broker, or of ~/.cache
 import os
 import stat
 import sys
+from _thread import allocate_lock
 from importlib.machinery import SOURCE_SUFFIXES, FileFinder, SourceFileLoader
 
 TOOLS = os.path.dirname(os.path.dirname(os.path.realpath(__file__)))
@@ -46,16 +47,18 @@ def folder():
 
 def loader_over(kept):
     """The loader of a module whose bytecode is in a folder."""
+    turn = allocate_lock()
 
     class Loader(SourceFileLoader):
         def get_code(self, fullname):
             # (Python asks these two where the bytecode is, and whether to write it; all other modules have theirs where they always had)
-            before = sys.pycache_prefix, sys.dont_write_bytecode
-            sys.pycache_prefix, sys.dont_write_bytecode = kept, False
-            try:
-                return super().get_code(fullname)
-            finally:
-                sys.pycache_prefix, sys.dont_write_bytecode = before
+            with turn:
+                before = sys.pycache_prefix, sys.dont_write_bytecode
+                sys.pycache_prefix, sys.dont_write_bytecode = kept, False
+                try:
+                    return super().get_code(fullname)
+                finally:
+                    sys.pycache_prefix, sys.dont_write_bytecode = before
 
     return Loader
 

@@ -72,8 +72,8 @@ def examples():
 
 
 def calls_of_step():
-    """The header and the source that a broker of one's own in C takes; they stand beside the examples as they do in a checkout."""
-    return {name: read(f"{TOP}/{name}") for name in ("include/seccomp_step.h", "lib/seccomp_step.c")}
+    """The header and the source that a broker of one's own in C takes, and that of the library for one as it is; they stand beside the examples as they do in a checkout."""
+    return {name: read(f"{TOP}/{name}") for name in ("include/seccomp_step.h", "lib/seccomp_step.c", "lib/shim.c")}
 
 
 def files_of(module):
@@ -105,7 +105,7 @@ def documents():
 
 def command(made, python="/usr/bin/env python3"):
     """The command with its tools, pages, examples, man pages and completions."""
-    home = {**tools(python), "seccomp_broker": read(made.program)._replace(mode=0o755), "examples": Link("../../share/seccomp-broker/examples"),
+    home = {**tools(python), "seccomp_broker": read(made.program)._replace(mode=0o755), **{name: Link(f"../../share/seccomp-broker/{name}") for name in ("examples", "include", "lib")},
             "about.json": text(json.dumps(making.about(made), indent=1) + "\n")}
     share = {**below(examples(), "examples"), **calls_of_step(), "proof.txt": text(making.proof_text(made))}
     found = {"bin/seccomp-broker": Link("../lib/seccomp-broker/broker"), **below(home, HOME), **below(share, SHARE)}
