@@ -245,9 +245,17 @@ class ProcessInstance:
             self.process = subprocess.Popen(self.command, stdin=subprocess.DEVNULL, stdout=self.written, stderr=self.written, env=self.environment, start_new_session=True)
         except OSError as error:
             raise NotSupported(f"{self.command[0]} can't be started: {error.strerror}") from None
-        if self.passing is not None and not self.is_reached(self.passing.try_to_pass):
-            self.test_support(self.process.returncode)
-            raise NotSupported(f"it has ended with status {self.process.returncode}, and hasn't taken the listener at {self.passing.path}")
+        if self.passing is not None:
+            self.pass_listener()
+
+    def pass_listener(self):
+        """Passes the listener to the command, once it waits for it."""
+        try:
+            if self.is_reached(self.passing.try_to_pass):
+                return
+        except Hangs:
+            raise NotSupported(f"nobody waits for the listener at {self.passing.path}") from None
+        raise NotSupported(f"it has ended with status {self.process.returncode}, and hasn't waited for the listener at {self.passing.path}")
 
     def is_reached(self, attempt):
         """Tries something until it comes about; whether it did before the command ended. Raises Hangs."""

@@ -1,7 +1,7 @@
 """An agent as it would run behind crun or runc: it waits at a Unix socket for the listener of a container (OCI runtime specification, Container process state), and makes the harmless devices that
 are asked for by mknod(2), but none below /kept. All other calls are left to the kernel. It makes its calls of Linux, with Python's own library alone.
 
-    listener_path.py SOCKET [--no-second-check]
+    listener_path.py [--no-second-check] SOCKET
 """
 import ctypes
 import errno
@@ -116,7 +116,7 @@ class Agent:
 
 
 def main():
-    state, listener = received_listener(sys.argv[1])
+    state, listener = received_listener(sys.argv[-1])
     print(f"container {state['state']['id']}, whose first process is {state['pid']}, with the metadata {state['metadata']!r}", flush=True)
     agent = Agent(listener, "--no-second-check" not in sys.argv)
     while True:

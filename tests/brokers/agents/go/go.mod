@@ -1,0 +1,7 @@
+module agent
+
+go 1.19
+
+require seccompbroker v0.0.0
+
+replace seccompbroker => ../../../../examples/go
