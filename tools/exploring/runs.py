@@ -220,6 +220,7 @@ class Run:
         self.kernel, self.shown, self.played.trouble = Kernel(self.setting.files), None, None
         for before in asked[:difference.place]:
             self.ask(before.request)
+        self.kernel.follower.answer(request)
         texts = (it.decode("latin-1").rstrip() for it in (request, difference.told, difference.other))
         self.trouble(Kind.KERNELS_DIFFER, "`{}` is answered `{}` by the kernel in Python, and `{}` by the program".format(*texts))
 
