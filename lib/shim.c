@@ -4,15 +4,15 @@
  * A library that is preloaded (ld.so(8), LD_PRELOAD); tools/make-shim makes it, and tools/explore-broker --shim uses it. It answers these calls from the kernel that SECCOMP_BROKER_KERNEL names:
  *
  *   ioctl(2) on the listener   SECCOMP_IOCTL_NOTIF_RECV, ID_VALID, SEND and ADDFD, as <linux/seccomp.h> and libseccomp's seccomp_notify_* make them
- *   poll(2) on the listener    by itself or with other descriptors
+ *   poll(2), epoll(7)          of the listener, by itself or with other descriptors
  *   open(2), openat(2)         of /proc/PID/mem, /proc/PID/root, /proc/PID/cwd and /proc/PID/fd/N
  *   read(2), pread(2), lseek(2), and pwrite(2) of a struct sysinfo, on such a memory
  *   mknodat(2)                 from such a directory
  *   mknod(2), mount(2), setxattr(2)   at a path below /proc/PID/root, or, where SECCOMP_BROKER_SAME_ROOT is set, at any other one
  *   seccomp(2)                 of a filter with a listener: it isn't installed, and whoever would have installed it waits for ever once the listener is passed on
  *
- * Other calls that concern a container's task end the broker with status 125 and a line on standard error with the call's name, as far as they are known here: epoll, process_vm_readv(2), pidfd_open(2),
- * setns(2), kill(2), mounts and devices at the machine's own paths, and any other file of /proc/PID. All else goes to the machine.
+ * Other calls that concern a container's task end the broker with status 125 and a line on standard error with the call's name, as far as they are known here: select(2), process_vm_readv(2),
+ * pidfd_open(2), setns(2), kill(2), mounts and devices at the machine's own paths, and any other file of /proc/PID. All else goes to the machine.
  *
  * The listener is the descriptor that SECCOMP_BROKER_LISTENER names, or is passed over a socket as a memory file with the name "seccomp notify" (memfd_create(2)), or comes of seccomp(2).
  *
@@ -39,6 +39,7 @@
 #include <sys/epoll.h>
 #include <sys/ioctl.h>
 #include <sys/mman.h>
+#include <sys/select.h>
 #include <sys/socket.h>
 #include <sys/stat.h>
 #include <sys/syscall.h>
@@ -533,11 +534,71 @@ EXPORTED int __poll_chk(struct pollfd *fds, nfds_t count, int timeout, size_t si
   return poll(fds, count, timeout);
 }
 
-EXPORTED int epoll_ctl(int epoll, int operation, int fd, struct epoll_event *event) {
-  if (is_listener(fd))
-    unsupported("epoll_ctl", "of the listener");
-  return REAL(epoll_ctl)(epoll, operation, fd, event);
+EXPORTED int ppoll(struct pollfd *fds, nfds_t count, const struct timespec *timeout, const sigset_t *signals) {
+  if (listener_in(fds, count) == NULL)
+    return REAL(ppoll)(fds, count, timeout, signals);
+  return poll(fds, count, timeout == NULL ? -1 : timeout->tv_sec > 0 || timeout->tv_nsec > 0);
 }
+
+EXPORTED int select(int count, fd_set *readable, fd_set *writable, fd_set *others, struct timeval *timeout) {
+  for (int fd = 0; readable != NULL && fd < count && fd < FD_SETSIZE; fd++)
+    if (FD_ISSET(fd, readable) && is_listener(fd))
+      unsupported("select", "of the listener");
+  return REAL(select)(count, readable, writable, others, timeout);
+}
+
+/* ---- epoll(7) of the listener, which is in one of its sets at most */
+
+static struct {
+  int set, fd;
+  bool is_there, is_disarmed;
+  struct epoll_event event;
+} watched;
+
+static int watch(int set, int operation, int fd, const struct epoll_event *event) {
+  bool is_known = watched.is_there && watched.set == set && watched.fd == fd;
+  if (operation == EPOLL_CTL_ADD ? is_known : !is_known) {
+    errno = operation == EPOLL_CTL_ADD ? EEXIST : ENOENT;
+    return -1;
+  }
+  if (watched.is_there && !is_known)
+    unsupported("epoll_ctl", "of the listener for the second time");
+  watched.is_there = operation != EPOLL_CTL_DEL;
+  if (!watched.is_there)
+    return 0;
+  if ((event->events & EPOLLET) != 0)
+    unsupported("epoll_ctl", "of the listener with EPOLLET");
+  watched.set = set;
+  watched.fd = fd;
+  watched.event = *event;
+  watched.is_disarmed = false;
+  return 0;
+}
+
+EXPORTED int epoll_ctl(int set, int operation, int fd, struct epoll_event *event) {
+  return is_listener(fd) ? watch(set, operation, fd, event) : REAL(epoll_ctl)(set, operation, fd, event);
+}
+
+/* Asks the others first, as poll does. */
+EXPORTED int epoll_pwait(int set, struct epoll_event *events, int most, int timeout, const sigset_t *signals) {
+  if (!watched.is_there || watched.set != set || watched.is_disarmed)
+    return REAL(epoll_pwait)(set, events, most, timeout, signals);
+  connect_once("epoll_wait");
+  for (;;) {
+    int ready = REAL(epoll_pwait)(set, events, most, 0, signals);
+    int notified = sb_able(kernel, NULL, 0);
+    if (notified < 0 || ready < 0)
+      return notified < 0 ? result(notified) : ready;
+    if (notified == 1 && ready < most && (watched.event.events & EPOLLIN) != 0) {
+      events[ready++] = (struct epoll_event){.events = EPOLLIN, .data = watched.event.data};
+      watched.is_disarmed = (watched.event.events & EPOLLONESHOT) != 0;
+    }
+    if (ready > 0 || timeout == 0)
+      return ready;
+  }
+}
+
+EXPORTED int epoll_wait(int set, struct epoll_event *events, int most, int timeout) { return epoll_pwait(set, events, most, timeout, NULL); }
 
 /* ---- what is opened by a PID */
 

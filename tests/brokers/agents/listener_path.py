@@ -1,13 +1,16 @@
 """An agent as it would run behind crun or runc: it waits at a Unix socket for the listener of a container (OCI runtime specification, Container process state), and makes the harmless devices that
 are asked for by mknod(2), but none below /kept. All other calls are left to the kernel. It makes its calls of Linux, with Python's own library alone.
 
-    listener_path.py [--no-second-check] SOCKET
+    listener_path.py [--no-second-check] [--watch] SOCKET
+
+With --watch it asks by epoll(7) whether there is a call before it receives one.
 """
 import ctypes
 import errno
 import fcntl
 import json
 import os
+import selectors
 import socket
 import stat
 import sys
@@ -119,8 +122,13 @@ def main():
     state, listener = received_listener(sys.argv[-1])
     print(f"container {state['state']['id']}, whose first process is {state['pid']}, with the metadata {state['metadata']!r}", flush=True)
     agent = Agent(listener, "--no-second-check" not in sys.argv)
+    watched = selectors.DefaultSelector()
+    if "--watch" in sys.argv:
+        watched.register(listener, selectors.EVENT_READ)
     while True:
         try:
+            if watched.get_map():
+                watched.select()
             agent.serve(agent.receive())
         except (CallerGone, FileNotFoundError):
             continue
