@@ -49,8 +49,17 @@ def has_gone(pid):
         return True
 
 
+def children_of(pid, thread):
+    """The processes that a thread has started, and that haven't ended; none where the machine doesn't tell."""
+    try:
+        with open(f"/proc/{pid}/task/{thread}/children", encoding="ascii") as file:
+            return [child for child in map(int, file.read().split()) if not has_gone(child)]
+    except FileNotFoundError:
+        return []
+
+
 def sleepers(pid):
-    """How often each thread of a process has been taken from its processor; None where one of them runs, or could, or there is none."""
+    """How often each thread of a process, and of those that it has started, has been taken from its processor; None where one of them runs, or could, or there is none."""
     found = {}
     try:
         for thread in os.listdir(f"/proc/{pid}/task"):
@@ -58,12 +67,18 @@ def sleepers(pid):
             if status["State"][0] != ASLEEP:
                 return None
             found[thread] = [status[name] for name in SWITCHES]
+            for child in children_of(pid, thread):
+                others = sleepers(child)
+                if others is None:
+                    return None
+                found.update(others)
     except OSError:
         return None
     return found or None
 
 
 def is_at_rest(pid):
-    """Whether all threads of a process wait, and none of them is left that could wake another one: they all wait when they are looked at for the second time, and none has run since the first."""
+    """Whether all threads of a process, and of those that it has started, wait, and none of them is left that could wake another one: they all wait when they are looked at for the second time, and none
+    has run since the first."""
     before = sleepers(pid)
     return before is not None and sleepers(pid) == before
