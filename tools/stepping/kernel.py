@@ -11,7 +11,7 @@ from stepping.memory import Group
 from stepping.rules import EFAULT, Mknod, Mount, OpenAt, SetXattr, base_of, kind_of, plan, request_of
 from stepping.trees import EBADF, ENOENT, ENOSYS, EPERM, Tree, Walk
 
-ESRCH, ECHILD, EAGAIN, EBUSY, EMFILE, EINPROGRESS = 3, 10, 11, 16, 24, 115
+ESRCH, ECHILD, EAGAIN, EBUSY, EMFILE, EINPROGRESS, EDQUOT = 3, 10, 11, 16, 24, 115, 122
 SIGKILL, SIGNALS = 9, (9, 10, 12, 15)
 MOST_DESCRIPTORS = 1_048_576
 SYSINFO_SIZE = 112
@@ -389,11 +389,14 @@ class Kernel:
         memory = self.worker(number).memory
         return self.note(f"w{number}", "read", address, length, memory.read(address, length) if memory else Fail(EFAULT))
 
-    def act(self, number, request):
-        return self.note(f"w{number}", "act", request, self.tree.done(request, self.worker(number).base))
+    def act(self, number, request, is_spent=False):
+        """Does it, unless its rule has granted as often as it may."""
+        return self.note(f"w{number}", "act", request, Fail(EDQUOT) if is_spent else self.tree.done(request, self.worker(number).base))
 
-    def plant(self, number, address, content):
+    def plant(self, number, address, content, is_spent=False):
         memory = self.worker(number).memory
+        if is_spent:
+            return self.note(f"w{number}", "plant", address, content, Fail(EDQUOT))
         if not memory.is_mapped(address, len(content)):
             return self.note(f"w{number}", "plant", address, content, Fail(EFAULT))
         memory.write(address, content)

@@ -36,7 +36,7 @@ class Refused(Exception):
 
 @dataclass
 class Container:
-    """What a script states. `front` are its lines before the schedule, and `schedule` the lines of that: TaskSteps, and either WorkerSteps or Asked."""
+    """What a script states. `front` are its lines before the schedule, and `schedule` the lines of that: TaskSteps, WorkerSteps and Asked."""
 
     nodes: list = field(default_factory=lambda: [Node(0, b"", "dir", None, None)])
     attributes: dict = field(default_factory=dict)
@@ -70,8 +70,8 @@ class Reader:
         self.paths = {b"/": 0}
         self.program_places, self.totals = {}, {}
         self.tree_lines, self.steps = 0, 0
-        # which kinds of lines the schedule has
-        self.scheduled = set()
+        # what the lines of each worker of the schedule are
+        self.workers = {}
 
     # ---- which reasons a line shows
 
@@ -98,8 +98,7 @@ class Reader:
         word, block = line.word, self.script.open
         if block is not None:
             ended = block.kind == PROGRAM and block.lines and block.lines[-1].word == "exit"
-            mixed = word == "w" and Asked in self.scheduled
-            return word != "end" and bool(ended or mixed or word in words.BLOCKS or words.FORMS[word].part != block.kind)
+            return word != "end" and bool(ended or word in words.BLOCKS or words.FORMS[word].part != block.kind)
         if word == "end" or self.script.schedule is not None:
             return True
         if self.script.part == SETTINGS:
@@ -115,9 +114,8 @@ class Reader:
     def request_reasons(self, line):
         """Why a worker's request is refused in a schedule."""
         fault = fault_of(line)
-        yield from filter(None, ("out of place" if WorkerSteps in self.scheduled else None, fault, None if fault == "unknown word" else seat_reason(line.operands[0])))
-        if self.steps >= MOST_STEPS:
-            yield "too large"
+        alone = list(filter(None, (fault, None if fault == "unknown word" else seat_reason(line.operands[0]))))
+        yield from alone or self.step_reasons(line)
 
     def reasons_above(self, line):
         """What a line shows beside those above it, all its operands being right by themselves."""
@@ -201,6 +199,8 @@ class Reader:
             yield "unmapped"
 
     def step_reasons(self, line):
+        if line.word == "w" and self.workers.get(number(line, 0), kind_of(line)) is not kind_of(line):
+            yield "out of place"
         if self.steps + count_of(line) > MOST_STEPS:
             yield "too large"
 
@@ -256,7 +256,8 @@ class Reader:
         """Notes a line of the schedule."""
         self.steps += count_of(line)
         self.container.schedule.append(scheduled_by(line))
-        self.scheduled.add(type(self.container.schedule[-1]))
+        if line.word == "w":
+            self.workers[number(line, 0)] = kind_of(line)
 
     def instruction(self, line):
         """An instruction of a program."""
@@ -298,6 +299,11 @@ def number(line, place):
 def count_of(line):
     """How many steps a line of the schedule has; a request is one."""
     return 1 if is_asking(line.tokens) or len(line.operands) == 1 else number(line, 1)
+
+
+def kind_of(line):
+    """What a worker's line is: a count of steps, or a request."""
+    return Asked if is_asking(line.tokens) else WorkerSteps
 
 
 def scheduled_by(line):
