@@ -3,6 +3,7 @@ import re
 from dataclasses import dataclass
 
 from messages.findings import advice, listed, meant
+from messages.script_lines import number_of
 from messages.script_words import SCHEDULE, Form, Operand
 
 WORKER = Operand("N", most=15)
@@ -71,7 +72,7 @@ OTHER_WORDS = {
     **{call: f"act {call}" for call in ACTS},
 }
 A_REQUEST = f"behind the worker's number stands a count of steps, or what the worker asks for: {listed([*OF_WORKERS, 'act'], 'or')}"
-A_KIND = "in one script workers either step by counts, as `w 0 9`, which are steps of this project's own worker, or each line says what they ask for, as `w 0 recv`"
+A_KIND = "the lines of one number are either counts, as `w 0 9`, which are steps of this project's own worker, or requests of another broker's, as `w 0 recv`: give one of the two workers another number"
 # a line of a session as the clients write it, and one of a journal
 OF_SESSION, OF_JOURNAL = re.compile(r"[<>]"), re.compile(r"\d+ ([tw])(\d[\d.]*) ")
 
@@ -121,13 +122,20 @@ def no_count(line):
     return (f"{text} is no count of steps, and no request of a worker", advice(hint, A_REQUEST)) if hint or text.isalpha() else None
 
 
-def mixed(line, above):
-    """A count of steps in a schedule with requests, or a request in one with counts: the line of the other kind above it."""
-    if no_count(line):
-        return no_count(line)
+def worker_of(line):
+    """The worker's number in a line of a schedule; None where none stands there."""
+    return number_of(word_of(line.operands[0])) if line.word == "w" and line.operands else None
+
+
+def mixed(line, others):
+    """A count of steps of a worker that has requests, or a request of one that has counts: the line of the other kind among those above it."""
+    number = worker_of(line)
+    above = next((other for other in others if worker_of(other) == number and is_request(other) != is_request(line)), None)
+    if above is None:
+        return None
     if is_request(line):
-        return f"line {above.number} counts the steps of a worker, and this line says what one asks for", A_KIND
-    return f"line {above.number} says what a worker asks for, and this line counts the steps of one", A_KIND
+        return f"line {above.number} counts steps of worker {number}, and this line says what it asks for", A_KIND
+    return f"line {above.number} says what worker {number} asks for, and this line counts steps of it", A_KIND
 
 
 def hex_out_of_range(token, operand):

@@ -112,8 +112,8 @@ def out_of_place(asked):
     if block.kind == PROGRAM and ended:
         return asked.on_word(f"nothing follows the `exit` of line {ended.number}", f"close the program by `end`, or remove the `exit`: a program exits at its end")
     if block.kind == SCHEDULE and word == "w":
-        other = next((line for line in block.lines if line.word == "w" and requests.is_request(line) != requests.is_request(asked.line)), None)
-        return other and asked.on_word(*requests.mixed(asked.line, other))
+        mixed = requests.mixed(asked.line, block.lines)
+        return mixed and asked.on_word(*mixed)
     inside = f"the {block.kind} of line {block.opening.number} isn't closed yet"
     if word in words.BLOCKS:
         return asked.on_word(f"{inside}, and `{word}` opens another block", "put `end` before this line")
