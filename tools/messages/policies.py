@@ -482,8 +482,11 @@ def foreign_keys(data):
     config_object = policy_of(text).member("config")
     known = [words.PREFIX + it for it in words.SWITCHES + words.LISTS]
     for member in config_object.members.values() if config_object and config_object.kind == "object" else ():
-        found = min(known, key=lambda it: table.distance(member.key.lower(), it))
-        if not member.key.startswith(words.PREFIX) and table.distance(member.key.lower(), found) <= NEAR_LETTERS:
+        written = member.key.lower()
+        # (a key that is longer or shorter by more letters needn't be compared letter by letter)
+        alike = [it for it in known if abs(len(it) - len(written)) <= NEAR_LETTERS and not member.key.startswith(words.PREFIX)]
+        found = min(alike, key=lambda it: table.distance(written, it), default=None)
+        if found and table.distance(written, found) <= NEAR_LETTERS:
             yield text.finding("almost-a-key", member.start, member.end, f"{member.key} is no key of LXD's, and says nothing", f"did you mean `{found}`?")
 
 
