@@ -298,11 +298,10 @@ class ProcessInstance:
                 return None
             if all(it.is_asking for it in self.connections if it.is_open) and not self.begin_thread():
                 return calls
-            if self.has_heard(until):
-                continue
-            if len(self.connections) > 1 and is_at_rest(self.broker) and not self.has_heard(0) and not self.begin_thread():
-                return calls
-            if time.monotonic() >= until:
+            if len(self.connections) > 1 and is_at_rest(self.broker):
+                if not self.has_heard(0) and not self.begin_thread():
+                    return calls
+            elif not self.has_heard(until) and time.monotonic() >= until:
                 raise Hangs
 
     def has_heard(self, until):

@@ -6,8 +6,8 @@ import struct
 import subprocess
 
 PEER = struct.Struct("iII")
-ASLEEP, ZOMBIE = "S", "Z"
-SWITCHES = ("voluntary_ctxt_switches", "nonvoluntary_ctxt_switches")
+STATE, ASLEEP, ZOMBIE, SWITCHES = b"\nState:\t", b"S", b"Z", b"\nvoluntary_ctxt_switches:"
+MOST_READ = 16_384
 
 
 def has_ended_within(process, seconds):
@@ -35,16 +35,26 @@ def peer_of(connected):
     return PEER.unpack(connected.getsockopt(socket.SOL_SOCKET, socket.SO_PEERCRED, PEER.size))[0]
 
 
+def read(path):
+    """What one of the machine's files says. Raises OSError."""
+    file = os.open(path, os.O_RDONLY)
+    try:
+        return os.read(file, MOST_READ)
+    finally:
+        os.close(file)
+
+
 def status_of(pid, thread):
-    """The fields of a thread's status. Raises OSError where there is no such thread."""
-    with open(f"/proc/{pid}/task/{thread}/status", encoding="ascii", errors="replace") as file:
-        return dict(line.rstrip("\n").split(":\t", 1) for line in file if ":\t" in line)
+    """The state of a thread, and how often it has been taken from its processor, as they stand in its status. Raises OSError where there is no such thread."""
+    text = read(f"/proc/{pid}/task/{thread}/status")
+    at = text.index(STATE) + len(STATE)
+    return text[at:at + 1], text[text.rindex(SWITCHES):]
 
 
 def has_gone(pid):
     """Whether a process has ended, although its parent may not know it yet."""
     try:
-        return status_of(pid, pid)["State"][0] == ZOMBIE
+        return status_of(pid, pid)[0] == ZOMBIE
     except OSError:
         return True
 
@@ -52,33 +62,31 @@ def has_gone(pid):
 def children_of(pid, thread):
     """The processes that a thread has started, and that haven't ended; none where the machine doesn't tell."""
     try:
-        with open(f"/proc/{pid}/task/{thread}/children", encoding="ascii") as file:
-            return [child for child in map(int, file.read().split()) if not has_gone(child)]
+        return [child for child in map(int, read(f"/proc/{pid}/task/{thread}/children").split()) if not has_gone(child)]
     except FileNotFoundError:
         return []
 
 
 def sleepers(pid):
-    """How often each thread of a process, and of those that it has started, has been taken from its processor; None where one of them runs, or could, or there is none."""
+    """The statuses of all threads of a process, and of those that it has started; None where one of them runs, or could, or there is none. Raises OSError where one has gone meanwhile."""
     found = {}
-    try:
-        for thread in os.listdir(f"/proc/{pid}/task"):
-            status = status_of(pid, thread)
-            if status["State"][0] != ASLEEP:
+    for thread in os.listdir(f"/proc/{pid}/task"):
+        found[pid, thread] = status_of(pid, thread)
+        if found[pid, thread][0] != ASLEEP:
+            return None
+        for child in children_of(pid, thread):
+            others = sleepers(child)
+            if others is None:
                 return None
-            found[thread] = [status[name] for name in SWITCHES]
-            for child in children_of(pid, thread):
-                others = sleepers(child)
-                if others is None:
-                    return None
-                found.update(others)
-    except OSError:
-        return None
-    return found or None
+            found.update(others)
+    return found
 
 
 def is_at_rest(pid):
-    """Whether all threads of a process, and of those that it has started, wait, and none of them is left that could wake another one: they all wait when they are looked at for the second time, and none
-    has run since the first."""
-    before = sleepers(pid)
-    return before is not None and sleepers(pid) == before
+    """Whether all threads of a process, and of those that it has started, wait, so that none is left that could wake another one. They all wait when they are looked at for the second time, and have not
+    run since the first."""
+    try:
+        before = sleepers(pid)
+        return bool(before) and all(status_of(*thread) == status for thread, status in before.items())
+    except OSError:
+        return False
