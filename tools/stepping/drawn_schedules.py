@@ -1,0 +1,88 @@
+"""Schedules that are drawn at random, in which some workers are this project's own and others another broker's; and those of reports, led again by workers of both kinds."""
+import random
+
+from container_tree import tokens
+from stepping.drawn import SEATS, Chooser
+from stepping.replay import request_of
+from stepping.servers import Servers
+
+LONGEST = 120
+# the greatest number of a worker in a schedule
+LAST_WORKER = 15
+
+
+class Scheduler(Chooser):
+    """Draws the lines of a schedule, each by what the kernel is like at that moment."""
+
+    def __init__(self, session, chance):
+        super().__init__(session, chance)
+        self.servers = Servers(session.rules, session.kernel)
+        self.own = chance.sample(range(SEATS), chance.choice((1, 1, 2, 2, 2, 3, 3, SEATS)))
+        self.others = [seat for seat in range(SEATS) if seat not in self.own]
+        self.lines = []
+
+    def ask(self, request):
+        super().ask(request)
+        self.lines.append(request)
+
+    def draw_lines(self):
+        for _ in range(self.chance.randrange(20, LONGEST)):
+            self.one_line()
+            if self.is_over() and self.chance.random() < 0.3:
+                break
+        return self.lines
+
+    def one_line(self):
+        kind = self.chance.random()
+        if kind < (0.45 if self.kernel.able() else 0.05):
+            self.steps_of_task()
+        elif kind < 0.75 or not self.others:
+            self.serve(self.chance.choice(self.own))
+        else:
+            self.of_worker(self.chance.choice([seat for seat in self.others if seat in self.notifs] * 3 + self.others))
+
+    def steps_of_task(self):
+        name, count = self.task(), self.chance.choice((1, 1, 2, 3))
+        task = self.kernel.tasks.get(tuple(map(int, name.split("."))))
+        for _ in range(count if task else 0):
+            self.kernel.step(task)
+        self.lines.append(f"t {name} {count}")
+
+    def serve(self, seat):
+        """Lets a worker of this project step."""
+        count = self.chance.choice((1, 1, 1, 2, 3, 9))
+        for _ in range(count):
+            self.servers.step(seat)
+        self.lines.append(f"w {seat} {count}")
+
+
+def scheduled(files, seed):
+    """A script of files with a schedule that is drawn."""
+    session = files.session()
+    return with_lines(session.kernel.container.front, Scheduler(session, random.Random(seed)).draw_lines())
+
+
+def with_lines(front, lines):
+    return front + b"schedule\n" + "".join(f"{line}\n" for line in lines).encode("latin-1") + b"end\n"
+
+
+# ---- reports, led again
+
+
+def shared_again(front, report, planted):
+    """Each worker of a report of several, and the script in which its steps are counted and those of the others asked for. Of the others a step that was a skip is left out."""
+    count = int(report.split("\n", 1)[0].split()[1])
+    events = [line.split(" ", 2)[1:] for line in report.split("\n")[2:count + 1]]
+    workers = sorted({actor for actor, _ in events if actor[0] == "w"})
+    if len(workers) < 2 or any(int(actor[1:]) > LAST_WORKER for actor in workers):
+        return
+    for own in workers:
+        lines = [line for line in (line_of(actor, words, own, planted) for actor, words in events) if line]
+        yield own, with_lines(front, lines)
+
+
+def line_of(actor, words, own, planted):
+    """The line of an event: of a task or the own worker a step, and of another worker what it asked for; none of the close."""
+    if actor[0] == "t" or actor == own:
+        return f"{actor[0]} {actor[1:]}"
+    return None if words == "skip" or actor == "listener" else request_of(actor, tokens(words), planted)
