@@ -7,6 +7,7 @@ import os
 import select
 import signal
 import socket
+import struct
 import subprocess
 import tempfile
 import time
@@ -30,6 +31,7 @@ UNSUPPORTED = 125
 UNSUPPORTED_LINE = b"shim: not supported: "
 POLL = 0.01
 PART = 65_536
+TIME = struct.Struct("ll")
 # how many bytes of answers may wait in a connection before its calls
 MOST_FORETOLD = 32_768
 # how many threads may connect at once, what they are told, and how long several threads are listened to before it is looked whether they rest, in seconds
@@ -134,7 +136,7 @@ class Connection:
     """The connection of one thread: what was received of its next call, and whether a call of it waits for its answer."""
 
     def __init__(self, socket_of_it):
-        self.socket, self.received = socket_of_it, b""
+        self.socket, self.number, self.received = socket_of_it, socket_of_it.fileno(), b""
         self.is_open, self.is_asking = True, False
 
     def receive(self):
@@ -167,7 +169,8 @@ class Connection:
             pass
 
     def close(self):
-        self.is_open = self.is_asking = False
+        # (the number may be another one's from now on)
+        self.is_open, self.is_asking, self.number = False, False, -1
         self.socket.close()
 
 
@@ -278,7 +281,8 @@ class ProcessInstance:
 
     def accept(self, kind):
         connection = kind(self.server.accept()[0])
-        connection.socket.settimeout(self.patience)
+        # (it is read where something has come, and so waits for nothing else than that an answer is taken)
+        connection.socket.setsockopt(socket.SOL_SOCKET, socket.SO_SNDTIMEO, TIME.pack(max(self.patience, 1), 0))
         self.connections.append(connection)
         self.watched.register(connection.socket, select.POLLIN)
         return connection
@@ -307,14 +311,15 @@ class ProcessInstance:
     def has_heard(self, until):
         """Takes what has come, for which a single thread has until some time, and several ones have a short while; whether anything has."""
         pause = PAUSE if len(self.connections) > 1 else max(until - time.monotonic(), 0)
-        ready = {fd for fd, _ in self.watched.poll(1000 * pause if until else 0)}
-        for it in [it for it in self.connections if it.is_open and it.socket.fileno() in ready]:
-            fd = it.socket.fileno()
-            it.receive()
-            if not it.is_open:
+        ready = self.watched.poll(1000 * pause if until else 0)
+        for fd, _ in ready:
+            if fd == self.server.fileno():
+                self.accept(Thread)
+                continue
+            connection = next(it for it in self.connections if it.number == fd)
+            connection.receive()
+            if not connection.is_open:
                 self.watched.unregister(fd)
-        if self.server.fileno() in ready:
-            self.accept(Thread)
         return bool(ready)
 
     def begin_thread(self):
@@ -357,8 +362,7 @@ class ProcessInstance:
             raise NotSupported(line[len(UNSUPPORTED_LINE):].decode("utf-8", "backslashreplace"))
 
     def output_so_far(self):
-        self.written.seek(0)
-        return self.written.read(MOST_OUTPUT)
+        return os.pread(self.written.fileno(), MOST_OUTPUT, 0)
 
     def finish(self):
         """Answers each of its calls by telling that the listener is closed, until it ends or has asked for too much."""
