@@ -17,7 +17,6 @@ from typing import List, NamedTuple
 from exploring.passing import Passing
 from exploring.processes import has_ended_within, has_gone, is_at_rest, peer_of
 
-
 # how long a command has to connect, and to end when the listener is closed, in seconds
 START, LEAVE = 60, 2
 CLOSED = b"refused closed\n"
