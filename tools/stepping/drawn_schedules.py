@@ -1,14 +1,10 @@
-"""Schedules that are drawn at random, in which some workers are this project's own and others another broker's; and those of reports, led again by workers of both kinds."""
+"""Schedules that are drawn at random, in which some workers are this project's own and others another broker's."""
 import random
 
-from container_tree import tokens
 from stepping.drawn import SEATS, Chooser
-from stepping.replay import request_of
 from stepping.servers import Servers
 
 LONGEST = 120
-# the greatest number of a worker in a schedule
-LAST_WORKER = 15
 
 
 class Scheduler(Chooser):
@@ -64,25 +60,3 @@ def scheduled(files, seed):
 
 def with_lines(front, lines):
     return front + b"schedule\n" + "".join(f"{line}\n" for line in lines).encode("latin-1") + b"end\n"
-
-
-# ---- reports, led again
-
-
-def shared_again(front, report, planted):
-    """Each worker of a report of several, and the script in which its steps are counted and those of the others asked for. Of the others a step that was a skip is left out."""
-    count = int(report.split("\n", 1)[0].split()[1])
-    events = [line.split(" ", 2)[1:] for line in report.split("\n")[2:count + 1]]
-    workers = sorted({actor for actor, _ in events if actor[0] == "w"})
-    if len(workers) < 2 or any(int(actor[1:]) > LAST_WORKER for actor in workers):
-        return
-    for own in workers:
-        lines = [line for line in (line_of(actor, words, own, planted) for actor, words in events) if line]
-        yield own, with_lines(front, lines)
-
-
-def line_of(actor, words, own, planted):
-    """The line of an event: of a task or the own worker a step, and of another worker what it asked for; none of the close."""
-    if actor[0] == "t" or actor == own:
-        return f"{actor[0]} {actor[1:]}"
-    return None if words == "skip" or actor == "listener" else request_of(actor, tokens(words), planted)
