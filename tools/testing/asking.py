@@ -6,7 +6,6 @@ import tempfile
 
 from messages.findings import Finding
 from real_workloads.script_text import TOKEN
-from testing import explained
 from testing.lines import NotUnderstood
 
 POLICY_REFUSED, SCRIPT_REFUSED = 4, 5
@@ -31,24 +30,6 @@ class Program:
     def __init__(self, path, command):
         self.path, self.command = path, command
         self.room = tempfile.TemporaryDirectory(prefix="test-")
-
-    def explain(self, policy, calls):
-        """What a policy decides of each of some calls."""
-        found = explained.found_of(calls, self.asked("explain", policy, calls))
-        if found is None:
-            raise NotAsked("what the program printed isn't understood: it isn't a decision for each call")
-        return found
-
-    def explore(self, policy, script, workers=0, delays="0"):
-        """Explores a script under a policy."""
-        # (what a test file without explorations doesn't need isn't read for it)
-        from testing import orders
-        return orders.understood(orders.explored_of, script, self.asked("explore", policy, script, str(workers), delays))
-
-    def play(self, policy, script):
-        """Plays a script's own schedule under a policy."""
-        from testing import orders
-        return orders.understood(orders.played_of, script, self.asked("play", policy, script))
 
     def asked(self, word, policy, made, *bounds):
         """What the program prints of a file that was made, a script or calls, under a policy."""

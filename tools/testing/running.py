@@ -38,7 +38,13 @@ class Job:
         return [line for line, _ in self.script.lines]
 
     def answer(self, program):
-        return program.explore(self.policy, self.script, *self.bounds) if self.bounds else program.play(self.policy, self.script)
+        """What the program prints of it."""
+        return program.asked("explore" if self.bounds else "play", self.policy, self.script, *map(str, self.bounds))
+
+    def results(self, output):
+        # (what isn't needed where all is explained isn't read for that)
+        from testing import orders
+        return self.judge(orders.understood(orders.explored_of if self.bounds else orders.played_of, self.script, output))
 
 
 @dataclass(frozen=True)
@@ -61,9 +67,13 @@ class Explaining:
         return self.calls.shown
 
     def answer(self, program):
-        return program.explain(self.policy, self.calls)
+        """What the program prints of them."""
+        return program.asked("explain", self.policy, self.calls)
 
-    def judge(self, found):
+    def results(self, output):
+        found = explained.found_of(self.calls, output)
+        if found is None:
+            raise asking.NotAsked("what the program printed isn't understood: it isn't a decision for each call")
         return [of_single(single, one) for single, one in zip(self.calls.singles, found)]
 
 
@@ -285,15 +295,15 @@ class Runner:
 
     def answer(self, job):
         begun = time.monotonic()
-        explored = job.answer(self.program)
+        output = job.answer(self.program)
         self.progress.step()
-        return explored, time.monotonic() - begun
+        return output, time.monotonic() - begun
 
     def collect(self, file, results, jobs):
         for job, future in jobs:
             try:
-                explored, seconds = future.result()
-                results.results += job.judge(explored)
+                output, seconds = future.result()
+                results.results += job.results(output)
                 results.seconds += seconds
             except NotUnderstood as fault:
                 results.findings.append(fault.found)
