@@ -3,7 +3,7 @@ import re
 
 from json_documents.lines import Lines
 from json_documents.report import event_line, event_of, report_lines, report_of
-from json_documents.values import ARGUMENTS, Form, HEX_OR_DASH, Kind, LARGE, NUMBER
+from json_documents.values import ARGUMENTS, Form, HEX_OR_DASH, Kind, LARGE, NUMBER, bytes_of, text_of_bytes
 from reports import ERRNO, NAME, NUMBER as DIGITS, SIGNED, SOME_HEX, NotAReport, event_of as read_event
 
 NOTIFICATION = re.compile(rf"flags=({DIGITS}) nr=({SIGNED}) arch=({DIGITS}) ip=({DIGITS}) args=((?:{DIGITS},){{5}}{DIGITS})")
@@ -12,7 +12,9 @@ OF_NOTIFICATION = Form("flags={flags} nr={call_number} arch={architecture} ip={i
                        instruction_pointer=LARGE, arguments=LISTED)
 # an event with what a worker is told beside it: of a notification that it receives, and of bytes that it reads
 RECEIVED, READ = re.compile(rf"({DIGITS} w\d+ recv id={DIGITS} pid={DIGITS}) (.*)"), re.compile(rf"({DIGITS} w\d+ read {DIGITS} {DIGITS} \S+) bytes=({SOME_HEX})")
-REPORT = re.compile(rf"report ({DIGITS})")
+REPORT, SCRIPT = re.compile(rf"report ({DIGITS})"), re.compile(rf"script {DIGITS}")
+# a line behind which so many bytes stand
+SIZED = re.compile(rb"(report|script) (\d+)\n")
 # the other answers, each with what it is
 PLAIN = (
     (re.compile(rf"able((?: {NAME})*)( recv)?"), lambda tasks, receive: {"kind": "able", "tasks": tasks.split(), "can_receive": receive is not None}),
@@ -22,14 +24,37 @@ PLAIN = (
 )
 
 
-def answer_of(lines):
-    """The next answer, which is a line, and of `report` the lines of a report too."""
+def without_scripts(data):
+    """The bytes of all answers with empty lines in the place of each script's, and the scripts. A script may have any bytes in its comments."""
+    kept, scripts, at = [], [], 0
+    while at < len(data):
+        end = data.find(b"\n", at) + 1 or len(data)
+        sized = SIZED.fullmatch(data, at, end)
+        behind = end + int(sized[2]) if sized else end
+        content = data[end:behind]
+        kept.append(data[at:end])
+        if sized and sized[1] == b"script":
+            if len(content) < int(sized[2]) or not content.endswith(b"\n"):
+                raise NotAReport(data.count(b"\n", 0, at) + 1, f"{int(sized[2])} bytes of a script should stand below")
+            scripts.append(content)
+            content = b"\n" * content.count(b"\n")
+        kept.append(content)
+        at = behind
+    return b"".join(kept), scripts
+
+
+def answer_of(lines, scripts):
+    """The next answer, which is a line, of `report` with the lines of a report, and of `script` with those in whose place a script stood, which is taken from `scripts`."""
     line = lines.next
     lines.at += 1
     for form, read in PLAIN:
         found = form.fullmatch(line)
         if found:
             return read(*found.groups())
+    if SCRIPT.fullmatch(line):
+        script = next(scripts)
+        lines.at += script.count(b"\n")
+        return {"kind": "script", "script": text_of_bytes(script)}
     told = REPORT.fullmatch(line)
     return report_at(lines, int(told[1])) if told else step_of(line, lines.at)
 
@@ -70,9 +95,10 @@ def event_in(line, number):
 
 
 def answers_of(data):
-    lines, answers = Lines(data), []
+    kept, scripts = without_scripts(data)
+    lines, scripts, answers = Lines(kept), iter(scripts), []
     while lines.at < len(lines.lines):
-        answers.append(answer_of(lines))
+        answers.append(answer_of(lines, scripts))
     return {"answers": answers}
 
 
@@ -87,6 +113,12 @@ def report_text(answer):
     yield from report
 
 
+def script_text(answer):
+    script = bytes_of(answer["script"])
+    yield f"script {len(script)}"
+    yield from script.decode("latin-1").split("\n")[:-1]
+
+
 WRITTEN = {
     "able": lambda it: [" ".join(["able", *it["tasks"], *["recv"] * it["can_receive"]])],
     "skip": lambda _: ["skip"],
@@ -96,4 +128,5 @@ WRITTEN = {
     "received": lambda it: [f"{event_line(it['event'])} {OF_NOTIFICATION.write(it['notification'])}"],
     "read": lambda it: [f"{event_line(it['event'])} bytes={HEX_OR_DASH.write(it['bytes'])}"],
     "report": report_text,
+    "script": script_text,
 }

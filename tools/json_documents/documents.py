@@ -76,4 +76,4 @@ def document(word, output):
 
 def text(found):
     """The bytes that the word printed, by their document."""
-    return "".join(f"{line}\n" for line in WORDS[found["word"]][1](found)).encode("ascii")
+    return "".join(f"{line}\n" for line in WORDS[found["word"]][1](found)).encode("latin-1")

@@ -39,9 +39,19 @@ def unescaped(text):
     return ESCAPED.sub(lambda found: bytes.fromhex(found[1].decode()) if found[1] else found[2], text)
 
 
+def text_of_bytes(content):
+    """Bytes as a text: UTF-8, in which `\\` is doubled, and a byte that isn't UTF-8 is `\\xHH`."""
+    return content.replace(b"\\", b"\\\\").decode("utf-8", "backslashreplace")
+
+
+def bytes_of(text):
+    """The bytes of such a text."""
+    return unescaped(text.encode("utf-8"))
+
+
 def text_of(quoted):
-    """The text between quotes: UTF-8, in which `\\` is doubled, and a byte that isn't UTF-8 is `\\xHH`."""
-    return unescaped(quoted[1:-1].encode("ascii")).replace(b"\\", b"\\\\").decode("utf-8", "backslashreplace")
+    """The text between quotes."""
+    return text_of_bytes(unescaped(quoted[1:-1].encode("ascii")))
 
 
 def quoted(content):
@@ -52,7 +62,7 @@ def quoted(content):
 
 def quoted_of(text):
     """The same text between quotes."""
-    return quoted(unescaped(text.encode("utf-8")))
+    return quoted(bytes_of(text))
 
 
 # ---- what comes of something: always an object, whose `kind` says what else it has
