@@ -1,0 +1,12 @@
+pub mod Seats
+pub mod SeatCopies
+pub mod Choices
+pub mod Effects
+pub mod Answers
+pub mod Trusted
+pub mod Verdicts
+pub mod Words
+pub mod Brokers
+pub mod Mistakes
+pub mod Allowed
+pub mod Sentences
