@@ -71,4 +71,5 @@ def save_one(place, played):
     if played.told is not None:
         (place / "judged.txt").write_text(played.told.text, encoding="latin-1")
     if PICTURE.is_file():
-        subprocess.run([sys.executable, os.fspath(PICTURE), "-o", os.fspath(place / "picture.html"), os.fspath(place / "report.txt")], stdin=subprocess.DEVNULL, check=False)
+        judged = ["--judged", os.fspath(place / "judged.txt")] if played.told is not None else []
+        subprocess.run([sys.executable, os.fspath(PICTURE), *judged, "-o", os.fspath(place / "picture.html"), os.fspath(place / "report.txt")], stdin=subprocess.DEVNULL, check=False)

@@ -36,26 +36,26 @@ class TriedAnswer:
         return self.back != CONTINUE and not isinstance(self.back, Fail)
 
     @cached_property
-    def copy(self):
-        return self.serving.valid_copy()
+    def copies(self):
+        return self.serving.valid_copies()
+
+    @cached_property
+    def known(self):
+        """Those that are whole, or have a fault. An answer that is right for one of them is right."""
+        return [copy for copy in self.copies if copy.is_known]
 
     @cached_property
     def by_registers(self):
         return decisions.rule_by_registers(self.judge.rules, self.call)
 
-    @cached_property
-    def rule(self):
-        """The rule that decides, by the copy, or by registers where there is none; None where neither tells."""
-        if self.effect is not None:
-            return self.effect.rule
-        if self.copy.texts is not None:
-            return self.judge.rule_for(self.call, self.copy.texts)
-        return self.by_registers
+    def rule_for(self, copy):
+        """The rule that decides by a copy; by registers where it has a fault, or is None. None where neither tells."""
+        return self.by_registers if copy is None or copy.texts is None else self.judge.rule_for(self.call, copy.texts)
 
     @cached_property
     def remembered(self) -> Optional[Effect]:
         """An effect of an earlier call, entered anew, whose result nobody was told."""
-        return self.judge.unused_effect(self.call, self.copy.texts)
+        return self.judge.unused_effect(self.call, self.copies)
 
 
 def no_call(tried):
@@ -67,46 +67,56 @@ def other_answer(tried):
 
 
 def uncaused(tried):
-    if tried.effect is not None or tried.copy.is_known or tried.by_registers is not None:
+    if tried.effect is not None or tried.known or tried.by_registers is not None:
         return None
-    reads, name = tried.serving.reads, decisions.names_of_texts(tried.call.number)[tried.copy.missing_part]
+    reads, newest = tried.serving.reads, tried.copies[0]
+    name = decisions.names_of_texts(tried.call.number)[newest.missing_part]
     last = [Reason("the last good check of this call", reads.checks[-1])] if reads.checks else [Reason("no good check of this call since here", tried.serving.place)]
-    return [Reason(f"byte {tried.copy.missing_byte} of the {name} is missing"), *last]
+    return [Reason(f"byte {newest.missing_byte} of the {name} is missing"), *last]
+
+
+def said_by(tried, copy):
+    """What the policy says of a copy, or by registers, in words."""
+    rule = tried.rule_for(copy)
+    if copy is not None and copy.fault is not None and (rule is None or rule.verdict in ("grant", "inject")):
+        return f"the copy has the fault {error_text(copy.fault)}"
+    return f"rule {rule.name} says {rule.verdict}" + (f" {error_text(rule.error)}" if rule.verdict == "deny" else "")
 
 
 def says(tried):
-    """What the policy says, in words."""
-    if tried.effect is None and tried.copy.fault is not None and (tried.by_registers is None or tried.by_registers.verdict in ("grant", "inject")):
-        return Reason(f"the copy has the fault {error_text(tried.copy.fault)}")
-    rule = tried.rule
-    return Reason(f"rule {rule.name} says {rule.verdict}" + (f" {error_text(rule.error)}" if rule.verdict == "deny" else ""))
+    """What the policy says of each copy that is known, or by registers where none is."""
+    return [Reason(text) for text in dict.fromkeys(said_by(tried, copy) for copy in tried.known or [None])]
 
 
-def is_base_error(tried):
+def is_base_error(tried, copy):
     """Whether a relative path was refused since the call's descriptor leads to no directory."""
-    texts = tried.copy.texts
-    if tried.back.number != EBADF or tried.serving.base_refused_at is None or texts is None:
+    if tried.back.number != EBADF or tried.serving.base_refused_at is None or copy is None or copy.texts is None:
         return False
-    paths = [text for name, text in zip(decisions.names_of_texts(tried.call.number), texts) if name in ("path", "target")]
+    paths = [text for name, text in zip(decisions.names_of_texts(tried.call.number), copy.texts) if name in ("path", "target")]
     return not any(path.startswith(b"/") for path in paths)
 
 
-def is_said(tried):
-    """Whether an error without an effect is what the policy says, or the fault of the copy."""
-    number, rule = tried.back.number, tried.rule
-    if number == tried.copy.fault:
+def leads_to_error(tried, copy):
+    """Whether an error without an effect is the fault of a copy, or what the policy says of it; by registers where it is None."""
+    number, rule = tried.back.number, tried.rule_for(copy)
+    if copy is not None and number == copy.fault:
         return True
     if rule is None:
         return False
     if rule.verdict == "deny":
         return number == rule.error
-    return rule.verdict == "grant" and (number == EDQUOT and tried.judge.is_spent(rule) or is_base_error(tried))
+    return rule.verdict == "grant" and (number == EDQUOT and tried.judge.is_spent(rule) or is_base_error(tried, copy))
+
+
+def leads_to_pass(tried, copy):
+    rule = tried.rule_for(copy)
+    return rule is not None and rule.verdict == "pass"
 
 
 def denied_otherwise(tried):
-    if tried.effect is not None or not isinstance(tried.back, Fail) or is_said(tried):
+    if tried.effect is not None or not isinstance(tried.back, Fail) or any(leads_to_error(tried, copy) for copy in tried.known or [None]):
         return None
-    return [says(tried)]
+    return says(tried)
 
 
 def passed_otherwise(tried):
@@ -114,9 +124,7 @@ def passed_otherwise(tried):
         return None
     if tried.effect is not None:
         return [Reason("this was done for the call", tried.effect.place)]
-    if tried.copy.fault is not None and tried.by_registers is None:
-        return [says(tried)]
-    return None if tried.rule.verdict == "pass" else [says(tried)]
+    return None if any(leads_to_pass(tried, copy) for copy in tried.known or [None]) else says(tried)
 
 
 def granted_not_done(tried):

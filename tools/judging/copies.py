@@ -6,6 +6,7 @@ from typing import Optional
 from stepping.facts import Fail
 from stepping.memory import Group
 from stepping.rules import ADDRESSES, E2BIG, EFAULT, VALUE_LIMIT, plan
+from stepping.rules import Copy as PlannedCopy
 
 ZERO = b"\0"
 UNKNOWN, NOT_MAPPED = -1, -2
@@ -118,7 +119,7 @@ class Reads:
             missing -= given
         return found
 
-    # ---- the newest copy
+    # ---- copies
 
     def newest(self, part, reads):
         """For each place of a part its newest byte, or that it isn't mapped, or that it wasn't read."""
@@ -133,8 +134,26 @@ class Reads:
                 found[behind] = NOT_MAPPED
         return found
 
-    def copy(self, quality):
-        """The copy that the reads of at least this quality make."""
+    def copies(self, quality):
+        """The copies that the reads of at least this quality make. They differ where the caller writes over its memory between two reads of one place, of which the first was for one text and the second for another."""
+        return self.newest_copy(quality), self.planned_copy(quality)
+
+    def whole(self, quality):
+        """The texts of those copies that are whole."""
+        return tuple(copy.texts for copy in self.copies(quality) if copy.texts is not None)
+
+    def planned_copy(self, quality):
+        """The copy in the plan's order: each read is taken that is of the piece that is then wanted."""
+        planned = PlannedCopy(self.call.number, self.call.args)
+        for read in self.at_least(quality):
+            if read.memory is not None and (read.address, read.length) == planned.wanted:
+                planned.hear(read.answer)
+        if planned.fault is not None:
+            return Copy(fault=planned.fault.number)
+        return Copy(texts=tuple(planned.texts)) if planned.is_whole else Copy(missing_part=len(planned.texts), missing_byte=len(planned.content))
+
+    def newest_copy(self, quality):
+        """The copy with the newest byte at each place."""
         reads, texts, missing = self.at_least(quality), [], None
         for at, part in enumerate(self.parts):
             if not part.is_text and part.limit > VALUE_LIMIT:

@@ -1,5 +1,6 @@
 """The clauses of an effect. Each test gives None where its clause is kept, and else why it is broken."""
 from dataclasses import dataclass
+from functools import cached_property
 from typing import Optional
 
 from judging import clauses, decisions
@@ -28,11 +29,21 @@ class TriedEffect:
 
     @property
     def texts(self):
-        """The texts for which it is done: those that it names, or else the newest copy of the best reads that make one."""
-        if self.kind == ACT:
-            return decisions.texts_of(self.asked)
-        copies = (self.serving.reads.copy(quality).texts for quality in reversed(Quality))
-        return next((texts for texts in copies if texts is not None), ())
+        """The texts that it names."""
+        return decisions.texts_of(self.asked) if self.kind == ACT else ()
+
+    @cached_property
+    def all_texts(self):
+        """The texts for which it may be done: those that it names, or, of a descriptor, each whole copy of the best reads that make one."""
+        if self.kind != PUT:
+            return (self.texts,)
+        return next(filter(None, map(self.serving.reads.whole, reversed(Quality))), ())
+
+
+    @property
+    def is_counted(self):
+        """Whether it spends one of its rule's times: something was done, and no descriptor was put in."""
+        return self.answer is None and self.kind != PUT
 
 
 # ---- what it is about
@@ -75,8 +86,8 @@ def weakest(tried):
                     found = (quality, at, byte, read)
     elif tried.kind == PUT:
         for quality in (Quality.ANY, Quality.OF_CALLER, Quality.WHILE_LISTED, Quality.CHECKED):
-            copy = reads.copy(quality)
-            if copy.texts is None:
+            if not reads.whole(quality):
+                copy = reads.newest_copy(quality)
                 better = reads.at_least(Quality(quality - 1))
                 return Quality(quality - 1), copy.missing_part, copy.missing_byte, better[-1] if better else None
     return found
@@ -94,7 +105,7 @@ def unread(tried, _):
     quality, at, byte, _ = weakest(tried)
     if quality != Quality.NONE:
         return None
-    fault = tried.serving.reads.copy(Quality.ANY).fault if tried.kind == PUT else None
+    fault = tried.serving.reads.newest_copy(Quality.ANY).fault if tried.kind == PUT else None
     return [Reason(f"byte {byte} of the {named(tried, at)}" if fault is None else f"the copy has the fault {error_text(fault)}"), since]
 
 
@@ -151,21 +162,21 @@ def is_granted(tried, rule, judge):
 
 def readings(tried):
     """Reads on which its texts may rest, as few as the newest ones make it."""
-    found = {read.place: f"the {named(tried, at)} was read here" for at, text in enumerate(tried.texts) for read in tried.serving.reads.newest_support(at, text)}
+    found = {read.place: f"the {named(tried, at)} was read here" for at, text in enumerate(tried.all_texts[0]) for read in tried.serving.reads.newest_support(at, text)}
     return [Reason(text, place) for place, text in sorted(found.items())]
 
 
 def ungranted(tried, judge):
-    rule = judge.rule_for(tried.serving.call, tried.texts)
-    if is_granted(tried, rule, judge):
+    rules = [judge.rule_for(tried.serving.call, texts) for texts in tried.all_texts]
+    if any(is_granted(tried, rule, judge) for rule in rules):
         return None
-    says = f"rule {rule.name} says {rule.verdict}"
-    return [*readings(tried), Reason(says if rule.verdict not in ("grant", "inject") else f"{says}, but not just this")]
+    says = f"rule {rules[0].name} says {rules[0].verdict}"
+    return [*readings(tried), Reason(says if rules[0].verdict not in ("grant", "inject") else f"{says}, but not just this")]
 
 
 def spent(tried, judge):
-    rule = judge.rule_for(tried.serving.call, tried.texts)
-    if tried.answer is not None or not judge.is_spent(rule):
+    rule = judge.rule_for(tried.serving.call, tried.texts) if tried.is_counted else None
+    if rule is None or not judge.is_spent(rule):
         return None
     return [Reason(f"rule {rule.name} grants {rule.times} in all"), *(Reason("one of them", place) for place in judge.times[rule.name])]
 

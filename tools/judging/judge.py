@@ -30,6 +30,8 @@ class Judge:
     def __init__(self, kernel: Kernel, rules):
         self.kernel, self.rules = kernel, rules
         self.fault: Optional[Fault] = None
+        # how many events were taken
+        self.heard = len(kernel.events)
         self.counts = Counts()
         self.tables = Tables(kernel)
         self.entries: Dict[Call, Entry] = {}
@@ -47,9 +49,17 @@ class Judge:
         self.opened_memory: Dict[int, int] = {}
         self.opened_base: Dict[int, int] = {}
 
+    def hear(self):
+        """Takes the newest event of the kernel, if it is one that wasn't taken yet."""
+        place = len(self.kernel.events) - 1
+        if place >= self.heard:
+            self.heard = place + 1
+            event = self.kernel.events[place]
+            self.take(place, event, event.facts[1] if event.kind == "plant" else b"")
+
     def take(self, place, event, content=b""):
         """Takes an event; `content` is what a plant was asked to write."""
-        if self.fault is not None:
+        if self.fault is not None or event.kind == "skip":
             return
         if event.actor[0] == "w":
             self.take_of_worker(place, int(event.actor[1:]), event.kind, event.facts, content)
@@ -164,14 +174,13 @@ class Judge:
             self.note_effect(tried)
 
     def note_effect(self, tried):
-        texts, call = tried.texts, tried.serving.call
-        rule = self.rule_for(call, texts)
-        is_put = tried.kind == PUT
+        call, is_put = tried.serving.call, tried.kind == PUT
         request = self.kernel.worker(tried.serving.worker).request if is_put and tried.answer is None else None
-        effect = Effect(tried.place, tried.kind, call, rule, texts, tried.answer, request, tried.asked.flags if is_put else 0)
+        effect = Effect(tried.place, tried.kind, call, tried.all_texts, tried.answer, request, tried.asked.flags if is_put else 0)
         tried.serving.effect = effect
         self.effects.append(effect)
-        if tried.answer is None and rule.times is not None:
+        rule = self.rule_for(call, tried.texts) if tried.is_counted else None
+        if rule is not None and rule.times is not None:
             self.times.setdefault(rule.name, []).append(tried.place)
 
     def take_answer(self, place, serving, identifier, back, answer):
@@ -185,13 +194,14 @@ class Judge:
         if source is not None and answer is None:
             source.used_at = place
 
-    def unused_effect(self, call, texts):
-        """An effect that succeeded for an earlier call of the same task, with equal registers and texts, and whose outcome no call has returned."""
+    def unused_effect(self, call, copies):
+        """An effect that succeeded for an earlier call of the same task, with equal registers and the texts of one of these copies, and whose outcome no call has returned."""
         alike = (
             effect for effect in self.effects
             if effect.call is not call and effect.call.task is call.task and (effect.call.number, effect.call.args) == (call.number, call.args)
         )
-        return next((it for it in alike if texts is not None and it.texts == texts and it.has_succeeded and it.used_at is None and it.call.back is None), None)
+        texts = {copy.texts for copy in copies if copy.texts is not None}
+        return next((it for it in alike if texts.intersection(it.all_texts) and it.has_succeeded and it.used_at is None and it.call.back is None), None)
 
     # ---- what is found
 
@@ -217,9 +227,8 @@ class Judge:
             return
         self.find(place, clauses.UNANSWERED, call, [])
 
-    @staticmethod
-    def waits(call):
-        return call.is_listed and call.is_waiting
+    def waits(self, call):
+        return call.is_listed and call.is_waiting and not self.kernel.is_closed
 
     def note_idle(self):
         """The broker does nothing more by itself: each call that it has received is answered, or has gone."""

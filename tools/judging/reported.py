@@ -3,7 +3,9 @@ import re
 
 from judging.sessions import Follower
 from stepping.facts import CALL_NAMES
-from stepping.replay import replayed
+from stepping.kernel import Kernel
+from stepping.replay import SPENT, replayed
+from stepping.requests import read_request
 from stepping.rules import kind_of
 
 # a report tells the kind of a node and not its permissions
@@ -23,8 +25,19 @@ def with_permissions(request, judge):
 
 
 def followed_report(report, rules, container) -> Follower:
-    """What the judge has heard of the events of a report. Raises NotReplayed."""
+    """What the judge has heard of the events of a report."""
     follower = Follower(rules, container)
-    for request in replayed(report, follower.kernel.container_sysinfo())[0]:
-        follower.answer(with_permissions(request, follower.judge).encode("latin-1"))
+    requests, kept = replayed(report, follower.kernel.container_sysinfo(), may_be_spent=True)
+    for request, line in zip(requests, kept.split("\n")[2:]):
+        asked = with_permissions(request, follower.judge).encode("latin-1")
+        if SPENT.match(line):
+            refuse(follower, read_request(asked))
+        else:
+            follower.answer(asked)
     return follower
+
+
+def refuse(follower, asked):
+    """Asks for an effect whose rule is spent, so that it isn't done."""
+    {"act": Kernel.act, "plant": Kernel.plant}[asked.word](follower.kernel, asked.worker, *asked.operands, is_spent=True)
+    follower.judge.hear()

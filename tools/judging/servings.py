@@ -1,24 +1,22 @@
 """What a worker does for one notification, and what is known of the call that it is about."""
 from dataclasses import dataclass
-from typing import Optional
+from typing import Optional, Tuple
 
 from judging.copies import Copy, Quality, Reads
 from stepping.facts import SEND, Fail
 from stepping.kernel import EMFILE, ENOENT, Call
 from stepping.kernel import Request as DescriptorRequest
-from stepping.rules import Rule
 from stepping.trees import EBADF
 
 
 @dataclass(eq=False)
 class Effect:
-    """An effect: the deciding rule, the texts for which it was done, and what came of it."""
+    """An effect: the texts for which it may have been done, one or more, and what came of it."""
 
     place: int
     kind: str
     call: Call
-    rule: Optional[Rule]
-    texts: tuple
+    all_texts: tuple
     answer: Optional[Fail]
     # of a request for a descriptor: what the kernel keeps of it, and its flags
     request: Optional[DescriptorRequest] = None
@@ -85,6 +83,6 @@ class Serving:
         """Whether an answer to the call was tried."""
         return self.answered_at is not None or (self.effect is not None and self.effect.has_answered)
 
-    def valid_copy(self) -> Copy:
-        """The copy of the arguments: at each place the newest byte that a good check follows."""
-        return self.reads.copy(Quality.CHECKED)
+    def valid_copies(self) -> Tuple[Copy, Copy]:
+        """The copies of the arguments that a good check follows."""
+        return self.reads.copies(Quality.CHECKED)

@@ -57,11 +57,8 @@ class Follower:
 
     def answer(self, request: bytes) -> str:
         """The answer to a request, with its newline; of a report and of a script all of it."""
-        before = len(self.kernel.events)
         told = self.session.answer(request)
-        if len(self.kernel.events) > before:
-            event = self.kernel.events[before]
-            self.judge.take(before, event, event.facts[1] if event.kind == "plant" else b"")
+        self.judge.hear()
         return told
 
     def follow(self, exchanges):

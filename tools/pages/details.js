@@ -85,11 +85,20 @@ class Details {
     return make("button", { type: "button", class: "small", onclick: action }, text);
   }
 
+  /** What is broken at an event, and why. */
+  broken(place) {
+    const { broken } = this.model.scene;
+    if (!broken || broken.place !== place) return [];
+    const reason = ([at, text]) => make("li", {}, at === null ? text : make("button", { type: "button", class: "small", onclick: () => this.choose(at) }, `Event ${at}`), at === null ? null : ` ${text}`);
+    return [make("div", { class: "broken-clause" }, make("h2", {}, `Broken: ${broken.class}, `, make("code", {}, broken.clause)), make("p", {}, `${broken.means}.`), make("ul", {}, ...broken.reasons.map(reason)))];
+  }
+
   trail(call, place) {
     const { model } = this;
     const lane = model.lanes[call.lane];
     const sessions = call.sessions.map((number) => model.sessions[number]);
     return [
+      ...this.broken(place),
       make("h2", {}, make("code", {}, call.name), ` by ${laneName(lane)}`),
       this.facts([
         ["Process", call.pid],
@@ -157,6 +166,7 @@ class Details {
     const { model } = this;
     const lane = model.lanes[model.scene.lane[place]];
     return [
+      ...this.broken(place),
       make("h2", {}, `Event ${place}`),
       make("p", {}, this.actor(lane.number), " ", model.scene.words[place]),
       ...(model.tags.get(place) || []).map((tag) => make("p", { class: `tag ${tag.kind}` }, tag.text)),

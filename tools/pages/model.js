@@ -14,6 +14,7 @@ class Model {
       number, place, lane, call, end, id, rule, verdict, answer, reply, copy,
     }));
     scene.call.forEach((call, place) => call >= 0 && this.calls[call].events.push(place));
+    this.addCauses(scene.causes);
     this.arrows = byPlace(scene.arrows.map(([kind, place, source, target, lost]) => ({ kind, place, source, target, lost: lost === 1 })));
     this.tags = byPlace(scene.tags.map(([place, kind, text, rule]) => ({ place, kind, text, rule })));
     this.rules = [...new Set(this.sessions.map((session) => session.rule))].filter((rule) => rule !== "-").sort();
@@ -21,6 +22,20 @@ class Model {
     this.blocks = blocksOf(this.spans);
     this.places = this.findLines();
     this.only(null);
+  }
+
+  /** Steps of others that have brought something to a call belong to its trail. */
+  addCauses(causes) {
+    this.causes = this.calls.map(() => new Set());
+    for (const [place, call] of causes) if (this.scene.call[place] !== call) this.causes[call].add(place);
+    this.calls.forEach((call, number) => {
+      if (this.causes[number].size) call.events = [...call.events, ...this.causes[number]].sort((one, other) => one - other);
+    });
+  }
+
+  /** Whether an event is of a call, or has brought something to it. */
+  concerns(place, call) {
+    return call >= 0 && (this.scene.call[place] === call || this.causes[call].has(place));
   }
 
   /** What goes over several rows: lanes, calls, sessions, and the two checks of a session. */
@@ -58,7 +73,8 @@ class Model {
     this.chosenCalls = filter && new Set(this.callsOf(filter));
     const all = Array.from({ length: this.count }, (_, place) => place);
     const lane = filter && filter.kind === "lane" ? filter.value : -1;
-    this.rows = filter ? all.filter((place) => this.scene.lane[place] === lane || this.chosenCalls.has(this.scene.call[place])) : all;
+    const caused = new Set(filter && [...this.chosenCalls].flatMap((call) => [...this.causes[call]]));
+    this.rows = filter ? all.filter((place) => this.scene.lane[place] === lane || this.chosenCalls.has(this.scene.call[place]) || caused.has(place)) : all;
     const lanes = new Set(this.rows.map((place) => this.scene.lane[place]));
     const columns = [...new Set([...lanes].map((number) => this.lanes[number].column))].sort((one, other) => one - other);
     this.columns = new Map(columns.map((column, at) => [column, at]));

@@ -1,6 +1,7 @@
 "use strict";
 
 const NOTES = {
+  broken: "a clause is broken",
   other: "another task is opened", reused: "PID reused", gone: "caller or call gone", lost: "answer lost", restarted: "call made again",
   fault: "arguments unreadable", deny: "call denied", spent: "grant spent", open: "call comes to nothing", replaced: "worker replaced",
 };
@@ -30,7 +31,8 @@ class Picture {
     this.measure();
     this.rowHeight = this.usual;
     this.measure();
-    this.choose(this.placeOfAddress(), { quiet: true });
+    const asked = this.placeOfAddress();
+    this.choose(asked < 0 && scene.broken ? scene.broken.place : asked, { quiet: true });
   }
 
   // ---- sizes
@@ -177,7 +179,7 @@ class Picture {
     const { model } = this;
     const { scene } = model;
     const place = model.rows[row];
-    const own = this.call >= 0 && scene.call[place] === this.call || place === this.chosen ? " in" : "";
+    const own = model.concerns(place, this.call) || place === this.chosen ? " in" : "";
     const y = this.y(row) - top;
     for (const arrow of model.arrows.get(place) || []) {
       const x1 = this.x(arrow.source);
@@ -212,11 +214,16 @@ class Picture {
     const { scene } = model;
     const place = model.rows[row];
     const lane = model.lanes[scene.lane[place]];
-    const kinds = ["row", this.call >= 0 && scene.call[place] === this.call && "in", place === this.chosen && "in chosen", this.hitSet?.has(place) && "hit"].filter(Boolean);
+    const kinds = ["row", ...this.ground(place), model.concerns(place, this.call) && "in", place === this.chosen && "in chosen", this.hitSet?.has(place) && "hit"].filter(Boolean);
     return this.placed(make("div", { class: kinds.join(" "), role: "option", id: `row-${place}`, "aria-selected": String(place === this.chosen), "aria-setsize": model.rows.length, "aria-posinset": row + 1, "aria-label": `${place}, ${laneName(lane)} ${scene.words[place]}${(model.tags.get(place) || []).map((tag) => `, ${tag.text}`).join("")}`, title: model.lines[place + 1].slice(0, 300) },
       make("span", { class: `actor ${lane.kind}` }, laneName(lane)),
       make("span", { class: "what" }, scene.words[place]),
       ...(model.tags.get(place) || []).map((tag) => make("span", { class: `tag ${tag.kind}`, "data-rule": tag.rule ?? undefined, title: tag.rule ? `Only rule ${tag.rule}` : undefined }, tag.text))), row);
+  }
+
+  /** What a row is marked by: that a clause is broken there, or that this rests on it. */
+  ground(place) {
+    return (this.model.tags.get(place) || []).map((tag) => tag.kind).filter((kind) => kind === "broken" || kind === "rests");
   }
 
   /** The rows whose words have room where rows are small: what is chosen or found first, then what failed, and then calls. */

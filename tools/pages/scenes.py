@@ -6,10 +6,13 @@ its task entered, a session is what its worker does from a receive to its end. V
 import heapq
 import re
 
-from words import address, arguments, bytes_text, is_error, words_of
+from copies import Copied
+from words import address, arguments, is_error, words_of
 
 # so many tasks have a column each; where there are more, a task takes the column of one that has ended
 OWN_COLUMNS = 12
+# so many of the newest pokes of a memory are looked through for those that have changed what is read
+POKES = 64
 OUTCOMES = {"restarted": "made again", "ended": "never returned", "open": "came to nothing"}
 
 
@@ -17,6 +20,8 @@ class Lane:
     def __init__(self, name, kind, first):
         self.name, self.kind, self.first = name, kind, first
         self.last, self.ended, self.reaped, self.pid, self.column = first, None, None, None, None
+        # the pokes of all tasks that share the lane's memory
+        self.pokes = []
 
     def told(self):
         return [self.name, self.kind, self.first, self.last, self.ended, self.reaped, self.pid, self.column]
@@ -30,6 +35,8 @@ class Scene:
         self.lanes, self.order = {}, []
         self.lane_of, self.call_of, self.arrows, self.notes, self.tags = [], [], [], [], []
         self.calls, self.sessions, self.brackets = [], [], []
+        # what is told of a step otherwise than by its line alone; and steps of others that have brought something to a call
+        self.said, self.causes, self.signals = {}, [], {}
         self.current, self.by_id, self.open_sessions, self.holders = {}, {}, {}, {}
         self.judged = {judged.place: judged for judged in report.audit}
         self.outcomes = {call.place: call for call in report.calls}
@@ -74,6 +81,8 @@ class Scene:
         if error is None:
             child = self.lane(f"t{name}", place)
             child.pid = pid
+            if kind == "share":
+                child.pokes = lane.pokes
             before = self.holders.get(pid)
             if before is not None and before is not child:
                 self.note("reused", place)
@@ -114,13 +123,23 @@ class Scene:
     def resume(self, place, lane, back):
         return self.current.get(lane.name) if back == "continue" else self.over(lane, place)
 
-    def kill(self, place, lane, pid, _, result):
-        self.arrow("kill", place, lane, self.holders.get(pid), result != "ok")
+    def kill(self, place, lane, pid, number, result):
+        receiver = self.holders.get(pid)
+        self.arrow("kill", place, lane, receiver, result != "ok")
+        if receiver is not None:
+            self.signals[receiver.name, number] = place
 
-    def deliver(self, place, lane, _, effect):
+    def deliver(self, place, lane, number, effect):
         if effect == "end":
             lane.ended = place
-        return None if effect == "run" else self.over(lane, place)
+        call = None if effect == "run" else self.over(lane, place)
+        self.cause(self.signals.pop((lane.name, number), None), call)
+        return call
+
+    def cause(self, place, call):
+        """Notes that a step has brought something to a call of another task."""
+        if place is not None and call is not None and [place, call["number"]] not in self.causes[-POKES:]:
+            self.causes.append([place, call["number"]])
 
     def wait(self, place, lane, child):
         if not is_error(child) and f"t{child}" in self.lanes:
@@ -132,10 +151,13 @@ class Scene:
         lane.ended = place
         return self.over(lane, place)
 
-    def poke(self, place, lane, *_):
+    def poke(self, place, lane, at, data):
+        lane.pokes.append((place, lane, int(at), len(data) // 2))
+
+    def handler(self, place, lane, *_):
         return None
 
-    handler = skip = poke
+    skip = handler
 
     # ---- steps of workers
 
@@ -144,8 +166,8 @@ class Scene:
             return None
         self.finish(lane, place)
         judged, call = self.judged[place], self.by_id.get(notification)
-        session = {"place": place, "lane": lane, "call": call, "end": None, "judged": judged, "copy": [], "first": None, "second": None, "good": False,
-                   "decided": None, "sent": None, "other": False}
+        session = {"place": place, "lane": lane, "call": call, "end": None, "judged": judged, "copy": Copied(call), "first": None, "second": None, "good": False,
+                   "decided": None, "sent": None, "other": None}
         self.open_sessions[lane.name] = session
         self.sessions.append(session)
         if call is not None:
@@ -175,9 +197,10 @@ class Scene:
         if holder is not None and holder is not session["call"]["lane"]:
             self.arrow("other", place, lane, holder)
             self.tag(place, "odd", f"process {pid} is task {holder.name[1:]} now")
-            if not session["other"]:
+            if session["other"] is None:
                 self.note("other", place)
-            session["other"] = True
+            session["other"] = holder
+            self.cause(holder.first, session["call"])
         return session["call"]
 
     open_mem = open_base = opening
@@ -197,9 +220,17 @@ class Scene:
         session = self.open_sessions.get(lane.name)
         if session is None:
             return None
-        told = data if is_error(data) else '""' if data == "-" else bytes_text(bytes.fromhex(data))
-        session["copy"].append([place, address(at), int(length), told])
+        self.said[place] = session["copy"].take(place, int(at), int(length), data)
+        self.note_changes(session, int(at), int(length))
         return session["call"]
+
+    def note_changes(self, session, at, length):
+        """Notes which steps of other tasks have changed what is read for a call, while that waited."""
+        call, other = session["call"], session["other"]
+        for lane in filter(None, (call and call["lane"], other)):
+            for place, writer, begin, size in lane.pokes[-POKES:]:
+                if writer is not call["lane"] and place > call["place"] and begin < at + length and at < begin + size:
+                    self.cause(place, call)
 
     def answer(self, kind, place, lane, result):
         session = self.open_sessions.get(lane.name)
@@ -215,6 +246,10 @@ class Scene:
         return self.answer("send", place, lane, result)
 
     def addfd_put(self, place, lane, _id, _source, _target, result):
+        session = self.open_sessions.get(lane.name)
+        path = session and session["copy"].path()
+        if path is not None:
+            self.said[place] = f"{words_of(self.report.events[place])}, as {path}"
         return self.answer("put", place, lane, result)
 
     # ---- the whole
@@ -225,6 +260,7 @@ class Scene:
             self.finish(lane, last)
         for session in self.sessions:
             self.tag_session(session)
+            session["copy"].name_texts()
         self.set_columns(last)
         self.order = sorted(self.lanes.values(), key=lambda lane: ({"task": 0, "listener": 1, "worker": 2}[lane.kind], lane.column))
 
@@ -263,7 +299,7 @@ class Scene:
         calls = [[call["place"], number[call["lane"].name], call["name"], call["pid"], call["verdict"], call["outcome"], call["end"], call["arguments"], call["sessions"]]
                  for call in self.calls]
         sessions = [[session["place"], number[session["lane"].name], -1 if session["call"] is None else session["call"]["number"], session["end"],
-                     session["judged"].id, session["judged"].rule, session["judged"].verdict, session["judged"].answer, session["judged"].reply, session["copy"]]
+                     session["judged"].id, session["judged"].rule, session["judged"].verdict, session["judged"].answer, session["judged"].reply, session["copy"].told]
                     for session in self.sessions]
         return {
             "lines": self.report.lines,
@@ -271,12 +307,13 @@ class Scene:
             "lane": [number[lane.name] for lane in self.lane_of],
             "step": [event.word for event in self.report.events],
             "bad": [int(is_bad(event)) for event in self.report.events],
-            "words": [words_of(event) for event in self.report.events],
+            "words": [self.said.get(place) or words_of(event) for place, event in enumerate(self.report.events)],
             "call": self.call_of,
             "calls": calls,
             "sessions": sessions,
             "brackets": [[number[lane.name], first, last, good, -1 if call is None else call["number"]] for lane, first, last, good, call in self.brackets],
             "arrows": [[kind, place, number[source.name], number[target.name], lost] for kind, place, source, target, lost in self.arrows],
+            "causes": self.causes,
             "notes": self.notes,
             "tags": self.tags,
             "summary": self.report.summary,

@@ -5,6 +5,7 @@ import pods
 from json_documents.explorations import exploration_of
 from json_documents.report import EVENTS
 from json_documents.values import ACTOR, result_word, verdict_words
+from judged import judged_of, marked
 from reports import STEPS, NotAReport, lines_of, read
 from scenes import scene_of
 from words import WORDS, is_error
@@ -12,6 +13,13 @@ from words import WORDS, is_error
 TITLES = {"report": "A report", "handover": "A handover", "pod": "A pod", "exploration": "An exploration"}
 TITLE = re.compile(r"handovers (\d{1,20})")
 LEDGER = re.compile(r"ledger (\d{1,20}) (w\d{1,3}) (\{.*\})")
+
+
+def judged_view(data, text):
+    """The view of a report with what the judge says of its history. NotAReport says at which line one of the two is none."""
+    report = read(data)
+    judged, scene = judged_of(text, report), scene_of(report)
+    return {"kind": "report", "scene": scene if judged is None else marked(scene, judged)}
 
 
 def view_of(data):

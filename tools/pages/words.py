@@ -19,6 +19,8 @@ ARGUMENTS = {
 OTHER_ARGUMENTS = tuple((f"argument {number}", "flags") for number in range(6))
 KINDS = {"reg": "file", "fifo": "FIFO", "sock": "socket", "dir": "directory", "bad": "node of no kind"}
 LONGEST = 56
+# how many bytes of a text are shown at most, before it is shortened
+LONGEST_TOLD = 128
 
 
 def address(number):
@@ -61,7 +63,7 @@ def shortened(text):
 
 def short_text(digits):
     """Bytes given as digits of base 16, as a text that isn't too long."""
-    return shortened(bytes_text(bytes.fromhex(digits[:256]))) + (" and more" if len(digits) > 256 else "")
+    return shortened(bytes_text(bytes.fromhex(digits[:2 * LONGEST_TOLD]))) + (" and more" if len(digits) > 2 * LONGEST_TOLD else "")
 
 
 def signal(number):

@@ -10,19 +10,24 @@ BAD_SCRIPT = 5
 
 def play(rules, container):
     """The report of a script that is played by its schedule."""
-    session = Session(rules, container)
+    return played(Session(rules, container), rules, container).report()
+
+
+def played(session, rules, container, hear=lambda: None):
+    """Plays the schedule of a script in a session; each step is heard of right behind it."""
     kernel, servers = session.kernel, Servers(rules, session.kernel)
     # where a worker asks for something, a step that can't be made leaves nothing
     skips = not any(isinstance(line, Asked) for line in container.schedule)
     for line in container.schedule:
         if isinstance(line, Asked):
             ask(session, line)
+            hear()
         elif isinstance(line, WorkerSteps):
-            let_step(kernel, f"w{line.number}", line.count, lambda number=line.number: servers.step(number), skips)
+            let_step(kernel, f"w{line.number}", line.count, lambda number=line.number: servers.step(number), skips, hear)
         else:
-            let_step(kernel, "t" + ".".join(map(str, line.name)), line.count, lambda name=line.name: step_task(kernel, name), skips)
+            let_step(kernel, "t" + ".".join(map(str, line.name)), line.count, lambda name=line.name: step_task(kernel, name), skips, hear)
     kernel.close()
-    return session.report()
+    return session
 
 
 def ended_slowly(files, script):
@@ -47,8 +52,9 @@ def step_task(kernel, name):
     return kernel.step(kernel.tasks[name]) if name in kernel.tasks else None
 
 
-def let_step(kernel, actor, count, step, skips):
+def let_step(kernel, actor, count, step, skips, hear):
     """Lets one step so often; a step that can't be made is a skip where there are some."""
     for _ in range(count):
         if step() is None and skips:
             kernel.note(actor, "skip")
+        hear()

@@ -7,8 +7,8 @@ from stepping.facts import CONTINUE, ERROR_NAMES, SEND, SETFD, quoted
 ERROR_NUMBERS = {name: number for number, name in ERROR_NAMES.items()}
 MODES = {"reg": 0o100000, "chr": 0o020000, "blk": 0o060000, "fifo": 0o010000, "sock": 0o140000, "dir": 0o040000, "bad": 0o150000}
 ESCAPED = re.compile(r"\\x([0-9a-f]{2})")
-# a session of one's own has no rule that may be spent
-NOT_PLAYED = re.compile(r"^\d+ w\d+ (act|plant) .* EDQUOT$", re.M)
+# an effect that wasn't done since its rule was spent: a session of one's own has no such rule
+SPENT = re.compile(r"^\d+ w\d+ (act|plant) .* EDQUOT$", re.M)
 
 
 class NotReplayed(Exception):
@@ -70,9 +70,9 @@ def request_of(actor, words, planted):
     return f"w {actor[1:]} {rest}"
 
 
-def replayed(report, planted):
-    """The requests that lead through the events of a report, and the report without its skips, which are no events of a session. Raises NotReplayed."""
-    if NOT_PLAYED.search(report):
+def replayed(report, planted, may_be_spent=False):
+    """The requests that lead through the events of a report, and the report without its skips, which are no events of a session. Raises NotReplayed where a rule was spent, unless that may be."""
+    if SPENT.search(report) and not may_be_spent:
         raise NotReplayed("an effect was refused since its rule was spent")
     lines = report.split("\n")[:-1]
     count = int(lines[0].split()[1])
