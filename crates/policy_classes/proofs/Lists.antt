@@ -1,11 +1,11 @@
 -- What holds of some element or of each, where lists are joined.
 -- By induction on the list.
-use Rattle.std.proofs.Common.{◌≡◌, ℕ, zero, suc, ◌<◌, Bool, true, false, ◌&&◌, ◌||◌, List, [], ◌∷◌, ◌++◌, length, map, get_or, Option, Some, None, refl, ap, sym, ◌∙◌, subst, ◌⊎◌, inl, inr, arith}
+use Rattle.std.proofs.Common.{◌≡◌, ℕ, zero, suc, ◌+◌, ◌<◌, Bool, true, false, ◌&&◌, ◌||◌, List, [], ◌∷◌, ◌++◌, length, map, take, get_or, Option, Some, None, refl, ap, sym, ◌∙◌, subst, ◌⊎◌, inl, inr, arith}
 use Rattle.std.specs.Prelude.{All, Any, Contains}
 use Rattle.std.specs.List.{cons_option, filter_map, flat_map, list_all, list_any}
 use Rattle.std.proofs.Math.ListN.{get_or-map}
-use Rattle.std.proofs.lemmas.List.{length-map}
-use Rattle.std.proofs.lemmas.List.Elements.{All-append, All-cons, All-contains_itself, All-head, All-nil, All-tail, All-weaker, Contains-append_left, Contains-append_right}
+use Rattle.std.proofs.lemmas.List.{length-map, take_more}
+use Rattle.std.proofs.lemmas.List.Elements.{All-append, All-cons, All-contains_itself, All-head, All-nil, All-tail, All-weaker, Contains-append_left, Contains-append_right, filter_map-append}
 
 pub All-flat_map : {A B : Type 0} (Q : B → Type 0) (make : A → List B) (xs : List A) → All (λ x. All Q (make x)) xs → All Q (flat_map make xs)
 All-flat_map Q make [] h = All-nil Q
@@ -16,12 +16,12 @@ All-flat_map Q make (x ∷ xs) h =
 pub any_later : {B : Type 0} (Q : B → Type 0) (x : B) (xs : List B) → Any Q xs → Any Q (x ∷ xs)
 any_later Q x xs (k, y, l, e, h) = (suc k, y, omega arith, e, h)
 
-any_in : {B : Type 0} (Q : B → Type 0) (xs ys : List B) → Any Q xs → Any Q (xs ++ ys)
+pub any_in : {B : Type 0} (Q : B → Type 0) (xs ys : List B) → Any Q xs → Any Q (xs ++ ys)
 any_in Q [] ys (k, y, l, e, h) = absurd (omega arith)
 any_in Q (x ∷ xs) ys (zero, y, l, e, h) = (zero, y, omega arith, e, h)
 any_in Q (x ∷ xs) ys (suc k, y, l, e, h) = any_later Q x (xs ++ ys) (any_in Q xs ys (k, y, omega arith, e, h))
 
-any_behind : {B : Type 0} (Q : B → Type 0) (xs ys : List B) → Any Q ys → Any Q (xs ++ ys)
+pub any_behind : {B : Type 0} (Q : B → Type 0) (xs ys : List B) → Any Q ys → Any Q (xs ++ ys)
 any_behind Q [] ys h = h
 any_behind Q (x ∷ xs) ys h = any_later Q x (xs ++ ys) (any_behind Q xs ys h)
 
@@ -113,3 +113,10 @@ any_parts P (x ∷ xs) ys (suc k, y, l, e, h) = by (any_parts P xs ys (k, y, ome
 pub any_single : {A : Type 0} (P : A → Type 0) (x : A) → Any P (x ∷ []) → P x
 any_single P x (zero, y, l, e, h) = subst P (sym e) h
 any_single P x (suc k, y, l, e, h) = absurd (omega arith)
+
+-- what is found of the first elements, with that of one more
+pub one_more_found : {A B : Type 0} (find : A → Option B) (xs : List A) (i : ℕ) (d x : A) (before after : List B) → i < length xs → x ≡ get_or xs i d
+    → before ≡ filter_map find (take i xs) → after ≡ before ++ filter_map find (x ∷ []) → after ≡ filter_map find (take (i + 1) xs)
+one_more_found find xs i d x before after l is was grows =
+    grows ∙ ap (λ ys. ys ++ filter_map find (x ∷ [])) was ∙ ap (λ y. filter_map find (take i xs) ++ filter_map find (y ∷ [])) is
+    ∙ sym (ap (filter_map find) (take_more xs i d l) ∙ filter_map-append find (take i xs) (get_or xs i d ∷ []))

@@ -9,7 +9,7 @@ use Rattle.hist_model.specs.Requests.{call_of_request}
 use Rattle.hist_model.specs.declared.request.Request.{Request}
 use Rattle.policy_classes.specs.declared.atoms.Atom.{Atom}
 use Rattle.policy_classes.specs.declared.atoms.Field.{Field}
-use Rattle.policy_classes.specs.declared.classes.Class.{Class}
+use Rattle.policy_classes.specs.declared.found.Class.{Class}
 use Rattle.policy_classes.specs.declared.values.Values.{Values}
 use Rattle.policy_classes.specs.Asked.{IsCall}
 use Rattle.policy_classes.specs.Atoms.{all_hold, holds}
@@ -158,7 +158,7 @@ module _ (atoms : List Atom) (plain : All IsPlainAtom atoms) (v : Values) (allow
       from (inr h) = of_atom (undecided_atom (IsOpen atoms decided) new f h s.new_goes.opens)
 
   -- the state after a choice
-  next_state : (decided : Field → Bool) (q : Request) (old new : List Waiting) (f : Field) → StateAt decided q old new → next_field old new ≡ Some f
+  pub next_state : (decided : Field → Bool) (q : Request) (old new : List Waiting) (f : Field) → StateAt decided q old new → next_field old new ≡ Some f
       → All (λ p. StateAt (with_field decided f) p (left_of f p old) (left_of f p new)) (choices v f q)
   next_state decided q old new f s e k d l =
       let is_open = next_open decided q old new f s e in
@@ -171,13 +171,13 @@ module _ (atoms : List Atom) (plain : All IsPlainAtom atoms) (v : Values) (allow
       }
 
   -- the places where nothing is left to decide
-  found_places : (decided : Field → Bool) (q : Request) (old new : List Waiting) → StateAt decided q old new → next_field old new ≡ None
+  pub found_places : (decided : Field → Bool) (q : Request) (old new : List Waiting) → StateAt decided q old new → next_field old new ≡ None
       → (r : Request) → Asks r → All (Agrees decided q r) atoms → (first_place olds old ≡ old_place r) × (first_place news new ≡ new_place r)
   found_places decided q old new s e r a h =
       let none = neither (undecided old) (undecided new) e in
       (sym (first_decides olds old r none.0) ∙ s.old_goes.finds r a h, sym (first_decides news new r none.1) ∙ s.new_goes.finds r a h)
 
-  agrees_itself : (decided : Field → Bool) (q : Request) → All (Agrees decided q q) atoms
+  pub agrees_itself : (decided : Field → Bool) (q : Request) → All (Agrees decided q q) atoms
   agrees_itself decided q k d l o = refl
 
   pub each_is_right : (n : ℕ) (decided : Field → Bool) (q : Request) (old new : List Waiting) → StateAt decided q old new
@@ -202,7 +202,7 @@ module _ (atoms : List Atom) (plain : All IsPlainAtom atoms) (v : Values) (allow
   module _ (stand : StandForAll atoms v) (calls : (r : Request) → Asks r → IsCall r)
       (shape : (q r : Request) → IsWitness nr q → Asks r → SameShape q r) where
     -- one of the choices agrees with a call
-    one_agrees : (decided : Field → Bool) (q : Request) (old new : List Waiting) (f : Field) → StateAt decided q old new → next_field old new ≡ Some f
+    pub one_agrees : (decided : Field → Bool) (q : Request) (old new : List Waiting) (f : Field) → StateAt decided q old new → next_field old new ≡ Some f
         → (r : Request) → Asks r → All (Agrees decided q r) atoms
         → Any (λ p. All (Agrees (with_field decided f) p r) atoms × StateAt (with_field decided f) p (left_of f p old) (left_of f p new)) (choices v f q)
     one_agrees decided q old new f s e r a h =

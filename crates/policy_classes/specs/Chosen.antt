@@ -1,7 +1,7 @@
 -- How the values of a field are chosen: those that atoms ask for, and one that is none of these.
-use Rattle.std.specs.Prelude.{◌≡◌, ℕ, ◌+◌, ◌≤◌, ◌<◌, Bool, true, false, ◌&&◌, ◌==◌, List, [], ◌∷◌, ◌++◌, length, Option, Some, None, ℤ}
+use Rattle.std.specs.Prelude.{◌≡◌, ◌⊎◌, ℕ, ◌+◌, ◌≤◌, ◌<◌, Bool, true, false, ◌&&◌, ◌==◌, List, [], ◌∷◌, ◌++◌, length, Option, Some, None, ℤ}
 use Rattle.std.specs.Prelude.{All, Any, Contains, bytes_eq, nat_eq, nat_lt, ⊤}
-use Rattle.std.specs.List.{filter_map, starts_with}
+use Rattle.std.specs.List.{filter_map, list_any, starts_with}
 use Rattle.std.specs.Ordering.{int_eq}
 use Rattle.hist_model.specs.Decisions.{is_device, lies_under}
 use Rattle.hist_model.specs.Requests.{kind_of, low_32, major_of, minor_of}
@@ -67,11 +67,15 @@ pub record IsJustBelow (dirs : List (List ℕ)) (dir path : List ℕ) : Type 0 w
 pub record IsBelowNone (dirs : List (List ℕ)) (path : List ℕ) : Type 0 where
   pub below : All (λ e. lies_under (Some path) e ≡ false) dirs
 
+-- a path that isn't asked for stands just below the directory, if that is short enough
+abbrev pub HasPathBelow : List (List ℕ) → List (List ℕ) → List (List ℕ) → List ℕ → Type 0
+HasPathBelow asked dirs paths d = length d < path_max → Any (λ u. IsNoneOf asked u × IsJustBelow dirs d u) paths
+
 -- as for other texts; and the other one is below no directory, and for each directory that is short enough there is one just below it
 pub record PathsAreChosen (asked dirs paths : List (List ℕ)) : Type 0 where
   pub those : All (λ t. IsTextWithin path_max t → Contains paths t) asked
   pub other : Any (λ u. IsNoneOf asked u × IsBelowNone dirs u) paths
-  pub below : All (λ d. length d < path_max → Any (λ u. IsNoneOf asked u × IsJustBelow dirs d u) paths) dirs
+  pub below : All (HasPathBelow asked dirs paths) dirs
 
 -- ---- descriptors
 
@@ -85,6 +89,10 @@ descriptors_asked atoms = filter_map descriptor_asked atoms
 pub record DescriptorsAreChosen (asked numbers : List ℤ) : Type 0 where
   pub those : All (Contains numbers) asked
   pub other : Any (λ u. All (λ n. int_eq u n ≡ false) asked) numbers
+
+-- a descriptor is added, unless it is there
+abbrev pub AddsOnce : ℤ → List ℤ → List ℤ → Type 0
+AddsOnce n old new = (new ≡ old ++ n ∷ []) ⊎ ((new ≡ old) × (list_any (λ m. int_eq m n) old ≡ true))
 
 -- ---- nodes
 

@@ -5,7 +5,7 @@ use Rattle.hist_model.specs.Decisions.{decide}
 use Rattle.hist_model.specs.declared.policy.Rule.{Rule}
 use Rattle.hist_model.specs.declared.request.Request.{Request}
 use Rattle.hist_model.specs.declared.request.Request.TheVariants.{Mknod, Mount, SetXattr, OpenAt, Sysinfo, Other}
-use Rattle.policy_classes.specs.declared.classes.Class.{Class}
+use Rattle.policy_classes.specs.declared.found.Class.{Class}
 use Rattle.policy_classes.specs.declared.values.Values.{Values}
 use Rattle.policy_classes.specs.Asked.{IsCall}
 use Rattle.policy_classes.specs.Plain.{standing_calls}

@@ -7,7 +7,7 @@ use Rattle.hist_model.specs.declared.policy.Rule.{Rule}
 use Rattle.hist_model.specs.declared.request.Request.{Request}
 use Rattle.policy_classes.specs.declared.atoms.Atom.{Atom}
 use Rattle.policy_classes.specs.declared.atoms.Field.{Field}
-use Rattle.policy_classes.specs.declared.classes.Class.{Class}
+use Rattle.policy_classes.specs.declared.found.Class.{Class}
 use Rattle.policy_classes.specs.declared.values.Values.{Values}
 use Rattle.policy_classes.specs.Atoms.{all_hold, atoms_of_all, holds}
 use Rattle.policy_classes.specs.Choices.{choices}

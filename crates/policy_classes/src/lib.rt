@@ -3,14 +3,33 @@
 //! A decision is a function of the request alone, and a policy has finitely many conditions. So the calls fall into finitely
 //! many classes, each with a rule of the one policy and a rule of the other, and for each class there is a call that is a witness.
 //!
+//! [`classes::classes`] finds them. Each class that it gives is one, and where it says that these are all, each call is of one of
+//! them.
+//!
 //! A condition is a list of atoms, each of which looks at one field of the request (`specs/Atoms.antt`, `specs/Fields.antt`).
-//! Of each field a few values stand for all (`specs/Standing.antt`). The classes are found by giving the fields of a request these
-//! values, one field after another, and by dropping what that decides (`specs/Search.antt`).
+//! Of each field a few values stand for all (`specs/Standing.antt`): those that atoms ask for, and one for which none asks
+//! (`specs/Chosen.antt`; `choosing`, `words` and `nodes` choose them). The classes are found by giving the fields of a request these
+//! values, one field after another, and by dropping what that decides (`specs/Search.antt`, and `specs/Looked.antt` for one step of
+//! the walk). `laws` has what follows from the definitions.
+//!
+//! `ending` has what the crates above tell of such a look at all calls.
 //!
 //! Below stands `policy_eval`, with the deciding rule.
 #![tactic(auto)]
 
 pub mod atoms;
+pub mod choices;
+pub mod choosing;
 pub mod classes;
+pub mod ending;
+pub mod found;
+pub mod frames;
+pub mod holding;
 pub mod laws;
+pub mod nodes;
+pub mod pending;
+pub mod plain;
+pub mod start;
 pub mod values;
+pub mod walk;
+pub mod words;

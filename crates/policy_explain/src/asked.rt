@@ -15,14 +15,14 @@ use sys_abi::calls::call_name;
 use sys_abi::memory::NoMemory;
 
 /// Adds a mount's data, where there is any.
-fn push_data(line: &mut LineBuffer, data: &[u8]) -> Result<(), NoMemory>
-    ensures { OnOk result (line.new ≡ line.old ++ data_text data.now) }
+fn push_data(line: &mut LineBuffer, text: &[u8]) -> Result<(), NoMemory>
+    ensures { OnOk result (line.new ≡ line.old ++ data_text text.now) }
 {
-    if data.is_empty() {
+    if text.is_empty() {
         return Ok(());
     }
     line.push(" ")?;
-    line.push_quoted(data)
+    line.push_quoted(text)
 }
 
 /// Adds a word and three texts, each with a space behind it.

@@ -13,7 +13,7 @@
 //! with the lines of reports, and `call_lines`. The program stands above.
 #![tactic(auto)]
 
-mod asked;
+pub mod asked;
 mod blocks;
 mod flags;
 pub mod laws;

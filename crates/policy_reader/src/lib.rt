@@ -29,3 +29,4 @@ pub use conditions::{device_of, kind_named};
 pub use error::PolicyError;
 pub use flags::{FLAGS, flag_named};
 pub use policies::read_policy;
+pub use rules::{Format, Version, read_rules};

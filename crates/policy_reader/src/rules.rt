@@ -26,16 +26,16 @@ use sys_abi::memory::{NoMemory, OrNoMemory};
 
 /// The versions of a policy's format. In the second one rules may say how often they grant.
 #[derive(Clone, Copy)]
-pub(crate) enum Version {
+pub enum Version {
     First,
     Second,
 }
 
 /// How a policy is read: the version of its format, and by whose rules its keys are.
 #[derive(Clone, Copy)]
-pub(crate) struct Format {
-    pub(crate) version: Version,
-    pub(crate) profile: Profile,
+pub struct Format {
+    pub version: Version,
+    pub profile: Profile,
 }
 
 /// A key of a rule.
@@ -370,8 +370,8 @@ fn read_listed_rules(alloc: Global, format: Format, items: &[Value]) -> Reading<
     Ok(Sequence::new(rules))
 }
 
-/// The rules that a policy states of its own.
-pub(crate) fn read_rules(alloc: Global, format: Format, value: &Value) -> Reading<Sequence<Rule>>
+/// The rules of an array of at most 1,024, as a policy states its own, or the refusal that comes first: its place begins with `rules`.
+pub fn read_rules(alloc: Global, format: Format, value: &Value) -> Reading<Sequence<Rule>>
     ensures { Gives result (rules_of format (view value.now)) }
 {
     match value.as_array() {

@@ -1,0 +1,42 @@
+//! What is still to be looked at.
+
+ghost use Rattle.std.specs.Prelude.{◌≡◌, ◌++◌, OnOk, map};
+ghost use Rattle.policy_classes.specs.Choices.{choices};
+ghost use Rattle.policy_classes.specs.Frames.{frame_seen, frames_seen};
+ghost use Rattle.policy_classes.specs.Looked.{with_choice};
+
+use crate::atoms::Field;
+use crate::choices::choices;
+use crate::pending::{Pending, left_of};
+use crate::values::Values;
+use hist_model::request::Request;
+use std::alloc::Global;
+use sys_abi::memory::NoMemory;
+
+/// A request of which some fields have values, with what is left of the rules of both policies.
+#[derive(Debug, Drop)]
+pub struct Frame<'a> {
+    pub request: Request,
+    pub old: Vec<Pending<'a>>,
+    pub new: Vec<Pending<'a>>,
+}
+
+/// Adds a frame for each value of a field.
+pub fn push_choices<'a>(
+    alloc: Global,
+    values: &Values,
+    field: Field,
+    frame: &Frame<'a>,
+    frames: &mut Vec<Frame<'a>>,
+) -> Result<(), NoMemory>
+    ensures { OnOk result (frames_seen frames.new.items ≡ frames_seen frames.old.items
+        ++ map (with_choice field (frame_seen frame.now)) (choices values.now field frame.now.request)) }
+{
+    let requests = choices(alloc, values, field, &frame.request)?;
+    for request in requests {
+        let old = left_of(alloc, field, &request, frame.old.as_slice())?;
+        let new = left_of(alloc, field, &request, frame.new.as_slice())?;
+        frames.push(Frame { request, old, new })?;
+    }
+    Ok(())
+}
