@@ -5,7 +5,7 @@ from command_line.arguments import Parser
 from judging.sessions import Follower, Unlike, Unreadable, read_session
 from stepping import policies, scripts
 
-USAGE, READ_FAULT, TOO_LONG, BAD_POLICY, BAD_SCRIPT, NO_SESSION, BROKEN = 1, 2, 3, 4, 5, 9, 11
+USAGE, READ_FAULT, TOO_LONG, BAD_POLICY, BAD_SCRIPT, WRITE_FAULT, NO_SESSION, BROKEN = 1, 2, 3, 4, 5, 6, 9, 11
 MOST_BYTES = {"policy": 1_048_576, "script": 8_388_608, "session": 268_435_456}
 SHOWN = 300
 
@@ -74,15 +74,26 @@ def followed(policy, script, exchanges):
     return follower
 
 
+def write(path, text):
+    try:
+        with open(path, "w", encoding="latin-1") as file:
+            file.write(text)
+    except OSError as error:
+        raise Ended(WRITE_FAULT, f"write fault: {path}: {error.strerror}") from None
+
+
 def run(words):
     parser = Words("judge-slowly")
     parser.add_argument("--idle", action="store_true")
+    parser.add_argument("--report", metavar="FILE")
     for name in ("policy", "script", "session"):
         parser.add_argument(name, metavar=name.upper())
     asked = parser.parse_args(words)
     follower = followed(asked.policy, asked.script, read_exchanges(asked.session))
     if asked.idle:
         follower.judge.note_idle()
+    if asked.report is not None:
+        write(asked.report, follower.session.report())
     sys.stdout.buffer.write(follower.judge.text().encode("latin-1"))
     return BROKEN if follower.judge.fault else 0
 

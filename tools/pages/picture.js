@@ -353,7 +353,7 @@ class Picture {
       kinds.get(kind).push(place);
     }
     for (const places of kinds.values()) places.sort((one, other) => one - other);
-    const buttons = [...kinds].sort(([, one], [, other]) => one[0] - other[0]).map(([kind, places]) => {
+    const buttons = [...kinds].sort(([kind, one], [, other]) => (kind === "broken" ? -1 : one[0]) - other[0]).map(([kind, places]) => {
       return make("button", { type: "button", class: `note ${kind}`, onclick: () => this.choose(places.find((place) => place > this.chosen) ?? places[0]) },
         NOTES[kind], places.length > 1 ? make("b", {}, ` ${places.length.toLocaleString("en")}`) : null);
     });

@@ -200,6 +200,7 @@ class Scene:
             if session["other"] is None:
                 self.note("other", place)
             session["other"] = holder
+            self.cause(session["call"]["lane"].reaped, session["call"])
             self.cause(holder.first, session["call"])
         return session["call"]
 
