@@ -1,0 +1,4 @@
+pub mod Answered
+pub mod Standings
+pub mod Findings
+pub mod Wholes
