@@ -1,4 +1,5 @@
 """All runs of a broker within a bound of delays, and what was found in them."""
+import gc
 import multiprocessing
 import signal
 import sys
@@ -12,6 +13,8 @@ from exploring.schedules import Planned, followers
 
 # how many runs one process takes at once
 AT_ONCE = 8
+# after how many objects it is looked for those that nobody holds
+GARBAGE = 50_000
 # these leave open what else there is
 UNDECIDED = {Kind.HANGS, Kind.UNLIKE, Kind.NOT_SUPPORTED, Kind.KERNELS_DIFFER}
 
@@ -77,6 +80,9 @@ over = None
 def set_current(setting):
     global current, past
     current, past = setting, None
+    # (what there is by now stays, and a run leaves little behind)
+    gc.freeze()
+    gc.set_threshold(GARBAGE)
 
 
 def begin_process(is_over):

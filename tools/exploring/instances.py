@@ -8,14 +8,13 @@ import select
 import signal
 import socket
 import struct
-import subprocess
-import tempfile
 import time
 import traceback
+from functools import lru_cache
 from typing import List, NamedTuple
 
 from exploring.passing import Passing
-from exploring.processes import has_ended_within, has_gone, is_at_rest, peer_of
+from exploring.processes import Started, anonymous_file, has_ended_within, has_gone, is_at_rest, peer_of
 
 # how long a command has to connect, and to end when the listener is closed, in seconds
 START, LEAVE = 60, 2
@@ -138,15 +137,23 @@ class Connection:
         self.socket, self.number, self.received = socket_of_it, socket_of_it.fileno(), b""
         self.is_open, self.is_asking = True, False
 
+    def set_patience(self, seconds):
+        """How long it waits for a call, and for an answer to be taken."""
+        for option in (socket.SO_RCVTIMEO, socket.SO_SNDTIMEO):
+            self.socket.setsockopt(socket.SOL_SOCKET, option, TIME.pack(max(seconds, 1), 0))
+
     def receive(self):
-        """Takes what has come; what the other end has closed is closed here, too."""
+        """Takes what has come; what the other end has closed is closed here, too. Whether anything has, in its patience."""
         try:
             part = self.socket.recv(PART)
+        except BlockingIOError:
+            return False
         except ConnectionError:
             part = b""
         self.received += part
         if not part:
             self.close()
+        return True
 
     def next_call(self):
         """The next call, once it is whole; else None."""
@@ -189,6 +196,14 @@ class Shim(NamedTuple):
         return found
 
 
+@lru_cache(maxsize=None)
+def environment_of(path, shim, is_passed):
+    """The environment of a command that connects to a path."""
+    # (the runs would write the file of a session one over another)
+    variables = {"SECCOMP_BROKER_KERNEL": path, "SECCOMP_BROKER_SESSION": "", **(shim.variables(is_passed) if shim is not None else {})}
+    return {**os.environb, **{os.fsencode(name): os.fsencode(value) for name, value in variables.items()}}
+
+
 class Thread(Connection):
     """The connection of a thread behind the first one, which lib/shim.c opens for it: the first request comes of that, and by the second one it asks whether it may begin."""
 
@@ -222,8 +237,7 @@ class ProcessInstance:
         if passing is not None:
             self.passing = Passing(passing, f"{self.path}-agent", command)
             self.command = self.passing.command
-        # (the runs would write the file of a session one over another)
-        self.environment = {**os.environ, "SECCOMP_BROKER_KERNEL": self.path, "SECCOMP_BROKER_SESSION": "", **(shim.variables(passing is not None) if shim is not None else {})}
+        self.environment = environment_of(self.path, shim, passing is not None)
         self.server = socket.socket(socket.AF_UNIX)
         self.server.bind(self.path)
         self.server.listen(BACKLOG)
@@ -235,7 +249,7 @@ class ProcessInstance:
         self.connections: List[Connection] = []
         self.process, self.broker, self.status = None, None, None
         self.advance = 0
-        self.written, self.output = tempfile.TemporaryFile(), b""
+        self.written, self.output = anonymous_file("output"), b""
 
     # ---- its start
 
@@ -244,7 +258,7 @@ class ProcessInstance:
         self.foretold = foretold if sum(map(len, foretold)) <= MOST_FORETOLD else ()
         self.advance = len(self.foretold)
         try:
-            self.process = subprocess.Popen(self.command, stdin=subprocess.DEVNULL, stdout=self.written, stderr=self.written, env=self.environment, start_new_session=True)
+            self.process = Started(self.command, self.environment, self.written)
         except OSError as error:
             raise NotSupported(f"{self.command[0]} can't be started: {error.strerror}") from None
         if self.passing is not None:
@@ -281,7 +295,7 @@ class ProcessInstance:
     def accept(self, kind):
         connection = kind(self.server.accept()[0])
         # (it is read where something has come, and so waits for nothing else than that an answer is taken)
-        connection.socket.setsockopt(socket.SOL_SOCKET, socket.SO_SNDTIMEO, TIME.pack(max(self.patience, 1), 0))
+        connection.set_patience(self.patience)
         self.connections.append(connection)
         self.watched.register(connection.socket, select.POLLIN)
         return connection
@@ -309,6 +323,8 @@ class ProcessInstance:
 
     def has_heard(self, until):
         """Takes what has come, for which a single thread has until some time, and several ones have a short while; whether anything has."""
+        if not self.has_threads:
+            return self.connections[0].receive()
         pause = PAUSE if len(self.connections) > 1 else max(until - time.monotonic(), 0)
         ready = self.watched.poll(1000 * pause if until else 0)
         for fd, _ in ready:
@@ -361,11 +377,14 @@ class ProcessInstance:
             raise NotSupported(line[len(UNSUPPORTED_LINE):].decode("utf-8", "backslashreplace"))
 
     def output_so_far(self):
-        return os.pread(self.written.fileno(), MOST_OUTPUT, 0)
+        return os.pread(self.written, MOST_OUTPUT, 0)
 
     def finish(self):
         """Answers each of its calls by telling that the listener is closed, until it ends or has asked for too much."""
         self.patience = LEAVE
+        for it in self.connections:
+            if it.is_open:
+                it.set_patience(LEAVE)
         try:
             for _ in range(MOST_REFUSALS):
                 asking = [it for it in self.connections if it.is_asking]
@@ -388,7 +407,7 @@ class ProcessInstance:
         self.server.close()
         os.unlink(self.path)
         self.output = self.output_so_far()
-        self.written.close()
+        os.close(self.written)
 
     def end(self):
         """Ends the command with all that it has started."""

@@ -1,8 +1,7 @@
 """The kernel of a run: the written one in Python with the judge beside it. Behind the run the program is asked for the same, and its answers have to be equal."""
-import subprocess
-import tempfile
 from typing import List, NamedTuple, Optional
 
+from exploring.processes import output_of
 from judging.sessions import Follower
 
 
@@ -40,10 +39,7 @@ class Kernel:
 
     def difference(self, words) -> Optional[Difference]:
         """Asks the program that these words start for all that was asked here, at once; None where it answers the same."""
-        with tempfile.TemporaryFile() as requests:
-            requests.write(b"".join(asked.request + b"\n" for asked in self.session))
-            requests.seek(0)
-            output = subprocess.run(words, stdin=requests, stdout=subprocess.PIPE, check=False).stdout
+        output = output_of(words, b"".join([asked.request + b"\n" for asked in self.session]))
         return None if output == b"".join(self.answers) else self.first_difference(output)
 
     def first_difference(self, output):

@@ -1,13 +1,78 @@
-"""What the machine tells of a process: whether it has ended, who is behind a socket, and whether all its threads wait."""
+"""Processes that are started, with little around it, and what the machine tells of a process: whether it has ended, who is behind a socket, and whether all its threads wait."""
 import os
 import select
+import signal
 import socket
 import struct
 import subprocess
+import tempfile
+import time
 
 PEER = struct.Struct("iII")
 STATE, ASLEEP, ZOMBIE, SWITCHES = b"\nState:\t", b"S", b"Z", b"\nvoluntary_ctxt_switches:"
 MOST_READ = 16_384
+
+
+# what Python ignores, and a process that it starts shouldn't
+RESTORED = [it for it in (signal.SIGPIPE, getattr(signal, "SIGXFSZ", None)) if it is not None]
+PAUSE = 0.01
+
+
+def anonymous_file(name):
+    """The number of a file without a place, which is gone once it is closed everywhere."""
+    if hasattr(os, "memfd_create"):
+        return os.memfd_create(name)
+    with tempfile.TemporaryFile() as file:
+        return os.dup(file.fileno())
+
+
+def spawned(command, environment, actions, **more):
+    return os.posix_spawnp(command[0], command, environment, file_actions=actions, setsigdef=RESTORED, **more)
+
+
+class Started:
+    """A command that was started in a session of its own, without an input, and with one file for all that it writes: as subprocess.Popen has them, of which it takes a third of the time."""
+
+    def __init__(self, command, environment, output):
+        """Raises OSError where it can't be started."""
+        actions = [(os.POSIX_SPAWN_OPEN, 0, os.devnull, os.O_RDONLY, 0), (os.POSIX_SPAWN_DUP2, output, 1), (os.POSIX_SPAWN_DUP2, output, 2)]
+        self.pid, self.returncode = spawned(command, environment, actions, setsid=True), None
+
+    def note(self, options):
+        pid, status = os.waitpid(self.pid, options) if self.returncode is None else (0, 0)
+        if pid:
+            self.returncode = -os.WTERMSIG(status) if os.WIFSIGNALED(status) else os.WEXITSTATUS(status)
+        return self.returncode
+
+    def poll(self):
+        """How it ended, or None."""
+        return self.note(os.WNOHANG)
+
+    def wait(self, seconds=None):
+        """Waits for its end. Raises subprocess.TimeoutExpired where that doesn't come in time."""
+        if seconds is None:
+            return self.note(0)
+        until = time.monotonic() + seconds
+        while self.poll() is None:
+            if time.monotonic() >= until:
+                raise subprocess.TimeoutExpired(str(self.pid), seconds)
+            time.sleep(PAUSE)
+        return self.returncode
+
+
+def output_of(words, given):
+    """What a command writes that has all of its input at once."""
+    source, (reader, writer) = anonymous_file("input"), os.pipe()
+    try:
+        os.pwrite(source, given, 0)
+        pid = spawned(words, os.environ, [(os.POSIX_SPAWN_DUP2, source, 0), (os.POSIX_SPAWN_DUP2, writer, 1)])
+    finally:
+        os.close(source)
+        os.close(writer)
+    with open(reader, "rb", buffering=0) as file:
+        found = file.readall()
+    os.waitpid(pid, 0)
+    return found
 
 
 def has_ended_within(process, seconds):

@@ -6,6 +6,7 @@ import subprocess
 import tempfile
 from collections import Counter
 from functools import lru_cache, partial
+from itertools import islice
 from multiprocessing import get_context
 from pathlib import Path
 from typing import NamedTuple, Optional
@@ -114,15 +115,16 @@ def judged_play(program, room, policy, script):
     return Trial(MEDIATED if judge.fault is None else judge.fault.clause.name, judge.text() if judge.fault is not None else play_fault(program, files, script, report))
 
 
-def fuzz_trial(program, inputs, number):
+def fuzz_trial(program, seed, number):
     """An input of tools/fuzz; None where it is no play, or is refused."""
-    words, policy, script, _ = inputs.made(number)
+    words, policy, script, _ = fuzz_inputs(seed).made(number)
     if words[0] != "play" or len(words) != 3:
         return None
     with tempfile.TemporaryDirectory(prefix="check-judge-") as room:
         return judged_play(program, room, policy, script)
 
 
+@lru_cache(maxsize=None)
 def fuzz_inputs(seed):
     """The inputs of tools/fuzz."""
     loader = importlib.machinery.SourceFileLoader("fuzz", str(TOP / "tools/fuzz"))
@@ -175,13 +177,10 @@ def free_trials(program, seed, count, jobs):
 
 def fuzz_trials(program, seed, count, jobs):
     """So many plays of inputs of tools/fuzz that aren't refused."""
-    left = count
-    for trial in tried(partial(fuzz_trial, program, fuzz_inputs(seed)), range(100 * count), jobs) if count else ():
-        if trial is not None:
-            yield trial
-            left -= 1
-        if left == 0:
-            return
+    # (they are made before the processes that share them)
+    fuzz_inputs(seed)
+    plays = (trial for trial in tried(partial(fuzz_trial, program, seed), range(100 * count), jobs) if trial is not None)
+    yield from islice(plays, count)
 
 
 def play_trials(program, seed, count, jobs):
