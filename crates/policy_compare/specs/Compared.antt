@@ -1,0 +1,42 @@
+-- What a comparison of two policies says of all calls.
+use Rattle.std.specs.Prelude.{◌≡◌, true, Bool, List, is_some, All, Any, slice_get, ◌↔◌}
+use Rattle.std.specs.List.Sorted.{IsStrictlySortedBy}
+use Rattle.hist_model.specs.Decisions.{decide}
+use Rattle.hist_model.specs.declared.policy.Rule.{Rule}
+use Rattle.hist_model.specs.declared.request.Request.{Request}
+use Rattle.policy_classes.specs.declared.ending.Told.{Told}
+use Rattle.policy_classes.specs.declared.found.Class.{Class}
+use Rattle.policy_classes.specs.Asked.{IsCall}
+use Rattle.policy_classes.specs.Classes.{HasWitness, Holds}
+use Rattle.policy_compare.specs.Answers.{Answer, answer_of}
+use Rattle.policy_compare.specs.Lines.{comparison, ending}
+use Rattle.policy_compare.specs.Order.{by_places}
+
+-- what rules answer a call
+abbrev pub answer_to : List Rule → Request → Answer
+answer_to rules q = answer_of (slice_get rules (decide rules q).0)
+
+-- both calls are decided by one rule, and so share its counter
+abbrev pub Share : List Rule → Request → Request → Type 0
+Share rules p q = (decide rules p).0 ≡ (decide rules q).0
+
+-- it is limited how often the call is granted
+abbrev pub IsLimited : List Rule → Request → Type 0
+IsLimited rules q = is_some (answer_to rules q).times ≡ true
+
+-- each call is answered alike, and two calls whose number is limited share a counter in both policies or in neither
+pub record AreEqual (old new : List Rule) : Type 0 where
+  pub answers : (q : Request) → IsCall q → answer_to old q ≡ answer_to new q
+  pub counters : (p q : Request) → IsCall p → IsCall q → IsLimited old p → IsLimited old q → Share old p q ↔ Share new p q
+
+-- what is told is told of these classes: each pair of rules once, in the order of their places; the witness of each is a call of it;
+-- and where they are whole, each call is of one of them
+pub record IsTold (old new : List Rule) (told : Told) (classes : List Class) (whole : Bool) : Type 0 where
+  pub ordered : IsStrictlySortedBy by_places classes
+  pub witnesses : All (HasWitness old new) classes
+  pub there : whole ≡ true → (q : Request) → IsCall q → Any (Holds old new q) classes
+  pub text : told.text ≡ comparison old new classes whole
+  pub ending : told.ending ≡ ending old new classes whole
+
+abbrev pub IsComparison : List Rule → List Rule → Told → Type 0
+IsComparison old new told = (classes : List Class) × (whole : Bool) × IsTold old new told classes whole

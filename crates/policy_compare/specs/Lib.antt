@@ -1,0 +1,4 @@
+pub mod Answers
+pub mod Compared
+pub mod Lines
+pub mod Order
