@@ -6,16 +6,19 @@ use Rattle.hist_model.specs.declared.policy.Policy.{Policy}
 use Rattle.hist_model.specs.declared.script.Script.{Script}
 use Rattle.io_edge.proofs.Laws.{then_rose}
 use Rattle.io_edge.specs.FileState.{FileState, ReadsPast, SameFiles}
+use Rattle.policy_claims.specs.Claims.{claims as claims_of}
+use Rattle.policy_claims.specs.declared.claims.Claims.{Claims}
 use Rattle.policy_reader.specs.Policies.{policy as policy_of}
 use Rattle.policy_reader.specs.declared.error.PolicyError.{PolicyError}
 use Rattle.script_reader.specs.Scripts.{script as script_of, script_file, script_in}
 use Rattle.script_reader.specs.declared.file.ScriptFile.{ScriptFile as ScriptFileValue}
 use Rattle.script_reader.specs.declared.error.ScriptError.{ScriptError}
-use Rattle.broker_app.specs.Inputs.{CallsAre, HasBytes, PolicyIs, ReadsAs, ReportIs, ScriptFileIs, ScriptHas, ScriptIs, calls_limit, policy_limit, report_limit, script_limit}
-use Rattle.broker_app.specs.Refusals.{CallsRefused, CannotRead, FileRefused, InputRefused, PolicyRefused, ReportRefused, ScriptRefused}
+use Rattle.broker_app.specs.Inputs.{CallsAre, ClaimsAre, HasBytes, PolicyIs, ReadsAs, ReportIs, ScriptFileIs, ScriptHas, ScriptIs, calls_limit, claims_limit, policy_limit, report_limit, script_limit}
+use Rattle.broker_app.specs.Refusals.{CallsRefused, CannotRead, ClaimsRefused, FileRefused, InputRefused, NewPolicyRefused, PolicyRefused, ReportRefused, ScriptRefused}
 use Rattle.broker_app.specs.declared.status.InputFile.TheVariants.{Policy as PolicyFile, Script as ScriptFile, Report as ReportFile, Calls as CallsFile}
+use Rattle.broker_app.specs.declared.status.InputFile.TheVariants.{Claims as ClaimsFile, NewPolicy as NewPolicyFile}
 use Rattle.broker_app.specs.declared.status.Refusal.{Refusal}
-use Rattle.broker_app.specs.declared.status.Refusal.TheVariants.{ReadFault, TooLong, BadPolicy, BadScript}
+use Rattle.broker_app.specs.declared.status.Refusal.TheVariants.{ReadFault, TooLong, BadPolicy, BadScript, BadNewPolicy, BadClaims}
 use Rattle.broker_app.specs.declared.status.Status.{Status}
 use Rattle.broker_app.specs.declared.status.Status.TheVariants.{Refused, NoMemory}
 
@@ -54,6 +57,22 @@ calls_unread files after name (Refused (TooLong file)) h = let other = h.0 in cc
 calls_unread files after name NoMemory h = tt
 calls_unread files after name status h = absurd h
 
+pub new_policy_unread : (files after : FileState) (name : List ℕ) (status : Status) → FileRefused NewPolicyFile policy_limit files after name status → NewPolicyRefused files after name status
+new_policy_unread files after name (Refused (ReadFault NewPolicyFile)) h = h.1
+new_policy_unread files after name (Refused (ReadFault file)) h = let other = h.0 in cc
+new_policy_unread files after name (Refused (TooLong NewPolicyFile)) h = h.1
+new_policy_unread files after name (Refused (TooLong file)) h = let other = h.0 in cc
+new_policy_unread files after name NoMemory h = tt
+new_policy_unread files after name status h = absurd h
+
+pub claims_unread : (files after : FileState) (name : List ℕ) (status : Status) → FileRefused ClaimsFile claims_limit files after name status → ClaimsRefused files after name status
+claims_unread files after name (Refused (ReadFault ClaimsFile)) h = h.1
+claims_unread files after name (Refused (ReadFault file)) h = let other = h.0 in cc
+claims_unread files after name (Refused (TooLong ClaimsFile)) h = h.1
+claims_unread files after name (Refused (TooLong file)) h = let other = h.0 in cc
+claims_unread files after name NoMemory h = tt
+claims_unread files after name status h = absurd h
+
 -- a script is what its file states, without the lines of another broker's workers
 alone : (file : Option (List ℕ)) (reading : Result ScriptFileValue ScriptError) → ReadsAs script_file script_limit file reading → ReadsAs script_of script_limit file (script_in reading)
 alone None reading h = absurd h
@@ -89,6 +108,9 @@ module _ (files mid after : FileState) (name : List ℕ) (same : SameFiles files
   pub calls_are_before : (bytes : List ℕ) → CallsAre mid name bytes → CallsAre files name bytes
   calls_are_before bytes h = λ t. subst (λ f. HasBytes calls_limit f bytes) bytes_before (h (same.tells ∙ t))
 
+  pub claims_are_before : (reading : Result Claims PolicyError) → ClaimsAre mid name reading → ClaimsAre files name reading
+  claims_are_before reading h = λ t. subst (λ f. ReadsAs claims_of claims_limit f reading) bytes_before (h (same.tells ∙ t))
+
   past_before : (limit : ℕ) → ReadsPast limit mid name after → ReadsPast limit files name after
   past_before limit h = record {
     given = h.given;
@@ -118,6 +140,20 @@ module _ (files mid after : FileState) (name : List ℕ) (same : SameFiles files
   report_before (Refused (TooLong ReportFile)) h = past_before report_limit h
   report_before NoMemory h = tt
   report_before status h = absurd h
+
+  pub new_policy_before : (status : Status) → NewPolicyRefused mid after name status → NewPolicyRefused files after name status
+  new_policy_before (Refused (ReadFault NewPolicyFile)) h = cannot_before h
+  new_policy_before (Refused (TooLong NewPolicyFile)) h = past_before policy_limit h
+  new_policy_before (Refused (BadNewPolicy error)) h = policy_is_before (Err error) h
+  new_policy_before NoMemory h = tt
+  new_policy_before status h = absurd h
+
+  pub claims_before : (status : Status) → ClaimsRefused mid after name status → ClaimsRefused files after name status
+  claims_before (Refused (ReadFault ClaimsFile)) h = cannot_before h
+  claims_before (Refused (TooLong ClaimsFile)) h = past_before claims_limit h
+  claims_before (Refused (BadClaims error)) h = claims_are_before (Err error) h
+  claims_before NoMemory h = tt
+  claims_before status h = absurd h
 
   pub calls_before : (status : Status) → CallsRefused mid after name status → CallsRefused files after name status
   calls_before (Refused (ReadFault CallsFile)) h = cannot_before h

@@ -1,8 +1,10 @@
--- What the program reads: a policy, a script and a report, each from the whole bytes of its file.
+-- What the program reads: a policy, claims, a script and a report, each from the whole bytes of its file.
 use Rattle.std.specs.Prelude.{◌≡◌, ℕ, ◌≤◌, true, List, length, Option, Some, None, Result}
 use Rattle.hist_model.specs.declared.policy.Policy.{Policy}
 use Rattle.hist_model.specs.declared.script.Script.{Script}
 use Rattle.io_edge.specs.FileState.{FileState}
+use Rattle.policy_claims.specs.Claims.{claims}
+use Rattle.policy_claims.specs.declared.claims.Claims.{Claims}
 use Rattle.policy_reader.specs.Policies.{policy}
 use Rattle.policy_reader.specs.declared.error.PolicyError.{PolicyError}
 use Rattle.script_reader.specs.Scripts.{script, script_file}
@@ -19,7 +21,10 @@ script_limit = 8388608
 abbrev pub report_limit : ℕ
 report_limit = 33554432
 
--- and that calls have
+-- and that claims have, and calls
+abbrev pub claims_limit : ℕ
+claims_limit = 1048576
+
 abbrev pub calls_limit : ℕ
 calls_limit = 8388608
 
@@ -35,6 +40,14 @@ HasBytes limit file bytes = (file ≡ Some bytes) × (length bytes ≤ limit)
 -- the file of this name is this policy, or has this refusal, where the files tell their bytes
 abbrev pub PolicyIs : FileState → List ℕ → Result Policy PolicyError → Type 0
 PolicyIs files name reading = files.tells ≡ true → ReadsAs policy policy_limit (files.bytes name) reading
+
+-- and these are the bytes of the policy
+abbrev pub PolicyHas : FileState → List ℕ → List ℕ → Type 0
+PolicyHas files name bytes = files.tells ≡ true → HasBytes policy_limit (files.bytes name) bytes
+
+-- and these claims
+abbrev pub ClaimsAre : FileState → List ℕ → Result Claims PolicyError → Type 0
+ClaimsAre files name reading = files.tells ≡ true → ReadsAs claims claims_limit (files.bytes name) reading
 
 -- and this script
 abbrev pub ScriptIs : FileState → List ℕ → Result Script ScriptError → Type 0

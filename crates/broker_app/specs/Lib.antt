@@ -13,4 +13,5 @@ pub mod PodText
 pub mod Pods
 pub mod Explanations
 pub mod Explorations
+pub mod Tellings
 pub mod Answers

@@ -10,18 +10,22 @@ use Rattle.script_reader.specs.declared.error.ScriptError.TheVariants.{BadLine, 
 use Rattle.step_session.specs.Reasons.{reason_text}
 use Rattle.broker_app.specs.declared.status.InputFile.{InputFile}
 use Rattle.broker_app.specs.declared.status.InputFile.TheVariants.{Policy as PolicyFile, Script as ScriptFile, Report as ReportFile}
-use Rattle.broker_app.specs.declared.status.InputFile.TheVariants.{Calls as CallsFile}
+use Rattle.broker_app.specs.declared.status.InputFile.TheVariants.{Calls as CallsFile, Claims as ClaimsFile, NewPolicy as NewPolicyFile}
 use Rattle.broker_app.specs.declared.status.InputFile.TheVariants.{Requests as RequestsFile}
 use Rattle.broker_app.specs.declared.status.Refusal.{Refusal}
 use Rattle.broker_app.specs.declared.status.Refusal.TheVariants.{ReadFault, TooLong, BadPolicy, BadScript, BadCalls, HasRequests}
+use Rattle.broker_app.specs.declared.status.Refusal.TheVariants.{BadNewPolicy, BadClaims}
 use Rattle.broker_app.specs.declared.status.Status.{Status}
 use Rattle.broker_app.specs.declared.status.Status.TheVariants.{Done, Usage, Refused, ContainerRefused}
 use Rattle.broker_app.specs.declared.status.Status.TheVariants.{WriteFault, NoMemory, NotReport, PidsOverlap}
+use Rattle.broker_app.specs.declared.status.Status.TheVariants.{Otherwise, Undecided}
 
 abbrev pub code_of_refusal : Refusal → ℕ
 code_of_refusal (ReadFault file) = 2
 code_of_refusal (TooLong file) = 3
 code_of_refusal (BadPolicy error) = 4
+code_of_refusal (BadNewPolicy error) = 4
+code_of_refusal (BadClaims error) = 4
 code_of_refusal (BadScript error) = 5
 code_of_refusal (BadCalls error) = 5
 code_of_refusal HasRequests = 5
@@ -35,20 +39,25 @@ code_of WriteFault = 6
 code_of NoMemory = 7
 code_of (NotReport line) = 9
 code_of (PidsOverlap first second) = 10
+code_of Otherwise = 11
+code_of Undecided = 12
 
 -- the name of a file in a line, with the byte that ends the line
 abbrev pub file_named : InputFile → List ℕ
 file_named PolicyFile = codes "policy\n"
+file_named NewPolicyFile = codes "new policy\n"
 file_named ScriptFile = codes "script\n"
 file_named ReportFile = codes "report\n"
 file_named CallsFile = codes "calls\n"
+file_named ClaimsFile = codes "claims\n"
 file_named RequestsFile = codes "requests\n"
 
-abbrev pub policy_line : PolicyError → List ℕ
-policy_line NotJson = codes "policy: not JSON\n"
-policy_line (BadKey path) = codes "policy: unknown key at " ++ (path ++ codes "\n")
-policy_line (BadValue path) = codes "policy: bad value at " ++ (path ++ codes "\n")
-policy_line TooMany = codes "policy: too many rules\n"
+-- what is refused of rules
+abbrev pub rules_line : PolicyError → List ℕ
+rules_line NotJson = codes "not JSON\n"
+rules_line (BadKey path) = codes "unknown key at " ++ (path ++ codes "\n")
+rules_line (BadValue path) = codes "bad value at " ++ (path ++ codes "\n")
+rules_line TooMany = codes "too many rules\n"
 
 -- the number of a file's line, from 1, behind a front, and what is wrong with the line
 abbrev pub numbered_line : List ℕ → ℕ → List ℕ → List ℕ
@@ -66,7 +75,9 @@ calls_line error = numbered_line (codes "calls: line ") error.line (reason_text 
 abbrev pub refusal_line : Refusal → List ℕ
 refusal_line (ReadFault file) = codes "read fault: " ++ file_named file
 refusal_line (TooLong file) = codes "too long: " ++ file_named file
-refusal_line (BadPolicy error) = policy_line error
+refusal_line (BadPolicy error) = codes "policy: " ++ rules_line error
+refusal_line (BadNewPolicy error) = codes "new policy: " ++ rules_line error
+refusal_line (BadClaims error) = codes "claims: " ++ rules_line error
 refusal_line (BadScript error) = script_line error
 refusal_line (BadCalls error) = calls_line error
 refusal_line HasRequests = codes "script: requests in the schedule\n"
@@ -84,13 +95,16 @@ line_of Done = []
 line_of Usage =
     codes "usage: play POLICY SCRIPT | run POLICY SCRIPT WORKERS CPUS | stress FROM COUNT | audit-check POLICY SCRIPT REPORT"
     ++ codes " | lanes POLICY SCRIPT CPUS | handover POLICY SCRIPT EVERY | pod WORKERS CPUS POLICY SCRIPT .."
-    ++ codes " | explore POLICY SCRIPT WORKERS DELAYS | step POLICY SCRIPT | explain POLICY CALLS\n"
+    ++ codes " | explore POLICY SCRIPT WORKERS DELAYS | step POLICY SCRIPT | explain POLICY CALLS"
+    ++ codes " | check POLICY CLAIMS\n"
 line_of (Refused refusal) = refusal_line refusal
 line_of (ContainerRefused container refusal) = container_front container ++ refusal_line refusal
 line_of WriteFault = codes "write fault\n"
 line_of NoMemory = codes "no memory\n"
 line_of (NotReport line) = codes "report: line " ++ (decimal line ++ codes "\n")
 line_of (PidsOverlap first second) = overlap_line first second
+line_of Otherwise = []
+line_of Undecided = []
 
 abbrev pub status_of_report : ReportError → Status
 status_of_report CannotWrite = WriteFault

@@ -5,11 +5,11 @@ use Rattle.hist_model.specs.declared.script.Script.{Script}
 use Rattle.io_edge.specs.Faults.{Rose}
 use Rattle.io_edge.specs.FileState.{FileState, ReadsPast}
 use Rattle.io_edge.specs.SinkState.{SinkState}
-use Rattle.broker_app.specs.Inputs.{PolicyIs, ScriptIs, policy_limit, script_limit, report_limit, calls_limit}
+use Rattle.broker_app.specs.Inputs.{ClaimsAre, PolicyIs, ScriptIs, policy_limit, script_limit, report_limit, calls_limit, claims_limit}
 use Rattle.broker_app.specs.declared.status.InputFile.{InputFile}
 use Rattle.broker_app.specs.declared.status.InputFile.TheVariants.{Policy as PolicyFile, Script as ScriptFile, Report as ReportFile}
-use Rattle.broker_app.specs.declared.status.InputFile.TheVariants.{Calls as CallsFile}
-use Rattle.broker_app.specs.declared.status.Refusal.TheVariants.{ReadFault, TooLong, BadPolicy, BadScript}
+use Rattle.broker_app.specs.declared.status.InputFile.TheVariants.{Calls as CallsFile, Claims as ClaimsFile, NewPolicy as NewPolicyFile}
+use Rattle.broker_app.specs.declared.status.Refusal.TheVariants.{ReadFault, TooLong, BadPolicy, BadScript, BadNewPolicy, BadClaims}
 use Rattle.broker_app.specs.declared.status.Status.{Status}
 use Rattle.broker_app.specs.declared.status.Status.TheVariants.{Refused, NoMemory}
 
@@ -82,6 +82,30 @@ CallsRefused files after calls _ = ⊥
 -- a policy was taken, and then the calls weren't
 abbrev pub OnlyPolicyOfCalls : FileState → FileState → List ℕ → List ℕ → Status → Type 0
 OnlyPolicyOfCalls files after policy calls status = (P : Policy) × PolicyIs files policy (Ok P) × CallsRefused files after calls status
+
+-- why the policy that would take the other's place wasn't taken
+abbrev pub NewPolicyRefused : FileState → FileState → List ℕ → Status → Type 0
+NewPolicyRefused files after policy (Refused (ReadFault NewPolicyFile)) = CannotRead files after policy
+NewPolicyRefused files after policy (Refused (TooLong NewPolicyFile)) = ReadsPast policy_limit files policy after
+NewPolicyRefused files after policy (Refused (BadNewPolicy error)) = PolicyIs files policy (Err error)
+NewPolicyRefused files after policy NoMemory = Unit {0}
+NewPolicyRefused files after policy _ = ⊥
+
+-- a policy was taken, and then the one that would take its place wasn't
+abbrev pub OnlyOldPolicy : FileState → FileState → List ℕ → List ℕ → Status → Type 0
+OnlyOldPolicy files after old new status = (P : Policy) × PolicyIs files old (Ok P) × NewPolicyRefused files after new status
+
+-- why the claims weren't taken
+abbrev pub ClaimsRefused : FileState → FileState → List ℕ → Status → Type 0
+ClaimsRefused files after claims (Refused (ReadFault ClaimsFile)) = CannotRead files after claims
+ClaimsRefused files after claims (Refused (TooLong ClaimsFile)) = ReadsPast claims_limit files claims after
+ClaimsRefused files after claims (Refused (BadClaims error)) = ClaimsAre files claims (Err error)
+ClaimsRefused files after claims NoMemory = Unit {0}
+ClaimsRefused files after claims _ = ⊥
+
+-- a policy was taken, and then the claims weren't
+abbrev pub OnlyPolicyOfClaims : FileState → FileState → List ℕ → List ℕ → Status → Type 0
+OnlyPolicyOfClaims files after policy claims status = (P : Policy) × PolicyIs files policy (Ok P) × ClaimsRefused files after claims status
 
 -- a policy and a script were taken, and then the report wasn't
 abbrev pub OnlyScript : FileState → FileState → List ℕ → List ℕ → List ℕ → Status → Type 0

@@ -10,7 +10,7 @@ pub record FilePair : Type 0 where
   pub script : List ℕ
 
 -- play a script, run it with threads or by lanes, play generated input, check a report, play a script with workers that are replaced, serve
--- containers side by side, explore a script's histories, step a script as requests ask for, or explain calls
+-- containers side by side, explore a script's histories, step a script as requests ask for, explain calls, or check claims about a policy
 pub data Form : Type 0 where
   Play : List ℕ → List ℕ → Form
   Run : List ℕ → List ℕ → ℕ → ℕ → Form
@@ -22,6 +22,7 @@ pub data Form : Type 0 where
   Explore : List ℕ → List ℕ → ℕ → Option ℕ → Form
   Step : List ℕ → List ℕ → Form
   Explain : List ℕ → List ℕ → Form
+  Check : List ℕ → List ℕ → Form
 
 abbrev pub run_form : List ℕ → List ℕ → Option ℕ → Option ℕ → Option Form
 run_form policy script (Some workers) (Some cpus) = Some (Run policy script workers cpus)
@@ -65,7 +66,8 @@ three_words command a b =
     if bytes_eq command (codes "play") then Some (Play a b)
     else (if bytes_eq command (codes "stress") then stress_form (number_between 0 (2 ^ 64 - 1) a) (number_between 1 4000 b)
     else (if bytes_eq command (codes "step") then Some (Step a b)
-    else (if bytes_eq command (codes "explain") then Some (Explain a b) else None)))
+    else (if bytes_eq command (codes "explain") then Some (Explain a b)
+    else (if bytes_eq command (codes "check") then Some (Check a b) else None))))
 
 abbrev pub four_words : List ℕ → List ℕ → List ℕ → List ℕ → Option Form
 four_words command a b c =
@@ -79,7 +81,7 @@ five_words command a b c d =
     else (if bytes_eq command (codes "explore") then explore_form a b (number_between 0 15 c) (delays_of d) else None)
 
 -- the form of three to five words: play POLICY SCRIPT, stress FROM COUNT, step POLICY SCRIPT, explain POLICY CALLS,
--- audit-check POLICY SCRIPT REPORT, lanes POLICY SCRIPT CPUS, handover POLICY SCRIPT EVERY, run POLICY SCRIPT WORKERS CPUS,
+-- check POLICY CLAIMS, audit-check POLICY SCRIPT REPORT, lanes POLICY SCRIPT CPUS, handover POLICY SCRIPT EVERY, run POLICY SCRIPT WORKERS CPUS,
 -- or explore POLICY SCRIPT WORKERS DELAYS
 abbrev pub few_words : List (List ℕ) → Option Form
 few_words (command ∷ a ∷ b ∷ []) = three_words command a b

@@ -2,9 +2,9 @@
 
 ghost use Rattle.std.specs.Prelude.{◌≡◌, ◌^◌, ◌-◌, ◌<◌, ◌≤◌, true, length, None, Some, Ok, IfOk, IfErr, OnOk, Err};
 ghost use Rattle.io_edge.specs.FileState.{SameFiles};
-ghost use Rattle.broker_app.specs.Inputs.{CallsAre, HasBytes, PolicyIs, ReportIs, ScriptFileIs, ScriptHas, ScriptIs};
+ghost use Rattle.broker_app.specs.Inputs.{CallsAre, ClaimsAre, HasBytes, PolicyIs, ReportIs, ScriptFileIs, ScriptHas, ScriptIs};
 ghost use Rattle.script_reader.specs.Rules.{AreTurns};
-ghost use Rattle.broker_app.specs.Refusals.{CallsRefused, FileRefused, InputRefused, PolicyRefused, ReportRefused, ScriptRefused};
+ghost use Rattle.broker_app.specs.Refusals.{CallsRefused, ClaimsRefused, FileRefused, InputRefused, NewPolicyRefused, PolicyRefused, ReportRefused, ScriptRefused};
 ghost use Rattle.broker_app.specs.declared.status.InputFile.TheVariants as input;
 ghost use Rattle.broker_app.specs.declared.status.Refusal.TheVariants.{ReadFault};
 ghost use Rattle.broker_app.specs.declared.status.Status.TheVariants.{Refused};
@@ -14,12 +14,16 @@ use hist_model::policy::Policy;
 use hist_model::script::Script;
 use io_edge::files::Files;
 use io_edge::whole::{ReadAllError, read_all};
+use policy_claims::claims::Claims;
 use script_reader::ScriptFile;
 use std::alloc::Global;
 use sys_abi::memory::OrNoMemory;
 
 /// How many bytes of a policy are read at most.
 const POLICY_LIMIT: u64 = 1_048_576;
+
+/// How many bytes of claims are read at most.
+const CLAIMS_LIMIT: u64 = 1_048_576;
 
 /// How many bytes of a script are read at most.
 const SCRIPT_LIMIT: u64 = 8_388_608;
@@ -71,6 +75,44 @@ pub(crate) fn read_policy<F: Files>(
     match policy_reader::read_policy(alloc, bytes.as_slice()) {
         Ok(policy) => Ok(policy),
         Err(OrNoMemory::Refused(error)) => Err(Status::Refused(Refusal::BadPolicy(error))),
+        Err(OrNoMemory::NoMemory) => Err(Status::NoMemory),
+    }
+}
+
+/// Reads the policy of this name, which would take another's place.
+#[tactic(auto, using(crate::proofs::Reading::reads_as, crate::proofs::Reading::new_policy_unread))]
+pub(crate) fn read_new_policy<F: Files>(
+    alloc: Global,
+    files: &mut F,
+    name: &str,
+) -> Result<Policy, Status>
+    ensures same { SameFiles (F.state files.old) (F.state files.new) }
+    ensures read { IfOk result (λ p. PolicyIs (F.state files.old) name.now (Ok p)) }
+    ensures refused { IfErr result (λ s. NewPolicyRefused (F.state files.old) (F.state files.new) name.now s) }
+{
+    let bytes = read_file(alloc, files, name, InputFile::NewPolicy, POLICY_LIMIT)?;
+    match policy_reader::read_policy(alloc, bytes.as_slice()) {
+        Ok(policy) => Ok(policy),
+        Err(OrNoMemory::Refused(error)) => Err(Status::Refused(Refusal::BadNewPolicy(error))),
+        Err(OrNoMemory::NoMemory) => Err(Status::NoMemory),
+    }
+}
+
+/// Reads the claims of this name.
+#[tactic(auto, using(crate::proofs::Reading::reads_as, crate::proofs::Reading::claims_unread))]
+pub(crate) fn read_claims<F: Files>(
+    alloc: Global,
+    files: &mut F,
+    name: &str,
+) -> Result<Claims, Status>
+    ensures same { SameFiles (F.state files.old) (F.state files.new) }
+    ensures read { IfOk result (λ c. ClaimsAre (F.state files.old) name.now (Ok c)) }
+    ensures refused { IfErr result (λ s. ClaimsRefused (F.state files.old) (F.state files.new) name.now s) }
+{
+    let bytes = read_file(alloc, files, name, InputFile::Claims, CLAIMS_LIMIT)?;
+    match policy_claims::read_claims(alloc, bytes.as_slice()) {
+        Ok(claims) => Ok(claims),
+        Err(OrNoMemory::Refused(error)) => Err(Status::Refused(Refusal::BadClaims(error))),
         Err(OrNoMemory::NoMemory) => Err(Status::NoMemory),
     }
 }

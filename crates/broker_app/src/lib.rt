@@ -29,4 +29,5 @@ mod pods;
 mod printing;
 pub mod status;
 mod stepping;
+mod telling;
 pub mod words;

@@ -3,7 +3,7 @@
 ghost use Rattle.std.specs.Prelude.{◌≡◌, ◌++◌, codes, decimal};
 ghost use Rattle.io_edge.specs.SinkState.{Writes};
 ghost use Rattle.broker_app.specs.Answers.{Said};
-ghost use Rattle.broker_app.specs.Lines.{calls_line, container_front, line_of, overlap_line, policy_line, refusal_line, script_line, numbered_line, file_named};
+ghost use Rattle.broker_app.specs.Lines.{calls_line, container_front, line_of, overlap_line, rules_line, refusal_line, script_line, numbered_line, file_named};
 
 use crate::status::{InputFile, Refusal, Status};
 use call_lines::CallsError;
@@ -19,9 +19,11 @@ fn file_named(file: InputFile) -> &'static [u8]
 {
     match file {
         InputFile::Policy => b"policy\n",
+        InputFile::NewPolicy => b"new policy\n",
         InputFile::Script => b"script\n",
         InputFile::Report => b"report\n",
         InputFile::Calls => b"calls\n",
+        InputFile::Claims => b"claims\n",
         InputFile::Requests => b"requests\n",
     }
 }
@@ -44,20 +46,25 @@ fn write_ended<E: Sink>(beginning: &[u8], text: &[u8], err: &mut E) -> Result<()
     write_two(text, b"\n", err)
 }
 
-/// Writes why a policy is refused.
-fn write_policy_line<E: Sink>(error: &PolicyError, err: &mut E) -> Result<(), Failed>
-    ensures { Writes (E.state err.old) (policy_line error.now) result (E.state err.new) }
+/// Writes what is refused of rules.
+fn write_rules_line<E: Sink>(error: &PolicyError, err: &mut E) -> Result<(), Failed>
+    ensures { Writes (E.state err.old) (rules_line error.now) result (E.state err.new) }
 {
     match error {
-        PolicyError::NotJson => err.write(b"policy: not JSON\n"),
-        PolicyError::BadKey { path } => {
-            write_ended(b"policy: unknown key at ", path.items(), err)
-        }
-        PolicyError::BadValue { path } => {
-            write_ended(b"policy: bad value at ", path.items(), err)
-        }
-        PolicyError::TooMany => err.write(b"policy: too many rules\n"),
+        PolicyError::NotJson => err.write(b"not JSON\n"),
+        PolicyError::BadKey { path } => write_ended(b"unknown key at ", path.items(), err),
+        PolicyError::BadValue { path } => write_ended(b"bad value at ", path.items(), err),
+        PolicyError::TooMany => err.write(b"too many rules\n"),
     }
+}
+
+/// Writes why rules are refused, behind what has them.
+#[tactic(auto, using(crate::proofs::Saying::writes_front, crate::proofs::Saying::writes_more))]
+fn write_rules_of<E: Sink>(front: &[u8], error: &PolicyError, err: &mut E) -> Result<(), Failed>
+    ensures { Writes (E.state err.old) (front.now ++ rules_line error.now) result (E.state err.new) }
+{
+    err.write(front)?;
+    write_rules_line(error, err)
 }
 
 /// Writes the number of a line, and what is wrong with it.
@@ -119,7 +126,9 @@ fn write_refusal<E: Sink>(refusal: &Refusal, err: &mut E) -> Result<(), Failed>
     match refusal {
         Refusal::ReadFault(file) => write_two(b"read fault: ", file_named(*file), err),
         Refusal::TooLong(file) => write_two(b"too long: ", file_named(*file), err),
-        Refusal::BadPolicy(error) => write_policy_line(error, err),
+        Refusal::BadPolicy(error) => write_rules_of(b"policy: ", error, err),
+        Refusal::BadNewPolicy(error) => write_rules_of(b"new policy: ", error, err),
+        Refusal::BadClaims(error) => write_rules_of(b"claims: ", error, err),
         Refusal::BadScript(error) => write_script_line(error, err),
         Refusal::BadCalls(error) => write_calls_line(error, err),
         Refusal::HasRequests => err.write(b"script: requests in the schedule\n"),
@@ -165,9 +174,9 @@ fn write_status<E: Sink>(status: &Status, err: &mut E) -> Result<(), Failed>
     ensures { Writes (E.state err.old) (line_of status.now) result (E.state err.new) }
 {
     match status {
-        Status::Done => err.write(b""),
+        Status::Done | Status::Otherwise | Status::Undecided => err.write(b""),
         Status::Usage => err.write(
-            b"usage: play POLICY SCRIPT | run POLICY SCRIPT WORKERS CPUS | stress FROM COUNT | audit-check POLICY SCRIPT REPORT | lanes POLICY SCRIPT CPUS | handover POLICY SCRIPT EVERY | pod WORKERS CPUS POLICY SCRIPT .. | explore POLICY SCRIPT WORKERS DELAYS | step POLICY SCRIPT | explain POLICY CALLS\n",
+            b"usage: play POLICY SCRIPT | run POLICY SCRIPT WORKERS CPUS | stress FROM COUNT | audit-check POLICY SCRIPT REPORT | lanes POLICY SCRIPT CPUS | handover POLICY SCRIPT EVERY | pod WORKERS CPUS POLICY SCRIPT .. | explore POLICY SCRIPT WORKERS DELAYS | step POLICY SCRIPT | explain POLICY CALLS | check POLICY CLAIMS\n",
         ),
         Status::Refused(refusal) => write_refusal(refusal, err),
         Status::ContainerRefused { container, refusal } => {

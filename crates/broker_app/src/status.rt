@@ -13,10 +13,14 @@ use sys_abi::memory;
 #[derive(Clone, Copy, PartialEq, Eq, Debug)]
 pub enum InputFile {
     Policy,
+    /// The policy that would take the other's place.
+    NewPolicy,
     Script,
     Report,
     /// The calls that are explained.
     Calls,
+    /// The claims that are checked.
+    Claims,
     /// The requests of `step`: the standard input.
     Requests,
 }
@@ -26,10 +30,15 @@ pub enum InputFile {
 pub enum Refusal {
     /// It couldn't be read.
     ReadFault(InputFile),
-    /// It has more bytes than it may have: 1,048,576 of a policy, 8,388,608 of a script and of calls, 33,554,432 of a report.
+    /// It has more bytes than it may have: 1,048,576 of a policy and of claims, 8,388,608 of a script and of calls, 33,554,432 of a
+    /// report.
     TooLong(InputFile),
     /// The policy is refused.
     BadPolicy(PolicyError),
+    /// The policy that would take the other's place is refused.
+    BadNewPolicy(PolicyError),
+    /// The claims are refused.
+    BadClaims(PolicyError),
     /// The script is refused.
     BadScript(ScriptError),
     /// The calls are refused.
@@ -46,7 +55,7 @@ impl Refusal {
         match self {
             Refusal::ReadFault(_) => 2,
             Refusal::TooLong(_) => 3,
-            Refusal::BadPolicy(_) => 4,
+            Refusal::BadPolicy(_) | Refusal::BadNewPolicy(_) | Refusal::BadClaims(_) => 4,
             Refusal::BadScript(_) | Refusal::BadCalls(_) | Refusal::HasRequests => 5,
         }
     }
@@ -72,6 +81,10 @@ pub enum Status {
     NotReport { line: u32 },
     /// The ranges of PIDs of two containers' scripts share a number: the first two containers of which that is so.
     PidsOverlap { first: u8, second: u8 },
+    /// What was told is that the policies differ, that a claim is refuted, or that something is likely a mistake.
+    Otherwise,
+    /// Not all calls were looked at, and of those that were nothing of the kind was told.
+    Undecided,
 }
 
 impl Status {
@@ -88,6 +101,8 @@ impl Status {
             Status::NoMemory => 7,
             Status::NotReport { .. } => 9,
             Status::PidsOverlap { .. } => 10,
+            Status::Otherwise => 11,
+            Status::Undecided => 12,
         }
     }
 }

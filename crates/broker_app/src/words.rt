@@ -52,6 +52,11 @@ pub enum Job<'a> {
         policy: &'a str,
         calls: &'a str,
     },
+    /// Check claims about a policy: the names of the files of the policy and the claims.
+    Check {
+        policy: &'a str,
+        claims: &'a str,
+    },
 }
 
 /// A form of the words.
@@ -205,6 +210,11 @@ fn three_words<'a>(command: &str, a: &'a str, b: &'a str) -> Option<Form<'a>>
         Some(Form::Job(Job::Explain {
             policy: a,
             calls: b,
+        }))
+    } else if command.as_bytes() == b"check".as_slice() {
+        Some(Form::Job(Job::Check {
+            policy: a,
+            claims: b,
         }))
     } else {
         None

@@ -1,4 +1,4 @@
-use Rattle.broker_app.proofs.lines.write_policy_line.Goals as goal
+use Rattle.broker_app.proofs.lines.write_rules_line.Goals as goal
 
 pub returns-in-BadKey : goal.returns-in-BadKey
 returns-in-BadKey g c = rw (c.in-BadKey.is, ← c.items.ensures) c.write_ended.ensures

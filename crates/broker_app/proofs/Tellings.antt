@@ -1,0 +1,75 @@
+-- How a word ends that tells something of policies.
+-- By cases on the status and the ending, and since no reading changes files.
+use Rattle.std.proofs.Common.{◌≡◌, ℕ, List, inl, inr, refl, sym, ap, subst}
+use Rattle.std.specs.Prelude.{Result, Ok, Err}
+use Rattle.hist_model.specs.declared.policy.Policy.{Policy}
+use Rattle.io_edge.specs.FileState.{FileState, SameFiles}
+use Rattle.io_edge.specs.SinkState.{SinkState}
+use Rattle.policy_claims.specs.Told.{IsToldOf}
+use Rattle.policy_claims.specs.declared.claims.Claims.{Claims}
+use Rattle.policy_classes.specs.declared.ending.Ending.{Ending}
+use Rattle.policy_classes.specs.declared.ending.Ending.TheVariants.{Alike, Otherwise, Undecided}
+use Rattle.policy_classes.specs.declared.ending.Told.{Told}
+use Rattle.broker_app.proofs.Reading.{claims_are_before, claims_before}
+use Rattle.broker_app.specs.Answers.{Printed}
+use Rattle.broker_app.specs.Inputs.{ClaimsAre, PolicyIs}
+use Rattle.broker_app.specs.Refusals.{ClaimsRefused, PolicyRefused}
+use Rattle.broker_app.specs.Tellings.{ClaimsEnds, IsPrinted, TellingEnds, TellsOfClaims, status_of_ending}
+use Rattle.broker_app.specs.declared.status.Refusal.{Refusal}
+use Rattle.broker_app.specs.declared.status.Status.{Status}
+use Rattle.broker_app.specs.declared.status.Status.TheVariants.{NoMemory, Refused, WriteFault}
+
+-- ---- What is told
+
+-- all of it was printed
+pub all_told : (told : Told) (old new : SinkState) (status : Status) → Printed told.text old new (Ok tt) → status ≡ status_of_ending told.ending → IsPrinted told old new status
+all_told told old new status p e = subst (IsPrinted told old new) (sym e) (by told.ending refl)
+  where
+    by : (ending : Ending) → told.ending ≡ ending → IsPrinted told old new (status_of_ending ending)
+    by Alike is = (told, refl, sym (ap status_of_ending is), p.0, p.1)
+    by Otherwise is = (told, refl, sym (ap status_of_ending is), p.0, p.1)
+    by Undecided is = (told, refl, sym (ap status_of_ending is), p.0, p.1)
+
+-- a part of it was
+pub part_told : (told : Told) (old new : SinkState) (status : Status) → Printed told.text old new (Err status) → IsPrinted told old new status
+part_told told old new WriteFault p = (p.0, told, refl, p.1)
+part_told told old new NoMemory p = inr (told, refl, p)
+part_told told old new status p = absurd p
+
+-- it may be told of the files
+pub told_ends : (told : Told) (Tells : Told → Type 0) (Stops : Refusal → Type 0) (old new : SinkState) (status : Status) → Tells told → IsPrinted told old new status → TellingEnds Tells Stops old new status
+told_ends told Tells Stops old new status tells h = by status h
+  where
+    same : (other : Told) → other ≡ told → Tells other
+    same other e = subst Tells (sym e) tells
+
+    by : (status : Status) → IsPrinted told old new status → TellingEnds Tells Stops old new status
+    by (Refused refusal) (no, rest) = absurd no
+    by WriteFault (rose, other, is, took) = (rose, other, same other is, took)
+    by NoMemory (inl nothing) = inl nothing
+    by NoMemory (inr (other, is, took)) = inr (other, same other is, took)
+    by status (other, is, ending, took, stands) = (other, same other is, ending, took, stands)
+
+-- ---- Claims
+
+-- the policy wasn't taken
+pub policy_stops : (files after : FileState) (sink : SinkState) (policy claims : List ℕ) (status : Status) → PolicyRefused files after policy status → ClaimsEnds files after sink sink policy claims status
+policy_stops files after sink policy claims (Refused refusal) h = (inl h, λ t. refl)
+policy_stops files after sink policy claims NoMemory h = inl (λ t. refl)
+policy_stops files after sink policy claims status h = absurd h
+
+-- the claims weren't
+pub claims_stop : (files mid after : FileState) (sink : SinkState) (policy claims : List ℕ) (P : Policy) (status : Status) → SameFiles files mid → PolicyIs files policy (Ok P) → ClaimsRefused mid after claims status
+    → ClaimsEnds files after sink sink policy claims status
+claims_stop files mid after sink policy claims P status same policy_is h = by status (claims_before files mid after claims same status h)
+  where
+    by : (status : Status) → ClaimsRefused files after claims status → ClaimsEnds files after sink sink policy claims status
+    by (Refused refusal) r = (inr (P, policy_is, r), λ t. refl)
+    by NoMemory r = inl (λ t. refl)
+    by status r = absurd r
+
+-- both were read
+pub claims_told : (files mid after : FileState) (old new : SinkState) (policy claims : List ℕ) (P : Policy) (C : Claims) (told : Told) (status : Status) → SameFiles files mid → PolicyIs files policy (Ok P)
+    → ClaimsAre mid claims (Ok C) → IsToldOf P.rules C told → IsPrinted told old new status → ClaimsEnds files after old new policy claims status
+claims_told files mid after old new policy claims P C told status same policy_is claims_are is printed =
+    told_ends told (TellsOfClaims files policy claims) _ old new status (P, C, policy_is, claims_are_before files mid after claims same (Ok C) claims_are, is) printed

@@ -1,0 +1,80 @@
+//! The words that tell something of policies for all calls. Each makes a text, whose ending is the status.
+
+ghost use Rattle.std.specs.Prelude.{◌≡◌, OnOk};
+ghost use Rattle.audit_log.specs.Written.{Wrote};
+ghost use Rattle.broker_app.specs.Answers.{Printed, status_of};
+ghost use Rattle.broker_app.specs.Refusals.{Stands};
+ghost use Rattle.broker_app.specs.Tellings.{ClaimsEnds, IsPrinted, status_of_ending};
+
+use crate::inputs::{read_claims, read_policy};
+use crate::status::Status;
+use audit_log::error::ReportError;
+use io_edge::files::Files;
+use io_edge::sink::Sink;
+use policy_classes::ending::{Ending, Told};
+use std::alloc::Global;
+
+/// Writes a text.
+fn write_text<O: Sink>(text: &[u8], out: &mut O) -> Result<(), ReportError>
+    ensures { Wrote (O.state out.old) text.now result (O.state out.new) }
+{
+    out.write(text)?;
+    Ok(())
+}
+
+/// Writes a text, and flushes it.
+#[tactic(auto, using(crate::proofs::Ends::flushed))]
+fn write_flushed<O: Sink>(text: &[u8], out: &mut O) -> Result<(), ReportError>
+    ensures wrote { Wrote (O.state out.old) text.now result (O.state out.new) }
+    ensures stands { OnOk result (Stands (O.state out.new)) }
+{
+    write_text(text, out)?;
+    out.flush()?;
+    Ok(())
+}
+
+/// Prints a text.
+#[tactic(auto, using(crate::proofs::Ends::printed_whole, crate::proofs::Ends::printed_part))]
+fn print_text<O: Sink>(text: &[u8], out: &mut O) -> Result<(), Status>
+    ensures { Printed text.now (O.state out.old) (O.state out.new) result }
+{
+    write_flushed(text, out)?;
+    Ok(())
+}
+
+/// The status of an ending.
+fn ended(ending: Ending) -> Result<(), Status>
+    ensures { status_of result ≡ status_of_ending ending }
+{
+    match ending {
+        Ending::Alike => Ok(()),
+        Ending::Otherwise => Err(Status::Otherwise),
+        Ending::Undecided => Err(Status::Undecided),
+    }
+}
+
+/// Prints what is told, and answers the status of its ending.
+#[tactic(auto, using(crate::proofs::Tellings::all_told, crate::proofs::Tellings::part_told))]
+fn tell<O: Sink>(told: &Told, out: &mut O) -> Result<(), Status>
+    ensures { IsPrinted told.now (O.state out.old) (O.state out.new) (status_of result) }
+{
+    print_text(told.text.items(), out)?;
+    ended(told.ending)
+}
+
+/// Checks the claims of one file about the policy of another, and prints what is told of them.
+#[tactic(auto, using(crate::proofs::Tellings::policy_stops, crate::proofs::Tellings::claims_stop))]
+pub(crate) fn check_claims<F: Files, O: Sink>(
+    alloc: Global,
+    files: &mut F,
+    policy: &str,
+    claims: &str,
+    out: &mut O,
+) -> Result<(), Status>
+    ensures { ClaimsEnds (F.state files.old) (F.state files.new) (O.state out.old) (O.state out.new) policy.now claims.now (status_of result) }
+{
+    let policy = read_policy(alloc, files, policy)?;
+    let claims = read_claims(alloc, files, claims)?;
+    let told = policy_claims::check(alloc, &policy, &claims)?;
+    tell(&told, out)
+}
