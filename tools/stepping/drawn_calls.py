@@ -30,11 +30,15 @@ class Chooser:
 
     # ---- policies
 
-    def policy(self):
-        """A policy that is taken, as text."""
+    def stated(self):
+        """A policy that is taken."""
         profile = self.chance.random() < 0.6
         stated = {"version": 2, "config": self.config(profile), "rules": [self.rule(f"rule-{at}", profile) for at in range(self.chance.randrange(MOST_RULES))]}
-        return json.dumps({"profile": "lxd", **stated} if profile else stated, ensure_ascii=self.chance.random() < 0.5)
+        return {"profile": "lxd", **stated} if profile else stated
+
+    def policy(self):
+        """A policy that is taken, as text."""
+        return json.dumps(self.stated(), ensure_ascii=self.chance.random() < 0.5)
 
     def config(self, profile):
         found = {name: self.chance.choice(SWITCHES) for name in self.some(("mknod", "mount", "mount.shift", "setxattr", "sysinfo"), 2)}
