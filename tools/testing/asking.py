@@ -1,4 +1,4 @@
-"""Asks the program: which rule decides each call of a file, and what the calls of a script come to, in one order of steps or in those within a bound."""
+"""Asks the program: which rule decides each call of a file, which claims on all calls hold, and what the calls of a script come to, in one order of steps or in those within a bound."""
 import os
 import re
 import subprocess
@@ -8,7 +8,9 @@ from messages.findings import Finding
 from real_workloads.script_text import TOKEN
 from testing.lines import NotUnderstood
 
-POLICY_REFUSED, SCRIPT_REFUSED = 4, 5
+REFUSED, SCRIPT_REFUSED = 4, 5
+# statuses of what is printed in full: `check` has others where a claim is refuted, or isn't decided
+WHOLE = (0, 11, 12)
 LINE = re.compile(r"\bline (\d+)\b")
 
 
@@ -42,14 +44,14 @@ class Program:
             raise NotAsked(f"{self.path}: {fault.strerror}") from None
         finally:
             os.unlink(file.name)
-        if ended.returncode:
+        if ended.returncode not in WHOLE:
             raise self.refusal(ended, word, words, made)
         return ended.stdout
 
     def refusal(self, ended, word, words, made):
         """Why the program doesn't answer."""
         line = (ended.stderr.decode("utf-8", "replace").splitlines() or [f"the program ended with status {ended.returncode}"])[-1]
-        if ended.returncode == POLICY_REFUSED:
+        if ended.returncode == REFUSED and line.startswith("policy: "):
             from messages.refusals import Said, entry_of
             return PolicyRefused([line, *Said(entry_of(word), words, line, self.command).explained()])
         if ended.returncode == SCRIPT_REFUSED and word != "explain":

@@ -5,7 +5,7 @@ from typing import Optional
 
 from messages.findings import advice, listed, meant, whole_file
 from messages.script_words import begins_as_script
-from testing import options, words
+from testing import all_calls, options, words
 from testing.calls import call_of, text_of
 from testing.conditions import OPERATORS, PREDICATES, condition_of
 from testing.expectations import expected_of
@@ -121,7 +121,12 @@ class Group:
     policy: object
     filters: Optional[NamesFile]
     singles: list = field(default_factory=list)
+    of_all_calls: list = field(default_factory=list)
     containers: list = field(default_factory=list)
+
+    @property
+    def has_tests(self):
+        return bool(self.singles or self.of_all_calls or self.containers)
 
     @property
     def files(self):
@@ -179,7 +184,7 @@ class Reader:
         for number, text in enumerate(self.file.text.lines, 1):
             self.trying(lambda: self.take(line_of(number, text)))
         self.leave()
-        if not self.file.faults and not any(it.singles or it.containers for it in self.file.groups):
+        if not self.file.faults and not any(it.has_tests for it in self.file.groups):
             self.file.faults.append(self.empty())
         self.file.faults.sort(key=lambda it: (it.line, it.start))
         return self.file
@@ -201,6 +206,9 @@ class Reader:
         if word in words.LINES:
             self.leave()
             {words.POLICY: self.policy_line, words.FILTER: self.filter_line, words.CALL: self.call_line, words.CONTAINER: self.container_line}[word](line)
+        elif all_calls.is_one(line):
+            self.leave()
+            self.current(line).of_all_calls.append(all_calls.read(line))
         elif word == words.TASK:
             self.task_line(line)
         elif word == words.TRACED:
@@ -455,9 +463,11 @@ class Reader:
             if word.text in (*words.CALL_NAMES, *words.STEPS):
                 return word.fault(f"`{word.text}` stands in no task", "begin one by `task main`")
         else:
-            known, what = words.LINES, "line of a test file"
+            known, what = (*words.LINES, *all_calls.SENSES), "line of a test file"
             if word.text in words.CALL_NAMES:
                 return word.fault(f"`{word.text}` stands in no task", f"write `call {word.text} ..` for a call by itself")
+            if word.text in all_calls.SENSES:
+                return word.fault(f"what `{word.text}` says of calls ends with a colon", f"as in `{all_calls.EXAMPLE}`")
         other = words.OTHER_LINES.get(word.text) or words.OTHER_CALLS.get(word.text)
         hint = f"did you mean `{other}`? " if other in known else meant(word.text, known)
         return word.fault(f"{word.text} begins no {what}", advice(hint, f"it begins with {listed(known, 'or')}"))

@@ -7,7 +7,7 @@ from functools import lru_cache
 
 from messages import policies
 from messages.findings import Finding, Text, message, whole_file
-from testing import asking, explained, files, named_files
+from testing import all_calls, asking, explained, files, named_files
 from testing.lines import Line, NotUnderstood
 from testing.results import FileResults, Result
 from testing.scripts import batches, container_of, script_of
@@ -173,6 +173,8 @@ class Tests:
         decided, played = parted(group.singles, lambda it: filters is None and explained.is_enough(it))
         if decided:
             yield Explaining(policy, explained.Calls(tuple(decided)))
+        if group.of_all_calls:
+            yield all_calls.Checking(policy, all_calls.Claims(tuple(group.of_all_calls)))
         for singles in batches(played, any("times" in it for it in rules)):
             yield self.of_singles(policy, singles, script_of(container_of(singles), filters, descriptors))
         for container, script in containers:
