@@ -7,6 +7,7 @@ from json_documents.explanations import explanation_lines, explanation_of
 from json_documents.explorations import exploration_lines, exploration_of
 from json_documents.ledgers import handover_lines, handover_of
 from json_documents.lines import Lines
+from json_documents.policies import comparison_lines, comparison_of, finding_lines, findings_of, standing_lines, standings_of
 from json_documents.report import counts_of, counts_words, report_lines, report_of
 from json_documents.trails import trail_lines, trail_of
 from reports import NotAReport
@@ -60,6 +61,9 @@ WORDS = {
     "handover": (handover_of, handover_lines),
     "explore": (exploration_of, exploration_lines),
     "explain": (explanation_of, explanation_lines),
+    "compare": (comparison_of, comparison_lines),
+    "check": (standings_of, standing_lines),
+    "lint": (findings_of, finding_lines),
     "step": (answers_of, answer_lines),
     "run": (report_of, report_lines),
     "lanes": (report_of, report_lines),
@@ -69,8 +73,12 @@ WORDS = {
 }
 
 
+# the exit statuses with which all is printed: what is said of policies has others, where they differ, or something is refuted, found or not decided
+WHOLE = (0, 11, 12)
+
+
 def document(word, output):
-    """The document of what a word printed with status 0. NotAReport says at which line the bytes are no output of that word."""
+    """The document of what a word printed with such a status. NotAReport says at which line the bytes are no output of that word."""
     return {"word": word, **WORDS[word][0](output)}
 
 
