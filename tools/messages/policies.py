@@ -46,15 +46,22 @@ class Refused:
     value: Optional[Value]
     start: int
     end: int
+    # the keys behind which rules stand
+    lists: tuple = ("rules",)
 
     @property
     def last(self):
         return self.keys[-1]
 
     @property
+    def rules(self):
+        """The list of rules in which it stands."""
+        return self.top.member(self.keys[0]).items
+
+    @property
     def rule(self):
         """The rule in which it stands, or None."""
-        return self.top.member("rules").items[self.keys[1]] if self.keys[:1] == ["rules"] and len(self.keys) > 1 else None
+        return self.rules[self.keys[1]] if self.keys[:1] and self.keys[0] in self.lists and len(self.keys) > 1 else None
 
     @property
     def has_profile(self):
@@ -62,8 +69,9 @@ class Refused:
 
     @property
     def shape(self):
-        """The path with its numbers left out."""
-        return ".".join("N" if isinstance(key, int) else key for key in self.keys)
+        """The path with its numbers left out, as one in a policy."""
+        first = ["rules"] if self.keys[:1] and self.keys[0] in self.lists else self.keys[:1]
+        return ".".join("N" if isinstance(key, int) else key for key in [*first, *self.keys[1:]])
 
     @property
     def calls(self):
@@ -228,10 +236,10 @@ def rule_name(at):
     if at.value.kind != "string":
         return f"a name is a text, and this is {said(at.value)}", form
     text = at.value.plain
-    before = [one.member("name") for one in at.top.member("rules").items[:at.keys[1]]]
+    before = [one.member("name") for one in at.rules[:at.keys[1]]]
     for number, name in enumerate(before):
         if name is not None and name.plain == text:
-            return f"`rules[{number}]` has the name {text} already", "give each rule a name of its own"
+            return f"`{at.keys[0]}[{number}]` has the name {text} already", "give each rule a name of its own"
     if text.startswith(("lxd.", "default.")):
         return f"names that begin with `{text.partition('.')[0]}.` are those of the program's own rules", "choose another beginning"
     if len(text.encode("utf-8", "replace")) > 64:

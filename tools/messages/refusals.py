@@ -8,23 +8,27 @@ from command_line import table
 from messages import policies
 from messages.findings import Text, filled, message, near, shown
 
-READ_FAULT, TOO_LONG = re.compile(r"read fault: (policy|script|calls|report|requests)"), re.compile(r"too long: (policy|script|calls|report)")
+READ_FAULT = re.compile(r"read fault: (policy|new policy|script|calls|claims|report|requests)")
+TOO_LONG = re.compile(r"too long: (policy|new policy|script|calls|claims|report)")
 OVERLAP = re.compile(r"pod: pids overlap: (\d+) (\d+)")
-POLICY, SCRIPT, CONTAINER = re.compile(r"policy: (.*)", re.S), re.compile(r"script: line (\d+): (.*)"), re.compile(r"container (\d): (.*)", re.S)
+POLICY, CLAIMS = re.compile(r"(policy|new policy): (.*)", re.S), re.compile(r"claims: (.*)", re.S)
+SCRIPT, CONTAINER = re.compile(r"script: line (\d+): (.*)"), re.compile(r"container (\d): (.*)", re.S)
 REQUESTS = re.compile(r"script: requests in the schedule")
 CALLS, REPORT, USAGE = re.compile(r"calls: line (\d+): (.*)"), re.compile(r"report: line (\d+)"), re.compile(r"usage: .*")
 OPTIONS = ("--explain", "--help", "-h")
-LIMITS = {"policy": 1_048_576, "script": 8_388_608, "calls": 8_388_608, "report": 33_554_432}
-CALLED = {"calls": "a file of calls"}
+LIMITS = {"policy": 1_048_576, "new policy": 1_048_576, "claims": 1_048_576, "script": 8_388_608, "calls": 8_388_608, "report": 33_554_432}
+CALLED = {"new policy": "a policy", "calls": "a file of calls", "claims": "a file of claims"}
+# what the program calls the files of operands with other names
+OF_OPERANDS = {"old": "policy", "new": "new policy"}
 
 
 def files_in(entry, operands, container):
-    """The files that the operands name, by policy, script, calls and report; of a pod those of one container."""
+    """The files that the operands name, by what the program calls them; of a pod those of one container."""
     if entry["word"] == "pod":
         pairs = operands[2:]
         return dict(zip(("policy", "script"), pairs[2 * container:2 * container + 2]))
-    names = [it["name"] for it in entry["operands"]]
-    return {name.lower(): operand for name, operand in zip(names, operands) if name.lower() in LIMITS}
+    names = [OF_OPERANDS.get(it["name"].lower(), it["name"].lower()) for it in entry["operands"]]
+    return {name: operand for name, operand in zip(names, operands) if name in LIMITS}
 
 
 def data_of(path):
@@ -129,9 +133,12 @@ class Said:
     def of_text(self, line, files, of_report):
         # (a script isn't read for what is said of a policy)
         from messages import calls, scripts
-        policy, script, asked, report = (form.fullmatch(line) for form in (POLICY, SCRIPT, CALLS, REPORT))
+        policy, claims, script, asked, report = (form.fullmatch(line) for form in (POLICY, CLAIMS, SCRIPT, CALLS, REPORT))
         if policy:
-            return explained_text(files["policy"], lambda data: policies.finding_of(data, policy[1]))
+            return explained_text(files[policy[1]], lambda data: policies.finding_of(data, policy[2]))
+        if claims:
+            from messages import claims as of_claims
+            return explained_text(files["claims"], lambda data: of_claims.finding_of(data, claims[1]))
         if REQUESTS.fullmatch(line):
             return explained_text(files["script"], scripts.finding_of_requests)
         if script:
