@@ -147,4 +147,5 @@ def drawn(seed):
 
 
 def text(value):
-    return json.dumps(value).encode()
+    """A value as the bytes of a file, in lines."""
+    return json.dumps(value, indent=1).encode()

@@ -3,8 +3,12 @@ from typing import NamedTuple
 
 from deciding.cells import cells
 from deciding.comparing import once
+from messages.findings import Text
+from messages.json_places import Scanner
+from messages.policies import refused_at
 
 NEVER, SHADOWED, NEEDLESS = "never", "shadowed", "needless"
+WORDS = {NEVER: "no call meets these conditions", SHADOWED: "this rule decides no call", NEEDLESS: "without this rule every call has the same answer"}
 
 
 class Finding(NamedTuple):
@@ -40,3 +44,20 @@ def findings(rules, own):
     """What is said of the first rules, of which there are so many, in their order."""
     found = cells(rules)
     return [it for it in (finding(rules, place, found) for place in range(own)) if it]
+
+
+# ---- the lines
+
+
+def place_text(it):
+    """The place of a finding, as a refusal has it."""
+    return f"rules[{it.place}]{'.when' if it.name == NEVER else ''}"
+
+
+def lines_of(data, found):
+    """What is told of findings on a policy's bytes: each with the line and the column of its place."""
+    text = Text(data)
+    top = Scanner(text.whole).document()
+    for it in found:
+        at = text.finding("", refused_at(top, place_text(it)).value.start, 0, "", "")
+        yield f"{it.name} {place_text(it)} {at.line}:{at.column} {WORDS[it.name]}" + (f" by={','.join(it.by)}" if it.by else "")

@@ -4,7 +4,7 @@ const EDITOR_LINE = 20;
 const EDITOR_TOP = 8;
 const EDITOR_LEFT = 10;
 
-/** A field for a text, with its lines numbered; one line can be marked. */
+/** A field for a text, with its lines numbered. One line can be marked, and others have notes, which stand below the text too. */
 class Editor {
   constructor(root, title, changed) {
     this.count = make("span", {});
@@ -12,11 +12,14 @@ class Editor {
     this.gutter = make("div", { class: "gutter", "aria-hidden": "true" });
     this.key = make("span", { class: "key" });
     this.stripe = make("div", { class: "stripe", hidden: true }, this.key);
+    this.list = make("ul", { class: "notes-of-lines", "aria-label": `What is likely a mistake in the ${title.toLowerCase()}`, hidden: true });
     this.marked = 0;
-    root.append(make("header", {}, title, this.count), make("div", { class: "field" }, this.gutter, this.stripe, this.field));
+    this.noted = new Map();
+    root.append(make("header", {}, title, this.count), make("div", { class: "field" }, this.gutter, this.stripe, this.field), this.list);
     this.field.addEventListener("scroll", () => this.draw());
     this.field.addEventListener("input", () => {
       this.mark(0);
+      this.note([]);
       changed();
     });
     new ResizeObserver(() => this.draw()).observe(this.field);
@@ -30,7 +33,16 @@ class Editor {
   set(text) {
     this.field.value = text;
     this.field.scrollTop = 0;
+    this.note([]);
     this.mark(0);
+  }
+
+  /** Puts notes on lines: each has a line, a column and words. */
+  note(notes) {
+    this.noted = new Map(notes.map(({ line, words }) => [line, words]));
+    this.list.hidden = notes.length === 0;
+    this.list.replaceChildren(...notes.map(({ line, column, words }) => make("li", {}, make("button", { type: "button", class: "small", onclick: () => this.cursor(line, column - 1, column - 1) }, `Line ${line}`), make("span", {}, words))));
+    this.draw();
   }
 
   /** Marks a line, counted from 1, or a part of it, and brings it into sight; 0 marks none. */
@@ -43,8 +55,7 @@ class Editor {
     if (line) {
       this.field.setAttribute("aria-invalid", "true");
       this.field.title = why;
-      const y = (line - 1) * EDITOR_LINE;
-      if (y < this.field.scrollTop || y > this.field.scrollTop + this.field.clientHeight - 3 * EDITOR_LINE) this.field.scrollTop = Math.max(0, y - this.field.clientHeight / 2);
+      this.sight(line);
     } else {
       this.field.removeAttribute("aria-invalid");
       this.field.removeAttribute("title");
@@ -54,9 +65,21 @@ class Editor {
 
   /** Puts the cursor at what is marked. */
   go() {
-    const before = this.text.split("\n").slice(0, this.marked - 1).join("\n").length + (this.marked > 1 ? 1 : 0) + this.before.length;
+    this.cursor(this.marked, this.before.length, this.before.length + this.part.length);
+  }
+
+  /** Puts the cursor into a line, counted from 1, and selects from one of its places to another. */
+  cursor(line, from, to) {
+    const before = this.text.split("\n").slice(0, line - 1).join("\n").length + (line > 1 ? 1 : 0);
     this.field.focus();
-    this.field.setSelectionRange(before, before + this.part.length);
+    this.field.setSelectionRange(before + from, before + to);
+    this.sight(line);
+  }
+
+  /** Brings a line into sight. */
+  sight(line) {
+    const y = (line - 1) * EDITOR_LINE;
+    if (y < this.field.scrollTop || y > this.field.scrollTop + this.field.clientHeight - 3 * EDITOR_LINE) this.field.scrollTop = Math.max(0, y - this.field.clientHeight / 2);
   }
 
   /** Numbers the lines that are in sight. */
@@ -68,7 +91,7 @@ class Editor {
     const last = Math.min(lines - 1, Math.ceil((scrollTop + clientHeight) / EDITOR_LINE));
     const numbers = [];
     for (let line = first; line <= last; line++) {
-      const number = make("span", { class: line + 1 === this.marked && "fault" }, line + 1);
+      const number = make("span", { class: line + 1 === this.marked ? "fault" : this.noted.has(line + 1) && "noted" }, line + 1);
       number.style.top = `${EDITOR_TOP + line * EDITOR_LINE - scrollTop}px`;
       numbers.push(number);
     }

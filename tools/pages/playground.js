@@ -4,6 +4,8 @@
 const LONGEST_LINK = 60_000;
 const LONGEST_CASE = 10_000_000;
 const USUAL_DELAYS = "3";
+// so long nobody types before the policy is looked at, in milliseconds
+const PAUSE = 600;
 const SLOW = "several hundred times slower than the proved program";
 
 const by = (id) => document.getElementById(id);
@@ -14,7 +16,7 @@ class Playground {
     // what is shown below, the output that it is of, the report that can be checked, and the exploration of which an order was played
     this.shown = this.output = this.report = this.exploration = null;
     const changed = () => this.changed();
-    this.editors = { policy: new Editor(by("policy"), "Policy", changed), script: new Editor(by("script"), "Script", changed) };
+    this.editors = { policy: new Editor(by("policy"), "Policy", () => { this.linted = null; changed(); }), script: new Editor(by("script"), "Script", changed) };
     this.tellProgram(about);
     by("delays").append(...about.delays.map((bound) => make("option", { value: bound, selected: bound === USUAL_DELAYS }, bound)));
     by("seconds").max = about.seconds.most;
@@ -23,16 +25,18 @@ class Playground {
     this.stepping = new Stepping(this, by("stepping"));
     for (const button of document.querySelectorAll("[data-form]")) {
       button.closest(".joined, button").hidden = !about.forms.includes(button.dataset.form);
-      button.addEventListener("click", () => ({ explore: () => this.explore(), step: () => this.step() }[button.dataset.form] ?? (() => this.ask(button.dataset.form)))());
+      button.addEventListener("click", () => ({ explore: () => this.explore(), step: () => this.step(), compare: () => this.askForOther() }[button.dataset.form] ?? (() => this.ask(button.dataset.form)))());
     }
     by("example").addEventListener("change", () => by("example").value && this.example(by("example").value));
     by("link").addEventListener("click", () => this.copyLink());
     by("open").addEventListener("click", () => by("opened").showModal());
     by("opened").addEventListener("close", () => by("opened").returnValue === "open" && this.open(by("pasted").value));
+    by("compared").addEventListener("close", () => by("compared").returnValue === "compare" && this.compare(by("other").value));
+    by("other-file").addEventListener("change", async () => by("other-file").files[0] && (by("other").value = await by("other-file").files[0].text()));
     by("save-report").addEventListener("click", () => save(`${this.report === null ? "output" : "report"}.txt`, "text/plain", this.output));
     by("save-picture").addEventListener("click", () => this.savePicture());
     document.addEventListener("keydown", (event) => {
-      if (event.key === "Enter" && (event.ctrlKey || event.metaKey) && !by("opened").open) this.ask("play");
+      if (event.key === "Enter" && (event.ctrlKey || event.metaKey) && !document.querySelector("dialog[open]")) this.ask("play");
     });
     window.addEventListener("hashchange", () => location.hash !== this.hash && this.fromAddress());
     followScheme(document.querySelector(".scheme"));
@@ -50,9 +54,17 @@ class Playground {
     this.editors.policy.set(policy);
     this.editors.script.set(script);
     by("example").value = name;
+    this.taken();
     this.stepping.end();
     this.tell("");
     this.keep();
+  }
+
+  /** Other texts stand there: the policy is the one that changes are compared with. */
+  taken() {
+    by("other").value = this.editors.policy.text;
+    by("other-file").value = "";
+    this.lint();
   }
 
   /** The texts have changed: what is shown below is that of others. */
@@ -64,6 +76,8 @@ class Playground {
     this.tell("");
     clearTimeout(this.waiting);
     this.waiting = setTimeout(() => this.keep(), 400);
+    clearTimeout(this.linting);
+    this.linting = setTimeout(() => this.lint(), PAUSE);
   }
 
   // ---- the address
@@ -84,6 +98,7 @@ class Playground {
       if (!Array.isArray(texts) || texts.length !== 2 || !texts.every((text) => typeof text === "string")) throw new Error("no case");
       this.editors.policy.set(texts[0]);
       this.editors.script.set(texts[1]);
+      this.taken();
       this.stepping.end();
       by("example").value = Object.keys(this.about.examples).find((name) => this.about.examples[name].every((text, at) => text === texts[at])) ?? "";
       by("result").classList.add("old");
@@ -188,6 +203,49 @@ class Playground {
     this.tell("good", make("p", {}, `${how}: ${told}.`), make("button", { type: "button", class: "small", onclick: () => this.look() }, view.kind === "exploration" ? "See the outcomes" : "See the picture"), back);
   }
 
+  // ---- policies
+
+  /** Notes at the policy's lines what is likely a mistake. It is no matter if nothing is told. */
+  async lint() {
+    clearTimeout(this.linting);
+    const policy = this.editors.policy.text;
+    if (!this.about.forms.includes("lint") || policy === this.linted) return;
+    this.linted = policy;
+    try {
+      const answer = await post("lint", { policy });
+      const { findings = [] } = answer.ok ? await answer.json() : {};
+      if (policy === this.editors.policy.text) this.editors.policy.note(findings.map(({ finding, line, column, says, by }) => ({ line, column, words: `${finding}: ${says}${by.length ? ` (by ${by.join(", ")})` : ""}` })));
+    } catch {
+      this.linted = null;
+    }
+  }
+
+  askForOther() {
+    by("compared").returnValue = "";
+    by("compared").showModal();
+  }
+
+  /** Shows the calls that the policy decides otherwise than another one. */
+  async compare(old) {
+    this.unmark();
+    this.stepping.end();
+    this.exploration = null;
+    this.tell("", make("p", {}, "…"));
+    const told = await this.send("compare", { old, new: this.editors.policy.text });
+    if (!told) return;
+    if (!told.comparison) return this.refused(told, "compare");
+    const { outcome, classes, counts } = told.comparison;
+    if (outcome === "equal") return this.tell("good", make("p", {}, "Equal: both policies decide each call alike."));
+    if (outcome === "undecided") return this.tell("", make("p", {}, "Not decided: there are too many kinds of calls, and those that were looked at are decided alike."));
+    this.shown?.leave();
+    [this.output, this.report] = [told.output, null];
+    by("result").classList.remove("old");
+    this.shown = new Comparison(by("result"), told.comparison);
+    by("save-report").disabled = false;
+    by("save-picture").disabled = document.querySelector('[data-form="audit-check"]').disabled = true;
+    return this.tell("good", make("p", {}, `Compared: ${countedKinds(classes)} decided otherwise${counts ? `, and ${counted(counts, "pair")} of calls counted otherwise` : ""}.`), make("button", { type: "button", class: "small", onclick: () => this.look() }, "See the calls"));
+  }
+
   // ---- why a rule decides, and steps one by one
 
   /** What a picture is given so that its decisions can be explained. */
@@ -286,7 +344,8 @@ class Playground {
     const [where, line, from, to] = told.marked || [null, 0];
     const editor = this.editors[where];
     editor?.mark(line, told.line, from, to);
-    const parts = [make("p", {}, make("code", {}, told.line))];
+    const of_other = form === "compare" && told.line.startsWith("policy: ");
+    const parts = [of_other ? make("p", {}, "The other policy is refused.") : null, make("p", {}, make("code", {}, told.line))];
     if (editor) parts.push(make("button", { type: "button", class: "small", onclick: () => editor.go() }, `Go to line ${line} of the ${where}`));
     if (where === "report" && form === "audit-check" && this.picture) {
       parts.unshift(make("p", {}, `No legal history of this policy and script has this report. Line ${line} is the first that shows it.`));

@@ -10,7 +10,7 @@ from messages import policies
 from reports import LIMIT as REPORT_LIMIT
 
 # (a trail is the lines of a report that tell of one call)
-LIMITS = {"policy": 1_048_576, "script": 8_388_608, "report": REPORT_LIMIT, "trail": 1_048_576}
+LIMITS = {"policy": 1_048_576, "old": 1_048_576, "new": 1_048_576, "script": 8_388_608, "report": REPORT_LIMIT, "trail": 1_048_576}
 SECONDS = 10
 # the limit of a file's size is told to the shell in blocks of 512 bytes
 LIMITED = f'ulimit -c 0; ulimit -f {REPORT_LIMIT // 512}; exec "$@"'
@@ -27,6 +27,8 @@ FORMS = {
     "run": Form(("policy", "script"), {"workers": 16, "cpus": 16}),
     "explore": Form(("policy", "script"), {"workers": 15}, {"delays": (*map(str, range(GREATEST_BOUND + 1)), ALL)}),
     "audit-check": Form(("policy", "script", "report")),
+    "compare": Form(("old", "new")),
+    "lint": Form(("policy",)),
     # (of these two the program is asked otherwise, see steps.py and decisions.py)
     "step": Form(("policy", "script")),
     "explain": Form(("policy", "trail")),
@@ -139,5 +141,8 @@ def marked_by(line, texts):
     told = re.fullmatch(r"(script|report): line (\d{1,9})(?:: .*)?", line)
     if told:
         return [told[1], int(told[2])] if told[2] != "0" else None
-    found = policies.marked_by(texts["policy"], line[len("policy: "):]) if line.startswith("policy: ") else None
+    told = re.fullmatch("(policy|new policy): (.*)", line, re.S)
+    # (of two policies the new one is the page's own)
+    data = told and texts.get("new" if told[1] == "new policy" else "policy")
+    found = policies.marked_by(data, told[2]) if data is not None else None
     return found and ["policy", *found]

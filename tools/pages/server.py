@@ -10,6 +10,7 @@ import time
 import traceback
 from http.server import BaseHTTPRequestHandler, ThreadingHTTPServer
 
+from comparisons import OF_POLICIES, of_policies
 from decisions import EXPLAIN, explained
 from documents import PICTURE_SCRIPTS, PICTURE_STYLES, filled, joined, part, picture_page
 from explorations import EXPLORE, MOST_SECONDS, USUAL_SECONDS, explored as explored_orders
@@ -202,6 +203,8 @@ class Handler(BaseHTTPRequestHandler):
                 return stepped(self.server.program, texts, lambda output: self.drawn("picture", output))
             if form == EXPLAIN:
                 return explained(self.server.program, texts)
+            if form in OF_POLICIES:
+                return of_policies(self.server.program, form, texts)
             return self.printed(form, texts, list(words.values()))
         except Late:
             slow = " The program is a trial build, which is slow." if self.server.program.is_slow else ""
@@ -294,7 +297,7 @@ class Server(ThreadingHTTPServer):
         self.pages = {
             "/": ("text/html; charset=utf-8", filled(part("playground.html"), {"PARTS": part("parts.html")}).encode()),
             "/page.css": ("text/css; charset=utf-8", joined((*PICTURE_STYLES, "playground.css")).encode()),
-            "/page.js": ("text/javascript; charset=utf-8", joined((*PICTURE_SCRIPTS, "editor.js", "explanation.js", "stepping.js", "playground.js")).encode()),
+            "/page.js": ("text/javascript; charset=utf-8", joined((*PICTURE_SCRIPTS, "editor.js", "explanation.js", "stepping.js", "comparison.js", "playground.js")).encode()),
             "/about": (JSON, json.dumps(about).encode()),
         }
 
