@@ -5,7 +5,7 @@ from deciding.cells import cells
 from deciding.comparing import once
 from messages.findings import Text
 from messages.json_places import Scanner
-from messages.policies import refused_at
+from messages.policies import finding_of, refused_at
 
 NEVER, SHADOWED, NEEDLESS = "never", "shadowed", "needless"
 WORDS = {NEVER: "no call meets these conditions", SHADOWED: "this rule decides no call", NEEDLESS: "without this rule every call has the same answer"}
@@ -61,3 +61,10 @@ def lines_of(data, found):
     for it in found:
         at = text.finding("", refused_at(top, place_text(it)).value.start, 0, "", "")
         yield f"{it.name} {place_text(it)} {at.line}:{at.column} {WORDS[it.name]}" + (f" by={','.join(it.by)}" if it.by else "")
+
+
+def refusal_line(data, refusal):
+    """What is told of a policy that is refused, but for what would be right: `refusal` is what stands behind `policy: `."""
+    kind, _, place = refusal.partition(" at ")
+    at = finding_of(data, refusal)
+    return f"{kind.lower().replace(' ', '-')} {place or {'not JSON': '(top)', 'too many rules': 'rules'}[refusal]} {at.line}:{at.column} it is refused"
