@@ -26,6 +26,8 @@ class Drawn(NamedTuple):
     old: dict
     new: dict
     claims: dict
+    # the bytes of the second policy, with a change that mostly leaves none
+    damaged: bytes
 
 
 class PairChooser(Chooser):
@@ -143,7 +145,16 @@ def drawn(seed):
     chance = random.Random(seed)
     chooser = PairChooser(chance, chance.random() < 0.5)
     old, new = chooser.pair()
-    return Drawn(old, new, chooser.claims(old))
+    return Drawn(old, new, chooser.claims(old), damaged(chance, text(new)))
+
+
+def damaged(chance, data):
+    """Some bytes, with one or two of them changed, left out or put in: marks of JSON, and letters of words."""
+    found = bytearray(data)
+    for _ in range(chance.randrange(1, 3)):
+        at = chance.randrange(len(found))
+        found[at:at + chance.randrange(2)] = chance.choice([b"", b"x", b"1", b'"', b",", b":", b"{", b"]", b"}", b"[]", b"null"])
+    return bytes(found)
 
 
 def text(value):
