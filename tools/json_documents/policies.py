@@ -130,10 +130,19 @@ def standing_lines(document):
 # ---- findings
 
 PLACE = rf"(?:[^ \"]|{QUOTED})+"
-FINDING_LINE = re.compile(rf"([a-z-]+) ({PLACE}) ({DIGITS}):({DIGITS}) (.*?)(?: by=(\S+))?")
+FINDING_LINE = re.compile(rf"([a-z-]+) ({PLACE}) ({DIGITS}):({DIGITS}) (.*?)(?: by=(\S+)(?: call=(.*))?)?")
 FINDINGS_LINE = re.compile(rf"findings=({DIGITS})")
 NAMES = Kind(lambda word: word.split(",") if word else [], lambda names: f" by={','.join(names)}" if names else "")
-FINDING = Form("{finding} {place} {line}:{column} {says}{by}", finding=WORD, place=WORD, line=NUMBER, column=NUMBER, says=WORD, by=NAMES)
+ITS_CALL = Kind(lambda words: CALL.read(words) if words else None, lambda call: "" if call is None else f" call={CALL.write(call)}")
+FINDING = Form("{finding} {place} {line}:{column} {says}{by}{call}", finding=WORD, place=WORD, line=NUMBER, column=NUMBER, says=WORD, by=NAMES, call=ITS_CALL)
+
+
+def finding_of(lines):
+    fields = ["" if it is None else it for it in lines.take(FINDING_LINE, "a finding")]
+    found = FINDING.read(fields)
+    if fields[-1] and found["call"] is None:
+        raise NotAReport(lines.at, "the call has another form")
+    return found
 
 
 def findings_of(data):
@@ -142,7 +151,7 @@ def findings_of(data):
         lines.skip("clean")
     else:
         count, = lines.take(FINDINGS_LINE, "how many findings there are")
-        found = [FINDING.read(["" if it is None else it for it in lines.take(FINDING_LINE, "a finding")]) for _ in range(int(count))]
+        found = [finding_of(lines) for _ in range(int(count))]
     if lines.at < len(lines.lines):
         raise NotAReport(lines.at + 1, "nothing stands behind the findings")
     return {"findings": found}

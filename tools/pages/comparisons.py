@@ -20,6 +20,12 @@ def comparison(output):
     return {**found, "changes": changes, "counted": counted}
 
 
+def notes(output):
+    """What a page notes of a policy: of each finding its line, its column and its words."""
+    found = findings_of(output)["findings"]
+    return {"findings": [{"line": it["line"], "column": it["column"], "words": f"{it['finding']}: {it['says']}" + (f" (by {', '.join(it['by'])})" if it["by"] else "") + (f": {CALL.write(it['call'])}" if it["call"] else "")} for it in found]}
+
+
 def of_policies(program, form, texts):
     """What the program says of two policies, or of one."""
     ended = program.run(form, texts, [])
@@ -27,7 +33,7 @@ def of_policies(program, form, texts):
     if ended.status not in WHOLE:
         return told
     try:
-        shown = {"comparison": comparison(ended.output)} if form == COMPARE else findings_of(ended.output)
+        shown = {"comparison": comparison(ended.output)} if form == COMPARE else notes(ended.output)
     except NotAReport as fault:
         return {**told, "status": None, "line": f"What the program printed isn't understood: {fault}"}
     return {**told, "line": "", **shown, "output": ended.output.decode("latin-1")}

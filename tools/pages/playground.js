@@ -214,7 +214,7 @@ class Playground {
     try {
       const answer = await post("lint", { policy });
       const { findings = [] } = answer.ok ? await answer.json() : {};
-      if (policy === this.editors.policy.text) this.editors.policy.note(findings.map(({ finding, line, column, says, by }) => ({ line, column, words: `${finding}: ${says}${by.length ? ` (by ${by.join(", ")})` : ""}` })));
+      if (policy === this.editors.policy.text) this.editors.policy.note(findings);
     } catch {
       this.linted = null;
     }
