@@ -26,6 +26,8 @@ TOP = Path(__file__).resolve().parent.parent.parent
 BROKERS, JUDGED = TOP / "tests/brokers", TOP / "tests/judged"
 ACTORS = ("t 0", "t 0", "t 0.1", "t 0.1", "t 0.2", "t 0.1.1", "w 0", "w 0", "w 1", "w 2")
 MEDIATED = "mediated"
+# the program's statuses where a policy or a script is too long, or is refused
+REFUSED = (3, 4, 5)
 # where a mistake shows that seldom does elsewhere
 SHOWN_BY = (
     (Mistake.RELIES_ON_LESS, JUDGED / "defined", "reused"), (Mistake.RELIES_ON_LESS, JUDGED, "killed"), (Mistake.RELIES_ON_LESS, JUDGED, "rewritten-between"), (Mistake.KEEPS_MEMORY, BROKERS, "reused"),
@@ -91,7 +93,12 @@ def told(found):
 def play_fault(program, files, script, report):
     """What is wrong with the program's play of a script, of which this is the report."""
     with tempfile.TemporaryDirectory(prefix="check-judge-") as room:
-        status, printed, said = play_ended(program, files, script, room)
+        return ended_fault(play_ended(program, files, script, room), files, report)
+
+
+def ended_fault(ended, files, report):
+    """What is wrong with how a play has ended, of which this is the report."""
+    status, printed, said = ended
     if status != 0:
         return f"the program ends with status {status}, and says {said.decode('latin-1').rstrip()}, over {files.script}"
     return None if printed == report.encode("latin-1") else f"the program plays another history, over {files.script}"
@@ -104,15 +111,14 @@ def judged_play(program, room, policy, script):
     """The play of a script by the program, judged. None where it is refused."""
     files = Files(f"{room}/policy.json", f"{room}/script.txt")
     Path(files.policy).write_bytes(policy)
-    Path(files.script).write_bytes(script)
-    try:
-        rules, container = policies.read_policy(policy), scripts.read_script(script)
-    except (policies.Refused, scripts.Refused):
+    ended = play_ended(program, files, script, room)
+    if ended[0] in REFUSED:
         return None
+    rules, container = policies.read_policy(policy), scripts.read_script(script)
     session = Session(rules, container)
     judge = Judge(session.kernel, rules)
     report = played(session, rules, container, judge.hear).report()
-    return Trial(MEDIATED if judge.fault is None else judge.fault.clause.name, judge.text() if judge.fault is not None else play_fault(program, files, script, report))
+    return Trial(MEDIATED if judge.fault is None else judge.fault.clause.name, judge.text() if judge.fault is not None else ended_fault(ended, files, report))
 
 
 def fuzz_trial(program, seed, number):

@@ -111,7 +111,7 @@ class Details {
         this.button(`Only ${laneName(lane)}`, () => this.only({ kind: "lane", value: call.lane })),
         ...[...new Set(sessions.map((session) => session.rule))].filter((rule) => rule !== "-").map((rule) => this.button(`Only rule ${rule}`, () => this.only({ kind: "rule", value: rule })))),
       make("h3", {}, "Step by step"),
-      this.steps(call.events, place),
+      this.steps(call.trail, place),
       call.args.length > 0 && make("h3", {}, "Arguments"),
       call.args.length > 0 && make("table", {}, ...call.args.map(([name, raw, shown]) => make("tr", {}, make("th", { scope: "row" }, name), make("td", {}, make("code", {}, shown)), make("td", { class: "raw" }, shown === raw ? "" : raw)))),
     ].filter(Boolean);

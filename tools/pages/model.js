@@ -29,7 +29,7 @@ class Model {
     this.causes = this.calls.map(() => new Set());
     for (const [place, call] of causes) if (this.scene.call[place] !== call) this.causes[call].add(place);
     this.calls.forEach((call, number) => {
-      if (this.causes[number].size) call.events = [...call.events, ...this.causes[number]].sort((one, other) => one - other);
+      call.trail = this.causes[number].size ? [...call.events, ...this.causes[number]].sort((one, other) => one - other) : call.events;
     });
   }
 
@@ -64,7 +64,7 @@ class Model {
 
   /** The lines, beside its own, that tell of the event's call. */
   linesOf(call) {
-    return call < 0 ? [] : [...this.calls[call].events.map((place) => place + 1), this.lineOfCall + call, ...this.calls[call].sessions.map((session) => this.lineOfSession + session)];
+    return call < 0 ? [] : [...this.calls[call].trail.map((place) => place + 1), this.lineOfCall + call, ...this.calls[call].sessions.map((session) => this.lineOfSession + session)];
   }
 
   /** Shows all rows, or only those of one lane, rule or call. */
