@@ -1,0 +1,81 @@
+-- What classes of all calls say of a rule.
+-- By the partners of its place.
+use Rattle.std.proofs.Common.{◌≡◌, ◌≢◌, ℕ, ◌+◌, ◌<◌, ◌==◌, true, List, [], ◌∷◌, length, Option, Some, None, refl, sym, ◌∙◌, subst, arith}
+use Rattle.std.specs.Prelude.{All, Any, IfSome, find, slice_get}
+use Rattle.hist_model.specs.Decisions.{decide}
+use Rattle.hist_model.specs.declared.policy.Rule.{Rule}
+use Rattle.hist_model.specs.declared.request.Request.{Request}
+use Rattle.policy_classes.specs.declared.found.Class.{Class}
+use Rattle.policy_classes.specs.declared.found.Classes.{Classes}
+use Rattle.policy_classes.specs.Classes.{HasWitness}
+use Rattle.policy_lint.specs.Alike.{IsAlike, deciding}
+use Rattle.policy_lint.specs.Judged.{AreNext, AreTakers, Decides, Fits, IsJudged, IsNeedless, IsNever, IsSameWithout, IsShadowed, alone, behind}
+use Rattle.policy_lint.specs.Looked.{AreClasses, partners}
+use Rattle.policy_lint.specs.declared.judgement.Judgement.TheVariants.{Useful, Never, Shadowed, Needless, Undecided}
+use Rattle.policy_lint.proofs.Partners.{all_alike, is_at, none_found, one_found, one_unlike, partner_there, partners_each}
+
+-- nothing is in an empty list
+none_in : {A : Type 0} (P : A → Type 0) (xs : List A) → xs ≡ [] → ¬ Any P xs
+none_in P [] e (k, x, l, h, p) = absurd (omega arith)
+none_in P (y ∷ xs) e a = cc
+
+-- ---- a rule that decides no call
+
+pub shadowed : (rules : List Rule) (found : Classes) (place : ℕ) → AreClasses rules [] found → found.whole ≡ true
+    → find (is_at place) found.classes ≡ None → IsShadowed rules place
+shadowed rules found place a w n = λ q d.
+    none_in (λ p. p ≡ (decide [] q).0) (partners place found.classes) (none_found place found.classes n)
+    (partner_there rules [] place found.classes q d.1 (a.there w q d.0))
+
+pub never : (rules : List Rule) (found : Classes) (place : ℕ) → AreClasses (alone rules place) rules found → found.whole ≡ true
+    → partners 0 found.classes ≡ [] → IsNever rules place
+never rules found place a w n = λ q f.
+    none_in (λ p. p ≡ (decide rules q).0) (partners 0 found.classes) n
+    (partner_there (alone rules place) rules 0 found.classes q f.1 (a.there w q f.0))
+
+pub takers : (rules : List Rule) (found : Classes) (place : ℕ) → AreClasses (alone rules place) rules found → found.whole ≡ true
+    → AreTakers rules place (partners 0 found.classes)
+takers rules found place a w = record {
+  each = partners_each (alone rules place) rules 0 found.classes a.witnesses;
+  all = λ q f. partner_there (alone rules place) rules 0 found.classes q f.1 (a.there w q f.0);
+}
+
+-- ---- a rule that decides some call
+
+pub next : (rules : List Rule) (found : Classes) (place : ℕ) → AreClasses rules (behind rules place) found → found.whole ≡ true
+    → AreNext rules place (partners place found.classes)
+next rules found place a w = record {
+  each = partners_each rules (behind rules place) place found.classes a.witnesses;
+  all = λ q d. partner_there rules (behind rules place) place found.classes q d.1 (a.there w q d.0);
+}
+
+pub some_next : (rules : List Rule) (found : Classes) (place : ℕ) → AreClasses rules (behind rules place) found → found.whole ≡ true
+    → ((q : Request) × Decides rules place q) → partners place found.classes ≢ []
+some_next rules found place a w (q, d) = λ e.
+    none_in (λ p. p ≡ (decide (behind rules place) q).0) (partners place found.classes) e
+    (partner_there rules (behind rules place) place found.classes q d.1 (a.there w q d.0))
+
+pub needless : (rules : List Rule) (found : Classes) (place : ℕ) (rule : Rule) → slice_get rules place ≡ Some rule
+    → AreClasses rules (behind rules place) found → found.whole ≡ true
+    → All (λ c. c.old_place ≡ place → IsAlike rule (slice_get (behind rules place) c.new_place)) found.classes → IsNeedless rules place
+needless rules found place rule g a w h = λ q d.
+    rw g (all_alike rules (behind rules place) place rule found.classes q h d.1 (a.there w q d.0))
+
+pub useful : (rules : List Rule) (found : Classes) (place : ℕ) (rule : Rule) → slice_get rules place ≡ Some rule
+    → AreClasses rules (behind rules place) found
+    → Any (λ c. (c.old_place ≡ place) × ¬ IsAlike rule (slice_get (behind rules place) c.new_place)) found.classes
+    → IsJudged rules place Useful
+useful rules found place rule g a h =
+    let u = one_unlike rules (behind rules place) place rule found.classes a.witnesses h in
+    (u.0, u.1, rw g u.2)
+
+-- by a call that the rule decides
+pub decides : (rules : List Rule) (found : Classes) (place : ℕ) (c : Class) → AreClasses rules [] found
+    → find (is_at place) found.classes ≡ Some c → Decides rules place c.witness
+decides rules found place c a f =
+    let o = one_found (HasWitness rules []) place found.classes c a.witnesses f in
+    (o.0.0, sym o.0.1 ∙ o.1)
+
+pub not_same : (rules : List Rule) (place : ℕ) (rule : Rule) (q : Request) → slice_get rules place ≡ Some rule
+    → ¬ IsAlike rule (deciding (behind rules place) q) → ¬ IsSameWithout rules place q
+not_same rules place rule q g n = rw g n

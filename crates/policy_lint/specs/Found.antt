@@ -1,0 +1,70 @@
+-- What is found of a policy.
+use Rattle.std.specs.Prelude.{◌≡◌, ◌≢◌, ◌⊎◌, ◌<◌, ℕ, List, [], ◌∷◌, All, Any, ⊤, false, nat_eq, Ok, Err}
+use Rattle.std.specs.List.{list_any, starts_with}
+use Rattle.hist_model.specs.Decisions.{decide}
+use Rattle.hist_model.specs.Records.{PolicyRecord}
+use Rattle.hist_model.specs.declared.policy.Rule.{Rule}
+use Rattle.hist_model.specs.declared.policy.Verdict.TheVariants.{Grant}
+use Rattle.policy_classes.specs.declared.ending.Told.{Told}
+use Rattle.policy_lint.specs.Judged.{IsJudged}
+use Rattle.policy_lint.specs.Lines.{ending_of, report}
+use Rattle.policy_lint.specs.Own.{own_number}
+use Rattle.policy_lint.specs.declared.finding.Fault.{Fault}
+use Rattle.policy_lint.specs.declared.finding.Fault.TheVariants.{Refused, Judged, Granted, Noted, NoEffect}
+use Rattle.policy_lint.specs.declared.finding.Finding.{Finding}
+use Rattle.policy_lint.specs.declared.judgement.Judgement.TheVariants.{Useful}
+use Rattle.policy_reader.specs.declared.error.PolicyError.{PolicyError}
+use Rattle.policy_reader.specs.Policies.{policy}
+use Rattle.policy_reader.specs.Readings.{Reading}
+
+-- ---- a policy that is read
+
+-- what is said of a policy with these rules is so
+abbrev pub IsSo : List Rule → Fault → Type 0
+IsSo rules (Refused error cure) = ⊥
+IsSo rules (Judged place judgement) = (place < own_number rules) × IsJudged rules place judgement × (judgement ≢ Useful)
+IsSo rules (Granted hint place by call) = decide rules call ≡ (by, Grant)
+IsSo rules (Noted note place cure) = ⊤
+IsSo rules (NoEffect place front) = list_any (λ (rule : Rule). starts_with nat_eq rule.name front) rules ≡ false
+
+-- each of these is so
+abbrev pub AreSaid : List Rule → List Finding → Type 0
+AreSaid rules findings = All (λ f. IsSo rules f.fault) findings
+
+-- it is about the rule at this place
+abbrev pub IsAbout : ℕ → Fault → Type 0
+IsAbout i (Refused error cure) = ⊥
+IsAbout i (Judged place judgement) = place ≡ i
+IsAbout i (Granted hint place by call) = ⊥
+IsAbout i (Noted note place cure) = ⊥
+IsAbout i (NoEffect place front) = ⊥
+
+-- what is said is so, and of each rule that the policy states and that isn't useful something is said
+pub record AreFindings (rules : List Rule) (findings : List Finding) : Type 0 where
+  pub each : AreSaid rules findings
+  pub all : (i : ℕ) → i < own_number rules → IsJudged rules i Useful ⊎ Any (λ f. IsAbout i f.fault) findings
+
+-- ---- a policy that is refused
+
+-- it is told by which refusal
+abbrev pub IsRefusal : PolicyError → Fault → Type 0
+IsRefusal e (Refused error cure) = error ≡ e
+IsRefusal e (Judged place judgement) = ⊥
+IsRefusal e (Granted hint place by call) = ⊥
+IsRefusal e (Noted note place cure) = ⊥
+IsRefusal e (NoEffect place front) = ⊥
+
+-- ---- any file
+
+abbrev pub AreOf : Reading PolicyRecord → List Finding → Type 0
+AreOf (Ok p) findings = AreFindings p.rules findings
+AreOf (Err e) findings = (f : Finding) × (findings ≡ f ∷ []) × IsRefusal e f.fault
+
+abbrev pub rules_read : Reading PolicyRecord → List Rule
+rules_read (Ok p) = p.rules
+rules_read (Err e) = []
+
+-- the text has the lines of what is found
+abbrev pub Tells : List ℕ → Told → Type 0
+Tells bytes told = (findings : List Finding) × AreOf (policy bytes) findings
+    × (told.text ≡ report (rules_read (policy bytes)) findings) × (told.ending ≡ ending_of findings)

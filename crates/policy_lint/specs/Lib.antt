@@ -1,0 +1,6 @@
+pub mod Alike
+pub mod Found
+pub mod Judged
+pub mod Lines
+pub mod Looked
+pub mod Own

@@ -1,0 +1,77 @@
+//! What is likely a mistake in a policy.
+//!
+//! [`lint`] reads a policy, and tells of each rule that it states whether calls need it: whether any call meets its conditions,
+//! whether it decides one, and whether one would have another answer without it (`specs/Judged.antt`). Of a policy that is refused it
+//! tells the refusal with its line and column and, as far as that can be told, what would be right.
+//!
+//! `judging` looks at all calls by `policy_classes`. A look at many rules takes long, so the looks of one policy are limited; where
+//! they end, it is told of which rules nothing was found. `scanner` and `places` find where things stand in the text, and `cures` what
+//! may have been meant: nothing that is decided rests on them. `lines` writes what is found.
+//!
+//! Below stand `policy_reader`, `policy_classes` and, with the lines, `audit_log`.
+#![tactic(auto)]
+
+ghost use Rattle.std.specs.Prelude.{◌≡◌, ◌≤◌, ◌^◌, length, IfOk};
+ghost use Rattle.policy_lint.specs.Lines.{ending_of, report};
+ghost use Rattle.policy_lint.specs.Found.{Tells};
+
+mod alike;
+mod calls;
+mod candidates;
+mod cures;
+pub mod finding;
+mod hints;
+pub mod judgement;
+mod judging;
+mod lines;
+mod linting;
+mod nearest;
+mod notes;
+mod own;
+mod places;
+mod positions;
+mod risks;
+mod scanner;
+mod words;
+
+use finding::Finding;
+use hist_model::policy::Rule;
+use hist_model::text::Text;
+use lines::{ending_of, report};
+use linting::{find_all, find_refusal};
+use policy_classes::ending::Told;
+use policy_reader::read_policy;
+use scanner::scan;
+use std::alloc::Global;
+use sys_abi::memory::{NoMemory, OrNoMemory};
+
+/// What is told of these findings.
+fn told_of(alloc: Global, rules: &[Rule], findings: &[Finding]) -> Result<Told, NoMemory>
+    ensures text { IfOk result (λ told. told.text ≡ report rules.now findings.now) }
+    ensures ending { IfOk result (λ told. told.ending ≡ ending_of findings.now) }
+{
+    let text = report(alloc, rules, findings)?;
+    Ok(Told {
+        text: Text::new(text.into_bytes()),
+        ending: ending_of(findings),
+    })
+}
+
+/// What is likely a mistake in the policy that a file's bytes are, of which there are at most 1,048,576.
+pub fn lint(alloc: Global, bytes: &[u8]) -> Result<Told, NoMemory>
+    requires { length bytes.now ≤ 2 ^ 20 }
+    ensures { IfOk result (Tells bytes.now) }
+{
+    let scanned = scan(alloc, bytes)?;
+    match read_policy(alloc, bytes) {
+        Ok(policy) => {
+            let findings = find_all(alloc, bytes, &scanned, &policy)?;
+            told_of(alloc, policy.rules.items(), findings.as_slice())
+        }
+        Err(OrNoMemory::Refused(error)) => {
+            let findings = vec![in alloc; find_refusal(alloc, bytes, &scanned, error)?]?;
+            told_of(alloc, &[], findings.as_slice())
+        }
+        Err(OrNoMemory::NoMemory) => Err(NoMemory),
+    }
+}
