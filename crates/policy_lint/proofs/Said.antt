@@ -4,10 +4,15 @@ use Rattle.std.proofs.Common.{◌≡◌, ℕ, ◌<◌, List, [], ◌∷◌, ◌+
 use Rattle.std.specs.Prelude.{All, Any}
 use Rattle.std.specs.List.Sorted.{IsPermutation}
 use Rattle.std.proofs.lemmas.List.Elements.{All-append, All-nil, All-push}
+use Rattle.std.proofs.lemmas.List.Sorted.{All-permutation, Contains-permutation}
 use Rattle.hist_model.specs.declared.policy.Rule.{Rule}
-use Rattle.policy_lint.specs.Found.{AreSaid, IsSo}
+use Rattle.policy_classes.proofs.Lists.{any_in}
+use Rattle.policy_lint.specs.Found.{AreFindings, AreSaid, IsSo}
+use Rattle.policy_lint.specs.Judged.{IsJudged}
 use Rattle.policy_lint.specs.declared.finding.Fault.{Fault}
 use Rattle.policy_lint.specs.declared.finding.Finding.{Finding}
+use Rattle.policy_lint.specs.declared.judgement.Judgement.TheVariants.{Useful}
+use Rattle.policy_lint.proofs.Faults.{Says, TellsOf}
 
 pub nothing_said : (rules : List Rule) → AreSaid rules []
 nothing_said rules = All-nil (λ (f : Finding). IsSo rules f.fault)
@@ -15,3 +20,22 @@ nothing_said rules = All-nil (λ (f : Finding). IsSo rules f.fault)
 pub more_said : (rules : List Rule) (findings : List Finding) (f : Finding) (fault : Fault) → AreSaid rules findings
     → f.fault ≡ fault → IsSo rules fault → AreSaid rules (findings ++ f ∷ [])
 more_said rules findings f fault h e s = All-push (λ (g : Finding). IsSo rules g.fault) findings f h (subst (IsSo rules) (sym e) s)
+
+-- ---- in another order
+
+any_permuted : {A : Type 0} (Q : A → Type 0) (xs ys : List A) → IsPermutation xs ys → Any Q xs → Any Q ys
+any_permuted Q xs ys p (k, x, l, e, h) =
+    let c = Contains-permutation xs ys x p (k, l, e) in (c.0, x, c.1, c.2, h)
+
+pub all_in_order : (rules : List Rule) (findings hints notes sorted : List Finding) → AreFindings rules findings → AreSaid rules hints
+    → AreSaid rules notes → IsPermutation ((findings ++ hints) ++ notes) sorted → AreFindings rules sorted
+all_in_order rules findings hints notes sorted f h n p = record {
+  each = All-permutation (Says rules) ((findings ++ hints) ++ notes) sorted p
+      (All-append (Says rules) (findings ++ hints) notes (All-append (Says rules) findings hints f.each h) n);
+  all = λ i l. by i (f.all i l);
+}
+  where
+    by : (i : ℕ) → IsJudged rules i Useful ⊎ Any (TellsOf i) findings → IsJudged rules i Useful ⊎ Any (TellsOf i) sorted
+    by i (inl u) = inl u
+    by i (inr a) = inr (any_permuted (TellsOf i) ((findings ++ hints) ++ notes) sorted p
+        (any_in (TellsOf i) (findings ++ hints) notes (any_in (TellsOf i) findings hints a)))

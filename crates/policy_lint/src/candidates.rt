@@ -1,5 +1,6 @@
 //! Calls that a rule may grant where that is likely more than was meant.
 
+use crate::alike::deciding_place;
 use crate::calls::{text_of, with_fstype, with_node, with_path};
 use crate::finding::Hint;
 use crate::judging::class_at;
@@ -34,6 +35,44 @@ const BLOCK: u16 = 0o060_666;
 /// MS_PRIVATE: a flag by which mount(2) changes how a mount propagates.
 const PRIVATE: u64 = 1 << 18;
 
+/// The longest path that a call has.
+const LONGEST_PATH: usize = 4095;
+
+/// How many calls are put together with a path that is denied, for one policy.
+const MOST_TRIES: usize = 20_000;
+
+/// How many more.
+#[derive(Drop)]
+struct Tries {
+    left: usize,
+}
+
+impl Tries {
+    /// Whether there may be one more, which is then counted.
+    fn takes(&mut self) -> bool {
+        if self.left == 0 {
+            return false;
+        }
+        self.left -= 1;
+        true
+    }
+}
+
+/// The key of LXD by which a rule was made.
+pub fn key_of(name: &[u8]) -> &'static str {
+    if name.starts_with(b"lxd.mknod") {
+        "mknod"
+    } else if name.starts_with(b"lxd.mount.fuse.") {
+        "mount.fuse"
+    } else if name.starts_with(b"lxd.mount.") {
+        "mount.allowed"
+    } else if name.starts_with(b"lxd.setxattr") {
+        "setxattr"
+    } else {
+        "sysinfo"
+    }
+}
+
 /// Whether a rule asks for a path or a directory.
 fn asks_path(rule: &Rule) -> bool {
     rule.conds.items().iter().any(|cond| match cond {
@@ -54,29 +93,35 @@ pub fn is_of_lxd(rule: &Rule) -> bool {
     rule.name.items().starts_with(b"lxd.")
 }
 
-/// Adds the denied call with other spellings of its path.
+/// Adds a call with other spellings of its path.
 fn push_spellings(
     alloc: Global,
     found: &mut Vec<Candidate>,
     rule: usize,
-    witness: &Request,
+    denied: &Request,
+    path: &[u8],
 ) -> Result<(), NoMemory> {
-    let Some(path) = path_of(witness) else {
-        return Ok(());
-    };
     for prefix in PREFIXES {
         let mut spelling = Vec::from_slice(alloc, prefix.as_bytes())?;
         spelling.extend_from_slice(path)?;
-        let request = with_path(alloc, witness, spelling.as_slice())?;
-        found.push(Candidate {
-            hint: Hint::GoneAround,
-            rule,
-            same: false,
-            request,
-        })?;
+        push_spelling(alloc, found, rule, denied, spelling.as_slice())?;
     }
-    if let Some((_, relative)) = path.split_first() {
-        let request = with_path(alloc, witness, relative)?;
+    match path.split_first() {
+        Some((_, relative)) => push_spelling(alloc, found, rule, denied, relative),
+        None => Ok(()),
+    }
+}
+
+/// Adds a call with this path, which any rule may grant.
+fn push_spelling(
+    alloc: Global,
+    found: &mut Vec<Candidate>,
+    rule: usize,
+    denied: &Request,
+    path: &[u8],
+) -> Result<(), NoMemory> {
+    if path.len() <= LONGEST_PATH {
+        let request = with_path(alloc, denied, path)?;
         found.push(Candidate {
             hint: Hint::GoneAround,
             rule,
@@ -85,6 +130,41 @@ fn push_spellings(
         })?;
     }
     Ok(())
+}
+
+/// Adds the calls that a rule denies by their path, as other rules grant them: what these decide, with the path that is denied.
+fn push_denied(
+    alloc: Global,
+    found: &mut Vec<Candidate>,
+    rules: &[Rule],
+    classes: &[Class],
+    tries: &mut Tries,
+    place: usize,
+    witness: &Request,
+) -> Result<(), NoMemory> {
+    let Some(path) = path_of(witness) else {
+        return Ok(());
+    };
+    for class in classes {
+        if class.witness.call() == witness.call()
+            && grants(rules, class.old_place)
+            && tries.takes()
+        {
+            let denied = with_path(alloc, &class.witness, path)?;
+            if deciding_place(rules, &denied) == place {
+                push_spellings(alloc, found, place, &denied, path)?;
+            }
+        }
+    }
+    Ok(())
+}
+
+/// Whether the rule at a place grants.
+fn grants(rules: &[Rule], place: usize) -> bool {
+    match rules.get(place) {
+        Some(rule) => rule.verdict == Verdict::Grant,
+        None => false,
+    }
 }
 
 /// The mode of the other kind of device.
@@ -189,38 +269,60 @@ fn push(
     Ok(())
 }
 
-/// Adds the calls of one rule, which decides the witness.
-fn push_of_rule(
+/// Adds the calls that a rule grants, which decides the witness.
+fn push_granted(
     alloc: Global,
     found: &mut Vec<Candidate>,
     place: usize,
     rule: &Rule,
     witness: &Request,
 ) -> Result<(), NoMemory> {
-    match rule.verdict {
-        Verdict::Deny(_) if asks_path(rule) => push_spellings(alloc, found, place, witness),
-        Verdict::Grant if is_of_lxd(rule) => {
-            push_unlike(alloc, found, place, witness)?;
-            push_images(alloc, found, place, rule, witness)
-        }
-        Verdict::Grant => {
-            push_nodes(alloc, found, place, rule, witness)?;
-            push_images(alloc, found, place, rule, witness)
-        }
-        _ => Ok(()),
+    if !is_of_lxd(rule) {
+        push_nodes(alloc, found, place, rule, witness)?;
     }
+    push_images(alloc, found, place, rule, witness)
 }
 
-/// The calls to ask of a policy, in the order of their rules. Of each rule one call that it decides is known, if it decides any.
+/// Adds, for each of LXD's keys, what LXD passes of the calls that its first rule grants.
+fn push_all_unlike(
+    alloc: Global,
+    found: &mut Vec<Candidate>,
+    rules: &[Rule],
+    classes: &[Class],
+) -> Result<(), NoMemory> {
+    let mut key = "";
+    for place in 0..rules.len() {
+        let rule = &rules[place];
+        if is_of_lxd(rule) && rule.verdict == Verdict::Grant && key_of(rule.name.items()) != key {
+            if let Some(class) = class_at(classes, place) {
+                key = key_of(rule.name.items());
+                push_unlike(alloc, found, place, &class.witness)?;
+            }
+        }
+    }
+    Ok(())
+}
+
+/// The calls to ask of a policy. Of each rule one call that it decides is known, if it decides any.
 pub fn candidates(
     alloc: Global,
     rules: &[Rule],
     classes: &[Class],
 ) -> Result<Vec<Candidate>, NoMemory> {
     let mut found = Vec::new(alloc);
+    push_all_unlike(alloc, &mut found, rules, classes)?;
+    let mut tries = Tries { left: MOST_TRIES };
     for place in 0..rules.len() {
+        let rule = &rules[place];
         if let Some(class) = class_at(classes, place) {
-            push_of_rule(alloc, &mut found, place, &rules[place], &class.witness)?;
+            let witness = &class.witness;
+            match rule.verdict {
+                Verdict::Deny(_) if asks_path(rule) => push_denied(
+                    alloc, &mut found, rules, classes, &mut tries, place, witness,
+                )?,
+                Verdict::Grant => push_granted(alloc, &mut found, place, rule, witness)?,
+                _ => {}
+            }
         }
     }
     Ok(found)

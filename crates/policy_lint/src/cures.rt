@@ -193,5 +193,9 @@ pub fn cure_of(
     }
     let node = scanned.at_path(bytes, refusal_place(error));
     let cure = cure_at(alloc, bytes, scanned, error, node)?;
-    Ok((scanned.begin_of(node), Text::new(cure)))
+    let at = match error {
+        PolicyError::BadKey { .. } => scanned.key_begin_of(node),
+        _ => scanned.begin_of(node),
+    };
+    Ok((at, Text::new(cure)))
 }

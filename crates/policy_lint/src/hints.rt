@@ -3,7 +3,7 @@
 ghost use Rattle.std.specs.Prelude.{◌≡◌, IfOk, IfSome};
 ghost use Rattle.policy_lint.specs.Found.{AreSaid, IsSo};
 
-use crate::candidates::{Candidate, candidates, is_of_lxd};
+use crate::candidates::{Candidate, candidates, is_of_lxd, key_of};
 use crate::finding::{Fault, Finding, Hint};
 use crate::positions::Position;
 use crate::scanner::Scanned;
@@ -47,21 +47,6 @@ fn part_of(rule: &Rule, hint: Hint) -> &'static str {
         Hint::WideDevice | Hint::BothKinds if has_device(rule) => ".when.dev",
         Hint::RiskyType if has_type(rule) => ".when.fstype",
         _ => "",
-    }
-}
-
-/// The key of LXD by which a rule was made.
-fn key_of(name: &[u8]) -> &'static str {
-    if name.starts_with(b"lxd.mknod") {
-        "mknod"
-    } else if name.starts_with(b"lxd.mount.fuse.") {
-        "mount.fuse"
-    } else if name.starts_with(b"lxd.mount.") {
-        "mount.allowed"
-    } else if name.starts_with(b"lxd.setxattr") {
-        "setxattr"
-    } else {
-        "sysinfo"
     }
 }
 

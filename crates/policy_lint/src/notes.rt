@@ -197,7 +197,7 @@ fn push_noted(
             place: scanned.path_of(alloc, bytes, one.node)?,
             cure: one.cure.copied(alloc)?,
         };
-        notes.push(position.found(scanned.begin_of(one.node), fault))?;
+        notes.push(position.found(scanned.key_begin_of(one.node), fault))?;
     }
     Ok(())
 }
@@ -222,7 +222,7 @@ fn push_without_effect(
                 place: scanned.path_of(alloc, bytes, one.node)?,
                 front: one.front.copied(alloc)?,
             };
-            notes.push(position.found(scanned.begin_of(one.node), fault))?;
+            notes.push(position.found(scanned.key_begin_of(one.node), fault))?;
         }
     }
     Ok(())

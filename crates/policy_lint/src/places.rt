@@ -212,6 +212,15 @@ impl Scanned {
     pub fn begin_of(&self, node: usize) -> usize {
         self.start(node)
     }
+
+    /// Where its key begins, or itself where it has none.
+    pub fn key_begin_of(&self, node: usize) -> usize {
+        match self.nodes.get(node) {
+            Some(node) if node.key.0 > 0 => node.key.0.saturating_sub(1),
+            Some(node) => node.start,
+            None => 0,
+        }
+    }
 }
 
 /// How deep a policy's values stand at most: deeper ones are refused.
