@@ -90,20 +90,21 @@ is_at place c = c.old_place == place
 
 pub none_found : (place : ℕ) (cs : List Class) → find (is_at place) cs ≡ None → partners place cs ≡ []
 none_found place [] h = refl
-none_found place (c ∷ cs) h = by (c.old_place == place) refl h
+none_found place (c ∷ cs) h = by (c.old_place == place) h (none_found place cs)
   where
-    by : (b : Bool) → c.old_place == place ≡ b → cond b (Some c) (find (is_at place) cs) ≡ None
+    by : (b : Bool) → cond b (Some c) (find (is_at place) cs) ≡ None → (find (is_at place) cs ≡ None → partners place cs ≡ [])
         → cond b (c.new_place ∷ partners place cs) (partners place cs) ≡ []
-    by true e g = cc
-    by false e g = none_found place cs g
+    by true g rest = cc
+    by false g rest = rest g
 
 pub one_found : (P : Class → Type 0) (place : ℕ) (cs : List Class) (x : Class) → All P cs → find (is_at place) cs ≡ Some x
     → P x × (x.old_place ≡ place)
 one_found P place [] x a h = cc
-one_found P place (c ∷ cs) x a h = by (c.old_place == place) refl h
+one_found P place (c ∷ cs) x a h = by (c.old_place == place) refl h (one_found P place cs x (All-tail P c cs a))
   where
-    by : (b : Bool) → c.old_place == place ≡ b → cond b (Some c) (find (is_at place) cs) ≡ Some x → P x × (x.old_place ≡ place)
-    by true e g =
+    by : (b : Bool) → c.old_place == place ≡ b → cond b (Some c) (find (is_at place) cs) ≡ Some x
+        → (find (is_at place) cs ≡ Some x → P x × (x.old_place ≡ place)) → P x × (x.old_place ≡ place)
+    by true e g rest =
         let same : c ≡ x = cc in
         (subst P same (All-head P c cs a), subst (λ (y : Class). y.old_place ≡ place) same (eqb-true c.old_place place e))
-    by false e g = one_found P place cs x (All-tail P c cs a) g
+    by false e g rest = rest g

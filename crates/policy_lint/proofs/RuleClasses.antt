@@ -19,6 +19,13 @@ none_in : {A : Type 0} (P : A → Type 0) (xs : List A) → xs ≡ [] → ¬ Any
 none_in P [] e (k, x, l, h, p) = absurd (omega arith)
 none_in P (y ∷ xs) e a = cc
 
+pub empty_list : {A : Type 0} (xs : List A) → length xs ≡ 0 → xs ≡ []
+empty_list [] e = refl
+empty_list (y ∷ xs) e = absurd (omega arith)
+
+pub filled_list : {A : Type 0} (xs : List A) → length xs ≢ 0 → xs ≢ []
+filled_list xs n e = n (rw e refl)
+
 -- ---- a rule that decides no call
 
 pub shadowed : (rules : List Rule) (found : Classes) (place : ℕ) → AreClasses rules [] found → found.whole ≡ true

@@ -66,7 +66,6 @@ fn are_all_alike(rule: &Rule, rules: &[Rule], classes: &[Class], place: usize) -
 }
 
 /// What is said of a rule that decides no call.
-#[tactic(auto, using(crate::proofs::RuleClasses::never, crate::proofs::RuleClasses::takers))]
 fn judge_shadowed(alloc: Global, rules: &[Rule], place: usize) -> Result<Judgement, NoMemory>
     requires place { place < length rules.now }
     requires shadowed { IsShadowed rules.now place }
@@ -151,17 +150,24 @@ pub fn judge(
     requires all { AreClasses rules.now [] all.now }
     ensures { IfOk result (IsJudged rules.now place) }
 {
-    if let Some(class) = class_at(all.classes.items(), place) {
-        if is_useful_for(rules, place, &class.witness) {
-            return Ok(Judgement::Useful);
+    match class_at(all.classes.items(), place) {
+        Some(class) => {
+            if is_useful_for(rules, place, &class.witness) {
+                return Ok(Judgement::Useful);
+            }
+            if !looks.takes(rules.len()) {
+                return Ok(Judgement::Undecided);
+            }
+            judge_deciding(alloc, rules, place)
         }
-        if looks.takes(rules.len()) {
-            return judge_deciding(alloc, rules, place);
+        None => {
+            if !all.whole {
+                return Ok(Judgement::Undecided);
+            }
+            if !looks.takes(rules.len()) {
+                return Ok(Judgement::Undecided);
+            }
+            judge_shadowed(alloc, rules, place)
         }
-        return Ok(Judgement::Undecided);
     }
-    if all.whole && looks.takes(rules.len()) {
-        return judge_shadowed(alloc, rules, place);
-    }
-    Ok(Judgement::Undecided)
 }
