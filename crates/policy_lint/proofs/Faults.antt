@@ -6,7 +6,7 @@ use Rattle.std.proofs.lemmas.Bool.{eqb-true, eq-eqb}
 use Rattle.std.proofs.lemmas.List.Elements.{All-nil, All-push}
 use Rattle.hist_model.specs.declared.policy.Rule.{Rule}
 use Rattle.policy_classes.proofs.Lists.{any_behind, any_in}
-use Rattle.policy_lint.specs.Found.{AreFindings, IsAbout, IsSo}
+use Rattle.policy_lint.specs.Found.{FoundUpTo, IsAbout, IsSo}
 use Rattle.policy_lint.specs.Judged.{IsJudged}
 use Rattle.policy_lint.specs.Own.{own_number}
 use Rattle.policy_lint.specs.declared.finding.Fault.{Fault}
@@ -20,11 +20,6 @@ Says rules f = IsSo rules f.fault
 
 abbrev pub TellsOf : ℕ → Finding → Type 0
 TellsOf i f = IsAbout i f.fault
-
--- the rules before a place are useful, or something is said of them
-pub record FoundUpTo (rules : List Rule) (place : ℕ) (findings : List Finding) : Type 0 where
-  pub each : All (Says rules) findings
-  pub all : (i : ℕ) → i < place → IsJudged rules i Useful ⊎ Any (TellsOf i) findings
 
 pub none_yet : (rules : List Rule) → FoundUpTo rules 0 []
 none_yet rules = record { each = All-nil (Says rules); all = λ i l. absurd (omega arith) }
@@ -60,6 +55,3 @@ one_fault rules place findings j f before own h n e = record {
         more i (inl u) = inl u
         more i (inr a) = inr (any_in (TellsOf i) findings (f ∷ []) a)
     by i (inr s) = inr (any_behind (TellsOf i) findings (f ∷ []) (0, f, omega arith, refl, subst (IsAbout i) (sym e) (sym s)))
-
-pub all_found : (rules : List Rule) (findings : List Finding) → FoundUpTo rules (own_number rules) findings → AreFindings rules findings
-all_found rules findings f = record { each = f.each; all = f.all }

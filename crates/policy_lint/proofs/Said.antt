@@ -9,7 +9,6 @@ use Rattle.hist_model.specs.declared.policy.Rule.{Rule}
 use Rattle.policy_classes.proofs.Lists.{any_in}
 use Rattle.policy_lint.specs.Found.{AreFindings, AreSaid, IsSo}
 use Rattle.policy_lint.specs.Judged.{IsJudged}
-use Rattle.policy_lint.specs.declared.finding.Fault.{Fault}
 use Rattle.policy_lint.specs.declared.finding.Finding.{Finding}
 use Rattle.policy_lint.specs.declared.judgement.Judgement.TheVariants.{Useful}
 use Rattle.policy_lint.proofs.Faults.{Says, TellsOf}
@@ -17,9 +16,9 @@ use Rattle.policy_lint.proofs.Faults.{Says, TellsOf}
 pub nothing_said : (rules : List Rule) → AreSaid rules []
 nothing_said rules = All-nil (λ (f : Finding). IsSo rules f.fault)
 
-pub more_said : (rules : List Rule) (findings : List Finding) (f : Finding) (fault : Fault) → AreSaid rules findings
-    → f.fault ≡ fault → IsSo rules fault → AreSaid rules (findings ++ f ∷ [])
-more_said rules findings f fault h e s = All-push (λ (g : Finding). IsSo rules g.fault) findings f h (subst (IsSo rules) (sym e) s)
+pub more_said : (rules : List Rule) (findings : List Finding) (f : Finding) → AreSaid rules findings → IsSo rules f.fault
+    → AreSaid rules (findings ++ f ∷ [])
+more_said rules findings f h s = All-push (λ (g : Finding). IsSo rules g.fault) findings f h s
 
 -- ---- in another order
 

@@ -39,10 +39,14 @@ IsAbout i (Granted hint place by call) = ⊥
 IsAbout i (Noted note place cure) = ⊥
 IsAbout i (NoEffect place front) = ⊥
 
--- what is said is so, and of each rule that the policy states and that isn't useful something is said
-pub record AreFindings (rules : List Rule) (findings : List Finding) : Type 0 where
+-- what is said is so, and of each rule before a place that isn't useful something is said
+pub record FoundUpTo (rules : List Rule) (place : ℕ) (findings : List Finding) : Type 0 where
   pub each : AreSaid rules findings
-  pub all : (i : ℕ) → i < own_number rules → IsJudged rules i Useful ⊎ Any (λ f. IsAbout i f.fault) findings
+  pub all : (i : ℕ) → i < place → IsJudged rules i Useful ⊎ Any (λ f. IsAbout i f.fault) findings
+
+-- the same of each rule that the policy states
+abbrev pub AreFindings : List Rule → List Finding → Type 0
+AreFindings rules findings = FoundUpTo rules (own_number rules) findings
 
 -- ---- a policy that is refused
 
@@ -64,7 +68,11 @@ abbrev pub rules_read : Reading PolicyRecord → List Rule
 rules_read (Ok p) = p.rules
 rules_read (Err e) = []
 
--- the text has the lines of what is found
+-- the text has the lines of what is found, and it ends so
+abbrev pub IsToldOf : List Rule → List Finding → Told → Type 0
+IsToldOf rules findings told = (told.text ≡ report rules findings) × (told.ending ≡ ending_of findings)
+
+-- what is told of a file's bytes
 abbrev pub Tells : List ℕ → Told → Type 0
-Tells bytes told = (findings : List Finding) × AreOf (policy bytes) findings
-    × (told.text ≡ report (rules_read (policy bytes)) findings) × (told.ending ≡ ending_of findings)
+Tells bytes told =
+    (findings : List Finding) × AreOf (policy bytes) findings × IsToldOf (rules_read (policy bytes)) findings told

@@ -3,6 +3,7 @@
 ghost use Rattle.std.specs.Prelude.{◌≡◌, ◌↔◌, IsTrue, slice_get};
 ghost use Rattle.hist_model.specs.Decisions.{decide};
 ghost use Rattle.policy_lint.specs.Alike.{AreAlike, IsAlike};
+ghost use Rattle.policy_lint.specs.Judged.{behind};
 
 use hist_model::policy::Rule;
 use hist_model::request::Request;
@@ -27,6 +28,16 @@ pub fn is_alike(rule: &Rule, rules: &[Rule], place: usize) -> bool
         Some(other) => are_alike(rule, other),
         None => false,
     }
+}
+
+/// The rules behind the one at a place.
+pub fn behind(rules: &[Rule], place: usize) -> &[Rule]
+    ensures { result.now ≡ behind rules.now place }
+{
+    if place < rules.len() {
+        return &rules[place + 1..];
+    }
+    &[]
 }
 
 /// The place of the first rule that fits the request; the number of rules where none does.

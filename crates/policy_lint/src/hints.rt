@@ -103,6 +103,7 @@ fn placed(bytes: &[u8], scanned: &Scanned, position: &mut Position<'_>, fault: F
 }
 
 /// The hints of a policy, of each rule one of a kind at most. Of the rules these classes have calls.
+#[tactic(auto, using(crate::proofs::Said::nothing_said, crate::proofs::Said::more_said))]
 pub fn find_hints(
     alloc: Global,
     bytes: &[u8],

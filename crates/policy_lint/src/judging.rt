@@ -7,7 +7,7 @@ ghost use Rattle.policy_lint.specs.Alike.{IsAlike};
 ghost use Rattle.policy_lint.specs.Judged.{Decides, IsJudged, IsSameWithout, IsShadowed, behind};
 ghost use Rattle.policy_lint.specs.Looked.{AreClasses, partners};
 
-use crate::alike::{deciding_place, is_alike};
+use crate::alike::{behind, deciding_place, is_alike};
 use crate::judgement::Judgement;
 use hist_model::policy::Rule;
 use hist_model::request::Request;
@@ -88,7 +88,7 @@ fn judge_deciding(alloc: Global, rules: &[Rule], place: usize) -> Result<Judgeme
     requires decides { (q : AnyRequest) × Decides rules.now place q }
     ensures { IfOk result (IsJudged rules.now place) }
 {
-    let rest = &rules[place + 1..];
+    let rest = behind(rules, place);
     let found = looked(alloc, rules, rest)?;
     if !are_all_alike(&rules[place], rest, found.classes.items(), place) {
         return Ok(Judgement::Useful);

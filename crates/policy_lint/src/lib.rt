@@ -11,9 +11,9 @@
 //! Below stand `policy_reader`, `policy_classes` and, with the lines, `audit_log`.
 #![tactic(auto)]
 
-ghost use Rattle.std.specs.Prelude.{◌≡◌, ◌≤◌, ◌^◌, length, IfOk};
-ghost use Rattle.policy_lint.specs.Lines.{ending_of, report};
-ghost use Rattle.policy_lint.specs.Found.{Tells};
+ghost use Rattle.std.specs.Prelude.{◌≡◌, ◌≤◌, ◌^◌, length, IfOk, Ok, Err};
+ghost use Rattle.policy_lint.specs.Found.{IsToldOf, Tells};
+ghost use Rattle.policy_reader.specs.Policies.{policy};
 
 mod alike;
 mod calls;
@@ -35,26 +35,57 @@ mod scanner;
 mod words;
 
 use finding::Finding;
-use hist_model::policy::Rule;
+use hist_model::policy::{Policy, Rule};
 use hist_model::text::Text;
 use lines::{ending_of, report};
 use linting::{find_all, find_refusal};
 use policy_classes::ending::Told;
-use policy_reader::read_policy;
-use scanner::scan;
+use policy_reader::{PolicyError, read_policy};
+use scanner::{Scanned, scan};
 use std::alloc::Global;
 use sys_abi::memory::{NoMemory, OrNoMemory};
 
 /// What is told of these findings.
 fn told_of(alloc: Global, rules: &[Rule], findings: &[Finding]) -> Result<Told, NoMemory>
-    ensures text { IfOk result (λ told. told.text ≡ report rules.now findings.now) }
-    ensures ending { IfOk result (λ told. told.ending ≡ ending_of findings.now) }
+    ensures { IfOk result (IsToldOf rules.now findings.now) }
 {
     let text = report(alloc, rules, findings)?;
     Ok(Told {
         text: Text::new(text.into_bytes()),
         ending: ending_of(findings),
     })
+}
+
+/// What is told of a policy that is read.
+fn lint_read(
+    alloc: Global,
+    bytes: &[u8],
+    scanned: &Scanned,
+    read: &Policy,
+) -> Result<Told, NoMemory>
+    requires { policy bytes.now ≡ Ok read.now }
+    ensures { IfOk result (Tells bytes.now) }
+{
+    let findings = find_all(alloc, bytes, scanned, read)?;
+    let told = told_of(alloc, read.rules.items(), findings.as_slice())?;
+    Ok(told)
+}
+
+/// What is told of a policy that is refused.
+fn lint_refused(
+    alloc: Global,
+    bytes: &[u8],
+    scanned: &Scanned,
+    error: PolicyError,
+) -> Result<Told, NoMemory>
+    requires { policy bytes.now ≡ Err error }
+    ensures { IfOk result (Tells bytes.now) }
+{
+    let finding = find_refusal(alloc, bytes, scanned, error)?;
+    let mut findings = Vec::new(alloc);
+    findings.push(finding)?;
+    let told = told_of(alloc, &[], findings.as_slice())?;
+    Ok(told)
 }
 
 /// What is likely a mistake in the policy that a file's bytes are, of which there are at most 1,048,576.
@@ -64,14 +95,8 @@ pub fn lint(alloc: Global, bytes: &[u8]) -> Result<Told, NoMemory>
 {
     let scanned = scan(alloc, bytes)?;
     match read_policy(alloc, bytes) {
-        Ok(policy) => {
-            let findings = find_all(alloc, bytes, &scanned, &policy)?;
-            told_of(alloc, policy.rules.items(), findings.as_slice())
-        }
-        Err(OrNoMemory::Refused(error)) => {
-            let findings = vec![in alloc; find_refusal(alloc, bytes, &scanned, error)?]?;
-            told_of(alloc, &[], findings.as_slice())
-        }
+        Ok(policy) => lint_read(alloc, bytes, &scanned, &policy),
+        Err(OrNoMemory::Refused(error)) => lint_refused(alloc, bytes, &scanned, error),
         Err(OrNoMemory::NoMemory) => Err(NoMemory),
     }
 }

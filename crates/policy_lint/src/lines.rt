@@ -3,12 +3,12 @@
 ghost use Rattle.std.specs.Prelude.{◌≡◌, ◌++◌, ◌<◌, OnOk, IfOk, IfErr, All, Any, codes, decimal, length};
 ghost use Rattle.std.specs.List.{flat_map};
 ghost use Rattle.hist_model.specs.Decisions.{rule_name};
-ghost use Rattle.policy_lint.specs.Judged.{behind};
 ghost use Rattle.policy_lint.specs.Lines.{ending_of, fault_place, fault_word, fault_words, is_undecided, judgement_word, judgement_words};
 ghost use Rattle.policy_explain.specs.Asked.{asked_text};
 ghost use Rattle.policy_lint.specs.Lines.{hint_word, hint_words, note_word};
 ghost use Rattle.policy_lint.specs.Lines.{line_text, names, refusal_place, refusal_word, report, within_rule};
 
+use crate::alike::behind;
 use crate::finding::{Fault, Finding, Hint, Note};
 use crate::judgement::Judgement;
 use audit_log::line::LineBuffer;
@@ -79,16 +79,6 @@ fn within_rule(judgement: &Judgement) -> &'static str
         | Judgement::Needless(_)
         | Judgement::Undecided => "",
     }
-}
-
-/// The rules behind the one at a place.
-fn behind(rules: &[Rule], place: usize) -> &[Rule]
-    ensures { result.now ≡ behind rules.now place }
-{
-    if place < rules.len() {
-        return &rules[place + 1..];
-    }
-    &[]
 }
 
 /// Adds what is said of a rule.

@@ -1,8 +1,10 @@
 //! What is found of a policy that is read, and of one that is refused.
 
-ghost use Rattle.std.specs.Prelude.{◌≡◌, ◌≢◌, ◌+◌, ◌<◌, ◌≤◌, [], ◌∷◌, IfOk, IsTrue, List, ◌↔◌, length};
+ghost use Rattle.std.specs.Prelude.{◌≡◌, ◌≢◌, ◌+◌, ◌<◌, ◌≤◌, [], ◌∷◌, IfOk, IsTrue, OnOk, List, ◌↔◌, length};
 ghost use Rattle.hist_model.specs.declared.policy.Rule.{Rule as AnyRule};
-ghost use Rattle.policy_lint.specs.Found.{AreFindings, AreSaid, IsRefusal};
+ghost use Rattle.policy_lint.specs.Found.{AreFindings, AreSaid, FoundUpTo, IsRefusal};
+ghost use Rattle.policy_lint.specs.Judged.{IsJudged};
+ghost use Rattle.policy_lint.specs.Own.{own_number};
 ghost use Rattle.policy_lint.specs.Looked.{AreClasses};
 ghost use Rattle.policy_lint.specs.declared.judgement.Judgement.TheVariants as said;
 
@@ -47,7 +49,26 @@ fn place_of(
     }
 }
 
+/// Adds what is said of a rule, unless a call needs it.
+fn push_fault(
+    findings: &mut Vec<Finding>,
+    position: &mut Position<'_>,
+    at: usize,
+    place: usize,
+    judgement: Judgement,
+) -> Result<(), NoMemory>
+    ensures { OnOk result ((rules : List AnyRule) → place < own_number rules → IsJudged rules place judgement
+        → FoundUpTo rules place findings.old.items → FoundUpTo rules (place + 1) findings.new.items) }
+{
+    if is_useful(&judgement) {
+        return Ok(());
+    }
+    findings.push(position.found(at, Fault::Judged { place, judgement }))?;
+    Ok(())
+}
+
 /// What is found of the rules of a policy, where a look at all calls found these classes.
+#[tactic(auto, using(crate::proofs::Faults::none_yet))]
 fn find_faults(
     alloc: Global,
     bytes: &[u8],
@@ -64,16 +85,14 @@ fn find_faults(
     let mut findings = Vec::new(alloc);
     for place in 0..own_number(rules) {
         let judgement = judge(alloc, &mut looks, rules, all, place)?;
-        if !is_useful(&judgement) {
-            let at = place_of(bytes, scanned, &places, place, &judgement);
-            let fault = Fault::Judged { place, judgement };
-            findings.push(position.found(at, fault))?;
-        }
+        let at = place_of(bytes, scanned, &places, place, &judgement);
+        push_fault(&mut findings, &mut position, at, place, judgement)?;
     }
     Ok(findings)
 }
 
 /// All findings in the order of the text.
+#[tactic(auto, using(crate::proofs::Said::all_in_order))]
 fn in_order(
     mut findings: Vec<Finding>,
     mut hints: Vec<Finding>,

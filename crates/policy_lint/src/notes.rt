@@ -180,6 +180,7 @@ fn fronts(alloc: Global, bytes: &[u8], scanned: &Scanned) -> Result<Vec<Front>, 
 }
 
 /// Adds what is noted of keys.
+#[tactic(auto, using(crate::proofs::Said::more_said))]
 fn push_noted(
     alloc: Global,
     notes: &mut Vec<Finding>,
@@ -203,6 +204,7 @@ fn push_noted(
 }
 
 /// Adds the keys that make no rule, each once.
+#[tactic(auto, using(crate::proofs::Said::more_said))]
 fn push_without_effect(
     alloc: Global,
     notes: &mut Vec<Finding>,
@@ -229,6 +231,7 @@ fn push_without_effect(
 }
 
 /// What is found of the keys of a policy with these rules.
+#[tactic(auto, using(crate::proofs::Said::nothing_said))]
 pub fn find_notes(
     alloc: Global,
     bytes: &[u8],

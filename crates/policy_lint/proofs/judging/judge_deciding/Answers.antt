@@ -16,8 +16,8 @@ returns c =
         slice_get_read c.args.rules.now (length c.args.rules.now) c.args.place rule refl c.requires.place c.index-rules-place.is in
     let whole : c.in_ok-found.found.whole ≡ true = search rules in
     let by : c.in_ok-by.by ≡ partners c.args.place c.in_ok-found.found.classes = rw c.items-2.ensures at c.in_ok-by.ensures in
-    let alike : All (λ (k : Class). k.old_place ≡ c.args.place → IsAlike rule (slice_get (behind c.args.rules.now c.args.place) k.new_place)) c.in_ok-found.found.classes =
-        rw c.items.ensures at (c.are_all_alike.ensures.yes (search rules)) in
-    rw by (needless c.args.rules.now c.in_ok-found.found c.args.place rule got c.in_ok-found.ensures whole alike,
-    next c.args.rules.now c.in_ok-found.found c.args.place c.in_ok-found.ensures whole,
-    some_next c.args.rules.now c.in_ok-found.found c.args.place c.in_ok-found.ensures whole c.requires.decides)
+    let found = rw c.behind-rest.ensures at c.in_ok-found.ensures in
+    let alike = rw (c.items.ensures, c.behind-rest.ensures) at (c.are_all_alike.ensures.yes (search rules)) in
+    rw by (needless c.args.rules.now c.in_ok-found.found c.args.place rule got found whole alike,
+    next c.args.rules.now c.in_ok-found.found c.args.place found whole,
+    some_next c.args.rules.now c.in_ok-found.found c.args.place found whole c.requires.decides)

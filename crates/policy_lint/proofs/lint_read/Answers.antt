@@ -1,0 +1,11 @@
+-- The findings of the policy that was read, and their lines.
+use Rattle.std.proofs.Common.{◌≡◌, rules}
+use Rattle.policy_lint.specs.Found.{AreOf, IsToldOf, rules_read}
+use Rattle.policy_reader.specs.Policies.{policy}
+use Rattle.policy_lint.proofs.lint_read.Goals as goal
+
+pub returns : goal.returns
+returns c =
+    let of : AreOf (policy c.args.bytes.now) c.in_ok-findings.findings.items = rw c.requires c.in_ok-findings.ensures in
+    let told = rw (c.items.ensures, c.as_slice.ensures.value) at c.in_ok-told.ensures in
+    (c.in_ok-findings.findings.items, of, rw c.requires told.0, told.1)
