@@ -22,7 +22,7 @@ use Rattle.broker_app.specs.PodText.{pod_text}
 use Rattle.broker_app.specs.Pods.{AreSeparate, AreServedApart, AreTaken, ContainerStops, HaveEnded, IsTaken, Overlapping, PairStops, PodEnds, in_container, scripts_of}
 use Rattle.broker_app.specs.Refusals.{InputRefused}
 use Rattle.broker_app.specs.Runs.{AreRun, ByWorkers}
-use Rattle.broker_app.specs.Words.{FilePair, are_pairs, form, in_pairs}
+use Rattle.broker_app.specs.Words.{FilePair, are_pairs, form, in_pairs, short_words}
 use Rattle.broker_app.specs.declared.status.Status.{Status}
 use Rattle.broker_app.specs.declared.status.Status.TheVariants.{Refused, ContainerRefused, WriteFault, NoMemory, PidsOverlap}
 
@@ -67,12 +67,12 @@ no_pair [] few = refl
 no_pair (a ∷ []) few = refl
 no_pair (a ∷ b ∷ more) few = let no : ⊥ = omega (arith, few) in absurd no
 
--- fewer than three words have no form
-pub no_form : (words : List (String Global)) → length words < 3 → None ≡ form (texts words)
-no_form [] few = refl
-no_form (a ∷ []) few = refl
-no_form (a ∷ b ∷ []) few = refl
-no_form (a ∷ b ∷ c ∷ more) few = let no : ⊥ = omega (arith, few) in absurd no
+-- fewer than three words have the form of two, if they have one
+pub few_form : (words : List (String Global)) → length words < 3 → short_words (texts words) ≡ form (texts words)
+few_form [] few = refl
+few_form (a ∷ []) few = refl
+few_form (a ∷ b ∷ []) few = refl
+few_form (a ∷ b ∷ c ∷ more) few = let no : ⊥ = omega (arith, few) in absurd no
 
 -- the pairs so far were taken, and these names are left
 abbrev pub ReadSoFar : FileState → List (List ℕ) → List (List ℕ) → List Container → ℕ → Type 0

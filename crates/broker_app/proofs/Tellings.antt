@@ -10,11 +10,14 @@ use Rattle.policy_claims.specs.declared.claims.Claims.{Claims}
 use Rattle.policy_classes.specs.declared.ending.Ending.{Ending}
 use Rattle.policy_classes.specs.declared.ending.Ending.TheVariants.{Alike, Otherwise, Undecided}
 use Rattle.policy_classes.specs.declared.ending.Told.{Told}
-use Rattle.broker_app.proofs.Reading.{claims_are_before, claims_before}
+use Rattle.policy_lint.specs.Found.{Tells as TellsOf}
+use Rattle.policy_compare.specs.Compared.{AreEqual, IsComparison}
+use Rattle.broker_app.proofs.Reading.{claims_are_before, claims_before, new_policy_before, policy_is_before}
 use Rattle.broker_app.specs.Answers.{Printed}
-use Rattle.broker_app.specs.Inputs.{ClaimsAre, PolicyIs}
-use Rattle.broker_app.specs.Refusals.{ClaimsRefused, PolicyRefused}
-use Rattle.broker_app.specs.Tellings.{ClaimsEnds, IsPrinted, TellingEnds, TellsOfClaims, status_of_ending}
+use Rattle.broker_app.specs.Inputs.{ClaimsAre, PolicyHas, PolicyIs, policy_limit}
+use Rattle.broker_app.specs.Refusals.{ClaimsRefused, FileRefused, NewPolicyRefused, PolicyRefused}
+use Rattle.broker_app.specs.Tellings.{ClaimsEnds, CompareEnds, IsPrinted, LintEnds, TellingEnds, TellsOfBytes, TellsOfClaims, TellsOfPolicies, status_of_ending}
+use Rattle.broker_app.specs.declared.status.InputFile.TheVariants.{Policy as PolicyFile}
 use Rattle.broker_app.specs.declared.status.Refusal.{Refusal}
 use Rattle.broker_app.specs.declared.status.Status.{Status}
 use Rattle.broker_app.specs.declared.status.Status.TheVariants.{NoMemory, Refused, WriteFault}
@@ -50,6 +53,31 @@ told_ends told Tells Stops old new status tells h = by status h
     by NoMemory (inr (other, is, took)) = inr (other, same other is, took)
     by status (other, is, ending, took, stands) = (other, same other is, ending, took, stands)
 
+-- ---- Two policies
+
+-- the old one wasn't taken
+pub old_stops : (files after : FileState) (sink : SinkState) (old new : List ℕ) (status : Status) → PolicyRefused files after old status → CompareEnds files after sink sink old new status
+old_stops files after sink old new (Refused refusal) h = (inl h, λ t. refl)
+old_stops files after sink old new NoMemory h = inl (λ t. refl)
+old_stops files after sink old new status h = absurd h
+
+-- the new one wasn't
+pub new_stops : (files mid after : FileState) (sink : SinkState) (old new : List ℕ) (P : Policy) (status : Status) → SameFiles files mid → PolicyIs files old (Ok P) → NewPolicyRefused mid after new status
+    → CompareEnds files after sink sink old new status
+new_stops files mid after sink old new P status same policy_is h = by status (new_policy_before files mid after new same status h)
+  where
+    by : (status : Status) → NewPolicyRefused files after new status → CompareEnds files after sink sink old new status
+    by (Refused refusal) r = (inr (P, policy_is, r), λ t. refl)
+    by NoMemory r = inl (λ t. refl)
+    by status r = absurd r
+
+-- both were read
+pub policies_told : (files mid after : FileState) (before printed : SinkState) (old new : List ℕ) (P Q : Policy) (told : Told) (status : Status) → SameFiles files mid → PolicyIs files old (Ok P)
+    → PolicyIs mid new (Ok Q) → IsComparison P.rules Q.rules told → (told.ending ≡ Alike → AreEqual P.rules Q.rules) → (told.ending ≡ Otherwise → ¬ (AreEqual P.rules Q.rules))
+    → IsPrinted told before printed status → CompareEnds files after before printed old new status
+policies_told files mid after before printed old new P Q told status same old_is new_is is equal unequal shown =
+    told_ends told (TellsOfPolicies files old new) _ before printed status (P, Q, old_is, policy_is_before files mid after new same (Ok Q) new_is, is, equal, unequal) shown
+
 -- ---- Claims
 
 -- the policy wasn't taken
@@ -73,3 +101,16 @@ pub claims_told : (files mid after : FileState) (old new : SinkState) (policy cl
     → ClaimsAre mid claims (Ok C) → IsToldOf P.rules C told → IsPrinted told old new status → ClaimsEnds files after old new policy claims status
 claims_told files mid after old new policy claims P C told status same policy_is claims_are is printed =
     told_ends told (TellsOfClaims files policy claims) _ old new status (P, C, policy_is, claims_are_before files mid after claims same (Ok C) claims_are, is) printed
+
+-- ---- One policy
+
+-- the file wasn't read
+pub bytes_stop : (files after : FileState) (sink : SinkState) (policy : List ℕ) (status : Status) → FileRefused PolicyFile policy_limit files after policy status → LintEnds files after sink sink policy status
+bytes_stop files after sink policy (Refused refusal) h = (h, λ t. refl)
+bytes_stop files after sink policy NoMemory h = inl (λ t. refl)
+bytes_stop files after sink policy status h = absurd h
+
+-- it was
+pub bytes_told : (files after : FileState) (old new : SinkState) (policy bytes : List ℕ) (told : Told) (status : Status) → PolicyHas files policy bytes → TellsOf bytes told
+    → IsPrinted told old new status → LintEnds files after old new policy status
+bytes_told files after old new policy bytes told status has tells shown = told_ends told (TellsOfBytes files policy) _ old new status (bytes, has, tells) shown

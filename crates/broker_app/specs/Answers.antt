@@ -25,8 +25,8 @@ use Rattle.broker_app.specs.Pods.{PodEnds}
 use Rattle.broker_app.specs.Refusals.{Stands, TookNothing}
 use Rattle.broker_app.specs.Runs.{ByLanes, ByWorkers, RunEnds}
 use Rattle.broker_app.specs.Stepping.{StepEnds}
-use Rattle.broker_app.specs.Tellings.{ClaimsEnds}
-use Rattle.broker_app.specs.Words.{Form, AuditCheck, Check, Explain, Explore, Handover, Lanes, Play, Pod, Run, Step, Stress}
+use Rattle.broker_app.specs.Tellings.{ClaimsEnds, CompareEnds, LintEnds}
+use Rattle.broker_app.specs.Words.{Form, AuditCheck, Check, Compare, Explain, Explore, Handover, Lanes, Lint, Play, Pod, Run, Step, Stress}
 use Rattle.broker_app.specs.declared.printing.Printout.{Printout}
 use Rattle.broker_app.specs.declared.printing.Printout.TheVariants.{Report, Handovers, Summary, Findings}
 use Rattle.broker_app.specs.declared.status.Status.{Status}
@@ -107,7 +107,9 @@ Answers (Some (Explore policy script workers delays)) files after old new status
     ExploreEnds files after old new policy script workers delays status
 Answers (Some (Step policy script)) files after old new status = StepEnds files after old new policy script status
 Answers (Some (Explain policy calls)) files after old new status = ExplainEnds files after old new policy calls status
+Answers (Some (Compare before latter)) files after old new status = CompareEnds files after old new before latter status
 Answers (Some (Check policy claims)) files after old new status = ClaimsEnds files after old new policy claims status
+Answers (Some (Lint policy)) files after old new status = LintEnds files after old new policy status
 
 -- the status that an outcome is
 abbrev pub status_of : Result (Unit {0}) Status → Status

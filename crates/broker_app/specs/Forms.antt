@@ -3,12 +3,13 @@ use Rattle.std.specs.Prelude.{◌≡◌, ℕ, ◌<◌, ◌≤◌, true, List, le
 use Rattle.std.specs.String.{string_bytes}
 use Rattle.std.specs.declared.alloc.Global.{Global}
 use Rattle.broker_app.specs.Words.{Form as Meaning, AuditCheck as Checks, Explain as Explains, Explore as Explores, Handover as Hands}
-use Rattle.broker_app.specs.Words.{Check as ChecksClaims, Lanes as RunsByLanes}
+use Rattle.broker_app.specs.Words.{Check as ChecksClaims, Compare as Compares, Lanes as RunsByLanes, Lint as Lints}
 use Rattle.broker_app.specs.Words.{Play as Plays, Pod as ServesPod, Run as Runs, Step as Steps, Stress as Stresses, are_pairs, in_pairs}
 use Rattle.broker_app.specs.declared.words.Form.{Form}
 use Rattle.broker_app.specs.declared.words.Form.TheVariants.{Job as IsJob, Lanes, Pod, Run}
 use Rattle.broker_app.specs.declared.words.Job.{Job}
-use Rattle.broker_app.specs.declared.words.Job.TheVariants.{AuditCheck, Check, Explain, Explore, Handover, Play, Step, Stress}
+use Rattle.broker_app.specs.declared.words.Job.TheVariants.{AuditCheck, Check, Compare, Explain, Explore, Handover, Lint}
+use Rattle.broker_app.specs.declared.words.Job.TheVariants.{Play, Step, Stress}
 
 -- the bytes of the words
 abbrev pub texts : List (String Global) → List (List ℕ)
@@ -23,7 +24,9 @@ job_of (Handover policy script every) = Hands policy.now script.now every
 job_of (Explore policy script workers delays) = Explores policy.now script.now workers delays
 job_of (Step policy script) = Steps policy.now script.now
 job_of (Explain policy calls) = Explains policy.now calls.now
+job_of (Compare old new) = Compares old.now new.now
 job_of (Check policy claims) = ChecksClaims policy.now claims.now
+job_of (Lint policy) = Lints policy.now
 
 -- the form that the words have
 abbrev pub form_of : Form → Meaning

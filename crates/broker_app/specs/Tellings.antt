@@ -9,8 +9,11 @@ use Rattle.policy_claims.specs.declared.claims.Claims.{Claims}
 use Rattle.policy_classes.specs.declared.ending.Ending.{Ending}
 use Rattle.policy_classes.specs.declared.ending.Ending.TheVariants.{Alike, Otherwise, Undecided}
 use Rattle.policy_classes.specs.declared.ending.Told.{Told}
-use Rattle.broker_app.specs.Inputs.{ClaimsAre, PolicyIs}
-use Rattle.broker_app.specs.Refusals.{OnlyPolicyOfClaims, PolicyRefused, Stands, TookNothing}
+use Rattle.policy_compare.specs.Compared.{AreEqual, IsComparison}
+use Rattle.policy_lint.specs.Found.{Tells as TellsOf}
+use Rattle.broker_app.specs.Inputs.{ClaimsAre, PolicyHas, PolicyIs, policy_limit}
+use Rattle.broker_app.specs.Refusals.{FileRefused, OnlyOldPolicy, OnlyPolicyOfClaims, PolicyRefused, Stands, TookNothing}
+use Rattle.broker_app.specs.declared.status.InputFile.TheVariants.{Policy as PolicyFile}
 use Rattle.broker_app.specs.declared.status.Refusal.{Refusal}
 use Rattle.broker_app.specs.declared.status.Status.{Status}
 use Rattle.broker_app.specs.declared.status.Status.TheVariants.{Done, NoMemory, Refused, WriteFault}
@@ -45,6 +48,24 @@ TellingEnds Tells Stops old new status = TookAllOf Tells old new status
 abbrev pub IsPrinted : Told → SinkState → SinkState → Status → Type 0
 IsPrinted told old new status = TellingEnds (λ other. other ≡ told) (λ refusal. ⊥) old new status
 
+-- ---- Two policies
+
+-- it is told of the policies of two files
+abbrev pub TellsOfPolicies : FileState → List ℕ → List ℕ → Told → Type 0
+TellsOfPolicies files old new told =
+    (P : Policy) × (Q : Policy) × PolicyIs files old (Ok P) × PolicyIs files new (Ok Q) × IsComparison P.rules Q.rules told
+    × (told.ending ≡ Alike → AreEqual P.rules Q.rules) × (told.ending ≡ Otherwise → ¬ (AreEqual P.rules Q.rules))
+
+-- the old one isn't taken, or it is and the new one isn't
+abbrev pub PoliciesStop : FileState → FileState → List ℕ → List ℕ → Refusal → Type 0
+PoliciesStop files after old new refusal =
+    PolicyRefused files after old (Refused refusal) ⊎ OnlyOldPolicy files after old new (Refused refusal)
+
+-- how the comparison ended: the sink before it and after it, and the names of the files of the old policy and the new one
+abbrev pub CompareEnds : FileState → FileState → SinkState → SinkState → List ℕ → List ℕ → Status → Type 0
+CompareEnds files after before printed old new status =
+    TellingEnds (TellsOfPolicies files old new) (PoliciesStop files after old new) before printed status
+
 -- ---- Claims
 
 -- it is told of the claims of one file about the policy of another
@@ -61,3 +82,15 @@ ClaimsStop files after policy claims refusal =
 abbrev pub ClaimsEnds : FileState → FileState → SinkState → SinkState → List ℕ → List ℕ → Status → Type 0
 ClaimsEnds files after old new policy claims status =
     TellingEnds (TellsOfClaims files policy claims) (ClaimsStop files after policy claims) old new status
+
+-- ---- One policy
+
+-- it is told of the bytes of a policy's file, be they one or not
+abbrev pub TellsOfBytes : FileState → List ℕ → Told → Type 0
+TellsOfBytes files policy told = (bytes : List ℕ) × PolicyHas files policy bytes × TellsOf bytes told
+
+-- how the search for mistakes ended
+abbrev pub LintEnds : FileState → FileState → SinkState → SinkState → List ℕ → Status → Type 0
+LintEnds files after old new policy status =
+    TellingEnds (TellsOfBytes files policy)
+    (λ refusal. FileRefused PolicyFile policy_limit files after policy (Refused refusal)) old new status

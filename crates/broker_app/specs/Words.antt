@@ -10,7 +10,8 @@ pub record FilePair : Type 0 where
   pub script : List ℕ
 
 -- play a script, run it with threads or by lanes, play generated input, check a report, play a script with workers that are replaced, serve
--- containers side by side, explore a script's histories, step a script as requests ask for, explain calls, or check claims about a policy
+-- containers side by side, explore a script's histories, step a script as requests ask for, explain calls, compare two policies,
+-- check claims about a policy, or find what is likely a mistake in one
 pub data Form : Type 0 where
   Play : List ℕ → List ℕ → Form
   Run : List ℕ → List ℕ → ℕ → ℕ → Form
@@ -22,7 +23,9 @@ pub data Form : Type 0 where
   Explore : List ℕ → List ℕ → ℕ → Option ℕ → Form
   Step : List ℕ → List ℕ → Form
   Explain : List ℕ → List ℕ → Form
+  Compare : List ℕ → List ℕ → Form
   Check : List ℕ → List ℕ → Form
+  Lint : List ℕ → Form
 
 abbrev pub run_form : List ℕ → List ℕ → Option ℕ → Option ℕ → Option Form
 run_form policy script (Some workers) (Some cpus) = Some (Run policy script workers cpus)
@@ -61,13 +64,17 @@ abbrev pub stress_form : Option ℕ → Option ℕ → Option Form
 stress_form (Some from) (Some count) = Some (Stress from count)
 stress_form _ _ = None
 
+abbrev pub two_words : List ℕ → List ℕ → Option Form
+two_words command a = if bytes_eq command (codes "lint") then Some (Lint a) else None
+
 abbrev pub three_words : List ℕ → List ℕ → List ℕ → Option Form
 three_words command a b =
     if bytes_eq command (codes "play") then Some (Play a b)
     else (if bytes_eq command (codes "stress") then stress_form (number_between 0 (2 ^ 64 - 1) a) (number_between 1 4000 b)
     else (if bytes_eq command (codes "step") then Some (Step a b)
     else (if bytes_eq command (codes "explain") then Some (Explain a b)
-    else (if bytes_eq command (codes "check") then Some (Check a b) else None))))
+    else (if bytes_eq command (codes "compare") then Some (Compare a b)
+    else (if bytes_eq command (codes "check") then Some (Check a b) else None)))))
 
 abbrev pub four_words : List ℕ → List ℕ → List ℕ → List ℕ → Option Form
 four_words command a b c =
@@ -80,18 +87,23 @@ five_words command a b c d =
     if bytes_eq command (codes "run") then run_form a b (number_between 0 16 c) (number_between 0 16 d)
     else (if bytes_eq command (codes "explore") then explore_form a b (number_between 0 15 c) (delays_of d) else None)
 
--- the form of three to five words: play POLICY SCRIPT, stress FROM COUNT, step POLICY SCRIPT, explain POLICY CALLS,
--- check POLICY CLAIMS, audit-check POLICY SCRIPT REPORT, lanes POLICY SCRIPT CPUS, handover POLICY SCRIPT EVERY, run POLICY SCRIPT WORKERS CPUS,
--- or explore POLICY SCRIPT WORKERS DELAYS
+-- the form of three to five words: play POLICY SCRIPT, stress FROM COUNT, step POLICY SCRIPT, explain POLICY CALLS, compare OLD NEW,
+-- check POLICY CLAIMS, audit-check POLICY SCRIPT REPORT, lanes POLICY SCRIPT CPUS, handover POLICY SCRIPT EVERY,
+-- run POLICY SCRIPT WORKERS CPUS, or explore POLICY SCRIPT WORKERS DELAYS
 abbrev pub few_words : List (List ℕ) → Option Form
 few_words (command ∷ a ∷ b ∷ []) = three_words command a b
 few_words (command ∷ a ∷ b ∷ c ∷ []) = four_words command a b c
 few_words (command ∷ a ∷ b ∷ c ∷ d ∷ []) = five_words command a b c d
 few_words _ = None
 
--- the form of the words: pod WORKERS CPUS POLICY SCRIPT .., with 1 to 8 pairs of files, or one of fewer words
+-- the form of two words: lint POLICY
+abbrev pub short_words : List (List ℕ) → Option Form
+short_words (command ∷ a ∷ []) = two_words command a
+short_words _ = None
+
+-- the form of the words: pod WORKERS CPUS POLICY SCRIPT .., with 1 to 8 pairs of files, one of fewer words, or lint POLICY
 abbrev pub form : List (List ℕ) → Option Form
 form (command ∷ a ∷ b ∷ more) =
     if bytes_eq command (codes "pod") then pod_form (number_between 0 16 a) (number_between 0 16 b) more
     else few_words (command ∷ a ∷ b ∷ more)
-form words = None
+form words = short_words words

@@ -37,7 +37,7 @@ use crate::pods::{read_containers, see_ranges};
 use crate::printing::{Printout, print_history};
 use crate::status::{Refusal, Status};
 use crate::stepping::step_files;
-use crate::telling::check_claims;
+use crate::telling::{check_claims, compare_files, lint_file};
 use crate::words::{Form, Job, read_form};
 use audit_check::check::check_report;
 use audit_check::found::Found;
@@ -358,7 +358,9 @@ fn answer<P: Player, F: Files, O: Sink>(
         ) => explore_files(alloc, files, policy, script, workers, delays, out),
         Some(Job::Step { policy, script }) => step_files(alloc, files, policy, script, out),
         Some(Job::Explain { policy, calls }) => explain_files(alloc, files, policy, calls, out),
+        Some(Job::Compare { old, new }) => compare_files(alloc, files, old, new, out),
         Some(Job::Check { policy, claims }) => check_claims(alloc, files, policy, claims, out),
+        Some(Job::Lint { policy }) => lint_file(alloc, files, policy, out),
     }
 }
 

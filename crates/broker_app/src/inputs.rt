@@ -2,7 +2,7 @@
 
 ghost use Rattle.std.specs.Prelude.{◌≡◌, ◌^◌, ◌-◌, ◌<◌, ◌≤◌, true, length, None, Some, Ok, IfOk, IfErr, OnOk, Err};
 ghost use Rattle.io_edge.specs.FileState.{SameFiles};
-ghost use Rattle.broker_app.specs.Inputs.{CallsAre, ClaimsAre, HasBytes, PolicyIs, ReportIs, ScriptFileIs, ScriptHas, ScriptIs};
+ghost use Rattle.broker_app.specs.Inputs.{CallsAre, ClaimsAre, HasBytes, PolicyHas, PolicyIs, ReportIs, ScriptFileIs, ScriptHas, ScriptIs, policy_limit};
 ghost use Rattle.script_reader.specs.Rules.{AreTurns};
 ghost use Rattle.broker_app.specs.Refusals.{CallsRefused, ClaimsRefused, FileRefused, InputRefused, NewPolicyRefused, PolicyRefused, ReportRefused, ScriptRefused};
 ghost use Rattle.broker_app.specs.declared.status.InputFile.TheVariants as input;
@@ -77,6 +77,20 @@ pub(crate) fn read_policy<F: Files>(
         Err(OrNoMemory::Refused(error)) => Err(Status::Refused(Refusal::BadPolicy(error))),
         Err(OrNoMemory::NoMemory) => Err(Status::NoMemory),
     }
+}
+
+/// Reads the bytes of the policy of this name, be they one or not.
+pub(crate) fn read_policy_bytes<F: Files>(
+    alloc: Global,
+    files: &mut F,
+    name: &str,
+) -> Result<Vec<u8>, Status>
+    ensures same { SameFiles (F.state files.old) (F.state files.new) }
+    ensures read { IfOk result (λ bytes. PolicyHas (F.state files.old) name.now bytes.items) }
+    ensures within { IfOk result (λ bytes. length bytes.items ≤ 1048576) }
+    ensures refused { IfErr result (λ s. FileRefused input.Policy policy_limit (F.state files.old) (F.state files.new) name.now s) }
+{
+    read_file(alloc, files, name, InputFile::Policy, POLICY_LIMIT)
 }
 
 /// Reads the policy of this name, which would take another's place.

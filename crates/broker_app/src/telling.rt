@@ -4,9 +4,9 @@ ghost use Rattle.std.specs.Prelude.{◌≡◌, OnOk};
 ghost use Rattle.audit_log.specs.Written.{Wrote};
 ghost use Rattle.broker_app.specs.Answers.{Printed, status_of};
 ghost use Rattle.broker_app.specs.Refusals.{Stands};
-ghost use Rattle.broker_app.specs.Tellings.{ClaimsEnds, IsPrinted, status_of_ending};
+ghost use Rattle.broker_app.specs.Tellings.{ClaimsEnds, CompareEnds, IsPrinted, LintEnds, status_of_ending};
 
-use crate::inputs::{read_claims, read_policy};
+use crate::inputs::{read_claims, read_new_policy, read_policy, read_policy_bytes};
 use crate::status::Status;
 use audit_log::error::ReportError;
 use io_edge::files::Files;
@@ -62,6 +62,23 @@ fn tell<O: Sink>(told: &Told, out: &mut O) -> Result<(), Status>
     ended(told.ending)
 }
 
+/// Compares the policies of two files, of which the second would take the first one's place, and prints what is told of them.
+#[tactic(auto, using(crate::proofs::Tellings::old_stops, crate::proofs::Tellings::new_stops))]
+pub(crate) fn compare_files<F: Files, O: Sink>(
+    alloc: Global,
+    files: &mut F,
+    old: &str,
+    new: &str,
+    out: &mut O,
+) -> Result<(), Status>
+    ensures { CompareEnds (F.state files.old) (F.state files.new) (O.state out.old) (O.state out.new) old.now new.now (status_of result) }
+{
+    let old = read_policy(alloc, files, old)?;
+    let new = read_new_policy(alloc, files, new)?;
+    let told = policy_compare::compare(alloc, &old, &new)?;
+    tell(&told, out)
+}
+
 /// Checks the claims of one file about the policy of another, and prints what is told of them.
 #[tactic(auto, using(crate::proofs::Tellings::policy_stops, crate::proofs::Tellings::claims_stop))]
 pub(crate) fn check_claims<F: Files, O: Sink>(
@@ -76,5 +93,20 @@ pub(crate) fn check_claims<F: Files, O: Sink>(
     let policy = read_policy(alloc, files, policy)?;
     let claims = read_claims(alloc, files, claims)?;
     let told = policy_claims::check(alloc, &policy, &claims)?;
+    tell(&told, out)
+}
+
+/// Finds what is likely a mistake in the policy of a file, and prints what is told of it.
+#[tactic(auto, using(crate::proofs::Tellings::bytes_stop))]
+pub(crate) fn lint_file<F: Files, O: Sink>(
+    alloc: Global,
+    files: &mut F,
+    policy: &str,
+    out: &mut O,
+) -> Result<(), Status>
+    ensures { LintEnds (F.state files.old) (F.state files.new) (O.state out.old) (O.state out.new) policy.now (status_of result) }
+{
+    let bytes = read_policy_bytes(alloc, files, policy)?;
+    let told = policy_lint::lint(alloc, bytes.as_slice())?;
     tell(&told, out)
 }

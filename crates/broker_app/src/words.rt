@@ -2,7 +2,7 @@
 
 ghost use Rattle.std.specs.Prelude.{◌≡◌, ◌^◌, ◌-◌, map, IfSome};
 ghost use Rattle.std.specs.Option.{option_map};
-ghost use Rattle.broker_app.specs.Words.{run_form, lanes_form, are_pairs, pod_form, handover_form, delays_of, explore_form, stress_form, three_words, four_words, five_words, few_words, form};
+ghost use Rattle.broker_app.specs.Words.{run_form, lanes_form, are_pairs, pod_form, handover_form, delays_of, explore_form, stress_form, two_words, three_words, short_words, four_words, five_words, few_words, form};
 ghost use Rattle.hist_model.specs.Words.{number_between};
 ghost use Rattle.broker_app.specs.Forms.{IsInRange, form_of, texts};
 
@@ -52,10 +52,19 @@ pub enum Job<'a> {
         policy: &'a str,
         calls: &'a str,
     },
+    /// Compare two policies, of which one would take the other's place: the names of their files.
+    Compare {
+        old: &'a str,
+        new: &'a str,
+    },
     /// Check claims about a policy: the names of the files of the policy and the claims.
     Check {
         policy: &'a str,
         claims: &'a str,
+    },
+    /// Find what is likely a mistake in a policy: the name of its file.
+    Lint {
+        policy: &'a str,
     },
 }
 
@@ -190,6 +199,17 @@ fn stress_form<'a>(from: &str, count: &str) -> Option<Form<'a>>
     }))
 }
 
+fn two_words<'a>(command: &str, a: &'a str) -> Option<Form<'a>>
+    ensures meant { option_map form_of result ≡ two_words command.now a.now }
+    ensures range { IfSome result (λ f. IsInRange f) }
+{
+    if command.as_bytes() == b"lint".as_slice() {
+        Some(Form::Job(Job::Lint { policy: a }))
+    } else {
+        None
+    }
+}
+
 fn three_words<'a>(command: &str, a: &'a str, b: &'a str) -> Option<Form<'a>>
     ensures meant { option_map form_of result ≡ three_words command.now a.now b.now }
     ensures range { IfSome result (λ f. IsInRange f) }
@@ -211,6 +231,8 @@ fn three_words<'a>(command: &str, a: &'a str, b: &'a str) -> Option<Form<'a>>
             policy: a,
             calls: b,
         }))
+    } else if command.as_bytes() == b"compare".as_slice() {
+        Some(Form::Job(Job::Compare { old: a, new: b }))
     } else if command.as_bytes() == b"check".as_slice() {
         Some(Form::Job(Job::Check {
             policy: a,
@@ -276,6 +298,17 @@ fn few_words(words: &[String]) -> Option<Form<'_>>
     None
 }
 
+/// The form of two words.
+fn short_words(words: &[String]) -> Option<Form<'_>>
+    ensures meant { option_map form_of result ≡ short_words (texts words.now) }
+    ensures range { IfSome result (λ f. IsInRange f) }
+{
+    if let [command, a] = words {
+        return two_words(command.as_str(), a.as_str());
+    }
+    None
+}
+
 /// The form of the words, if they have one.
 pub fn read_form(words: &[String]) -> Option<Form<'_>>
     ensures meant { option_map form_of result ≡ form (texts words.now) }
@@ -287,5 +320,5 @@ pub fn read_form(words: &[String]) -> Option<Form<'_>>
         }
         return few_words(words);
     }
-    None
+    short_words(words)
 }

@@ -7,9 +7,11 @@ use Rattle.policy_lint.proofs.judging.judge.Goals as goal
 
 pub returns-then-is_useful_for : goal.returns-then-is_useful_for
 returns-then-is_useful_for c =
-    let found : find (is_at c.args.place) c.args.all.now.classes ≡ Some c.in-Some.class.now = sym (rw c.items.ensures at c.in-Some.ensures) in
-    (c.in-Some.class.now.witness, decides c.args.rules.now c.args.all.now c.args.place c.in-Some.class.now c.requires.all found,
-    c.is_useful_for.ensures (search rules))
+    let found : find (is_at c.args.place) c.args.all.now.classes ≡ Some c.in-Some.class.now = sym (rw c.items.ensures at c.in-Some.ensures) in (
+      c.in-Some.class.now.witness,
+      decides c.args.rules.now c.args.all.now c.args.place c.in-Some.class.now c.requires.all found,
+      c.is_useful_for.ensures (search rules),
+    )
 
 pub judge_deciding-requires-clause-decides : goal.judge_deciding-requires-clause-decides
 judge_deciding-requires-clause-decides c =
