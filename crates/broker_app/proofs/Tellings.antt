@@ -35,7 +35,7 @@ all_told told old new status p e = subst (IsPrinted told old new) (sym e) (by to
 
 -- a part of it was
 pub part_told : (told : Told) (old new : SinkState) (status : Status) → Printed told.text old new (Err status) → IsPrinted told old new status
-part_told told old new WriteFault p = (p.0, told, refl, p.1)
+part_told told old new WriteFault p = (p.0, (told, refl, p.1))
 part_told told old new NoMemory p = inr (told, refl, p)
 part_told told old new status p = absurd p
 
@@ -47,11 +47,11 @@ told_ends told Tells Stops old new status tells h = by status h
     same other e = subst Tells (sym e) tells
 
     by : (status : Status) → IsPrinted told old new status → TellingEnds Tells Stops old new status
-    by (Refused refusal) (no, rest) = absurd no
-    by WriteFault (rose, other, is, took) = (rose, other, same other is, took)
+    by (Refused refusal) h = absurd h.0
+    by WriteFault h = (h.0, (h.1.0, same h.1.0 h.1.1, h.1.2))
     by NoMemory (inl nothing) = inl nothing
-    by NoMemory (inr (other, is, took)) = inr (other, same other is, took)
-    by status (other, is, ending, took, stands) = (other, same other is, ending, took, stands)
+    by NoMemory (inr h) = inr (h.0, same h.0 h.1, h.2)
+    by status h = (h.0, same h.0 h.1, h.2, h.3, h.4)
 
 -- ---- Two policies
 
