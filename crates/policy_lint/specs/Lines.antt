@@ -1,5 +1,5 @@
 -- The lines of what is found.
-use Rattle.std.specs.Prelude.{ℕ, Bool, true, false, if◌then◌else◌, List, [], ◌∷◌, ◌++◌, codes, decimal, length}
+use Rattle.std.specs.Prelude.{ℕ, Bool, true, false, if◌then◌else◌, List, [], ◌∷◌, ◌++◌, codes, decimal, length, ◌==◌}
 use Rattle.std.specs.List.{flat_map, list_all}
 use Rattle.hist_model.specs.Decisions.{rule_name}
 use Rattle.hist_model.specs.declared.policy.Rule.{Rule}
@@ -42,12 +42,22 @@ within_rule (Shadowed by) = []
 within_rule (Needless by) = []
 within_rule Undecided = []
 
+-- what is said of a rule, before the names of other rules
+abbrev pub judgement_front : Judgement → List ℕ
+judgement_front Useful = codes "a call needs this rule"
+judgement_front Never = codes "no call meets these conditions"
+judgement_front (Shadowed by) = codes "this rule decides no call by="
+judgement_front (Needless by) = codes "without this rule every call has the same answer by="
+judgement_front Undecided = codes "it wasn't found whether a call needs this rule"
+
+-- the rules that take its calls, or that would have its answer
+abbrev pub judgement_names : List Rule → ℕ → Judgement → List ℕ
+judgement_names rules place (Shadowed by) = names rules by
+judgement_names rules place (Needless by) = names (behind rules place) by
+judgement_names rules place judgement = []
+
 abbrev pub judgement_words : List Rule → ℕ → Judgement → List ℕ
-judgement_words rules place Useful = codes "a call needs this rule"
-judgement_words rules place Never = codes "no call meets these conditions"
-judgement_words rules place (Shadowed by) = codes "this rule decides no call by=" ++ names rules by
-judgement_words rules place (Needless by) = codes "without this rule every call has the same answer by=" ++ names (behind rules place) by
-judgement_words rules place Undecided = codes "it wasn't found whether a call needs this rule"
+judgement_words rules place judgement = judgement_front judgement ++ judgement_names rules place judgement
 
 -- ---- refusals
 
@@ -99,12 +109,16 @@ fault_place (Granted hint place by call) = place
 fault_place (Noted note place cure) = place
 fault_place (NoEffect place front) = place
 
+-- what is said of a key that makes no rule, before the front of its rules' names
+abbrev pub no_effect_front : List ℕ
+no_effect_front = codes "no rule has a name that begins with "
+
 abbrev pub fault_words : List Rule → Fault → List ℕ
 fault_words rules (Refused error cure) = cure
 fault_words rules (Judged place judgement) = judgement_words rules place judgement
 fault_words rules (Granted hint place by call) = hint_words hint ++ codes " by=" ++ rule_name rules by ++ codes " call=" ++ asked_text call
 fault_words rules (Noted note place cure) = cure
-fault_words rules (NoEffect place front) = codes "no rule has a name that begins with " ++ front
+fault_words rules (NoEffect place front) = no_effect_front ++ front
 
 abbrev pub line_text : List Rule → Finding → List ℕ
 line_text rules f = fault_word f.fault ++ codes " " ++ fault_place f.fault
@@ -134,5 +148,7 @@ is_undecided (NoEffect place front) = false
 
 -- nothing is found; nothing was found out; or something is found
 abbrev pub ending_of : List Finding → Ending
-ending_of [] = ending.Alike
-ending_of (f ∷ fs) = if list_all (λ (g : Finding). is_undecided g.fault) (f ∷ fs) then ending.Undecided else ending.Otherwise
+ending_of findings =
+    if length findings == 0 then ending.Alike
+    else if list_all (λ (f : Finding). is_undecided f.fault) findings then ending.Undecided
+    else ending.Otherwise

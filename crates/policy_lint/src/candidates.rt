@@ -236,17 +236,19 @@ fn push_images(
     }
 }
 
-/// Adds what LXD passes of the calls that a rule of its keys grants where no profile is named.
+/// Adds what LXD passes of the calls that a rule of its keys grants where no profile is named. A mount by a program is granted by
+/// LXD too, whatever flags of propagation it has.
 fn push_unlike(
     alloc: Global,
     found: &mut Vec<Candidate>,
     place: usize,
+    rule: &Rule,
     witness: &Request,
 ) -> Result<(), NoMemory> {
     let mut other = witness.copied(alloc)?;
     match &mut other {
         Request::Mknod { dirfd, .. } => *dirfd = Some(3),
-        Request::Mount { flags, .. } => *flags |= PRIVATE,
+        Request::Mount { flags, .. } if rule.via.items().is_empty() => *flags |= PRIVATE,
         Request::SetXattr { value, .. } => *value = text_of(alloc, b"n")?,
         _ => return Ok(()),
     }
@@ -296,7 +298,7 @@ fn push_all_unlike(
         if is_of_lxd(rule) && rule.verdict == Verdict::Grant && key_of(rule.name.items()) != key {
             if let Some(class) = class_at(classes, place) {
                 key = key_of(rule.name.items());
-                push_unlike(alloc, found, place, &class.witness)?;
+                push_unlike(alloc, found, place, rule, &class.witness)?;
             }
         }
     }

@@ -56,6 +56,13 @@ fn told_of(alloc: Global, rules: &[Rule], findings: &[Finding]) -> Result<Told, 
     })
 }
 
+/// What is told of the findings on a policy.
+fn told_on(alloc: Global, policy: &Policy, findings: &[Finding]) -> Result<Told, NoMemory>
+    ensures { IfOk result (IsToldOf policy.now.rules findings.now) }
+{
+    told_of(alloc, policy.rules.items(), findings)
+}
+
 /// What is told of a policy that is read.
 fn lint_read(
     alloc: Global,
@@ -67,7 +74,7 @@ fn lint_read(
     ensures { IfOk result (Tells bytes.now) }
 {
     let findings = find_all(alloc, bytes, scanned, read)?;
-    let told = told_of(alloc, read.rules.items(), findings.as_slice())?;
+    let told = told_on(alloc, read, findings.as_slice())?;
     Ok(told)
 }
 

@@ -1,9 +1,10 @@
 //! The lines of what is found.
 
 ghost use Rattle.std.specs.Prelude.{◌≡◌, ◌++◌, ◌<◌, OnOk, IfOk, IfErr, All, Any, codes, decimal, length};
-ghost use Rattle.std.specs.List.{flat_map};
+ghost use Rattle.std.specs.List.{flat_map, list_all};
+ghost use Rattle.policy_lint.specs.declared.finding.Finding.{Finding as AnyFinding};
 ghost use Rattle.hist_model.specs.Decisions.{rule_name};
-ghost use Rattle.policy_lint.specs.Lines.{ending_of, fault_place, fault_word, fault_words, is_undecided, judgement_word, judgement_words};
+ghost use Rattle.policy_lint.specs.Lines.{ending_of, fault_place, fault_word, fault_words, is_undecided, judgement_front, judgement_names, judgement_word, judgement_words, no_effect_front};
 ghost use Rattle.policy_explain.specs.Asked.{asked_text};
 ghost use Rattle.policy_lint.specs.Lines.{hint_word, hint_words, note_word};
 ghost use Rattle.policy_lint.specs.Lines.{line_text, names, refusal_place, refusal_word, report, within_rule};
@@ -81,6 +82,35 @@ fn within_rule(judgement: &Judgement) -> &'static str
     }
 }
 
+/// What is said of a rule, before the names of other rules.
+fn judgement_front(judgement: &Judgement) -> &'static str
+    ensures { result.now ≡ judgement_front judgement.now }
+{
+    match judgement {
+        Judgement::Useful => "a call needs this rule",
+        Judgement::Never => "no call meets these conditions",
+        Judgement::Shadowed(_) => "this rule decides no call by=",
+        Judgement::Needless(_) => "without this rule every call has the same answer by=",
+        Judgement::Undecided => "it wasn't found whether a call needs this rule",
+    }
+}
+
+/// Adds the names of the rules that take a rule's calls, or would have its answer.
+fn push_judged_names(
+    line: &mut LineBuffer,
+    rules: &[Rule],
+    place: usize,
+    judgement: &Judgement,
+) -> Result<(), NoMemory>
+    ensures { OnOk result (line.new ≡ line.old ++ judgement_names rules.now place judgement.now) }
+{
+    match judgement {
+        Judgement::Shadowed(by) => push_names(line, rules, by.items()),
+        Judgement::Needless(by) => push_names(line, behind(rules, place), by.items()),
+        Judgement::Useful | Judgement::Never | Judgement::Undecided => Ok(()),
+    }
+}
+
 /// Adds what is said of a rule.
 fn push_judgement(
     line: &mut LineBuffer,
@@ -90,19 +120,8 @@ fn push_judgement(
 ) -> Result<(), NoMemory>
     ensures { OnOk result (line.new ≡ line.old ++ judgement_words rules.now place judgement.now) }
 {
-    match judgement {
-        Judgement::Useful => line.push("a call needs this rule"),
-        Judgement::Never => line.push("no call meets these conditions"),
-        Judgement::Shadowed(by) => {
-            line.push("this rule decides no call by=")?;
-            push_names(line, rules, by.items())
-        }
-        Judgement::Needless(by) => {
-            line.push("without this rule every call has the same answer by=")?;
-            push_names(line, behind(rules, place), by.items())
-        }
-        Judgement::Undecided => line.push("it wasn't found whether a call needs this rule"),
-    }
+    line.push(judgement_front(judgement))?;
+    push_judged_names(line, rules, place, judgement)
 }
 
 /// The word for a refusal.
@@ -212,11 +231,18 @@ fn push_hint(
     push_asked(alloc, line, call)
 }
 
+/// What is said of a key that makes no rule, before the front of its rules' names.
+fn no_effect_front() -> &'static str
+    ensures { result.now ≡ no_effect_front }
+{
+    "no rule has a name that begins with "
+}
+
 /// Adds that no rule has a name that begins so.
 fn push_no_effect(line: &mut LineBuffer, front: &Text) -> Result<(), NoMemory>
-    ensures { OnOk result (line.new ≡ line.old ++ (codes "no rule has a name that begins with " ++ front.now)) }
+    ensures { OnOk result (line.new ≡ line.old ++ (no_effect_front ++ front.now)) }
 {
-    line.push("no rule has a name that begins with ")?;
+    line.push(no_effect_front())?;
     line.push_bytes(front.items())
 }
 
@@ -302,13 +328,20 @@ fn is_undecided(fault: &Fault) -> bool
     }
 }
 
+/// Whether nothing was found out in any of these.
+fn are_undecided(findings: &[Finding]) -> bool
+    ensures { result ≡ list_all (λ (f : AnyFinding). is_undecided f.fault) findings.now }
+{
+    findings.iter().all(|finding| is_undecided(&finding.fault))
+}
+
 /// How it ends.
 pub fn ending_of(findings: &[Finding]) -> Ending
     ensures { result ≡ ending_of findings.now }
 {
     if findings.is_empty() {
         Ending::Alike
-    } else if findings.iter().all(|finding| is_undecided(&finding.fault)) {
+    } else if are_undecided(findings) {
         Ending::Undecided
     } else {
         Ending::Otherwise

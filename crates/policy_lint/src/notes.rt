@@ -3,7 +3,7 @@
 ghost use Rattle.std.specs.Prelude.{◌≡◌, false, nat_eq, IfOk, OnOk};
 ghost use Rattle.std.specs.List.{list_any, starts_with};
 ghost use Rattle.hist_model.specs.declared.policy.Rule.{Rule as AnyRule};
-ghost use Rattle.policy_lint.specs.Found.{AreSaid};
+ghost use Rattle.policy_lint.specs.Found.{AreSaid, IsSo};
 
 use crate::finding::{Fault, Finding, Note};
 use crate::nearest::nearest;
@@ -203,8 +203,66 @@ fn push_noted(
     Ok(())
 }
 
-/// Adds the keys that make no rule, each once.
+/// That a key makes no rule with this front.
+fn no_effect_of(
+    alloc: Global,
+    bytes: &[u8],
+    scanned: &Scanned,
+    rules: &[Rule],
+    one: &Front,
+) -> Result<Fault, NoMemory>
+    requires { list_any (λ (rule : AnyRule). starts_with nat_eq rule.name one.now.front) rules.now ≡ false }
+    ensures { IfOk result (IsSo rules.now) }
+{
+    Ok(Fault::NoEffect {
+        place: scanned.path_of(alloc, bytes, one.node)?,
+        front: one.front.copied(alloc)?,
+    })
+}
+
+/// Adds that a key makes no rule with this front.
 #[tactic(auto, using(crate::proofs::Said::more_said))]
+fn push_one(
+    alloc: Global,
+    notes: &mut Vec<Finding>,
+    position: &mut Position,
+    scanned: &Scanned,
+    bytes: &[u8],
+    rules: &[Rule],
+    one: &Front,
+) -> Result<(), NoMemory>
+    requires { list_any (λ (rule : AnyRule). starts_with nat_eq rule.name one.now.front) rules.now ≡ false }
+    ensures { OnOk result (AreSaid rules.now notes.old.items → AreSaid rules.now notes.new.items) }
+{
+    let fault = no_effect_of(alloc, bytes, scanned, rules, one)?;
+    notes.push(position.found(scanned.key_begin_of(one.node), fault))?;
+    Ok(())
+}
+
+/// Adds that a key makes no rule with this front, unless it makes one or was told before. Answers which key was told last.
+fn push_once(
+    alloc: Global,
+    notes: &mut Vec<Finding>,
+    position: &mut Position,
+    scanned: &Scanned,
+    bytes: &[u8],
+    rules: &[Rule],
+    one: &Front,
+    told: Option<usize>,
+) -> Result<Option<usize>, NoMemory>
+    ensures { OnOk result (AreSaid rules.now notes.old.items → AreSaid rules.now notes.new.items) }
+{
+    if told == Some(one.node) {
+        return Ok(told);
+    }
+    if is_made(rules, one.front.items()) {
+        return Ok(told);
+    }
+    push_one(alloc, notes, position, scanned, bytes, rules, one)?;
+    Ok(Some(one.node))
+}
+
+/// Adds the keys that make no rule, each once.
 fn push_without_effect(
     alloc: Global,
     notes: &mut Vec<Finding>,
@@ -218,14 +276,16 @@ fn push_without_effect(
     let mut told = None;
     let fronts = fronts(alloc, bytes, scanned)?;
     for one in fronts.as_slice() {
-        if told != Some(one.node) && !is_made(rules, one.front.items()) {
-            told = Some(one.node);
-            let fault = Fault::NoEffect {
-                place: scanned.path_of(alloc, bytes, one.node)?,
-                front: one.front.copied(alloc)?,
-            };
-            notes.push(position.found(scanned.key_begin_of(one.node), fault))?;
-        }
+        told = push_once(
+            alloc,
+            notes,
+            &mut position,
+            scanned,
+            bytes,
+            rules,
+            one,
+            told,
+        )?;
     }
     Ok(())
 }
