@@ -124,7 +124,7 @@ def judged_play(program, room, policy, script):
 def fuzz_trial(program, seed, number):
     """An input of tools/fuzz; None where it is no play, or is refused."""
     words, policy, script, _ = fuzz_inputs(seed).made(number)
-    if words[0] != "play" or len(words) != 3:
+    if words[:1] != ["play"] or len(words) != 3:
         return None
     with tempfile.TemporaryDirectory(prefix="check-judge-") as room:
         return judged_play(program, room, policy, script)
