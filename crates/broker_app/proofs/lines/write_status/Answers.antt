@@ -2,7 +2,7 @@
 use Rattle.broker_app.proofs.lines.write_status.Goals as goal
 
 pub returns-in-Usage : goal.returns-in-Usage
-returns-in-Usage g c = rw c.in-Usage.is c.write-in-Usage.ensures
+returns-in-Usage g c = rw c.in-Usage.is c.write.ensures
 
 pub returns-in-WriteFault : goal.returns-in-WriteFault
 returns-in-WriteFault g c = rw c.in-WriteFault.is c.write-in-WriteFault.ensures
