@@ -3,9 +3,11 @@
 ghost use Rattle.std.specs.Prelude.{◌≡◌, ◌↔◌, ◌+◌, is_some, ℕ, ◌<◌, [], ◌∷◌, length, Ok, IfOk, IfSome, IfNone, None, true, false};
 ghost use Rattle.hist_model.specs.Files.{files};
 ghost use Rattle.hist_model.specs.Legal.{started, Finished, tree};
+ghost use Rattle.hist_model.specs.Memory.{group_named};
+ghost use Rattle.hist_model.specs.Natives.{base_of};
 ghost use Rattle.hist_model.specs.Steps.{mem, request_of};
 ghost use Rattle.hist_model.specs.Calls.{count, named};
-ghost use Rattle.hist_model.specs.Tasks.{holder, is_made};
+ghost use Rattle.hist_model.specs.Tasks.{ended, holder, is_made};
 ghost use Rattle.hist_model.specs.Trees.{ordinal_of};
 ghost use Rattle.hist_model.specs.declared.event.What.TheVariants.{Spawn};
 ghost use Rattle.hist_model.specs.declared.event.SpawnKind.TheVariants.{New};
@@ -132,6 +134,19 @@ impl Kernel {
         ensures { IsKernel self.now → (files self.now.script (past self.now)).base worker ≡ ordinal_of result }
     {
         self.resources.workers.base(worker)
+    }
+
+    /// The directory to which a descriptor of a task leads, or the container's root for AT_FDCWD. None where it leads to none, and of a
+    /// task that has ended.
+    pub fn directory(&self, task: u32, dirfd: i32) -> Option<NodeRef>
+        requires { IsKernel self.now }
+        ensures { (g : ℕ) → task < tasks_made (past self.now) → ended (past self.now) (task_name_of (past self.now) task) ≡ false → group_named (past self.now) (task_name_of (past self.now) task) ≡ Some g → ordinal_of result ≡ base_of self.now.script (files self.now.script (past self.now)) g dirfd }
+    {
+        self.has_few_events();
+        if self.tasks.has_ended(task) {
+            return None;
+        }
+        self.resources.base_in(self.tasks.group(task), dirfd)
     }
 
     /// The name of the task of an ordinal; empty where no task has it.
