@@ -1,7 +1,7 @@
 -- What is read of containers, which of their ranges overlap, and how a pod ends.
 -- By cases on the status, and by induction on lists of pairs of files.
 use Rattle.std.proofs.Common.{◌≡◌, ℕ, ◌+◌, ◌*◌, ◌<◌, ◌≤◌, true, false, List, [], ◌∷◌, ◌++◌, length, take, drop, get_or, Result, Ok, Err, inl, inr, refl, sym, subst, ◌∙◌, ap, ap₂, append-nil, append_assoc, arith, length-append}
-use Rattle.std.specs.Prelude.{None, String, ◌-◌, ◌&&◌, ◌%◌, ◌==◌, nat_le}
+use Rattle.std.specs.Prelude.{String, ◌-◌, ◌&&◌, ◌%◌, ◌==◌, nat_le}
 use Rattle.std.specs.List.{AllZip}
 use Rattle.std.specs.String.{string_bytes}
 use Rattle.std.specs.declared.alloc.Global.{Global}

@@ -2,7 +2,6 @@
 -- By what is told of the calls, since no reading changes files, and by cases on the status.
 use Rattle.std.proofs.Common.{◌≡◌, ℕ, List, inl, inr, refl}
 use Rattle.std.specs.Prelude.{Result, Ok, Err}
-use Rattle.call_lines.specs.declared.error.CallsError.{CallsError}
 use Rattle.hist_model.specs.declared.policy.Policy.{Policy}
 use Rattle.io_edge.specs.FileState.{FileState, SameFiles}
 use Rattle.io_edge.specs.SinkState.{SinkState}
@@ -25,10 +24,6 @@ explained_ends P bytes text old new (Ok u) is p = ((text, is, p.0), p.1)
 explained_ends P bytes text old new (Err WriteFault) is p = (p.0, (text, is, p.1))
 explained_ends P bytes text old new (Err NoMemory) is p = inr (text, is, p)
 explained_ends P bytes text old new (Err status) is p = absurd p
-
--- they are refused
-pub refused_ends : (P : Policy) (bytes : List ℕ) (error : CallsError) (sink : SinkState) → explanation P.rules bytes ≡ Err error → BytesExplainEnds P bytes sink sink (Refused (BadCalls error))
-refused_ends P bytes error sink is = (is, λ t. refl)
 
 -- ---- The two files
 

@@ -13,7 +13,7 @@ use Rattle.policy_reader.specs.declared.error.PolicyError.{PolicyError}
 use Rattle.script_reader.specs.Scripts.{script as script_of, script_file, script_in}
 use Rattle.script_reader.specs.declared.file.ScriptFile.{ScriptFile as ScriptFileValue}
 use Rattle.script_reader.specs.declared.error.ScriptError.{ScriptError}
-use Rattle.broker_app.specs.Inputs.{CallsAre, ClaimsAre, HasBytes, PolicyIs, ReadsAs, ReportIs, ScriptFileIs, ScriptHas, ScriptIs, calls_limit, claims_limit, policy_limit, report_limit, script_limit}
+use Rattle.broker_app.specs.Inputs.{CallsAre, ClaimsAre, HasBytes, PolicyIs, ReadsAs, ReportIs, ScriptFileIs, ScriptIs, calls_limit, claims_limit, policy_limit, report_limit, script_limit}
 use Rattle.broker_app.specs.Refusals.{CallsRefused, CannotRead, ClaimsRefused, FileRefused, InputRefused, NewPolicyRefused, PolicyRefused, ReportRefused, ScriptRefused}
 use Rattle.broker_app.specs.declared.status.InputFile.TheVariants.{Policy as PolicyFile, Script as ScriptFile, Report as ReportFile, Calls as CallsFile}
 use Rattle.broker_app.specs.declared.status.InputFile.TheVariants.{Claims as ClaimsFile, NewPolicy as NewPolicyFile}
@@ -81,9 +81,6 @@ alone (Some bytes) reading (within, is) = (within, ap script_in is)
 pub script_alone : (files : FileState) (name : List ℕ) (F : ScriptFileValue) → ScriptFileIs files name (Ok F) → ScriptIs files name (Ok F.script)
 script_alone files name F h = λ t. alone (files.bytes name) (Ok F) (h t)
 
-pub script_refused : (files : FileState) (name : List ℕ) (error : ScriptError) → ScriptFileIs files name (Err error) → ScriptIs files name (Err error)
-script_refused files name error h = λ t. alone (files.bytes name) (Err error) (h t)
-
 -- ---- Files of which others were read before
 
 module _ (files mid after : FileState) (name : List ℕ) (same : SameFiles files mid) where
@@ -92,12 +89,6 @@ module _ (files mid after : FileState) (name : List ℕ) (same : SameFiles files
 
   pub script_is_before : (reading : Result Script ScriptError) → ScriptIs mid name reading → ScriptIs files name reading
   script_is_before reading h = λ t. subst (λ f. ReadsAs script_of script_limit f reading) bytes_before (h (same.tells ∙ t))
-
-  pub file_is_before : (reading : Result ScriptFileValue ScriptError) → ScriptFileIs mid name reading → ScriptFileIs files name reading
-  file_is_before reading h = λ t. subst (λ f. ReadsAs script_file script_limit f reading) bytes_before (h (same.tells ∙ t))
-
-  pub script_has_before : (bytes : List ℕ) → ScriptHas mid name bytes → ScriptHas files name bytes
-  script_has_before bytes h = λ t. subst (λ f. HasBytes script_limit f bytes) bytes_before (h (same.tells ∙ t))
 
   pub policy_is_before : (reading : Result Policy PolicyError) → PolicyIs mid name reading → PolicyIs files name reading
   policy_is_before reading h = λ t. subst (λ f. ReadsAs policy_of policy_limit f reading) bytes_before (h (same.tells ∙ t))

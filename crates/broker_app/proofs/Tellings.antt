@@ -1,7 +1,7 @@
 -- How a word ends that tells something of policies.
 -- By cases on the status and the ending, and since no reading changes files.
 use Rattle.std.proofs.Common.{◌≡◌, ℕ, List, inl, inr, refl, sym, ap, subst}
-use Rattle.std.specs.Prelude.{Result, Ok, Err}
+use Rattle.std.specs.Prelude.{Ok, Err}
 use Rattle.hist_model.specs.declared.policy.Policy.{Policy}
 use Rattle.io_edge.specs.FileState.{FileState, SameFiles}
 use Rattle.io_edge.specs.SinkState.{SinkState}

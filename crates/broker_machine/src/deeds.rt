@@ -12,7 +12,7 @@ ghost use Rattle.hist_model.specs.declared.event.Event.{Event};
 ghost use Rattle.hist_model.specs.declared.event.What.{What};
 ghost use Rattle.hist_model.specs.declared.policy.Cap.{Cap as CapValue};
 ghost use Rattle.hist_model.specs.declared.policy.Policy.{Policy as PolicyValue};
-ghost use Rattle.model_kernel.specs.Kernels.{DoesDeed, IsKernel, past, system};
+ghost use Rattle.model_kernel.specs.Kernels.{DoesDeed, IsKernel, past};
 ghost use Rattle.model_kernel.specs.Ready.{IsSame};
 ghost use Rattle.broker_machine.specs.Workers.{Allows, IsAllowed, KeepsOn, TriesDeed, TriesStep, is_step};
 

@@ -1,17 +1,13 @@
 -- What a task does that waits in no listed call.
 -- By the order of its steps: a native call that it owes, a signal that is due, and the step of its next instruction.
-use Rattle.std.proofs.Common.{◌≡◌, ℕ, Bool, true, false, ◌||◌, not, Option, Some, None, length, refl, ap, ◌∙◌}
+use Rattle.std.proofs.Common.{◌≡◌, ℕ, Bool, true, false, ◌||◌, not, Option, Some, None, refl, ap, ◌∙◌}
 use Rattle.std.specs.Prelude.{is_some}
 use Rattle.hist_model.specs.Kinds.{skips}
-use Rattle.hist_model.specs.Look.{oldest}
 use Rattle.hist_model.specs.Signals.{call_of}
-use Rattle.hist_model.specs.Steps.{deliver_or, instr_step, is_child, is_ended_child, living_step, owes_native, wait_step}
-use Rattle.hist_model.specs.declared.script.Instr.{Instr}
-use Rattle.hist_model.specs.declared.script.Instr.TheVariants as instr
+use Rattle.hist_model.specs.Steps.{deliver_or, living_step, owes_native}
 use Rattle.tasks.proofs.Told.{steps-living}
 use Rattle.tasks.proofs.Named.{name-made}
 use Rattle.model_kernel.proofs.Words.{due_step, Kernel, MayStep, named, Native, past, signal_due, system}
-use Rattle.model_kernel.specs.Ready.{is_wait, own_instr, own_step}
 use Rattle.model_kernel.specs.Steps.{IsDeliveredFirst, delivered}
 
 due-outside : (k : Kernel) (o : ℕ) → MayStep k o → call_of (past k) (named k o) ≡ None → due_step k o ≡ living_step (system k) (past k) (named k o) None

@@ -12,7 +12,6 @@ use Rattle.hist_model.specs.declared.event.Actor.{Actor}
 use Rattle.hist_model.specs.declared.event.Actor.TheVariants.{Task, Worker}
 use Rattle.hist_model.specs.declared.event.Event.{Event}
 use Rattle.hist_model.specs.declared.event.What.{What}
-use Rattle.hist_model.specs.declared.history.History.{History}
 use Rattle.step_session.specs.declared.origin.Origin.{Origin}
 use Rattle.hist_model.specs.declared.script.Script.{Script}
 use Rattle.model_kernel.specs.Kernels.{past}
@@ -22,13 +21,10 @@ use Rattle.step_requests.specs.declared.request.StepRequest.{StepRequest}
 use Rattle.step_requests.specs.declared.request.StepRequest.TheVariants as step
 use Rattle.step_session.specs.Answers.{answered, closed_answer, deed_answer, is_closed, open_answer, report_text, script_answer, task_answer, with_step, worker_answer}
 use Rattle.step_session.specs.Asking.{deed_of}
-use Rattle.step_session.specs.Stands.{Answers, IsAnswered, IsInOrder, IsOpen, IsStanding, Stands, StateStands}
-use Rattle.step_session.specs.Texts.{refused_text}
+use Rattle.step_session.specs.Stands.{Answers, IsAnswered, IsOpen, Stands, StateStands}
 use Rattle.step_session.specs.declared.container.Container.{Container}
-use Rattle.step_session.specs.declared.container.State.{State}
-use Rattle.step_session.specs.declared.container.State.TheVariants.{Open, Closed}
+use Rattle.step_session.specs.declared.container.State.TheVariants.{Open}
 use Rattle.step_session.specs.declared.refusal.Refusal.{Refusal}
-use Rattle.step_session.specs.declared.refusal.Refusal.TheVariants as refusal
 use Rattle.step_session.proofs.Unclosed.{deed_unclosed, task_unclosed}
 
 pub on_ok : {T E X Y : Type 0} (r : Result T E) → (X → Y) → OnOk r X → OnOk r Y
@@ -112,18 +108,3 @@ answered_open P r c k new before after is keeps answers S K stands =
     } in
     told P r S K (open_answer P S K r).0 (record { state = Open new }) before after (open_answer P S K r).1 (open-is P S K r here.open_still) kept
     (answers.line ∙ ap (λ (a : List Event × List ℕ). before ++ a.1) same)
-
--- what is asked of a closed container is refused
-pub answered_closed : (P : Origin) (r : StepRequest) (c : Container) (h : History) (before after : List ℕ) → c.state ≡ Closed h → ((K : List Event) → closed_answer P K r ≡ (K, refused_text refusal.Closed))
-    → after ≡ before ++ refused_text refusal.Closed → IsAnswered P r c before after c
-answered_closed P r c h before after is refused added S K stands =
-    let closed : is_closed K ≡ true = (subst (StateStands S K) is stands).1 in
-    told P r S K K c before after (refused_text refusal.Closed) (closed-is P S K r closed ∙ refused K) stands added
-
--- a container that stands for a history has its tables in order
-state_in_order : (S : Script) (K : List Event) (s : State) → StateStands S K s → IsInOrder s
-state_in_order S K (Open k) stands = stands.kernel
-state_in_order S K (Closed h) stands = tt
-
-pub in_order : (c : Container) → IsStanding c → IsInOrder c.state
-in_order c (S, (K, stands)) = state_in_order S K c.state stands

@@ -1,7 +1,6 @@
 //! Who is able to step.
 
 ghost use Rattle.std.specs.Prelude.{◌≡◌, ◌++◌, OnOk};
-ghost use Rattle.hist_model.specs.Look.{Name};
 ghost use Rattle.model_kernel.specs.Kernels.{IsKernel, past};
 ghost use Rattle.step_session.specs.Answers.{able_tasks, able_text};
 ghost use Rattle.step_session.specs.Texts.{able_name, able_recv};

@@ -1,5 +1,4 @@
 -- What is told of the claims was printed, or a part of it; without memory nothing is.
-use Rattle.std.proofs.Common.{inl, refl}
 use Rattle.broker_app.proofs.Tellings.{claims_told}
 use Rattle.broker_app.specs.Answers.{status_of}
 use Rattle.broker_app.proofs.telling.check_claims.Goals as goal
