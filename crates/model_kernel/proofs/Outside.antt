@@ -8,6 +8,7 @@ use Rattle.hist_model.specs.Steps.{deliver_or, living_step, owes_native}
 use Rattle.tasks.proofs.Told.{steps-living}
 use Rattle.tasks.proofs.Named.{name-made}
 use Rattle.model_kernel.proofs.Words.{due_step, Kernel, MayStep, named, Native, past, signal_due, system}
+use Rattle.model_kernel.specs.Ready.{own_step}
 use Rattle.model_kernel.specs.Steps.{IsDeliveredFirst, delivered}
 
 due-outside : (k : Kernel) (o : ℕ) → MayStep k o → call_of (past k) (named k o) ≡ None → due_step k o ≡ living_step (system k) (past k) (named k o) None
