@@ -1,0 +1,9 @@
+pub mod Best
+pub mod Common
+pub mod Fitted
+pub mod Joined
+pub mod Known
+pub mod Laid
+pub mod Planned
+pub mod Quiet
+pub mod Written
