@@ -37,7 +37,7 @@ one_so least r x s = by_worth (nat_le (rank (worth_of least)) (rank r.worth)) re
     by_worth true q = rw (q, or_none) refl
     by_worth false q = rw q refl
 
-reversed : (r : SeatRead) (later : List SeatRead) → reverse (r ∷ later) ≡ reverse later ++ r ∷ []
+pub reversed : (r : SeatRead) (later : List SeatRead) → reverse (r ∷ later) ≡ reverse later ++ r ∷ []
 reversed r later = reverse_onto later r []
 
 laid_is : (least : Worth) (reads : List SeatRead) (x : ℕ) (s : Seen) → laid least reads x s ≡ or_seen (newest_at (worth_so least reads) x) s

@@ -1,5 +1,6 @@
+pub mod Answered
 pub mod Best
-pub mod Common
+pub mod Choosing
 pub mod Fitted
 pub mod Joined
 pub mod Known

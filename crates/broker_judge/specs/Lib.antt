@@ -1,6 +1,6 @@
-pub mod Common
 pub mod Called
 pub mod Copied
 pub mod Reads
+pub mod Registers
 pub mod Said
 pub mod Texts

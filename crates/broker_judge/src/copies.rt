@@ -18,7 +18,7 @@ use sys_abi::errno::Errno;
 use sys_abi::memory::NoMemory;
 
 /// The most bytes of a value.
-const MOST_BYTES: u64 = 4096;
+pub(crate) const MOST_BYTES: u64 = 4096;
 
 /// The copy of a call's arguments that reads make.
 #[derive(Debug, Drop)]

@@ -1,14 +1,19 @@
-//! Judges a broker by a history of the kernel: which clause it breaks first, at which event.
+//! What a judge of brokers finds out of one event of a history of the kernel.
 //!
-//! Here stand the decisions that an event's judgement rests on: which copies a seat's reads make of a call's arguments, how far texts
-//! rest on these reads, whether an effect asks for what its call asks for, whether a rule grants just it, and what a policy says of a
-//! call by its copies, or whatever its texts are. The definitions stand in `broker_verdict`. The pass over a history stands above.
+//! Which copies a seat's reads make of a call's arguments (`copies`), how far texts rest on these reads (`texts`), whether an effect asks
+//! for what its call asks for, and a rule grants just it (`granting`), and what a policy says of an answer (`said`).
+//!
+//! This layer keeps no history. It is told the call that a seat has in hand, the seat's reads, and how often effects of each rule were
+//! done, and its contracts hold, by the definitions of `broker_verdict`, for every history in which these are so. Below stand that
+//! crate, and those by which a worker decides: `policy_eval`, `arg_capture`, `emu_request` and `emu_sysinfo`. The pass over a history
+//! stands above.
 #![tactic(auto)]
 
 pub mod called;
 pub mod copies;
 pub mod effects;
 pub mod granting;
+pub mod laws;
 pub mod reads;
 pub mod registers;
 pub mod said;

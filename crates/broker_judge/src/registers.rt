@@ -4,7 +4,7 @@ ghost use Rattle.std.specs.Prelude.{◌≡◌, ◌&&◌, ◌||◌};
 ghost use Rattle.std.specs.List.{list_all, list_any};
 ghost use Rattle.broker_verdict.specs.Choices.{by_registers_from, is_of_texts, looks_at_texts, may_fit, says_alike};
 ghost use Rattle.hist_model.specs.Decisions.{meets};
-ghost use Rattle.broker_judge.specs.Common.{joined, led};
+ghost use Rattle.broker_judge.specs.Registers.{joined, led};
 
 use hist_model::policy::{Cond, Policy, Rule, Verdict};
 use hist_model::request::Request;
@@ -22,7 +22,7 @@ enum Said {
 
 /// The place of the last rule that may decide the request whatever its texts are, and its verdict, where all that may decide it
 /// say the same. The request's texts are not looked at.
-#[tactic(auto, using(crate::proofs::Common::decides_here, crate::proofs::Common::asks_on, crate::proofs::Common::goes_on, crate::proofs::Common::past))]
+#[tactic(auto, using(crate::proofs::Choosing::decides_here, crate::proofs::Choosing::asks_on, crate::proofs::Choosing::goes_on, crate::proofs::Choosing::past))]
 pub fn by_registers(policy: &Policy, request: &Request) -> Option<(usize, Verdict)>
     ensures { result ≡ by_registers_from 0 policy.now.rules request.now }
 {

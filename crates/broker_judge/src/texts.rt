@@ -11,14 +11,12 @@ ghost use Rattle.broker_judge.specs.Copied.{worth_so};
 ghost use Rattle.broker_judge.specs.Reads.{worth_of};
 ghost use Rattle.broker_judge.specs.Texts.{better};
 
+use crate::copies::MOST_BYTES;
 use crate::reads::{SeatRead, Seen};
 use arg_capture::{Part, Plan};
 use hist_model::text::Text;
 use std::alloc::Global;
 use sys_abi::memory::NoMemory;
-
-/// The most bytes of a value.
-const MOST_BYTES: u64 = 4096;
 
 /// The rank of reads that can be relied on in full.
 pub const FULL_RANK: u8 = 4;

@@ -1,5 +1,5 @@
 use Rattle.std.proofs.Common.{◌≡◌, drop}
-use Rattle.broker_judge.specs.Common.{led}
+use Rattle.broker_judge.specs.Registers.{led}
 use Rattle.broker_verdict.specs.Choices.{by_registers_from}
 use Rattle.broker_judge.proofs.registers.by_registers.Given as goal
 

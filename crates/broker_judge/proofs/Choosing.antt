@@ -8,7 +8,7 @@ use Rattle.hist_model.specs.declared.policy.Rule.{Rule}
 use Rattle.hist_model.specs.declared.policy.Verdict.{Verdict}
 use Rattle.hist_model.specs.declared.policy.Verdict.TheVariants.{Pass}
 use Rattle.hist_model.specs.declared.request.Request.{Request}
-use Rattle.broker_judge.specs.Common.{joined, led}
+use Rattle.broker_judge.specs.Registers.{joined, led}
 use Rattle.broker_judge.specs.declared.registers.Said.{Said}
 use Rattle.broker_judge.specs.declared.registers.Said.TheVariants.{Alike, Nothing, Unlike}
 use Rattle.broker_verdict.specs.Choices.{by_registers_from, looks_at_texts, may_fit, says_alike, where_alike}
