@@ -6,7 +6,8 @@ ghost use Rattle.arg_capture.specs.Plans.{IsSound};
 ghost use Rattle.hist_model.specs.Copies.{Complete, Progress, further, plan, progress, wanted};
 ghost use Rattle.hist_model.specs.declared.copy.Part.{Part as PartValue};
 ghost use Rattle.broker_verdict.specs.SeatCopies as copies;
-ghost use Rattle.broker_judge.specs.Copied.{Comes, HasPieces, IsAnswered, IsSo, seen_at, told_by, told_so, with_more, with_read, worth_so, WantsSome};
+ghost use Rattle.broker_judge.specs.Copied.{Comes, HasPieces, IsAnswered, IsSo, WantsSome};
+ghost use Rattle.broker_judge.specs.Copied.{seen_at, told_by, told_so, with_more, with_read, worth_so};
 ghost use Rattle.broker_judge.specs.Reads.{seen_of};
 
 use crate::reads::{SeatRead, Seen, Worth};
