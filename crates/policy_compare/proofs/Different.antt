@@ -7,6 +7,7 @@ use Rattle.std.proofs.lemmas.Bool.{and_parts, both_ways, eq-eqb, eqb-true}
 use Rattle.std.proofs.lemmas.List.Elements.{All-contains}
 use Rattle.hist_model.specs.Decisions.{decide}
 use Rattle.hist_model.specs.declared.policy.Rule.{Rule}
+use Rattle.hist_model.specs.declared.script.FilterLine.{FilterLine}
 use Rattle.policy_classes.specs.declared.ending.Ending.TheVariants.{Otherwise}
 use Rattle.policy_classes.specs.declared.found.Class.{Class}
 use Rattle.policy_classes.specs.Classes.{HasWitness}
@@ -65,17 +66,17 @@ otherwise_means (line ∷ lines) whole h = tt
 
 -- ---- equal policies
 
-module _ (old new : List Rule) (classes : List Class) (right : All (HasWitness old new) classes) (equal : AreEqual old new) where
+module _ (old new : List Rule) (filters : Option (List FilterLine)) (classes : List Class) (right : All (HasWitness old new) classes) (equal : AreEqual old new) where
   alike_all : (c : Class) → HasWitness old new c → is_alike old new c ≡ true
   alike_all c h =
       let e : answer_of (old_rule old new c) ≡ answer_of (new_rule old new c) =
       ap (λ n. answer_of (slice_get old n)) h.1 ∙ equal.answers c.witness h.0 ∙ ap (λ n. answer_of (slice_get new n)) (sym h.2) in
       subst (λ b. is_same (answer_of (old_rule old new c)) b ≡ true) e (same_itself (answer_of (old_rule old new c)))
 
-  no_change : IsSomething (class_lines old new classes) → ⊥
-  no_change h = by (some_made (change_lines old new) classes h)
+  no_change : IsSomething (class_lines old new filters classes) → ⊥
+  no_change h = by (some_made (change_lines old new filters) classes h)
     where
-      by : Any (λ c. IsSomething (change_lines old new c)) classes → ⊥
+      by : Any (λ c. IsSomething (change_lines old new filters c)) classes → ⊥
       by (k, c, l, e, s) =
           both_ways (is_alike old new c) (line_told (is_alike old new c) _ s) (alike_all c (All-contains (HasWitness old new) classes c right (k, l, e)))
 
@@ -86,7 +87,7 @@ module _ (old new : List Rule) (classes : List Class) (right : All (HasWitness o
 
   -- a counted class beside the first one of its old rule
   no_apart : (d : Class) → HasWitness old new d → is_counted old new d ≡ true → (o : Option Class) → first_of_old old new classes d.old_place ≡ o
-      → IsSomething (apart_lines o d) → ⊥
+      → IsSomething (apart_lines filters o d) → ⊥
   no_apart d w counted None e s = absurd s
   no_apart d w counted (Some f) e s = by (of_found (λ c. (c.old_place == d.old_place) && is_counted old new c) classes f e)
     where
@@ -101,7 +102,7 @@ module _ (old new : List Rule) (classes : List Class) (right : All (HasWitness o
 
   -- and beside the first one of its new rule
   no_together : (d : Class) → HasWitness old new d → is_counted old new d ≡ true → (o : Option Class) → first_of_new old new classes d.new_place ≡ o
-      → IsSomething (together_lines o d) → ⊥
+      → IsSomething (together_lines filters o d) → ⊥
   no_together d w counted None e s = absurd s
   no_together d w counted (Some f) e s = by (of_found (λ c. (c.new_place == d.new_place) && is_counted old new c) classes f e)
     where
@@ -114,32 +115,32 @@ module _ (old new : List Rule) (classes : List Class) (right : All (HasWitness o
           both_ways (f.old_place == d.old_place) (line_told (f.old_place == d.old_place) _ s)
           (eq-eqb f.old_place d.old_place (v.1 ∙ one ∙ sym w.1))
 
-  no_count : IsSomething (count_lines old new classes) → ⊥
-  no_count h = by (some_made (share_lines old new classes) classes h)
+  no_count : IsSomething (count_lines old new filters classes) → ⊥
+  no_count h = by (some_made (share_lines old new filters classes) classes h)
     where
-      by : Any (λ d. IsSomething (share_lines old new classes d)) classes → ⊥
-      by (k, d, l, e, s) = of_two (some_part (apart_lines (first_of_old old new classes d.old_place) d) (together_lines (first_of_new old new classes d.new_place) d) told.1)
+      by : Any (λ d. IsSomething (share_lines old new filters classes d)) classes → ⊥
+      by (k, d, l, e, s) = of_two (some_part (apart_lines filters (first_of_old old new classes d.old_place) d) (together_lines filters (first_of_new old new classes d.new_place) d) told.1)
         where
           told : (is_counted old new d ≡ true)
-              × IsSomething (apart_lines (first_of_old old new classes d.old_place) d ++ together_lines (first_of_new old new classes d.new_place) d)
+              × IsSomething (apart_lines filters (first_of_old old new classes d.old_place) d ++ together_lines filters (first_of_new old new classes d.new_place) d)
           told = lines_told (is_counted old new d) _ s
 
           w : HasWitness old new d
           w = All-contains (HasWitness old new) classes d right (k, l, e)
 
-          of_two : IsSomething (apart_lines (first_of_old old new classes d.old_place) d) ⊎ IsSomething (together_lines (first_of_new old new classes d.new_place) d) → ⊥
+          of_two : IsSomething (apart_lines filters (first_of_old old new classes d.old_place) d) ⊎ IsSomething (together_lines filters (first_of_new old new classes d.new_place) d) → ⊥
           of_two (inl a) = no_apart d w told.0 (first_of_old old new classes d.old_place) refl a
           of_two (inr a) = no_together d w told.0 (first_of_new old new classes d.new_place) refl a
 
-  nothing : IsSomething (all_lines old new classes) → ⊥
-  nothing h = by (some_part (class_lines old new classes) (count_lines old new classes) h)
+  nothing : IsSomething (all_lines old new filters classes) → ⊥
+  nothing h = by (some_part (class_lines old new filters classes) (count_lines old new filters classes) h)
     where
-      by : IsSomething (class_lines old new classes) ⊎ IsSomething (count_lines old new classes) → ⊥
+      by : IsSomething (class_lines old new filters classes) ⊎ IsSomething (count_lines old new filters classes) → ⊥
       by (inl a) = no_change a
       by (inr a) = no_count a
 
 -- policies whose comparison ends otherwise aren't equal
-pub ends_otherwise : (old new : List Rule) (classes : List Class) (whole : Bool) → ending_of (all_lines old new classes) whole ≡ Otherwise
+pub ends_otherwise : (old new : List Rule) (filters : Option (List FilterLine)) (classes : List Class) (whole : Bool) → ending_of (all_lines old new filters classes) whole ≡ Otherwise
     → All (HasWitness old new) classes → AreEqual old new → ⊥
-ends_otherwise old new classes whole h right equal =
-    nothing old new classes right equal (otherwise_means (all_lines old new classes) whole h)
+ends_otherwise old new filters classes whole h right equal =
+    nothing old new filters classes right equal (otherwise_means (all_lines old new filters classes) whole h)

@@ -8,6 +8,7 @@ use Rattle.std.proofs.lemmas.List.Elements.{All-cons, All-contains, All-nil, All
 use Rattle.hist_model.specs.Decisions.{decide}
 use Rattle.hist_model.specs.declared.policy.Rule.{Rule}
 use Rattle.hist_model.specs.declared.request.Request.{Request}
+use Rattle.hist_model.specs.declared.script.FilterLine.{FilterLine}
 use Rattle.policy_classes.specs.declared.ending.Ending.TheVariants.{Alike}
 use Rattle.policy_classes.specs.declared.found.Class.{Class}
 use Rattle.policy_classes.specs.Asked.{IsCall}
@@ -57,7 +58,7 @@ no_lines false lines e h = cc
 
 -- ---- classes of which nothing is told
 
-module _ (old new : List Rule) (classes : List Class) (none : all_lines old new classes ≡ [])
+module _ (old new : List Rule) (filters : Option (List FilterLine)) (classes : List Class) (none : all_lines old new filters classes ≡ [])
     (there : (q : Request) → IsCall q → Any (Holds old new q) classes) where
   -- a class of a call
   record ClassOf (q : Request) : Type 0 where
@@ -65,13 +66,13 @@ module _ (old new : List Rule) (classes : List Class) (none : all_lines old new 
     known : Contains classes one
     holds : Holds old new q one
     alike : is_alike old new one ≡ true
-    shares : share_lines old new classes one ≡ []
+    shares : share_lines old new filters classes one ≡ []
 
-  unchanged : All (λ c. change_lines old new c ≡ []) classes
-  unchanged = none_made (change_lines old new) classes (both_empty (class_lines old new classes) (count_lines old new classes) none).0
+  unchanged : All (λ c. change_lines old new filters c ≡ []) classes
+  unchanged = none_made (change_lines old new filters) classes (both_empty (class_lines old new filters classes) (count_lines old new filters classes) none).0
 
-  unshared : All (λ c. share_lines old new classes c ≡ []) classes
-  unshared = none_made (share_lines old new classes) classes (both_empty (class_lines old new classes) (count_lines old new classes) none).1
+  unshared : All (λ c. share_lines old new filters classes c ≡ []) classes
+  unshared = none_made (share_lines old new filters classes) classes (both_empty (class_lines old new filters classes) (count_lines old new filters classes) none).1
 
   class_of : (q : Request) → IsCall q → ClassOf q
   class_of q call = of (there q call)
@@ -81,8 +82,8 @@ module _ (old new : List Rule) (classes : List Class) (none : all_lines old new 
         one = c;
         known = (k, l, e);
         holds = h;
-        alike = no_line (is_alike old new c) _ (All-contains (λ d. change_lines old new d ≡ []) classes c unchanged (k, l, e));
-        shares = All-contains (λ d. share_lines old new classes d ≡ []) classes c unshared (k, l, e);
+        alike = no_line (is_alike old new c) _ (All-contains (λ d. change_lines old new filters d ≡ []) classes c unchanged (k, l, e));
+        shares = All-contains (λ d. share_lines old new filters classes d ≡ []) classes c unshared (k, l, e);
       }
 
   answered : (q : Request) → IsCall q → answer_to old q ≡ answer_to new q
@@ -100,9 +101,9 @@ module _ (old new : List Rule) (classes : List Class) (none : all_lines old new 
 
   -- nothing is told of it beside the first class of its old rule, nor of its new one
   untold : (q : Request) (k : ClassOf q) → IsLimited old q
-      → (apart_lines (first_of_old old new classes k.one.old_place) k.one ≡ []) × (together_lines (first_of_new old new classes k.one.new_place) k.one ≡ [])
+      → (apart_lines filters (first_of_old old new classes k.one.old_place) k.one ≡ []) × (together_lines filters (first_of_new old new classes k.one.new_place) k.one ≡ [])
   untold q k limited =
-      both_empty (apart_lines (first_of_old old new classes k.one.old_place) k.one) (together_lines (first_of_new old new classes k.one.new_place) k.one)
+      both_empty (apart_lines filters (first_of_old old new classes k.one.old_place) k.one) (together_lines filters (first_of_new old new classes k.one.new_place) k.one)
       (no_lines (is_counted old new k.one) _ (counted q k limited) k.shares)
 
   first_old : (q : Request) (k : ClassOf q) → IsLimited old q → (f : Class) × (first_of_old old new classes k.one.old_place ≡ Some f)
@@ -118,11 +119,11 @@ module _ (old new : List Rule) (classes : List Class) (none : all_lines old new 
   -- the first class of an old rule is of the same new one
   new_of_first : (q : Request) (k : ClassOf q) → IsLimited old q → (f : Class) → first_of_old old new classes k.one.old_place ≡ Some f → f.new_place ≡ k.one.new_place
   new_of_first q k limited f e =
-      eqb-true f.new_place k.one.new_place (no_line (f.new_place == k.one.new_place) _ (subst (λ o. apart_lines o k.one ≡ []) e (untold q k limited).0))
+      eqb-true f.new_place k.one.new_place (no_line (f.new_place == k.one.new_place) _ (subst (λ o. apart_lines filters o k.one ≡ []) e (untold q k limited).0))
 
   old_of_first : (q : Request) (k : ClassOf q) → IsLimited old q → (f : Class) → first_of_new old new classes k.one.new_place ≡ Some f → f.old_place ≡ k.one.old_place
   old_of_first q k limited f e =
-      eqb-true f.old_place k.one.old_place (no_line (f.old_place == k.one.old_place) _ (subst (λ o. together_lines o k.one ≡ []) e (untold q k limited).1))
+      eqb-true f.old_place k.one.old_place (no_line (f.old_place == k.one.old_place) _ (subst (λ o. together_lines filters o k.one ≡ []) e (untold q k limited).1))
 
   same_new : (p q : Request) (j : ClassOf p) (k : ClassOf q) → IsLimited old p → IsLimited old q → j.one.old_place ≡ k.one.old_place → j.one.new_place ≡ k.one.new_place
   same_new p q j k a b e = by (first_old p j a)
@@ -150,8 +151,8 @@ module _ (old new : List Rule) (classes : List Class) (none : all_lines old new 
   equal = record { answers = answered; counters = shared }
 
 -- a comparison that ends alike says that the policies are equal
-pub ends_alike : (old new : List Rule) (classes : List Class) (whole : Bool) → ending_of (all_lines old new classes) whole ≡ Alike
+pub ends_alike : (old new : List Rule) (filters : Option (List FilterLine)) (classes : List Class) (whole : Bool) → ending_of (all_lines old new filters classes) whole ≡ Alike
     → (whole ≡ true → (q : Request) → IsCall q → Any (Holds old new q) classes) → AreEqual old new
-ends_alike old new classes whole h there =
-    let means = alike_means (all_lines old new classes) whole h in
-    equal old new classes means.0 (there means.1)
+ends_alike old new filters classes whole h there =
+    let means = alike_means (all_lines old new filters classes) whole h in
+    equal old new filters classes means.0 (there means.1)

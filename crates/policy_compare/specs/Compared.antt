@@ -1,9 +1,10 @@
 -- What a comparison of two policies says of all calls.
-use Rattle.std.specs.Prelude.{◌≡◌, true, Bool, List, is_some, All, Any, slice_get, ◌↔◌}
+use Rattle.std.specs.Prelude.{◌≡◌, true, Bool, List, Option, is_some, All, Any, slice_get, ◌↔◌}
 use Rattle.std.specs.List.Sorted.{IsStrictlySortedBy}
 use Rattle.hist_model.specs.Decisions.{decide}
 use Rattle.hist_model.specs.declared.policy.Rule.{Rule}
 use Rattle.hist_model.specs.declared.request.Request.{Request}
+use Rattle.hist_model.specs.declared.script.FilterLine.{FilterLine}
 use Rattle.policy_classes.specs.declared.ending.Told.{Told}
 use Rattle.policy_classes.specs.declared.found.Class.{Class}
 use Rattle.policy_classes.specs.Asked.{IsCall}
@@ -31,12 +32,12 @@ pub record AreEqual (old new : List Rule) : Type 0 where
 
 -- what is told is told of these classes: each pair of rules once, in the order of their places; the witness of each is a call of it;
 -- and where they are whole, each call is of one of them
-pub record IsTold (old new : List Rule) (told : Told) (classes : List Class) (whole : Bool) : Type 0 where
+pub record IsTold (old new : List Rule) (filters : Option (List FilterLine)) (told : Told) (classes : List Class) (whole : Bool) : Type 0 where
   pub ordered : IsStrictlySortedBy by_places classes
   pub witnesses : All (HasWitness old new) classes
   pub there : whole ≡ true → (q : Request) → IsCall q → Any (Holds old new q) classes
-  pub text : told.text ≡ comparison old new classes whole
-  pub ending : told.ending ≡ ending old new classes whole
+  pub text : told.text ≡ comparison old new filters classes whole
+  pub ending : told.ending ≡ ending old new filters classes whole
 
-abbrev pub IsComparison : List Rule → List Rule → Told → Type 0
-IsComparison old new told = (classes : List Class) × (whole : Bool) × IsTold old new told classes whole
+abbrev pub IsComparison : List Rule → List Rule → Option (List FilterLine) → Told → Type 0
+IsComparison old new filters told = (classes : List Class) × (whole : Bool) × IsTold old new filters told classes whole

@@ -1,4 +1,5 @@
 pub mod Answers
 pub mod Compared
 pub mod Lines
+pub mod Notified
 pub mod Order

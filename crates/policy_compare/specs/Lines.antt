@@ -7,6 +7,7 @@ use Rattle.hist_model.specs.declared.policy.Rule.{Rule}
 use Rattle.hist_model.specs.declared.policy.Verdict.{Verdict}
 use Rattle.hist_model.specs.declared.policy.Verdict.TheVariants.{Grant, Deny, Pass, Inject}
 use Rattle.hist_model.specs.declared.request.Request.{Request}
+use Rattle.hist_model.specs.declared.script.FilterLine.{FilterLine}
 use Rattle.policy_classes.specs.declared.ending.Ending.{Ending}
 use Rattle.policy_classes.specs.declared.ending.Ending.TheVariants.{Alike, Otherwise, Undecided}
 use Rattle.policy_classes.specs.declared.found.Class.{Class}
@@ -15,6 +16,7 @@ use Rattle.policy_explain.specs.Blocks.{place_text}
 use Rattle.policy_compare.specs.declared.answers.Way.{Way}
 use Rattle.policy_compare.specs.declared.answers.Way.TheVariants.{Wider, Narrower, Other}
 use Rattle.policy_compare.specs.Answers.{Answer, answer_of, is_same, way_of}
+use Rattle.policy_compare.specs.Notified.{is_notified}
 
 -- ---- answers
 
@@ -54,11 +56,19 @@ way_text Other = codes "other "
 abbrev pub side_text : List ℕ → List ℕ → Option Rule → List ℕ
 side_text rule_word answer_word rule = rule_word ++ name_text rule ++ answer_word ++ answer_text (answer_of rule)
 
--- a call, and what two rules answer it
-abbrev pub change_text : Option Rule → Option Rule → Request → List ℕ
-change_text old new q =
-    way_text (way_of (answer_of old) (answer_of new)) ++ asked_text q
-    ++ side_text (codes " old-rule=") (codes " old=") old ++ side_text (codes " new-rule=") (codes " new=") new ++ codes "\n"
+-- that calls aren't notified
+abbrev pub notified_text : Bool → List ℕ
+notified_text true = []
+notified_text false = codes " notified=no"
+
+-- two rules and what they answer
+abbrev pub sides_text : Option Rule → Option Rule → List ℕ
+sides_text old new = side_text (codes " old-rule=") (codes " old=") old ++ side_text (codes " new-rule=") (codes " new=") new
+
+-- a call, what two rules answer it, and whether it is notified
+abbrev pub change_text : Option Rule → Option Rule → Request → Bool → List ℕ
+change_text old new q notified =
+    way_text (way_of (answer_of old) (answer_of new)) ++ asked_text q ++ sides_text old new ++ notified_text notified ++ codes "\n"
 
 module _ (old new : List Rule) where
   abbrev pub old_rule : Class → Option Rule
@@ -71,32 +81,41 @@ module _ (old new : List Rule) where
   abbrev pub is_alike : Class → Bool
   is_alike c = is_same (answer_of (old_rule c)) (answer_of (new_rule c))
 
+module _ (old new : List Rule) (filters : Option (List FilterLine)) where
   -- the line of a class
   abbrev pub line_of : Class → List ℕ
-  line_of c = change_text (old_rule c) (new_rule c) c.witness
+  line_of c = change_text (old_rule old new c) (new_rule old new c) c.witness (is_notified filters c.witness)
 
   -- that of one that is answered otherwise
   abbrev pub change_lines : Class → List (List ℕ)
-  change_lines c = if is_alike c then [] else (line_of c ∷ [])
+  change_lines c = if is_alike old new c then [] else (line_of c ∷ [])
 
   abbrev pub class_lines : List Class → List (List ℕ)
   class_lines classes = flat_map change_lines classes
 
 -- ---- classes that are counted otherwise
 
--- calls of both classes are counted together by one policy, and apart by the other
-abbrev pub count_text : Class → Class → List ℕ → List ℕ
-count_text c d how = codes "counts " ++ asked_text c.witness ++ codes " and " ++ asked_text d.witness ++ how ++ codes "\n"
+-- calls of both classes are counted together by one policy, and apart by the other; both calls are notified, or not
+abbrev pub count_text : Class → Class → List ℕ → Bool → List ℕ
+count_text c d how notified =
+    codes "counts " ++ asked_text c.witness ++ codes " and " ++ asked_text d.witness ++ how ++ notified_text notified ++ codes "\n"
 
--- the first class of the same old rule is of another new one
-abbrev pub apart_lines : Option Class → Class → List (List ℕ)
-apart_lines (Some c) d = if c.new_place == d.new_place then [] else (count_text c d (codes " old=together new=apart") ∷ [])
-apart_lines None d = []
+module _ (filters : Option (List FilterLine)) where
+  -- the filters notify the calls of both classes that are shown
+  abbrev pub are_notified : Class → Class → Bool
+  are_notified c d = is_notified filters c.witness && is_notified filters d.witness
 
--- the first class of the same new rule is of another old one
-abbrev pub together_lines : Option Class → Class → List (List ℕ)
-together_lines (Some c) d = if c.old_place == d.old_place then [] else (count_text c d (codes " old=apart new=together") ∷ [])
-together_lines None d = []
+  -- the first class of the same old rule is of another new one
+  abbrev pub apart_lines : Option Class → Class → List (List ℕ)
+  apart_lines (Some c) d =
+      if c.new_place == d.new_place then [] else (count_text c d (codes " old=together new=apart") (are_notified c d) ∷ [])
+  apart_lines None d = []
+
+  -- the first class of the same new rule is of another old one
+  abbrev pub together_lines : Option Class → Class → List (List ℕ)
+  together_lines (Some c) d =
+      if c.old_place == d.old_place then [] else (count_text c d (codes " old=apart new=together") (are_notified c d) ∷ [])
+  together_lines None d = []
 
 module _ (old new : List Rule) where
   -- its calls are answered alike, and it is limited how often: all calls of a rule together
@@ -110,10 +129,14 @@ module _ (old new : List Rule) where
   abbrev pub first_of_new : List Class → ℕ → Option Class
   first_of_new classes place = find (λ c. (c.new_place == place) && is_counted c) classes
 
+module _ (old new : List Rule) (filters : Option (List FilterLine)) where
   -- the lines of a class beside the first ones of its rules
   abbrev pub share_lines : List Class → Class → List (List ℕ)
   share_lines classes d =
-      if is_counted d then (apart_lines (first_of_old classes d.old_place) d ++ together_lines (first_of_new classes d.new_place) d) else []
+      if is_counted old new d
+      then (apart_lines filters (first_of_old old new classes d.old_place) d
+      ++ together_lines filters (first_of_new old new classes d.new_place) d)
+      else []
 
   abbrev pub count_lines : List Class → List (List ℕ)
   count_lines classes = flat_map (share_lines classes) classes
@@ -155,16 +178,16 @@ text_of Alike head lines = codes "equal\n"
 text_of Otherwise head lines = differences head lines
 text_of Undecided head lines = codes "undecided\n"
 
-module _ (old new : List Rule) where
+module _ (old new : List Rule) (filters : Option (List FilterLine)) where
   -- all lines: first the classes that are answered otherwise
   abbrev pub all_lines : List Class → List (List ℕ)
-  all_lines classes = class_lines old new classes ++ count_lines old new classes
+  all_lines classes = class_lines old new filters classes ++ count_lines old new filters classes
 
   abbrev pub ending : List Class → Bool → Ending
   ending classes whole = ending_of (all_lines classes) whole
 
   abbrev pub head : List Class → Bool → List ℕ
-  head classes whole = head_text (length (class_lines old new classes)) (length (count_lines old new classes)) whole
+  head classes whole = head_text (length (class_lines old new filters classes)) (length (count_lines old new filters classes)) whole
 
   abbrev pub comparison : List Class → Bool → List ℕ
   comparison classes whole =

@@ -2,14 +2,16 @@
 
 ghost use Rattle.std.specs.Prelude.{◌≡◌, ◌++◌, IfOk, OnOk};
 ghost use Rattle.std.specs.Option.{option_copied};
-ghost use Rattle.policy_compare.specs.Lines.{apart_lines, count_lines, count_text, first_of_new, first_of_old};
+ghost use Rattle.policy_compare.specs.Lines.{apart_lines, are_notified, count_lines, count_text, first_of_new, first_of_old};
 ghost use Rattle.policy_compare.specs.Lines.{is_counted, share_lines, together_lines};
 
 use crate::answers::times_of;
-use crate::lines::{is_alike, rule_at};
+use crate::lines::{is_alike, push_notified, rule_at};
+use crate::notified::is_notified;
 use audit_log::line::LineBuffer;
 use hist_model::policy::Rule;
-use hist_model::text::Text;
+use hist_model::script::FilterLine;
+use hist_model::text::{Sequence, Text};
 use policy_classes::found::Class;
 use policy_explain::asked::push_asked;
 use std::alloc::Global;
@@ -46,9 +48,22 @@ fn first_of_new<'a>(
     classes.iter().find(|class| class.new_place == place && is_counted(old, new, *class))
 }
 
+/// Whether the filters notify the calls of both classes that are shown.
+fn are_notified(filters: Option<&Sequence<FilterLine>>, first: &Class, second: &Class) -> bool
+    ensures { result ≡ are_notified (option_copied filters.entry) first.now second.now }
+{
+    is_notified(filters, &first.witness) && is_notified(filters, &second.witness)
+}
+
 /// The line of two classes that are counted otherwise.
-fn count_line(alloc: Global, first: &Class, second: &Class, how: &str) -> Result<Text, NoMemory>
-    ensures { IfOk result (λ text. text ≡ count_text first.now second.now how.now) }
+fn count_line(
+    alloc: Global,
+    first: &Class,
+    second: &Class,
+    how: &str,
+    notified: bool,
+) -> Result<Text, NoMemory>
+    ensures { IfOk result (λ text. text ≡ count_text first.now second.now how.now notified) }
 {
     let mut line = LineBuffer::new(alloc);
     line.push("counts ")?;
@@ -56,6 +71,7 @@ fn count_line(alloc: Global, first: &Class, second: &Class, how: &str) -> Result
     line.push(" and ")?;
     push_asked(alloc, &mut line, &second.witness)?;
     line.push(how)?;
+    push_notified(&mut line, notified)?;
     line.push("\n")?;
     Ok(Text::new(line.into_bytes()))
 }
@@ -63,11 +79,12 @@ fn count_line(alloc: Global, first: &Class, second: &Class, how: &str) -> Result
 /// Adds the line of a class that the new policy counts apart from the first one of its old rule.
 fn push_apart(
     alloc: Global,
+    filters: Option<&Sequence<FilterLine>>,
     first: Option<&Class>,
     class: &Class,
     lines: &mut Vec<Text>,
 ) -> Result<(), NoMemory>
-    ensures { OnOk result (lines.new.items ≡ lines.old.items ++ apart_lines (option_copied first.entry) class.now) }
+    ensures { OnOk result (lines.new.items ≡ lines.old.items ++ apart_lines (option_copied filters.entry) (option_copied first.entry) class.now) }
 {
     let Some(first) = first else {
         return Ok(());
@@ -75,18 +92,26 @@ fn push_apart(
     if first.new_place == class.new_place {
         return Ok(());
     }
-    lines.push(count_line(alloc, first, class, " old=together new=apart")?)?;
+    let notified = are_notified(filters, first, class);
+    lines.push(count_line(
+        alloc,
+        first,
+        class,
+        " old=together new=apart",
+        notified,
+    )?)?;
     Ok(())
 }
 
 /// Adds the line of a class that the new policy counts together with the first one of its new rule, and the old one apart.
 fn push_together(
     alloc: Global,
+    filters: Option<&Sequence<FilterLine>>,
     first: Option<&Class>,
     class: &Class,
     lines: &mut Vec<Text>,
 ) -> Result<(), NoMemory>
-    ensures { OnOk result (lines.new.items ≡ lines.old.items ++ together_lines (option_copied first.entry) class.now) }
+    ensures { OnOk result (lines.new.items ≡ lines.old.items ++ together_lines (option_copied filters.entry) (option_copied first.entry) class.now) }
 {
     let Some(first) = first else {
         return Ok(());
@@ -94,7 +119,14 @@ fn push_together(
     if first.old_place == class.old_place {
         return Ok(());
     }
-    lines.push(count_line(alloc, first, class, " old=apart new=together")?)?;
+    let notified = are_notified(filters, first, class);
+    lines.push(count_line(
+        alloc,
+        first,
+        class,
+        " old=apart new=together",
+        notified,
+    )?)?;
     Ok(())
 }
 
@@ -103,19 +135,20 @@ fn push_shares(
     alloc: Global,
     old: &[Rule],
     new: &[Rule],
+    filters: Option<&Sequence<FilterLine>>,
     classes: &[Class],
     class: &Class,
     lines: &mut Vec<Text>,
 ) -> Result<(), NoMemory>
-    ensures { OnOk result (lines.new.items ≡ lines.old.items ++ share_lines old.now new.now classes.now class.now) }
+    ensures { OnOk result (lines.new.items ≡ lines.old.items ++ share_lines old.now new.now (option_copied filters.entry) classes.now class.now) }
 {
     if !is_counted(old, new, class) {
         return Ok(());
     }
     let first = first_of_old(old, new, classes, class.old_place);
-    push_apart(alloc, first, class, lines)?;
+    push_apart(alloc, filters, first, class, lines)?;
     let first = first_of_new(old, new, classes, class.new_place);
-    push_together(alloc, first, class, lines)
+    push_together(alloc, filters, first, class, lines)
 }
 
 /// Adds the lines of the classes that are counted otherwise.
@@ -123,13 +156,14 @@ pub(crate) fn push_counts(
     alloc: Global,
     old: &[Rule],
     new: &[Rule],
+    filters: Option<&Sequence<FilterLine>>,
     classes: &[Class],
     lines: &mut Vec<Text>,
 ) -> Result<(), NoMemory>
-    ensures { OnOk result (lines.new.items ≡ lines.old.items ++ count_lines old.now new.now classes.now) }
+    ensures { OnOk result (lines.new.items ≡ lines.old.items ++ count_lines old.now new.now (option_copied filters.entry) classes.now) }
 {
     for class in classes {
-        push_shares(alloc, old, new, classes, class, lines)?;
+        push_shares(alloc, old, new, filters, classes, class, lines)?;
     }
     Ok(())
 }

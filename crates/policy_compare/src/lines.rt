@@ -6,14 +6,16 @@ ghost use Rattle.std.specs.Option.{option_copied};
 ghost use Rattle.policy_explain.specs.Blocks.{place_text};
 ghost use Rattle.policy_compare.specs.Answers.{answer_of};
 ghost use Rattle.policy_compare.specs.Lines.{answer_text, change_lines, change_text, class_lines, is_alike, line_of, name_text};
-ghost use Rattle.policy_compare.specs.Lines.{shift_text, side_text, times_text, verdict_text, via_text, way_text};
+ghost use Rattle.policy_compare.specs.Lines.{notified_text, shift_text, side_text, sides_text, times_text, verdict_text, via_text, way_text};
 
 use crate::answers::{Way, is_same, shifts, times_of, verdict_of, via_of, way_of};
+use crate::notified::is_notified;
 use audit_log::line::LineBuffer;
 use audit_log::words::push_errno;
 use hist_model::policy::{Rule, Verdict};
 use hist_model::request::Request;
-use hist_model::text::Text;
+use hist_model::script::FilterLine;
+use hist_model::text::{Sequence, Text};
 use policy_classes::found::Class;
 use policy_explain::asked::push_asked;
 use std::alloc::Global;
@@ -151,6 +153,28 @@ fn push_side(
     push_answer(line, rule)
 }
 
+/// Adds two rules and what they answer.
+fn push_sides(
+    line: &mut LineBuffer,
+    old: Option<&Rule>,
+    new: Option<&Rule>,
+) -> Result<(), NoMemory>
+    ensures { OnOk result (line.new ≡ line.old ++ sides_text (option_copied old.entry) (option_copied new.entry)) }
+{
+    push_side(line, " old-rule=", " old=", old)?;
+    push_side(line, " new-rule=", " new=", new)
+}
+
+/// Adds that calls aren't notified.
+pub(crate) fn push_notified(line: &mut LineBuffer, notified: bool) -> Result<(), NoMemory>
+    ensures { OnOk result (line.new ≡ line.old ++ notified_text notified) }
+{
+    if notified {
+        return Ok(());
+    }
+    line.push(" notified=no")
+}
+
 /// Adds the line of a call that two rules answer otherwise.
 fn push_change(
     alloc: Global,
@@ -158,13 +182,14 @@ fn push_change(
     old: Option<&Rule>,
     new: Option<&Rule>,
     witness: &Request,
+    notified: bool,
 ) -> Result<(), NoMemory>
-    ensures { OnOk result (line.new ≡ line.old ++ change_text (option_copied old.entry) (option_copied new.entry) witness.now) }
+    ensures { OnOk result (line.new ≡ line.old ++ change_text (option_copied old.entry) (option_copied new.entry) witness.now notified) }
 {
     line.push(way_word(way_of(old, new)))?;
     push_asked(alloc, line, witness)?;
-    push_side(line, " old-rule=", " old=", old)?;
-    push_side(line, " new-rule=", " new=", new)?;
+    push_sides(line, old, new)?;
+    push_notified(line, notified)?;
     line.push("\n")
 }
 
@@ -176,13 +201,20 @@ pub(crate) fn is_alike(old: &[Rule], new: &[Rule], class: &Class) -> bool
 }
 
 /// The line of a class.
-fn change_line(alloc: Global, old: &[Rule], new: &[Rule], class: &Class) -> Result<Text, NoMemory>
-    ensures { IfOk result (λ text. text ≡ line_of old.now new.now class.now) }
+fn change_line(
+    alloc: Global,
+    old: &[Rule],
+    new: &[Rule],
+    filters: Option<&Sequence<FilterLine>>,
+    class: &Class,
+) -> Result<Text, NoMemory>
+    ensures { IfOk result (λ text. text ≡ line_of old.now new.now (option_copied filters.entry) class.now) }
 {
+    let notified = is_notified(filters, &class.witness);
     let old = rule_at(old, class.old_place);
     let new = rule_at(new, class.new_place);
     let mut line = LineBuffer::new(alloc);
-    push_change(alloc, &mut line, old, new, &class.witness)?;
+    push_change(alloc, &mut line, old, new, &class.witness, notified)?;
     Ok(Text::new(line.into_bytes()))
 }
 
@@ -191,15 +223,16 @@ fn push_changed(
     alloc: Global,
     old: &[Rule],
     new: &[Rule],
+    filters: Option<&Sequence<FilterLine>>,
     class: &Class,
     lines: &mut Vec<Text>,
 ) -> Result<(), NoMemory>
-    ensures { OnOk result (lines.new.items ≡ lines.old.items ++ change_lines old.now new.now class.now) }
+    ensures { OnOk result (lines.new.items ≡ lines.old.items ++ change_lines old.now new.now (option_copied filters.entry) class.now) }
 {
     if is_alike(old, new, class) {
         return Ok(());
     }
-    lines.push(change_line(alloc, old, new, class)?)?;
+    lines.push(change_line(alloc, old, new, filters, class)?)?;
     Ok(())
 }
 
@@ -208,13 +241,14 @@ pub(crate) fn push_changes(
     alloc: Global,
     old: &[Rule],
     new: &[Rule],
+    filters: Option<&Sequence<FilterLine>>,
     classes: &[Class],
     lines: &mut Vec<Text>,
 ) -> Result<(), NoMemory>
-    ensures { OnOk result (lines.new.items ≡ lines.old.items ++ class_lines old.now new.now classes.now) }
+    ensures { OnOk result (lines.new.items ≡ lines.old.items ++ class_lines old.now new.now (option_copied filters.entry) classes.now) }
 {
     for class in classes {
-        push_changed(alloc, old, new, class, lines)?;
+        push_changed(alloc, old, new, filters, class, lines)?;
     }
     Ok(())
 }

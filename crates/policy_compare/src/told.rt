@@ -2,6 +2,7 @@
 
 ghost use Rattle.std.specs.Prelude.{◌≡◌, ◌++◌, IfOk, OnOk, take};
 ghost use Rattle.std.specs.List.{flat_map};
+ghost use Rattle.std.specs.Option.{option_copied};
 ghost use Rattle.policy_compare.specs.Lines.{comparison, differences, end_text, ending, ending_of, head_text, most_lines};
 ghost use Rattle.policy_compare.specs.Lines.{sum_text, text_of, whole_text};
 
@@ -9,7 +10,8 @@ use crate::counts::push_counts;
 use crate::lines::push_changes;
 use audit_log::line::LineBuffer;
 use hist_model::policy::Rule;
-use hist_model::text::Text;
+use hist_model::script::FilterLine;
+use hist_model::text::{Sequence, Text};
 use policy_classes::ending::{Ending, Told};
 use policy_classes::found::Class;
 use std::alloc::Global;
@@ -124,16 +126,17 @@ pub(crate) fn told(
     alloc: Global,
     old: &[Rule],
     new: &[Rule],
+    filters: Option<&Sequence<FilterLine>>,
     classes: &[Class],
     whole: bool,
 ) -> Result<Told, NoMemory>
-    ensures text { IfOk result (λ told. told.text ≡ comparison old.now new.now classes.now whole) }
-    ensures ending { IfOk result (λ told. told.ending ≡ ending old.now new.now classes.now whole) }
+    ensures text { IfOk result (λ told. told.text ≡ comparison old.now new.now (option_copied filters.entry) classes.now whole) }
+    ensures ending { IfOk result (λ told. told.ending ≡ ending old.now new.now (option_copied filters.entry) classes.now whole) }
 {
     let mut lines = Vec::new(alloc);
-    push_changes(alloc, old, new, classes, &mut lines)?;
+    push_changes(alloc, old, new, filters, classes, &mut lines)?;
     let changes = lines.len();
-    push_counts(alloc, old, new, classes, &mut lines)?;
+    push_counts(alloc, old, new, filters, classes, &mut lines)?;
     let counts = lines.len() - changes;
     let mut text = LineBuffer::new(alloc);
     push_text(&mut text, changes, counts, whole, lines.as_slice())?;
