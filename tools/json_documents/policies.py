@@ -31,8 +31,9 @@ ANSWER = Kind(lambda words: read_of(ANSWERS, words), lambda answer: written(ANSW
 HEAD_LINE = re.compile(rf"differ classes=({DIGITS}) counts=({DIGITS}) whole=(yes|no)")
 # (an answer has no blank outside of a text between quotes)
 ANSWER_WORDS = rf"[a-z]+(?:,(?:via={QUOTED}|[^ \"])*)*"
-CHANGE_LINE = re.compile(rf"(wider|narrower|other) (.*) old-rule=(\S+) old=({ANSWER_WORDS}) new-rule=(\S+) new=({ANSWER_WORDS})")
-COUNT_LINE = re.compile(rf"counts (.*) old=({TOGETHER}|{APART}) new=({TOGETHER}|{APART})")
+CHANGE_LINE = re.compile(rf"(wider|narrower|other) (.*) old-rule=(\S+) old=({ANSWER_WORDS}) new-rule=(\S+) new=({ANSWER_WORDS})( notified=no)?")
+COUNT_LINE = re.compile(rf"counts (.*) old=({TOGETHER}|{APART}) new=({TOGETHER}|{APART})( notified=no)?")
+UNNOTIFIED = " notified=no"
 
 
 def known(lines, kind, words, what):
@@ -43,10 +44,19 @@ def known(lines, kind, words, what):
     return found
 
 
+def marked(unnotified):
+    """That the filters don't notify it; nothing where they do, or where there are none."""
+    return {"notified": False} if unnotified else {}
+
+
+def mark_of(document):
+    return "" if document.get("notified", True) else UNNOTIFIED
+
+
 def change_of(lines):
-    way, call, old_rule, old, new_rule, new = lines.take(CHANGE_LINE, "a class of calls that the policies decide otherwise")
+    way, call, old_rule, old, new_rule, new, unnotified = lines.take(CHANGE_LINE, "a class of calls that the policies decide otherwise")
     sides = {name: {"rule": rule, "answer": known(lines, ANSWER, answer, "an answer")} for name, rule, answer in (("old", old_rule, old), ("new", new_rule, new))}
-    return {"way": way, "call": known(lines, CALL, call, "the call"), **sides}
+    return {"way": way, "call": known(lines, CALL, call, "the call"), **sides, **marked(unnotified)}
 
 
 def two_calls(lines, words):
@@ -59,8 +69,8 @@ def two_calls(lines, words):
 
 
 def count_of(lines):
-    words, old, new = lines.take(COUNT_LINE, "two calls that the policies count otherwise")
-    return {"calls": two_calls(lines, words), "old": old, "new": new}
+    words, old, new, unnotified = lines.take(COUNT_LINE, "two calls that the policies count otherwise")
+    return {"calls": two_calls(lines, words), "old": old, "new": new, **marked(unnotified)}
 
 
 def comparison_of(data):
@@ -86,9 +96,9 @@ def comparison_lines(document):
         return
     yield f"differ classes={document['classes']} counts={document['counts']} whole={'yes' if document['whole'] else 'no'}"
     for it in document["changes"]:
-        yield f"{it['way']} {CALL.write(it['call'])}" + "".join(f" {side}-rule={it[side]['rule']} {side}={ANSWER.write(it[side]['answer'])}" for side in ("old", "new"))
+        yield f"{it['way']} {CALL.write(it['call'])}" + "".join(f" {side}-rule={it[side]['rule']} {side}={ANSWER.write(it[side]['answer'])}" for side in ("old", "new")) + mark_of(it)
     for it in document["counted"]:
-        yield f"counts {' and '.join(map(CALL.write, it['calls']))} old={it['old']} new={it['new']}"
+        yield f"counts {' and '.join(map(CALL.write, it['calls']))} old={it['old']} new={it['new']}{mark_of(it)}"
 
 
 # ---- claims

@@ -1,6 +1,6 @@
 -- What the bytes of a file are read as, where the file told them, and why there are none; the same of files that others were read before.
 -- By the equation that says which bytes they are, since no reading changes files, and by cases on the status.
-use Rattle.std.proofs.Common.{◌≡◌, ℕ, ◌<◌, List, length, Option, Result, Ok, Err, ◌∙◌, ap, sym, subst}
+use Rattle.std.proofs.Common.{◌≡◌, ℕ, ◌<◌, List, length, Option, Result, Ok, Err, inl, inr, ◌∙◌, ap, sym, subst}
 use Rattle.std.specs.Prelude.{IsSomeAnd, Some, None}
 use Rattle.hist_model.specs.declared.policy.Policy.{Policy}
 use Rattle.hist_model.specs.declared.script.Script.{Script}
@@ -14,7 +14,7 @@ use Rattle.script_reader.specs.Scripts.{script as script_of, script_file, script
 use Rattle.script_reader.specs.declared.file.ScriptFile.{ScriptFile as ScriptFileValue}
 use Rattle.script_reader.specs.declared.error.ScriptError.{ScriptError}
 use Rattle.broker_app.specs.Inputs.{CallsAre, ClaimsAre, HasBytes, PolicyIs, ReadsAs, ReportIs, ScriptFileIs, ScriptIs, calls_limit, claims_limit, policy_limit, report_limit, script_limit}
-use Rattle.broker_app.specs.Refusals.{CallsRefused, CannotRead, ClaimsRefused, FileRefused, InputRefused, NewPolicyRefused, PolicyRefused, ReportRefused, ScriptRefused}
+use Rattle.broker_app.specs.Refusals.{CallsRefused, CannotRead, ClaimsRefused, FileRefused, InputRefused, NewPolicyRefused, PoliciesRefused, PolicyRefused, ReportRefused, ScriptRefused}
 use Rattle.broker_app.specs.declared.status.InputFile.TheVariants.{Policy as PolicyFile, Script as ScriptFile, Report as ReportFile, Calls as CallsFile}
 use Rattle.broker_app.specs.declared.status.InputFile.TheVariants.{Claims as ClaimsFile, NewPolicy as NewPolicyFile}
 use Rattle.broker_app.specs.declared.status.Refusal.{Refusal}
@@ -151,6 +151,22 @@ module _ (files mid after : FileState) (name : List ℕ) (same : SameFiles files
   calls_before (Refused (TooLong CallsFile)) h = past_before calls_limit h
   calls_before NoMemory h = tt
   calls_before status h = absurd h
+
+-- ---- Two policies
+
+pub old_stops : (files after : FileState) (old new : List ℕ) (status : Status) → PolicyRefused files after old status → PoliciesRefused files after old new status
+old_stops files after old new (Refused refusal) h = inl h
+old_stops files after old new NoMemory h = tt
+old_stops files after old new status h = absurd h
+
+pub new_stops : (files mid after : FileState) (old new : List ℕ) (P : Policy) (status : Status) → SameFiles files mid → PolicyIs files old (Ok P) → NewPolicyRefused mid after new status
+    → PoliciesRefused files after old new status
+new_stops files mid after old new P status same policy_is h = by status (new_policy_before files mid after new same status h)
+  where
+    by : (status : Status) → NewPolicyRefused files after new status → PoliciesRefused files after old new status
+    by (Refused refusal) r = inr (P, policy_is, r)
+    by NoMemory r = tt
+    by status r = absurd r
 
 -- ---- The policy and the script
 

@@ -1,8 +1,9 @@
 -- How a word ends that tells something of policies.
 -- By cases on the status and the ending, and since no reading changes files.
 use Rattle.std.proofs.Common.{◌≡◌, ℕ, List, inl, inr, refl, sym, ap, subst}
-use Rattle.std.specs.Prelude.{Ok, Err}
+use Rattle.std.specs.Prelude.{Option, Some, None, Ok, Err}
 use Rattle.hist_model.specs.declared.policy.Policy.{Policy}
+use Rattle.hist_model.specs.declared.script.Script.{Script}
 use Rattle.io_edge.specs.FileState.{FileState, SameFiles}
 use Rattle.io_edge.specs.SinkState.{SinkState}
 use Rattle.policy_claims.specs.Told.{IsToldOf}
@@ -12,11 +13,11 @@ use Rattle.policy_classes.specs.declared.ending.Ending.TheVariants.{Alike, Other
 use Rattle.policy_classes.specs.declared.ending.Told.{Told}
 use Rattle.policy_lint.specs.Found.{Tells as TellsOf}
 use Rattle.policy_compare.specs.Compared.{AreEqual, IsComparison}
-use Rattle.broker_app.proofs.Reading.{claims_are_before, claims_before, new_policy_before, policy_is_before}
+use Rattle.broker_app.proofs.Reading.{claims_are_before, claims_before, script_before, script_is_before}
 use Rattle.broker_app.specs.Answers.{Printed}
-use Rattle.broker_app.specs.Inputs.{ClaimsAre, PolicyHas, PolicyIs, policy_limit}
-use Rattle.broker_app.specs.Refusals.{ClaimsRefused, FileRefused, NewPolicyRefused, PolicyRefused}
-use Rattle.broker_app.specs.Tellings.{ClaimsEnds, CompareEnds, IsPrinted, LintEnds, TellingEnds, TellsOfBytes, TellsOfClaims, TellsOfPolicies, status_of_ending}
+use Rattle.broker_app.specs.Inputs.{ClaimsAre, NamedScriptIs, PolicyHas, PolicyIs, policy_limit}
+use Rattle.broker_app.specs.Refusals.{ClaimsRefused, FileRefused, NamedScriptRefused, PoliciesRefused, PolicyRefused, ScriptRefused}
+use Rattle.broker_app.specs.Tellings.{ClaimsEnds, CompareEnds, IsPrinted, LintEnds, TellingEnds, TellsOfBytes, TellsOfClaims, TellsOfPolicies, filters_of, status_of_ending}
 use Rattle.broker_app.specs.declared.status.InputFile.TheVariants.{Policy as PolicyFile}
 use Rattle.broker_app.specs.declared.status.Refusal.{Refusal}
 use Rattle.broker_app.specs.declared.status.Status.{Status}
@@ -55,28 +56,38 @@ told_ends told Tells Stops old new status tells h = by status h
 
 -- ---- Two policies
 
--- the old one wasn't taken
-pub old_stops : (files after : FileState) (sink : SinkState) (old new : List ℕ) (status : Status) → PolicyRefused files after old status → CompareEnds files after sink sink old new status
-old_stops files after sink old new (Refused refusal) h = (inl h, λ t. refl)
-old_stops files after sink old new NoMemory h = inl (λ t. refl)
-old_stops files after sink old new status h = absurd h
+-- they weren't both taken
+pub policies_stop : (files after : FileState) (sink : SinkState) (old new : List ℕ) (script : Option (List ℕ)) (status : Status) → PoliciesRefused files after old new status
+    → CompareEnds files after sink sink old new script status
+policies_stop files after sink old new script (Refused refusal) h = (inl h, λ t. refl)
+policies_stop files after sink old new script NoMemory h = inl (λ t. refl)
+policies_stop files after sink old new script status h = absurd h
 
--- the new one wasn't
-pub new_stops : (files mid after : FileState) (sink : SinkState) (old new : List ℕ) (P : Policy) (status : Status) → SameFiles files mid → PolicyIs files old (Ok P) → NewPolicyRefused mid after new status
-    → CompareEnds files after sink sink old new status
-new_stops files mid after sink old new P status same policy_is h = by status (new_policy_before files mid after new same status h)
+-- the script that is named wasn't
+pub script_stops : (files mid after : FileState) (sink : SinkState) (old new : List ℕ) (script : Option (List ℕ)) (P Q : Policy) (status : Status) → SameFiles files mid → PolicyIs files old (Ok P)
+    → PolicyIs files new (Ok Q) → NamedScriptRefused mid after script status → CompareEnds files after sink sink old new script status
+script_stops files mid after sink old new None P Q status same old_is new_is h = absurd h
+script_stops files mid after sink old new (Some name) P Q status same old_is new_is h = by status (script_before files mid after name same status h)
   where
-    by : (status : Status) → NewPolicyRefused files after new status → CompareEnds files after sink sink old new status
-    by (Refused refusal) r = (inr (P, policy_is, r), λ t. refl)
+    by : (status : Status) → ScriptRefused files after name status → CompareEnds files after sink sink old new (Some name) status
+    by (Refused refusal) r = (inr (P, Q, old_is, new_is, r), λ t. refl)
     by NoMemory r = inl (λ t. refl)
     by status r = absurd r
 
--- both were read
-pub policies_told : (files mid after : FileState) (before printed : SinkState) (old new : List ℕ) (P Q : Policy) (told : Told) (status : Status) → SameFiles files mid → PolicyIs files old (Ok P)
-    → PolicyIs mid new (Ok Q) → IsComparison P.rules Q.rules told → (told.ending ≡ Alike → AreEqual P.rules Q.rules) → (told.ending ≡ Otherwise → ¬ (AreEqual P.rules Q.rules))
-    → IsPrinted told before printed status → CompareEnds files after before printed old new status
-policies_told files mid after before printed old new P Q told status same old_is new_is is equal unequal shown =
-    told_ends told (TellsOfPolicies files old new) _ before printed status (P, Q, old_is, policy_is_before files mid after new same (Ok Q) new_is, is, equal, unequal) shown
+-- it is the script that is named, whether it is looked for before or after
+named_before : (files mid : FileState) (script : Option (List ℕ)) (S : Option Script) → SameFiles files mid → NamedScriptIs mid script S → NamedScriptIs files script S
+named_before files mid (Some name) (Some S) same h = script_is_before files mid mid name same (Ok S) h
+named_before files mid None None same h = tt
+named_before files mid (Some name) None same h = absurd h
+named_before files mid None (Some S) same h = absurd h
+
+-- all were read
+pub policies_told : (files mid after : FileState) (before printed : SinkState) (old new : List ℕ) (script : Option (List ℕ)) (P Q : Policy) (S : Option Script) (told : Told) (status : Status)
+    → SameFiles files mid → PolicyIs files old (Ok P) → PolicyIs files new (Ok Q) → NamedScriptIs mid script S → IsComparison P.rules Q.rules (filters_of S) told
+    → (told.ending ≡ Alike → AreEqual P.rules Q.rules) → (told.ending ≡ Otherwise → ¬ (AreEqual P.rules Q.rules)) → IsPrinted told before printed status
+    → CompareEnds files after before printed old new script status
+policies_told files mid after before printed old new script P Q S told status same old_is new_is script_is is equal unequal shown =
+    told_ends told (TellsOfPolicies files old new script) _ before printed status (P, Q, S, old_is, new_is, named_before files mid script S same script_is, is, equal, unequal) shown
 
 -- ---- Claims
 

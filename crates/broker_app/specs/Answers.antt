@@ -107,7 +107,7 @@ Answers (Some (Explore policy script workers delays)) files after old new status
     ExploreEnds files after old new policy script workers delays status
 Answers (Some (Step policy script)) files after old new status = StepEnds files after old new policy script status
 Answers (Some (Explain policy calls)) files after old new status = ExplainEnds files after old new policy calls status
-Answers (Some (Compare before latter)) files after old new status = CompareEnds files after old new before latter status
+Answers (Some (Compare before latter script)) files after old new status = CompareEnds files after old new before latter script status
 Answers (Some (Check policy claims)) files after old new status = ClaimsEnds files after old new policy claims status
 Answers (Some (Lint policy)) files after old new status = LintEnds files after old new policy status
 

@@ -1,5 +1,6 @@
 -- The forms of words, as the program's code has them.
 use Rattle.std.specs.Prelude.{◌≡◌, ℕ, ◌<◌, ◌≤◌, true, List, length, map, String}
+use Rattle.std.specs.Option.{option_copied}
 use Rattle.std.specs.String.{string_bytes}
 use Rattle.std.specs.declared.alloc.Global.{Global}
 use Rattle.broker_app.specs.Words.{Form as Meaning, AuditCheck as Checks, Explain as Explains, Explore as Explores, Handover as Hands}
@@ -24,7 +25,7 @@ job_of (Handover policy script every) = Hands policy.now script.now every
 job_of (Explore policy script workers delays) = Explores policy.now script.now workers delays
 job_of (Step policy script) = Steps policy.now script.now
 job_of (Explain policy calls) = Explains policy.now calls.now
-job_of (Compare old new) = Compares old.now new.now
+job_of (Compare old new script) = Compares old.now new.now (option_copied script)
 job_of (Check policy claims) = ChecksClaims policy.now claims.now
 job_of (Lint policy) = Lints policy.now
 

@@ -1,5 +1,5 @@
 -- What the program reads: a policy, claims, a script and a report, each from the whole bytes of its file.
-use Rattle.std.specs.Prelude.{◌≡◌, ℕ, ◌≤◌, true, List, length, Option, Some, None, Result}
+use Rattle.std.specs.Prelude.{◌≡◌, ℕ, ◌≤◌, true, List, length, Option, Some, None, Result, Ok}
 use Rattle.hist_model.specs.declared.policy.Policy.{Policy}
 use Rattle.hist_model.specs.declared.script.Script.{Script}
 use Rattle.io_edge.specs.FileState.{FileState}
@@ -52,6 +52,12 @@ ClaimsAre files name reading = files.tells ≡ true → ReadsAs claims claims_li
 -- and this script
 abbrev pub ScriptIs : FileState → List ℕ → Result Script ScriptError → Type 0
 ScriptIs files name reading = files.tells ≡ true → ReadsAs script script_limit (files.bytes name) reading
+
+-- and this script, if one is named
+abbrev pub NamedScriptIs : FileState → Option (List ℕ) → Option Script → Type 0
+NamedScriptIs files (Some name) (Some S) = ScriptIs files name (Ok S)
+NamedScriptIs files None None = Unit {0}
+NamedScriptIs files _ _ = ⊥
 
 -- and states this script, with these lines of another broker's workers
 abbrev pub ScriptFileIs : FileState → List ℕ → Result ScriptFile ScriptError → Type 0

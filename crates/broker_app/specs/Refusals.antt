@@ -1,5 +1,5 @@
 -- What a sink took before a text is begun, and why the bytes of a file weren't read or taken.
-use Rattle.std.specs.Prelude.{◌≡◌, ℕ, true, false, List, IsSome, Some, None, Ok, Err}
+use Rattle.std.specs.Prelude.{◌≡◌, ◌⊎◌, ℕ, true, false, List, IsSome, Option, Some, None, Ok, Err}
 use Rattle.hist_model.specs.declared.policy.Policy.{Policy}
 use Rattle.hist_model.specs.declared.script.Script.{Script}
 use Rattle.io_edge.specs.Faults.{Rose}
@@ -94,6 +94,23 @@ NewPolicyRefused files after policy _ = ⊥
 -- a policy was taken, and then the one that would take its place wasn't
 abbrev pub OnlyOldPolicy : FileState → FileState → List ℕ → List ℕ → Status → Type 0
 OnlyOldPolicy files after old new status = (P : Policy) × PolicyIs files old (Ok P) × NewPolicyRefused files after new status
+
+-- why two policies weren't both taken
+abbrev pub PoliciesRefused : FileState → FileState → List ℕ → List ℕ → Status → Type 0
+PoliciesRefused files after old new (Refused refusal) =
+    PolicyRefused files after old (Refused refusal) ⊎ OnlyOldPolicy files after old new (Refused refusal)
+PoliciesRefused files after old new NoMemory = Unit {0}
+PoliciesRefused files after old new _ = ⊥
+
+-- why the script that is named wasn't taken
+abbrev pub NamedScriptRefused : FileState → FileState → Option (List ℕ) → Status → Type 0
+NamedScriptRefused files after (Some name) status = ScriptRefused files after name status
+NamedScriptRefused files after None status = ⊥
+
+-- two policies were taken, and then the script that is named wasn't
+abbrev pub OnlyPolicies : FileState → FileState → List ℕ → List ℕ → Option (List ℕ) → Status → Type 0
+OnlyPolicies files after old new script status =
+    (P : Policy) × (Q : Policy) × PolicyIs files old (Ok P) × PolicyIs files new (Ok Q) × NamedScriptRefused files after script status
 
 -- why the claims weren't taken
 abbrev pub ClaimsRefused : FileState → FileState → List ℕ → Status → Type 0

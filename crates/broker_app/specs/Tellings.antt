@@ -1,6 +1,9 @@
 -- What the answer of a word means that tells something of policies: what it told of the files, and why it stopped.
-use Rattle.std.specs.Prelude.{◌≡◌, ◌⊎◌, ◌++◌, ℕ, true, List, Ok}
+use Rattle.std.specs.Prelude.{◌≡◌, ◌⊎◌, ◌++◌, ℕ, true, List, Option, Ok}
+use Rattle.std.specs.Option.{option_map}
 use Rattle.hist_model.specs.declared.policy.Policy.{Policy}
+use Rattle.hist_model.specs.declared.script.FilterLine.{FilterLine}
+use Rattle.hist_model.specs.declared.script.Script.{Script}
 use Rattle.io_edge.specs.Faults.{Rose}
 use Rattle.io_edge.specs.FileState.{FileState}
 use Rattle.io_edge.specs.SinkState.{SinkState, AddsPrefix}
@@ -11,8 +14,9 @@ use Rattle.policy_classes.specs.declared.ending.Ending.TheVariants.{Alike, Other
 use Rattle.policy_classes.specs.declared.ending.Told.{Told}
 use Rattle.policy_compare.specs.Compared.{AreEqual, IsComparison}
 use Rattle.policy_lint.specs.Found.{Tells as TellsOf}
-use Rattle.broker_app.specs.Inputs.{ClaimsAre, PolicyHas, PolicyIs, policy_limit}
-use Rattle.broker_app.specs.Refusals.{FileRefused, OnlyOldPolicy, OnlyPolicyOfClaims, PolicyRefused, Stands, TookNothing}
+use Rattle.broker_app.specs.Inputs.{ClaimsAre, NamedScriptIs, PolicyHas, PolicyIs, policy_limit}
+use Rattle.broker_app.specs.Refusals.{FileRefused, OnlyPolicies, OnlyPolicyOfClaims, PoliciesRefused, PolicyRefused, Stands}
+use Rattle.broker_app.specs.Refusals.{TookNothing}
 use Rattle.broker_app.specs.declared.status.InputFile.TheVariants.{Policy as PolicyFile}
 use Rattle.broker_app.specs.declared.status.Refusal.{Refusal}
 use Rattle.broker_app.specs.declared.status.Status.{Status}
@@ -50,21 +54,27 @@ IsPrinted told old new status = TellingEnds (λ other. other ≡ told) (λ refus
 
 -- ---- Two policies
 
--- it is told of the policies of two files
-abbrev pub TellsOfPolicies : FileState → List ℕ → List ℕ → Told → Type 0
-TellsOfPolicies files old new told =
-    (P : Policy) × (Q : Policy) × PolicyIs files old (Ok P) × PolicyIs files new (Ok Q) × IsComparison P.rules Q.rules told
+-- the filters of a script, if there is one
+abbrev pub filters_of : Option Script → Option (List FilterLine)
+filters_of script = option_map (λ S. S.filters) script
+
+-- it is told of the policies of two files, and of the filters of a script, if one is named
+abbrev pub TellsOfPolicies : FileState → List ℕ → List ℕ → Option (List ℕ) → Told → Type 0
+TellsOfPolicies files old new script told =
+    (P : Policy) × (Q : Policy) × (S : Option Script)
+    × PolicyIs files old (Ok P) × PolicyIs files new (Ok Q) × NamedScriptIs files script S
+    × IsComparison P.rules Q.rules (filters_of S) told
     × (told.ending ≡ Alike → AreEqual P.rules Q.rules) × (told.ending ≡ Otherwise → ¬ (AreEqual P.rules Q.rules))
 
--- the old one isn't taken, or it is and the new one isn't
-abbrev pub PoliciesStop : FileState → FileState → List ℕ → List ℕ → Refusal → Type 0
-PoliciesStop files after old new refusal =
-    PolicyRefused files after old (Refused refusal) ⊎ OnlyOldPolicy files after old new (Refused refusal)
+-- the old one isn't taken, or it is and the new one isn't, or both are and the script isn't
+abbrev pub PoliciesStop : FileState → FileState → List ℕ → List ℕ → Option (List ℕ) → Refusal → Type 0
+PoliciesStop files after old new script refusal =
+    PoliciesRefused files after old new (Refused refusal) ⊎ OnlyPolicies files after old new script (Refused refusal)
 
--- how the comparison ended: the sink before it and after it, and the names of the files of the old policy and the new one
-abbrev pub CompareEnds : FileState → FileState → SinkState → SinkState → List ℕ → List ℕ → Status → Type 0
-CompareEnds files after before printed old new status =
-    TellingEnds (TellsOfPolicies files old new) (PoliciesStop files after old new) before printed status
+-- how the comparison ended: the sink before it and after it, and the names of the files of the old policy, the new one, and the script
+abbrev pub CompareEnds : FileState → FileState → SinkState → SinkState → List ℕ → List ℕ → Option (List ℕ) → Status → Type 0
+CompareEnds files after before printed old new script status =
+    TellingEnds (TellsOfPolicies files old new script) (PoliciesStop files after old new script) before printed status
 
 -- ---- Claims
 

@@ -358,7 +358,9 @@ fn answer<P: Player, F: Files, O: Sink>(
         ) => explore_files(alloc, files, policy, script, workers, delays, out),
         Some(Job::Step { policy, script }) => step_files(alloc, files, policy, script, out),
         Some(Job::Explain { policy, calls }) => explain_files(alloc, files, policy, calls, out),
-        Some(Job::Compare { old, new }) => compare_files(alloc, files, old, new, out),
+        Some(Job::Compare { old, new, script }) => {
+            compare_files(alloc, files, old, new, script, out)
+        }
         Some(Job::Check { policy, claims }) => check_claims(alloc, files, policy, claims, out),
         Some(Job::Lint { policy }) => lint_file(alloc, files, policy, out),
     }

@@ -2,9 +2,10 @@
 
 ghost use Rattle.std.specs.Prelude.{◌≡◌, ◌^◌, ◌-◌, ◌<◌, ◌≤◌, true, length, None, Some, Ok, IfOk, IfErr, OnOk, Err};
 ghost use Rattle.io_edge.specs.FileState.{SameFiles};
-ghost use Rattle.broker_app.specs.Inputs.{CallsAre, ClaimsAre, HasBytes, PolicyHas, PolicyIs, ReportIs, ScriptFileIs, ScriptHas, ScriptIs, policy_limit};
+ghost use Rattle.std.specs.Option.{option_copied};
+ghost use Rattle.broker_app.specs.Inputs.{CallsAre, ClaimsAre, HasBytes, NamedScriptIs, PolicyHas, PolicyIs, ReportIs, ScriptFileIs, ScriptHas, ScriptIs, policy_limit};
 ghost use Rattle.script_reader.specs.Rules.{AreTurns};
-ghost use Rattle.broker_app.specs.Refusals.{CallsRefused, ClaimsRefused, FileRefused, InputRefused, NewPolicyRefused, PolicyRefused, ReportRefused, ScriptRefused};
+ghost use Rattle.broker_app.specs.Refusals.{CallsRefused, ClaimsRefused, FileRefused, InputRefused, NamedScriptRefused, NewPolicyRefused, PoliciesRefused, PolicyRefused, ReportRefused, ScriptRefused};
 ghost use Rattle.broker_app.specs.declared.status.InputFile.TheVariants as input;
 ghost use Rattle.broker_app.specs.declared.status.Refusal.TheVariants.{ReadFault};
 ghost use Rattle.broker_app.specs.declared.status.Status.TheVariants.{Refused};
@@ -95,7 +96,7 @@ pub(crate) fn read_policy_bytes<F: Files>(
 
 /// Reads the policy of this name, which would take another's place.
 #[tactic(auto, using(crate::proofs::Reading::reads_as, crate::proofs::Reading::new_policy_unread))]
-pub(crate) fn read_new_policy<F: Files>(
+fn read_new_policy<F: Files>(
     alloc: Global,
     files: &mut F,
     name: &str,
@@ -110,6 +111,24 @@ pub(crate) fn read_new_policy<F: Files>(
         Err(OrNoMemory::Refused(error)) => Err(Status::Refused(Refusal::BadNewPolicy(error))),
         Err(OrNoMemory::NoMemory) => Err(Status::NoMemory),
     }
+}
+
+/// Reads the policies of these names, of which the second would take the first one's place.
+#[tactic(auto, using(crate::proofs::Reading::old_stops, crate::proofs::Reading::new_stops))]
+pub(crate) fn read_policies<F: Files>(
+    alloc: Global,
+    files: &mut F,
+    old: &str,
+    new: &str,
+) -> Result<(Policy, Policy), Status>
+    ensures same { SameFiles (F.state files.old) (F.state files.new) }
+    ensures old { IfOk result (λ read. PolicyIs (F.state files.old) old.now (Ok read.0)) }
+    ensures new { IfOk result (λ read. PolicyIs (F.state files.old) new.now (Ok read.1)) }
+    ensures refused { IfErr result (λ s. PoliciesRefused (F.state files.old) (F.state files.new) old.now new.now s) }
+{
+    let old = read_policy(alloc, files, old)?;
+    let new = read_new_policy(alloc, files, new)?;
+    Ok((old, new))
 }
 
 /// Reads the claims of this name.
@@ -150,6 +169,34 @@ fn read_script_file<F: Files>(
         Ok(file) => Ok((file, bytes)),
         Err(OrNoMemory::Refused(error)) => Err(Status::Refused(Refusal::BadScript(error))),
         Err(OrNoMemory::NoMemory) => Err(Status::NoMemory),
+    }
+}
+
+/// Reads the script of this name, where its schedule doesn't matter.
+#[tactic(auto, using(crate::proofs::Reading::script_alone))]
+fn read_script<F: Files>(alloc: Global, files: &mut F, name: &str) -> Result<Script, Status>
+    ensures same { SameFiles (F.state files.old) (F.state files.new) }
+    ensures read { IfOk result (λ s. ScriptIs (F.state files.old) name.now (Ok s)) }
+    ensures refused { IfErr result (λ s. ScriptRefused (F.state files.old) (F.state files.new) name.now s) }
+{
+    let (file, _bytes) = read_script_file(alloc, files, name)?;
+    let ScriptFile { script, .. } = file;
+    Ok(script)
+}
+
+/// Reads the script of a name, if there is one.
+pub(crate) fn read_named_script<F: Files>(
+    alloc: Global,
+    files: &mut F,
+    name: Option<&str>,
+) -> Result<Option<Script>, Status>
+    ensures same { SameFiles (F.state files.old) (F.state files.new) }
+    ensures read { IfOk result (λ s. NamedScriptIs (F.state files.old) (option_copied name.entry) s) }
+    ensures refused { IfErr result (λ s. NamedScriptRefused (F.state files.old) (F.state files.new) (option_copied name.entry) s) }
+{
+    match name {
+        Some(name) => Ok(Some(read_script(alloc, files, name)?)),
+        None => Ok(None),
     }
 }
 

@@ -1,14 +1,17 @@
 //! The words that tell something of policies for all calls. Each makes a text, whose ending is the status.
 
 ghost use Rattle.std.specs.Prelude.{◌≡◌, OnOk};
+ghost use Rattle.std.specs.Option.{option_copied};
 ghost use Rattle.audit_log.specs.Written.{Wrote};
 ghost use Rattle.broker_app.specs.Answers.{Printed, status_of};
 ghost use Rattle.broker_app.specs.Refusals.{Stands};
-ghost use Rattle.broker_app.specs.Tellings.{ClaimsEnds, CompareEnds, IsPrinted, LintEnds, status_of_ending};
+ghost use Rattle.broker_app.specs.Tellings.{ClaimsEnds, CompareEnds, IsPrinted, LintEnds, filters_of, status_of_ending};
 
-use crate::inputs::{read_claims, read_new_policy, read_policy, read_policy_bytes};
+use crate::inputs::{read_claims, read_named_script, read_policies, read_policy, read_policy_bytes};
 use crate::status::Status;
 use audit_log::error::ReportError;
+use hist_model::script::{FilterLine, Script};
+use hist_model::text::Sequence;
 use io_edge::files::Files;
 use io_edge::sink::Sink;
 use policy_classes::ending::{Ending, Told};
@@ -62,20 +65,32 @@ fn tell<O: Sink>(told: &Told, out: &mut O) -> Result<(), Status>
     ended(told.ending)
 }
 
-/// Compares the policies of two files, of which the second would take the first one's place, and prints what is told of them.
-#[tactic(auto, using(crate::proofs::Tellings::old_stops, crate::proofs::Tellings::new_stops))]
+/// The filters of a script, if there is one.
+fn filters_of(script: &Option<Script>) -> Option<&Sequence<FilterLine>>
+    ensures { option_copied result ≡ filters_of script.now }
+{
+    match script {
+        Some(script) => Some(&script.filters),
+        None => None,
+    }
+}
+
+/// Compares the policies of two files, of which the second would take the first one's place, and prints what is told of them. Where a
+/// script is named, its filters are asked which calls they notify.
+#[tactic(auto, using(crate::proofs::Tellings::policies_stop, crate::proofs::Tellings::script_stops))]
 pub(crate) fn compare_files<F: Files, O: Sink>(
     alloc: Global,
     files: &mut F,
     old: &str,
     new: &str,
+    script: Option<&str>,
     out: &mut O,
 ) -> Result<(), Status>
-    ensures { CompareEnds (F.state files.old) (F.state files.new) (O.state out.old) (O.state out.new) old.now new.now (status_of result) }
+    ensures { CompareEnds (F.state files.old) (F.state files.new) (O.state out.old) (O.state out.new) old.now new.now (option_copied script.entry) (status_of result) }
 {
-    let old = read_policy(alloc, files, old)?;
-    let new = read_new_policy(alloc, files, new)?;
-    let told = policy_compare::compare(alloc, &old, &new)?;
+    let (old, new) = read_policies(alloc, files, old, new)?;
+    let script = read_named_script(alloc, files, script)?;
+    let told = policy_compare::compare(alloc, &old, &new, filters_of(&script))?;
     tell(&told, out)
 }
 

@@ -52,10 +52,12 @@ pub enum Job<'a> {
         policy: &'a str,
         calls: &'a str,
     },
-    /// Compare two policies, of which one would take the other's place: the names of their files.
+    /// Compare two policies, of which one would take the other's place: the names of their files, and of the file of a script whose
+    /// filters are asked, if one is named.
     Compare {
         old: &'a str,
         new: &'a str,
+        script: Option<&'a str>,
     },
     /// Check claims about a policy: the names of the files of the policy and the claims.
     Check {
@@ -232,7 +234,11 @@ fn three_words<'a>(command: &str, a: &'a str, b: &'a str) -> Option<Form<'a>>
             calls: b,
         }))
     } else if command.as_bytes() == b"compare".as_slice() {
-        Some(Form::Job(Job::Compare { old: a, new: b }))
+        Some(Form::Job(Job::Compare {
+            old: a,
+            new: b,
+            script: None,
+        }))
     } else if command.as_bytes() == b"check".as_slice() {
         Some(Form::Job(Job::Check {
             policy: a,
@@ -257,6 +263,12 @@ fn four_words<'a>(command: &str, a: &'a str, b: &'a str, c: &'a str) -> Option<F
         lanes_form(a, b, c)
     } else if command.as_bytes() == b"handover".as_slice() {
         handover_form(a, b, c)
+    } else if command.as_bytes() == b"compare".as_slice() {
+        Some(Form::Job(Job::Compare {
+            old: a,
+            new: b,
+            script: Some(c),
+        }))
     } else {
         None
     }

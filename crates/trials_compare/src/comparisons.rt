@@ -27,7 +27,7 @@ fn told(alloc: Global, old: &str, new: &str) -> Result<Told, Fail> {
     }
     let old = read_policy(alloc, old.as_bytes())?;
     let new = read_policy(alloc, new.as_bytes())?;
-    Ok(compare(alloc, &old, &new)?)
+    Ok(compare(alloc, &old, &new, None)?)
 }
 
 #[test]
