@@ -96,11 +96,7 @@ pub(crate) fn read_policy_bytes<F: Files>(
 
 /// Reads the policy of this name, which would take another's place.
 #[tactic(auto, using(crate::proofs::Reading::reads_as, crate::proofs::Reading::new_policy_unread))]
-fn read_new_policy<F: Files>(
-    alloc: Global,
-    files: &mut F,
-    name: &str,
-) -> Result<Policy, Status>
+fn read_new_policy<F: Files>(alloc: Global, files: &mut F, name: &str) -> Result<Policy, Status>
     ensures same { SameFiles (F.state files.old) (F.state files.new) }
     ensures read { IfOk result (λ p. PolicyIs (F.state files.old) name.now (Ok p)) }
     ensures refused { IfErr result (λ s. NewPolicyRefused (F.state files.old) (F.state files.new) name.now s) }

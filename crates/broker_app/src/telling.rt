@@ -7,7 +7,9 @@ ghost use Rattle.broker_app.specs.Answers.{Printed, status_of};
 ghost use Rattle.broker_app.specs.Refusals.{Stands};
 ghost use Rattle.broker_app.specs.Tellings.{ClaimsEnds, CompareEnds, IsPrinted, LintEnds, filters_of, status_of_ending};
 
-use crate::inputs::{read_claims, read_named_script, read_policies, read_policy, read_policy_bytes};
+use crate::inputs::{
+    read_claims, read_named_script, read_policies, read_policy, read_policy_bytes,
+};
 use crate::status::Status;
 use audit_log::error::ReportError;
 use hist_model::script::{FilterLine, Script};

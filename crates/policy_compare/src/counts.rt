@@ -93,13 +93,7 @@ fn push_apart(
         return Ok(());
     }
     let notified = are_notified(filters, first, class);
-    lines.push(count_line(
-        alloc,
-        first,
-        class,
-        " old=together new=apart",
-        notified,
-    )?)?;
+    lines.push(count_line(alloc, first, class, " old=together new=apart", notified)?)?;
     Ok(())
 }
 
@@ -120,13 +114,7 @@ fn push_together(
         return Ok(());
     }
     let notified = are_notified(filters, first, class);
-    lines.push(count_line(
-        alloc,
-        first,
-        class,
-        " old=apart new=together",
-        notified,
-    )?)?;
+    lines.push(count_line(alloc, first, class, " old=apart new=together", notified)?)?;
     Ok(())
 }
 

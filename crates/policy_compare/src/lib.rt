@@ -68,14 +68,7 @@ fn compare_rules(
     ensures unequal { IfOk result (λ told. told.ending ≡ Otherwise → ¬ AreEqual old.now new.now) }
 {
     let found = ordered_classes(alloc, old, new)?;
-    let told = told(
-        alloc,
-        old,
-        new,
-        filters,
-        found.classes.items(),
-        found.whole,
-    )?;
+    let told = told(alloc, old, new, filters, found.classes.items(), found.whole)?;
     Ok(told)
 }
 

@@ -154,11 +154,7 @@ fn push_side(
 }
 
 /// Adds two rules and what they answer.
-fn push_sides(
-    line: &mut LineBuffer,
-    old: Option<&Rule>,
-    new: Option<&Rule>,
-) -> Result<(), NoMemory>
+fn push_sides(line: &mut LineBuffer, old: Option<&Rule>, new: Option<&Rule>) -> Result<(), NoMemory>
     ensures { OnOk result (line.new ≡ line.old ++ sides_text (option_copied old.entry) (option_copied new.entry)) }
 {
     push_side(line, " old-rule=", " old=", old)?;

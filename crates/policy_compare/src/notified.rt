@@ -70,11 +70,7 @@ pub(crate) fn is_notified(filters: Option<&Sequence<FilterLine>>, request: &Requ
     ensures { result ≡ is_notified (option_copied filters.entry) request.now }
 {
     match filters {
-        Some(filters) => is_notify(verdict(
-            filters.items(),
-            request.call(),
-            &registers(request),
-        )),
+        Some(filters) => is_notify(verdict(filters.items(), request.call(), &registers(request))),
         None => true,
     }
 }
