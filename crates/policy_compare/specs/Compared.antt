@@ -32,7 +32,8 @@ pub record AreEqual (old new : List Rule) : Type 0 where
 
 -- what is told is told of these classes: each pair of rules once, in the order of their places; the witness of each is a call of it;
 -- and where they are whole, each call is of one of them
-pub record IsTold (old new : List Rule) (filters : Option (List FilterLine)) (told : Told) (classes : List Class) (whole : Bool) : Type 0 where
+pub record IsTold (old new : List Rule) (filters : Option (List FilterLine)) (told : Told) (classes : List Class) (whole : Bool)
+    : Type 0 where
   pub ordered : IsStrictlySortedBy by_places classes
   pub witnesses : All (HasWitness old new) classes
   pub there : whole ≡ true → (q : Request) → IsCall q → Any (Holds old new q) classes
