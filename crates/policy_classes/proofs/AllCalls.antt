@@ -1,33 +1,34 @@
--- The classes of all calls: each witness is of its class, and each call has a class.
--- By what is found for each of the calls that stand for all.
-use Rattle.std.proofs.Common.{◌≡◌, ℕ, ◌+◌, ◌<◌, Bool, true, false, ◌&&◌, cond, not, List, [], ◌∷◌, ◌++◌, length, map, get_or, Option, Some, None, ℤ, pos, refl, ap, sym, ◌∙◌, subst, arith}
-use Rattle.std.specs.Prelude.{All, Any, Contains, if◌then◌else◌, ⊤}
-use Rattle.std.specs.List.{flat_map, list_all}
-use Rattle.std.proofs.lemmas.List.Elements.{All-append, All-cons, All-contains, All-from_recursion, All-head, All-map, All-nil, All-tail, All-weaker, Contains-append_left, Contains-append_right}
-use Rattle.hist_model.specs.Decisions.{covers, decide, decide_from, fits, meets, named_calls}
+-- Where the search begins: the calls that stand for all, with the rules for them.
+-- By cases on these calls; that the rules for one find the place of each that it stands for, by induction on the rules.
+use Rattle.std.proofs.Common.{◌≡◌, ℕ, zero, suc, ◌+◌, Bool, true, false, ◌&&◌, cond, List, [], ◌∷◌, length, Some, None, ℤ, pos, refl, ap, sym, ◌∙◌, subst, ◌⊎◌, inl, inr, arith}
+use Rattle.std.specs.Prelude.{All, if◌then◌else◌}
+use Rattle.std.specs.List.{list_all}
+use Rattle.std.specs.Ordering.{int_eq}
+use Rattle.std.proofs.lemmas.List.Elements.{All-cons, All-from_recursion, All-head, All-nil, All-tail, All-weaker}
+use Rattle.std.proofs.lemmas.Nat.Bits.{bit_at-zero}
+use Rattle.hist_model.specs.Decisions.{covers, decide, decide_from, fits, is_among, meets, named_calls}
 use Rattle.hist_model.specs.Requests.{call_of_request}
 use Rattle.hist_model.specs.declared.policy.Cond.{Cond}
 use Rattle.hist_model.specs.declared.policy.Rule.{Rule}
 use Rattle.hist_model.specs.declared.policy.Verdict.{Verdict}
 use Rattle.hist_model.specs.declared.request.Request.{Request}
-use Rattle.policy_classes.specs.declared.atoms.Atom.{Atom}
+use Rattle.hist_model.specs.declared.request.Request.TheVariants.{Mknod, Mount, SetXattr, OpenAt, Sysinfo, Other}
 use Rattle.policy_classes.specs.declared.atoms.Field.{Field}
-use Rattle.policy_classes.specs.declared.found.Class.{Class}
-use Rattle.policy_classes.specs.declared.values.Values.{Values}
 use Rattle.sys_abi.specs.Calls.{nr_close, nr_getpid, nr_sysinfo, nr_mknod, nr_mount, nr_setxattr, nr_openat, nr_mknodat}
-use Rattle.policy_classes.specs.Asked.{IsCall}
-use Rattle.policy_classes.specs.Atoms.{all_hold, atoms_of, atoms_of_all, holds}
+use Rattle.policy_classes.specs.Atoms.{all_hold, atoms_of, atoms_of_all}
 use Rattle.policy_classes.specs.Choices.{IsPlainAtom}
-use Rattle.policy_classes.specs.Classes.{HasWitness, Holds, found_in_all, start_of}
-use Rattle.policy_classes.specs.Plain.{IsPlainRule, all_atoms, atoms_of_rules, standing_call, standing_calls}
-use Rattle.policy_classes.specs.Search.{Found, Waiting, place_among, search, search_from, waiting_from}
-use Rattle.policy_classes.specs.Standing.{AreAllowed, StandForAll}
+use Rattle.policy_classes.specs.Classes.{start_of}
+use Rattle.policy_classes.specs.Order.{call_rank, descriptor_rank, free_part, plain_path, plain_word}
+use Rattle.policy_classes.specs.Plain.{IsPlainRule, standing_call, standing_calls}
+use Rattle.policy_classes.specs.Search.{place_among, waiting_from}
+use Rattle.policy_classes.specs.Standing.{IsBefore, IsUpTo}
 use Rattle.policy_classes.proofs.Conditions.{all_hold-append, conditions_are_atoms}
 use Rattle.policy_classes.proofs.Kept.{IsWitness}
 use Rattle.policy_classes.proofs.Left.{AllAre}
-use Rattle.policy_classes.proofs.Lists.{All-flat_map, Any-flat_map, any_made, contains_made, each_passes, parts_within}
-use Rattle.policy_classes.proofs.Searched.{Goes, Hits, IsOpen, IsRight, State, a_class_is_there, each_is_right}
-use Rattle.policy_classes.proofs.StandingCalls.{IsFor, covers-standing, same_fields, stood_for, witness_asks}
+use Rattle.policy_classes.proofs.Ranks.{AreFlagsOf, number_up_to, plain_up_to, up_to_itself}
+use Rattle.policy_classes.proofs.Searched.{IsOpen, Reaches, State}
+use Rattle.policy_classes.proofs.StandingCalls.{IsFor, covers-standing, same_fields}
+use Rattle.policy_classes.proofs.Stands.{ComesUpTo, SameShape}
 
 -- ---- the rules for a call
 
@@ -68,29 +69,20 @@ decides_first nr q rules s plain = decides_among nr q (length rules) 0 rules s p
 
 -- ---- atoms
 
-all_plain : (rules : List Rule) → All IsPlainRule rules → All IsPlainAtom (atoms_of_rules rules)
-all_plain rules h =
-    All-flat_map IsPlainAtom (λ (rule : Rule). atoms_of_all rule.conds) rules
-    (All-weaker IsPlainRule (λ rule. All IsPlainAtom (atoms_of_all rule.conds)) (λ rule p. p.atoms) rules h)
-
 abbrev pub none_decided : Field → Bool
 none_decided f = false
 
 -- no field is decided yet, so each atom of the rules for a call is open
-all_open : (atoms : List Atom) (n : ℕ) (rules : List Rule) (nr : ℤ)
-    → All (λ (rule : Rule). All (Contains atoms) (atoms_of_all rule.conds)) rules → All (AllAre (IsOpen atoms none_decided)) (waiting_from n rules nr)
-all_open atoms n [] nr h = All-nil (AllAre (IsOpen atoms none_decided))
-all_open atoms n (rule ∷ rules) nr h = by (covers rule.calls nr) (all_open atoms (n + 1) rules nr (All-tail Within rule rules h))
+all_open : (n : ℕ) (rules : List Rule) (nr : ℤ) → All IsPlainRule rules → All (AllAre (IsOpen none_decided)) (waiting_from n rules nr)
+all_open n [] nr h = All-nil (AllAre (IsOpen none_decided))
+all_open n (rule ∷ rules) nr h = by (covers rule.calls nr) (all_open (n + 1) rules nr (All-tail IsPlainRule rule rules h))
   where
-    Within : Rule → Type 0
-    Within x = All (Contains atoms) (atoms_of_all x.conds)
-
-    by : (b : Bool) → All (AllAre (IsOpen atoms none_decided)) (waiting_from (n + 1) rules nr)
-        → All (AllAre (IsOpen atoms none_decided))
+    by : (b : Bool) → All (AllAre (IsOpen none_decided)) (waiting_from (n + 1) rules nr)
+        → All (AllAre (IsOpen none_decided))
         (cond b (record { place = n; atoms = atoms_of_all rule.conds } ∷ waiting_from (n + 1) rules nr) (waiting_from (n + 1) rules nr))
     by true g =
-        All-cons (AllAre (IsOpen atoms none_decided)) (record { place = n; atoms = atoms_of_all rule.conds }) (waiting_from (n + 1) rules nr)
-        (All-weaker (Contains atoms) (IsOpen atoms none_decided) (λ a c. (c, refl)) (atoms_of_all rule.conds) (All-head Within rule rules h)) g
+        All-cons (AllAre (IsOpen none_decided)) (record { place = n; atoms = atoms_of_all rule.conds }) (waiting_from (n + 1) rules nr)
+        (All-weaker IsPlainAtom (IsOpen none_decided) (λ a c. (c, refl)) (atoms_of_all rule.conds) (All-head IsPlainRule rule rules h).atoms) g
     by false g = g
 
 -- ---- the calls that stand for all
@@ -98,33 +90,89 @@ all_open atoms n (rule ∷ rules) nr h = by (covers rule.calls nr) (all_open ato
 pub record Starts (nr : ℤ) : Type 0 where
   pub stands : standing_call nr ≡ nr
   pub witness : IsWitness nr (start_of nr)
+  -- it comes up to each call that it stands for
+  pub up : (r : Request) → IsFor nr r → SameShape (start_of nr) r → ComesUpTo (start_of nr) r
+
+no_flags : (m : ℕ) → AreFlagsOf 0 m
+no_flags m k = let e = bit_at-zero k in omega arith
+
+up_to_mknod : (r : Request) → SameShape (start_of (pos nr_mknod)) r → ComesUpTo (start_of (pos nr_mknod)) r
+up_to_mknod (Mknod None p m e) x = (plain_up_to plain_path p, number_up_to 0 m (omega arith), number_up_to 0 e (omega arith))
+up_to_mknod r x = absurd x
+
+up_to_mknodat : (r : Request) → SameShape (start_of (pos nr_mknodat)) r → ComesUpTo (start_of (pos nr_mknodat)) r
+up_to_mknodat (Mknod (Some d) p m e) x =
+    (plain_up_to plain_path p, number_up_to 0 m (omega arith), number_up_to 0 e (omega arith), number_up_to 0 (descriptor_rank d) (omega arith))
+up_to_mknodat r x = absurd x
+
+up_to_mount : (r : Request) → SameShape (start_of (pos nr_mount)) r → ComesUpTo (start_of (pos nr_mount)) r
+up_to_mount (Mount s p t o u n b) x = (plain_up_to plain_path p, plain_up_to plain_word t, plain_up_to plain_word s, plain_up_to [] o, no_flags n)
+up_to_mount r x = absurd x
+
+up_to_setxattr : (r : Request) → SameShape (start_of (pos nr_setxattr)) r → ComesUpTo (start_of (pos nr_setxattr)) r
+up_to_setxattr (SetXattr p t u n) x = (plain_up_to plain_path p, plain_up_to plain_word t, plain_up_to [] u, no_flags n)
+up_to_setxattr r x = absurd x
+
+up_to_openat : (r : Request) → SameShape (start_of (pos nr_openat)) r → ComesUpTo (start_of (pos nr_openat)) r
+up_to_openat (OpenAt d p n) x = (plain_up_to plain_path p, number_up_to 0 (descriptor_rank d) (omega arith), no_flags n)
+up_to_openat r x = absurd x
+
+up_to_sysinfo : (r : Request) → SameShape (start_of (pos nr_sysinfo)) r → ComesUpTo (start_of (pos nr_sysinfo)) r
+up_to_sysinfo (Sysinfo a) x = number_up_to 0 a (omega arith)
+up_to_sysinfo r x = absurd x
+
+-- a call that has a name and no request of its own stands for itself
+its_own : (nr m : ℤ) → int_eq (pos 0) nr ≡ false → standing_call m ≡ nr → m ≡ nr
+its_own nr m isnt e = by (is_among named_calls m) e
+  where
+    by : (b : Bool) → (if b then m else pos 0) ≡ nr → m ≡ nr
+    by true s = s
+    by false s = let bad : int_eq (pos 0) nr ≡ true = ap (λ x. int_eq (pos 0) x) (sym s) in cc
+
+up_to_own : (nr : ℤ) (r : Request) → start_of nr ≡ Other nr → int_eq (pos 0) nr ≡ false → IsFor nr r → SameShape (start_of nr) r → ComesUpTo (start_of nr) r
+up_to_own nr r is isnt f x = by r f (subst (λ q. SameShape q r) is x)
+  where
+    by : (r : Request) → IsFor nr r → SameShape (Other nr) r → ComesUpTo (start_of nr) r
+    by (Other m) f x =
+        rw is (subst (λ y. IsUpTo (free_part (call_rank nr)) (free_part (call_rank y))) (sym (its_own nr m isnt f.number)) (up_to_itself (free_part (call_rank nr))))
+    by r f x = absurd x
+
+up_to_read : (r : Request) → SameShape (start_of (pos 0)) r → ComesUpTo (start_of (pos 0)) r
+up_to_read (Other m) x = (omega arith, by (call_rank m))
+  where
+    by : (n : ℕ) → (0 ∷ [] ≡ n ∷ []) ⊎ IsBefore (0 ∷ []) (n ∷ [])
+    by zero = inl refl
+    by (suc n) = inr (inl (omega arith))
+up_to_read r x = absurd x
 
 starts_mount : Starts (pos nr_mount)
-starts_mount = record { stands = refl; witness = record { call = (refl, refl, refl, refl, refl, refl); no_magic = refl; number = refl } }
+starts_mount = record { stands = refl; witness = record { call = (refl, refl, refl, refl, refl, refl); no_magic = refl; number = refl }; up = λ r f x. up_to_mount r x }
 
 starts_setxattr : Starts (pos nr_setxattr)
-starts_setxattr = record { stands = refl; witness = record { call = (refl, refl, refl); no_magic = tt; number = refl } }
+starts_setxattr = record { stands = refl; witness = record { call = (refl, refl, refl); no_magic = tt; number = refl }; up = λ r f x. up_to_setxattr r x }
 
 starts_sysinfo : Starts (pos nr_sysinfo)
-starts_sysinfo = record { stands = refl; witness = record { call = tt; no_magic = tt; number = refl } }
+starts_sysinfo = record { stands = refl; witness = record { call = tt; no_magic = tt; number = refl }; up = λ r f x. up_to_sysinfo r x }
 
 starts_openat : Starts (pos nr_openat)
-starts_openat = record { stands = refl; witness = record { call = refl; no_magic = tt; number = refl } }
+starts_openat = record { stands = refl; witness = record { call = (refl, refl); no_magic = tt; number = refl }; up = λ r f x. up_to_openat r x }
 
 starts_mknod : Starts (pos nr_mknod)
-starts_mknod = record { stands = refl; witness = record { call = refl; no_magic = tt; number = refl } }
+starts_mknod = record { stands = refl; witness = record { call = refl; no_magic = tt; number = refl }; up = λ r f x. up_to_mknod r x }
 
 starts_mknodat : Starts (pos nr_mknodat)
-starts_mknodat = record { stands = refl; witness = record { call = refl; no_magic = tt; number = refl } }
+starts_mknodat = record { stands = refl; witness = record { call = (refl, refl); no_magic = tt; number = refl }; up = λ r f x. up_to_mknodat r x }
 
 starts_close : Starts (pos nr_close)
-starts_close = record { stands = refl; witness = record { call = refl; no_magic = tt; number = refl } }
+starts_close =
+    record { stands = refl; witness = record { call = refl; no_magic = tt; number = refl }; up = λ r f x. up_to_own (pos nr_close) r refl refl f x }
 
 starts_getpid : Starts (pos nr_getpid)
-starts_getpid = record { stands = refl; witness = record { call = refl; no_magic = tt; number = refl } }
+starts_getpid =
+    record { stands = refl; witness = record { call = refl; no_magic = tt; number = refl }; up = λ r f x. up_to_own (pos nr_getpid) r refl refl f x }
 
 starts_read : Starts (pos 0)
-starts_read = record { stands = refl; witness = record { call = refl; no_magic = tt; number = refl } }
+starts_read = record { stands = refl; witness = record { call = refl; no_magic = tt; number = refl }; up = λ r f x. up_to_read r x }
 
 pub all_start : All Starts standing_calls
 all_start =
@@ -145,89 +193,27 @@ all_start =
       ),
     )
 
-module _ (v : Values) (old new : List Rule) (allowed : AreAllowed v) (plain_old : All IsPlainRule old) (plain_new : All IsPlainRule new) where
-  pub plain : All IsPlainAtom (all_atoms old new)
-  plain = All-append IsPlainAtom (atoms_of_rules old) (atoms_of_rules new) (all_plain old plain_old) (all_plain new plain_new)
-
-  old_within : All (λ (rule : Rule). All (Contains (all_atoms old new)) (atoms_of_all rule.conds)) old
-  old_within =
-      All-weaker (λ (rule : Rule). All (Contains (atoms_of_rules old)) (atoms_of_all rule.conds))
-      (λ rule. All (Contains (all_atoms old new)) (atoms_of_all rule.conds))
-      (λ rule. All-weaker (Contains (atoms_of_rules old)) (Contains (all_atoms old new)) (Contains-append_left (atoms_of_rules old) (atoms_of_rules new)) (atoms_of_all rule.conds))
-      old (parts_within (λ (rule : Rule). atoms_of_all rule.conds) old)
-
-  new_within : All (λ (rule : Rule). All (Contains (all_atoms old new)) (atoms_of_all rule.conds)) new
-  new_within =
-      All-weaker (λ (rule : Rule). All (Contains (atoms_of_rules new)) (atoms_of_all rule.conds))
-      (λ rule. All (Contains (all_atoms old new)) (atoms_of_all rule.conds))
-      (λ rule. All-weaker (Contains (atoms_of_rules new)) (Contains (all_atoms old new)) (Contains-append_right (atoms_of_rules old) (atoms_of_rules new)) (atoms_of_all rule.conds))
-      new (parts_within (λ (rule : Rule). atoms_of_all rule.conds) new)
-
+module _ (old new : List Rule) (plain_old : All IsPlainRule old) (plain_new : All IsPlainRule new) where
   abbrev pub old_place : Request → ℕ
   old_place r = (decide old r).0
 
   abbrev pub new_place : Request → ℕ
   new_place r = (decide new r).0
 
-  module _ (nr : ℤ) (start : Starts nr) where
-    pub state : State (all_atoms old new) nr (IsFor nr) (length old) (length new) old_place new_place
-        none_decided (start_of nr) (waiting_from 0 old nr) (waiting_from 0 new nr)
-    state = record {
-      witness = start.witness;
-      old_goes = record { finds = λ r f h. decides_first nr r old f.number plain_old; opens = all_open (all_atoms old new) 0 old nr old_within };
-      new_goes = record { finds = λ r f h. decides_first nr r new f.number plain_new; opens = all_open (all_atoms old new) 0 new nr new_within };
-    }
+  -- the state of the search at the beginning
+  pub state : (nr : ℤ) → Starts nr → State nr (IsFor nr) (length old) (length new) old_place new_place
+      none_decided (start_of nr) (waiting_from 0 old nr) (waiting_from 0 new nr)
+  state nr start = record {
+    witness = start.witness;
+    old_goes = record { finds = λ r f h. decides_first nr r old f.number plain_old; opens = all_open 0 old nr plain_old };
+    new_goes = record { finds = λ r f h. decides_first nr r new f.number plain_new; opens = all_open 0 new nr plain_new };
+  }
 
-    witnesses : (n : ℕ) → All (HasWitness old new) (search_from n v old new (start_of nr)).classes
-    witnesses n =
-        subst (λ m. All (HasWitness old new) (search n v (length old) (length new) (start_of nr) (waiting_from 0 old m) (waiting_from 0 new m)).classes)
-        (sym start.witness.number)
-        (All-weaker (IsRight (all_atoms old new) plain v allowed nr (IsFor nr) (witness_asks nr start.stands) (length old) (length new) old_place new_place)
-        (HasWitness old new) (λ c right. (right.0.call, right.1, right.2)) _
-        (each_is_right (all_atoms old new) plain v allowed nr (IsFor nr) (witness_asks nr start.stands) (length old) (length new) old_place new_place
-        n none_decided (start_of nr) (waiting_from 0 old nr) (waiting_from 0 new nr) state))
-
-    a_class : (n : ℕ) → StandForAll (all_atoms old new) v → (search_from n v old new (start_of nr)).whole ≡ true → (q : Request) → IsFor nr q
-        → Any (Holds old new q) (search_from n v old new (start_of nr)).classes
-    a_class n stand whole q f =
-        subst (λ m. Any (Holds old new q) (search n v (length old) (length new) (start_of nr) (waiting_from 0 old m) (waiting_from 0 new m)).classes)
-        (sym start.witness.number)
-        (a_class_is_there (all_atoms old new) plain v allowed nr (IsFor nr) (witness_asks nr start.stands) (length old) (length new) old_place new_place
-        stand (λ r g. g.call) (λ p r w g. same_fields nr p r start.stands w g)
-        n none_decided (start_of nr) (waiting_from 0 old nr) (waiting_from 0 new nr) state q f (λ k d l o. cc)
-        (subst (λ m. (search n v (length old) (length new) (start_of nr) (waiting_from 0 old m) (waiting_from 0 new m)).whole ≡ true)
-        start.witness.number whole))
-
-  witnesses_in_all : (n : ℕ) → All (HasWitness old new) (found_in_all n v old new).classes
-  witnesses_in_all n =
-      All-flat_map (HasWitness old new) (λ q. (search_from n v old new q).classes) (map start_of standing_calls)
-      (All-map (λ q. All (HasWitness old new) (search_from n v old new q).classes) start_of standing_calls
-      (All-weaker Starts (λ nr. All (HasWitness old new) (search_from n v old new (start_of nr)).classes) (λ nr s. witnesses nr s n) standing_calls all_start))
-
-  class_in_all : (n : ℕ) → StandForAll (all_atoms old new) v → (found_in_all n v old new).whole ≡ true
-      → (q : Request) → IsCall q → Any (Holds old new q) (found_in_all n v old new).classes
-  class_in_all n stand whole q c =
-      Any-flat_map (Holds old new q) (λ p. (search_from n v old new p).classes) (map start_of standing_calls)
-      (any_made (λ p. Any (Holds old new q) (search_from n v old new p).classes) start_of standing_calls (of (stood_for (call_of_request q))))
-    where
-      of : Contains standing_calls (standing_call (call_of_request q)) → Any (λ nr. Any (Holds old new q) (search_from n v old new (start_of nr)).classes) standing_calls
-      of (k, l, e) = (
-        k,
-        standing_call (call_of_request q),
-        l,
-        e,
-        a_class (standing_call (call_of_request q)) (All-contains Starts standing_calls (standing_call (call_of_request q)) all_start (k, l, e)) n stand
-            (All-contains (λ p. (search_from n v old new p).whole ≡ true) (map start_of standing_calls) (start_of (standing_call (call_of_request q)))
-            (each_passes (λ p. (search_from n v old new p).whole) (map start_of standing_calls) whole)
-            (contains_made start_of standing_calls (standing_call (call_of_request q)) (k, l, e)))
-            q (record { call = c; number = refl }),
-      )
-
-pub each_witness_is_one : (n : ℕ) (v : Values) (old new : List Rule) → AreAllowed v → All IsPlainRule old → All IsPlainRule new
-    → All (HasWitness old new) (found_in_all n v old new).classes
-each_witness_is_one n v old new allowed plain_old plain_new = witnesses_in_all v old new allowed plain_old plain_new n
-
-pub each_call_has_a_class : (n : ℕ) (v : Values) (old new : List Rule) → AreAllowed v → All IsPlainRule old → All IsPlainRule new
-    → StandForAll (all_atoms old new) v → (found_in_all n v old new).whole ≡ true
-    → (q : Request) → IsCall q → Any (Holds old new q) (found_in_all n v old new).classes
-each_call_has_a_class n v old new allowed plain_old plain_new stand whole q c = class_in_all v old new allowed plain_old plain_new n stand whole q c
+  -- each call is reached from the one that stands for it
+  pub reached : (nr : ℤ) → Starts nr → (r : Request) → IsFor nr r
+      → Reaches (length old) (length new) old_place new_place (start_of nr) (waiting_from 0 old nr) (waiting_from 0 new nr) r
+  reached nr start r f = record {
+    old_found = decides_first nr r old f.number plain_old;
+    new_found = decides_first nr r new f.number plain_new;
+    up = start.up r f (same_fields nr (start_of nr) r start.stands start.witness f);
+  }

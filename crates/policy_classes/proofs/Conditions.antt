@@ -6,13 +6,12 @@ use Rattle.std.specs.List.{list_all, list_any}
 use Rattle.std.specs.Int.{bit_at}
 use Rattle.std.proofs.lemmas.Nat.{div-add-mod'}
 use Rattle.std.proofs.lemmas.Nat.Bits.{and_pow, bit_at_cat_low}
-use Rattle.hist_model.specs.Decisions.{has_flag, has_flags, has_plain_flags, meets, mount_flags}
+use Rattle.hist_model.specs.Decisions.{has_flag, has_flags, meets}
 use Rattle.hist_model.specs.declared.policy.Cond.{Cond}
 use Rattle.hist_model.specs.declared.policy.Cond.TheVariants as cond
 use Rattle.hist_model.specs.declared.policy.Flag.{Flag}
-use Rattle.hist_model.specs.declared.policy.Flag.TheVariants as flag
 use Rattle.hist_model.specs.declared.request.Request.{Request}
-use Rattle.hist_model.specs.declared.request.Request.TheVariants.{Mknod, Mount, SetXattr, OpenAt, Sysinfo, Other}
+use Rattle.hist_model.specs.declared.request.Request.TheVariants.{Mount}
 use Rattle.policy_classes.specs.declared.atoms.Atom.{Atom}
 use Rattle.policy_classes.specs.declared.atoms.Atom.TheVariants as atom
 use Rattle.policy_classes.specs.Atoms.{all_hold, atoms_of, holds}

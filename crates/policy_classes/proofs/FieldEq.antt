@@ -1,7 +1,6 @@
 -- Fields that are one.
 -- By cases on both.
-use Rattle.std.proofs.Common.{◌≡◌, ℕ, Bool, true, false, ◌||◌, not, refl, ap, eqb, arith}
-use Rattle.std.specs.Prelude.{◌==◌}
+use Rattle.std.proofs.Common.{◌≡◌, Bool, true, false, ◌||◌, not, refl, ap}
 use Rattle.std.proofs.lemmas.Bool.{eqb-true}
 use Rattle.hist_model.specs.declared.policy.Flag.TheVariants as flag
 use Rattle.policy_classes.specs.declared.atoms.Field.{Field}

@@ -1,9 +1,9 @@
 -- Flags that are set and unset bit by bit.
 -- By the laws of bits of numbers.
-use Rattle.std.proofs.Common.{◌≡◌, ◌≢◌, ℕ, ◌+◌, ◌-◌, ◌*◌, ◌^◌, ◌<◌, ◌≤◌, max, min, Bool, true, false, not, refl, ap, sym, ◌∙◌, arith}
-use Rattle.std.specs.Prelude.{◌==◌, bit_and, bit_or, if◌then◌else◌}
+use Rattle.std.proofs.Common.{◌≡◌, ◌≢◌, ℕ, ◌*◌, ◌^◌, ◌<◌, min, true, false, not, refl, ap, ◌∙◌, arith}
+use Rattle.std.specs.Prelude.{◌==◌, bit_and, bit_or}
 use mir.Val.{bits}
-use Rattle.std.specs.Int.{Width, w32, w64, bit_at, bit_not}
+use Rattle.std.specs.Int.{Width, w64, bit_at, bit_not}
 use Rattle.std.proofs.lemmas.Bool.{eq-eqb, ne_eqb}
 use Rattle.std.proofs.lemmas.Nat.Bits.{and_pow, bit_at_and, bit_at_or, bit_at_not, bit_at-lt, bit_at-pow_same, bit_at-pow_other}
 use Rattle.std.proofs.Math.Pow.{pow-lt, pow_pos}
@@ -23,7 +23,7 @@ pub flags_without_magic : (n : ℕ) → bit_at n 31 ≡ 0 → mount_flags n ≡ 
 flags_without_magic n h = rw (no_magic n h) refl
 
 -- a bit that is set leaves the others
-or_other : (n j k : ℕ) → k ≢ j → bit_at (bit_or n (2 ^ j)) k ≡ bit_at n k
+pub or_other : (n j k : ℕ) → k ≢ j → bit_at (bit_or n (2 ^ j)) k ≡ bit_at n k
 or_other n j k h = rw (bit_at_or n (2 ^ j) k, bit_at-pow_other j k h) (omega arith)
 
 or_same : (n j : ℕ) → bit_at (bit_or n (2 ^ j)) j ≡ 1

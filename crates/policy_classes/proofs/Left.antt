@@ -2,14 +2,13 @@
 -- By induction on the atoms, and on the rules.
 use Rattle.std.proofs.Common.{◌≡◌, ℕ, Bool, true, false, ◌&&◌, ◌||◌, cond, not, List, [], ◌∷◌, refl, ap, sym, ◌∙◌}
 use Rattle.std.specs.Prelude.{All}
-use Rattle.std.specs.List.{filter, list_all, list_any}
-use Rattle.std.proofs.lemmas.List.Elements.{All-head, All-tail, All-cons, All-nil, All-filter}
+use Rattle.std.proofs.lemmas.List.Elements.{All-head, All-tail, All-cons, All-nil}
 use Rattle.hist_model.specs.declared.request.Request.{Request}
 use Rattle.policy_classes.specs.declared.atoms.Atom.{Atom}
 use Rattle.policy_classes.specs.declared.atoms.Field.{Field}
 use Rattle.policy_classes.specs.Atoms.{all_hold, holds}
 use Rattle.policy_classes.specs.Fields.{is_of}
-use Rattle.policy_classes.specs.Search.{Waiting, fails_in, first_place, left_of, next_field, others, place_among, put_before, undecided}
+use Rattle.policy_classes.specs.Search.{Waiting, fails_in, left_of, others, place_among, put_before}
 
 -- two requests are alike in the atoms of a field
 abbrev pub AgreesIn : Field → Request → Request → Atom → Type 0

@@ -1,7 +1,7 @@
 -- Rules that refer to atoms, as lists of atoms.
 -- By induction on the lists, and by `drop-cons` at the first rule that is left.
-use Rattle.std.proofs.Common.{◌≡◌, ℕ, suc, ◌+◌, ◌<◌, ◌≤◌, Bool, true, false, ◌&&◌, ◌||◌, cond, not, List, [], ◌∷◌, ◌++◌, length, map, take, drop, length-drop, get_or, Option, Some, None, refl, ap, sym, ◌∙◌, append_assoc, append-nil, arith, add-one}
-use Rattle.std.specs.List.{filter, list_any}
+use Rattle.std.proofs.Common.{◌≡◌, ℕ, suc, ◌+◌, ◌<◌, ◌≤◌, Bool, true, false, ◌&&◌, ◌||◌, cond, not, List, [], ◌∷◌, ◌++◌, length, take, drop, length-drop, get_or, refl, ap, sym, ◌∙◌, append_assoc, append-nil, arith, add-one}
+use Rattle.std.specs.List.{list_any}
 use Rattle.std.specs.Borrow.{Bor}
 use Rattle.std.proofs.Math.Seq.{drop-cons}
 use Rattle.std.proofs.lemmas.List.{take_more}
@@ -19,7 +19,7 @@ pub fails_in_seen : (f : Field) (q : Request) (atoms : List (Bor Atom))
 fails_in_seen f q [] = refl
 fails_in_seen f q (a ∷ atoms) = ap (λ b. (is_of f a.now && not (holds a.now q)) || b) (fails_in_seen f q atoms)
 
-atoms_seen-append : (xs ys : List (Bor Atom)) → atoms_seen (xs ++ ys) ≡ atoms_seen xs ++ atoms_seen ys
+pub atoms_seen-append : (xs ys : List (Bor Atom)) → atoms_seen (xs ++ ys) ≡ atoms_seen xs ++ atoms_seen ys
 atoms_seen-append [] ys = refl
 atoms_seen-append (x ∷ xs) ys = ap (λ zs. x.now ∷ zs) (atoms_seen-append xs ys)
 

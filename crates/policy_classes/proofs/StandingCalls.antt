@@ -1,8 +1,8 @@
 -- Rules are for a call where they are for the one that stands for it, and calls of one number have the same fields.
 -- By cases on the numbers of the calls that have names.
-use Rattle.std.proofs.Common.{◌≡◌, ℕ, suc, ◌+◌, ◌<◌, Bool, true, false, ◌&&◌, ◌||◌, cond, not, List, [], ◌∷◌, ◌++◌, length, map, get_or, Option, Some, None, ℤ, pos, refl, ap, sym, ◌∙◌, arith}
-use Rattle.std.specs.Prelude.{All, Any, Contains, if◌then◌else◌, ⊤}
-use Rattle.std.specs.List.{list_all, list_any}
+use Rattle.std.proofs.Common.{◌≡◌, ℕ, suc, Bool, true, false, ◌&&◌, ◌||◌, List, [], ◌∷◌, Some, None, ℤ, pos, refl, ap, sym, ◌∙◌, arith}
+use Rattle.std.specs.Prelude.{Contains, if◌then◌else◌}
+use Rattle.std.specs.List.{list_all}
 use Rattle.std.specs.Ordering.{int_eq}
 use Rattle.std.proofs.lemmas.Bool.Decides.{Decides-int_eq}
 use Rattle.hist_model.specs.Decisions.{covers, is_among, named_calls}
@@ -11,7 +11,7 @@ use Rattle.hist_model.specs.declared.policy.Calls.{Calls}
 use Rattle.hist_model.specs.declared.policy.Calls.TheVariants.{Named, Other as OtherCalls}
 use Rattle.hist_model.specs.declared.request.Request.{Request}
 use Rattle.hist_model.specs.declared.request.Request.TheVariants.{Mknod, Mount, SetXattr, OpenAt, Sysinfo, Other}
-use Rattle.policy_classes.specs.Asked.{IsCall, calls_with_requests}
+use Rattle.policy_classes.specs.Asked.{IsCall}
 use Rattle.policy_classes.specs.Plain.{AreKnown, standing_call, standing_calls}
 use Rattle.policy_classes.proofs.Kept.{IsWitness}
 use Rattle.policy_classes.proofs.Stands.{SameShape}

@@ -1,130 +1,26 @@
--- Texts that are asked for, and one that isn't, stand for all texts.
+-- The texts that are chosen stand for all that calls may have, and none is greater than the one that stands for it.
 -- By cases on whether a text is asked for; of a path, by the longest directory that it is below.
-use Rattle.std.proofs.Common.{◌≡◌, ℕ, zero, suc, ◌+◌, ◌<◌, ◌≤◌, Bool, true, false, ◌&&◌, ◌||◌, not, List, [], ◌∷◌, ◌++◌, length, length-append, get_or, Option, Some, None, ℤ, refl, ap, sym, ◌∙◌, subst, ◌⊎◌, inl, inr, arith}
-use Rattle.std.specs.Prelude.{◌==◌, All, Any, Contains, bytes_eq, nat_eq, nat_le, ⊤}
-use Rattle.std.specs.List.{filter_map, list_any, starts_with}
-use Rattle.std.specs.Ordering.{int_eq}
-use Rattle.std.proofs.lemmas.Bool.{cases_lt, eqb-true, eq-eqb, leb-true}
-use Rattle.std.proofs.lemmas.Bool.Decides.{Decides-int_eq}
-use Rattle.std.proofs.lemmas.List.Elements.{All-contains, All-cons, All-nil, All-tail, All-head}
-use Rattle.std.proofs.lemmas.Slice.Eq.{bytes_eq-Decides}
-use Rattle.hist_model.specs.Decisions.{has_dot_dot, is_text, lies_under}
+use Rattle.std.proofs.Common.{◌≡◌, ℕ, suc, ◌<◌, ◌≤◌, Bool, true, false, ◌&&◌, ◌||◌, not, List, [], ◌∷◌, ◌++◌, length, length-append, get_or, Option, Some, None, refl, ap, sym, ◌∙◌, inl, inr, arith}
+use Rattle.std.specs.Prelude.{All, Any, Contains, bytes_eq, nat_eq}
+use Rattle.std.specs.List.{filter, filter_map, flat_map, list_any, starts_with}
+use Rattle.std.specs.Option.{option_to_list}
+use Rattle.std.proofs.lemmas.Bool.{cases_lt, eqb-true, eq-eqb}
+use Rattle.std.proofs.lemmas.List.Elements.{All-append, All-contains, All-cons, All-nil, filter_passes}
+use Rattle.hist_model.specs.Decisions.{has_dot_dot, lies_under}
 use Rattle.policy_classes.specs.declared.atoms.Atom.{Atom}
 use Rattle.policy_classes.specs.declared.atoms.Atom.TheVariants as atom
 use Rattle.policy_classes.specs.declared.atoms.Field.{Field}
 use Rattle.policy_classes.specs.declared.atoms.Field.TheVariants as field
-use Rattle.policy_classes.specs.Asked.{is_text_within, path_max}
-use Rattle.policy_classes.specs.Chosen.{AreChosen, DescriptorsAreChosen, IsBelowNone, IsJustBelow, IsNoneOf, IsTextField, PathsAreChosen, descriptor_asked}
-use Rattle.policy_classes.specs.Chosen.{descriptors_asked, dir_asked, dirs_asked, text_asked, texts_asked, with_slash}
-use Rattle.policy_classes.specs.Fields.{Sight, descriptor, is_of, suits, text}
-use Rattle.policy_classes.specs.Standing.{Alike, IsShortValue, IsTextWithin, TextsStand}
-use Rattle.policy_classes.proofs.Lists.{any_place, any_later, each_fails, each_found, some_passes}
-
-same-bytes : (x y : List ℕ) → bytes_eq x y ≡ true → x ≡ y
-same-bytes x y h = grind (arith, bytes_eq-Decides)
-
-same-int : (x y : ℤ) → int_eq x y ≡ true → x ≡ y
-same-int x y h = grind (arith, Decides-int_eq)
-
--- ---- texts
-
-abbrev asks : Option (List ℕ) → List ℕ → Bool
-asks (Some x) t = bytes_eq t x
-asks None t = false
-
--- an atom on such a field suits the text for which it asks
-seen_text : (f : Field) → IsTextField f → (a : Atom) → is_of f a ≡ true → (t : List ℕ) → suits a (text (Some t)) ≡ asks (text_asked f a) t
-seen_text field.Fstype i (atom.Fstype x) h t = refl
-seen_text field.Fstype i a h t = cc
-seen_text field.Source i (atom.Source x) h t = refl
-seen_text field.Source i a h t = cc
-seen_text field.Name i (atom.Name x) h t = refl
-seen_text field.Name i a h t = cc
-seen_text field.Value i (atom.Value x) h t = refl
-seen_text field.Value i a h t = cc
-seen_text f i a h t = absurd i
-
-module _ (atoms : List Atom) (f : Field) (i : IsTextField f) (Allowed : List ℕ → Type 0) (texts : List (List ℕ)) (chosen : AreChosen (texts_asked f atoms) Allowed texts) where
-  other_like : (t u : List ℕ) → IsNoneOf (texts_asked f atoms) t → IsNoneOf (texts_asked f atoms) u → Alike atoms f (text (Some u)) (text (Some t))
-  other_like t u isnt none k d l o = seen_text f i a o u ∙ by (text_asked f a) refl ∙ sym (seen_text f i a o t)
-    where
-      a : Atom
-      a = get_or atoms k d
-
-      by : (x : Option (List ℕ)) → text_asked f a ≡ x → asks x u ≡ asks x t
-      by None e = refl
-      by (Some x) e =
-          let c : Contains (texts_asked f atoms) x = each_found (text_asked f) atoms k d l x e in
-          All-contains (λ y. bytes_eq u y ≡ false) (texts_asked f atoms) x none c
-          ∙ sym (All-contains (λ y. bytes_eq t y ≡ false) (texts_asked f atoms) x isnt c)
-
-  pub texts_stand : TextsStand atoms f Allowed texts
-  texts_stand t allowed = by (list_any (bytes_eq t) (texts_asked f atoms)) refl
-    where
-      of_one : Any (λ x. bytes_eq t x ≡ true) (texts_asked f atoms) → Any (λ u. Alike atoms f (text (Some u)) (text (Some t))) texts
-      of_one (k, x, l, e, h) =
-          let same : x ≡ t = sym (same-bytes t x h) in
-          let may : Allowed x = subst Allowed (sym same) allowed in
-          let c : Contains texts x = All-contains (λ y. Allowed y → Contains texts y) (texts_asked f atoms) x chosen.those (k, l, e) may in
-          any_place (λ u. Alike atoms f (text (Some u)) (text (Some t))) texts x c
-          (λ j d m o. ap (λ y. suits (get_or atoms j d) (text (Some y))) same)
-
-      of_other : Any (IsNoneOf (texts_asked f atoms)) texts → IsNoneOf (texts_asked f atoms) t → Any (λ u. Alike atoms f (text (Some u)) (text (Some t))) texts
-      of_other (k, u, l, e, none) isnt = (k, u, l, e, other_like t u isnt none)
-
-      by : (b : Bool) → list_any (bytes_eq t) (texts_asked f atoms) ≡ b → Any (λ u. Alike atoms f (text (Some u)) (text (Some t))) texts
-      by true e = of_one (some_passes (bytes_eq t) (texts_asked f atoms) e)
-      by false e = of_other chosen.other (each_fails (bytes_eq t) (texts_asked f atoms) e)
-
-pub short_texts_stand : (atoms : List Atom) (f : Field) (most : ℕ) (texts : List (List ℕ)) → IsTextField f
-    → AreChosen (texts_asked f atoms) (IsTextWithin most) texts → TextsStand atoms f (IsTextWithin most) texts
-short_texts_stand atoms f most texts i chosen = texts_stand atoms f i (IsTextWithin most) texts chosen
-
-pub contents_stand : (atoms : List Atom) (texts : List (List ℕ)) → AreChosen (texts_asked field.Value atoms) IsShortValue texts
-    → TextsStand atoms field.Value IsShortValue texts
-contents_stand atoms texts chosen = texts_stand atoms field.Value tt IsShortValue texts chosen
-
--- ---- descriptors
-
-abbrev asks_descriptor : Option ℤ → ℤ → Bool
-asks_descriptor (Some x) t = int_eq t x
-asks_descriptor None t = false
-
-seen_descriptor : (a : Atom) → is_of field.Dirfd a ≡ true → (t : ℤ) → suits a (descriptor (Some t)) ≡ asks_descriptor (descriptor_asked a) t
-seen_descriptor (atom.Dirfd x) h t = refl
-seen_descriptor a h t = cc
-
-module _ (atoms : List Atom) (numbers : List ℤ) (chosen : DescriptorsAreChosen (descriptors_asked atoms) numbers) where
-  other_number : (t u : ℤ) → All (λ n. int_eq t n ≡ false) (descriptors_asked atoms) → All (λ n. int_eq u n ≡ false) (descriptors_asked atoms)
-      → Alike atoms field.Dirfd (descriptor (Some u)) (descriptor (Some t))
-  other_number t u isnt none k d l o = seen_descriptor a o u ∙ by (descriptor_asked a) refl ∙ sym (seen_descriptor a o t)
-    where
-      a : Atom
-      a = get_or atoms k d
-
-      by : (x : Option ℤ) → descriptor_asked a ≡ x → asks_descriptor x u ≡ asks_descriptor x t
-      by None e = refl
-      by (Some x) e =
-          let c : Contains (descriptors_asked atoms) x = each_found descriptor_asked atoms k d l x e in
-          All-contains (λ y. int_eq u y ≡ false) (descriptors_asked atoms) x none c
-          ∙ sym (All-contains (λ y. int_eq t y ≡ false) (descriptors_asked atoms) x isnt c)
-
-  pub descriptors_stand : (t : ℤ) → Any (λ u. Alike atoms field.Dirfd (descriptor (Some u)) (descriptor (Some t))) numbers
-  descriptors_stand t = by (list_any (int_eq t) (descriptors_asked atoms)) refl
-    where
-      of_one : Any (λ x. int_eq t x ≡ true) (descriptors_asked atoms) → Any (λ u. Alike atoms field.Dirfd (descriptor (Some u)) (descriptor (Some t))) numbers
-      of_one (k, x, l, e, h) =
-          any_place (λ u. Alike atoms field.Dirfd (descriptor (Some u)) (descriptor (Some t))) numbers x
-          (All-contains (Contains numbers) (descriptors_asked atoms) x chosen.those (k, l, e))
-          (λ j d m o. ap (λ y. suits (get_or atoms j d) (descriptor (Some y))) (sym (same-int t x h)))
-
-      of_other : Any (λ u. All (λ n. int_eq u n ≡ false) (descriptors_asked atoms)) numbers → All (λ n. int_eq t n ≡ false) (descriptors_asked atoms)
-          → Any (λ u. Alike atoms field.Dirfd (descriptor (Some u)) (descriptor (Some t))) numbers
-      of_other (k, u, l, e, none) isnt = (k, u, l, e, other_number t u isnt none)
-
-      by : (b : Bool) → list_any (int_eq t) (descriptors_asked atoms) ≡ b → Any (λ u. Alike atoms field.Dirfd (descriptor (Some u)) (descriptor (Some t))) numbers
-      by true e = of_one (some_passes (int_eq t) (descriptors_asked atoms) e)
-      by false e = of_other chosen.other (each_fails (int_eq t) (descriptors_asked atoms) e)
+use Rattle.policy_classes.specs.Allowed.{IsAllowed, is_allowed, is_asked, limit_of, plain_of}
+use Rattle.policy_classes.specs.Chosen.{dir_asked, dirs_asked, field_texts, fresh_at, text_asked, texts_asked}
+use Rattle.policy_classes.specs.Fields.{is_of, suits, text}
+use Rattle.policy_classes.specs.Fresh.{fresh, is_within, with_slash}
+use Rattle.policy_classes.specs.Order.{text_part}
+use Rattle.policy_classes.specs.Standing.{Alike, IsTextField, IsUpTo, TextsStand}
+use Rattle.policy_classes.proofs.Lists.{All-flat_map, Any-flat_map, any_behind, any_in, any_place, each_fails, each_found}
+use Rattle.policy_classes.proofs.Near.{Fresh, IsPlace, and_left, and_right, chosen_fresh, fresh_allowed, fresh_placed, fresh_stands, fresh_unasked, is_among, is_fresh_there, kept_by, same-bytes}
+use Rattle.policy_classes.proofs.Once.{once_has}
+use Rattle.policy_classes.proofs.Ranks.{up_to_itself}
 
 -- ---- paths
 
@@ -171,14 +67,6 @@ begins_within (x ∷ p) (y ∷ d) h = by (nat_eq y x) h (begins_within p d)
     by : (b : Bool) → (b && starts_with nat_eq p d) ≡ true → (starts_with nat_eq p d ≡ true → length d ≤ length p) → suc (length d) ≤ suc (length p)
     by true g rest = let l : length d ≤ length p = rest g in omega arith
     by false g rest = cc
-
-and_left : (a b : Bool) → (a && b) ≡ true → a ≡ true
-and_left true b h = refl
-and_left false b h = cc
-
-and_right : (a b : Bool) → (a && b) ≡ true → b ≡ true
-and_right true b h = h
-and_right false b h = cc
 
 -- a path below one directory is below another where the other is a front of the first, if it isn't longer
 below_longest : (p d e : List ℕ) → lies_under (Some p) d ≡ true → (lies_under (Some p) e ≡ true → length e ≤ length d)
@@ -257,82 +145,155 @@ longest p (e ∷ dirs) h = by (lies_under (Some p) e) refl (list_any (λ d. lies
     by false u true s g rest = skip u (rest s)
     by false u false s g rest = cc
 
+-- ---- what atoms see of a text
+
+abbrev asks : Option (List ℕ) → List ℕ → Bool
+asks (Some x) t = bytes_eq t x
+asks None t = false
+
 abbrev is_below : Option (List ℕ) → List ℕ → Bool
 is_below (Some d) p = lies_under (Some p) d
 is_below None p = false
 
--- an atom on paths suits the text for which it asks, or those below its directory
-seen_path : (a : Atom) → is_of field.Path a ≡ true → (t : List ℕ) → suits a (text (Some t)) ≡ (asks (text_asked field.Path a) t || is_below (dir_asked a) t)
-seen_path (atom.Path x) h t = or_nothing (bytes_eq t x)
+-- an atom on a text suits the text for which it asks, or those below its directory
+seen_text : (f : Field) → IsTextField f → (a : Atom) → is_of f a ≡ true → (t : List ℕ)
+    → suits a (text (Some t)) ≡ (asks (text_asked f a) t || is_below (dir_asked f a) t)
+seen_text field.Path i (atom.Path x) h t = or_nothing (bytes_eq t x)
   where
     or_nothing : (b : Bool) → b ≡ (b || false)
     or_nothing true = refl
     or_nothing false = refl
-seen_path (atom.Under d) h t = refl
-seen_path a h t = cc
+seen_text field.Path i (atom.Under d) h t = refl
+seen_text field.Path i a h t = cc
+seen_text field.Fstype i (atom.Fstype x) h t = or_nothing (bytes_eq t x)
+  where
+    or_nothing : (b : Bool) → b ≡ (b || false)
+    or_nothing true = refl
+    or_nothing false = refl
+seen_text field.Fstype i a h t = cc
+seen_text field.Source i (atom.Source x) h t = or_nothing (bytes_eq t x)
+  where
+    or_nothing : (b : Bool) → b ≡ (b || false)
+    or_nothing true = refl
+    or_nothing false = refl
+seen_text field.Source i a h t = cc
+seen_text field.Name i (atom.Name x) h t = or_nothing (bytes_eq t x)
+  where
+    or_nothing : (b : Bool) → b ≡ (b || false)
+    or_nothing true = refl
+    or_nothing false = refl
+seen_text field.Name i a h t = cc
+seen_text field.Value i (atom.Value x) h t = or_nothing (bytes_eq t x)
+  where
+    or_nothing : (b : Bool) → b ≡ (b || false)
+    or_nothing true = refl
+    or_nothing false = refl
+seen_text field.Value i a h t = cc
+seen_text f i a h t = absurd i
 
-module _ (atoms : List Atom) (paths : List (List ℕ)) (chosen : PathsAreChosen (texts_asked field.Path atoms) (dirs_asked atoms) paths) where
-  abbrev IsLike : List ℕ → List ℕ → Type 0
-  IsLike t u = Alike atoms field.Path (text (Some u)) (text (Some t))
+module _ (f : Field) (i : IsTextField f) (atoms : List Atom) where
+  abbrev asked : List (List ℕ)
+  asked = texts_asked f atoms
 
-  path_like : (t u : List ℕ) → IsNoneOf (texts_asked field.Path atoms) t → IsNoneOf (texts_asked field.Path atoms) u
-      → All (λ e. lies_under (Some u) e ≡ lies_under (Some t) e) (dirs_asked atoms) → IsLike t u
-  path_like t u isnt none same k d l o =
-      seen_path a o u ∙ ap (λ b. b || is_below (dir_asked a) u) (by (text_asked field.Path a) refl)
-      ∙ ap (λ b. asks (text_asked field.Path a) t || b) (by_dir (dir_asked a) refl) ∙ sym (seen_path a o t)
+  abbrev dirs : List (List ℕ)
+  dirs = dirs_asked f atoms
+
+  -- what one of the chosen texts is to be
+  abbrev Stands : List ℕ → List ℕ → Type 0
+  Stands t u = Alike atoms f (text (Some u)) (text (Some t)) × IsUpTo (text_part (plain_of f) u) (text_part (plain_of f) t)
+
+  asked_has : (k : ℕ) (d : Atom) → k < length atoms → (x : List ℕ) → text_asked f (get_or atoms k d) ≡ Some x → Contains asked x
+  asked_has k d l x e = once_has bytes_eq same-bytes [] (filter_map (text_asked f) atoms) x (inr (each_found (text_asked f) atoms k d l x e))
+
+  dirs_has : (k : ℕ) (d : Atom) → k < length atoms → (x : List ℕ) → dir_asked f (get_or atoms k d) ≡ Some x → Contains dirs x
+  dirs_has k d l x e = once_has bytes_eq same-bytes [] (filter_map (dir_asked f) atoms) x (inr (each_found (dir_asked f) atoms k d l x e))
+
+  -- texts for which no atom asks, below the same directories
+  alike_text : (t u : List ℕ) → is_asked asked t ≡ false → is_asked asked u ≡ false → All (λ e. lies_under (Some u) e ≡ lies_under (Some t) e) dirs
+      → Alike atoms f (text (Some u)) (text (Some t))
+  alike_text t u isnt none same k d l o =
+      seen_text f i a o u ∙ ap (λ b. b || is_below (dir_asked f a) u) (by (text_asked f a) refl)
+      ∙ ap (λ b. asks (text_asked f a) t || b) (by_dir (dir_asked f a) refl) ∙ sym (seen_text f i a o t)
     where
       a : Atom
       a = get_or atoms k d
 
-      by : (x : Option (List ℕ)) → text_asked field.Path a ≡ x → asks x u ≡ asks x t
+      by : (x : Option (List ℕ)) → text_asked f a ≡ x → asks x u ≡ asks x t
       by None e = refl
       by (Some x) e =
-          let c : Contains (texts_asked field.Path atoms) x = each_found (text_asked field.Path) atoms k d l x e in
-          All-contains (λ y. bytes_eq u y ≡ false) (texts_asked field.Path atoms) x none c
-          ∙ sym (All-contains (λ y. bytes_eq t y ≡ false) (texts_asked field.Path atoms) x isnt c)
+          let c : Contains asked x = asked_has k d l x e in
+          All-contains (λ y. bytes_eq u y ≡ false) asked x (each_fails (bytes_eq u) asked none) c
+          ∙ sym (All-contains (λ y. bytes_eq t y ≡ false) asked x (each_fails (bytes_eq t) asked isnt) c)
 
-      by_dir : (x : Option (List ℕ)) → dir_asked a ≡ x → is_below x u ≡ is_below x t
+      by_dir : (x : Option (List ℕ)) → dir_asked f a ≡ x → is_below x u ≡ is_below x t
       by_dir None e = refl
-      by_dir (Some x) e =
-          All-contains (λ y. lies_under (Some u) y ≡ lies_under (Some t) y) (dirs_asked atoms) x same (each_found dir_asked atoms k d l x e)
+      by_dir (Some x) e = All-contains (λ y. lies_under (Some u) y ≡ lies_under (Some t) y) dirs x same (dirs_has k d l x e)
 
-  of_asked : (t : List ℕ) → IsTextWithin path_max t → Any (λ x. bytes_eq t x ≡ true) (texts_asked field.Path atoms) → Any (IsLike t) paths
-  of_asked t may (k, x, l, e, h) =
-      let same : x ≡ t = sym (same-bytes t x h) in
-      any_place (IsLike t) paths x
-      (All-contains (λ y. IsTextWithin path_max y → Contains paths y) (texts_asked field.Path atoms) x chosen.those (k, l, e)
-      (subst (IsTextWithin path_max) (sym same) may))
-      (λ j d m o. ap (λ y. suits (get_or atoms j d) (text (Some y))) same)
+  -- ---- where the values are
 
-  of_none : (t : List ℕ) → IsNoneOf (texts_asked field.Path atoms) t → All (λ e. lies_under (Some t) e ≡ false) (dirs_asked atoms)
-      → Any (λ u. IsNoneOf (texts_asked field.Path atoms) u × IsBelowNone (dirs_asked atoms) u) paths → Any (IsLike t) paths
-  of_none t isnt below (k, u, l, e, h) = (k, u, l, e, path_like t u isnt h.0 (λ j d m. h.1.below j d m ∙ sym (below j d m)))
+  of_asked : (P : List ℕ → Type 0) (t : List ℕ) → Contains asked t → IsAllowed (limit_of f) t → P t → Any P (field_texts f atoms)
+  of_asked P t c may h =
+      any_in P (filter (is_allowed (limit_of f)) asked)
+      (fresh_at (limit_of f) (plain_of f) asked dirs None ++ flat_map (λ d. fresh_at (limit_of f) (plain_of f) asked dirs (Some d)) dirs)
+      (any_place P (filter (is_allowed (limit_of f)) asked) t (kept_by (is_allowed (limit_of f)) asked t c may) h)
 
-  of_below : (t : List ℕ) → IsNoneOf (texts_asked field.Path atoms) t → (g : Longest t (dirs_asked atoms))
-      → Any (λ u. IsNoneOf (texts_asked field.Path atoms) u × IsJustBelow (dirs_asked atoms) g.dir u) paths → Any (IsLike t) paths
-  of_below t isnt g (k, u, l, e, h) =
-      (k, u, l, e, path_like t u isnt h.0 (λ j d m. h.1.below j d m ∙ below_longest t g.dir (get_or (dirs_asked atoms) j d) g.below (g.most j d m)))
+  of_fresh : (P : List ℕ → Type 0) (at : Option (List ℕ)) → IsPlace (limit_of f) asked dirs at → (u : List ℕ)
+      → fresh (limit_of f) (plain_of f) asked dirs at ≡ Some u → P u → Any P (field_texts f atoms)
+  of_fresh P None p u e h =
+      any_behind P (filter (is_allowed (limit_of f)) asked)
+      (fresh_at (limit_of f) (plain_of f) asked dirs None ++ flat_map (λ d. fresh_at (limit_of f) (plain_of f) asked dirs (Some d)) dirs)
+      (any_in P (fresh_at (limit_of f) (plain_of f) asked dirs None) (flat_map (λ d. fresh_at (limit_of f) (plain_of f) asked dirs (Some d)) dirs)
+      (rw (ap option_to_list e) (0, u, omega arith, refl, h)))
+  of_fresh P (Some d) (k, l, s) u e h =
+      any_behind P (filter (is_allowed (limit_of f)) asked)
+      (fresh_at (limit_of f) (plain_of f) asked dirs None ++ flat_map (λ d. fresh_at (limit_of f) (plain_of f) asked dirs (Some d)) dirs)
+      (any_behind P (fresh_at (limit_of f) (plain_of f) asked dirs None) (flat_map (λ d. fresh_at (limit_of f) (plain_of f) asked dirs (Some d)) dirs)
+      (Any-flat_map P (λ d. fresh_at (limit_of f) (plain_of f) asked dirs (Some d)) dirs
+      (k, d, l, s, rw (ap option_to_list e) (0, u, omega arith, refl, h))))
 
-  short_enough : (t d : List ℕ) → IsTextWithin path_max t → lies_under (Some t) d ≡ true → length d < path_max
-  short_enough t d may h =
-      let fits : length t ≤ 4095 = leb-true (length t) 4095 (and_left (nat_le (length t) 4095) (not (list_any (λ b. b == 0) t)) may) in
-      let within : length (with_slash d) ≤ length t = begins_within t (with_slash d) (and_left (starts_with nat_eq t (with_slash d)) (not (has_dot_dot t)) h) in
-      let len : length (with_slash d) ≡ length d + 1 = length-append d (47 ∷ []) in
-      omega arith
+  -- ---- a text stands for each
 
-  pub paths_stand : TextsStand atoms field.Path (IsTextWithin path_max) paths
-  paths_stand t may =
-      by (list_any (bytes_eq t) (texts_asked field.Path atoms)) refl (list_any (λ d. lies_under (Some t) d) (dirs_asked atoms)) refl
+  by_place : (t : List ℕ) (at : Option (List ℕ)) → IsPlace (limit_of f) asked dirs at → IsAllowed (limit_of f) t → is_asked asked t ≡ false
+      → All (λ e. lies_under (Some t) e ≡ is_within at e) dirs → Any (Stands t) (field_texts f atoms)
+  by_place t at p may isnt placed = of (fresh_stands (limit_of f) asked dirs (plain_of f) at p t (is_fresh_there (limit_of f) asked dirs at t may isnt placed))
     where
-      from : IsNoneOf (texts_asked field.Path atoms) t → Longest t (dirs_asked atoms) → Any (IsLike t) paths
-      from isnt g =
-          of_below t isnt g
-          (All-contains (λ d. length d < path_max → Any (λ u. IsNoneOf (texts_asked field.Path atoms) u × IsJustBelow (dirs_asked atoms) d u) paths)
-          (dirs_asked atoms) g.dir chosen.below g.one (short_enough t g.dir may g.below))
+      of : (u : List ℕ) × (fresh (limit_of f) (plain_of f) asked dirs at ≡ Some u) × Fresh (limit_of f) asked dirs at u
+          × IsUpTo (text_part (plain_of f) u) (text_part (plain_of f) t) → Any (Stands t) (field_texts f atoms)
+      of (u, e, g, up) =
+          of_fresh (Stands t) at p u e (
+            alike_text t u isnt (fresh_unasked (limit_of f) asked dirs at u g)
+                (λ k d l. fresh_placed (limit_of f) asked dirs at u g k d l ∙ sym (placed k d l)),
+            up,
+          )
 
-      by : (b : Bool) → list_any (bytes_eq t) (texts_asked field.Path atoms) ≡ b
-          → (c : Bool) → list_any (λ d. lies_under (Some t) d) (dirs_asked atoms) ≡ c → Any (IsLike t) paths
-      by true e c s = of_asked t may (some_passes (bytes_eq t) (texts_asked field.Path atoms) e)
-      by false e false s =
-          of_none t (each_fails (bytes_eq t) (texts_asked field.Path atoms) e) (each_fails (λ d. lies_under (Some t) d) (dirs_asked atoms) s) chosen.other
-      by false e true s = from (each_fails (bytes_eq t) (texts_asked field.Path atoms) e) (longest t (dirs_asked atoms) s)
+  stands : (t : List ℕ) → IsAllowed (limit_of f) t → Any (Stands t) (field_texts f atoms)
+  stands t may = by (is_asked asked t) refl (list_any (λ d. lies_under (Some t) d) dirs) refl
+    where
+      by : (b : Bool) → is_asked asked t ≡ b → (c : Bool) → list_any (λ d. lies_under (Some t) d) dirs ≡ c → Any (Stands t) (field_texts f atoms)
+      by true e c s = of_asked (Stands t) t (is_among asked t e) may ((λ k d l o. refl), up_to_itself (text_part (plain_of f) t))
+      by false e false s = by_place t None tt may e (each_fails (λ d. lies_under (Some t) d) dirs s)
+      by false e true s =
+          let g : Longest t dirs = longest t dirs s in
+          by_place t (Some g.dir) g.one may e (λ k d l. sym (below_longest t g.dir (get_or dirs k d) g.below (g.most k d l)))
+
+  -- ---- and calls may have each
+
+  fresh_allowed_at : (at : Option (List ℕ)) (o : Option (List ℕ)) → fresh (limit_of f) (plain_of f) asked dirs at ≡ o → All (IsAllowed (limit_of f)) (option_to_list o)
+  fresh_allowed_at at None e = All-nil (IsAllowed (limit_of f))
+  fresh_allowed_at at (Some u) e =
+      All-cons (IsAllowed (limit_of f)) u [] (fresh_allowed (limit_of f) asked dirs at u (chosen_fresh (limit_of f) asked dirs (plain_of f) at u e))
+      (All-nil (IsAllowed (limit_of f)))
+
+  pub texts_allowed : All (IsAllowed (limit_of f)) (field_texts f atoms)
+  texts_allowed =
+      All-append (IsAllowed (limit_of f)) (filter (is_allowed (limit_of f)) asked)
+      (fresh_at (limit_of f) (plain_of f) asked dirs None ++ flat_map (λ d. fresh_at (limit_of f) (plain_of f) asked dirs (Some d)) dirs)
+      (filter_passes (is_allowed (limit_of f)) asked)
+      (All-append (IsAllowed (limit_of f)) (fresh_at (limit_of f) (plain_of f) asked dirs None)
+      (flat_map (λ d. fresh_at (limit_of f) (plain_of f) asked dirs (Some d)) dirs)
+      (fresh_allowed_at None (fresh (limit_of f) (plain_of f) asked dirs None) refl)
+      (All-flat_map (IsAllowed (limit_of f)) (λ d. fresh_at (limit_of f) (plain_of f) asked dirs (Some d)) dirs
+      (λ k d l. fresh_allowed_at (Some (get_or dirs k d)) (fresh (limit_of f) (plain_of f) asked dirs (Some (get_or dirs k d))) refl)))
+
+pub texts_stand : TextsStand
+texts_stand f atoms t i may = stands f i atoms t may

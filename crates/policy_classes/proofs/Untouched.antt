@@ -1,8 +1,7 @@
 -- A choice of a value for one field changes nothing that is seen of another field.
 -- By cases on the field and the request; for flags by the laws of bits.
-use mir.Val.{bits}
-use Rattle.std.proofs.Common.{◌≡◌, ◌≢◌, ℕ, ◌^◌, ◌<◌, Bool, true, false, not, List, [], ◌∷◌, map, get_or, Option, Some, None, ℤ, refl, ap, sym, ◌∙◌, arith}
-use Rattle.std.specs.Prelude.{◌==◌, All, bit_and, bit_or, ⊤}
+use Rattle.std.proofs.Common.{◌≡◌, ◌≢◌, ℕ, ◌^◌, Bool, true, false, not, List, [], ◌∷◌, map, get_or, Option, Some, ℤ, refl, ap, arith}
+use Rattle.std.specs.Prelude.{◌==◌, All, bit_and, bit_or}
 use Rattle.std.specs.Int.{w32, w64, bit_at, bit_not}
 use Rattle.std.proofs.lemmas.Bool.{eq-eqb}
 use Rattle.std.proofs.lemmas.List.Elements.{All-cons, All-map, All-nil}
@@ -10,12 +9,14 @@ use Rattle.hist_model.specs.Decisions.{mount_flags}
 use Rattle.hist_model.specs.declared.policy.Flag.{Flag}
 use Rattle.hist_model.specs.declared.policy.Flag.TheVariants as flag
 use Rattle.hist_model.specs.declared.request.Request.{Request}
-use Rattle.hist_model.specs.declared.request.Request.TheVariants.{Mknod, Mount, SetXattr, OpenAt, Sysinfo, Other}
+use Rattle.hist_model.specs.declared.request.Request.TheVariants.{Mknod, Mount, SetXattr, OpenAt}
+use Rattle.policy_classes.specs.declared.atoms.Atom.{Atom}
 use Rattle.policy_classes.specs.declared.atoms.Field.{Field}
 use Rattle.policy_classes.specs.declared.atoms.Field.TheVariants as field
-use Rattle.policy_classes.specs.declared.values.Values.{Values}
 use Rattle.policy_classes.specs.Choices.{HasNoMagic, IsOneField, IsOneFlag, choices}
+use Rattle.policy_classes.specs.Chosen.{descriptor_values, field_texts}
 use Rattle.policy_classes.specs.Fields.{field_eq, flag_set, sight}
+use Rattle.policy_classes.specs.Nodes.{node_values}
 use Rattle.policy_classes.proofs.Flags.{clear_no_magic, clear_unseen, flags_without_magic, set_no_magic, set_unseen}
 
 -- of each other field the same is seen
@@ -115,23 +116,23 @@ both f q one two g h = All-cons (Untouched f q) one (two ∷ []) g (All-cons (Un
 of_values : {A : Type 0} (f : Field) (q : Request) (make : A → Request) (xs : List A) → ((x : A) → Untouched f q (make x)) → All (Untouched f q) (map make xs)
 of_values f q make xs h = All-map (Untouched f q) make xs (λ k d l. h (get_or xs k d))
 
-pub untouched : (v : Values) (f : Field) (q : Request) → IsOneField f → HasNoMagic q → All (Untouched f q) (choices v f q)
-untouched v field.Path (Mknod d path mode dev) i h = of_values _ _ (λ p. Mknod d p mode dev) v.paths (λ p. path_of_mknod d path p mode dev)
-untouched v field.Path (Mount s path t o w n b) i h = of_values _ _ (λ p. Mount s p t o w n b) v.paths (λ p. path_of_mount s path p t o w n b)
-untouched v field.Path (SetXattr path t w n) i h = of_values _ _ (λ p. SetXattr p t w n) v.paths (λ p. path_of_setxattr path p t w n)
-untouched v field.Path (OpenAt d path n) i h = of_values _ _ (λ p. OpenAt d p n) v.paths (λ p. path_of_openat d path p n)
-untouched v field.Node (Mknod d path mode dev) i h = of_values _ _ (λ x. Mknod d path x.0 x.1) v.nodes (λ x. node_of_mknod d path mode dev x.0 x.1)
-untouched v field.Fstype (Mount s path t o w n b) i h = of_values _ _ (λ u. Mount s path u o w n b) v.fstypes (λ u. fstype_of_mount s path t u o w n b)
-untouched v field.Source (Mount s path t o w n b) i h = of_values _ _ (λ u. Mount u path t o w n b) v.sources (λ u. source_of_mount s u path t o w n b)
-untouched v field.Name (SetXattr path t w n) i h = of_values _ _ (λ u. SetXattr path u w n) v.names (λ u. name_of_setxattr path t u w n)
-untouched v field.Value (SetXattr path t w n) i h = of_values _ _ (λ u. SetXattr path t u n) v.contents (λ u. value_of_setxattr path t w u n)
-untouched v field.Dirfd (Mknod (Some d) path mode dev) i h =
-    of_values _ _ (λ e. Mknod (Some e) path mode dev) v.descriptors (λ e. descriptor_of_mknod d e path mode dev)
-untouched v field.Dirfd (OpenAt d path n) i h = of_values _ _ (λ e. OpenAt e path n) v.descriptors (λ e. descriptor_of_openat d e path n)
-untouched v (field.Flag (flag.Mount bit)) (Mount s path t o w n b) i h =
+pub untouched : (f : Field) (atoms : List Atom) (q : Request) → IsOneField f → HasNoMagic q → All (Untouched f q) (choices f atoms q)
+untouched field.Path atoms (Mknod d path mode dev) i h = of_values _ _ (λ p. Mknod d p mode dev) (field_texts field.Path atoms) (λ p. path_of_mknod d path p mode dev)
+untouched field.Path atoms (Mount s path t o w n b) i h = of_values _ _ (λ p. Mount s p t o w n b) (field_texts field.Path atoms) (λ p. path_of_mount s path p t o w n b)
+untouched field.Path atoms (SetXattr path t w n) i h = of_values _ _ (λ p. SetXattr p t w n) (field_texts field.Path atoms) (λ p. path_of_setxattr path p t w n)
+untouched field.Path atoms (OpenAt d path n) i h = of_values _ _ (λ p. OpenAt d p n) (field_texts field.Path atoms) (λ p. path_of_openat d path p n)
+untouched field.Node atoms (Mknod d path mode dev) i h = of_values _ _ (λ x. Mknod d path x.0 x.1) (node_values atoms) (λ x. node_of_mknod d path mode dev x.0 x.1)
+untouched field.Fstype atoms (Mount s path t o w n b) i h = of_values _ _ (λ u. Mount s path u o w n b) (field_texts field.Fstype atoms) (λ u. fstype_of_mount s path t u o w n b)
+untouched field.Source atoms (Mount s path t o w n b) i h = of_values _ _ (λ u. Mount u path t o w n b) (field_texts field.Source atoms) (λ u. source_of_mount s u path t o w n b)
+untouched field.Name atoms (SetXattr path t w n) i h = of_values _ _ (λ u. SetXattr path u w n) (field_texts field.Name atoms) (λ u. name_of_setxattr path t u w n)
+untouched field.Value atoms (SetXattr path t w n) i h = of_values _ _ (λ u. SetXattr path t u n) (field_texts field.Value atoms) (λ u. value_of_setxattr path t w u n)
+untouched field.Dirfd atoms (Mknod (Some d) path mode dev) i h =
+    of_values _ _ (λ e. Mknod (Some e) path mode dev) (descriptor_values atoms) (λ e. descriptor_of_mknod d e path mode dev)
+untouched field.Dirfd atoms (OpenAt d path n) i h = of_values _ _ (λ e. OpenAt e path n) (descriptor_values atoms) (λ e. descriptor_of_openat d e path n)
+untouched (field.Flag (flag.Mount bit)) atoms (Mount s path t o w n b) i h =
     both (field.Flag (flag.Mount bit)) (Mount s path t o w n b) _ _ (flag_of_mount s path t o w bit n (bit_or n bit) b (set_in_mount bit n i h))
     (flag_of_mount s path t o w bit n (bit_and n (bit_not w64 bit)) b (clear_in_mount bit n i h))
-untouched v (field.Flag (flag.Attribute bit)) (SetXattr path t w n) i h =
+untouched (field.Flag (flag.Attribute bit)) atoms (SetXattr path t w n) i h =
     both (field.Flag (flag.Attribute bit)) (SetXattr path t w n) _ _ (flag_of_setxattr path t w bit n (bit_or n bit) (set_in_setxattr bit n i))
     (flag_of_setxattr path t w bit n (bit_and n (bit_not w32 bit)) (clear_in_setxattr bit n i))
-untouched v f q i h = itself f q
+untouched f atoms q i h = itself f q

@@ -1,5 +1,5 @@
 -- Conditions in atoms, each of which looks at one field of a request.
-use Rattle.std.specs.Prelude.{ℕ, Bool, not, List, [], ◌∷◌, ◌++◌, map}
+use Rattle.std.specs.Prelude.{Bool, not, List, [], ◌∷◌, ◌++◌, map}
 use Rattle.std.specs.List.{flat_map, list_all}
 use Rattle.hist_model.specs.Decisions.{asks_device, asks_kind, attribute_of, dirfd_of, fstype_of, has_flag, has_short_device}
 use Rattle.hist_model.specs.Decisions.{is_descriptor, is_text, lies_under, path_of, source_of, value_of}

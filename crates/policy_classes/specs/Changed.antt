@@ -1,10 +1,9 @@
 -- A request with another value in one field.
-use Rattle.std.specs.Prelude.{ℕ, List, Option, Some, None, ℤ}
+use Rattle.std.specs.Prelude.{ℕ, Bool, true, false, List, Some, ℤ}
 use Rattle.hist_model.specs.declared.request.Request.{Request}
-use Rattle.hist_model.specs.declared.request.Request.TheVariants.{Mknod, Mount, SetXattr, OpenAt, Sysinfo, Other}
+use Rattle.hist_model.specs.declared.request.Request.TheVariants.{Mknod, Mount, SetXattr, OpenAt}
 use Rattle.policy_classes.specs.declared.atoms.Field.{Field}
 use Rattle.policy_classes.specs.declared.atoms.Field.TheVariants as field
-use Rattle.policy_classes.specs.declared.values.Values.{Values}
 
 -- with another text, where it has one there
 abbrev pub with_text : Field → List ℕ → Request → Request
@@ -18,17 +17,23 @@ with_text field.Name t (SetXattr path name value flags) = SetXattr path t value 
 with_text field.Value t (SetXattr path name value flags) = SetXattr path name t flags
 with_text f t q = q
 
--- the texts that it may have there
-abbrev pub texts_for : Values → Field → Request → Option (List (List ℕ))
-texts_for v field.Path (Mknod dirfd path mode dev) = Some v.paths
-texts_for v field.Path (Mount source target fstype options via flags shift) = Some v.paths
-texts_for v field.Path (SetXattr path name value flags) = Some v.paths
-texts_for v field.Path (OpenAt dirfd path flags) = Some v.paths
-texts_for v field.Fstype (Mount source target fstype options via flags shift) = Some v.fstypes
-texts_for v field.Source (Mount source target fstype options via flags shift) = Some v.sources
-texts_for v field.Name (SetXattr path name value flags) = Some v.names
-texts_for v field.Value (SetXattr path name value flags) = Some v.contents
-texts_for v f q = None
+-- whether it has a text there
+abbrev pub has_text : Field → Request → Bool
+has_text field.Path (Mknod dirfd path mode dev) = true
+has_text field.Path (Mount source target fstype options via flags shift) = true
+has_text field.Path (SetXattr path name value flags) = true
+has_text field.Path (OpenAt dirfd path flags) = true
+has_text field.Fstype (Mount source target fstype options via flags shift) = true
+has_text field.Source (Mount source target fstype options via flags shift) = true
+has_text field.Name (SetXattr path name value flags) = true
+has_text field.Value (SetXattr path name value flags) = true
+has_text f q = false
+
+-- whether it has the descriptor of a directory
+abbrev pub has_descriptor : Request → Bool
+has_descriptor (Mknod (Some fd) path mode dev) = true
+has_descriptor (OpenAt dirfd path flags) = true
+has_descriptor q = false
 
 -- with another mode and device number
 abbrev pub with_node : ℕ × ℕ → Request → Request

@@ -1,31 +1,25 @@
 -- The classes of all calls.
-use Rattle.std.specs.Prelude.{◌≡◌, ℕ, false, List, [], ◌∷◌, ◌++◌, map, Some, None, ℤ, pos, negsuc, codes, if◌then◌else◌, Any, All, ◌⊎◌}
+use Rattle.std.specs.Prelude.{◌≡◌, Bool, true, false, ◌&&◌, ◌==◌, List, [], ◌∷◌, Some, None, ℤ, pos, negsuc, if◌then◌else◌}
 use Rattle.std.specs.Ordering.{int_eq}
 use Rattle.hist_model.specs.Decisions.{decide}
 use Rattle.hist_model.specs.declared.policy.Rule.{Rule}
 use Rattle.hist_model.specs.declared.request.Request.{Request}
 use Rattle.hist_model.specs.declared.request.Request.TheVariants.{Mknod, Mount, SetXattr, OpenAt, Sysinfo, Other}
 use Rattle.policy_classes.specs.declared.found.Class.{Class}
-use Rattle.policy_classes.specs.declared.values.Values.{Values}
 use Rattle.policy_classes.specs.Asked.{IsCall}
-use Rattle.policy_classes.specs.Plain.{standing_calls}
-use Rattle.policy_classes.specs.Search.{Found, found_of_all, search_from}
+use Rattle.policy_classes.specs.Order.{is_at_most, plain_path, plain_word}
 use Rattle.sys_abi.specs.Calls.{nr_sysinfo, nr_mknod, nr_mount, nr_setxattr, nr_openat, nr_mknodat}
 
 -- a call of a number, before its fields are given values: what no rule asks for stays so
 abbrev pub start_of : ℤ → Request
 start_of nr =
-    if int_eq (pos nr_mknod) nr then Mknod None (codes "/x") 0 0
-    else if int_eq (pos nr_mknodat) nr then Mknod (Some (negsuc 99)) (codes "/x") 0 0
-    else if int_eq (pos nr_mount) nr then Mount (codes "x") (codes "/x") (codes "x") [] [] 0 false
-    else if int_eq (pos nr_setxattr) nr then SetXattr (codes "/x") (codes "x") [] 0
-    else if int_eq (pos nr_openat) nr then OpenAt (negsuc 99) (codes "/x") 0
+    if int_eq (pos nr_mknod) nr then Mknod None plain_path 0 0
+    else if int_eq (pos nr_mknodat) nr then Mknod (Some (negsuc 99)) plain_path 0 0
+    else if int_eq (pos nr_mount) nr then Mount plain_word plain_path plain_word [] [] 0 false
+    else if int_eq (pos nr_setxattr) nr then SetXattr plain_path plain_word [] 0
+    else if int_eq (pos nr_openat) nr then OpenAt (negsuc 99) plain_path 0
     else if int_eq (pos nr_sysinfo) nr then Sysinfo 0
     else Other nr
-
--- the classes of all calls, each of which has at most so many fields
-abbrev pub found_in_all : ℕ → Values → List Rule → List Rule → Found
-found_in_all n v old new = found_of_all (search_from n v old new) (map start_of standing_calls)
 
 -- the witness is a call of its class
 abbrev pub HasWitness : List Rule → List Rule → Class → Type 0
@@ -36,9 +30,21 @@ abbrev pub Holds : List Rule → List Rule → Request → Class → Type 0
 Holds old new q c = (c.old_place ≡ (decide old q).0) × (c.new_place ≡ (decide new q).0)
 
 -- two classes are of the same two rules
-abbrev pub Same : Class → Class → Type 0
-Same c d = (d.old_place ≡ c.old_place) × (d.new_place ≡ c.new_place)
+abbrev pub is_same : Class → Class → Bool
+is_same c d = (c.old_place == d.old_place) && (c.new_place == d.new_place)
 
--- a class is added, unless one of the same two rules is there
+-- no call of the class is less than its witness
+abbrev pub IsLeast : List Rule → List Rule → Class → Type 0
+IsLeast old new c = (q : Request) → IsCall q → Holds old new q c → is_at_most c.witness q ≡ true
+
+-- the one of two classes whose witness isn't greater
+abbrev pub lesser_class : Class → Class → Class
+lesser_class c d = if is_at_most c.witness d.witness then c else d
+
+-- the class is put among those that were found, of which none is of the same two rules, or the lesser stays of one that is
+abbrev pub with_class : List Class → Class → List Class
+with_class [] d = d ∷ []
+with_class (c ∷ found) d = if is_same c d then lesser_class c d ∷ found else c ∷ with_class found d
+
 abbrev pub Adds : Class → List Class → List Class → Type 0
-Adds c old new = (new ≡ old ++ c ∷ []) ⊎ ((new ≡ old) × Any (Same c) old)
+Adds c found more = more ≡ with_class found c

@@ -1,14 +1,11 @@
 -- How the classes of calls are found: the fields of a request get values, one after another, and each time what is decided is dropped.
-use Rattle.std.specs.Prelude.{ℕ, zero, suc, ◌+◌, Bool, true, false, ◌&&◌, not, if◌then◌else◌, List, [], ◌∷◌, Option, Some, None, ℤ, length}
-use Rattle.std.specs.List.{filter, flat_map, list_all, list_any}
+use Rattle.std.specs.Prelude.{ℕ, zero, suc, ◌+◌, Bool, ◌&&◌, not, if◌then◌else◌, List, [], ◌∷◌, ◌++◌, Option, Some, None, ℤ}
+use Rattle.std.specs.List.{filter, flat_map, list_any, sum_by}
 use Rattle.hist_model.specs.Decisions.{covers}
-use Rattle.hist_model.specs.Requests.{call_of_request}
 use Rattle.hist_model.specs.declared.policy.Rule.{Rule}
 use Rattle.hist_model.specs.declared.request.Request.{Request}
 use Rattle.policy_classes.specs.declared.atoms.Atom.{Atom}
 use Rattle.policy_classes.specs.declared.atoms.Field.{Field}
-use Rattle.policy_classes.specs.declared.found.Class.{Class}
-use Rattle.policy_classes.specs.declared.values.Values.{Values}
 use Rattle.policy_classes.specs.Atoms.{all_hold, atoms_of_all, holds}
 use Rattle.policy_classes.specs.Choices.{choices}
 use Rattle.policy_classes.specs.Fields.{field_of, is_of}
@@ -73,27 +70,19 @@ abbrev pub first_place : ℕ → List Waiting → ℕ
 first_place none [] = none
 first_place none (c ∷ cs) = c.place
 
--- the classes that were found, and whether these are all
-pub record Found : Type 0 where
-  pub classes : List Class
-  pub whole : Bool
+-- the atoms that are left of the rules of both policies
+abbrev pub atoms_left : List Waiting → List Waiting → List Atom
+atoms_left old new = flat_map (λ (c : Waiting). c.atoms) old ++ flat_map (λ (c : Waiting). c.atoms) new
 
-abbrev pub found_of_all : (Request → Found) → List Request → Found
-found_of_all find qs = record { classes = flat_map (λ q. (find q).classes) qs; whole = list_all (λ q. (find q).whole) qs }
+-- ---- how many places the search looks at
 
-abbrev pub found_by : Option Field → (Field → Found) → Class → Found
-found_by (Some f) find class = find f
-found_by None find class = record { classes = class ∷ []; whole = true }
+abbrev pub looked_by : Option Field → (Field → ℕ) → ℕ
+looked_by (Some f) later = 1 + later f
+looked_by None later = 1
 
--- the classes of calls whose fields, as far as these are decided, are as in a request, of which so many fields are left to decide;
--- the numbers of rules stand for the place where none decides
-unfoldable pub search : ℕ → Values → ℕ → ℕ → Request → List Waiting → List Waiting → Found
-search zero v olds news q old new = record { classes = []; whole = false }
-search (suc n) v olds news q old new = found_by (next_field old new)
-    (λ f. found_of_all (λ p. search n v olds news p (left_of f p old) (left_of f p new)) (choices v f q))
-    (record { old_place = first_place olds old; new_place = first_place news new; witness = q })
-
--- the classes of the calls of a request's number
-abbrev pub search_from : ℕ → Values → List Rule → List Rule → Request → Found
-search_from n v old new q =
-    search n v (length old) (length new) q (waiting_from 0 old (call_of_request q)) (waiting_from 0 new (call_of_request q))
+-- a place is a request of which some fields are decided, with what is left of the rules of both policies; from this one on, where
+-- so many fields at most are decided one after another
+unfoldable pub looked : ℕ → Request → List Waiting → List Waiting → ℕ
+looked zero q old new = 1
+looked (suc n) q old new =
+    looked_by (next_field old new) (λ f. sum_by (λ p. looked n p (left_of f p old) (left_of f p new)) (choices f (atoms_left old new) q))

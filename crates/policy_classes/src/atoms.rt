@@ -2,7 +2,6 @@
 
 ghost use Rattle.std.specs.Prelude.{◌≡◌, ◌++◌, map, IfOk, OnOk};
 ghost use Rattle.policy_classes.specs.Atoms.{atoms_in, atoms_of, atoms_of_all};
-ghost use Rattle.policy_classes.specs.Plain.{all_atoms, atoms_of_rules};
 ghost use Rattle.policy_classes.specs.Fields.{field_eq, field_of, flag_eq};
 
 use hist_model::policy::{Cond, Flag, Rule};
@@ -121,26 +120,6 @@ pub fn atoms_by_rule(alloc: Global, rules: &[Rule]) -> Result<Vec<Sequence<Atom>
         all.push(Sequence::new(atoms))?;
     }
     Ok(all)
-}
-
-/// Adds the atoms of all conditions of all rules.
-fn push_atoms_of_rules(alloc: Global, atoms: &mut Vec<Atom>, rules: &[Rule]) -> Result<(), NoMemory>
-    ensures { OnOk result (atoms.new.items ≡ atoms.old.items ++ atoms_of_rules rules.now) }
-{
-    for rule in rules {
-        push_all_atoms(alloc, atoms, rule.conds.items())?;
-    }
-    Ok(())
-}
-
-/// The atoms of two policies' rules.
-pub fn all_atoms(alloc: Global, old: &[Rule], new: &[Rule]) -> Result<Vec<Atom>, NoMemory>
-    ensures { IfOk result (λ atoms. atoms.items ≡ all_atoms old.now new.now) }
-{
-    let mut atoms = Vec::new(alloc);
-    push_atoms_of_rules(alloc, &mut atoms, old)?;
-    push_atoms_of_rules(alloc, &mut atoms, new)?;
-    Ok(atoms)
 }
 
 impl Atom {

@@ -1,12 +1,13 @@
 //! A request with other values in one field.
 
 ghost use Rattle.std.specs.Prelude.{◌≡◌, [], ◌∷◌, IfOk, map};
-ghost use Rattle.std.specs.Option.{option_copied};
-ghost use Rattle.policy_classes.specs.Changed.{texts_for, with_descriptor, with_mount_flags, with_node, with_setxattr_flags, with_text};
+ghost use Rattle.policy_classes.specs.Changed.{has_descriptor, has_text, with_descriptor, with_mount_flags, with_node, with_setxattr_flags, with_text};
 ghost use Rattle.policy_classes.specs.Choices.{choices};
+ghost use Rattle.policy_classes.specs.Pending.{atoms_seen};
 
-use crate::atoms::Field;
-use crate::values::Values;
+use crate::atoms::{Atom, Field};
+use crate::chosen::{descriptor_values, field_texts};
+use crate::nodes::node_values;
 use hist_model::policy::Flag;
 use hist_model::request::Request;
 use hist_model::text::Text;
@@ -91,20 +92,20 @@ fn with_text(
     }
 }
 
-/// The texts that the request may have in a field, if it has one there.
-fn texts_for<'a>(values: &'a Values, field: Field, request: &Request) -> Option<&'a [Text]>
-    ensures { option_copied result ≡ texts_for values.now field request.now }
+/// Whether the request has a text in the field.
+fn has_text(field: Field, request: &Request) -> bool
+    ensures { result ≡ has_text field request.now }
 {
     match (field, request) {
-        (Field::Path, Request::Mknod { .. }) => Some(values.paths.items()),
-        (Field::Path, Request::Mount { .. }) => Some(values.paths.items()),
-        (Field::Path, Request::SetXattr { .. }) => Some(values.paths.items()),
-        (Field::Path, Request::OpenAt { .. }) => Some(values.paths.items()),
-        (Field::Fstype, Request::Mount { .. }) => Some(values.fstypes.items()),
-        (Field::Source, Request::Mount { .. }) => Some(values.sources.items()),
-        (Field::Name, Request::SetXattr { .. }) => Some(values.names.items()),
-        (Field::Value, Request::SetXattr { .. }) => Some(values.contents.items()),
-        _ => None,
+        (Field::Path, Request::Mknod { .. }) => true,
+        (Field::Path, Request::Mount { .. }) => true,
+        (Field::Path, Request::SetXattr { .. }) => true,
+        (Field::Path, Request::OpenAt { .. }) => true,
+        (Field::Fstype, Request::Mount { .. }) => true,
+        (Field::Source, Request::Mount { .. }) => true,
+        (Field::Name, Request::SetXattr { .. }) => true,
+        (Field::Value, Request::SetXattr { .. }) => true,
+        _ => false,
     }
 }
 
@@ -220,23 +221,51 @@ fn itself(alloc: Global, request: &Request) -> Result<Vec<Request>, NoMemory>
     Ok(made)
 }
 
-/// The requests that arise by giving the field each of its values; a request that hasn't the field stays.
-pub fn choices(
+/// Whether the request has the descriptor of a directory.
+fn has_descriptor(request: &Request) -> bool
+    ensures { result ≡ has_descriptor request.now }
+{
+    match request {
+        Request::Mknod { dirfd, .. } => dirfd.is_some(),
+        Request::OpenAt { .. } => true,
+        _ => false,
+    }
+}
+
+/// The request from each of the directories that these atoms tell apart, if it has one.
+fn from_directories(
     alloc: Global,
-    values: &Values,
-    field: Field,
+    atoms: &[&Atom],
     request: &Request,
 ) -> Result<Vec<Request>, NoMemory>
-    ensures { IfOk result (λ qs. qs.items ≡ choices values.now field request.now) }
+    ensures { IfOk result (λ qs. qs.items ≡ choices Field.Dirfd (atoms_seen atoms.now) request.now) }
 {
-    if let Some(texts) = texts_for(values, field, request) {
-        return with_texts(alloc, request, field, texts);
+    if !has_descriptor(request) {
+        return itself(alloc, request);
+    }
+    let numbers = descriptor_values(alloc, atoms)?;
+    with_descriptors(alloc, request, numbers.as_slice())
+}
+
+/// The requests that arise by giving the field each value that these atoms tell apart; a request that hasn't the field stays.
+pub(crate) fn choices(
+    alloc: Global,
+    field: Field,
+    atoms: &[&Atom],
+    request: &Request,
+) -> Result<Vec<Request>, NoMemory>
+    ensures { IfOk result (λ qs. qs.items ≡ choices field (atoms_seen atoms.now) request.now) }
+{
+    if has_text(field, request) {
+        let texts = field_texts(alloc, field, atoms)?;
+        return with_texts(alloc, request, field, texts.as_slice());
     }
     match (field, request) {
-        (Field::Node, Request::Mknod { .. }) => with_nodes(alloc, request, values.nodes.items()),
-        (Field::Dirfd, Request::Mknod { dirfd: Some(_), .. } | Request::OpenAt { .. }) => {
-            with_descriptors(alloc, request, values.descriptors.items())
+        (Field::Node, Request::Mknod { .. }) => {
+            let nodes = node_values(alloc, atoms)?;
+            with_nodes(alloc, request, nodes.as_slice())
         }
+        (Field::Dirfd, _) => from_directories(alloc, atoms, request),
         (Field::Flag(Flag::Mount(bit)), Request::Mount { flags, .. }) => {
             let set = with_mount_flags(alloc, request, flags | bit)?;
             let unset = with_mount_flags(alloc, request, flags & !bit)?;

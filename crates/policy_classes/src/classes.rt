@@ -1,12 +1,13 @@
 //! The classes of all calls.
 
-ghost use Rattle.std.specs.Prelude.{◌≡◌, [], true, false, All, Any, IfOk};
+ghost use Rattle.std.specs.Prelude.{◌≡◌, ◌≤◌, ◌↔◌, [], true, false, All, Any, IfOk};
 ghost use Rattle.hist_model.specs.declared.request.Request.{Request as AnyRequest};
 ghost use Rattle.policy_classes.specs.Asked.{IsCall};
-ghost use Rattle.policy_classes.specs.Classes.{HasWitness, Holds};
+ghost use Rattle.policy_classes.specs.Classes.{HasWitness, Holds, IsLeast};
+ghost use Rattle.policy_classes.specs.Looked.{places_looked};
+ghost use Rattle.policy_classes.specs.Plain.{IsPlainRule};
 
-use crate::atoms::{all_atoms, atoms_by_rule};
-use crate::choosing::values;
+use crate::atoms::atoms_by_rule;
 use crate::found::Classes;
 use crate::plain::are_plain;
 use crate::start::start_frames;
@@ -31,15 +32,17 @@ fn untold(alloc: Global) -> Classes
 }
 
 /// The classes of calls of two policies' rules. Each is told by the places of the rules that decide its calls, and has one of these
-/// calls as its witness.
+/// calls as its witness; where the classes are whole, the least of them.
 ///
-/// They are whole unless a rule names a call that has no name, or a flag that isn't one bit; each of the first words is a text that
-/// a rule asks for; a directory has no path below it that isn't below another one; or more than `bound` requests, of which some
-/// fields are decided, would be looked at.
+/// They are whole unless a rule names a call that has no name, or a flag that isn't one bit; or more than `bound` requests, of which
+/// some fields are decided, would be looked at.
 pub fn classes(alloc: Global, old: &[Rule], new: &[Rule], bound: u32) -> Result<Classes, NoMemory>
     ensures witnesses { IfOk result (λ found. All (HasWitness old.now new.now) found.classes) }
     ensures there { IfOk result (λ found. found.whole ≡ true
         → (q : AnyRequest) → IsCall q → Any (Holds old.now new.now q) found.classes) }
+    ensures least { IfOk result (λ found. found.whole ≡ true → All (IsLeast old.now new.now) found.classes) }
+    ensures whole { IfOk result (λ found. found.whole ≡ true
+        ↔ (All IsPlainRule old.now × All IsPlainRule new.now × (places_looked old.now new.now ≤ bound))) }
 {
     let old_atoms = atoms_by_rule(alloc, old)?;
     let new_atoms = atoms_by_rule(alloc, new)?;
@@ -49,10 +52,6 @@ pub fn classes(alloc: Global, old: &[Rule], new: &[Rule], bound: u32) -> Result<
     if !are_plain(new, new_atoms.as_slice()) {
         return Ok(untold(alloc));
     }
-    let atoms = all_atoms(alloc, old, new)?;
-    let Some(values) = values(alloc, atoms.as_slice())? else {
-        return Ok(untold(alloc));
-    };
     let frames = start_frames(alloc, old, new, old_atoms.as_slice(), new_atoms.as_slice())?;
-    walk(alloc, &values, old, new, frames, bound)
+    walk(alloc, old, new, frames, bound)
 }

@@ -4,11 +4,12 @@ ghost use Rattle.std.specs.Prelude.{◌≡◌, ◌++◌, OnOk, map};
 ghost use Rattle.policy_classes.specs.Choices.{choices};
 ghost use Rattle.policy_classes.specs.Frames.{frame_seen, frames_seen};
 ghost use Rattle.policy_classes.specs.Looked.{with_choice};
+ghost use Rattle.policy_classes.specs.Pending.{rules_seen};
+ghost use Rattle.policy_classes.specs.Search.{atoms_left};
 
 use crate::atoms::Field;
 use crate::choices::choices;
-use crate::pending::{Pending, left_of};
-use crate::values::Values;
+use crate::pending::{Pending, atoms_left, left_of};
 use hist_model::request::Request;
 use std::alloc::Global;
 use sys_abi::memory::NoMemory;
@@ -21,18 +22,18 @@ pub struct Frame<'a> {
     pub new: Vec<Pending<'a>>,
 }
 
-/// Adds a frame for each value of a field.
+/// Adds a frame for each value of a field that its atoms tell apart.
 pub fn push_choices<'a>(
     alloc: Global,
-    values: &Values,
     field: Field,
     frame: &Frame<'a>,
     frames: &mut Vec<Frame<'a>>,
 ) -> Result<(), NoMemory>
     ensures { OnOk result (frames_seen frames.new.items ≡ frames_seen frames.old.items
-        ++ map (with_choice field (frame_seen frame.now)) (choices values.now field frame.now.request)) }
+        ++ map (with_choice field (frame_seen frame.now)) (choices field (atoms_left (rules_seen frame.now.old.items) (rules_seen frame.now.new.items)) frame.now.request)) }
 {
-    let requests = choices(alloc, values, field, &frame.request)?;
+    let atoms = atoms_left(alloc, frame.old.as_slice(), frame.new.as_slice())?;
+    let requests = choices(alloc, field, atoms.as_slice(), &frame.request)?;
     for request in requests {
         let old = left_of(alloc, field, &request, frame.old.as_slice())?;
         let new = left_of(alloc, field, &request, frame.new.as_slice())?;

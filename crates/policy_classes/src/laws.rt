@@ -1,6 +1,7 @@
 //! What follows from the definitions.
 
-ghost use Rattle.policy_classes.specs.Laws.{ChoicesAreIndependent, ChosenContentsStand, ChosenDescriptorsStand, ChosenNodesStand, ChosenPathsStand, ChosenTextsStand, ConditionsAreAtoms, EachCallHasAClass, EachWitnessIsOne, OneFieldCounts};
+ghost use Rattle.policy_classes.specs.Laws.{ChoicesAreIndependent, ConditionsAreAtoms, OneFieldCounts};
+ghost use Rattle.policy_classes.specs.Standing.{DescriptorsStand, NodesStand, TextsStand};
 
 /// A request meets a condition exactly where each of its atoms holds.
 #[tactic(auto, using(crate::proofs::Conditions::conditions_are_atoms))]
@@ -20,24 +21,21 @@ pub fn choices_are_independent()
     ensures { ChoicesAreIndependent }
 {}
 
-/// Values that are chosen as `specs/Chosen.antt` says stand for all that calls may have.
-#[tactic(auto, using(crate::proofs::TextCases::short_texts_stand, crate::proofs::TextCases::contents_stand, crate::proofs::TextCases::paths_stand, crate::proofs::TextCases::descriptors_stand, crate::proofs::NodeCases::nodes_stand))]
-pub fn chosen_values_stand()
-    ensures texts { ChosenTextsStand }
-    ensures contents { ChosenContentsStand }
-    ensures paths { ChosenPathsStand }
-    ensures descriptors { ChosenDescriptorsStand }
-    ensures nodes { ChosenNodesStand }
+/// The texts that are chosen for a field stand for all that calls may have there, and none is greater than the one that stands
+/// for it.
+#[tactic(auto, using(crate::proofs::TextCases::texts_stand))]
+pub fn texts_stand()
+    ensures { TextsStand }
 {}
 
-/// The witness of each class that is found is a call of it.
-#[tactic(auto, using(crate::proofs::AllCalls::each_witness_is_one))]
-pub fn each_witness_is_one()
-    ensures { EachWitnessIsOne }
+/// So do descriptors.
+#[tactic(auto, using(crate::proofs::DescriptorCases::descriptors_stand))]
+pub fn descriptors_stand()
+    ensures { DescriptorsStand }
 {}
 
-/// Where all classes are found, each call is of one of them.
-#[tactic(auto, using(crate::proofs::AllCalls::each_call_has_a_class))]
-pub fn each_call_has_a_class()
-    ensures { EachCallHasAClass }
+/// And modes with device numbers.
+#[tactic(auto, using(crate::proofs::NodeCases::nodes_stand))]
+pub fn nodes_stand()
+    ensures { NodesStand }
 {}

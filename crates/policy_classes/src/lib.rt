@@ -19,17 +19,18 @@
 
 pub mod atoms;
 pub mod choices;
-pub mod choosing;
+mod chosen;
 pub mod classes;
 pub mod ending;
 pub mod found;
 pub mod frames;
+mod fresh;
 pub mod holding;
 pub mod laws;
-pub mod nodes;
+mod nodes;
+mod order;
 pub mod pending;
 pub mod plain;
 pub mod start;
-pub mod values;
 pub mod walk;
-pub mod words;
+mod words;

@@ -1,10 +1,11 @@
 //! Rules of which some atoms are still to be decided.
 
-ghost use Rattle.std.specs.Prelude.{◌≡◌, ◌&&◌, IfOk, map, not};
+ghost use Rattle.std.specs.Prelude.{◌≡◌, ◌&&◌, ◌++◌, IfOk, OnOk, map, not};
+ghost use Rattle.std.specs.List.{flat_map};
 ghost use Rattle.policy_classes.specs.Atoms.{atoms_in, holds};
 ghost use Rattle.policy_classes.specs.Fields.{is_of};
 ghost use Rattle.policy_classes.specs.Pending.{atoms_seen, rules_seen};
-ghost use Rattle.policy_classes.specs.Search.{fails_in, first_place, left_of, next_field, others, undecided, waiting_from};
+ghost use Rattle.policy_classes.specs.Search.{atoms_left, fails_in, first_place, left_of, next_field, others, undecided, waiting_from};
 
 use crate::atoms::{Atom, Field};
 use crate::holding::holds;
@@ -133,4 +134,28 @@ pub fn waiting<'a>(
         }
     }
     Ok(waiting)
+}
+
+/// Adds the atoms of each rule.
+fn push_atoms<'a>(atoms: &mut Vec<&'a Atom>, rules: &[Pending<'a>]) -> Result<(), NoMemory>
+    ensures { OnOk result (atoms_seen atoms.new.items ≡ atoms_seen atoms.old.items ++ flat_map (λ c. c.atoms) (rules_seen rules.now)) }
+{
+    for rule in rules {
+        atoms.extend_from_slice(rule.atoms.as_slice())?;
+    }
+    Ok(())
+}
+
+/// The atoms that are left of the rules of both policies.
+pub fn atoms_left<'a>(
+    alloc: Global,
+    old: &[Pending<'a>],
+    new: &[Pending<'a>],
+) -> Result<Vec<&'a Atom>, NoMemory>
+    ensures { IfOk result (λ atoms. atoms_seen atoms.items ≡ atoms_left (rules_seen old.now) (rules_seen new.now)) }
+{
+    let mut atoms = Vec::new(alloc);
+    push_atoms(&mut atoms, old)?;
+    push_atoms(&mut atoms, new)?;
+    Ok(atoms)
 }

@@ -1,6 +1,6 @@
 //! Whether a policy is one whose classes can be told.
 
-ghost use Rattle.std.specs.Prelude.{◌≡◌, ◌<◌, map, All, IsTrue};
+ghost use Rattle.std.specs.Prelude.{◌≡◌, ◌<◌, ◌↔◌, map, All, IsTrue};
 ghost use Rattle.std.specs.List.{list_all};
 ghost use Rattle.hist_model.specs.Decisions.{is_among, named_calls};
 ghost use Rattle.policy_classes.specs.Atoms.{atoms_in};
@@ -15,7 +15,7 @@ use policy_eval::conditions::covers;
 /// Whether the number is one of the first powers of two.
 fn is_power(bit: u64, powers: u32) -> bool
     requires { powers < 64 }
-    ensures { IsTrue result → IsPower powers bit }
+    ensures { IsTrue result ↔ IsPower powers bit }
 {
     for k in 0..powers {
         if bit == 1 << k {
@@ -27,7 +27,7 @@ fn is_power(bit: u64, powers: u32) -> bool
 
 /// Whether the flag is one bit.
 fn is_one_flag(flag: Flag) -> bool
-    ensures { IsTrue result → IsOneFlag flag }
+    ensures { IsTrue result ↔ IsOneFlag flag }
 {
     match flag {
         Flag::Mount(bit) => is_power(bit, 31),
@@ -37,7 +37,7 @@ fn is_one_flag(flag: Flag) -> bool
 
 /// Whether the atom looks at one bit, if it looks at flags.
 fn is_plain_atom(atom: &Atom) -> bool
-    ensures { IsTrue result → IsPlainAtom atom.now }
+    ensures { IsTrue result ↔ IsPlainAtom atom.now }
 {
     match atom {
         Atom::Set(flag) | Atom::Unset(flag) => is_one_flag(*flag),
@@ -47,7 +47,7 @@ fn is_plain_atom(atom: &Atom) -> bool
 
 /// Whether each atom does.
 fn are_plain_atoms(atoms: &[Atom]) -> bool
-    ensures { IsTrue result → All IsPlainAtom atoms.now }
+    ensures { IsTrue result ↔ All IsPlainAtom atoms.now }
 {
     for atom in atoms {
         if !is_plain_atom(atom) {
@@ -74,7 +74,7 @@ fn are_named(numbers: &[i32]) -> bool
 
 /// Whether each of the calls has a name.
 fn are_known(calls: &Calls) -> bool
-    ensures { IsTrue result → AreKnown calls.now }
+    ensures { IsTrue result ↔ AreKnown calls.now }
 {
     match calls {
         Calls::Named(numbers) => are_named(numbers.items()),
@@ -84,8 +84,7 @@ fn are_known(calls: &Calls) -> bool
 
 /// Whether a rule with these calls and these atoms is plain.
 fn is_plain(calls: &Calls, atoms: &[Atom]) -> bool
-    ensures calls { IsTrue result → AreKnown calls.now }
-    ensures atoms { IsTrue result → All IsPlainAtom atoms.now }
+    ensures { IsTrue result ↔ (AreKnown calls.now × All IsPlainAtom atoms.now) }
 {
     are_known(calls) && are_plain_atoms(atoms)
 }
@@ -93,7 +92,7 @@ fn is_plain(calls: &Calls, atoms: &[Atom]) -> bool
 /// Whether each rule names calls that have names, and flags that are one bit. The atoms are those of the rules.
 pub fn are_plain(rules: &[Rule], atoms: &[Sequence<Atom>]) -> bool
     requires { atoms.now ≡ map atoms_in rules.now }
-    ensures { IsTrue result → All IsPlainRule rules.now }
+    ensures { IsTrue result ↔ All IsPlainRule rules.now }
 {
     for place in 0..rules.len() {
         if !is_plain(&rules[place].calls, atoms[place].items()) {

@@ -1,14 +1,16 @@
 //! The calls that stand for all.
 
-ghost use Rattle.std.specs.Prelude.{◌≡◌, [], IfOk, codes, false, map, None};
+ghost use Rattle.std.specs.Prelude.{◌≡◌, [], IfOk, false, map, None};
 ghost use Rattle.policy_classes.specs.Atoms.{atoms_in};
 ghost use Rattle.policy_classes.specs.Classes.{start_of};
 ghost use Rattle.policy_classes.specs.Frames.{frame_seen, frames_seen};
 ghost use Rattle.policy_classes.specs.Looked.{start_frame};
+ghost use Rattle.policy_classes.specs.Order.{plain_path, plain_word};
 ghost use Rattle.policy_classes.specs.Plain.{standing_calls};
 
 use crate::atoms::Atom;
 use crate::frames::Frame;
+use crate::order::{PLAIN_PATH, PLAIN_WORD};
 use crate::pending::waiting;
 use hist_model::policy::Rule;
 use hist_model::request::Request;
@@ -43,11 +45,11 @@ fn text(alloc: Global, bytes: &[u8]) -> Result<Text, NoMemory>
 
 /// A node that is made.
 fn start_of_node(alloc: Global, dirfd: Option<i32>) -> Result<Request, NoMemory>
-    ensures { IfOk result (λ q. q ≡ Request.Mknod dirfd (codes "/x") 0 0) }
+    ensures { IfOk result (λ q. q ≡ Request.Mknod dirfd plain_path 0 0) }
 {
     Ok(Request::Mknod {
         dirfd,
-        path: text(alloc, b"/x")?,
+        path: text(alloc, PLAIN_PATH)?,
         mode: 0,
         dev: 0,
     })
@@ -55,12 +57,12 @@ fn start_of_node(alloc: Global, dirfd: Option<i32>) -> Result<Request, NoMemory>
 
 /// A mount.
 fn start_of_mount(alloc: Global) -> Result<Request, NoMemory>
-    ensures { IfOk result (λ q. q ≡ Request.Mount (codes "x") (codes "/x") (codes "x") [] [] 0 false) }
+    ensures { IfOk result (λ q. q ≡ Request.Mount plain_word plain_path plain_word [] [] 0 false) }
 {
     Ok(Request::Mount {
-        source: text(alloc, b"x")?,
-        target: text(alloc, b"/x")?,
-        fstype: text(alloc, b"x")?,
+        source: text(alloc, PLAIN_WORD)?,
+        target: text(alloc, PLAIN_PATH)?,
+        fstype: text(alloc, PLAIN_WORD)?,
         options: text(alloc, b"")?,
         via: text(alloc, b"")?,
         flags: 0,
@@ -80,15 +82,15 @@ fn start_of(alloc: Global, nr: i32) -> Result<Request, NoMemory>
         start_of_mount(alloc)
     } else if nr == calls::SETXATTR {
         Ok(Request::SetXattr {
-            path: text(alloc, b"/x")?,
-            name: text(alloc, b"x")?,
+            path: text(alloc, PLAIN_PATH)?,
+            name: text(alloc, PLAIN_WORD)?,
             value: text(alloc, b"")?,
             flags: 0,
         })
     } else if nr == calls::OPENAT {
         Ok(Request::OpenAt {
             dirfd: AT_FDCWD,
-            path: text(alloc, b"/x")?,
+            path: text(alloc, PLAIN_PATH)?,
             flags: 0,
         })
     } else if nr == calls::SYSINFO {

@@ -1,13 +1,12 @@
-//! Texts that no atom asks for.
+//! The texts that calls may have in a field.
 
-ghost use Rattle.std.specs.Prelude.{◌≡◌, false, true, All, IfOk, IfSome, OnOk};
-ghost use Rattle.policy_classes.specs.Allowed.{AddsAllowed, HasAllowed, IsAllowed, is_allowed, is_asked};
-ghost use Rattle.policy_classes.specs.Asked.{is_text_within};
-ghost use Rattle.policy_classes.specs.Chosen.{AreChosen};
+ghost use Rattle.std.specs.Prelude.{◌≡◌, true};
+ghost use Rattle.policy_classes.specs.Allowed.{is_allowed, is_asked, limit_of, plain_of};
+ghost use Rattle.policy_classes.specs.Asked.{are_bytes, is_text_within, is_value_within};
 
+use crate::atoms::Field;
+use crate::order::{PLAIN_PATH, PLAIN_WORD};
 use hist_model::text::Text;
-use std::alloc::Global;
-use sys_abi::memory::NoMemory;
 
 /// The texts that calls may have in a field.
 #[derive(Clone, Copy)]
@@ -18,14 +17,25 @@ pub(crate) enum Limit {
     Value(usize),
 }
 
-/// How many letters there are.
-const LETTERS: usize = 26;
+/// The greatest lengths of a path, of an attribute's name, and of its value.
+const PATH_MAX: usize = 4095;
+
+const NAME_MAX: usize = 255;
+
+const VALUE_MAX: usize = 4096;
 
 /// Whether the text has at most so many bytes, none of them zero.
 fn is_text_within(most: usize, text: &[u8]) -> bool
     ensures { result ≡ is_text_within most text.now }
 {
     text.len() <= most && !text.contains(&0)
+}
+
+/// Whether the value has at most so many bytes.
+fn is_value_within(most: usize, value: &[u8]) -> bool
+    ensures { result ≡ is_value_within most value.now }
+{
+    value.len() <= most
 }
 
 impl Limit {
@@ -35,8 +45,30 @@ impl Limit {
     {
         match self {
             Limit::Text(most) => is_text_within(most, text),
-            Limit::Value(most) => text.len() <= most,
+            Limit::Value(most) => is_value_within(most, text),
         }
+    }
+}
+
+/// The texts that calls may have in the field. In one that is no text it doesn't matter.
+pub(crate) fn limit_of(field: Field) -> Limit
+    ensures { result ≡ limit_of field }
+{
+    match field {
+        Field::Name => Limit::Text(NAME_MAX),
+        Field::Value => Limit::Value(VALUE_MAX),
+        _ => Limit::Text(PATH_MAX),
+    }
+}
+
+/// The text that calls have in the field where nothing asks for another.
+pub(crate) fn plain_of(field: Field) -> &'static [u8]
+    ensures { result.now ≡ plain_of field }
+{
+    match field {
+        Field::Path => PLAIN_PATH,
+        Field::Value => b"",
+        _ => PLAIN_WORD,
     }
 }
 
@@ -45,88 +77,4 @@ pub(crate) fn is_asked(asked: &[Text], text: &[u8]) -> bool
     ensures { result ≡ is_asked asked.now text.now }
 {
     asked.iter().any(|t| text == t.items())
-}
-
-/// Adds the n-th word of letters: `a` to `z`, then those of two letters, and so on.
-pub(crate) fn push_word(text: &mut Vec<u8>, n: usize) -> Result<(), NoMemory> {
-    let mut rest = n;
-    loop {
-        text.push(b'a' + (rest % LETTERS) as u8)?;
-        if rest < LETTERS {
-            return Ok(());
-        }
-        rest = rest / LETTERS - 1;
-    }
-}
-
-/// A text that calls may have, and that is none of these. There is none where each of the first words is one of these.
-pub(crate) fn other_text(
-    alloc: Global,
-    asked: &[Text],
-    limit: Limit,
-) -> Result<Option<Text>, NoMemory>
-    ensures { IfOk result (λ found. IfSome found (λ u. (is_asked asked.now u ≡ false) × (is_allowed limit u ≡ true))) }
-{
-    for n in 0..=asked.len() {
-        let mut word = Vec::new(alloc);
-        push_word(&mut word, n)?;
-        let word = Text::new(word);
-        if limit.allows(word.items()) && !is_asked(asked, word.items()) {
-            return Ok(Some(word));
-        }
-    }
-    Ok(None)
-}
-
-/// Adds the text, if calls may have it and it isn't there.
-fn push_allowed(
-    alloc: Global,
-    texts: &mut Vec<Text>,
-    limit: Limit,
-    text: &Text,
-) -> Result<(), NoMemory>
-    ensures { OnOk result (AddsAllowed limit text.now texts.old.items texts.new.items) }
-{
-    if !limit.allows(text.items()) {
-        return Ok(());
-    }
-    if is_asked(texts.as_slice(), text.items()) {
-        return Ok(());
-    }
-    texts.push(text.copied(alloc)?)?;
-    Ok(())
-}
-
-/// Those of the texts that calls may have, each once.
-#[tactic(auto, using(crate::proofs::ChosenTexts::none_allowed))]
-pub(crate) fn allowed_texts(
-    alloc: Global,
-    asked: &[Text],
-    limit: Limit,
-) -> Result<Vec<Text>, NoMemory>
-    ensures { IfOk result (λ texts. HasAllowed limit asked.now texts.items) }
-{
-    let mut texts = Vec::new(alloc);
-    for text in asked {
-        push_allowed(alloc, &mut texts, limit, text)?;
-    }
-    Ok(texts)
-}
-
-/// The values of a field that is a text: those that are asked for, and another one.
-#[tactic(auto, using(crate::proofs::ChosenTexts::chosen, crate::proofs::ChosenTexts::all_allowed))]
-pub(crate) fn chosen_texts(
-    alloc: Global,
-    asked: &[Text],
-    limit: Limit,
-) -> Result<Option<Vec<Text>>, NoMemory>
-    ensures { IfOk result (λ found. IfSome found
-        (λ texts. AreChosen asked.now (IsAllowed limit) texts.items × All (IsAllowed limit) texts.items)) }
-{
-    let Some(other) = other_text(alloc, asked, limit)? else {
-        return Ok(None);
-    };
-    let mut texts = allowed_texts(alloc, asked, limit)?;
-    texts.push(other)?;
-    Ok(Some(texts))
 }

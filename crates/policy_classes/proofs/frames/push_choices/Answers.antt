@@ -1,7 +1,10 @@
 -- A frame is added for each request that is yielded, and at the end these are all.
-use Rattle.std.proofs.Common.{sym, append-nil, map-id, rules}
+use Rattle.std.proofs.Common.{sym, ap, ◌∙◌, append-nil, map-id, rules}
 use Rattle.std.proofs.lemmas.Iterator.Adapters.{YieldsList-from_vec}
 use Rattle.std.proofs.lemmas.Iterator.Consumers.{YieldsList-end}
+use Rattle.policy_classes.specs.Choices.{choices}
+use Rattle.policy_classes.specs.Pending.{atoms_seen, rules_seen}
+use Rattle.policy_classes.specs.Search.{atoms_left}
 use Rattle.policy_classes.specs.Frames.{frame_seen, frames_seen}
 use Rattle.policy_classes.proofs.Framed.{frame_added}
 use Rattle.policy_classes.proofs.frames.push_choices.Goals as goal
@@ -18,4 +21,8 @@ pub returns : goal.returns
 returns c =
     let end = YieldsList-end (YieldsList-from_vec {s = c.into_iter-request-iterator.result} c.in_ok-requests.requests.items (search rules) (search rules))
     c.loop-request.yielded c.loop-request.request-iterator c.loop-request.yielded_by c.next.result c.next.new.self c.in-None.is c.next.ensures.steps in
-    rw (← c.in_ok-requests.ensures, ← end.0, map-id) c.loop-request.invariant
+    let seen_slice = ap atoms_seen c.as_slice-3.ensures.value in
+    let old_slice = ap (λ rules. atoms_left (rules_seen rules) (rules_seen c.as_slice-2.result.now)) c.as_slice.ensures.value
+    ∙ ap (λ rules. atoms_left (rules_seen c.args.frame.now.old.items) (rules_seen rules)) c.as_slice-2.ensures.value in
+    let tried = c.in_ok-requests.ensures ∙ ap (λ atoms. choices c.args.field atoms c.args.frame.now.request) (seen_slice ∙ c.in_ok-atoms.ensures ∙ old_slice) in
+    rw (← tried, ← end.0, map-id) c.loop-request.invariant

@@ -1,7 +1,8 @@
 -- The devices so far are those that the atoms so far ask for.
 use Rattle.std.proofs.Common.{◌≡◌, take}
-use Rattle.policy_classes.specs.Chosen.{devices_asked}
+use Rattle.policy_classes.specs.Nodes.{devices_asked}
+use Rattle.policy_classes.specs.Pending.{atoms_seen}
 use Rattle.policy_classes.proofs.nodes.devices_asked.Given as goal
 
 abbrev pub invariant-loop-atom : goal.invariant-loop-atom
-invariant-loop-atom l = l.devices.items ≡ devices_asked (take l.atom-index l.atoms)
+invariant-loop-atom l = l.devices.items ≡ devices_asked (atoms_seen (take l.atom-index l.atoms))

@@ -1,4 +1,4 @@
--- The nodes so far are those of the devices so far.
+-- The nodes so far are those that there were, and those of the device numbers so far.
 use Rattle.std.proofs.Common.{◌≡◌, ◌++◌, take}
 use Rattle.policy_classes.specs.Nodes.{nodes_for}
 use Rattle.policy_classes.proofs.nodes.push_nodes.Given as goal

@@ -1,0 +1,11 @@
+-- Each turn adds what one more of them asks for.
+use Rattle.std.proofs.Common.{arith}
+use Rattle.std.specs.Prelude.{bytes_eq}
+use Rattle.policy_classes.specs.Chosen.{dir_asked}
+use Rattle.policy_classes.proofs.Gathered.{one_more_asked}
+use Rattle.policy_classes.proofs.chosen.dirs_asked.Goals as goal
+
+pub loop-atom-preserved : goal.loop-atom-preserved
+loop-atom-preserved c =
+    one_more_asked bytes_eq (dir_asked c.args.field) c.args.atoms.now c.loop-atom.atom-index c.atom-item.result c.atom-item.result c.loop-atom.dirs.items
+    c.push_dir.new.dirs.items (omega arith) c.atom-item.is c.loop-atom.invariant c.in_ok-push_dir.ensures
