@@ -8,7 +8,8 @@ from dataclasses import dataclass, field
 from itertools import islice
 from typing import Dict, List, Optional
 
-from exploring.runs import Foretold, Kind, Past, Played, Run, Setting
+from exploring.foresight import Foresight, Foretold
+from exploring.runs import Kind, Past, Played, Run, Setting
 from exploring.schedules import Planned, followers
 
 # how many runs one process takes at once
@@ -71,15 +72,16 @@ class Explored:
         return bool(self.findings) or any(kind is Kind.DIED for kind, _, _ in self.troubles)
 
 
-# the setting of the process that runs, its newest run, and whether no more is to be run; a process of a pool gets them when it is made
+# the setting of the process that runs, its newest run, what was seen of the broker, and whether no more is to be run; a process of a pool gets them when it is made
 current: Optional[Setting] = None
 past: Optional[Past] = None
+foresight: Optional[Foresight] = None
 over = None
 
 
 def set_current(setting):
-    global current, past
-    current, past = setting, None
+    global current, past, foresight
+    current, past, foresight = setting, None, Foresight()
     # (what there is by now stays, and a run leaves little behind)
     gc.freeze()
     gc.set_threshold(GARBAGE)
@@ -98,11 +100,12 @@ def run_one(planned) -> Optional[Played]:
     global past
     if over is not None and over.is_set():
         return None
-    run = Run(current, planned, past)
+    run = Run(current, planned, past, foresight)
     try:
         played = run.play()
     except Foretold:
-        # (so it isn't the same when it is run again, which the run tells that nothing is known of)
+        # (so it isn't what was foreseen, or not the same when it is run again, which the run tells of which nothing is known)
+        foresight.give_up()
         run = Run(current, planned)
         played = run.play()
     past = run.past if len(run.threads) == 1 else None

@@ -11,6 +11,7 @@ import struct
 import time
 import traceback
 from functools import lru_cache
+from itertools import accumulate
 from typing import List, NamedTuple
 
 from exploring.passing import Passing
@@ -120,7 +121,7 @@ class InlineInstance:
 
     # ---- what the run does
 
-    def start(self, foretold=()):
+    def start(self):
         pass
 
     def reply(self, thread, answer):
@@ -248,15 +249,14 @@ class ProcessInstance:
             self.watched.register(self.server, select.POLLIN)
         self.connections: List[Connection] = []
         self.process, self.broker, self.status = None, None, None
-        self.advance = 0
+        # the answers that are sent before its calls, and how many of these it hasn't made yet
+        self.foretold, self.advance = [], 0
         self.written, self.output = anonymous_file("output"), b""
 
     # ---- its start
 
-    def start(self, foretold=()):
-        """Starts the command, in a session of its own, so that all that it starts can be ended with it. The answers that are known by now are sent before its calls, so that it needn't wait."""
-        self.foretold = foretold if sum(map(len, foretold)) <= MOST_FORETOLD else ()
-        self.advance = len(self.foretold)
+    def start(self):
+        """Starts the command, in a session of its own, so that all that it starts can be ended with it."""
         try:
             self.process = Started(self.command, self.environment, self.written)
         except OSError as error:
@@ -291,6 +291,12 @@ class ProcessInstance:
         self.broker = peer_of(connected.socket)
         connected.send(b"".join(self.foretold))
         return True
+
+    def foretell(self, answers):
+        """Before its first call is waited for: sends the answers to its calls that are known by now, or as many as there is room for, so that it needn't wait. Each of them is to be replied nevertheless."""
+        sizes = accumulate(map(len, answers))
+        self.foretold = [answer for answer, size in zip(answers, sizes) if size <= MOST_FORETOLD]
+        self.advance = len(self.foretold)
 
     def accept(self, kind):
         connection = kind(self.server.accept()[0])

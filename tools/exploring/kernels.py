@@ -1,7 +1,7 @@
 """The kernel of a run: the written one in Python with the judge beside it. Behind the run the program is asked for the same, and its answers have to be equal."""
 from typing import List, NamedTuple, Optional
 
-from exploring.processes import output_of
+from exploring.processes import Answering
 from judging.sessions import Follower
 
 
@@ -29,6 +29,7 @@ class Kernel:
         self.session: List[Asked] = []
         # the answers, each with its newline, of a report all of it
         self.answers: List[bytes] = []
+        self.program: Optional[Answering] = None
 
     def ask(self, request: bytes) -> bytes:
         """The answer to a request, with its newline."""
@@ -37,9 +38,17 @@ class Kernel:
         self.answers.append(told)
         return told
 
-    def difference(self, words) -> Optional[Difference]:
-        """Asks the program that these words start for all that was asked here, at once; None where it answers the same."""
-        output = output_of(words, b"".join([asked.request + b"\n" for asked in self.session]))
+    @property
+    def has_asked_program(self):
+        return self.program is not None
+
+    def ask_program(self, words):
+        """Asks the program that these words start for all that was asked here, at once."""
+        self.program = Answering(words, b"".join([asked.request + b"\n" for asked in self.session]))
+
+    def difference(self) -> Optional[Difference]:
+        """Waits for what the program answers; None where that is the same."""
+        output = self.program.output()
         return None if output == b"".join(self.answers) else self.first_difference(output)
 
     def first_difference(self, output):

@@ -60,19 +60,25 @@ class Started:
         return self.returncode
 
 
-def output_of(words, given):
-    """What a command writes that has all of its input at once."""
-    source, (reader, writer) = anonymous_file("input"), os.pipe()
-    try:
-        os.pwrite(source, given, 0)
-        pid = spawned(words, os.environ, [(os.POSIX_SPAWN_DUP2, source, 0), (os.POSIX_SPAWN_DUP2, writer, 1)])
-    finally:
-        os.close(source)
-        os.close(writer)
-    with open(reader, "rb", buffering=0) as file:
-        found = file.readall()
-    os.waitpid(pid, 0)
-    return found
+class Answering:
+    """A command that was started with all of its input at once."""
+
+    def __init__(self, words, given):
+        """Raises OSError where it can't be started."""
+        source, (self.reader, writer) = anonymous_file("input"), os.pipe()
+        try:
+            os.pwrite(source, given, 0)
+            self.pid = spawned(words, os.environ, [(os.POSIX_SPAWN_DUP2, source, 0), (os.POSIX_SPAWN_DUP2, writer, 1)])
+        finally:
+            os.close(source)
+            os.close(writer)
+
+    def output(self):
+        """All that it writes, once it has ended."""
+        with open(self.reader, "rb", buffering=0) as file:
+            found = file.readall()
+        os.waitpid(self.pid, 0)
+        return found
 
 
 def has_ended_within(process, seconds):

@@ -7,8 +7,9 @@ from hashlib import blake2b
 from itertools import islice
 from typing import Callable, Dict, List, NamedTuple, Optional
 
-from exploring.instances import Hangs, InlineInstance, NotSupported, drive
-from exploring.kernels import Asked, Kernel
+from exploring.foresight import Foreseen, Foresight, Foretold
+from exploring.instances import Hangs, InlineInstance, NotSupported, ProcessInstance, drive
+from exploring.kernels import Asked, Difference, Kernel
 from exploring.schedules import Choice, Planned, first_difference
 from stepping.sessions import Session
 
@@ -106,10 +107,6 @@ class Actor(NamedTuple):
     thread: int = 0
 
 
-class Foretold(Exception):
-    """The run isn't like the earlier one, by which it was answered in advance."""
-
-
 class Turn(NamedTuple):
     """A turn of a run: how many actors were able, and which one stepped."""
 
@@ -141,12 +138,12 @@ class Past:
 
 
 class Run:
-    def __init__(self, setting: Setting, planned: Planned, past: Optional[Past] = None):
-        """`past` is a run before, of a broker with one instance."""
+    def __init__(self, setting: Setting, planned: Planned, past: Optional[Past] = None, foresight: Optional[Foresight] = None):
+        """`past` is a run before, of a broker with one instance; `foresight` is what was seen of such a one in all runs."""
         self.planned = planned
         self.delays = {delay.choice: delay.count for delay in planned.delays}
         self.setting, self.kernel = setting, Kernel(setting.files)
-        self.instances = setting.make()
+        self.instances = self.foreseen(setting.make(), foresight)
         self.seats = setting.seats_each(self.instances)
         # the tasks and the threads of instances that there are, in their order
         self.tasks: List[Actor] = []
@@ -166,34 +163,54 @@ class Run:
         self.shown = None
         self.played = Played(planned)
 
+    @staticmethod
+    def foreseen(instances, foresight):
+        """The instances, of which a single process is listened to where nothing is foreseen of it."""
+        if foresight is None or foresight.is_over or len(instances) > 1 or not isinstance(instances[0], ProcessInstance):
+            return instances
+        return [Foreseen(instances[0], foresight)]
+
     # ---- the whole
 
     def play(self) -> Played:
         """Runs the broker. Raises Foretold."""
         try:
+            self.run_broker()
+        finally:
+            for instance in self.instances:
+                instance.stop()
+            difference = self.difference()
+        if difference is not None:
+            self.end_before(difference)
+        self.tell()
+        return self.played
+
+    def run_broker(self):
+        """Runs the broker to its end, or to its trouble. Raises Foretold."""
+        try:
             if isinstance(self.instances[0], InlineInstance):
                 self.instances[0].drive(self.course())
             else:
                 drive(self.instances, self.course())
-        except Hangs:
-            self.trouble(Kind.HANGS, "it makes no call of the kernel, and doesn't end")
-        except NotSupported as wrong:
-            self.trouble(Kind.NOT_SUPPORTED, wrong.args[0])
-        except Unlike:
-            self.trouble(Kind.UNLIKE, "it doesn't make the same calls as when it ran before, up to here")
-        finally:
-            for instance in self.instances:
-                instance.stop()
-        if self.setting.program is not None:
-            self.compare_kernels()
-        self.tell()
-        return self.played
+        except (Hangs, NotSupported, Unlike) as wrong:
+            if any(isinstance(it, Foreseen) and not it.is_seen for it in self.instances):
+                raise Foretold from None
+            self.trouble(*self.told_of(wrong))
+
+    @staticmethod
+    def told_of(wrong):
+        """What is told of a run that was given up."""
+        if isinstance(wrong, Hangs):
+            return Kind.HANGS, "it makes no call of the kernel, and doesn't end"
+        if isinstance(wrong, NotSupported):
+            return Kind.NOT_SUPPORTED, wrong.args[0]
+        return Kind.UNLIKE, "it doesn't make the same calls as when it ran before, up to here"
 
     def course(self):
         """The run: it gives the number of each instance whose next call it wants to hear, and is sent the call. It goes on behind a broken clause, without delays, so that the broker ends as it would."""
         for number, instance in enumerate(self.instances):
             self.current = number
-            instance.start([exchange.answer for exchange in self.foretold])
+            instance.start()
             self.note_calls(number, (yield number))
             first = Actor(instance=number)
             if self.pending.get(first) == b"able":
@@ -210,12 +227,24 @@ class Run:
             if len(self.kernel.state.events) > MOST_EVENTS:
                 raise Hangs
         self.kernel.judge.note_idle()
+        # (the broker is told of the close meanwhile)
+        self.ask_program()
 
-    def compare_kernels(self):
-        """Asks the program for the same. Where it answers otherwise the run ends there."""
-        asked, difference = self.kernel.session, self.kernel.difference(self.setting.files.words(self.setting.program))
-        if difference is None:
-            return
+    def ask_program(self):
+        if self.setting.program is not None:
+            self.kernel.ask_program(self.setting.files.words(self.setting.program))
+
+    def difference(self) -> Optional[Difference]:
+        """Asks the program for the same, unless that was done; the first request that it answers otherwise."""
+        if self.setting.program is None:
+            return None
+        if not self.kernel.has_asked_program:
+            self.ask_program()
+        return self.kernel.difference()
+
+    def end_before(self, difference):
+        """Ends the run before a request that the program answers otherwise."""
+        asked = self.kernel.session
         request = asked[difference.place].request
         self.kernel, self.shown, self.played.trouble = Kernel(self.setting.files), None, None
         for before in asked[:difference.place]:
