@@ -2,11 +2,12 @@
 import os
 import sys
 import tempfile
+from functools import lru_cache
 
 from command_line import place
 from exploring import telling
 from exploring.exploration import Explored, explore
-from exploring.instances import ProcessInstance, Shim
+from exploring.instances import Door, ProcessInstance, Shim
 from exploring.passing import Listening
 from exploring.runs import SEATS, Files, Setting
 from judging.command import Ended, Words, read_files
@@ -89,8 +90,12 @@ def setting_of(asked, room):
     shim = Shim(asked.shim, asked.same_root) if asked.shim is not None else None
     passing = Listening(asked.listener_path, asked.listener_metadata, files.container.pidbase + 1) if asked.listener_path is not None else None
 
+    @lru_cache(maxsize=None)
+    def door(process, at):
+        return Door(f"{room}/{process}-{at}")
+
     def make():
-        return [ProcessInstance(asked.command, room, f"{os.getpid()}-{at}", asked.patience, shim, passing) for at in range(asked.instances)]
+        return [ProcessInstance(asked.command, door(os.getpid(), at), asked.patience, shim, passing) for at in range(asked.instances)]
 
     return Setting(files, make, program)
 

@@ -5,8 +5,8 @@ import signal
 import sys
 from contextlib import contextmanager
 from dataclasses import dataclass, field
-from itertools import islice
-from typing import Dict, List, Optional
+from itertools import chain, islice, takewhile
+from typing import Dict, Iterator, List, Optional
 
 from exploring.foresight import Foresight, Foretold
 from exploring.runs import Kind, Past, Played, Run, Setting
@@ -72,16 +72,78 @@ class Explored:
         return bool(self.findings) or any(kind is Kind.DIED for kind, _, _ in self.troubles)
 
 
-# the setting of the process that runs, its newest run, what was seen of the broker, and whether no more is to be run; a process of a pool gets them when it is made
-current: Optional[Setting] = None
-past: Optional[Past] = None
-foresight: Optional[Foresight] = None
+class Sequence:
+    """Runs, one after another: while the processes of one work by themselves, the next is foreseen. A broker is started when the one before has ended."""
+
+    def __init__(self, setting: Setting):
+        self.setting = setting
+        # the newest run, and what was seen of the broker
+        self.past: Optional[Past] = None
+        self.foresight = Foresight(self.end)
+        # the run that isn't over, and what came of those that are
+        self.open: Optional[Run] = None
+        self.played: List[Played] = []
+
+    def play(self, schedules) -> Iterator[Played]:
+        """Runs these schedules. Neighbours in their order have much in common, which is known from the run before."""
+        for planned in schedules:
+            self.begin(planned)
+            yield from self.taken()
+        self.end()
+        yield from self.taken()
+
+    def taken(self):
+        """What came of the runs that are over by now."""
+        taken, self.played = self.played, []
+        return taken
+
+    def begin(self, planned):
+        try:
+            self.begin_run(Run(self.setting, planned, self.past, self.foresight))
+        except Foretold:
+            self.foresight.give_up()
+            self.begin_run(Run(self.setting, planned))
+
+    def begin_run(self, run):
+        """Begins a run, and ends the one before. Raises Foretold."""
+        try:
+            if not run.is_foreseen:
+                self.end()
+            run.begin()
+            self.end()
+            run.close()
+        except BaseException:
+            run.stop()
+            raise
+        self.open = run
+        self.past = run.past if len(run.threads) == 1 else None
+
+    def end(self):
+        """Ends the run that isn't over, if there is one. Where it isn't what was foreseen, or not the same as before, it is run again, and nothing is known of it in advance."""
+        run, self.open = self.open, None
+        if run is None:
+            return
+        try:
+            self.played.append(run.end())
+        except Foretold:
+            self.foresight.give_up()
+            self.played.append(Run(self.setting, run.planned).play())
+
+    def stop(self):
+        """Ends what is still running."""
+        if self.open is not None:
+            self.open.stop()
+            self.open = None
+
+
+# the sequence of the process that runs, and whether no more is to be run; a process of a pool gets them when it is made
+sequence: Optional[Sequence] = None
 over = None
 
 
-def set_current(setting):
-    global current, past, foresight
-    current, past, foresight = setting, None, Foresight()
+def set_sequence(setting):
+    global sequence
+    sequence = Sequence(setting)
     # (what there is by now stays, and a run leaves little behind)
     gc.freeze()
     gc.set_threshold(GARBAGE)
@@ -95,35 +157,35 @@ def begin_process(is_over):
     signal.signal(signal.SIGTERM, lambda *_: sys.exit(1))
 
 
-def run_one(planned) -> Optional[Played]:
-    """Runs a schedule, unless the end was told. Neighbours in their order have much in common, which is known from the run before."""
-    global past
-    if over is not None and over.is_set():
-        return None
-    run = Run(current, planned, past, foresight)
+def run_some(schedules) -> List[Played]:
+    """Runs schedules, or fewer where the end was told."""
     try:
-        played = run.play()
-    except Foretold:
-        # (so it isn't what was foreseen, or not the same when it is run again, which the run tells of which nothing is known)
-        foresight.give_up()
-        run = Run(current, planned)
-        played = run.play()
-    past = run.past if len(run.threads) == 1 else None
-    return played
+        return list(sequence.play(takewhile(lambda _: not over.is_set(), schedules)))
+    finally:
+        sequence.stop()
+
+
+def parts(schedules):
+    """Schedules, so many of them at once."""
+    left = iter(schedules)
+    return iter(lambda: list(islice(left, AT_ONCE)), [])
 
 
 @contextmanager
 def runner(setting, jobs):
     """A function that runs schedules, in order, with so many processes. At the end each process finishes its run, and ends with all that it has started; none is killed, which could leave a lock of the pool taken."""
-    set_current(setting)
+    set_sequence(setting)
     if jobs == 1:
-        yield lambda batch: map(run_one, batch)
+        try:
+            yield sequence.play
+        finally:
+            sequence.stop()
         return
     context = multiprocessing.get_context("fork")
     is_over = context.Event()
     pool = context.Pool(jobs, begin_process, (is_over,))
     try:
-        yield lambda batch: pool.imap(run_one, batch, AT_ONCE)
+        yield lambda batch: chain.from_iterable(pool.imap(run_some, parts(batch)))
     finally:
         is_over.set()
         pool.close()

@@ -4,7 +4,7 @@ A broker goes by the answers that it gets. So where it has got the same ones bef
 foreseen. An answer begins with the number of its event, which differs as soon as a task steps between; few brokers look at it, so it is left out first. Where that has led astray once, answers are taken as they are; and nothing is
 foreseen of a broker that differs even then, or has threads.
 """
-from typing import Dict, NamedTuple, Optional
+from typing import Callable, Dict, NamedTuple, Optional
 
 from exploring.instances import CLOSED, Hangs, NotSupported, ProcessInstance
 
@@ -30,7 +30,9 @@ class Place:
 class Foresight:
     """All that was seen of a broker."""
 
-    def __init__(self):
+    def __init__(self, before_start: Callable = lambda: None):
+        """`before_start` is called before an instance is started."""
+        self.before_start = before_start
         self.has_numbers, self.is_over = False, False
         self.first, self.places = Place(), 1
 
@@ -60,13 +62,13 @@ class Answered(NamedTuple):
 
 
 class Foreseen:
-    """An instance that isn't listened to as long as it is known what it asks for."""
+    """An instance that isn't listened to as long as it is known what it asks for. It is started once that isn't known any more, or all of the run is."""
 
     def __init__(self, instance: ProcessInstance, foresight: Foresight):
         self.instance, self.foresight, self.place = instance, foresight, foresight.first
         self.answered = []
-        # whether what was told of it so far is seen by now
-        self.is_seen = False
+        # whether it has asked for what was foreseen, and whether it is told of the close
+        self.is_seen = self.is_closed = False
 
     @property
     def status(self):
@@ -77,14 +79,15 @@ class Foreseen:
         return self.instance.output
 
     def start(self):
-        self.instance.start()
+        pass
 
     def wait(self):
         """The calls for which it waits, or None where it has ended. Raises Foretold, and what an instance raises."""
         if not self.is_seen:
             if self.place.request is not None:
                 return [(0, self.place.request)]
-            self.catch_up()
+            self.begin()
+            self.see()
         calls = self.instance.wait()
         self.learn(calls)
         return calls
@@ -104,14 +107,19 @@ class Foreseen:
             self.answered.append(Answered(self.place.request, answer))
         self.place = self.foresight.behind(self.place, answer)
 
-    def catch_up(self, *more):
-        """Sends it all of its answers, and more ones, and sees whether it asks for what was foreseen. Raises Foretold."""
+    def begin(self, *more):
+        """Starts it, with all of its answers, and more ones. Raises NotSupported."""
+        self.foresight.before_start()
+        self.instance.start()
         self.instance.foretell([it.answer for it in self.answered] + list(more))
+
+    def see(self):
+        """Sees whether it asks for what was foreseen. Raises Foretold."""
         try:
             for it in self.answered:
                 self.expect(it.request)
                 self.instance.reply(0, it.answer)
-            if more:
+            if self.is_closed:
                 self.expect(self.place.request)
         except (Hangs, NotSupported):
             raise Foretold from None
@@ -121,9 +129,21 @@ class Foreseen:
         if self.instance.wait() != [(0, request)]:
             raise Foretold
 
+    def close(self):
+        """Tells it that the listener is closed, for which it isn't waited. Raises NotSupported."""
+        self.is_closed = True
+        if self.is_seen:
+            self.instance.close()
+        else:
+            self.begin(CLOSED)
+
+    def greet(self):
+        self.instance.greet()
+
     def finish(self):
+        """Waits for its end. Raises Foretold, and what an instance raises."""
         if not self.is_seen:
-            self.catch_up(CLOSED)
+            self.see()
         self.instance.finish()
 
     def stop(self):

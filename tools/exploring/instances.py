@@ -181,6 +181,21 @@ class Connection:
         self.socket.close()
 
 
+class Door:
+    """A socket at which one instance after another connects."""
+
+    def __init__(self, path):
+        self.path = path
+        self.server = socket.socket(socket.AF_UNIX)
+        self.server.bind(path)
+        self.server.listen(BACKLOG)
+
+    def clear(self):
+        """Lets go of what has connected to no avail."""
+        while select.select([self.server], [], [], 0)[0]:
+            self.server.accept()[0].close()
+
+
 class Shim(NamedTuple):
     """The library that is preloaded into a broker as it is, and whether that shares the container's root."""
 
@@ -230,18 +245,15 @@ class Thread(Connection):
 class ProcessInstance:
     """A command that is started with a socket to the kernel in SECCOMP_BROKER_KERNEL."""
 
-    def __init__(self, command, room, name, patience, shim=None, passing=None):
-        """`patience` is how long it may do something without a call of the kernel, in seconds. `shim` is the library that is preloaded into a broker as it is, and has the listener. `passing` says how the
-        listener is passed to it, if it is."""
-        self.path, self.patience = f"{room}/{name}", patience
+    def __init__(self, command, door, patience, shim=None, passing=None):
+        """`door` is where it connects. `patience` is how long it may do something without a call of the kernel, in seconds. `shim` is the library that is preloaded into a broker as it is, and has the
+        listener. `passing` says how the listener is passed to it, if it is."""
+        self.door, self.server, self.patience = door, door.server, patience
         self.passing, self.command = None, command
         if passing is not None:
-            self.passing = Passing(passing, f"{self.path}-agent", command)
+            self.passing = Passing(passing, f"{door.path}-agent", command)
             self.command = self.passing.command
-        self.environment = environment_of(self.path, shim, passing is not None)
-        self.server = socket.socket(socket.AF_UNIX)
-        self.server.bind(self.path)
-        self.server.listen(BACKLOG)
+        self.environment = environment_of(door.path, shim, passing is not None)
         # (only what is preloaded connects for each thread)
         self.has_threads = shim is not None
         self.watched = select.poll()
@@ -251,12 +263,16 @@ class ProcessInstance:
         self.process, self.broker, self.status = None, None, None
         # the answers that are sent before its calls, and how many of these it hasn't made yet
         self.foretold, self.advance = [], 0
+        # whether it is told of the close, and wasn't listened to since
+        self.is_told = False
         self.written, self.output = anonymous_file("output"), b""
 
     # ---- its start
 
     def start(self):
         """Starts the command, in a session of its own, so that all that it starts can be ended with it."""
+        if self.passing is not None:
+            self.passing.begin()
         try:
             self.process = Started(self.command, self.environment, self.written)
         except OSError as error:
@@ -283,9 +299,9 @@ class ProcessInstance:
                 return False
         raise Hangs
 
-    def has_connected(self):
+    def has_connected(self, seconds=POLL):
         """Whether the command has connected by now, for which it has a short while."""
-        if not select.select([self.server], [], [], POLL)[0]:
+        if not select.select([self.server], [], [], seconds)[0]:
             return False
         connected = self.accept(Connection)
         self.broker = peer_of(connected.socket)
@@ -297,6 +313,11 @@ class ProcessInstance:
         sizes = accumulate(map(len, answers))
         self.foretold = [answer for answer, size in zip(answers, sizes) if size <= MOST_FORETOLD]
         self.advance = len(self.foretold)
+
+    def greet(self):
+        """Sends what is foretold, if it has connected by now. It isn't waited for."""
+        if not self.connections:
+            self.has_connected(0)
 
     def accept(self, kind):
         connection = kind(self.server.accept()[0])
@@ -385,19 +406,24 @@ class ProcessInstance:
     def output_so_far(self):
         return os.pread(self.written, MOST_OUTPUT, 0)
 
-    def finish(self):
-        """Answers each of its calls by telling that the listener is closed, until it ends or has asked for too much."""
+    def close(self):
+        """Answers the calls for which it waits by telling that the listener is closed."""
         self.patience = LEAVE
-        for it in self.connections:
+        for number, it in enumerate(self.connections):
             if it.is_open:
                 it.set_patience(LEAVE)
+            if it.is_asking:
+                self.reply(number, CLOSED)
+                self.is_told = True
+
+    def finish(self):
+        """Tells it that the listener is closed, and answers so whatever it asks for, until it ends or has asked for too much."""
         try:
             for _ in range(MOST_REFUSALS):
-                asking = [it for it in self.connections if it.is_asking]
-                for it in asking:
-                    it.reply(CLOSED)
-                if not asking or self.wait() is None:
+                self.close()
+                if not self.is_told or self.wait() is None:
                     return
+                self.is_told = False
         except Hangs:
             pass
 
@@ -405,13 +431,6 @@ class ProcessInstance:
         """Ends what is left of it, and takes what it has written."""
         if self.process is not None:
             self.end()
-        for it in self.connections:
-            # (for the second time, if the command has closed it)
-            it.close()
-        if self.passing is not None:
-            self.passing.close()
-        self.server.close()
-        os.unlink(self.path)
         self.output = self.output_so_far()
         os.close(self.written)
 
@@ -422,16 +441,19 @@ class ProcessInstance:
         except ProcessLookupError:
             pass
         self.process.wait()
+        for it in self.connections:
+            # (for the second time, if the command has closed it)
+            it.close()
+        self.door.clear()
+        if self.passing is not None:
+            self.passing.close()
 
 
 def drive(instances, course):
-    """Lets processes run, each where the run wants to hear of it, and to their ends behind it."""
+    """Lets processes run, each where the run wants to hear of it."""
     number = next(course)
     try:
         while True:
             number = course.send(instances[number].wait())
     except StopIteration:
         pass
-    for instance in instances:
-        if instance.status is None:
-            instance.finish()

@@ -38,16 +38,14 @@ class Kernel:
         self.answers.append(told)
         return told
 
-    @property
-    def has_asked_program(self):
-        return self.program is not None
-
     def ask_program(self, words):
         """Asks the program that these words start for all that was asked here, at once."""
         self.program = Answering(words, b"".join([asked.request + b"\n" for asked in self.session]))
 
     def difference(self) -> Optional[Difference]:
-        """Waits for what the program answers; None where that is the same."""
+        """Waits for what the program answers; None where that is the same, or wasn't asked."""
+        if self.program is None:
+            return None
         output = self.program.output()
         return None if output == b"".join(self.answers) else self.first_difference(output)
 

@@ -36,6 +36,10 @@ class Passing:
         self.listening = listening
         self.command = [word.replace(listening.path, path) for word in command]
         self.path = path if self.command != list(command) else listening.path
+        self.was_there = False
+
+    def begin(self):
+        """Before the broker is started: looks whether somebody has made its socket already."""
         self.was_there = os.path.lexists(self.path)
 
     def try_to_pass(self):

@@ -161,6 +161,7 @@ class Run:
         self.hash = blake2b(digest_size=8)
         # how many requests had been made when a clause was broken
         self.shown = None
+        self.is_given_up = False
         self.played = Played(planned)
 
     @staticmethod
@@ -170,32 +171,79 @@ class Run:
             return instances
         return [Foreseen(instances[0], foresight)]
 
+    @property
+    def is_foreseen(self):
+        """Whether it goes by what was foreseen, and that isn't seen yet."""
+        return any(isinstance(it, Foreseen) and not it.is_seen for it in self.instances)
+
     # ---- the whole
 
     def play(self) -> Played:
         """Runs the broker. Raises Foretold."""
         try:
-            self.run_broker()
+            self.begin()
+            self.close()
+        except BaseException:
+            self.stop()
+            raise
+        return self.end()
+
+    def begin(self):
+        """Makes all steps. What is foreseen of the broker needn't have happened by then. Raises Foretold."""
+        if isinstance(self.instances[0], InlineInstance):
+            self.attempt(lambda: self.instances[0].drive(self.course()))
+        else:
+            self.attempt(lambda: drive(self.instances, self.course()))
+
+    def close(self):
+        """Behind that: starts what is to work by itself. Raises Foretold."""
+        self.attempt(self.close_foreseen)
+        if self.setting.program is not None:
+            self.kernel.ask_program(self.setting.files.words(self.setting.program))
+        self.attempt(self.greet_foreseen)
+
+    def end(self) -> Played:
+        """Waits for that, and tells what came of the run. Raises Foretold."""
+        try:
+            self.attempt(self.finish)
         finally:
-            for instance in self.instances:
-                instance.stop()
-            difference = self.difference()
+            self.stop()
+            difference = self.kernel.difference()
         if difference is not None:
             self.end_before(difference)
         self.tell()
         return self.played
 
-    def run_broker(self):
-        """Runs the broker to its end, or to its trouble. Raises Foretold."""
+    def attempt(self, part):
+        """Does a part of the run, unless it was given up. Raises Foretold."""
+        if self.is_given_up:
+            return
         try:
-            if isinstance(self.instances[0], InlineInstance):
-                self.instances[0].drive(self.course())
-            else:
-                drive(self.instances, self.course())
+            part()
         except (Hangs, NotSupported, Unlike) as wrong:
-            if any(isinstance(it, Foreseen) and not it.is_seen for it in self.instances):
+            if self.is_foreseen:
                 raise Foretold from None
+            self.is_given_up = True
             self.trouble(*self.told_of(wrong))
+
+    def close_foreseen(self):
+        for instance in self.instances:
+            if isinstance(instance, Foreseen) and instance.status is None:
+                instance.close()
+
+    def greet_foreseen(self):
+        for instance in self.instances:
+            if isinstance(instance, Foreseen):
+                instance.greet()
+
+    def finish(self):
+        for instance in self.instances:
+            if instance.status is None:
+                instance.finish()
+
+    def stop(self):
+        for instance in self.instances:
+            instance.stop()
 
     @staticmethod
     def told_of(wrong):
@@ -227,22 +275,8 @@ class Run:
             if len(self.kernel.state.events) > MOST_EVENTS:
                 raise Hangs
         self.kernel.judge.note_idle()
-        # (the broker is told of the close meanwhile)
-        self.ask_program()
 
-    def ask_program(self):
-        if self.setting.program is not None:
-            self.kernel.ask_program(self.setting.files.words(self.setting.program))
-
-    def difference(self) -> Optional[Difference]:
-        """Asks the program for the same, unless that was done; the first request that it answers otherwise."""
-        if self.setting.program is None:
-            return None
-        if not self.kernel.has_asked_program:
-            self.ask_program()
-        return self.kernel.difference()
-
-    def end_before(self, difference):
+    def end_before(self, difference: Difference):
         """Ends the run before a request that the program answers otherwise."""
         asked = self.kernel.session
         request = asked[difference.place].request
