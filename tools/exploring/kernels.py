@@ -24,23 +24,27 @@ class Kernel:
     """What a run asks for. It keeps all that was asked."""
 
     def __init__(self, files):
-        self.follower = Follower(files.rules, files.container)
+        self.follower = Follower(files.rules, files.container, files.decided)
         self.state, self.judge = self.follower.kernel, self.follower.judge
-        self.session: List[Asked] = []
-        # the answers, each with its newline, of a report all of it
+        # what was asked, and the answers, each with its newline, of a report all of it
+        self.requests: List[bytes] = []
         self.answers: List[bytes] = []
         self.program: Optional[Answering] = None
 
     def ask(self, request: bytes) -> bytes:
         """The answer to a request, with its newline."""
         told = self.follower.answer(request).encode("latin-1")
-        self.session.append(Asked(request, told.partition(b"\n")[0]))
+        self.requests.append(request)
         self.answers.append(told)
         return told
 
+    @property
+    def session(self) -> List[Asked]:
+        return [Asked(request, told.partition(b"\n")[0]) for request, told in zip(self.requests, self.answers)]
+
     def ask_program(self, words):
         """Asks the program that these words start for all that was asked here, at once."""
-        self.program = Answering(words, b"".join([asked.request + b"\n" for asked in self.session]))
+        self.program = Answering(words, b"".join([request + b"\n" for request in self.requests]))
 
     def difference(self) -> Optional[Difference]:
         """Waits for what the program answers; None where that is the same, or wasn't asked."""

@@ -7,10 +7,11 @@ import struct
 import subprocess
 import tempfile
 import time
+from functools import partial
 
 PEER = struct.Struct("iII")
 STATE, ASLEEP, ZOMBIE, SWITCHES = b"\nState:\t", b"S", b"Z", b"\nvoluntary_ctxt_switches:"
-MOST_READ = 16_384
+MOST_READ, MOST_ANSWERED = 16_384, 65_536
 
 
 # what Python ignores, and a process that it starts shouldn't
@@ -75,10 +76,12 @@ class Answering:
 
     def output(self):
         """All that it writes, once it has ended."""
-        with open(self.reader, "rb", buffering=0) as file:
-            found = file.readall()
-        os.waitpid(self.pid, 0)
-        return found
+        parts = iter(partial(os.read, self.reader, MOST_ANSWERED), b"")
+        try:
+            return b"".join(parts)
+        finally:
+            os.close(self.reader)
+            os.waitpid(self.pid, 0)
 
 
 def has_ended_within(process, seconds):

@@ -3,6 +3,7 @@ import os
 import re
 from dataclasses import dataclass, field
 from enum import Enum
+from functools import lru_cache
 from hashlib import blake2b
 from itertools import islice
 from typing import Callable, Dict, List, NamedTuple, Optional
@@ -20,15 +21,20 @@ OF_WORKER = re.compile(rb"w (\d+) (\S+)(.*)", re.S)
 RECEIVES = (b"recv", b"recv-raw")
 # a receive into a structure of zeros, as the kernel wants it
 ZEROED = re.compile(rb"recv-raw 0{160}")
+# of so many requests with at most so many bytes it is kept what they say
+KEPT, MOST_KEPT = 4_096, 512
 
 
-class Files(NamedTuple):
+@dataclass
+class Files:
     """A policy and a script: where they are, and what they say."""
 
     policy: str
     script: str
     rules: list
     container: object
+    # what the rules were found to decide
+    decided: dict = field(default_factory=dict)
 
     def words(self, program):
         """The words that start a program on them."""
@@ -45,6 +51,35 @@ class Setting(NamedTuple):
 
     def seats_each(self, instances):
         return SEATS // len(instances)
+
+
+class Words(NamedTuple):
+    """The words of a worker's request: the seat, what is asked for, and all behind it."""
+
+    seat: int
+    word: bytes
+    rest: bytes
+
+
+def words_of(request) -> Optional[Words]:
+    """The words of a request; None where it isn't a worker's."""
+    return words_of_short(request) if len(request) <= MOST_KEPT else words_in(request)
+
+
+@lru_cache(KEPT)
+def words_of_short(request):
+    return words_in(request)
+
+
+def words_in(request):
+    found = OF_WORKER.fullmatch(ZEROED.sub(b"recv", request))
+    return Words(int(found[1]), found[2], found[3]) if found else None
+
+
+@lru_cache(KEPT)
+def step_request(task):
+    """The request by which a task steps."""
+    return b"t " + ".".join(map(str, task)).encode()
 
 
 class Kind(Enum):
@@ -267,7 +302,7 @@ class Run:
                 yield from self.hear(number)
         while self.take_turn():
             if self.last.task is not None:
-                self.ask(b"t " + ".".join(map(str, self.last.task)).encode())
+                self.ask(step_request(self.last.task))
             else:
                 self.has_stepped[self.last.instance] = True
                 self.answer(self.last)
@@ -292,7 +327,7 @@ class Run:
         state, fault = self.kernel.state, self.kernel.judge.fault
         self.played.steps = fault.place if fault is not None else len(state.events) - 1
         self.played.digest = self.hash.digest()
-        self.played.shown = self.shown if self.shown is not None else len(self.kernel.session)
+        self.played.shown = self.shown if self.shown is not None else len(self.kernel.requests)
         if fault is not None:
             entry = self.kernel.judge.entries.get(fault.call)
             task = fault.call.task.actor if fault.call is not None else "-"
@@ -373,14 +408,14 @@ class Run:
         state, request = self.kernel.state, self.pending[actor]
         if request == b"able":
             return self.polled_at.get(actor) == len(state.events)
-        found = OF_WORKER.fullmatch(request)
-        if not found or int(found[1]) >= self.seats:
+        words = words_of(request)
+        if words is None or words.seat >= self.seats:
             return False
-        if found[2] in RECEIVES:
+        if words.word in RECEIVES:
             return state.received == state.entered_calls
-        if found[2] != b"addfd-result":
+        if words.word != b"addfd-result":
             return False
-        put = state.worker(self.seat(actor.instance, int(found[1]))).request
+        put = state.worker(self.seat(actor.instance, words.seat)).request
         return put is not None and put.answer is None and put.call.is_listed
 
     # ---- calls of the broker
@@ -389,7 +424,7 @@ class Run:
         told = self.kernel.ask(request)
         self.hash.update(request + b"\n" + told)
         if self.kernel.judge.fault is not None and self.shown is None:
-            self.shown = len(self.kernel.session)
+            self.shown = len(self.kernel.requests)
         return told
 
     def seat(self, number, seat):
@@ -398,13 +433,14 @@ class Run:
 
     def mapped(self, number, request):
         """A request of an instance as the kernel gets it. Raises NotSupported."""
-        found = OF_WORKER.fullmatch(ZEROED.sub(b"recv", request))
-        if not found:
+        words = words_of(request)
+        if words is None:
             if request.split(b" ")[0] in (b"t", b"close"):
                 raise NotSupported(f"the broker asks for `{request.decode('latin-1')}`: under this tool the tasks step by themselves")
             return request
-        seat = int(found[1])
-        return request if seat >= SEATS else b"w %d %s%s" % (self.seat(number, seat) if seat < self.seats else SEATS, found[2], found[3])
+        if words.seat >= SEATS:
+            return request
+        return b"w %d %s%s" % (self.seat(number, words.seat) if words.seat < self.seats else SEATS, words.word, words.rest)
 
     def answer(self, actor):
         """Makes the call that a thread waits for."""

@@ -27,7 +27,7 @@ class TriedEffect:
     memory: object = None
     content: bytes = b""
 
-    @property
+    @cached_property
     def texts(self):
         """The texts that it names."""
         return decisions.texts_of(self.asked) if self.kind == ACT else ()
@@ -39,6 +39,23 @@ class TriedEffect:
             return (self.texts,)
         return next(filter(None, map(self.serving.reads.whole, reversed(Quality))), ())
 
+    @cached_property
+    def weakest(self):
+        """The byte of its texts with the worst reads: how good the best of them is, the part, the byte, and that read."""
+        reads = self.serving.reads
+        found = (Quality.CHECKED, None, None, None)
+        if self.kind == ACT:
+            for at, text in enumerate(self.texts):
+                for byte, (quality, read) in enumerate(reads.support(at, text)):
+                    if quality < found[0]:
+                        found = (quality, at, byte, read)
+        elif self.kind == PUT:
+            for quality in (Quality.ANY, Quality.OF_CALLER, Quality.WHILE_LISTED, Quality.CHECKED):
+                if not reads.whole(quality):
+                    copy = reads.newest_copy(quality)
+                    better = reads.at_least(Quality(quality - 1))
+                    return Quality(quality - 1), copy.missing_part, copy.missing_byte, better[-1] if better else None
+        return found
 
     @property
     def is_counted(self):
@@ -75,24 +92,6 @@ def other_request(tried, _):
 # ---- the copy that it rests on
 
 
-def weakest(tried):
-    """The byte of its texts with the worst reads: how good the best of them is, the part, the byte, and that read."""
-    reads = tried.serving.reads
-    found = (Quality.CHECKED, None, None, None)
-    if tried.kind == ACT:
-        for at, text in enumerate(tried.texts):
-            for byte, (quality, read) in enumerate(reads.support(at, text)):
-                if quality < found[0]:
-                    found = (quality, at, byte, read)
-    elif tried.kind == PUT:
-        for quality in (Quality.ANY, Quality.OF_CALLER, Quality.WHILE_LISTED, Quality.CHECKED):
-            if not reads.whole(quality):
-                copy = reads.newest_copy(quality)
-                better = reads.at_least(Quality(quality - 1))
-                return Quality(quality - 1), copy.missing_part, copy.missing_byte, better[-1] if better else None
-    return found
-
-
 def named(tried, at):
     return decisions.names_of_texts(tried.serving.call.number)[at]
 
@@ -102,7 +101,7 @@ def unread(tried, _):
     since = Reason("since here", tried.serving.place)
     if misfit is not None:
         return [Reason(f"the call has no such {named(tried, misfit)}"), since]
-    quality, at, byte, _ = weakest(tried)
+    quality, at, byte, _ = tried.weakest
     if quality != Quality.NONE:
         return None
     fault = tried.serving.reads.newest_copy(Quality.ANY).fault if tried.kind == PUT else None
@@ -114,12 +113,12 @@ def other_memory(tried, judge):
         if tried.memory is tried.serving.call.task.group:
             return None
         return [Reason(judge.whose(tried.memory), judge.memory_opened_at(tried.serving.worker))]
-    quality, at, byte, read = weakest(tried)
+    quality, at, byte, read = tried.weakest
     return [Reason(f"byte {byte} of the {named(tried, at)}, from {judge.whose(read.memory)}", read.place)] if quality == Quality.ANY else None
 
 
 def stale_copy(tried, _):
-    quality, at, byte, read = weakest(tried)
+    quality, at, byte, read = tried.weakest
     if quality != Quality.OF_CALLER:
         return None
     return [Reason("here the call left the list", tried.serving.entry.left_at), Reason(f"byte {byte} of the {named(tried, at)}", read.place)]
@@ -129,7 +128,7 @@ def unchecked(tried, _):
     reads = tried.serving.reads
     if not reads.parts:
         return None if reads.checks else [Reason("no check since here", tried.serving.place)]
-    quality, at, byte, read = weakest(tried)
+    quality, at, byte, read = tried.weakest
     if quality != Quality.WHILE_LISTED:
         return None
     before = [Reason("the last good check of this call", reads.checks[-1])] if reads.checks else [Reason("no check since here", tried.serving.place)]

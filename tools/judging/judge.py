@@ -1,5 +1,6 @@
 """Follows a history of the kernel, whoever its workers are, and finds the first clause that is broken."""
 from dataclasses import dataclass
+from functools import lru_cache
 from typing import Dict, List, Optional
 
 from judging import answers, clauses, decisions, effects
@@ -14,6 +15,9 @@ from stepping.kernel import Call, Kernel, Task
 from stepping.rules import Rule
 from stepping.trees import EBADF
 
+# of how many tasks the names are kept
+MOST_NAMES = 4_096
+
 
 @dataclass
 class Counts:
@@ -24,10 +28,17 @@ class Counts:
     answers: int = 0
 
 
+@lru_cache(MOST_NAMES)
+def name_in(actor):
+    """The name of the task that an actor is."""
+    return tuple(map(int, actor[1:].split(".")))
+
+
 class Judge:
     """Hears each event of a kernel right behind it. `fault` is what was found first; nothing is looked for behind it."""
 
-    def __init__(self, kernel: Kernel, rules):
+    def __init__(self, kernel: Kernel, rules, decided: Optional[Dict[tuple, Rule]] = None):
+        """`decided` has what these rules were found to decide, of this history or of others."""
         self.kernel, self.rules = kernel, rules
         self.fault: Optional[Fault] = None
         # how many events were taken
@@ -42,7 +53,7 @@ class Judge:
         self.entered_in: Dict[Task, Call] = {}
         self.effects: List[Effect] = []
         # the rules that were found to decide, by the number, the arguments and the texts of a call
-        self.decided: Dict[tuple, Rule] = {}
+        self.decided: Dict[tuple, Rule] = {} if decided is None else decided
         # of each rule with a limit the places of the effects that have spent its times
         self.times: Dict[str, List[int]] = {}
         # where each worker has opened the memory and the directory that it has
@@ -67,7 +78,7 @@ class Judge:
             self.take_of_task(place, self.task_of(event.actor), event.kind, event.facts)
 
     def task_of(self, actor):
-        return self.kernel.tasks[tuple(map(int, actor[1:].split(".")))]
+        return self.kernel.tasks[name_in(actor)]
 
     # ---- tasks
 

@@ -50,10 +50,11 @@ def session_text(exchanges) -> bytes:
 class Follower:
     """A written kernel that is asked as the program is, and the judge of what comes of it."""
 
-    def __init__(self, rules, container):
+    def __init__(self, rules, container, decided=None):
+        """`decided` is the judge's."""
         self.session = Session(rules, container)
         self.kernel = self.session.kernel
-        self.judge = Judge(self.kernel, rules)
+        self.judge = Judge(self.kernel, rules, decided)
 
     def answer(self, request: bytes) -> str:
         """The answer to a request, with its newline; of a report and of a script all of it."""

@@ -1,7 +1,7 @@
 """The written kernel (docs/KERNEL.md): its tasks, its listener, and what workers may ask it for. Each step is one event, or none where it can't be made."""
 import struct
 from dataclasses import dataclass, field
-from functools import partial
+from functools import cached_property, partial
 from typing import Optional
 
 from real_workloads.bpf import X86_64
@@ -64,7 +64,7 @@ class Task:
     has_ended: bool = False
     was_waited_for: bool = False
 
-    @property
+    @cached_property
     def actor(self):
         return "t" + ".".join(map(str, self.name))
 
@@ -153,6 +153,8 @@ class Kernel:
 
     def due_signal(self, task):
         """The signal that is delivered next: SIGKILL first, and then the lowest."""
+        if not task.pending:
+            return None
         held = self.container.killable and task.call is not None and task.call.is_fetched
         return next((signal for signal in SIGNALS if signal in task.pending and (not held or task.is_fatal(signal))), None)
 
