@@ -7,7 +7,7 @@ import struct
 import subprocess
 import tempfile
 import time
-from functools import partial
+from functools import lru_cache, partial
 
 PEER = struct.Struct("iII")
 STATE, ASLEEP, ZOMBIE, SWITCHES = b"\nState:\t", b"S", b"Z", b"\nvoluntary_ctxt_switches:"
@@ -61,6 +61,12 @@ class Started:
         return self.returncode
 
 
+@lru_cache(maxsize=None)
+def own_environment():
+    """This process's environment, in the form that takes the least time to be handed on."""
+    return {**os.environb}
+
+
 class Answering:
     """A command that was started with all of its input at once."""
 
@@ -69,7 +75,7 @@ class Answering:
         source, (self.reader, writer) = anonymous_file("input"), os.pipe()
         try:
             os.pwrite(source, given, 0)
-            self.pid = spawned(words, os.environ, [(os.POSIX_SPAWN_DUP2, source, 0), (os.POSIX_SPAWN_DUP2, writer, 1)])
+            self.pid = spawned(words, own_environment(), [(os.POSIX_SPAWN_DUP2, source, 0), (os.POSIX_SPAWN_DUP2, writer, 1)])
         finally:
             os.close(source)
             os.close(writer)

@@ -294,19 +294,19 @@ class Run:
         for number, instance in enumerate(self.instances):
             self.current = number
             instance.start()
-            self.note_calls(number, (yield number))
+            self.note_calls((yield number))
             first = Actor(instance=number)
             if self.pending.get(first) == b"able":
                 # (a client asks it to see that policy and script were taken)
                 self.answer(first)
-                yield from self.hear(number)
+                self.note_calls((yield number))
         while self.take_turn():
             if self.last.task is not None:
                 self.ask(step_request(self.last.task))
             else:
                 self.has_stepped[self.last.instance] = True
                 self.answer(self.last)
-                yield from self.hear(self.last.instance)
+                self.note_calls((yield self.current))
             if len(self.kernel.state.events) > MOST_EVENTS:
                 raise Hangs
         self.kernel.judge.note_idle()
@@ -399,7 +399,7 @@ class Run:
 
     def is_alike(self, number):
         """Whether an instance before this one has done nothing yet either, and waits for the same."""
-        if self.has_stepped[number]:
+        if number == 0 or self.has_stepped[number]:
             return False
         return any(not self.has_stepped[before] and self.calls_of(before) == self.calls_of(number) for before in range(number))
 
@@ -455,20 +455,16 @@ class Run:
         self.past.exchanges.append(exchange)
         if at < len(self.foretold) and exchange != self.foretold[at]:
             raise Foretold
+        self.current = number
         self.instances[number].reply(actor.thread, told)
 
-    def hear(self, number):
-        """Wants the next calls of an instance, or to hear of its end."""
-        self.current = number
-        self.note_calls(number, (yield number))
-
-    def note_calls(self, number, calls):
-        """Notes the calls that an instance waits for, each with its thread; or that it has ended."""
+    def note_calls(self, calls):
+        """Notes the calls that the instance waits for that was heard last, each with its thread; or that it has ended."""
         if calls is None:
-            self.note_end(number)
+            self.note_end(self.current)
             return
         for thread, request in calls:
-            actor = Actor(instance=number, thread=thread)
+            actor = Actor(instance=self.current, thread=thread)
             self.pending[actor] = request
             if actor not in self.threads:
                 self.threads.append(actor)
