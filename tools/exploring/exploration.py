@@ -133,6 +133,7 @@ class Sequence:
         """Ends what is still running."""
         if self.open is not None:
             self.open.stop()
+            self.open.kernel.difference()
             self.open = None
 
 

@@ -10,7 +10,7 @@ from exploring.instances import CLOSED, Hangs, NotSupported, ProcessInstance
 
 DIGITS = b"0123456789"
 # how many places are kept of a broker
-MOST_PLACES = 1_000_000
+MOST_PLACES = 100_000
 
 
 class Foretold(Exception):
