@@ -116,18 +116,29 @@ class Foreseen:
     def see(self):
         """Sees whether it asks for what was foreseen. Raises Foretold."""
         try:
-            for it in self.answered:
-                self.expect(it.request)
-                self.instance.reply(0, it.answer)
-            if self.is_closed:
-                self.expect(self.place.request)
+            if not self.makes_all():
+                raise Foretold
         except (Hangs, NotSupported):
             raise Foretold from None
         self.is_seen = True
 
-    def expect(self, request):
-        if self.instance.wait() != [(0, request)]:
-            raise Foretold
+    def makes_all(self):
+        """Whether it makes the calls that were foreseen, and waits for the answer to the last one where it is told of the close."""
+        if self.instance.advance >= len(self.answered):
+            has_made = self.instance.makes([it.request for it in self.answered])
+        else:
+            # (there was no room for all answers)
+            has_made = all(self.makes(it) for it in self.answered)
+        return has_made and (not self.is_closed or self.waits_for(self.place.request))
+
+    def makes(self, answered):
+        if not self.waits_for(answered.request):
+            return False
+        self.instance.reply(0, answered.answer)
+        return True
+
+    def waits_for(self, request):
+        return self.instance.wait() == [(0, request)]
 
     def close(self):
         """Tells it that the listener is closed, for which it isn't waited. Raises NotSupported."""

@@ -329,11 +329,15 @@ class ProcessInstance:
 
     # ---- its calls
 
-    def wait(self):
-        """The calls that have come by the time that all its threads wait, or None where it has ended. Raises Hangs and NotSupported."""
+    def connect(self):
+        """Waits until it has connected. Raises Hangs and NotSupported."""
         if not self.connections and not self.is_reached(self.has_connected):
             self.test_support(self.process.returncode)
             raise NotSupported(f"it has ended with status {self.process.returncode}, and hasn't connected to the socket that SECCOMP_BROKER_KERNEL names")
+
+    def wait(self):
+        """The calls that have come by the time that all its threads wait, or None where it has ended. Raises Hangs and NotSupported."""
+        self.connect()
         until, calls = time.monotonic() + self.patience, []
         while True:
             calls += [(number, line) for number, it in enumerate(self.connections) for line in [it.next_call()] if line is not None]
@@ -347,6 +351,19 @@ class ProcessInstance:
                     return calls
             elif not self.has_heard(until) and time.monotonic() >= until:
                 raise Hangs
+
+    def makes(self, requests):
+        """Whether these are the next calls of its only thread, of which the answers are foretold. Raises Hangs and NotSupported."""
+        self.connect()
+        until, wanted, connection = time.monotonic() + self.patience, b"".join([request + b"\n" for request in requests]), self.connections[0]
+        while len(connection.received) < len(wanted) and connection.is_open:
+            if not self.has_heard(until) and time.monotonic() >= until:
+                raise Hangs
+        if len(self.connections) > 1 or not connection.received.startswith(wanted):
+            return False
+        connection.received = connection.received[len(wanted):]
+        self.advance -= len(requests)
+        return True
 
     def has_heard(self, until):
         """Takes what has come, for which a single thread has until some time, and several ones have a short while; whether anything has."""
