@@ -43,7 +43,3 @@ pub or_neither : (a b : Bool) → a ≡ false → not b ≡ true → (a || b) �
 or_neither true b h g = cc
 or_neither false true h g = cc
 or_neither false false h g = refl
-
-pub or_cases : (a b : Bool) → (a || b) ≡ true → b ≡ false → a ≡ true
-or_cases true b h g = refl
-or_cases false b h g = cc

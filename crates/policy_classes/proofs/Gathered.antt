@@ -1,9 +1,9 @@
 -- What is gathered of a list, element by element.
 -- By the laws of lists that are joined.
-use Rattle.std.proofs.Common.{◌≡◌, ℕ, ◌+◌, ◌<◌, ◌≤◌, Bool, true, false, cond, List, [], ◌∷◌, ◌++◌, append_assoc, length, take, get_or, Option, refl, ap, sym, ◌∙◌}
+use Rattle.std.proofs.Common.{◌≡◌, ℕ, ◌+◌, ◌<◌, Bool, true, false, cond, List, [], ◌∷◌, ◌++◌, append_assoc, length, take, get_or, Option, refl, ap, sym, ◌∙◌}
 use Rattle.std.specs.Borrow.{Bor}
 use Rattle.std.specs.List.{filter, filter_map, flat_map}
-use Rattle.std.proofs.lemmas.List.{take_all, take_more}
+use Rattle.std.proofs.lemmas.List.{take_more}
 use Rattle.std.proofs.lemmas.List.Elements.{filter_map-append}
 use Rattle.policy_classes.specs.declared.atoms.Atom.{Atom}
 use Rattle.policy_classes.specs.Chosen.{added, once_behind}
@@ -27,18 +27,6 @@ one_more_asked same find atoms i d x before after l is was grows =
     ∙ ap (once_behind same []) (sym (filter_map-append find (atoms_seen (take i atoms)) ((get_or atoms i d).now ∷ [])))
     ∙ ap (λ xs. once_behind same [] (filter_map find xs)) (sym (atoms_seen-append (take i atoms) (get_or atoms i d ∷ [])))
     ∙ ap (λ xs. once_behind same [] (filter_map find (atoms_seen xs))) (sym (take_more atoms i d l))
-
-pub all_asked : {A : Type 0} (same : A → A → Bool) (find : Atom → Option A) (atoms : List (Bor Atom)) (i : ℕ) (all : List A) → length atoms ≤ i
-    → all ≡ once_behind same [] (filter_map find (atoms_seen (take i atoms))) → all ≡ once_behind same [] (filter_map find (atoms_seen atoms))
-all_asked same find atoms i all l e = e ∙ ap (λ xs. once_behind same [] (filter_map find (atoms_seen xs))) (take_all i atoms l)
-
--- what is made of the elements so far, and of one more
-pub one_more_made : {A B : Type 0} (make : List A → List B) (joins : (xs ys : List A) → make (xs ++ ys) ≡ make xs ++ make ys) (xs : List A) (i : ℕ) (d : A)
-    (front before after : List B) → i < length xs → before ≡ front ++ make (take i xs) → after ≡ before ++ make (get_or xs i d ∷ [])
-    → after ≡ front ++ make (take (i + 1) xs)
-one_more_made make joins xs i d front before after l was grows =
-    grows ∙ ap (λ ys. ys ++ make (get_or xs i d ∷ [])) was ∙ append_assoc front (make (take i xs)) (make (get_or xs i d ∷ []))
-    ∙ ap (λ ys. front ++ ys) (sym (joins (take i xs) (get_or xs i d ∷ []))) ∙ ap (λ ys. front ++ make ys) (sym (take_more xs i d l))
 
 pub filter-append : {A : Type 0} (test : A → Bool) (xs ys : List A) → filter test (xs ++ ys) ≡ filter test xs ++ filter test ys
 filter-append test [] ys = refl

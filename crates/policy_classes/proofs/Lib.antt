@@ -13,9 +13,9 @@ pub mod Kept
 pub mod Least
 pub mod Left
 pub mod Lists
+pub mod Marked
 pub mod Near
 pub mod NodeCases
-pub mod Numbers
 pub mod Once
 pub mod PlainRules
 pub mod Put

@@ -1,11 +1,11 @@
 -- What holds of some element or of each, where lists are joined.
 -- By induction on the list.
-use Rattle.std.proofs.Common.{◌≡◌, ℕ, zero, suc, ◌+◌, ◌<◌, Bool, true, false, ◌&&◌, ◌||◌, List, [], ◌∷◌, ◌++◌, length, map, take, get_or, Option, Some, None, refl, ap, sym, ◌∙◌, subst, ◌⊎◌, inl, inr, arith}
+use Rattle.std.proofs.Common.{◌≡◌, ℕ, zero, suc, ◌<◌, Bool, true, false, ◌&&◌, ◌||◌, List, [], ◌∷◌, ◌++◌, length, map, get_or, Option, Some, None, refl, ap, sym, ◌∙◌, subst, ◌⊎◌, inl, inr, arith}
 use Rattle.std.specs.Prelude.{All, Any, Contains}
 use Rattle.std.specs.List.{cons_option, filter_map, flat_map, list_all, list_any}
 use Rattle.std.proofs.Math.ListN.{get_or-map}
-use Rattle.std.proofs.lemmas.List.{length-map, take_more}
-use Rattle.std.proofs.lemmas.List.Elements.{All-append, All-cons, All-contains_itself, All-head, All-nil, All-tail, All-weaker, Contains-append_left, Contains-append_right, filter_map-append}
+use Rattle.std.proofs.lemmas.List.{length-map}
+use Rattle.std.proofs.lemmas.List.Elements.{All-append, All-cons, All-head, All-nil, All-tail}
 
 pub All-flat_map : {A B : Type 0} (Q : B → Type 0) (make : A → List B) (xs : List A) → All (λ x. All Q (make x)) xs → All Q (flat_map make xs)
 All-flat_map Q make [] h = All-nil Q
@@ -47,17 +47,6 @@ any_made P make xs (k, x, l, e, h) = (k, make x, rw length-map l, get_or-map mak
 
 pub contains_made : {A B : Type 0} (make : A → B) (xs : List A) (x : A) → Contains xs x → Contains (map make xs) (make x)
 contains_made make xs x (k, l, e) = (k, rw length-map l, get_or-map make xs k x ∙ ap make e)
-
--- each element of a part is one of the whole
-pub parts_within : {A B : Type 0} (make : A → List B) (xs : List A) → All (λ x. All (Contains (flat_map make xs)) (make x)) xs
-parts_within make [] = All-nil (λ x. All (Contains []) (make x))
-parts_within make (x ∷ xs) =
-    All-cons (λ y. All (Contains (make x ++ flat_map make xs)) (make y)) x xs
-    (All-weaker (Contains (make x)) (Contains (make x ++ flat_map make xs)) (Contains-append_left (make x) (flat_map make xs)) (make x)
-    (All-contains_itself (make x)))
-    (All-weaker (λ y. All (Contains (flat_map make xs)) (make y)) (λ y. All (Contains (make x ++ flat_map make xs)) (make y))
-    (λ y. All-weaker (Contains (flat_map make xs)) (Contains (make x ++ flat_map make xs)) (Contains-append_right (make x) (flat_map make xs)) (make y))
-    xs (parts_within make xs))
 
 pub any_place : {A : Type 0} (P : A → Type 0) (xs : List A) (x : A) → Contains xs x → P x → Any P xs
 any_place P xs x (k, l, e) h = (k, x, l, e, h)
@@ -113,10 +102,3 @@ any_parts P (x ∷ xs) ys (suc k, y, l, e, h) = by (any_parts P xs ys (k, y, ome
 pub any_single : {A : Type 0} (P : A → Type 0) (x : A) → Any P (x ∷ []) → P x
 any_single P x (zero, y, l, e, h) = subst P (sym e) h
 any_single P x (suc k, y, l, e, h) = absurd (omega arith)
-
--- what is found of the first elements, with that of one more
-pub one_more_found : {A B : Type 0} (find : A → Option B) (xs : List A) (i : ℕ) (d x : A) (before after : List B) → i < length xs → x ≡ get_or xs i d
-    → before ≡ filter_map find (take i xs) → after ≡ before ++ filter_map find (x ∷ []) → after ≡ filter_map find (take (i + 1) xs)
-one_more_found find xs i d x before after l is was grows =
-    grows ∙ ap (λ ys. ys ++ filter_map find (x ∷ [])) was ∙ ap (λ y. filter_map find (take i xs) ++ filter_map find (y ∷ [])) is
-    ∙ sym (ap (filter_map find) (take_more xs i d l) ∙ filter_map-append find (take i xs) (get_or xs i d ∷ []))

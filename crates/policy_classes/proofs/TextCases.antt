@@ -59,15 +59,6 @@ begins_both (x ∷ p) (y ∷ d) (z ∷ e) h g l = by (nat_eq y x) refl (nat_eq z
     by false s c t h g rest = cc
     by true s false t h g rest = cc
 
-begins_within : (p d : List ℕ) → starts_with nat_eq p d ≡ true → length d ≤ length p
-begins_within p [] h = omega arith
-begins_within [] (y ∷ d) h = cc
-begins_within (x ∷ p) (y ∷ d) h = by (nat_eq y x) h (begins_within p d)
-  where
-    by : (b : Bool) → (b && starts_with nat_eq p d) ≡ true → (starts_with nat_eq p d ≡ true → length d ≤ length p) → suc (length d) ≤ suc (length p)
-    by true g rest = let l : length d ≤ length p = rest g in omega arith
-    by false g rest = cc
-
 -- a path below one directory is below another where the other is a front of the first, if it isn't longer
 below_longest : (p d e : List ℕ) → lies_under (Some p) d ≡ true → (lies_under (Some p) e ≡ true → length e ≤ length d)
     → starts_with nat_eq (with_slash d) (with_slash e) ≡ lies_under (Some p) e

@@ -11,6 +11,7 @@ pub mod Fresh
 pub mod Groups
 pub mod Laws
 pub mod Looked
+pub mod Marks
 pub mod Nodes
 pub mod Order
 pub mod Pending

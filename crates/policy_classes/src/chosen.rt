@@ -6,10 +6,10 @@ ghost use Rattle.std.specs.Option.{option_copied, option_to_list};
 ghost use Rattle.std.specs.Ordering.{int_eq};
 ghost use Rattle.policy_classes.specs.Allowed.{is_allowed};
 ghost use Rattle.policy_classes.specs.Asked.{is_descriptor_number};
-ghost use Rattle.policy_classes.specs.Chosen.{added, comes_first, descriptor_asked, descriptor_candidates, descriptor_values, descriptors_asked, dir_asked};
+ghost use Rattle.policy_classes.specs.Chosen.{added, comes_first, descriptor_asked, descriptor_values, descriptors_asked, dir_asked};
 ghost use Rattle.policy_classes.specs.Chosen.{dirs_asked, field_texts, fresh_at, fresh_descriptor, is_fresh_descriptor, next_descriptor, once_behind};
 ghost use Rattle.policy_classes.specs.Chosen.{text_asked, text_values, texts_asked};
-ghost use Rattle.policy_classes.specs.Fresh.{least, lesser};
+ghost use Rattle.policy_classes.specs.Fresh.{lesser};
 ghost use Rattle.policy_classes.specs.Pending.{atoms_seen};
 
 use crate::atoms::{Atom, Field};
@@ -24,7 +24,7 @@ use sys_abi::wire::AT_FDCWD;
 // ---- texts
 
 /// The text for which an atom asks in a field.
-fn text_asked(field: Field, atom: &Atom) -> Option<&Text>
+pub(crate) fn text_asked(field: Field, atom: &Atom) -> Option<&Text>
     ensures { option_copied result ≡ text_asked field atom.now }
 {
     match (field, atom) {

@@ -9,6 +9,7 @@ ghost use Rattle.policy_classes.specs.Search.{atoms_left};
 
 use crate::atoms::Field;
 use crate::choices::choices;
+use crate::marks::marks;
 use crate::pending::{Pending, atoms_left, left_of};
 use hist_model::request::Request;
 use std::alloc::Global;
@@ -34,9 +35,23 @@ pub fn push_choices<'a>(
 {
     let atoms = atoms_left(alloc, frame.old.as_slice(), frame.new.as_slice())?;
     let requests = choices(alloc, field, atoms.as_slice(), &frame.request)?;
+    let old_marks = marks(alloc, field, frame.old.as_slice())?;
+    let new_marks = marks(alloc, field, frame.new.as_slice())?;
     for request in requests {
-        let old = left_of(alloc, field, &request, frame.old.as_slice())?;
-        let new = left_of(alloc, field, &request, frame.new.as_slice())?;
+        let old = left_of(
+            alloc,
+            field,
+            &request,
+            old_marks.as_slice(),
+            frame.old.as_slice(),
+        )?;
+        let new = left_of(
+            alloc,
+            field,
+            &request,
+            new_marks.as_slice(),
+            frame.new.as_slice(),
+        )?;
         frames.push(Frame { request, old, new })?;
     }
     Ok(())

@@ -4,13 +4,13 @@
 //! many classes, each with a rule of the one policy and a rule of the other, and for each class there is a call that is a witness.
 //!
 //! [`classes::classes`] finds them. Each class that it gives is one, and where it says that these are all, each call is of one of
-//! them.
+//! them, and each witness is the least call of its class (`specs/Order.antt`).
 //!
 //! A condition is a list of atoms, each of which looks at one field of the request (`specs/Atoms.antt`, `specs/Fields.antt`).
-//! Of each field a few values stand for all (`specs/Standing.antt`): those that atoms ask for, and one for which none asks
-//! (`specs/Chosen.antt`; `choosing`, `words` and `nodes` choose them). The classes are found by giving the fields of a request these
-//! values, one field after another, and by dropping what that decides (`specs/Search.antt`, and `specs/Looked.antt` for one step of
-//! the walk). `laws` has what follows from the definitions.
+//! Of each field the values are tried that the atoms tell apart (`specs/Chosen.antt`): those for which they ask, and the least of
+//! each other group (`fresh`, `chosen` and `nodes` find them). They stand for all (`specs/Standing.antt`). The classes are found by
+//! giving the fields of a request these values, one field after another, and by dropping what that decides (`specs/Search.antt`, and
+//! `specs/Looked.antt` for one step of the walk and for how many there are). `laws` has what follows from the definitions.
 //!
 //! `ending` has what the crates above tell of such a look at all calls.
 //!
@@ -27,6 +27,7 @@ pub mod frames;
 mod fresh;
 pub mod holding;
 pub mod laws;
+mod marks;
 mod nodes;
 mod order;
 pub mod pending;

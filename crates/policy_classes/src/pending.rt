@@ -4,11 +4,13 @@ ghost use Rattle.std.specs.Prelude.{◌≡◌, ◌&&◌, ◌++◌, IfOk, OnOk, m
 ghost use Rattle.std.specs.List.{flat_map};
 ghost use Rattle.policy_classes.specs.Atoms.{atoms_in, holds};
 ghost use Rattle.policy_classes.specs.Fields.{is_of};
+ghost use Rattle.policy_classes.specs.Marks.{asked_mark, mark_at};
 ghost use Rattle.policy_classes.specs.Pending.{atoms_seen, rules_seen};
 ghost use Rattle.policy_classes.specs.Search.{atoms_left, fails_in, first_place, left_of, next_field, others, undecided, waiting_from};
 
 use crate::atoms::{Atom, Field};
 use crate::holding::holds;
+use crate::marks::{mark_at, may_be};
 use hist_model::policy::Rule;
 use hist_model::request::Request;
 use hist_model::text::Sequence;
@@ -52,19 +54,40 @@ fn others<'a>(alloc: Global, field: Field, atoms: &[&'a Atom]) -> Result<Vec<&'a
     Ok(rest)
 }
 
-/// What is left of the rules where the field is as in this request: not those that fail, nor those behind one that decides.
+/// Whether an atom of the field doesn't hold, told by marks if these differ.
+#[tactic(auto, using(crate::proofs::Marked::other_fails))]
+fn fails_by(
+    field: Field,
+    request: &Request,
+    asked: Option<u64>,
+    seen: Option<u64>,
+    atoms: &[&Atom],
+) -> bool
+    requires asked { asked ≡ asked_mark field (atoms_seen atoms.now) }
+    requires seen { seen ≡ mark_at field request.now }
+    ensures { result ≡ fails_in field request.now (atoms_seen atoms.now) }
+{
+    !may_be(asked, seen) || fails_in(field, request, atoms)
+}
+
+/// What is left of the rules where the field is as in this request: not those that fail, nor those behind one that decides. The marks
+/// are those of the texts for which the rules ask in the field.
 #[tactic(auto, using(crate::proofs::Seen::rule_fails, crate::proofs::Seen::rule_waits, crate::proofs::Seen::rule_decides, crate::proofs::Seen::all_seen))]
-pub fn left_of<'a>(
+pub(crate) fn left_of<'a>(
     alloc: Global,
     field: Field,
     request: &Request,
+    marks: &[Option<u64>],
     rules: &[Pending<'a>],
 ) -> Result<Vec<Pending<'a>>, NoMemory>
+    requires marks { marks.now ≡ map (λ c. asked_mark field c.atoms) (rules_seen rules.now) }
     ensures { IfOk result (λ left. rules_seen left.items ≡ left_of field request.now (rules_seen rules.now)) }
 {
+    let seen = mark_at(field, request);
     let mut left = Vec::new(alloc);
-    for rule in rules {
-        if !fails_in(field, request, rule.atoms.as_slice()) {
+    for place in 0..rules.len() {
+        let rule = &rules[place];
+        if !fails_by(field, request, marks[place], seen, rule.atoms.as_slice()) {
             let atoms = others(alloc, field, rule.atoms.as_slice())?;
             let decides = atoms.is_empty();
             left.push(Pending {

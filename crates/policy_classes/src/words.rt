@@ -2,7 +2,7 @@
 
 ghost use Rattle.std.specs.Prelude.{◌≡◌, true};
 ghost use Rattle.policy_classes.specs.Allowed.{is_allowed, is_asked, limit_of, plain_of};
-ghost use Rattle.policy_classes.specs.Asked.{are_bytes, is_text_within, is_value_within};
+ghost use Rattle.policy_classes.specs.Asked.{is_text_within, is_value_within};
 
 use crate::atoms::Field;
 use crate::order::{PLAIN_PATH, PLAIN_WORD};
