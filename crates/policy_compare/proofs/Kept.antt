@@ -7,13 +7,11 @@ use Rattle.std.proofs.lemmas.List.Elements.{All-contains, All-contains_itself, A
 use Rattle.hist_model.specs.declared.policy.Rule.{Rule}
 use Rattle.hist_model.specs.declared.request.Request.{Request}
 use Rattle.policy_classes.specs.declared.found.Class.{Class}
-use Rattle.policy_classes.specs.Classes.{HasWitness, Holds}
+use Rattle.policy_classes.specs.Classes.{Holds}
 use Rattle.policy_compare.specs.Order.{are_one}
 
-pub witnesses_kept : (old new : List Rule) (found sorted : List Class) → ((c : Class) → Contains sorted c → Contains found c)
-    → All (HasWitness old new) found → All (HasWitness old new) sorted
-witnesses_kept old new found sorted known h =
-    All-weaker (Contains sorted) (HasWitness old new) (λ c k. All-contains (HasWitness old new) found c h (known c k)) sorted (All-contains_itself sorted)
+pub all_kept : (P : Class → Type 0) (found sorted : List Class) → ((c : Class) → Contains sorted c → Contains found c) → All P found → All P sorted
+all_kept P found sorted known h = All-weaker (Contains sorted) P (λ c k. All-contains P found c h (known c k)) sorted (All-contains_itself sorted)
 
 pub class_kept : (old new : List Rule) (q : Request) (found sorted : List Class) → ((c : Class) → Contains found c → Any (λ d. are_one c d ≡ true) sorted)
     → Any (Holds old new q) found → Any (Holds old new q) sorted

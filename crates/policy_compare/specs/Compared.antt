@@ -8,7 +8,7 @@ use Rattle.hist_model.specs.declared.script.FilterLine.{FilterLine}
 use Rattle.policy_classes.specs.declared.ending.Told.{Told}
 use Rattle.policy_classes.specs.declared.found.Class.{Class}
 use Rattle.policy_classes.specs.Asked.{IsCall}
-use Rattle.policy_classes.specs.Classes.{HasWitness, Holds}
+use Rattle.policy_classes.specs.Classes.{HasWitness, Holds, IsLeast}
 use Rattle.policy_compare.specs.Answers.{Answer, answer_of}
 use Rattle.policy_compare.specs.Lines.{comparison, ending}
 use Rattle.policy_compare.specs.Order.{by_places}
@@ -31,11 +31,12 @@ pub record AreEqual (old new : List Rule) : Type 0 where
   pub counters : (p q : Request) → IsCall p → IsCall q → IsLimited old p → IsLimited old q → Share old p q ↔ Share new p q
 
 -- what is told is told of these classes: each pair of rules once, in the order of their places; the witness of each is a call of it;
--- and where they are whole, each call is of one of them
+-- and where they are whole, the least one, and each call is of one of them
 pub record IsTold (old new : List Rule) (filters : Option (List FilterLine)) (told : Told) (classes : List Class) (whole : Bool)
     : Type 0 where
   pub ordered : IsStrictlySortedBy by_places classes
   pub witnesses : All (HasWitness old new) classes
+  pub least : whole ≡ true → All (IsLeast old new) classes
   pub there : whole ≡ true → (q : Request) → IsCall q → Any (Holds old new q) classes
   pub text : told.text ≡ comparison old new filters classes whole
   pub ending : told.ending ≡ ending old new filters classes whole

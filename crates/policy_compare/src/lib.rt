@@ -24,7 +24,7 @@ ghost use Rattle.std.specs.List.Sorted.{IsStrictlySortedBy};
 ghost use Rattle.std.specs.Option.{option_copied};
 ghost use Rattle.hist_model.specs.declared.request.Request.{Request as AnyRequest};
 ghost use Rattle.policy_classes.specs.Asked.{IsCall};
-ghost use Rattle.policy_classes.specs.Classes.{HasWitness, Holds};
+ghost use Rattle.policy_classes.specs.Classes.{HasWitness, Holds, IsLeast};
 ghost use Rattle.policy_classes.specs.declared.ending.Ending.TheVariants.{Alike, Otherwise};
 ghost use Rattle.policy_compare.specs.Compared.{AreEqual, IsComparison};
 ghost use Rattle.policy_compare.specs.Order.{by_places};
@@ -46,6 +46,7 @@ fn ordered_classes(alloc: Global, old: &[Rule], new: &[Rule]) -> Result<Classes,
     ensures witnesses { IfOk result (λ found. All (HasWitness old.now new.now) found.classes) }
     ensures there { IfOk result (λ found. found.whole ≡ true
         → (q : AnyRequest) → IsCall q → Any (Holds old.now new.now q) found.classes) }
+    ensures least { IfOk result (λ found. found.whole ≡ true → All (IsLeast old.now new.now) found.classes) }
 {
     let found = classes(alloc, old, new, MOST_LOOKED)?;
     let Classes { classes, whole } = found;
