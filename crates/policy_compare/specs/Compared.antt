@@ -1,5 +1,5 @@
 -- What a comparison of two policies says of all calls.
-use Rattle.std.specs.Prelude.{◌≡◌, true, Bool, List, Option, is_some, All, Any, slice_get, ◌↔◌}
+use Rattle.std.specs.Prelude.{◌≡◌, ◌≤◌, true, Bool, List, Option, is_some, All, Any, slice_get, ◌↔◌}
 use Rattle.std.specs.List.Sorted.{IsStrictlySortedBy}
 use Rattle.hist_model.specs.Decisions.{decide}
 use Rattle.hist_model.specs.declared.policy.Rule.{Rule}
@@ -9,6 +9,8 @@ use Rattle.policy_classes.specs.declared.ending.Told.{Told}
 use Rattle.policy_classes.specs.declared.found.Class.{Class}
 use Rattle.policy_classes.specs.Asked.{IsCall}
 use Rattle.policy_classes.specs.Classes.{HasWitness, Holds, IsLeast}
+use Rattle.policy_classes.specs.Looked.{places_looked}
+use Rattle.policy_classes.specs.Plain.{IsPlainRule}
 use Rattle.policy_compare.specs.Answers.{Answer, answer_of}
 use Rattle.policy_compare.specs.Lines.{comparison, ending}
 use Rattle.policy_compare.specs.Order.{by_places}
@@ -30,13 +32,18 @@ pub record AreEqual (old new : List Rule) : Type 0 where
   pub answers : (q : Request) → IsCall q → answer_to old q ≡ answer_to new q
   pub counters : (p q : Request) → IsCall p → IsCall q → IsLimited old p → IsLimited old q → Share old p q ↔ Share new p q
 
+-- the rules name calls that have names, and flags of one bit, as those of a file do; and at most 1,000,000 places are looked at
+abbrev pub AreFew : List Rule → List Rule → Type 0
+AreFew old new = All IsPlainRule old × All IsPlainRule new × (places_looked old new ≤ 1000000)
+
 -- what is told is told of these classes: each pair of rules once, in the order of their places; the witness of each is a call of it;
--- and where they are whole, the least one, and each call is of one of them
+-- and where they are whole, the least one, and each call is of one of them; they are whole exactly where few places are looked at
 pub record IsTold (old new : List Rule) (filters : Option (List FilterLine)) (told : Told) (classes : List Class) (whole : Bool)
     : Type 0 where
   pub ordered : IsStrictlySortedBy by_places classes
   pub witnesses : All (HasWitness old new) classes
   pub least : whole ≡ true → All (IsLeast old new) classes
+  pub whole_is : (whole ≡ true) ↔ AreFew old new
   pub there : whole ≡ true → (q : Request) → IsCall q → Any (Holds old new q) classes
   pub text : told.text ≡ comparison old new filters classes whole
   pub ending : told.ending ≡ ending old new filters classes whole

@@ -19,14 +19,14 @@ mod notified;
 mod order;
 mod told;
 
-ghost use Rattle.std.specs.Prelude.{◌≡◌, true, All, Any, IfOk};
+ghost use Rattle.std.specs.Prelude.{◌≡◌, ◌↔◌, true, All, Any, IfOk};
 ghost use Rattle.std.specs.List.Sorted.{IsStrictlySortedBy};
 ghost use Rattle.std.specs.Option.{option_copied};
 ghost use Rattle.hist_model.specs.declared.request.Request.{Request as AnyRequest};
 ghost use Rattle.policy_classes.specs.Asked.{IsCall};
 ghost use Rattle.policy_classes.specs.Classes.{HasWitness, Holds, IsLeast};
 ghost use Rattle.policy_classes.specs.declared.ending.Ending.TheVariants.{Alike, Otherwise};
-ghost use Rattle.policy_compare.specs.Compared.{AreEqual, IsComparison};
+ghost use Rattle.policy_compare.specs.Compared.{AreEqual, AreFew, IsComparison};
 ghost use Rattle.policy_compare.specs.Order.{by_places};
 
 use hist_model::policy::{Policy, Rule};
@@ -47,6 +47,7 @@ fn ordered_classes(alloc: Global, old: &[Rule], new: &[Rule]) -> Result<Classes,
     ensures there { IfOk result (λ found. found.whole ≡ true
         → (q : AnyRequest) → IsCall q → Any (Holds old.now new.now q) found.classes) }
     ensures least { IfOk result (λ found. found.whole ≡ true → All (IsLeast old.now new.now) found.classes) }
+    ensures whole { IfOk result (λ found. found.whole ≡ true ↔ AreFew old.now new.now) }
 {
     let found = classes(alloc, old, new, MOST_LOOKED)?;
     let Classes { classes, whole } = found;
