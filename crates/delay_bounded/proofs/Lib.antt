@@ -2,7 +2,7 @@ mod Complete
 mod Extending
 mod Finishing
 pub mod Left
-mod LegalWalks
+pub mod LegalWalks
 mod MadeNames
 mod ProgramDepths
 mod Requests

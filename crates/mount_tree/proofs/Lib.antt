@@ -6,3 +6,4 @@ pub mod Attributes
 pub mod Found
 pub mod Under
 pub mod Piled
+pub mod WrittenParts

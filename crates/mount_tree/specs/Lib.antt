@@ -4,3 +4,4 @@ pub mod Places
 pub mod Changes
 pub mod Looks
 pub mod Stacks
+pub mod Written

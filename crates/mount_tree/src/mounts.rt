@@ -63,6 +63,13 @@ impl Model for Mounts {
 }
 
 impl Mounts {
+    /// The mounts, the oldest first.
+    pub fn rows(&self) -> &[Mounted]
+        ensures { reverse result.now ≡ self.now.rows }
+    {
+        self.rows.rows()
+    }
+
     /// No mount, and no room.
     pub fn new(alloc: Global) -> Mounts
         ensures { result ≡ record { rows = []; roomy = false } }

@@ -1,9 +1,10 @@
 //! The tree, with its changes.
 
-ghost use Rattle.std.specs.Prelude.{◌≡◌, true, false, ◌<◌, ◌≤◌, ◌+◌, length, Some, IfOk, IfSome, OnOk, OnErr, None, is_some};
+ghost use Rattle.std.specs.Prelude.{◌≡◌, ◌++◌, true, false, ◌<◌, ◌≤◌, ◌+◌, length, Some, IfOk, IfSome, OnOk, OnErr, None, is_some};
 ghost use Rattle.hist_model.specs.Trees.{bare_tree, stated, with_line, with_node, with_mount, with_attr, ordinal_of, entry, node_at, is_dir_at, attr, up, top, mount_on, target_of, parent_of, row_in};
 ghost use Rattle.mount_tree.specs.Looks.{has_value, newest_root};
 ghost use Rattle.mount_tree.specs.Stacks.{IsApart};
+ghost use Rattle.mount_tree.specs.Written.{tree_part};
 
 use crate::attr_flags::{are_attr_flags, creates_attr, replaces_attr};
 use crate::copies::copy_node;
@@ -12,6 +13,7 @@ use crate::mounts::{Mounts, NewMount};
 use crate::rooms::Rooms;
 use crate::search::row;
 use crate::table::Table;
+use crate::written::{push_attrs, push_mounts, push_rows};
 use hist_model::request::{Node, NodeRef};
 use hist_model::script::TreeLine;
 use hist_model::text::Text;
@@ -75,6 +77,16 @@ impl Tree {
             mounts: Mounts::new(alloc),
             rooms: Rooms::new(alloc),
         })
+    }
+
+    /// Adds the key of this tree, by which equal ones are found. Fails for want of memory alone; then a front of the key was added.
+    #[tactic(auto, using(crate::proofs::WrittenParts::turned_back))]
+    pub fn write_key(&self, key: &mut Vec<u8>) -> Result<(), NoMemory>
+        ensures { OnOk result (key.new.items ≡ key.old.items ++ tree_part self.now.tree) }
+    {
+        push_rows(key, self.nodes.rows())?;
+        push_attrs(key, self.attrs.rows())?;
+        push_mounts(key, self.mounts.rows())
     }
 
     /// Makes room for one change whose texts have at most `len` bytes together. After `NoMemory` the tree is as it was.

@@ -47,7 +47,7 @@ own-steps H c K (Worker w) (Recv (Ok notif)) s h = by (is_place (call_with_id no
     by false q = cc
 own-steps H c K _ _ s h = cc
 
-session-steps : (H : List Event) (c : ℕ) (K : List Event) (s : Begun) → session_for H c K ≡ Some s → s.steps ≡ session_at s.worker s.place H
+pub session-steps : (H : List Event) (c : ℕ) (K : List Event) (s : Begun) → session_for H c K ≡ Some s → s.steps ≡ session_at s.worker s.place H
 unfolding session_for
 session-steps H c [] s h = cc
 session-steps H c (e ∷ K) s h = by (session_by H c K e.who e.what) refl h (session-steps H c K s)

@@ -34,7 +34,7 @@ pub(crate) struct Kept<'a> {
 }
 
 /// Whether the event is a call that the task with this name enters.
-fn is_call_of(event: &Event, name: &TaskName) -> bool
+pub fn is_call_of(event: &Event, name: &TaskName) -> bool
     ensures { result ≡ is_call_of name.now event.now }
 {
     match (&event.who, &event.what) {

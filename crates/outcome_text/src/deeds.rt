@@ -109,7 +109,7 @@ fn push_later(
 
 /// Adds what the session did that the worker began at a place, and whose effect is out of sight or isn't. Of any list of events, its
 /// first step may be of any kind.
-pub(crate) fn push_deeds(
+pub fn push_deeds(
     line: &mut LineBuffer,
     events: &[Event],
     place: usize,

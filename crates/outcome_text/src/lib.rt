@@ -11,13 +11,13 @@
 //! (`hist_model`).
 #![tactic(auto)]
 
-mod calls;
-mod deeds;
+pub mod calls;
+pub mod deeds;
 pub mod mark;
-mod names;
+pub mod names;
 mod outcome;
 mod sight;
-mod words;
+pub mod words;
 
 pub use outcome::outcome_of;
 pub use sight::hidden_places;

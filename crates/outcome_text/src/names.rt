@@ -52,7 +52,7 @@ fn note(alloc: Global, names: &mut Vec<TaskName>, what: &What) -> Result<(), NoM
 }
 
 /// The names of the tasks that got a PID, in their order.
-pub(crate) fn task_names(alloc: Global, events: &[Event]) -> Result<Vec<TaskName>, NoMemory>
+pub fn task_names(alloc: Global, events: &[Event]) -> Result<Vec<TaskName>, NoMemory>
     ensures { IfOk result (λ names. names.items ≡ task_names (reverse events.now)) }
 {
     let mut names = Vec::new(alloc);

@@ -6,7 +6,7 @@ ghost use Rattle.hist_model.specs.ReportAudit.{judging_by};
 ghost use Rattle.hist_model.specs.ReportWords.{call_text, name_text};
 ghost use Rattle.sys_abi.specs.Calls.{nr_getpid};
 ghost use Rattle.audit_log.specs.Audited.{audited};
-ghost use Rattle.outcome_text.specs.Outcomes.{audit_text, came_text, entry_of, gives_number, verdict_text};
+ghost use Rattle.outcome_text.specs.Outcomes.{audit_text, came_text, entry_of, entry_text, gives_number, verdict_text};
 
 use audit_log::audit::{arrival, arrival_word, push_finding};
 use audit_log::calls::push_outcome;
@@ -87,6 +87,21 @@ fn push_called(
     push_came(line, nr, came)
 }
 
+/// Adds the words of a call that a task entered, which has this number among the task's own.
+pub fn push_entered_call(
+    line: &mut LineBuffer,
+    name: &TaskName,
+    number: u64,
+    nr: i32,
+    verdict: Entered,
+    came: Outcome,
+) -> Result<(), NoMemory>
+    ensures { OnOk result (line.new ≡ line.old ++ entry_text name.now number nr verdict came) }
+{
+    push_ordinal(line, name, number)?;
+    push_called(line, nr, verdict, came)
+}
+
 /// Adds the words of a step that enters a call.
 pub(crate) fn push_entry(
     line: &mut LineBuffer,
@@ -99,8 +114,7 @@ pub(crate) fn push_entry(
 {
     match what {
         What::Enter { nr, verdict, .. } => {
-            push_ordinal(line, name, number)?;
-            push_called(line, *nr, *verdict, came)
+            push_entered_call(line, name, number, *nr, *verdict, came)
         }
         _ => Ok(()),
     }

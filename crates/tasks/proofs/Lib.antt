@@ -23,3 +23,4 @@ pub mod Spawned
 pub mod Begun
 pub mod Told
 pub mod Answers
+pub mod KeyParts

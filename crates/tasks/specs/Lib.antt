@@ -6,3 +6,4 @@ pub mod Index
 pub mod Rows
 pub mod Table
 pub mod Stands
+pub mod Keys

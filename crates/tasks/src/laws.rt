@@ -12,6 +12,7 @@ ghost use Rattle.hist_model.specs.declared.event.What.{What};
 ghost use Rattle.hist_model.specs.declared.event.What.TheVariants.{Skip};
 ghost use Rattle.hist_model.specs.declared.script.Script.{Script};
 ghost use Rattle.history_frames.specs.Ordinals.{tasks_made, place_of, task_name_of, group_of};
+ghost use Rattle.tasks.specs.Keys.{TellStates};
 ghost use Rattle.tasks.specs.Fold.{IsGroupOf, Looks};
 ghost use Rattle.tasks.specs.Sound.{IsOther, IsSound, IsStep, IsStepOf};
 ghost use Rattle.tasks.specs.Stands.{SameTasks, StandsFor, delivery, effect_of, ended_at, group_at, living_in, made, step_or};
@@ -69,4 +70,10 @@ pub fn tasks_live_until_they_end()
 /// A delivery comes before what else its task would do.
 pub fn deliveries_come_first()
     ensures { (K : List Event) (n : Name) (in_call : Bool) (due : Option ℕ) (other : What) → step_or (delivery K n in_call due) other ≡ deliver_or due (λ s. effect_of in_call s (disposition K n s)) other }
+{}
+
+/// Keys of tables end by themselves: where equal bytes begin with two of them, the tables are the same state, and what comes behind is
+/// equal.
+pub fn keys_tell_states()
+    ensures { TellStates }
 {}

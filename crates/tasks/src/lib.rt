@@ -12,6 +12,7 @@
 #![tactic(auto)]
 
 mod index;
+mod keys;
 pub mod laws;
 mod row;
 mod signals;

@@ -17,6 +17,7 @@ ghost use Rattle.hist_model.specs.declared.script.Whom.TheVariants.{Parent};
 ghost use Rattle.history_frames.specs.Ordinals.{tasks_made, task_name_of};
 ghost use Rattle.sys_abi.specs.Memory.{was_refused};
 ghost use Rattle.tasks.specs.Fold.{IsEntry, IsGroupOf, call_id};
+ghost use Rattle.tasks.specs.Keys.{table_part};
 ghost use Rattle.tasks.specs.Sets.{may_come, next_of};
 ghost use Rattle.tasks.specs.Sound.{IsStepOf, keeps_tasks};
 ghost use Rattle.tasks.specs.State.{is_reaped};
@@ -24,11 +25,13 @@ ghost use Rattle.tasks.specs.Stands.{HasEntryRoom, HasNumber, HasRoom, IsEntered
 ghost use Rattle.tasks.specs.Table.{IsAdded, IsChildAdded, IsEndedAt, IsNoted, IsWritten, Member, lives_at, marked, member, next_name, row_in, table_of, task_at, waited_for, with_entry, with_progress, with_task, without_waiting};
 
 use crate::index::{self, Entry};
+use crate::keys::push_task;
 use crate::row::{EnteredCall, Progress, Task};
 use crate::signals::BySignal;
 use hist_model::event::{Delivered, Disposition, SpawnKind, What};
 use hist_model::script::{Instr, Script, Whom};
 use hist_model::text::TaskName;
+use key_bytes::push_number;
 use std::alloc::Global;
 use std::mem;
 use sys_abi::errno::Errno;
@@ -127,6 +130,19 @@ fn next_due(
 }
 
 impl Tasks {
+    /// Adds the key of this table: only tables that are the same state have equal ones. Fails for want of memory alone; then a front of
+    /// the key was added.
+    pub fn write_key(&self, key: &mut Vec<u8>) -> Result<(), NoMemory>
+        ensures { OnOk result (key.new.items ≡ key.old.items ++ table_part self.now) }
+    {
+        push_number(key, u64::from(self.last))?;
+        push_number(key, self.tasks.len() as u64)?;
+        for task in &self.tasks {
+            push_task(key, task)?;
+        }
+        Ok(())
+    }
+
     /// No tasks, whose PIDs will be from `base + 1` to `base + pidmax`.
     pub fn new(alloc: Global, base: u32, pidmax: u32) -> Tasks
         requires { base + pidmax < 2 ^ 32 }
