@@ -1,7 +1,7 @@
 -- What is told of a claim is so, by the classes of calls.
 -- Each call is of a class, whose witness is answered alike and fits the claim where the call does.
-use Rattle.std.proofs.Common.{◌≡◌, ◌⊎◌, ℕ, Bool, true, false, List, [], ◌∷◌, refl, sym, ◌∙◌, subst, inl, inr}
-use Rattle.std.specs.Prelude.{All, Any, if◌then◌else◌}
+use Rattle.std.proofs.Common.{◌≡◌, ◌⊎◌, Bool, true, false, List, [], ◌∷◌, sym, ◌∙◌, subst, inl, inr}
+use Rattle.std.specs.Prelude.{All, Any}
 use Rattle.std.specs.List.{list_any}
 use Rattle.std.proofs.lemmas.Bool.{cases_Bool}
 use Rattle.std.proofs.lemmas.List.Elements.{All-contains}
@@ -12,7 +12,7 @@ use Rattle.hist_model.specs.declared.request.Request.{Request}
 use Rattle.policy_claims.proofs.Answered.{same_answer, same_fit}
 use Rattle.policy_claims.specs.Standings.{AreClassesOf, Bears, BearsClaim, Holds, IsAsClaimed, IsMet, IsSo, IsUnmet, unrefuted}
 use Rattle.policy_claims.specs.declared.claims.Sense.{Sense}
-use Rattle.policy_claims.specs.declared.standing.Standing.TheVariants.{Held, Vacuous, Undecided}
+use Rattle.policy_claims.specs.declared.standing.Standing.TheVariants.{Undecided}
 use Rattle.policy_classes.proofs.Lists.{each_fails, some_passes}
 use Rattle.policy_classes.specs.Asked.{IsCall}
 use Rattle.policy_classes.specs.Classes.{HasWitness, Holds as IsOfClass}

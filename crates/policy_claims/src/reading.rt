@@ -3,7 +3,7 @@
 ghost use Rattle.std.specs.Prelude.{◌≡◌, ◌≤◌, ◌^◌, Err, Some, codes, length};
 ghost use Rattle.hist_model.specs.ReportWords.{quoted};
 ghost use Rattle.policy_claims.specs.Claims.{claim_at, claim_keys, claims, claims_in, claims_member, claims_of, no_claims};
-ghost use Rattle.policy_reader.specs.Readings.{Gives, named, top_place, walk};
+ghost use Rattle.policy_reader.specs.Readings.{Gives, named, top_place};
 ghost use Rattle.policy_reader.specs.declared.error.PolicyError.TheVariants.{BadKey, BadValue};
 ghost use Rattle.serde_json.specs.View.{members_view, view};
 

@@ -5,7 +5,6 @@ use Rattle.std.specs.Prelude.{◌==◌, All, Any, Contains, find, is_some, slice
 use Rattle.std.specs.List.{flat_map}
 use Rattle.std.proofs.lemmas.Bool.{and_parts, both_ways, eq-eqb, eqb-true}
 use Rattle.std.proofs.lemmas.List.Elements.{All-contains}
-use Rattle.hist_model.specs.Decisions.{decide}
 use Rattle.hist_model.specs.declared.policy.Rule.{Rule}
 use Rattle.hist_model.specs.declared.script.FilterLine.{FilterLine}
 use Rattle.policy_classes.specs.declared.ending.Ending.TheVariants.{Otherwise}

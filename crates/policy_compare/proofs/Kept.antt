@@ -1,6 +1,6 @@
 -- What holds of each class, and what some class holds of, where other classes are of the same rules.
 -- By the class that each one came from, and by the equations of their places.
-use Rattle.std.proofs.Common.{◌≡◌, true, ◌&&◌, List, sym, ◌∙◌}
+use Rattle.std.proofs.Common.{◌≡◌, true, List, sym, ◌∙◌}
 use Rattle.std.specs.Prelude.{◌==◌, All, Any, Contains}
 use Rattle.std.proofs.lemmas.Bool.{and_parts, eqb-true}
 use Rattle.std.proofs.lemmas.List.Elements.{All-contains, All-contains_itself, All-weaker}

@@ -1,6 +1,6 @@
 -- Classes that are sorted by their rules' places and then deduplicated are in order, and of the same rules.
 -- By the order of pairs of numbers, and what std's `dedup` leaves.
-use Rattle.std.proofs.Common.{◌≡◌, ℕ, Bool, true, ◌&&◌, List, refl, ap, sym, ◌∙◌, arith}
+use Rattle.std.proofs.Common.{◌≡◌, ℕ, ◌&&◌, refl, ap, sym, ◌∙◌, arith}
 use Rattle.std.specs.Prelude.{◌==◌}
 use Rattle.std.specs.Cmp.{IsEquivalence, IsTotalOrder, and_equiv, nat_eq_equiv, on_equiv}
 use Rattle.std.specs.Ordering.{eq_by_cmp, is_eq, nat_cmp, ordering_then}

@@ -2,7 +2,6 @@
 
 ghost use Rattle.std.specs.Prelude.{◌≡◌};
 ghost use Rattle.std.specs.Option.{option_copied};
-ghost use Rattle.hist_model.specs.Requests.{call_of_request};
 ghost use Rattle.policy_compare.specs.Notified.{is_notified, is_notify, register_of, registers};
 
 use bpf_filter::verdict;

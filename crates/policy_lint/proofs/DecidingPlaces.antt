@@ -1,10 +1,9 @@
 -- The deciding rule, found from the first rule on.
 -- By the definition of `decide_from` at the first rule that is left, which `drop-cons` gives.
-use Rattle.std.proofs.Common.{◌≡◌, ℕ, ◌+◌, ◌<◌, ◌≤◌, true, false, List, [], ◌∷◌, length, drop, length-drop, get_or, refl, ap, ◌∙◌, arith, add-one}
+use Rattle.std.proofs.Common.{◌≡◌, ℕ, ◌+◌, ◌<◌, ◌≤◌, true, false, List, [], ◌∷◌, length, drop, length-drop, get_or, refl, arith, add-one}
 use Rattle.std.proofs.Math.Seq.{drop-cons}
 use Rattle.hist_model.specs.Decisions.{fits, decide, decide_from}
 use Rattle.hist_model.specs.declared.policy.Rule.{Rule}
-use Rattle.hist_model.specs.declared.policy.Verdict.{Verdict}
 use Rattle.hist_model.specs.declared.request.Request.{Request}
 
 -- no rule was tried

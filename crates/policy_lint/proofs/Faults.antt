@@ -1,7 +1,7 @@
 -- What is found of the rules so far.
 -- One more rule adds nothing where it is useful, and else one finding.
 use Rattle.std.proofs.Common.{◌≡◌, ◌≢◌, ℕ, ◌+◌, ◌<◌, ◌==◌, Bool, true, false, List, [], ◌∷◌, ◌++◌, refl, sym, subst, ◌⊎◌, inl, inr, arith}
-use Rattle.std.specs.Prelude.{All, Any}
+use Rattle.std.specs.Prelude.{Any}
 use Rattle.std.proofs.lemmas.Bool.{eqb-true, eq-eqb}
 use Rattle.std.proofs.lemmas.List.Elements.{All-nil, All-push}
 use Rattle.hist_model.specs.declared.policy.Rule.{Rule}
@@ -9,7 +9,6 @@ use Rattle.policy_classes.proofs.Lists.{any_behind, any_in}
 use Rattle.policy_lint.specs.Found.{FoundUpTo, IsAbout, IsSo}
 use Rattle.policy_lint.specs.Judged.{IsJudged}
 use Rattle.policy_lint.specs.Own.{own_number}
-use Rattle.policy_lint.specs.declared.finding.Fault.{Fault}
 use Rattle.policy_lint.specs.declared.finding.Fault.TheVariants.{Judged}
 use Rattle.policy_lint.specs.declared.finding.Finding.{Finding}
 use Rattle.policy_lint.specs.declared.judgement.Judgement.{Judgement}

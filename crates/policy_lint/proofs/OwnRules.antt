@@ -1,6 +1,6 @@
 -- How many rules a policy states, found from the first on.
 -- By the definition at the first rule that is left, which `drop-cons` gives.
-use Rattle.std.proofs.Common.{◌≡◌, ℕ, ◌+◌, ◌<◌, ◌≤◌, true, false, List, [], ◌∷◌, length, drop, length-drop, get_or, refl, ap, ◌∙◌, arith, add-one}
+use Rattle.std.proofs.Common.{◌≡◌, ℕ, ◌+◌, ◌<◌, ◌≤◌, true, false, List, [], ◌∷◌, length, drop, length-drop, get_or, refl, arith, add-one}
 use Rattle.std.proofs.Math.Seq.{drop-cons}
 use Rattle.hist_model.specs.declared.policy.Rule.{Rule}
 use Rattle.policy_lint.specs.Own.{is_taken, own_number}

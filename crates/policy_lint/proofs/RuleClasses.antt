@@ -1,7 +1,7 @@
 -- What classes of all calls say of a rule.
 -- By the partners of its place.
-use Rattle.std.proofs.Common.{◌≡◌, ◌≢◌, ℕ, ◌+◌, ◌<◌, ◌==◌, true, List, [], ◌∷◌, length, Option, Some, None, refl, sym, ◌∙◌, subst, arith}
-use Rattle.std.specs.Prelude.{All, Any, IfSome, find, slice_get}
+use Rattle.std.proofs.Common.{◌≡◌, ◌≢◌, ℕ, true, List, [], ◌∷◌, length, Some, None, refl, sym, ◌∙◌, arith}
+use Rattle.std.specs.Prelude.{All, Any, find, slice_get}
 use Rattle.hist_model.specs.Decisions.{decide}
 use Rattle.hist_model.specs.declared.policy.Rule.{Rule}
 use Rattle.hist_model.specs.declared.request.Request.{Request}
@@ -9,9 +9,9 @@ use Rattle.policy_classes.specs.declared.found.Class.{Class}
 use Rattle.policy_classes.specs.declared.found.Classes.{Classes}
 use Rattle.policy_classes.specs.Classes.{HasWitness}
 use Rattle.policy_lint.specs.Alike.{IsAlike, deciding}
-use Rattle.policy_lint.specs.Judged.{AreNext, AreTakers, Decides, Fits, IsJudged, IsNeedless, IsNever, IsSameWithout, IsShadowed, alone, behind}
+use Rattle.policy_lint.specs.Judged.{AreNext, AreTakers, Decides, IsJudged, IsNeedless, IsNever, IsSameWithout, IsShadowed, alone, behind}
 use Rattle.policy_lint.specs.Looked.{AreClasses, partners}
-use Rattle.policy_lint.specs.declared.judgement.Judgement.TheVariants.{Useful, Never, Shadowed, Needless, Undecided}
+use Rattle.policy_lint.specs.declared.judgement.Judgement.TheVariants.{Useful}
 use Rattle.policy_lint.proofs.Partners.{all_alike, is_at, none_found, one_found, one_unlike, partner_there, partners_each}
 
 -- nothing is in an empty list

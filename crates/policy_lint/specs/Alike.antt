@@ -1,5 +1,5 @@
 -- When two rules give a call the same answer.
-use Rattle.std.specs.Prelude.{◌≡◌, ℕ, List, Option, Some, None, slice_get, slice_index}
+use Rattle.std.specs.Prelude.{◌≡◌, List, Option, Some, None, slice_get}
 use Rattle.hist_model.specs.Decisions.{decide}
 use Rattle.hist_model.specs.declared.policy.Rule.{Rule}
 use Rattle.hist_model.specs.declared.request.Request.{Request}

@@ -1,5 +1,4 @@
 -- What holds of the classes that were found holds of these once they are in order.
-use Rattle.std.proofs.Common.{List}
 use Rattle.policy_classes.specs.Classes.{HasWitness, IsLeast}
 use Rattle.policy_compare.proofs.Kept.{all_kept, class_kept}
 use Rattle.policy_compare.proofs.ordered_classes.Goals as goal

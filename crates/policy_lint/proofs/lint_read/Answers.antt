@@ -1,6 +1,5 @@
 -- The findings of the policy that was read, and their lines.
-use Rattle.std.proofs.Common.{◌≡◌, rules}
-use Rattle.policy_lint.specs.Found.{AreOf, IsToldOf, rules_read}
+use Rattle.policy_lint.specs.Found.{AreOf}
 use Rattle.policy_reader.specs.Policies.{policy}
 use Rattle.policy_lint.proofs.lint_read.Goals as goal
 

@@ -1,6 +1,6 @@
 -- The one finding is the refusal.
-use Rattle.std.proofs.Common.{◌≡◌, List, [], ◌∷◌, rules}
-use Rattle.policy_lint.specs.Found.{AreOf, IsToldOf, rules_read}
+use Rattle.std.proofs.Common.{◌≡◌, [], ◌∷◌, rules}
+use Rattle.policy_lint.specs.Found.{AreOf}
 use Rattle.policy_reader.specs.Policies.{policy}
 use Rattle.policy_lint.proofs.lint_refused.Goals as goal
 

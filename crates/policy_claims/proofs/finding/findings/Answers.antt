@@ -1,5 +1,5 @@
 -- One more claim, and what is told of it; and at the end these are all.
-use Rattle.std.proofs.Common.{arith, List, subst, sym}
+use Rattle.std.proofs.Common.{arith, List, subst}
 use Rattle.std.proofs.lemmas.List.{take_all}
 use Rattle.hist_model.specs.declared.policy.Rule.{Rule}
 use Rattle.policy_claims.proofs.Findings.{zip_more}

@@ -1,8 +1,6 @@
 -- Where no class refutes the claim, it holds, or the classes aren't whole.
-use Rattle.std.proofs.Common.{refl, rules}
-use Rattle.std.specs.Prelude.{All}
+use Rattle.std.proofs.Common.{rules}
 use Rattle.policy_claims.proofs.Standings.{open_where_cut, unrefuted_is_so}
-use Rattle.policy_claims.specs.Standings.{BearsClaim}
 use Rattle.policy_claims.proofs.standing.standing_of.Goals as goal
 
 pub returns-in-None-clause-so : goal.returns-in-None-clause-so

@@ -1,8 +1,4 @@
 -- What is found of both lists, one behind the other.
-use Rattle.std.proofs.Common.{subst}
-use Rattle.hist_model.specs.declared.policy.Rule.{Rule}
-use Rattle.policy_claims.specs.Told.{AreFindings}
-use Rattle.policy_claims.specs.declared.claims.Sense.TheVariants.{Expect, Never}
 use Rattle.policy_claims.proofs.telling.found_of.Goals as goal
 
 pub returns : goal.returns

@@ -1,10 +1,7 @@
 -- By what the classes say of a rule that decides some call.
 use Rattle.std.proofs.Common.{◌≡◌, true, length, Some, refl, rules}
-use Rattle.std.specs.Prelude.{All, slice_get}
+use Rattle.std.specs.Prelude.{slice_get}
 use Rattle.std.proofs.lemmas.Option.{slice_get_read}
-use Rattle.policy_classes.specs.declared.found.Class.{Class}
-use Rattle.policy_lint.specs.Alike.{IsAlike}
-use Rattle.policy_lint.specs.Judged.{behind}
 use Rattle.policy_lint.specs.Looked.{partners}
 use Rattle.policy_lint.proofs.RuleClasses.{needless, next, some_next}
 use Rattle.policy_lint.proofs.judging.judge_deciding.Goals as goal

@@ -1,5 +1,5 @@
 -- By what the classes of the rule alone say.
-use Rattle.std.proofs.Common.{◌≡◌, ◌≢◌, ◌+◌, ◌-◌, true, List, [], ℕ, length, take, drop, ap, sym, ◌∙◌, subst, arith, rules}
+use Rattle.std.proofs.Common.{◌≡◌, ◌≢◌, ◌+◌, ◌-◌, true, length, take, drop, sym, ◌∙◌, subst, arith, rules}
 use Rattle.policy_lint.specs.Judged.{alone}
 use Rattle.policy_lint.specs.Looked.{AreClasses, partners}
 use Rattle.policy_lint.proofs.RuleClasses.{empty_list, filled_list, never, takers}

@@ -1,5 +1,5 @@
 -- The findings in the order of the text.
-use Rattle.std.proofs.Common.{ap, List, subst, ◌≡◌, ◌++◌, ◌∙◌}
+use Rattle.std.proofs.Common.{ap, List, subst, ◌++◌, ◌∙◌}
 use Rattle.std.specs.List.Sorted.{IsPermutation}
 use Rattle.policy_lint.specs.declared.finding.Finding.{Finding}
 use Rattle.policy_lint.proofs.Said.{all_in_order}
