@@ -66,9 +66,6 @@ module _ (G : ℕ → ℕ → Type 0) where
     pub split : answers ≡ taken ++ later
     pub alone : (more : List (Result (List ℕ) ℕ)) → reading (taken ++ more) ≡ Whole text more
 
-  whole-text : (t u : List ℕ) (l m : List (Result (List ℕ) ℕ)) → ◌≡◌ {A = Reading} (Whole t l) (Whole u m) → (t ≡ u) × (l ≡ m)
-  whole-text t u l m h = (cc, cc)
-
   -- ---- a text
 
   text-whole : (fault a n : ℕ) (bytes : List ℕ) (more : List (Result (List ℕ) ℕ)) → has_zero bytes ≡ true → read_text fault (Ok bytes ∷ more) a n ≡ Whole (before_zero bytes) more

@@ -58,9 +58,6 @@ all-kept f (c ∷ L) h = rw (h c) (all-kept f L h)
 
 -- ---- one event more
 
-Kept : Policy → Script → List Event → Type 0
-Kept P S K = (clause : Clause) → Keeps P S clause K
-
 pub trusted-kept : (P : Policy) (S : Script) (K : List Event) → Trusted P S K → (clause : Clause) → Keeps P S clause K
 trusted-kept P S K t EffectWithoutCall = t.effect_has_call
 trusted-kept P S K t OtherRequest = t.same_request

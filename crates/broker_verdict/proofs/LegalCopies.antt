@@ -75,10 +75,6 @@ sound-after S K w (Read addr len a) all low m h = sound-with S K w addr len a (m
 sound-after S K w (Check x (Ok u)) all low m h = sound-if _ all h
 sound-after S K w what all low m h = grind arith
 
-reads-at : (e : Event) (K : List Event) (w : ℕ) → reads (e ∷ K) w ≡ (if is_worker e.who w then reads_after K w e.what (reads K w) else reads K w)
-unfolding reads
-reads-at e K w = refl
-
 own-event : (K : List Event) (e : Event) (w : ℕ) → e.who ≡ Worker w → ◌≡◌ {A = Event} e (ev (Worker w) e.what)
 own-event K e w h = ap (λ (a : Actor). ev a e.what) h
 

@@ -153,9 +153,6 @@ module _ (P : Policy) (S : Script) where
       go None q i = rw q refl
       go (Some p) q i = rw (q, i.1, allows K w x e p s i.0 legal room q i.2 (fails-so K w x e s i.0 i.2)) refl
 
-  both-false : (b : Bool) → b ≡ false → (b || false) ≡ false
-  both-false b h = rw h refl
-
   outcome : (K : List Event) (w : ℕ) (what : What) → IsLegal T R K → length K < 2 ^ 64 → WorkerRow T R K w what → seat_breaks P S OtherOutcome K w what (session_call K w) ≡ false
   outcome K w (Send x b a) legal room row = let s = sends P S K w x b a legal room row in rw s.in_hand (outcome-told K w x b s legal room)
   outcome K w what legal room row = none-some (seat_breaks P S OtherOutcome K w what) refl (λ c. refl) (session_call K w)

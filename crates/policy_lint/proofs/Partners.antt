@@ -76,13 +76,6 @@ module _ (old new : List Rule) (place : ℕ) where
       let P : Class → Type 0 = λ c. c.old_place ≡ place → IsAlike rule (slice_get new c.new_place) in
       subst (λ n. IsAlike rule (slice_get new n)) h.1 (subst P e (a k x l) (h.0 ∙ d))
 
-  pub one_unlike : (rule : Rule) (cs : List Class) → All (HasWitness old new) cs
-      → Any (λ c. (c.old_place ≡ place) × ¬ IsAlike rule (slice_get new c.new_place)) cs
-      → (q : Request) × (IsCall q × ((decide old q).0 ≡ place)) × ¬ IsAlike rule (slice_get new (decide new q).0)
-  one_unlike rule cs a (k, x, l, e, h) =
-      let w = subst (HasWitness old new) e (a k x l) in
-      (x.witness, (w.0, sym w.1 ∙ h.0), λ s. h.1 (subst (λ n. IsAlike rule (slice_get new n)) (sym w.2) s))
-
 -- ---- the first class
 
 abbrev pub is_at : ℕ → Class → Bool

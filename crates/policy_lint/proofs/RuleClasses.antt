@@ -8,11 +8,10 @@ use Rattle.hist_model.specs.declared.request.Request.{Request}
 use Rattle.policy_classes.specs.declared.found.Class.{Class}
 use Rattle.policy_classes.specs.declared.found.Classes.{Classes}
 use Rattle.policy_classes.specs.Classes.{HasWitness}
-use Rattle.policy_lint.specs.Alike.{IsAlike, deciding}
-use Rattle.policy_lint.specs.Judged.{AreNext, AreTakers, Decides, IsJudged, IsNeedless, IsNever, IsSameWithout, IsShadowed, alone, behind}
+use Rattle.policy_lint.specs.Alike.{IsAlike}
+use Rattle.policy_lint.specs.Judged.{AreNext, AreTakers, Decides, IsNeedless, IsNever, IsShadowed, alone, behind}
 use Rattle.policy_lint.specs.Looked.{AreClasses, partners}
-use Rattle.policy_lint.specs.declared.judgement.Judgement.TheVariants.{Useful}
-use Rattle.policy_lint.proofs.Partners.{all_alike, is_at, none_found, one_found, one_unlike, partner_there, partners_each}
+use Rattle.policy_lint.proofs.Partners.{all_alike, is_at, none_found, one_found, partner_there, partners_each}
 
 -- nothing is in an empty list
 none_in : {A : Type 0} (P : A → Type 0) (xs : List A) → xs ≡ [] → ¬ Any P xs
@@ -68,21 +67,9 @@ pub needless : (rules : List Rule) (found : Classes) (place : ℕ) (rule : Rule)
 needless rules found place rule g a w h = λ q d.
     rw g (all_alike rules (behind rules place) place rule found.classes q h d.1 (a.there w q d.0))
 
-pub useful : (rules : List Rule) (found : Classes) (place : ℕ) (rule : Rule) → slice_get rules place ≡ Some rule
-    → AreClasses rules (behind rules place) found
-    → Any (λ c. (c.old_place ≡ place) × ¬ IsAlike rule (slice_get (behind rules place) c.new_place)) found.classes
-    → IsJudged rules place Useful
-useful rules found place rule g a h =
-    let u = one_unlike rules (behind rules place) place rule found.classes a.witnesses h in
-    (u.0, u.1, rw g u.2)
-
 -- by a call that the rule decides
 pub decides : (rules : List Rule) (found : Classes) (place : ℕ) (c : Class) → AreClasses rules [] found
     → find (is_at place) found.classes ≡ Some c → Decides rules place c.witness
 decides rules found place c a f =
     let o = one_found (HasWitness rules []) place found.classes c a.witnesses f in
     (o.0.0, sym o.0.1 ∙ o.1)
-
-pub not_same : (rules : List Rule) (place : ℕ) (rule : Rule) (q : Request) → slice_get rules place ≡ Some rule
-    → ¬ IsAlike rule (deciding (behind rules place) q) → ¬ IsSameWithout rules place q
-not_same rules place rule q g n = rw g n
