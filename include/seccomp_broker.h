@@ -37,7 +37,7 @@ extern "C" {
 /* How a call ended. 0 to 9 are the program's exit statuses. With each but BROKER_DONE and BROKER_SHORT_BUFFER, `line` has the one
  * line that the program would print on standard error; with these two it is empty. */
 enum broker_status {
-  /* `out` has the whole report, with the ledgers behind it of broker_handover, or the whole of what broker_audit_check or
+  /* `out` has the whole report, with the ledgers after it of broker_handover, or the whole of what broker_audit_check or
    * broker_explore found. */
   BROKER_DONE = 0,
   /* `count` isn't 1 to 4000, `every` isn't 1 to 200000, `workers` is above 15, or `delays` above 8 and not BROKER_ALL_DELAYS. */

@@ -95,7 +95,7 @@ int sb_close(struct sb_kernel *kernel);
  *   puts(sb_answer(kernel));                             7 w0 send 1 0 ok */
 const char *sb_answer(const struct sb_kernel *kernel);
 
-/* The report so far, as `seccomp-broker play` prints it, as a text with a zero byte behind it, which the caller frees. *length, where
+/* The report so far, as `seccomp-broker play` prints it, as a text with a zero byte after it, which the caller frees. *length, where
  * `length` isn't NULL, is the number of its bytes. Where an error is returned *report is NULL.
  *
  *   if (sb_report(kernel, &report, NULL) == 0) { fputs(report, stdout); free(report); } */
@@ -109,6 +109,13 @@ int sb_report(struct sb_kernel *kernel, char **report, size_t *length);
  *
  *   if (sb_script(kernel, &script, &length) == 0) { fwrite(script, 1, length, file); free(script); } */
 int sb_script(struct sb_kernel *kernel, char **script, size_t *length);
+
+/* What a judge finds of the broker, by what has happened so far: the first line of what `judge-slowly` prints of it, with its newline, given as sb_report gives the report.
+ * It is `mediated events=N calls=N effects=N answers=N`, or of the first event that breaks a clause `broken PLACE CLASS CLAUSE` (docs/FORMATS.md). Where `is_idle`, the
+ * broker does nothing more by itself: then a call that it has received and that waits isn't answered, which is found at the newest event while the listener is open.
+ *
+ *   if (sb_judge(kernel, true, &found, NULL) == 0) { fputs(found, stdout); free(found); } */
+int sb_judge(struct sb_kernel *kernel, bool is_idle, char **found, size_t *length);
 
 /* ---- the container's tasks */
 
@@ -129,7 +136,7 @@ int sb_able(struct sb_kernel *kernel, char *tasks, size_t size);
  *   while (sb_step(kernel, "0") == 0) ; */
 int sb_step(struct sb_kernel *kernel, const char *task);
 
-/* Closes the listener, as the end of the broker does. Behind it only sb_answer, sb_report, sb_script and sb_close do something. */
+/* Closes the listener, as the end of the broker does. After it only sb_answer, sb_report, sb_script, sb_judge and sb_close do something. */
 int sb_close_listener(struct sb_kernel *kernel);
 
 /* ---- the listener: ioctl(2) with the requests of seccomp_unotify(2) */

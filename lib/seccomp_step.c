@@ -434,10 +434,10 @@ const char *sb_answer(const struct sb_kernel *kernel) {
   return kernel->answer.used == 0 ? "" : kernel->answer.bytes;
 }
 
-/* Asks for a text of many lines, whose length stands behind the word that is asked for. */
-static int ask_text(struct sb_kernel *kernel, const char *word, char **bytes, size_t *length) {
+/* Asks for a text of many lines, whose length stands behind the first word of the request. */
+static int ask_text(struct sb_kernel *kernel, const char *asked, const char *word, char **bytes, size_t *length) {
   *bytes = NULL;
-  add(request(kernel), word, strlen(word));
+  add(request(kernel), asked, strlen(asked));
   int error = ask(kernel);
   if (error != 0)
     return error;
@@ -459,11 +459,15 @@ static int ask_text(struct sb_kernel *kernel, const char *word, char **bytes, si
 }
 
 int sb_report(struct sb_kernel *kernel, char **report, size_t *length) {
-  return ask_text(kernel, "report", report, length);
+  return ask_text(kernel, "report", "report", report, length);
 }
 
 int sb_script(struct sb_kernel *kernel, char **script, size_t *length) {
-  return ask_text(kernel, "script", script, length);
+  return ask_text(kernel, "script", "script", script, length);
+}
+
+int sb_judge(struct sb_kernel *kernel, bool is_idle, char **found, size_t *length) {
+  return ask_text(kernel, is_idle ? "judge idle" : "judge", "judge", found, length);
 }
 
 /* ---- tasks */

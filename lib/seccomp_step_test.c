@@ -264,6 +264,33 @@ static void test_script(void) {
   unlink(path);
 }
 
+static void wants_found(int line, struct sb_kernel *kernel, bool is_idle, const char *wanted) {
+  char *found;
+  size_t length;
+  wants_number(line, "sb_judge", sb_judge(kernel, is_idle, &found, &length), 0);
+  if (found != NULL) {
+    wants_number(line, "the length", (long long)length, (long long)strlen(found));
+    wants_text(line, found, wanted);
+  }
+  free(found);
+}
+
+#define FINDS(kernel, is_idle, wanted) wants_found(__LINE__, kernel, is_idle, wanted "\n")
+
+static void test_judge(void) {
+  struct sb_kernel *kernel = opened("calls.txt");
+  struct seccomp_notif notif = {0};
+  run(kernel);
+  WANTS(sb_recv(kernel, 3, &notif), 0);
+  FINDS(kernel, false, "mediated events=4 calls=1 effects=0 answers=0");
+  FINDS(kernel, true, "broken 3 answer unanswered");
+  WANTS(sb_mknodat(kernel, 3, AT_FDCWD, "/dev/a", S_IFIFO | 0600, 0), 0);
+  FINDS(kernel, false, "broken 4 harm other-request");
+  WANTS(sb_close_listener(kernel), 0);
+  FINDS(kernel, true, "broken 4 harm other-request");
+  WANTS(sb_close(kernel), 0);
+}
+
 static void test_ends(void) {
   struct sb_kernel *kernel = opened("calls.txt");
   char *report;
@@ -292,6 +319,7 @@ int main(void) {
   test_memory();
   test_effects();
   test_script();
+  test_judge();
   test_ends();
   return failures > 0;
 }

@@ -185,9 +185,9 @@ class Kernel:
         except BlockingIOError:
             return
 
-    def text(self, word):
+    def text(self, request):
         """The bytes of a text whose length stands behind its word."""
-        count = int(self.ask(word).split(" ")[1])
+        count = int(self.ask(request).split(" ")[1])
         return self.channel.answers.read(count)
 
     def report(self):
@@ -200,8 +200,14 @@ class Kernel:
         would have more steps or bytes than a script may have."""
         return self.text("script")
 
+    def judge(self, is_idle=False):
+        """What a judge finds of the broker, by what has happened so far: `mediated events=N calls=N effects=N answers=N`, or of the first event that breaks a
+        clause `broken PLACE CLASS CLAUSE`. Where is_idle, the broker does nothing more by itself: then a call that it has received and that waits isn't
+        answered, which is found at the newest event while the listener is open."""
+        return self.text("judge idle" if is_idle else "judge").decode("latin-1").rstrip("\n")
+
     def close_listener(self):
-        """Closes the listener, as the end of the broker does. Behind it only report, script and close do something."""
+        """Closes the listener, as the end of the broker does. Behind it only report, script, judge and close do something."""
         self.ask("close")
 
     def seat(self, worker):

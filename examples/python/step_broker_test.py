@@ -167,6 +167,17 @@ class OfCalls(unittest.TestCase):
         self.assert_fails(errno.ENODATA, self.seat.setxattr, "/log", "user.b", "", 2)
         self.assert_fails(errno.EMSGSIZE, self.seat.setxattr, "/log", "user.b", bytes(40_000))
 
+    def test_judge(self):
+        """What is found of the broker, by what has happened so far."""
+        list(self.kernel.steps("0"))
+        self.seat.recv()
+        self.assertEqual(self.kernel.judge(), "mediated events=4 calls=1 effects=0 answers=0")
+        self.assertEqual(self.kernel.judge(is_idle=True), "broken 3 answer unanswered")
+        self.seat.mknodat("/dev/a", 0o010600)
+        self.assertEqual(self.kernel.judge(), "broken 4 harm other-request")
+        self.kernel.close_listener()
+        self.assertEqual(self.kernel.judge(is_idle=True), "broken 4 harm other-request")
+
     def test_script(self):
         """The script of a session has its steps and its requests, and plays to its report."""
         list(self.kernel.steps("0"))

@@ -68,7 +68,7 @@ def unknown(known, word):
     near = table.nearest(word, options if word.startswith("-") else table.names(known))
     what = f"there is no word {word!r}; the nearest one is {near!r}"
     if word in known["explain"]["names"]:
-        what = f"{word} stands behind a word, as in {command} play {word} POLICY SCRIPT"
+        what = f"{word} comes after a word, as in {command} play {word} POLICY SCRIPT"
     elif os.path.isfile(word):
         what = f"{word!r} is a file, and a word stands before it, as in {command} play POLICY SCRIPT"
     print(f"broker: {what}, and {command} help lists them all", file=sys.stderr)

@@ -50,7 +50,7 @@ def words_of(words):
     asked = parser.parse_args(words[:at])
     asked.command = words[at + 1:]
     if not asked.command:
-        parser.error("behind `--` stands the command that starts the broker")
+        parser.error("after `--` comes the command that starts the broker")
     if asked.same_root and asked.shim is None:
         parser.error("--same-root is for a broker as it is, with --shim")
     if asked.listener_path is not None and not any(asked.listener_path in word for word in asked.command):

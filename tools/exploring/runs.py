@@ -90,6 +90,7 @@ class Kind(Enum):
     UNLIKE = "unlike"
     NOT_SUPPORTED = "not supported"
     KERNELS_DIFFER = "kernels differ"
+    JUDGES_DIFFER = "judges differ"
 
 
 class Trouble(NamedTuple):
@@ -244,8 +245,11 @@ class Run:
         finally:
             self.stop()
             difference = self.kernel.difference()
-        if difference is not None:
+        if difference is not None and difference.place < len(self.kernel.requests):
             self.end_before(difference)
+        elif difference is not None:
+            self.played.trouble = None
+            self.trouble_by(Kind.JUDGES_DIFFER, difference, "judge")
         self.tell()
         return self.played
 
@@ -309,7 +313,7 @@ class Run:
                 self.note_calls((yield self.current))
             if len(self.kernel.state.events) > MOST_EVENTS:
                 raise Hangs
-        self.kernel.judge.note_idle()
+        self.kernel.note_idle()
 
     def end_before(self, difference: Difference):
         """Ends the run before a request that the program answers otherwise."""
@@ -319,8 +323,12 @@ class Run:
         for before in asked[:difference.place]:
             self.ask(before.request)
         self.kernel.follower.answer(request)
-        texts = (it.decode("latin-1").rstrip() for it in (request, difference.told, difference.other))
-        self.trouble(Kind.KERNELS_DIFFER, "`{}` is answered `{}` by the kernel in Python, and `{}` by the program".format(*texts))
+        self.trouble_by(Kind.KERNELS_DIFFER, difference, "kernel")
+
+    def trouble_by(self, kind, difference, name):
+        """Notes that the program answers otherwise than what has this name in Python."""
+        texts = (it.decode("latin-1").rstrip().replace("\n", " ") for it in (difference.request, difference.told, difference.other))
+        self.trouble(kind, "`{}` is answered `{}` by the {name} in Python, and `{}` by the program".format(*texts, name=name))
 
     def tell(self):
         """Writes down what came of the run."""
@@ -328,7 +336,8 @@ class Run:
         self.played.steps = fault.place if fault is not None else len(state.events) - 1
         self.played.digest = self.hash.digest()
         self.played.shown = self.shown if self.shown is not None else len(self.kernel.requests)
-        if fault is not None:
+        is_judged = self.played.trouble is None or self.played.trouble.kind is not Kind.JUDGES_DIFFER
+        if fault is not None and is_judged:
             entry = self.kernel.judge.entries.get(fault.call)
             task = fault.call.task.actor if fault.call is not None else "-"
             self.played.told = Told(fault.clause.name, fault.gravity.value, task, entry.ordinal if entry else 0, fault.text(state.events))

@@ -1,10 +1,11 @@
 """What `step` prints: an answer to each request."""
 import re
 
+from json_documents.judgements import verdict_line, verdict_of
 from json_documents.lines import Lines
-from json_documents.report import event_line, event_of, report_lines, report_of
+from json_documents.report import event_in, event_line, report_lines, report_of
 from json_documents.values import ARGUMENTS, Form, HEX_OR_DASH, Kind, LARGE, NUMBER, bytes_of, text_of_bytes
-from reports import ERRNO, NAME, NUMBER as DIGITS, SIGNED, SOME_HEX, NotAReport, event_of as read_event
+from reports import ERRNO, NAME, NUMBER as DIGITS, SIGNED, SOME_HEX, NotAReport
 
 NOTIFICATION = re.compile(rf"flags=({DIGITS}) nr=({SIGNED}) arch=({DIGITS}) ip=({DIGITS}) args=((?:{DIGITS},){{5}}{DIGITS})")
 LISTED = Kind(lambda words: ARGUMENTS.read(words.replace(",", " ")), ",".join)
@@ -12,7 +13,7 @@ OF_NOTIFICATION = Form("flags={flags} nr={call_number} arch={architecture} ip={i
                        instruction_pointer=LARGE, arguments=LISTED)
 # an event with what a worker is told beside it: of a notification that it receives, and of bytes that it reads
 RECEIVED, READ = re.compile(rf"({DIGITS} w\d+ recv id={DIGITS} pid={DIGITS}) (.*)"), re.compile(rf"({DIGITS} w\d+ read {DIGITS} {DIGITS} \S+) bytes=({SOME_HEX})")
-REPORT, SCRIPT = re.compile(rf"report ({DIGITS})"), re.compile(rf"script {DIGITS}")
+REPORT, SCRIPT, JUDGED = re.compile(rf"report ({DIGITS})"), re.compile(rf"script {DIGITS}"), re.compile(rf"judge ({DIGITS})")
 # a line behind which so many bytes stand
 SIZED = re.compile(rb"(report|script) (\d+)\n")
 # the other answers, each with what it is
@@ -44,7 +45,7 @@ def without_scripts(data):
 
 
 def answer_of(lines, scripts):
-    """The next answer, which is a line, of `report` with the lines of a report, and of `script` with those in whose place a script stood, which is taken from `scripts`."""
+    """The next answer, which is a line, of `report` with the lines of a report, of `judge` with that of a judgement, and of `script` with those in whose place a script stood, which is taken from `scripts`."""
     line = lines.next
     lines.at += 1
     for form, read in PLAIN:
@@ -55,8 +56,18 @@ def answer_of(lines, scripts):
         script = next(scripts)
         lines.at += script.count(b"\n")
         return {"kind": "script", "script": text_of_bytes(script)}
+    judged = JUDGED.fullmatch(line)
+    if judged:
+        return judgement_at(lines, int(judged[1]))
     told = REPORT.fullmatch(line)
     return report_at(lines, int(told[1])) if told else step_of(line, lines.at)
+
+
+def judgement_at(lines, length):
+    """The judgement whose bytes are counted in the line in front of it."""
+    if lines.at < len(lines.lines) and len(lines.next) + 1 != length:
+        raise NotAReport(lines.at, f"{length} bytes of a judgement should stand below")
+    return {"kind": "judged", "judgement": verdict_of(lines)}
 
 
 def report_at(lines, length):
@@ -85,15 +96,6 @@ def step_of(line, number):
     return {"kind": "read", "event": event, "bytes": HEX_OR_DASH.read(read[2])} if read else {"kind": "event", "event": event}
 
 
-def event_in(line, number):
-    """The event of a line, which begins with the event's place."""
-    place = line.split(" ", 1)[0]
-    try:
-        return event_of(int(place), read_event(line, place))
-    except ValueError as fault:
-        raise NotAReport(number, str(fault)) from None
-
-
 def answers_of(data):
     kept, scripts = without_scripts(data)
     lines, scripts, answers = Lines(kept), iter(scripts), []
@@ -105,6 +107,12 @@ def answers_of(data):
 def answer_lines(document):
     for answer in document["answers"]:
         yield from WRITTEN[answer["kind"]](answer)
+
+
+def judgement_text(answer):
+    verdict = verdict_line(answer["judgement"])
+    yield f"judge {len(verdict) + 1}"
+    yield verdict
 
 
 def report_text(answer):
@@ -127,6 +135,7 @@ WRITTEN = {
     "event": lambda it: [event_line(it["event"])],
     "received": lambda it: [f"{event_line(it['event'])} {OF_NOTIFICATION.write(it['notification'])}"],
     "read": lambda it: [f"{event_line(it['event'])} bytes={HEX_OR_DASH.write(it['bytes'])}"],
+    "judged": judgement_text,
     "report": report_text,
     "script": script_text,
 }

@@ -5,6 +5,7 @@ import pods
 from json_documents.answers import answer_lines, answers_of
 from json_documents.explanations import explanation_lines, explanation_of
 from json_documents.explorations import exploration_lines, exploration_of
+from json_documents.judgements import judgement_lines, judgement_of
 from json_documents.ledgers import handover_lines, handover_of
 from json_documents.lines import Lines
 from json_documents.policies import comparison_lines, comparison_of, finding_lines, findings_of, standing_lines, standings_of
@@ -65,6 +66,7 @@ WORDS = {
     "check": (standings_of, standing_lines),
     "lint": (findings_of, finding_lines),
     "step": (answers_of, answer_lines),
+    "judge": (judgement_of, judgement_lines),
     "run": (report_of, report_lines),
     "lanes": (report_of, report_lines),
     "pod": (pod_of, pod_lines),
@@ -73,7 +75,7 @@ WORDS = {
 }
 
 
-# the exit statuses with which all is printed: what is said of policies has others, where they differ, or something is refuted, found or not decided
+# the exit statuses with which all is printed: what is said of workers and of policies has others, where a clause is broken, where they differ, or where something is refuted, found or not decided
 WHOLE = (0, 11, 12)
 
 

@@ -38,6 +38,15 @@ def event_of(place, event):
     return {**STEP.read((place, event.actor, event.word)), **(form.read(event.fields) if form else {})}
 
 
+def event_in(line, number):
+    """The event of a line, which begins with the event's place; `number` is the line's."""
+    place = line.split(" ", 1)[0]
+    try:
+        return event_of(int(place), reports.event_of(line, place))
+    except ValueError as fault:
+        raise reports.NotAReport(number, str(fault)) from None
+
+
 def event_line(event):
     form = EVENTS.get(event["event"])
     return f"{STEP.write(event)} {form.write(event)}" if form else STEP.write(event)

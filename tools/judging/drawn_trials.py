@@ -1,4 +1,4 @@
-"""Trials of the judge over histories that are drawn at random. Those of free workers are played by the program, and judged here and by the definition, read word by word; those of this project's own workers keep every clause."""
+"""Trials of the judge over histories that are drawn at random. Those of free workers are played and judged by the program, and judged here and by the definition, read word by word; those of this project's own workers keep every clause."""
 import importlib.machinery
 import importlib.util
 import random
@@ -12,6 +12,7 @@ from pathlib import Path
 from typing import NamedTuple, Optional
 
 from judging import clauses
+from judging.by_program import judgement_fault
 from judging.command import read_files
 from judging.definition import Definition
 from judging.free_workers import FreeWorkers, Mistake
@@ -83,17 +84,18 @@ def free_trial(program, seed, number):
         return Trial(judged, f"the definition says {told(defined)}, and the judge {told(found)}, over {files.script}")
     if fault is not None and drawn.is_right:
         return Trial(judged, f"what is right is judged, over {files.script}:\n{watched.judge.text()}")
-    return Trial(judged, None if program is None else play_fault(program, files, script, watched.session.report()))
+    return Trial(judged, None if program is None else program_fault(program, files, script, watched))
 
 
 def told(found):
     return "mediated" if found is None else f"{found[0]} {found[2].value} {found[1].name}"
 
 
-def play_fault(program, files, script, report):
-    """What is wrong with the program's play of a script, of which this is the report."""
+def program_fault(program, files, script, watched):
+    """What is wrong with the program's play of a script, or with its judgement, where this was watched."""
     with tempfile.TemporaryDirectory(prefix="check-judge-") as room:
-        return ended_fault(play_ended(program, files, script, room), files, report)
+        played_otherwise = ended_fault(play_ended(program, files, script, room), files, watched.session.report())
+        return played_otherwise or judgement_fault(program, files, script, watched.judge.text(), room)
 
 
 def ended_fault(ended, files, report):
@@ -108,7 +110,7 @@ def ended_fault(ended, files, report):
 
 
 def judged_play(program, room, policy, script):
-    """The play of a script by the program, judged. None where it is refused."""
+    """The play of a script by the program, judged here and by the program. None where it is refused."""
     files = Files(f"{room}/policy.json", f"{room}/script.txt")
     Path(files.policy).write_bytes(policy)
     ended = play_ended(program, files, script, room)
@@ -118,7 +120,9 @@ def judged_play(program, room, policy, script):
     session = Session(rules, container)
     judge = Judge(session.kernel, rules)
     report = played(session, rules, container, judge.hear).report()
-    return Trial(MEDIATED if judge.fault is None else judge.fault.clause.name, judge.text() if judge.fault is not None else ended_fault(ended, files, report))
+    if judge.fault is not None:
+        return Trial(judge.fault.clause.name, judge.text())
+    return Trial(MEDIATED, ended_fault(ended, files, report) or judgement_fault(program, files, script, judge.text(), room))
 
 
 def fuzz_trial(program, seed, number):

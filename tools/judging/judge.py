@@ -241,17 +241,28 @@ class Judge:
     def waits(self, call):
         return call.is_listed and call.is_waiting and not self.kernel.is_closed
 
+    def left(self):
+        """The oldest call that the broker has received and that waits."""
+        return next((call for call in self.kernel.calls if self.waits(call)), None)
+
     def note_idle(self):
         """The broker does nothing more by itself: each call that it has received is answered, or has gone."""
-        waiting = next((call for call in self.kernel.calls if self.waits(call)), None)
+        waiting = self.left()
         if self.fault is None and waiting is not None:
             received = next((serving.place for serving in self.servings.values() if serving.call is waiting), None)
             reasons = [Reason("it was received here", received)] if received is not None else []
             self.find(len(self.kernel.events) - 1, clauses.UNANSWERED, waiting, reasons)
 
+    def head(self, is_idle):
+        """The first line of what is printed; with `is_idle` of a broker that does nothing more by itself. It changes nothing."""
+        if is_idle and self.fault is None and self.left() is not None:
+            return f"broken {len(self.kernel.events) - 1} {clauses.UNANSWERED.gravity.value} {clauses.UNANSWERED.name}\n"
+        return self.text().partition("\n")[0] + "\n"
+
     def text(self):
         """What is printed: that the broker has mediated, or what it has broken."""
         if self.fault is not None:
             return self.fault.text(self.kernel.events)
-        counts = self.counts
-        return f"mediated events={len(self.kernel.events)} calls={counts.calls} effects={counts.effects} answers={counts.answers}\n"
+        # a step that couldn't be made is none, and the close of the listener is nobody's
+        events, counts = sum(event.kind not in ("skip", "close") for event in self.kernel.events), self.counts
+        return f"mediated events={events} calls={counts.calls} effects={counts.effects} answers={counts.answers}\n"

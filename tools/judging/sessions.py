@@ -5,7 +5,6 @@ those that begin with `#` say nothing.
 """
 from typing import List, NamedTuple, Optional
 
-from judging.judge import Judge
 from stepping.sessions import Session
 
 REQUEST, ANSWER, COMMENT = b"> ", b"< ", b"#"
@@ -52,15 +51,13 @@ class Follower:
 
     def __init__(self, rules, container, decided=None):
         """`decided` is the judge's."""
-        self.session = Session(rules, container)
+        self.session = Session(rules, container, decided)
         self.kernel = self.session.kernel
-        self.judge = Judge(self.kernel, rules, decided)
+        self.judge = self.session.judge
 
     def answer(self, request: bytes) -> str:
         """The answer to a request, with its newline; of a report and of a script all of it."""
-        told = self.session.answer(request)
-        self.judge.hear()
-        return told
+        return self.session.answer(request)
 
     def follow(self, exchanges):
         """Asks for all of a session. Raises Unlike where an answer isn't the kernel's."""

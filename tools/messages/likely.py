@@ -92,11 +92,11 @@ class Likely:
     def schedule(self):
         schedule = self.script.schedule
         if schedule is None:
-            yield self.on_word("no-schedule", self.main.opening, "there is no schedule, so `play` and `handover` let nobody step",
+            yield self.on_word("no-schedule", self.main.opening, "there is no schedule, so `play`, `handover` and `judge` let nobody step",
                                "add `schedule`, lines as `t 0 2` and `w 0 9`, and `end`; `run`, `lanes`, `pod` and `explore` need none")
             return
         if not schedule.lines:
-            yield self.on_word("no-schedule", schedule.opening, "the schedule has no lines, so `play` and `handover` let nobody step", "add lines as `t 0 2` and `w 0 9`")
+            yield self.on_word("no-schedule", schedule.opening, "the schedule has no lines, so `play`, `handover` and `judge` let nobody step", "add lines as `t 0 2` and `w 0 9`")
             return
         yield from self.scheduled_tasks(schedule)
         yield from self.scheduled_workers(schedule)

@@ -11,7 +11,7 @@ from messages.speaking import say
 
 OF_THE_COMMAND = b"broker: "
 # the words that play a script's schedule
-SCHEDULED = ("play", "handover")
+SCHEDULED = ("play", "handover", "judge")
 # what is likely a mistake, but only where a schedule is played
 OF_SCHEDULES = ("no-schedule", "task-never-comes", "task-never-steps", "no-worker-steps")
 

@@ -42,12 +42,17 @@ def folders(top):
                 yield f"{part}/{name}", files
 
 
-def play_ended(program, files, script, room):
-    """How a play of a script ends under the policy of files: its status, its output, and its line on standard error. It is written to a folder."""
+def script_ended(program, word, files, script, room):
+    """How a word ends on a script under the policy of files: its status, its output, and its line on standard error. The script is written to a folder."""
     with open(f"{room}/script.txt", "wb") as file:
         file.write(script)
-    ended = subprocess.run([program, "play", files.policy, f"{room}/script.txt"], stdin=subprocess.DEVNULL, capture_output=True, timeout=PATIENCE)
+    ended = subprocess.run([program, word, files.policy, f"{room}/script.txt"], stdin=subprocess.DEVNULL, capture_output=True, timeout=PATIENCE)
     return ended.returncode, ended.stdout, ended.stderr
+
+
+def play_ended(program, files, script, room):
+    """How a play of it ends."""
+    return script_ended(program, "play", files, script, room)
 
 
 def is_taken(files):

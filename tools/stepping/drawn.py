@@ -46,7 +46,7 @@ class Chooser:
             self.ask("close")
             for _ in range(3):
                 self.one()
-        for request in ("report", "script", "close", "report", "script"):
+        for request in ("judge", "judge idle", "report", "script", "close", "judge idle", "judge", "report", "script"):
             self.ask(request)
         return self.drawn
 
@@ -59,7 +59,7 @@ class Chooser:
         if kind < 0.04:
             self.ask("able")
         elif kind < 0.07:
-            self.ask(self.chance.choice(("report", "script")))
+            self.ask(self.chance.choice(("report", "script", "judge", "judge idle")))
         elif kind < 0.1:
             self.ask(self.chance.choice(WORD_FAULTS))
         elif kind < (0.5 if self.kernel.able() else 0.15):

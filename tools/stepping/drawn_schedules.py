@@ -42,6 +42,7 @@ class Scheduler(Chooser):
         task = self.kernel.tasks.get(tuple(map(int, name.split("."))))
         for _ in range(count if task else 0):
             self.kernel.step(task)
+            self.session.judge.hear()
         self.lines.append(f"t {name} {count}")
 
     def serve(self, seat):
@@ -49,6 +50,7 @@ class Scheduler(Chooser):
         count = self.chance.choice((1, 1, 1, 2, 3, 9))
         for _ in range(count):
             self.servers.step(seat)
+            self.session.judge.hear()
         self.lines.append(f"w {seat} {count}")
 
 

@@ -15,7 +15,7 @@ OF_SCHEDULES = (
     b"w 0 act mknod /a 0 0", b'w 0 act mknod "/a\\0" 0 0', b'w 0 act mount "a" "/" "c" 0 "" over "p"', b'w 16 act mount "a" "/" "c" 0 "" over "p"', b'w 0 act mount "a" "/" "c" 0 "" shifted',
     b'w 0 act mount "a" "/" "c" 0 "" via "p" shift', b"w 0 plant 65536 00", b"w 0 plant 65536 " + b"0g" * 112, b"w 0 send-raw " + b"00" * 24, b"w 0 recv-raw " + b"01" * 80,
     b"w 0 recv-raw " + b"00" * 80, b"w 0 addfd-raw " + b"ff" * 24, b"w 0 send 1 0 1 0", b"w 0 send 1 0 -9999 0", b"w 0 addfd 1 0 5 7 0", b"w 0 addfd-result", b"t 0 3", b"t 0.9", b"t 0.0", b"able",
-    b"report", b"script", b"close", b"end", b"schedule", b"poke 0 \"a\"", b"recv", b"# w 0 9", b"", b"w 0 let-go\r",
+    b"report", b"script", b"judge", b"judge idle", b"judge well", b"close", b"end", b"schedule", b"poke 0 \"a\"", b"recv", b"# w 0 9", b"", b"w 0 let-go\r",
 )
 
 

@@ -172,6 +172,14 @@ def asked_of_worker(tokens):
     return Asked(word, tuple(values) if call is None else (MADE[call](*values),), number)
 
 
+def asked_of_judge(tokens):
+    """A judgement, and whether it is of a broker that does nothing more by itself; the tokens stand behind `judge`."""
+    if tokens and bare(tokens[0]) != "idle":
+        raise LineFault("unknown word")
+    values_of(tokens[1:], ())
+    return Asked("judge", (bool(tokens),))
+
+
 def is_asking(tokens):
     """Whether the line of a schedule says what a worker asks for, by its third token."""
     return len(tokens) > 2 and bare(tokens[0]) == "w" and bare(tokens[2]) in (ACT, *OF_WORKERS)
@@ -205,6 +213,8 @@ def read_tokens(tokens):
         return asked_of_worker(tokens[1:])
     if word == "t":
         return Asked(word, values_of(tokens[1:], (TaskName(),)))
+    if word == "judge":
+        return asked_of_judge(tokens[1:])
     if word not in ALONE:
         raise LineFault("unknown word")
     return Asked(word, values_of(tokens[1:], ALONE[word]))

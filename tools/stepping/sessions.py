@@ -1,6 +1,7 @@
 """A session of `step`: one answer for each line that is read."""
 import struct
 
+from judging.judge import Judge
 from stepping.facts import CONTINUE, O_CLOEXEC, SEND, SETFD, Addfd, Fail
 from stepping.kernel import Kernel
 from stepping.lexing import LineFault
@@ -18,11 +19,13 @@ class Refused(Exception):
 
 
 class Session:
-    def __init__(self, rules, container):
+    def __init__(self, rules, container, decided=None):
+        """`decided` is the judge's."""
         self.rules, self.kernel = rules, Kernel(container)
+        self.judge = Judge(self.kernel, rules, decided)
 
     def answer(self, line):
-        """What is written for a line, whose newline is dropped; the bytes of a report or a script with it."""
+        """What is written for a line, whose newline is dropped; the bytes of a report, a script or a judgement with it."""
         try:
             return self.answered(line) + "\n" if len(line) <= LONGEST else "refused long line\n"
         except LineFault as fault:
@@ -37,11 +40,13 @@ class Session:
         if asked.worker > MOST_WORKER:
             raise Refused("worker")
         if asked.word in TEXTS:
-            text = TEXTS[asked.word](self)
+            text = TEXTS[asked.word](self, *asked.operands)
             return f"{asked.word} {len(text)}\n{text[:-1]}"
         if self.kernel.is_closed:
             raise Refused("closed")
-        return self.done(asked) if asked.worker >= 0 else ALONE[asked.word](self, *asked.operands)
+        told = self.done(asked) if asked.worker >= 0 else ALONE[asked.word](self, *asked.operands)
+        self.judge.hear()
+        return told
 
     def done(self, asked):
         """What comes of a worker's request. Raises Refused."""
@@ -62,6 +67,10 @@ class Session:
         if len(self.kernel.events) > MOST_EVENTS + self.kernel.is_closed or len(text) > MOST_BYTES:
             raise Refused("full")
         return text
+
+    def judged(self, is_idle):
+        """The first line of what a judge prints of the broker."""
+        return self.judge.head(is_idle)
 
     # ---- tasks and the listener
 
@@ -141,7 +150,7 @@ def told_by(deed):
     return lambda session, number, *operands: session.told(deed(session.kernel, number, *operands))
 
 
-TEXTS = {"report": Session.report, "script": Session.script}
+TEXTS = {"report": Session.report, "script": Session.script, "judge": Session.judged}
 ALONE = {"able": Session.able, "t": Session.step, "close": Session.close}
 OF_WORKERS = {
     "recv": Session.receive, "recv-raw": Session.receive_into, "open-mem": Session.open_memory, "open-base": told_by(Kernel.open_base), "check": told_by(Kernel.check),

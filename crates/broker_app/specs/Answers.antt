@@ -25,8 +25,10 @@ use Rattle.broker_app.specs.Pods.{PodEnds}
 use Rattle.broker_app.specs.Refusals.{Stands, TookNothing}
 use Rattle.broker_app.specs.Runs.{ByLanes, ByWorkers, RunEnds}
 use Rattle.broker_app.specs.Stepping.{StepEnds}
+use Rattle.broker_app.specs.Judgements.{JudgeEnds}
 use Rattle.broker_app.specs.Tellings.{ClaimsEnds, CompareEnds, LintEnds}
-use Rattle.broker_app.specs.Words.{Form, AuditCheck, Check, Compare, Explain, Explore, Handover, Lanes, Lint, Play, Pod, Run, Step, Stress}
+use Rattle.broker_app.specs.Words.{Form, AuditCheck, Check, Compare, Explain, Explore, Handover, Judge, Lanes, Lint, Play, Pod, Run, Step}
+use Rattle.broker_app.specs.Words.{Stress}
 use Rattle.broker_app.specs.declared.printing.Printout.{Printout}
 use Rattle.broker_app.specs.declared.printing.Printout.TheVariants.{Report, Handovers, Summary, Findings}
 use Rattle.broker_app.specs.declared.status.Status.{Status}
@@ -106,6 +108,7 @@ Answers (Some (Pod workers cpus pairs)) files after old new status = PodEnds fil
 Answers (Some (Explore policy script workers delays)) files after old new status =
     ExploreEnds files after old new policy script workers delays status
 Answers (Some (Step policy script)) files after old new status = StepEnds files after old new policy script status
+Answers (Some (Judge policy script)) files after old new status = JudgeEnds files after old new policy script status
 Answers (Some (Explain policy calls)) files after old new status = ExplainEnds files after old new policy calls status
 Answers (Some (Compare before latter script)) files after old new status = CompareEnds files after old new before latter script status
 Answers (Some (Check policy claims)) files after old new status = ClaimsEnds files after old new policy claims status

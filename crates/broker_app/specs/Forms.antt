@@ -4,13 +4,13 @@ use Rattle.std.specs.Option.{option_copied}
 use Rattle.std.specs.String.{string_bytes}
 use Rattle.std.specs.declared.alloc.Global.{Global}
 use Rattle.broker_app.specs.Words.{Form as Meaning, AuditCheck as Checks, Explain as Explains, Explore as Explores, Handover as Hands}
-use Rattle.broker_app.specs.Words.{Check as ChecksClaims, Compare as Compares, Lanes as RunsByLanes, Lint as Lints}
+use Rattle.broker_app.specs.Words.{Check as ChecksClaims, Compare as Compares, Judge as Judges, Lanes as RunsByLanes, Lint as Lints}
 use Rattle.broker_app.specs.Words.{Play as Plays, Pod as ServesPod, Run as Runs, Step as Steps, Stress as Stresses, are_pairs, in_pairs}
 use Rattle.broker_app.specs.declared.words.Form.{Form}
 use Rattle.broker_app.specs.declared.words.Form.TheVariants.{Job as IsJob, Lanes, Pod, Run}
 use Rattle.broker_app.specs.declared.words.Job.{Job}
 use Rattle.broker_app.specs.declared.words.Job.TheVariants.{AuditCheck, Check, Compare, Explain, Explore, Handover, Lint}
-use Rattle.broker_app.specs.declared.words.Job.TheVariants.{Play, Step, Stress}
+use Rattle.broker_app.specs.declared.words.Job.TheVariants.{Judge, Play, Step, Stress}
 
 -- the bytes of the words
 abbrev pub texts : List (String Global) → List (List ℕ)
@@ -24,6 +24,7 @@ job_of (AuditCheck policy script report) = Checks policy.now script.now report.n
 job_of (Handover policy script every) = Hands policy.now script.now every
 job_of (Explore policy script workers delays) = Explores policy.now script.now workers delays
 job_of (Step policy script) = Steps policy.now script.now
+job_of (Judge policy script) = Judges policy.now script.now
 job_of (Explain policy calls) = Explains policy.now calls.now
 job_of (Compare old new script) = Compares old.now new.now (option_copied script)
 job_of (Check policy claims) = ChecksClaims policy.now claims.now

@@ -14,4 +14,5 @@ pub mod Pods
 pub mod Explanations
 pub mod Explorations
 pub mod Tellings
+pub mod Judgements
 pub mod Answers

@@ -95,7 +95,7 @@ line_of Done = []
 line_of Usage =
     codes "usage: play POLICY SCRIPT | run POLICY SCRIPT WORKERS CPUS | stress FROM COUNT | audit-check POLICY SCRIPT REPORT"
     ++ codes " | lanes POLICY SCRIPT CPUS | handover POLICY SCRIPT EVERY | pod WORKERS CPUS POLICY SCRIPT .."
-    ++ codes " | explore POLICY SCRIPT WORKERS DELAYS | step POLICY SCRIPT | explain POLICY CALLS"
+    ++ codes " | explore POLICY SCRIPT WORKERS DELAYS | step POLICY SCRIPT | judge POLICY SCRIPT | explain POLICY CALLS"
     ++ codes " | compare OLD NEW [SCRIPT] | check POLICY CLAIMS | lint POLICY\n"
 line_of (Refused refusal) = refusal_line refusal
 line_of (ContainerRefused container refusal) = container_front container ++ refusal_line refusal

@@ -22,6 +22,7 @@ pub data Form : Type 0 where
   Pod : ℕ → ℕ → List FilePair → Form
   Explore : List ℕ → List ℕ → ℕ → Option ℕ → Form
   Step : List ℕ → List ℕ → Form
+  Judge : List ℕ → List ℕ → Form
   Explain : List ℕ → List ℕ → Form
   Compare : List ℕ → List ℕ → Option (List ℕ) → Form
   Check : List ℕ → List ℕ → Form
@@ -72,9 +73,10 @@ three_words command a b =
     if bytes_eq command (codes "play") then Some (Play a b)
     else (if bytes_eq command (codes "stress") then stress_form (number_between 0 (2 ^ 64 - 1) a) (number_between 1 4000 b)
     else (if bytes_eq command (codes "step") then Some (Step a b)
+    else (if bytes_eq command (codes "judge") then Some (Judge a b)
     else (if bytes_eq command (codes "explain") then Some (Explain a b)
     else (if bytes_eq command (codes "compare") then Some (Compare a b None)
-    else (if bytes_eq command (codes "check") then Some (Check a b) else None)))))
+    else (if bytes_eq command (codes "check") then Some (Check a b) else None))))))
 
 abbrev pub four_words : List ℕ → List ℕ → List ℕ → List ℕ → Option Form
 four_words command a b c =
@@ -88,7 +90,7 @@ five_words command a b c d =
     if bytes_eq command (codes "run") then run_form a b (number_between 0 16 c) (number_between 0 16 d)
     else (if bytes_eq command (codes "explore") then explore_form a b (number_between 0 15 c) (delays_of d) else None)
 
--- the form of three to five words: play POLICY SCRIPT, stress FROM COUNT, step POLICY SCRIPT, explain POLICY CALLS,
+-- the form of three to five words: play POLICY SCRIPT, stress FROM COUNT, step POLICY SCRIPT, judge POLICY SCRIPT, explain POLICY CALLS,
 -- compare OLD NEW [SCRIPT], check POLICY CLAIMS, audit-check POLICY SCRIPT REPORT, lanes POLICY SCRIPT CPUS, handover POLICY SCRIPT EVERY,
 -- run POLICY SCRIPT WORKERS CPUS, or explore POLICY SCRIPT WORKERS DELAYS
 abbrev pub few_words : List (List ℕ) → Option Form

@@ -30,6 +30,7 @@ ghost use Rattle.broker_app.specs.declared.status.Status.TheVariants.{Refused};
 use crate::explaining::explain_files;
 use crate::exploring::explore_files;
 use crate::inputs::{Inputs, read_inputs, read_report, read_stated};
+use crate::judging::judge_files;
 use crate::lines::say;
 use crate::players::{Player, TurnTaker, run_container, run_container_by_lanes};
 use crate::pod_printing::print_pod;
@@ -357,6 +358,7 @@ fn answer<P: Player, F: Files, O: Sink>(
             },
         ) => explore_files(alloc, files, policy, script, workers, delays, out),
         Some(Job::Step { policy, script }) => step_files(alloc, files, policy, script, out),
+        Some(Job::Judge { policy, script }) => judge_files(alloc, files, policy, script, out),
         Some(Job::Explain { policy, calls }) => explain_files(alloc, files, policy, calls, out),
         Some(Job::Compare { old, new, script }) => {
             compare_files(alloc, files, old, new, script, out)

@@ -21,6 +21,7 @@ pub mod broker;
 mod explaining;
 mod exploring;
 mod inputs;
+mod judging;
 mod lines;
 mod outcomes;
 pub mod players;

@@ -60,7 +60,7 @@ fn ended(ending: Ending) -> Result<(), Status>
 
 /// Prints what is told, and answers the status of its ending.
 #[tactic(auto, using(crate::proofs::Tellings::all_told, crate::proofs::Tellings::part_told))]
-fn tell<O: Sink>(told: &Told, out: &mut O) -> Result<(), Status>
+pub(crate) fn tell<O: Sink>(told: &Told, out: &mut O) -> Result<(), Status>
     ensures { IsPrinted told.now (O.state out.old) (O.state out.new) (status_of result) }
 {
     print_text(told.text.items(), out)?;

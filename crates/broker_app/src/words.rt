@@ -47,6 +47,11 @@ pub enum Job<'a> {
         policy: &'a str,
         script: &'a str,
     },
+    /// Judge whether the workers of a script's schedule mediate: the names of the policy's and the script's files.
+    Judge {
+        policy: &'a str,
+        script: &'a str,
+    },
     /// Explain which rule decides each call: the names of the files of the policy and the calls.
     Explain {
         policy: &'a str,
@@ -225,6 +230,11 @@ fn three_words<'a>(command: &str, a: &'a str, b: &'a str) -> Option<Form<'a>>
         stress_form(a, b)
     } else if command.as_bytes() == b"step".as_slice() {
         Some(Form::Job(Job::Step {
+            policy: a,
+            script: b,
+        }))
+    } else if command.as_bytes() == b"judge".as_slice() {
+        Some(Form::Job(Job::Judge {
             policy: a,
             script: b,
         }))

@@ -32,6 +32,12 @@ asked_of_the_kernel :
 unfolding tokens split numbered without_return is_skipped digits_value decode_pairs fault_from
 asked_of_the_kernel = refl
 
+judgements :
+    reads (codes "judge") ∷ reads (codes "judge idle") ∷ reads (codes "judge busy") ∷ reads (codes "judge idle idle") ∷ reads (codes "judge \"idle\"") ∷ []
+    ≡ Ok (step.Judge false) ∷ Ok (step.Judge true) ∷ Err (fault.Reason reason.UnknownWord) ∷ Err (fault.Reason reason.WrongCount) ∷ Err (fault.Reason reason.UnknownWord) ∷ []
+unfolding tokens split numbered without_return is_skipped digits_value decode_pairs fault_from
+judgements = refl
+
 -- an answer of ENOENT by its fields, and one by its bytes; a descriptor by its fields
 structures :
     reads (codes "w 0 send 257 0 -2 0") ∷ reads (codes "w 0 send-raw 010100000000000000000000000000000000000001000000") ∷ reads (codes "w 0 addfd 1 2 3 4 0x80000") ∷ []

@@ -66,6 +66,7 @@ more_operands _ = 0
 -- how many tokens a line has at least
 abbrev pub least_tokens : Form → ℕ
 least_tokens form.Task = 2
+least_tokens (form.Judge true) = 2
 least_tokens (form.Worker d) = words_before d + operand_count d
 least_tokens _ = 1
 
@@ -162,6 +163,7 @@ worker_operand d tokens place =
 -- of a line with so many tokens
 abbrev pub operand_at : Form → ℕ → ℕ → Operand
 operand_at (form.Worker d) tokens place = worker_operand d tokens place
+operand_at (form.Judge idle) tokens place = operand.Word
 operand_at _ tokens place = first_or place operand.Word operand.Task
 
 -- ---- the faults that an operand shows by itself

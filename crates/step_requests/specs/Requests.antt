@@ -153,4 +153,5 @@ request form.Task line = Ok (step.Task (task_numbers (bytes_at line 1)))
 request (form.Worker d) line = by_worker (worker_at line) (asked d line)
 request form.Report line = Ok step.Report
 request form.Script line = Ok step.Script
+request (form.Judge idle) line = Ok (step.Judge idle)
 request form.Close line = Ok step.Close

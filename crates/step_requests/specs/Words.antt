@@ -1,5 +1,5 @@
 -- The words that say which request a line is.
-use Rattle.std.specs.Prelude.{ℕ, if◌then◌else◌, List, [], ◌∷◌, Option, Some, None, Result, Ok, Err, bytes_eq, codes}
+use Rattle.std.specs.Prelude.{ℕ, true, false, if◌then◌else◌, List, [], ◌∷◌, Option, Some, None, Result, Ok, Err, bytes_eq, codes}
 use Rattle.lex_core.specs.declared.line.Token.{Token}
 use Rattle.lex_core.specs.declared.line.Token.TheVariants.{Bare, Quoted}
 use Rattle.lex_core.specs.declared.reason.Reason.{Reason}
@@ -76,6 +76,11 @@ abbrev pub form_behind_w : List Token → Result Form Reason
 form_behind_w [] = Err WrongCount
 form_behind_w (number ∷ rest) = form_behind_number rest
 
+-- behind `judge` stands nothing, or `idle`
+abbrev pub form_behind_judge : List Token → Result Form Reason
+form_behind_judge [] = Ok (form.Judge false)
+form_behind_judge (how ∷ more) = if bytes_eq (word_of how) (codes "idle") then Ok (form.Judge true) else Err UnknownWord
+
 abbrev pub known : Option Form → Result Form Reason
 known (Some f) = Ok f
 known None = Err UnknownWord
@@ -86,4 +91,6 @@ plain_form word = known (form_named word)
 -- which request a line is
 abbrev pub form_of : List Token → Result Form Reason
 form_of [] = Err UnknownWord
-form_of (first ∷ rest) = if bytes_eq (word_of first) (codes "w") then form_behind_w rest else plain_form (word_of first)
+form_of (first ∷ rest) =
+    if bytes_eq (word_of first) (codes "w") then form_behind_w rest
+    else (if bytes_eq (word_of first) (codes "judge") then form_behind_judge rest else plain_form (word_of first))

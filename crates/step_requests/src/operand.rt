@@ -95,7 +95,7 @@ fn least_tokens(form: Form) -> usize
 {
     match form {
         Form::Worker(deed) => words_before(deed) + operand_count(deed),
-        Form::Task => 2,
+        Form::Task | Form::Judge { idle: true } => 2,
         _ => 1,
     }
 }
@@ -299,6 +299,7 @@ fn operand_at(form: Form, tokens: usize, place: usize) -> Operand
 {
     match form {
         Form::Worker(deed) => worker_operand(deed, tokens, place),
+        Form::Judge { .. } => Operand::Word,
         _ => first_or(place, Operand::Word, Operand::Task),
     }
 }

@@ -59,6 +59,7 @@ fn request(
         Form::Worker(deed) => worker_request(alloc, deed, line),
         Form::Report => Ok(StepRequest::Report),
         Form::Script => Ok(StepRequest::Script),
+        Form::Judge { idle } => Ok(StepRequest::Judge { idle }),
         Form::Close => Ok(StepRequest::Close),
     }
 }

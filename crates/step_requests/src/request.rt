@@ -21,6 +21,10 @@ pub enum StepRequest {
     Report,
     /// The script that plays the history so far again.
     Script,
+    /// Whether the broker has mediated so far; where it is idle, also whether it has left a call waiting.
+    Judge {
+        idle: bool,
+    },
     /// That the listener be closed.
     Close,
 }

@@ -15,6 +15,8 @@ pub enum Form {
     Worker(Deed),
     Report,
     Script,
+    /// `judge`, and with `idle` behind it, of a broker that does nothing more.
+    Judge { idle: bool },
     Close,
 }
 
@@ -175,7 +177,18 @@ fn form_behind_w(rest: &[Token<'_>]) -> Result<Form, Reason>
     }
 }
 
-/// Which request a line is that begins with a word other than `w`.
+/// Which request a line is whose tokens behind `judge` are these.
+fn form_behind_judge(rest: &[Token<'_>]) -> Result<Form, Reason>
+    ensures { result ≡ definitions.form_behind_judge rest.now }
+{
+    match rest.first() {
+        Some(how) if word_of(how) == b"idle".as_slice() => Ok(Form::Judge { idle: true }),
+        Some(_) => Err(Reason::UnknownWord),
+        None => Ok(Form::Judge { idle: false }),
+    }
+}
+
+/// Which request a line is that begins with a word other than `w` and `judge`.
 fn plain_form(word: &[u8]) -> Result<Form, Reason>
     ensures { result ≡ definitions.plain_form word.now }
 {
@@ -196,6 +209,8 @@ pub fn form_of(line: &[Token<'_>]) -> Result<Form, Reason>
     let word = word_of(first);
     if word == b"w".as_slice() {
         form_behind_w(rest)
+    } else if word == b"judge".as_slice() {
+        form_behind_judge(rest)
     } else {
         plain_form(word)
     }

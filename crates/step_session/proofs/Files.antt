@@ -15,7 +15,7 @@ use Rattle.io_edge.specs.Faults.{Rose}
 use Rattle.io_edge.specs.FileState.{FileState, Opens, Reads, SameFiles}
 use Rattle.io_edge.specs.SinkState.{AddsPrefix, SinkState}
 use Rattle.io_edge.specs.declared.fault.Failed.{Failed}
-use Rattle.step_session.specs.Stands.{IsStanding}
+use Rattle.step_session.specs.Judged.{IsStanding}
 use Rattle.step_session.specs.Lines.{all_answers}
 use Rattle.step_session.specs.Owing.{Adds, Begins, Continues, IsNew, Stops, TookFront, TookOwed, owed, rest_answers}
 use Rattle.step_session.specs.Serving.{HasCause, PieceCame, PieceEnds, RestEnds, TookAll, TookPart, fault_of}
@@ -41,12 +41,12 @@ piece-read left buffer filled piece after n enough fills is next =
 
 -- ---- a session that is new
 
-owed-new : (P : Origin) (S : Script) (s : Session) (bytes : List ℕ) → IsNew S s → owed P S (started S) s bytes ≡ all_answers P S bytes
+owed-new : (P : Origin) (S : Script) (s : Session) (bytes : List ℕ) → IsNew P S s → owed P S (started S) s bytes ≡ all_answers P S bytes
 owed-new P S s bytes new =
     ap (λ text. text ++ rest_answers P S (started S) s.begun bytes) new.answers ∙ fresh_rest s.begun P S (started S) bytes new.begun
 
 -- all was taken
-took-all : (P : Origin) (S : Script) (s : Session) (files : FileState) (name left : List ℕ) (old new : SinkState) → IsNew S s
+took-all : (P : Origin) (S : Script) (s : Session) (files : FileState) (name left : List ℕ) (old new : SinkState) → IsNew P S s
     → (files.tells ≡ true → files.bytes name ≡ Some left) → (files.tells ≡ true → TookOwed P s left old new) → TookAll P S files name old new
 took-all P S s files name left old new fresh whole took told =
     subst (λ o. IsSomeAnd o (λ bytes. old.tells ≡ true → new.taken ≡ old.taken ++ all_answers P S bytes)) (sym (whole told))
@@ -72,7 +72,7 @@ took_nothing P S files name old told t = by (files.bytes name)
     by (Some bs) = (0, omega arith, sym (append-nil old.taken))
 
 -- a part was taken
-took-part : (P : Origin) (S : Script) (s : Session) (files : FileState) (name left : List ℕ) (old new : SinkState) → IsNew S s
+took-part : (P : Origin) (S : Script) (s : Session) (files : FileState) (name left : List ℕ) (old new : SinkState) → IsNew P S s
     → (files.tells ≡ true → files.bytes name ≡ Some left) → Adds old new → (files.tells ≡ true → TookFront P s left old new) → TookPart P S files name old new
 took-part P S s files name left old new fresh whole adds took told t =
     subst (λ o. MatchOption o (new.taken ≡ old.taken) (λ bytes. AddsPrefix old.taken (all_answers P S bytes) new.taken)) (sym (whole told))
@@ -88,8 +88,8 @@ continues_piece : (P : Origin) (a b : Session) (x y : SinkState) (left piece aft
     → Continues P a x left b y after
 continues_piece P a b x y left piece after cut goes = subst (λ bs. Continues P a x bs b y after) (sym cut) (continues_before P a b x y piece after goes)
 
-pub standing_written : (a b : Session) → b ≡ record a { answers = [] } → IsStanding a.container → IsStanding b.container
-standing_written a b is standing = subst (λ s. IsStanding s.container) (sym is) standing
+pub standing_written : (P : Origin) (a b : Session) → b ≡ record a { answers = [] } → IsStanding P a.container → IsStanding P b.container
+standing_written P a b is standing = subst (λ s. IsStanding P s.container) (sym is) standing
 
 same_files : (f : FileState) → SameFiles f f
 same_files f = record { tells = refl; bytes = refl; sound = refl; faults = omega arith }
@@ -171,7 +171,7 @@ piece_untaken P s t v f g x y z buffer filled piece u n e r fails wrote is read 
 -- they were
 pub piece_taken : (P : Origin) (s t v : Session) (f g : FileState) (x y z : SinkState) (buffer filled piece : List ℕ) (u : Unit {0}) (n : ℕ)
     → Wrote x s.answers (Ok u) y → t ≡ record s { answers = [] } → Reads {E = Failed} f buffer (Ok n) filled g → piece ≡ take n filled
-    → Continues P t y piece v z [] → IsStanding v.container → PieceEnds P s f x (Ok Read) v g z
+    → Continues P t y piece v z [] → IsStanding P v.container → PieceEnds P s f x (Ok Read) v g z
 piece_taken P s t v f g x y z buffer filled piece u n wrote is read front goes standing = record {
   same = read.same;
   current = read.current;
@@ -186,7 +186,7 @@ piece_taken P s t v f g x y z buffer filled piece u n wrote is read front goes s
 
 -- ---- what is left of a file
 
-pub pieces_none : (P : Origin) (s : Session) (f : FileState) (x : SinkState) → IsStanding s.container → PieceEnds P s f x (Ok Read) s f x
+pub pieces_none : (P : Origin) (s : Session) (f : FileState) (x : SinkState) → IsStanding P s.container → PieceEnds P s f x (Ok Read) s f x
 pieces_none P s f x standing = record { same = same_files f; current = refl; adds = adds_none x; came = (standing, λ told. continues_same P s x f.left) }
 
 cause_later : (fault : StepFault) (f g h : FileState) (x y z : SinkState) → SameFiles f g → x.faults ≤ y.faults → HasCause fault g h y z → HasCause fault f h x z
@@ -241,21 +241,21 @@ rest_unended P s t f g x y ends = record {
 
 -- ---- a file
 
-pub new_standing : (S : Script) (s : Session) → IsNew S s → IsStanding s.container
-new_standing S s new = (S, (started S, new.stands))
+pub new_standing : (P : Origin) (S : Script) (s : Session) → IsNew P S s → IsStanding P s.container
+new_standing P S s new = (S, (started S, new.stands))
 
 opened-whole : (f g : FileState) (name : List ℕ) (opened : Result (Unit {0}) Failed) → is_err opened ≡ false → Opens f name opened g → f.tells ≡ true → f.bytes name ≡ Some g.left
 opened-whole f g name (Ok u) good opens told = opens.whole told
 opened-whole f g name (Err e) good opens told = cc
 
 pub served_all : (P : Origin) (S : Script) (s : Session) (f g h : FileState) (x y : SinkState) (name : List ℕ) (opened : Result (Unit {0}) Failed) → is_err opened ≡ false
-    → Opens f name opened g → IsNew S s → (r : Result (Unit {0}) StepFault) → RestEnds P s g x r h y → OnOk r (TookAll P S f name x y)
+    → Opens f name opened g → IsNew P S s → (r : Result (Unit {0}) StepFault) → RestEnds P s g x r h y → OnOk r (TookAll P S f name x y)
 served_all P S s f g h x y name opened good opens new (Ok u) ends =
     took-all P S s f name g.left x y new (opened-whole f g name opened good opens) (λ told. ends.came.1 (opens.same.tells ∙ told))
 served_all P S s f g h x y name opened good opens new (Err e) ends = tt
 
 pub served_part : (P : Origin) (S : Script) (s : Session) (f g h : FileState) (x y : SinkState) (name : List ℕ) (opened : Result (Unit {0}) Failed) → is_err opened ≡ false
-    → Opens f name opened g → IsNew S s → (r : Result (Unit {0}) StepFault) → RestEnds P s g x r h y → OnErr r (TookPart P S f name x y)
+    → Opens f name opened g → IsNew P S s → (r : Result (Unit {0}) StepFault) → RestEnds P s g x r h y → OnErr r (TookPart P S f name x y)
 served_part P S s f g h x y name opened good opens new (Ok u) ends = tt
 served_part P S s f g h x y name opened good opens new (Err e) ends =
     took-part P S s f name g.left x y new (opened-whole f g name opened good opens) ends.adds (λ told. ends.came.1 (opens.same.tells ∙ told))

@@ -14,12 +14,13 @@ use Rattle.hist_model.specs.declared.event.Actor.TheVariants.{Listener, Task, Wo
 use Rattle.hist_model.specs.declared.event.Event.{Event}
 use Rattle.hist_model.specs.declared.event.What.{What}
 use Rattle.hist_model.specs.declared.event.What.TheVariants.{Close}
+use Rattle.judge_pass.specs.Closed.{is_closed}
 use Rattle.step_session.specs.declared.origin.Origin.{Origin}
 use Rattle.hist_model.specs.declared.script.Script.{Script}
 use Rattle.step_requests.specs.declared.request.Asked.{Asked}
 use Rattle.step_requests.specs.declared.request.StepRequest.{StepRequest}
 use Rattle.step_requests.specs.declared.request.StepRequest.TheVariants as step
-use Rattle.step_session.specs.Answers.{IsAsked, IsBegun, answered, is_closed, open_answer, closed_answer, task_answer, worker_answer, deed_answer, with_step}
+use Rattle.step_session.specs.Answers.{IsAsked, IsBegun, answered, open_answer, closed_answer, task_answer, worker_answer, deed_answer, with_step}
 use Rattle.step_session.specs.Asking.{deed_of, refused}
 use Rattle.step_session.specs.declared.refusal.Refusal.{Refusal}
 
@@ -57,14 +58,16 @@ open-kept P S K (step.Task n) asked begun open-still = task_kept S K n asked beg
 open-kept P S K (step.Worker w a) asked begun open-still = worker_kept S K w a (refused K w a) (le-leb w 16 (omega (arith, asked))) begun open-still
 open-kept P S K step.Report asked begun open-still = begun
 open-kept P S K step.Script asked begun open-still = begun
+open-kept P S K (step.Judge idle) asked begun open-still = begun
 open-kept P S K step.Close asked begun open-still = step_kept S K Listener Close begun open-still refl refl
 
-closed-kept : (P : Origin) (S : Script) (K : List Event) (r : StepRequest) → IsBegun S K → IsBegun S (closed_answer P K r).0
+closed-kept : (P : Origin) (S : Script) (K : List Event) (r : StepRequest) → IsBegun S K → IsBegun S (closed_answer P S K r).0
 closed-kept P S K step.Able begun = begun
 closed-kept P S K (step.Task n) begun = begun
 closed-kept P S K (step.Worker w a) begun = begun
 closed-kept P S K step.Report begun = begun
 closed-kept P S K step.Script begun = begun
+closed-kept P S K (step.Judge idle) begun = begun
 closed-kept P S K step.Close begun = begun
 
 pub kept : (P : Origin) (S : Script) (K : List Event) (r : StepRequest) → IsAsked r → IsBegun S K → IsBegun S (answered P S K r).0

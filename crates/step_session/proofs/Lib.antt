@@ -7,6 +7,8 @@ pub mod Splits
 pub mod Fronts
 pub mod Asked
 pub mod Kept
+pub mod Hearing
+pub mod Telling
 pub mod AbleTasks
 pub mod Told
 pub mod Unclosed

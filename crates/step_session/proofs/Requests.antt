@@ -154,6 +154,7 @@ of-form form.Task line r fine h = subst IsAsked (ok-same h) (task-name (bytes_at
 of-form (form.Worker d) line r fine h = by-seat (worker_at line) (asked d line) r (seat-below (number_at line 1)) h
 of-form form.Report line r fine h = subst IsAsked (ok-same h) tt
 of-form form.Script line r fine h = subst IsAsked (ok-same h) tt
+of-form (form.Judge idle) line r fine h = subst IsAsked (ok-same h) tt
 of-form form.Close line r fine h = subst IsAsked (ok-same h) tt
 
 of-fault : (fault : Option Reason) (f : Form) (line : List Token) (r : StepRequest) → line_fault f line ≡ fault → unless_faulty fault f line ≡ Ok r → IsAsked r

@@ -10,8 +10,9 @@ use Rattle.hist_model.specs.declared.event.Event.{Event}
 use Rattle.step_session.specs.declared.origin.Origin.{Origin}
 use Rattle.hist_model.specs.declared.script.Script.{Script}
 use Rattle.io_edge.specs.SinkState.{SinkState}
-use Rattle.step_session.specs.Stands.{IsAnswered, IsInOrder, IsStanding, Stands, StateStands}
-use Rattle.step_session.specs.declared.container.Container.{Container}
+use Rattle.step_session.specs.Judged.{IsJudged, IsServed, IsStanding}
+use Rattle.step_session.specs.Stands.{IsInOrder, StateStands}
+use Rattle.step_session.specs.declared.judged.JudgedContainer.{JudgedContainer}
 use Rattle.step_session.specs.declared.container.State.{State}
 use Rattle.step_session.specs.declared.container.State.TheVariants.{Open, Closed}
 use Rattle.step_session.specs.Texts.{faulty_text}
@@ -67,37 +68,33 @@ pub on_ok : (r : Result (Unit {0}) NoMemory) (A B : Type 0) → (A → B) → On
 on_ok (Ok u) A B f a = f a
 on_ok (Err e) A B f a = tt
 
--- a request that is another one is answered as that
-pub answered_as : (P : Origin) (q r : StepRequest) (old new : Container) (before after : List ℕ) → q ≡ r → IsAnswered P r old before after new → IsAnswered P q old before after new
-answered_as P q r old new before after is answered = subst (λ x. IsAnswered P x old before after new) (sym is) answered
-
-pub answered_long : (P : Origin) (line : List ℕ) (c : Container) (before after : List ℕ) → longest < length line → after ≡ before ++ long_text
+pub answered_long : (P : Origin) (line : List ℕ) (c : JudgedContainer) (before after : List ℕ) → longest < length line → after ≡ before ++ long_text
     → IsLineAnswered P line c before c after
 answered_long P line c before after long said S K stands =
     let is = long_answer P S K line long in
-    (subst (λ a. Stands S a.0 c) (sym is) stands, said ∙ ap (λ a. before ++ a.1) (sym is))
+    (subst (λ a. IsJudged P S a.0 c) (sym is) stands, said ∙ ap (λ a. before ++ a.1) (sym is))
 
-pub answered_read : (P : Origin) (line : List ℕ) (r : StepRequest) (old new : Container) (before after : List ℕ) → length line ≤ longest → reads line ≡ Ok r
-    → IsAnswered P r old before after new → IsLineAnswered P line old before new after
+pub answered_read : (P : Origin) (line : List ℕ) (r : StepRequest) (old new : JudgedContainer) (before after : List ℕ) → length line ≤ longest → reads line ≡ Ok r
+    → IsServed P r old before after new → IsLineAnswered P line old before new after
 answered_read P line r old new before after short reading answered S K stands =
     let is = short_answer P S K line short ∙ ap (read_answer P S K) reading in
     let one = answered S K stands in
-    (subst (λ a. Stands S a.0 new) (sym is) one.0, one.1 ∙ ap (λ a. before ++ a.1) (sym is))
+    (subst (λ a. IsJudged P S a.0 new) (sym is) one.0, one.1 ∙ ap (λ a. before ++ a.1) (sym is))
 
-pub answered_faulty : (P : Origin) (line : List ℕ) (why : LineFault) (c : Container) (before after : List ℕ) → length line ≤ longest → reads line ≡ Err why
+pub answered_faulty : (P : Origin) (line : List ℕ) (why : LineFault) (c : JudgedContainer) (before after : List ℕ) → length line ≤ longest → reads line ≡ Err why
     → after ≡ before ++ faulty_text why → IsLineAnswered P line c before c after
 answered_faulty P line why c before after short reading said S K stands =
     let is = short_answer P S K line short ∙ ap (read_answer P S K) reading in
-    (subst (λ a. Stands S a.0 c) (sym is) stands, said ∙ ap (λ a. before ++ a.1) (sym is))
+    (subst (λ a. IsJudged P S a.0 c) (sym is) stands, said ∙ ap (λ a. before ++ a.1) (sym is))
 
 in-order : (S : Script) (K : List Event) (s : State) → StateStands S K s → IsInOrder s
 in-order S K (Open k) stands = stands.kernel
 in-order S K (Closed h) stands = tt
 
-pub standing_in_order : (c : Container) → IsStanding c → IsInOrder c.state
-standing_in_order c (S, (K, stands)) = in-order S K c.state stands
+pub standing_in_order : (P : Origin) (c : JudgedContainer) → IsStanding P c → IsInOrder c.container.state
+standing_in_order P c (S, (K, judged)) = in-order S K c.container.state judged.stands
 
-pub still_standing : (P : Origin) (line : List ℕ) (old new : Container) (before after : List ℕ) → IsStanding old → IsLineAnswered P line old before new after → IsStanding new
+pub still_standing : (P : Origin) (line : List ℕ) (old new : JudgedContainer) (before after : List ℕ) → IsStanding P old → IsLineAnswered P line old before new after → IsStanding P new
 still_standing P line old new before after (S, (K, stands)) answered = (S, ((line_answer P S K line).0, (answered S K stands).0))
 
 -- ---- sinks
@@ -158,7 +155,7 @@ continues_written P a b x y bytes u wrote is = record {
   adds = wrote_adds x y a.answers (Ok u) wrote;
   says = λ S K stands. record {
     history = K;
-    stands = subst (λ s. Stands S K s.container) (sym is) stands;
+    stands = subst (λ s. IsJudged P S K s.container) (sym is) stands;
     same = λ rest t.
         let R = rest_answers P S K a.begun (bytes ++ rest) in
         sym (append_assoc x.taken a.answers R)
@@ -275,7 +272,7 @@ continues_long P a b bytes out open-still begun fresh same-container said = reco
   adds = adds_none out;
   says = λ S K stands. record {
     history = K;
-    stands = subst (λ c. Stands S K c) (sym same-container) stands;
+    stands = subst (λ c. IsJudged P S K c) (sym same-container) stands;
     same = λ rest t. ap (λ text. out.taken ++ text) (same S K rest);
   };
 }
@@ -297,7 +294,7 @@ continues_begun P a b bytes out goes same-container said = record {
   adds = adds_none out;
   says = λ S K stands. record {
     history = K;
-    stands = subst (λ c. Stands S K c) (sym same-container) stands;
+    stands = subst (λ c. IsJudged P S K c) (sym same-container) stands;
     same = λ rest t.
         ap (λ text. out.taken ++ (a.answers ++ text)) (goes P S K rest) ∙ ap (λ text. out.taken ++ (text ++ rest_answers P S K b.begun rest)) (sym said);
   };

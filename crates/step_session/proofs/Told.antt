@@ -12,6 +12,7 @@ use Rattle.hist_model.specs.declared.event.Actor.{Actor}
 use Rattle.hist_model.specs.declared.event.Actor.TheVariants.{Task, Worker}
 use Rattle.hist_model.specs.declared.event.Event.{Event}
 use Rattle.hist_model.specs.declared.event.What.{What}
+use Rattle.judge_pass.specs.Closed.{is_closed}
 use Rattle.step_session.specs.declared.origin.Origin.{Origin}
 use Rattle.hist_model.specs.declared.script.Script.{Script}
 use Rattle.model_kernel.specs.Kernels.{past}
@@ -19,7 +20,7 @@ use Rattle.model_kernel.specs.declared.kernel.Kernel.{Kernel}
 use Rattle.step_requests.specs.declared.request.Asked.{Asked}
 use Rattle.step_requests.specs.declared.request.StepRequest.{StepRequest}
 use Rattle.step_requests.specs.declared.request.StepRequest.TheVariants as step
-use Rattle.step_session.specs.Answers.{answered, closed_answer, deed_answer, is_closed, open_answer, report_text, script_answer, task_answer, with_step, worker_answer}
+use Rattle.step_session.specs.Answers.{answered, closed_answer, deed_answer, open_answer, report_text, script_answer, task_answer, with_step, worker_answer}
 use Rattle.step_session.specs.Asking.{deed_of}
 use Rattle.step_session.specs.Stands.{Answers, IsAnswered, IsOpen, Stands, StateStands}
 use Rattle.step_session.specs.declared.container.Container.{Container}
@@ -31,14 +32,18 @@ pub on_ok : {T E X Y : Type 0} (r : Result T E) → (X → Y) → OnOk r X → O
 on_ok (Ok x) f h = f h
 on_ok (Err e) f h = h
 
+-- a request that is another one is answered as that
+pub answered_as : (P : Origin) (q r : StepRequest) (old new : Container) (before after : List ℕ) → q ≡ r → IsAnswered P r old before after new → IsAnswered P q old before after new
+answered_as P q r old new before after is answered = subst (λ x. IsAnswered P x old before after new) (sym is) answered
+
 pub open-is : (P : Origin) (S : Script) (K : List Event) (r : StepRequest) → is_closed K ≡ false → answered P S K r ≡ open_answer P S K r
 open-is P S K r q = rw q refl
 
-pub closed-is : (P : Origin) (S : Script) (K : List Event) (r : StepRequest) → is_closed K ≡ true → answered P S K r ≡ closed_answer P K r
+pub closed-is : (P : Origin) (S : Script) (K : List Event) (r : StepRequest) → is_closed K ≡ true → answered P S K r ≡ closed_answer P S K r
 closed-is P S K r q = rw q refl
 
 -- a request that is answered alike whether the listener is closed or not
-alike : (P : Origin) (S : Script) (K : List Event) (r : StepRequest) (a : List Event × List ℕ) → open_answer P S K r ≡ a → closed_answer P K r ≡ a → answered P S K r ≡ a
+pub alike : (P : Origin) (S : Script) (K : List Event) (r : StepRequest) (a : List Event × List ℕ) → open_answer P S K r ≡ a → closed_answer P S K r ≡ a → answered P S K r ≡ a
 alike P S K r a opened shut = by (is_closed K) refl
   where
     by : (b : Bool) → is_closed K ≡ b → answered P S K r ≡ a

@@ -1,9 +1,9 @@
 -- What `step` answers to a request, and the history after it. A history has its newest event first.
-use Rattle.std.specs.Prelude.{nat_le, ℕ, zero, suc, Bool, false, not, if◌then◌else◌, ◌==◌, ◌≡◌, ◌<◌, ◌≤◌, true, List, [], ◌∷◌, ◌++◌}
+use Rattle.std.specs.Prelude.{nat_le, ℕ, zero, suc, Bool, not, if◌then◌else◌, ◌==◌, ◌≡◌, ◌<◌, ◌≤◌, true, List, [], ◌∷◌, ◌++◌}
 use Rattle.std.specs.Prelude.{length, Option, Some, None, codes}
 use Rattle.hist_model.specs.Calls.{count}
 use Rattle.hist_model.specs.Deeds.{Deed}
-use Rattle.hist_model.specs.Kinds.{closes, skips}
+use Rattle.hist_model.specs.Kinds.{skips}
 use Rattle.hist_model.specs.Legal.{system_of}
 use Rattle.hist_model.specs.Look.{Name, ev}
 use Rattle.hist_model.specs.Names.{is_task_name}
@@ -16,6 +16,10 @@ use Rattle.hist_model.specs.declared.event.Actor.TheVariants.{Listener, Task, Wo
 use Rattle.hist_model.specs.declared.event.Event.{Event}
 use Rattle.hist_model.specs.declared.event.What.{What}
 use Rattle.hist_model.specs.declared.event.What.TheVariants.{Close}
+use Rattle.judge_pass.specs.Closed.{is_closed}
+use Rattle.judge_pass.specs.Finding.{Finding, finding}
+use Rattle.judge_pass.specs.Heads.{head_text}
+use Rattle.judge_pass.specs.Idle.{finding_idle}
 use Rattle.step_session.specs.declared.origin.Origin.{Origin}
 use Rattle.hist_model.specs.declared.script.Script.{Script}
 use Rattle.history_frames.specs.Ordinals.{task_name_of, tasks_made}
@@ -67,11 +71,6 @@ able_text S K = codes "able" ++ able_tasks S K (tasks_made K) ++ able_recv (not 
 abbrev pub report_text : Origin → List Event → List ℕ
 report_text P K = sized (codes "report") (report (judging_by P.policy.rules) K)
 
--- the listener is closed
-abbrev pub is_closed : List Event → Bool
-is_closed [] = false
-is_closed (e ∷ K) = closes e.what
-
 -- the script that plays the history again, unless it is longer than a script may be
 abbrev pub unless_long : List ℕ → List ℕ
 unless_long text = if nat_le (length text) most_bytes then sized (codes "script") text else refused_text refusal.Full
@@ -79,6 +78,14 @@ unless_long text = if nat_le (length text) most_bytes then sized (codes "script"
 abbrev pub script_answer : Origin → List Event → List ℕ
 script_answer P K =
     if nat_le (length K) (most_events (is_closed K)) then unless_long (script_text P.front K) else refused_text refusal.Full
+
+-- the event that is found to break a clause first; with idle, where the broker does nothing more by itself
+abbrev pub judged : Origin → Script → List Event → Bool → Option Finding
+judged P S K idle = if idle then finding_idle P.policy S K else finding P.policy S K
+
+-- the first line of what is printed of a broker that was judged
+abbrev pub judge_text : Origin → Script → List Event → Bool → List ℕ
+judge_text P S K idle = sized (codes "judge") (head_text K (judged P S K idle))
 
 -- ---- all requests
 
@@ -88,16 +95,18 @@ open_answer P S K (step.Task n) = task_answer S K n
 open_answer P S K (step.Worker w asked) = worker_answer S K w asked (refused K w asked)
 open_answer P S K step.Report = (K, report_text P K)
 open_answer P S K step.Script = (K, script_answer P K)
+open_answer P S K (step.Judge idle) = (K, judge_text P S K idle)
 open_answer P S K step.Close = stepped K Listener Close
 
-abbrev pub closed_answer : Origin → List Event → StepRequest → List Event × List ℕ
-closed_answer P K step.Report = (K, report_text P K)
-closed_answer P K step.Script = (K, script_answer P K)
-closed_answer P K r = (K, refused_text refusal.Closed)
+abbrev pub closed_answer : Origin → Script → List Event → StepRequest → List Event × List ℕ
+closed_answer P S K step.Report = (K, report_text P K)
+closed_answer P S K step.Script = (K, script_answer P K)
+closed_answer P S K (step.Judge idle) = (K, judge_text P S K idle)
+closed_answer P S K r = (K, refused_text refusal.Closed)
 
 -- the history after a request, and the answer to it
 abbrev pub answered : Origin → Script → List Event → StepRequest → List Event × List ℕ
-answered P S K r = if is_closed K then closed_answer P K r else open_answer P S K r
+answered P S K r = if is_closed K then closed_answer P S K r else open_answer P S K r
 
 -- ---- the requests that lines are
 

@@ -7,3 +7,4 @@ pub mod Answers
 pub mod Reasons
 pub mod Texts
 pub mod Stands
+pub mod Judged

@@ -5,8 +5,8 @@ use Rattle.hist_model.specs.declared.event.Event.{Event}
 use Rattle.step_session.specs.declared.origin.Origin.{Origin}
 use Rattle.hist_model.specs.declared.script.Script.{Script}
 use Rattle.io_edge.specs.SinkState.{SinkState}
-use Rattle.step_session.specs.Stands.{Stands}
-use Rattle.step_session.specs.declared.container.Container.{Container}
+use Rattle.step_session.specs.Judged.{IsJudged}
+use Rattle.step_session.specs.declared.judged.JudgedContainer.{JudgedContainer}
 use Rattle.step_session.specs.Lines.{answers, line_answer, long_text, longest, request_lines}
 use Rattle.step_session.specs.declared.begun.Begun.{Begun}
 use Rattle.step_session.specs.declared.begun.Begun.TheVariants.{Line, TooLong}
@@ -47,16 +47,16 @@ IsFresh TooLong = ⊥
 -- ---- one line
 
 -- the line was answered
-abbrev pub IsLineAnswered : Origin → List ℕ → Container → List ℕ → Container → List ℕ → Type 0
+abbrev pub IsLineAnswered : Origin → List ℕ → JudgedContainer → List ℕ → JudgedContainer → List ℕ → Type 0
 IsLineAnswered P line old before new after =
-    (S : Script) (K : List Event) → Stands S K old
-    → Stands S (line_answer P S K line).0 new × (after ≡ before ++ (line_answer P S K line).1)
+    (S : Script) (K : List Event) → IsJudged P S K old
+    → IsJudged P S (line_answer P S K line).0 new × (after ≡ before ++ (line_answer P S K line).1)
 
 -- ---- sessions
 
 -- the session of a container that was started, of which nothing was asked yet
-pub record IsNew (S : Script) (s : Session) : Type 0 where
-  pub stands : Stands S (started S) s.container
+pub record IsNew (P : Origin) (S : Script) (s : Session) : Type 0 where
+  pub stands : IsJudged P S (started S) s.container
   pub begun : IsFresh s.begun
   pub answers : s.answers ≡ []
 
@@ -78,7 +78,7 @@ pub record Adds (old new : SinkState) : Type 0 where
 pub record Says (P : Origin) (S : Script) (K : List Event) (old : Session) (out : SinkState) (bytes : List ℕ)
     (new : Session) (after : SinkState) (left : List ℕ) : Type 0 where
   pub history : List Event
-  pub stands : Stands S history new.container
+  pub stands : IsJudged P S history new.container
   pub same : (rest : List ℕ) → out.tells ≡ true
       → out.taken ++ owed P S K old (bytes ++ rest) ≡ after.taken ++ owed P S history new (left ++ rest)
 
@@ -86,17 +86,17 @@ pub record Says (P : Origin) (S : Script) (K : List Event) (old : Session) (out 
 pub record Continues (P : Origin) (old : Session) (out : SinkState) (bytes : List ℕ)
     (new : Session) (after : SinkState) (left : List ℕ) : Type 0 where
   pub adds : Adds out after
-  pub says : (S : Script) (K : List Event) → Stands S K old.container → Says P S K old out bytes new after left
+  pub says : (S : Script) (K : List Event) → IsJudged P S K old.container → Says P S K old out bytes new after left
 
 -- the sink took all that a session had still to say, where these bytes were what followed
 abbrev pub TookOwed : Origin → Session → List ℕ → SinkState → SinkState → Type 0
 TookOwed P s bytes out after =
-    (S : Script) (K : List Event) → Stands S K s.container → out.tells ≡ true → after.taken ≡ out.taken ++ owed P S K s bytes
+    (S : Script) (K : List Event) → IsJudged P S K s.container → out.tells ≡ true → after.taken ≡ out.taken ++ owed P S K s bytes
 
 -- it took a front of that
 abbrev pub TookFront : Origin → Session → List ℕ → SinkState → SinkState → Type 0
 TookFront P s bytes out after =
-    (S : Script) (K : List Event) → Stands S K s.container → out.tells ≡ true → Begins (out.taken ++ owed P S K s bytes) after.taken
+    (S : Script) (K : List Event) → IsJudged P S K s.container → out.tells ≡ true → Begins (out.taken ++ owed P S K s bytes) after.taken
 
 -- A session that had bytes before it stopped: the sink has a front of all that it would have taken, whatever had followed.
 pub record Stops (P : Origin) (old : Session) (out : SinkState) (bytes : List ℕ) (after : SinkState) : Type 0 where
@@ -105,4 +105,4 @@ pub record Stops (P : Origin) (old : Session) (out : SinkState) (bytes : List �
 
 -- nothing follows: all that is still to be said are the answers that aren't written yet
 abbrev pub Ends : Origin → Session → Session → Type 0
-Ends P old new = (S : Script) (K : List Event) → Stands S K old.container → owed P S K old [] ≡ new.answers
+Ends P old new = (S : Script) (K : List Event) → IsJudged P S K old.container → owed P S K old [] ≡ new.answers

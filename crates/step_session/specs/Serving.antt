@@ -7,7 +7,7 @@ use Rattle.hist_model.specs.declared.script.Script.{Script}
 use Rattle.io_edge.specs.Faults.{Rose}
 use Rattle.io_edge.specs.FileState.{FileState, SameFiles}
 use Rattle.io_edge.specs.SinkState.{SinkState, AddsPrefix}
-use Rattle.step_session.specs.Stands.{IsStanding}
+use Rattle.step_session.specs.Judged.{IsStanding}
 use Rattle.step_session.specs.Lines.{all_answers}
 use Rattle.step_session.specs.Owing.{Adds, Continues, TookFront, TookOwed}
 use Rattle.step_session.specs.declared.fault.StepFault.{StepFault}
@@ -44,7 +44,7 @@ HasCause step.NoMemory files after old new = Unit {0}
 -- what the reading of a piece came to: the session goes on with what is left of the file, or all was said, or a front of it
 abbrev pub PieceCame : Origin → Session → FileState → SinkState → Result Next StepFault → Session → FileState → SinkState → Type 0
 PieceCame P s files old (Ok Read) t after new =
-    IsStanding t.container × (files.tells ≡ true → Continues P s old files.left t new after.left)
+    IsStanding P t.container × (files.tells ≡ true → Continues P s old files.left t new after.left)
 PieceCame P s files old (Ok Ended) t after new = (new.pending ≡ false) × (files.tells ≡ true → TookOwed P s files.left old new)
 PieceCame P s files old (Err fault) t after new =
     HasCause fault files after old new × (files.tells ≡ true → TookFront P s files.left old new)

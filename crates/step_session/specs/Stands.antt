@@ -11,13 +11,14 @@ use Rattle.listener.specs.declared.listener.TakeError.{TakeError}
 use Rattle.listener.specs.declared.listener.TakeError.TheVariants.{Pending}
 use Rattle.listener.specs.declared.queue.FetchError.{FetchError}
 use Rattle.listener.specs.declared.queue.FetchError.TheVariants.{Empty}
+use Rattle.judge_pass.specs.Closed.{is_closed}
 use Rattle.model_kernel.specs.Kernels.{DoesDeed, IsKernel, past, system}
 use Rattle.model_kernel.specs.Ready.{IsSame}
 use Rattle.model_kernel.specs.declared.kernel.Kernel.{Kernel}
 use Rattle.step_requests.specs.declared.request.Asked.{Asked}
 use Rattle.step_requests.specs.declared.request.StepRequest.{StepRequest}
 use Rattle.sys_abi.specs.declared.wire.Notif.{Notif}
-use Rattle.step_session.specs.Answers.{answered, is_closed}
+use Rattle.step_session.specs.Answers.{answered}
 use Rattle.step_session.specs.Asking.{deed_of, refused}
 use Rattle.step_session.specs.declared.container.Container.{Container}
 use Rattle.step_session.specs.declared.container.State.{State}
@@ -55,10 +56,6 @@ Comes old w asked came.Stepped new =
 abbrev pub IsInOrder : State → Type 0
 IsInOrder (Open k) = IsKernel k
 IsInOrder (Closed h) = Unit {0}
-
--- the container is one of some script, with some history
-abbrev pub IsStanding : Container → Type 0
-IsStanding c = (S : Script) × ((K : List Event) × Stands S K c)
 
 -- the kernel came to this history, and this text was added to a line
 pub record Answers (old : Kernel) (answer : List Event × List ℕ) (before after : List ℕ) (new : Kernel) : Type 0 where

@@ -1,7 +1,6 @@
 //! A container whose tasks and workers step as requests ask for.
 
 ghost use Rattle.std.specs.Prelude.{◌≡◌, ◌<◌, ◌≤◌, ◌++◌, ◌∷◌, List, length, IfOk, OnOk};
-ghost use Rattle.hist_model.specs.Legal.{started};
 ghost use Rattle.hist_model.specs.Look.{ev};
 ghost use Rattle.hist_model.specs.declared.event.Actor.TheVariants.{Listener};
 ghost use Rattle.hist_model.specs.declared.event.Event.{Event};
@@ -13,6 +12,7 @@ ghost use Rattle.step_session.specs.Answers.{task_answer, worker_answer};
 ghost use Rattle.step_session.specs.Asking.{refused};
 ghost use Rattle.step_session.specs.Stands.{Answers, IsAnswered, IsInOrder, Stands};
 ghost use Rattle.step_session.specs.Texts.{event_text};
+ghost use Rattle.step_session.specs.declared.container.State.TheVariants.{Open};
 ghost use Rattle.step_requests.specs.declared.request.StepRequest.TheVariants as step;
 
 use crate::able::push_who_is_able;
@@ -24,7 +24,6 @@ use crate::scripts::push_script;
 use crate::texts::{push_event, push_refusal};
 use audit_log::line::LineBuffer;
 use hist_model::history::History;
-use hist_model::script::Script;
 use hist_model::text::TaskName;
 use model_kernel::{CannotStep, Kernel};
 use std::alloc::Global;
@@ -34,7 +33,7 @@ use sys_abi::memory::NoMemory;
 
 /// What is left of a container.
 #[derive(Drop)]
-enum State {
+pub(crate) enum State {
     /// Its kernel, whose listener is open.
     Open(Kernel),
     /// Its history, at whose end the listener was closed.
@@ -45,7 +44,7 @@ enum State {
 /// line; its last byte is a line's end. After want of memory nothing is known of the container.
 #[derive(Drop)]
 pub(crate) struct Container {
-    state: State,
+    pub(crate) state: State,
 }
 
 /// Adds the line of the newest event.
@@ -112,13 +111,13 @@ fn closed(alloc: Global, kernel: Kernel, line: &mut LineBuffer) -> Result<Histor
 }
 
 impl Container {
-    /// The container of a script, after its start.
-    pub(crate) fn new(alloc: Global, script: Script) -> Result<Container, NoMemory>
-        ensures { IfOk result (λ c. Stands script (started script) c) }
+    /// The container of a kernel, whose listener is open.
+    pub(crate) fn of(kernel: Kernel) -> Container
+        ensures { result.state ≡ Open kernel }
     {
-        Ok(Container {
-            state: State::Open(Kernel::new(alloc, script)?),
-        })
+        Container {
+            state: State::Open(kernel),
+        }
     }
 
     /// What has happened so far.

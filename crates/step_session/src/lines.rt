@@ -1,18 +1,17 @@
 //! The lines of the requests, and the answer to one.
 
 ghost use Rattle.std.specs.Prelude.{◌≡◌, ◌++◌, false, MatchOption, OnOk};
-ghost use Rattle.step_session.specs.Answers.{IsAsked};
-ghost use Rattle.step_session.specs.Stands.{IsAnswered, IsInOrder, IsStanding};
+ghost use Rattle.step_session.specs.Judged.{IsStanding};
 ghost use Rattle.step_session.specs.Lines.{EndsAt, IsCut, has_end, long_text};
 ghost use Rattle.step_session.specs.Owing.{IsLineAnswered};
 
-use crate::container::Container;
+use crate::judged::JudgedContainer;
 use crate::origin::Origin;
 use crate::texts::push_fault;
 use audit_log::line::LineBuffer;
 use memchr::memchr;
 use std::alloc::Global;
-use step_requests::{StepRequest, read_request};
+use step_requests::read_request;
 use sys_abi::memory::{NoMemory, OrNoMemory};
 
 /// How many bytes a line has at most, without the byte that ends it.
@@ -43,45 +42,23 @@ pub(crate) fn push_long(answers: &mut LineBuffer) -> Result<(), NoMemory>
     answers.push("refused long line\n")
 }
 
-/// Does what a request asks for, and adds the answer.
-fn answer_request(
-    alloc: Global,
-    origin: &Origin,
-    container: &mut Container,
-    request: &StepRequest,
-    answers: &mut LineBuffer,
-) -> Result<(), NoMemory>
-    requires order { IsInOrder container.old.state }
-    requires asked { IsAsked request.now }
-    ensures { OnOk result (IsAnswered origin.now request.now container.old answers.old answers.new container.new) }
-{
-    match request {
-        StepRequest::Able => container.able(alloc, answers),
-        StepRequest::Task(name) => container.task(alloc, name, answers),
-        StepRequest::Worker { number, asked } => container.worker(alloc, *number, asked, answers),
-        StepRequest::Report => container.report(alloc, origin, answers),
-        StepRequest::Script => container.script(alloc, origin, answers),
-        StepRequest::Close => container.close(alloc, answers),
-    }
-}
-
 /// Answers a line.
 pub(crate) fn answer_line(
     alloc: Global,
     origin: &Origin,
-    container: &mut Container,
+    container: &mut JudgedContainer,
     line: &[u8],
     answers: &mut LineBuffer,
 ) -> Result<(), NoMemory>
-    requires { IsStanding container.old }
+    requires { IsStanding origin.now container.old }
     ensures answered { OnOk result (IsLineAnswered origin.now line.now container.old answers.old container.new answers.new) }
-    ensures standing { OnOk result (IsStanding container.new) }
+    ensures standing { OnOk result (IsStanding origin.now container.new) }
 {
     if line.len() > LONGEST {
         return push_long(answers);
     }
     match read_request(alloc, line) {
-        Ok(request) => answer_request(alloc, origin, container, &request, answers),
+        Ok(request) => container.answer(alloc, origin, &request, answers),
         Err(OrNoMemory::Refused(fault)) => push_fault(answers, fault),
         Err(OrNoMemory::NoMemory) => Err(NoMemory),
     }

@@ -1,4 +1,4 @@
-//! What a container's report and script are told by.
+//! What a container's report, script and judgement are told by.
 
 ghost use Rattle.std.specs.Prelude.{◌≡◌, IfOk};
 ghost use Rattle.step_session.specs.Scripts.{before_schedule};
@@ -9,10 +9,10 @@ use hist_model::text::Text;
 use std::alloc::Global;
 use sys_abi::memory::NoMemory;
 
-/// What a container's report and script are told by.
+/// What a container's report, script and judgement are told by.
 #[derive(Drop)]
 pub struct Origin {
-    /// The policy by which the audit of the report judges what workers did.
+    /// The policy by which the audit of the report and the judge judge what workers did.
     pub(crate) policy: Policy,
     /// The lines of the script before its schedule.
     pub(crate) front: Text,

@@ -3,7 +3,7 @@
 ghost use Rattle.std.specs.Prelude.{◌≡◌, ◌<◌, ◌↔◌, true, false, length, None, IsSome, OnErr, OnOk, IsErrOf};
 ghost use Rattle.io_edge.specs.Faults.{Rose};
 ghost use Rattle.io_edge.specs.FileState.{Reads, SameFiles};
-ghost use Rattle.step_session.specs.Stands.{IsStanding};
+ghost use Rattle.step_session.specs.Judged.{IsStanding};
 ghost use Rattle.step_session.specs.Owing.{Adds};
 ghost use Rattle.step_session.specs.Serving.{PieceEnds, RestEnds, TookAll, TookPart};
 
@@ -51,7 +51,7 @@ fn answer_piece<F: Files, O: Sink>(
     out: &mut O,
 ) -> Result<Next, StepFault>
     requires opened { IsSome (F.state files.old).current }
-    requires standing { IsStanding session.old.container }
+    requires standing { IsStanding origin.now session.old.container }
     requires room { 0 < length piece.old }
     ensures { PieceEnds origin.now session.old (F.state files.old) (O.state out.old) result session.new (F.state files.new) (O.state out.new) }
 {
@@ -77,7 +77,7 @@ fn answer_rest<F: Files, O: Sink>(
     out: &mut O,
 ) -> Result<(), StepFault>
     requires opened { IsSome (F.state files.old).current }
-    requires standing { IsStanding session.old.container }
+    requires standing { IsStanding origin.now session.old.container }
     requires room { 0 < length piece.old }
     ensures { RestEnds origin.now session.old (F.state files.old) (O.state out.old) result (F.state files.new) (O.state out.new) }
 {
@@ -116,7 +116,7 @@ pub fn serve<F: Files, O: Sink>(
     if files.open(name).is_err() {
         return Err(StepFault::ReadFault);
     }
-    let mut session = Session::new(alloc, script)?;
+    let mut session = Session::new(alloc, origin, script)?;
     let mut piece = vec![in alloc; 0; PIECE]?;
     answer_rest(
         &mut session,

@@ -5,12 +5,12 @@ ghost use Rattle.audit_log.specs.declared.error.ReportError.TheVariants.{WriteFa
 ghost use Rattle.audit_log.specs.Written.{Wrote};
 ghost use Rattle.io_edge.specs.Faults.{Rose};
 ghost use Rattle.io_edge.specs.SinkState.{SinkState};
-ghost use Rattle.step_session.specs.Stands.{IsStanding};
+ghost use Rattle.step_session.specs.Judged.{IsStanding};
 ghost use Rattle.step_session.specs.Lines.{has_end};
 ghost use Rattle.step_session.specs.Owing.{Adds, Continues, Stops, TookFront, TookOwed};
 
 use crate::begun::Begun;
-use crate::container::Container;
+use crate::judged::JudgedContainer;
 use crate::lines::{answer_line, first_line, push_long};
 use crate::origin::Origin;
 use audit_log::error::ReportError;
@@ -28,7 +28,7 @@ const MOST_GATHERED: usize = 65536;
 /// A container that is asked in pieces of bytes.
 #[derive(Drop)]
 pub(crate) struct Session {
-    container: Container,
+    container: JudgedContainer,
     /// The line whose end isn't read yet.
     begun: Begun,
     /// The answers that aren't written yet.
@@ -39,11 +39,11 @@ impl Session {
     ghost use Rattle.step_session.specs.Owing.{Ends, IsFresh, IsLineAnswered, IsNew};
 
     /// A session with a container of this script, which is started.
-    pub(crate) fn new(alloc: Global, script: Script) -> Result<Session, NoMemory>
-        ensures { IfOk result (λ s. IsNew script s) }
+    pub(crate) fn new(alloc: Global, origin: &Origin, script: Script) -> Result<Session, NoMemory>
+        ensures { IfOk result (λ s. IsNew origin.now script s) }
     {
         Ok(Session {
-            container: Container::new(alloc, script)?,
+            container: JudgedContainer::new(alloc, origin, script)?,
             begun: Begun::Line(Vec::new(alloc)),
             answers: LineBuffer::new(alloc),
         })
@@ -57,9 +57,9 @@ impl Session {
         mut kept: Vec<u8>,
         bytes: &[u8],
     ) -> Result<(), NoMemory>
-        requires { IsStanding self.old.container }
+        requires { IsStanding origin.now self.old.container }
         ensures answered { OnOk result (IsLineAnswered origin.now (kept.items ++ bytes.now) self.old.container self.old.answers self.new.container self.new.answers) }
-        ensures standing { OnOk result (IsStanding self.new.container) }
+        ensures standing { OnOk result (IsStanding origin.now self.new.container) }
         ensures begun { self.new.begun ≡ self.old.begun }
     {
         if kept.is_empty() {
@@ -77,10 +77,10 @@ impl Session {
 
     /// Answers the line that is begun, and that ends behind these bytes.
     fn end_line(&mut self, alloc: Global, origin: &Origin, bytes: &[u8]) -> Result<(), NoMemory>
-        requires standing { IsStanding self.old.container }
+        requires standing { IsStanding origin.now self.old.container }
         requires line { has_end bytes.now ≡ false }
         ensures continues { OnOk result ((out : SinkState) → Continues origin.now self.old out (bytes.now ++ 10 ∷ []) self.new out []) }
-        ensures standing { OnOk result (IsStanding self.new.container) }
+        ensures standing { OnOk result (IsStanding origin.now self.new.container) }
         ensures fresh { OnOk result (IsFresh self.new.begun) }
     {
         match mem::replace(&mut self.begun, Begun::Line(Vec::new(alloc))) {
@@ -91,7 +91,7 @@ impl Session {
 
     /// Answers the line that is begun, if there is one: it is the last one.
     fn end(&mut self, alloc: Global, origin: &Origin) -> Result<(), NoMemory>
-        requires { IsStanding self.old.container }
+        requires { IsStanding origin.now self.old.container }
         ensures { OnOk result (Ends origin.now self.old self.new) }
     {
         if self.begun.is_fresh() {
@@ -131,10 +131,10 @@ impl Session {
         bytes: &[u8],
         out: &mut O,
     ) -> Result<(), ReportError>
-        requires standing { IsStanding self.old.container }
+        requires standing { IsStanding origin.now self.old.container }
         requires line { has_end bytes.now ≡ false }
         ensures continues { OnOk result (Continues origin.now self.old (O.state out.old) (bytes.now ++ 10 ∷ []) self.new (O.state out.new) []) }
-        ensures standing { OnOk result (IsStanding self.new.container) }
+        ensures standing { OnOk result (IsStanding origin.now self.new.container) }
         ensures stops { OnErr result (Stops origin.now self.old (O.state out.old) (bytes.now ++ 10 ∷ []) (O.state out.new)) }
         ensures cause { IsErrOf result WriteFault → Rose (O.state out.old).faults (O.state out.new).faults }
     {
@@ -153,9 +153,9 @@ impl Session {
         piece: &[u8],
         out: &mut O,
     ) -> Result<(), ReportError>
-        requires { IsStanding self.old.container }
+        requires { IsStanding origin.now self.old.container }
         ensures continues { OnOk result (Continues origin.now self.old (O.state out.old) piece.now self.new (O.state out.new) []) }
-        ensures standing { OnOk result (IsStanding self.new.container) }
+        ensures standing { OnOk result (IsStanding origin.now self.new.container) }
         ensures stops { OnErr result (Stops origin.now self.old (O.state out.old) piece.now (O.state out.new)) }
         ensures cause { IsErrOf result WriteFault → Rose (O.state out.old).faults (O.state out.new).faults }
     {
@@ -174,7 +174,7 @@ impl Session {
         origin: &Origin,
         out: &mut O,
     ) -> Result<(), ReportError>
-        requires { IsStanding self.old.container }
+        requires { IsStanding origin.now self.old.container }
         ensures adds { Adds (O.state out.old) (O.state out.new) }
         ensures took { OnOk result (TookOwed origin.now self.old [] (O.state out.old) (O.state out.new)) }
         ensures flushed { OnOk result ((O.state out.new).pending ≡ false) }

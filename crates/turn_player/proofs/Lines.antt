@@ -42,7 +42,7 @@ head_is lines t behind q all = subst (λ (xs : List Turn). All IsTurn xs) q all 
 pub tail_is : (lines : List Turn) (t : Turn) (behind : List Turn) → lines ≡ t ∷ behind → All IsTurn lines → All IsTurn behind
 tail_is lines t behind q all = λ k d l. subst (λ (xs : List Turn). All IsTurn xs) q all (suc k) d (omega (arith, l))
 
-no-turns : (P : Policy) (S : Script) (K : List Event) → after_turns P S K [] ≡ K
+pub no-turns : (P : Policy) (S : Script) (K : List Event) → after_turns P S K [] ≡ K
 unfolding after_turns
 no-turns P S K = refl
 

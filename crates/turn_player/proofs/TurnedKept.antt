@@ -13,9 +13,11 @@ use Rattle.hist_model.specs.declared.event.Event.{Event}
 use Rattle.hist_model.specs.declared.event.What.TheVariants.{Close}
 use Rattle.hist_model.specs.declared.policy.Policy.{Policy}
 use Rattle.hist_model.specs.declared.script.Script.{Script}
+use Rattle.step_requests.specs.declared.request.Asked.{Asked}
 use Rattle.step_requests.specs.declared.request.Turn.{Turn}
 use Rattle.step_requests.specs.declared.request.Turn.TheVariants as turn
-use Rattle.step_session.specs.Answers.{IsBegun, is_closed, with_step}
+use Rattle.judge_pass.specs.Closed.{is_closed}
+use Rattle.step_session.specs.Answers.{IsBegun, with_step, worker_answer}
 use Rattle.step_session.specs.Asking.{refused}
 use Rattle.step_session.proofs.Histories.{started_begun}
 use Rattle.step_session.proofs.Kept.{step_kept, task_kept, worker_kept}
@@ -26,10 +28,10 @@ use Rattle.turn_player.proofs.Lines.{head_is, tail_is}
 use Rattle.turn_player.proofs.Times.{times_keep}
 
 -- a history of the kernel whose listener is open
-abbrev GoesOn : Script → List Event → Type 0
+abbrev pub GoesOn : Script → List Event → Type 0
 GoesOn S K = IsBegun S K × (is_closed K ≡ false)
 
-task-goes-on : (S : Script) (n : Name) → is_task_name n ≡ true → (K : List Event) → GoesOn S K → GoesOn S (stepped S n K)
+pub task-goes-on : (S : Script) (n : Name) → is_task_name n ≡ true → (K : List Event) → GoesOn S K → GoesOn S (stepped S n K)
 task-goes-on S n name K (begun, open-still) = (task_kept S K n name begun open-still, task_keeps_open S K n open-still)
 
 -- a worker of this project does a deed, and so does what the kernel answers
@@ -43,17 +45,20 @@ step-goes-on P S w number K true (begun, open-still) =
     )
 step-goes-on P S w number K false on = on
 
-served-goes-on : (P : Policy) (S : Script) (w : ℕ) → nat_le w 16 ≡ true → (K : List Event) → GoesOn S K → GoesOn S (served P S w K)
+pub served-goes-on : (P : Policy) (S : Script) (w : ℕ) → nat_le w 16 ≡ true → (K : List Event) → GoesOn S K → GoesOn S (served P S w K)
 served-goes-on P S w number K on = step-goes-on P S w number K (is_allowed K w (next_deed P S w K)) on
 
-low : (w : ℕ) → w ≤ 15 → nat_le w 16 ≡ true
+pub low : (w : ℕ) → w ≤ 15 → nat_le w 16 ≡ true
 low w l = le-leb w 16 (omega (arith, l))
+
+pub request-goes-on : (S : Script) (w : ℕ) (asked : Asked) → w ≤ 15 → (K : List Event) → GoesOn S K → GoesOn S (worker_answer S K w asked (refused K w asked)).0
+request-goes-on S w asked number K (begun, open-still) =
+    (worker_kept S K w asked (refused K w asked) (low w number) begun open-still, worker_keeps_open S K w asked (refused K w asked) open-still)
 
 turn-goes-on : (P : Policy) (S : Script) (K : List Event) (t : Turn) → IsTurn t → GoesOn S K → GoesOn S (after_turn P S K t)
 turn-goes-on P S K (turn.Steps n count) name on = times_keep (GoesOn S) (stepped S n) (task-goes-on S n name) K count on
 turn-goes-on P S K (turn.Serves w count) number on = times_keep (GoesOn S) (served P S w) (served-goes-on P S w (low w number)) K count on
-turn-goes-on P S K (turn.Asks w asked) number (begun, open-still) =
-    (worker_kept S K w asked (refused K w asked) (low w number) begun open-still, worker_keeps_open S K w asked (refused K w asked) open-still)
+turn-goes-on P S K (turn.Asks w asked) number on = request-goes-on S w asked number K on
 
 turns-go-on : (P : Policy) (S : Script) (K : List Event) (turns : List Turn) → All IsTurn turns → GoesOn S K → GoesOn S (after_turns P S K turns)
 unfolding after_turns

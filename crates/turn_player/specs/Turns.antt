@@ -8,11 +8,13 @@ use Rattle.hist_model.specs.Look.{Name, ev}
 use Rattle.hist_model.specs.Names.{is_task_name}
 use Rattle.hist_model.specs.Sessions.{deed, session}
 use Rattle.hist_model.specs.Steps.{mem, request_of, worker_step}
-use Rattle.hist_model.specs.declared.event.Actor.TheVariants.{Listener, Worker}
+use Rattle.hist_model.specs.declared.event.Actor.{Actor}
+use Rattle.hist_model.specs.declared.event.Actor.TheVariants.{Listener, Task, Worker}
 use Rattle.hist_model.specs.declared.event.Event.{Event}
 use Rattle.hist_model.specs.declared.event.What.TheVariants.{Close}
 use Rattle.hist_model.specs.declared.policy.Policy.{Policy}
 use Rattle.hist_model.specs.declared.script.Script.{Script}
+use Rattle.hist_model.specs.declared.script.Step.{Step}
 use Rattle.step_requests.specs.declared.request.Turn.{Turn}
 use Rattle.step_requests.specs.declared.request.Turn.TheVariants as turn
 use Rattle.step_session.specs.Answers.{task_answer, with_step, worker_answer}
@@ -47,6 +49,16 @@ served P S w K =
     if is_allowed K w (next_deed P S w K) then with_step (Worker w) (worker_step (system_of S) (rules_of P S.figures) K w) K else K
 
 -- ---- lines
+
+-- the line of so many steps of an actor; nobody else is scheduled than tasks and workers
+abbrev pub turn_by : Actor → ℕ → Turn
+turn_by (Task n) count = turn.Steps n count
+turn_by (Worker w) count = turn.Serves w count
+turn_by _ count = turn.Serves 0 0
+
+-- the line of a schedule's step
+abbrev pub turn_of : Step → Turn
+turn_of step = turn_by step.who step.count
 
 -- the history after a line; what a worker of another broker asks for and isn't done leaves nothing
 abbrev pub after_turn : Policy → Script → List Event → Turn → List Event

@@ -8,15 +8,22 @@
 //! Before a step of a worker of this project it is tested whether what the worker has open, and whether it has a request for a
 //! descriptor, allow the step. In a legal history they always do; of other histories that isn't known.
 //!
-//! The definitions stand in `specs/`: `Turns.antt` has the history that lines come to, and `Serving.antt` what the workers of this
-//! project remember on the way.
+//! [`play_judged`] plays the same with a judge beside the kernel, which hears each event. It finds the event that breaks a
+//! clause first, and the play stops there.
 //!
-//! Below stand the kernel (`model_kernel`), this project's workers (`broker_core`) with their turns (`broker_machine`), and the steps
-//! of tasks and of other brokers' workers (`step_session`).
+//! The definitions stand in `specs/`: `Turns.antt` has the history that lines come to, `Serving.antt` what the workers of this
+//! project remember on the way, and `Judged.antt` how far a play goes that is judged.
+//!
+//! Below stand the kernel (`model_kernel`), this project's workers (`broker_core`) with their turns (`broker_machine`), the steps
+//! of tasks and of other brokers' workers (`step_session`), and the judge (`judge_pass`).
 #![tactic(auto)]
 
+mod judged;
 pub mod laws;
+mod schedule;
 mod serving;
 mod turns;
 
+pub use judged::{Judgement, play_judged};
+pub use schedule::turns_of;
 pub use turns::play_turns;

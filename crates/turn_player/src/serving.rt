@@ -54,7 +54,7 @@ fn is_allowed(kernel: &Kernel, number: u8, next: &Deed) -> bool
 }
 
 /// Lets a worker make the step that it has next, if it can.
-fn serve(
+pub(crate) fn serve(
     alloc: Global,
     policy: &Policy,
     kernel: &mut Kernel,

@@ -290,19 +290,33 @@ func (k *Kernel) Run(task string) error {
 
 // Report gives the report so far, as `seccomp-broker play` prints it.
 func (k *Kernel) Report() (string, error) {
-	return k.text("report")
+	return k.text("report", "report")
 }
 
 // Script gives the script of what has happened so far: the lines of the script before its schedule, and a schedule with each step of a task and
 // each request of a worker. `seccomp-broker play` plays it, and prints what Report gives behind CloseListener. EFBIG: it would have more steps or
 // bytes than a script may have.
 func (k *Kernel) Script() (string, error) {
-	return k.text("script")
+	return k.text("script", "script")
 }
 
-// text gives a text whose length stands behind its word.
-func (k *Kernel) text(word string) (string, error) {
-	answer, err := k.ask(word)
+// Judge gives what a judge finds of the broker, by what has happened so far: `mediated events=N calls=N effects=N answers=N`, or of the first event that
+// breaks a clause `broken PLACE CLASS CLAUSE`.
+func (k *Kernel) Judge() (string, error) {
+	found, err := k.text("judge", "judge")
+	return strings.TrimSuffix(found, "\n"), err
+}
+
+// JudgeIdle gives the same of a broker that does nothing more by itself: a call that it has received and that waits isn't answered, which is found at the
+// newest event while the listener is open.
+func (k *Kernel) JudgeIdle() (string, error) {
+	found, err := k.text("judge idle", "judge")
+	return strings.TrimSuffix(found, "\n"), err
+}
+
+// text gives a text that a request asks for, whose length stands behind its word.
+func (k *Kernel) text(request, word string) (string, error) {
+	answer, err := k.ask(request)
 	if err != nil {
 		return "", err
 	}
@@ -317,7 +331,7 @@ func (k *Kernel) text(word string) (string, error) {
 	return string(bytes), nil
 }
 
-// CloseListener closes the listener, as the end of the broker does. Behind it only Report, Script and Close do something.
+// CloseListener closes the listener, as the end of the broker does. Behind it only Report, Script, Judge, JudgeIdle and Close do something.
 func (k *Kernel) CloseListener() error {
 	_, err := k.ask("close")
 	return err

@@ -149,6 +149,25 @@ func TestEffects(t *testing.T) {
 	wants(t, "a long one", seat.Setxattr("/log", "user.b", make([]byte, 40_000), 0), syscall.EMSGSIZE)
 }
 
+// What is found of the broker, by what has happened so far.
+func TestJudge(t *testing.T) {
+	kernel, seat := calls(t, true)
+	finds := func(judge func() (string, error), wanted string) {
+		t.Helper()
+		if found, err := judge(); err != nil || found != wanted {
+			t.Error(found, err)
+		}
+	}
+	_, err := seat.Recv()
+	wants(t, "a notification", err, nil)
+	finds(kernel.Judge, "mediated events=4 calls=1 effects=0 answers=0")
+	finds(kernel.JudgeIdle, "broken 3 answer unanswered")
+	wants(t, "a node", seat.Mknodat(AtFdcwd, "/dev/a", syscall.S_IFIFO|0o600, 0), nil)
+	finds(kernel.Judge, "broken 4 harm other-request")
+	wants(t, "the listener is closed", kernel.CloseListener(), nil)
+	finds(kernel.JudgeIdle, "broken 4 harm other-request")
+}
+
 // The script of a session has its steps and its requests.
 func TestScript(t *testing.T) {
 	kernel, seat := calls(t, true)

@@ -336,19 +336,37 @@ impl Kernel {
 
     /// The report so far, as `seccomp-broker play` prints it.
     pub fn report(&mut self) -> io::Result<String> {
-        String::from_utf8(self.text("report ")?).or_else(|_| failed(EPROTO))
+        String::from_utf8(self.text("report", "report ")?).or_else(|_| failed(EPROTO))
     }
 
     /// The script of what has happened so far, as the bytes of a file: the lines of the script before its schedule, and a schedule with each step of a task and
     /// each request of a worker. `seccomp-broker play` plays it, and prints what [`Kernel::report`] gives behind [`Kernel::close_listener`]. `EFBIG`: it would
     /// have more steps or bytes than a script may have.
     pub fn script(&mut self) -> io::Result<Vec<u8>> {
-        self.text("script ")
+        self.text("script", "script ")
     }
 
-    /// The bytes of a text whose length stands behind its word and a blank.
-    fn text(&mut self, word: &str) -> io::Result<Vec<u8>> {
-        let Some(length) = self.ask(word.trim_end().as_bytes())?.strip_prefix(word).and_then(|count| count.parse().ok()) else {
+    /// What a judge finds of the broker, by what has happened so far: `mediated events=N calls=N effects=N answers=N`, or of the first event that breaks a clause
+    /// `broken PLACE CLASS CLAUSE`.
+    pub fn judge(&mut self) -> io::Result<String> {
+        self.judged("judge")
+    }
+
+    /// The same of a broker that does nothing more by itself: a call that it has received and that waits isn't answered, which is found at the newest event while
+    /// the listener is open.
+    pub fn judge_idle(&mut self) -> io::Result<String> {
+        self.judged("judge idle")
+    }
+
+    /// The line that a request for a judgement asks for.
+    fn judged(&mut self, request: &str) -> io::Result<String> {
+        let line = String::from_utf8(self.text(request, "judge ")?).or_else(|_| failed(EPROTO))?;
+        Ok(line.trim_end().to_owned())
+    }
+
+    /// The bytes of a text that a request asks for, whose length stands behind its word and a blank.
+    fn text(&mut self, request: &str, word: &str) -> io::Result<Vec<u8>> {
+        let Some(length) = self.ask(request.as_bytes())?.strip_prefix(word).and_then(|count| count.parse().ok()) else {
             return failed(EPROTO);
         };
         let mut text = vec![0; length];
@@ -356,7 +374,7 @@ impl Kernel {
         Ok(text)
     }
 
-    /// Closes the listener, as the end of the broker does. Behind it only a report, a script and the close of the kernel do something.
+    /// Closes the listener, as the end of the broker does. Behind it only a report, a script, a judgement and the close of the kernel do something.
     pub fn close_listener(&mut self) -> io::Result<()> {
         self.ask(b"close").map(drop)
     }

@@ -105,6 +105,19 @@ fn effects() {
     fails(kernel.seat(0).setxattr(b"/log", b"user.b", &[0; 40_000], 0), EMSGSIZE);
 }
 
+/// What is found of the broker, by what has happened so far.
+#[test]
+fn judge() {
+    let mut kernel = asked();
+    kernel.seat(3).recv().unwrap();
+    assert_eq!(kernel.judge().unwrap(), "mediated events=4 calls=1 effects=0 answers=0");
+    assert_eq!(kernel.judge_idle().unwrap(), "broken 3 answer unanswered");
+    kernel.seat(3).mknodat(AT_FDCWD, b"/dev/a", FIFO, 0).unwrap();
+    assert_eq!(kernel.judge().unwrap(), "broken 4 harm other-request");
+    kernel.close_listener().unwrap();
+    assert_eq!(kernel.judge_idle().unwrap(), "broken 4 harm other-request");
+}
+
 /// The script of a session has its steps and its requests.
 #[test]
 fn script() {

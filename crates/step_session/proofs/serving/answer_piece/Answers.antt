@@ -16,10 +16,10 @@ returns-in_default g c =
     (g.O.Sink.state c.args.out.now) (g.O.Sink.state c.hand_over.new.out) c.args.piece.now c.read_piece.new.piece _ _ c.in_ok-hand_over.ensures.wrote c.in_ok-hand_over.ensures.emptied c.in_default.ensures
 
 pub finish-requires : goal.finish-requires
-finish-requires g c = standing_written c.args.session.now c.hand_over.new.self c.in_ok-hand_over.ensures.emptied c.requires.standing
+finish-requires g c = standing_written c.args.origin.now c.args.session.now c.hand_over.new.self c.in_ok-hand_over.ensures.emptied c.requires.standing
 
 pub take-requires : goal.take-requires
-take-requires g c = standing_written c.args.session.now c.hand_over.new.self c.in_ok-hand_over.ensures.emptied c.requires.standing
+take-requires g c = standing_written c.args.origin.now c.args.session.now c.hand_over.new.self c.in_ok-hand_over.ensures.emptied c.requires.standing
 
 pub returns-in_err-finish : goal.returns-in_err-finish
 returns-in_err-finish g c =

@@ -13,7 +13,7 @@ answer_rest-requires-clause-opened g c =
     opened_current (g.F.Files.state c.args.files.now) (g.F.Files.state c.open.new.self) c.args.name.now c.open.result (sym c.is_err.ensures.value ∙ c.if-is_err.false) c.open.ensures
 
 pub answer_rest-requires-clause-standing : goal.answer_rest-requires-clause-standing
-answer_rest-requires-clause-standing g c = new_standing c.args.script c.in_ok-session.session c.in_ok-session.ensures
+answer_rest-requires-clause-standing g c = new_standing c.args.origin.now c.args.script c.in_ok-session.session c.in_ok-session.ensures
 
 pub returns-clause-answered : goal.returns-clause-answered
 returns-clause-answered g c =

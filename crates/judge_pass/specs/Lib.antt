@@ -1,0 +1,16 @@
+pub mod Clauses
+pub mod Closed
+pub mod Counted
+pub mod Entries
+pub mod Finding
+pub mod Heads
+pub mod Idle
+pub mod Opened
+pub mod Outcomes
+pub mod Reasons
+pub mod Rests
+pub mod Stands
+pub mod Tables
+pub mod Takes
+pub mod Told
+pub mod Within
