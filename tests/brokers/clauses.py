@@ -104,7 +104,7 @@ class ReadsLate(Right):
     def copy(self, notif):
         self.open(notif)
         self.check(notif)
-        # no check behind the read: the call may have been given up meanwhile
+        # no check after the read: the call may have been given up meanwhile
         return self.read(notif)
 
 
