@@ -117,6 +117,20 @@ def devices(calls):
     return made
 
 
+def lives(tasks):
+    """So many tasks, one after another: each is made, makes a call that no filter notifies, ends, and is waited for."""
+    made = Input({})
+    made.program("child", "call getpid")
+    made.program("main", *["spawn child", "wait"] * tasks)
+    for task in range(tasks):
+        made.task("0")
+        made.task(f"0.{task + 1}", 3)
+        made.task("0")
+    made.task("0")
+    made.expect(calls=tasks)
+    return made
+
+
 def callers(calls):
     """Two tasks that make so many calls each, all for one of two nodes. There is no schedule: it is explored."""
     made = Input(MKNOD, "notify mknod")
