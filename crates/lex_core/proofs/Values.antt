@@ -1,12 +1,14 @@
 -- Lemmas on the values of digits.
 -- By cases on the value of the digits that follow, with the laws of powers and products.
-use Rattle.std.proofs.Common.{◌≡◌, ℕ, suc, pow-add, ◌+◌, ◌*◌, ◌^◌, ◌<◌, ◌≤◌, List, [], ◌∷◌, length, drop, get_or, Option, Some, None, refl, ap, ◌∙◌, arith}
+use Rattle.std.proofs.Common.{◌≡◌, ℕ, suc, pow-add, ◌+◌, ◌*◌, ◌^◌, ◌<◌, ◌≤◌, List, [], ◌∷◌, length, drop, get_or, Option, Some, None, refl, sym, ap, subst, inl, inr, if◌then◌else◌, ◌∙◌, arith}
+use Rattle.std.specs.Prelude.{IfSome, true, nat_le, pos, ◌&&◌, ◌==◌}
+use Rattle.std.proofs.lemmas.Bool.{and_from, cases_Bool, eqb-true, le-leb}
 use Rattle.std.specs.Option.{option_map}
 use Rattle.std.proofs.lemmas.List.{drop_more}
 use Rattle.std.proofs.Math.Nat.{pow-zero, pow-succ', add-mul, mul_assoc, mul-le-mul}
 use Rattle.std.proofs.Math.Pow.{pow_mono}
 use Rattle.std.proofs.Math.ListN.{drop_of_length-le}
-use Rattle.lex_core.specs.Numbers.{digit_value, digits_value, at_place}
+use Rattle.lex_core.specs.Numbers.{digit_value, digits_value, at_place, form_of, number}
 
 -- digits behind others that have this value
 unfoldable pub behind : ℕ → ℕ → List ℕ → Option ℕ
@@ -59,8 +61,35 @@ digit_fits value base digit i v d b =
     let r : (value + 1) * base ≡ value * base + 1 * base = add-mul value 1 base in
     rw (e, pow-add 2 (4 * i) 4) (omega arith)
 
-pub value_fits : (value i : ℕ) → value < 2 ^ (4 * i) → i ≤ 22 → value < 2 ^ 88
-value_fits value i v l =
-    let k : 4 * i ≤ 88 = omega arith in
-    let m : 2 ^ (4 * i) ≤ 2 ^ 88 = pow_mono k in
+pub value_fits : (value i most : ℕ) → value < 2 ^ (4 * i) → i ≤ most → value < 2 ^ (4 * most)
+value_fits value i most v l =
+    let k : 4 * i ≤ 4 * most = omega arith in
+    let m : 2 ^ (4 * i) ≤ 2 ^ (4 * most) = pow_mono k in
     omega arith
+
+-- ---- numbers of few digits
+
+signed : (b n : ℕ) (bs : List ℕ) → b ≡ 45 → digits_value (form_of (b ∷ bs)).base (form_of (b ∷ bs)).digits ≡ Some n → ⊥
+unfolding digits_value
+signed b n bs e q = go bs (subst (λ c. digits_value (form_of (c ∷ bs)).base (form_of (c ∷ bs)).digits ≡ Some n) e q)
+  where
+    go : (bs : List ℕ) → digits_value (form_of (45 ∷ bs)).base (form_of (45 ∷ bs)).digits ≡ Some n → ⊥
+    go [] q = cc
+    go (c ∷ cs) q = cc
+
+short-is : (bare : List ℕ) (n : ℕ) → digits_value (form_of bare).base (form_of bare).digits ≡ Some n → 1 ≤ length (form_of bare).digits
+    → length (form_of bare).digits ≤ (form_of bare).most → number bare ≡ Some (pos n)
+short-is [] n q l m = absurd (omega arith)
+short-is (b ∷ bs) n q l m = elim (cases_Bool (b == 45)) [
+  | inl h ↦ absurd (signed b n bs (eqb-true b 45 h) q)
+  | inr h ↦
+      let f = form_of (b ∷ bs) in
+      let counted : (nat_le 1 (length f.digits) && nat_le (length f.digits) f.most) ≡ true = and_from _ _ (le-leb 1 (length f.digits) l) (le-leb (length f.digits) f.most m) in
+      rw h (ap (option_map pos) (ap (λ t. if t then digits_value f.base f.digits else None) counted ∙ q))
+]
+
+-- the value of digits that are no more than there may be is the number's
+pub short_number_is : (bare : List ℕ) (value : Option ℕ) → value ≡ digits_value (form_of bare).base (form_of bare).digits → 1 ≤ length (form_of bare).digits
+    → length (form_of bare).digits ≤ (form_of bare).most → IfSome value (λ n. number bare ≡ Some (pos n))
+short_number_is bare None q l m = tt
+short_number_is bare (Some n) q l m = short-is bare n (sym q) l m

@@ -6,6 +6,24 @@ ghost use Rattle.lex_core.specs.Steps.{is_plain, touching, EndsToken};
 
 use crate::reason::Reason;
 
+/// The bit of the bytes that may stand in a bare token.
+const BARE: u8 = 1;
+
+/// The bit of the bytes that stand for themselves within quotes.
+const PLAIN: u8 = 2;
+
+/// Of each byte, the bits that it has. The loops over a line's bytes look it up, in place of four comparisons.
+const CLASSES: [u8; 256] = [
+    0, 0, 0, 0, 0, 0, 0, 0, 0, 0, 0, 0, 0, 0, 0, 0, 0, 0, 0, 0, 0, 0, 0, 0, 0, 0, 0, 0, 0, 0, 0, 0,
+    2, 3, 0, 3, 3, 3, 3, 3, 3, 3, 3, 3, 3, 3, 3, 3, 3, 3, 3, 3, 3, 3, 3, 3, 3, 3, 3, 3, 3, 3, 3, 3,
+    3, 3, 3, 3, 3, 3, 3, 3, 3, 3, 3, 3, 3, 3, 3, 3, 3, 3, 3, 3, 3, 3, 3, 3, 3, 3, 3, 3, 0, 3, 3, 3,
+    3, 3, 3, 3, 3, 3, 3, 3, 3, 3, 3, 3, 3, 3, 3, 3, 3, 3, 3, 3, 3, 3, 3, 3, 3, 3, 3, 3, 3, 3, 3, 2,
+    2, 2, 2, 2, 2, 2, 2, 2, 2, 2, 2, 2, 2, 2, 2, 2, 2, 2, 2, 2, 2, 2, 2, 2, 2, 2, 2, 2, 2, 2, 2, 2,
+    2, 2, 2, 2, 2, 2, 2, 2, 2, 2, 2, 2, 2, 2, 2, 2, 2, 2, 2, 2, 2, 2, 2, 2, 2, 2, 2, 2, 2, 2, 2, 2,
+    2, 2, 2, 2, 2, 2, 2, 2, 2, 2, 2, 2, 2, 2, 2, 2, 2, 2, 2, 2, 2, 2, 2, 2, 2, 2, 2, 2, 2, 2, 2, 2,
+    2, 2, 2, 2, 2, 2, 2, 2, 2, 2, 2, 2, 2, 2, 2, 2, 2, 2, 2, 2, 2, 2, 2, 2, 2, 2, 2, 2, 2, 2, 2, 2,
+];
+
 /// Whether a byte separates tokens: a space or a tab.
 pub fn is_blank(byte: u8) -> bool
     ensures { result ≡ is_blank byte }
@@ -14,17 +32,19 @@ pub fn is_blank(byte: u8) -> bool
 }
 
 /// Whether a byte may stand in a bare token.
+#[tactic(auto, using(crate::proofs::Classes::bare_class))]
 pub fn is_bare(byte: u8) -> bool
     ensures { result ≡ is_bare byte }
 {
-    byte > b' ' && byte < 0x7f && byte != b'"' && byte != b'\\'
+    CLASSES[byte as usize] & BARE != 0
 }
 
 /// Whether a byte within quotes stands for itself.
+#[tactic(auto, using(crate::proofs::Classes::plain_class))]
 pub fn is_plain(byte: u8) -> bool
     ensures { result ≡ is_plain byte }
 {
-    byte >= b' ' && byte != b'"' && byte != b'\\'
+    CLASSES[byte as usize] & PLAIN != 0
 }
 
 /// The byte that a backslash and this letter stand for.

@@ -25,5 +25,5 @@ mod tokens;
 
 pub use line::{Line, Token, TokenBytes, Tokens};
 pub use lines::Lines;
-pub use numbers::read_number;
+pub use numbers::{read_number, short_number};
 pub use reason::{LexError, Reason};

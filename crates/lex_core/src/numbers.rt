@@ -1,6 +1,6 @@
 //! Numbers among the tokens of a script.
 
-ghost use Rattle.std.specs.Prelude.{◌≡◌, ◌<◌, ◌≤◌, ◌^◌, length, IfSome};
+ghost use Rattle.std.specs.Prelude.{◌≡◌, ◌<◌, ◌≤◌, ◌^◌, length, pos, IfSome};
 ghost use Rattle.lex_core.specs.Numbers as definitions;
 
 use crate::bytes::hex_digit;
@@ -24,7 +24,7 @@ fn digit_value(base: u8, digit: u8) -> Option<u8>
 }
 
 /// The value of some digits of a base.
-#[tactic(auto, using(crate::proofs::Values::behind_none, crate::proofs::Values::behind_all, crate::proofs::Values::behind_digit, crate::proofs::Values::behind_other, crate::proofs::Values::digit_fits, crate::proofs::Values::value_fits))]
+#[tactic(auto, using(crate::proofs::Values::behind_none, crate::proofs::Values::behind_all, crate::proofs::Values::behind_digit, crate::proofs::Values::behind_other, crate::proofs::Values::digit_fits))]
 fn digits_value(base: u8, digits: &[u8]) -> Option<u128>
     requires base { base ≤ 16 }
     requires few { length digits.now ≤ 22 }
@@ -77,7 +77,26 @@ fn form_of(text: &[u8]) -> Form<'_>
     }
 }
 
-/// The value of a number without a sign.
+/// How many digits a number may have to be less than 2^64 in every base.
+const FEW_DIGITS: usize = 15;
+
+/// The value of few digits of a base.
+#[tactic(auto, using(crate::proofs::Values::behind_none, crate::proofs::Values::behind_all, crate::proofs::Values::behind_digit, crate::proofs::Values::behind_other, crate::proofs::Values::digit_fits))]
+fn few_digits_value(base: u8, digits: &[u8]) -> Option<u64>
+    requires base { base ≤ 16 }
+    requires few { length digits.now ≤ 15 }
+    ensures value { result ≡ definitions.digits_value base digits.now }
+    ensures bound { IfSome result (λ n. n < 2 ^ 60) }
+{
+    let mut value = 0;
+    for &digit in digits {
+        let digit = digit_value(base, digit)?;
+        value = value * base as u64 + digit as u64;
+    }
+    Some(value)
+}
+
+/// The value of a number without a sign. Most have few digits.
 fn unsigned_value(text: &[u8]) -> Option<u128>
     ensures value { result ≡ definitions.unsigned_value text.now }
     ensures bound { IfSome result (λ n. n < 2 ^ 88) }
@@ -85,6 +104,9 @@ fn unsigned_value(text: &[u8]) -> Option<u128>
     let Form { base, most, digits } = form_of(text);
     if digits.is_empty() || digits.len() > most {
         return None;
+    }
+    if digits.len() <= FEW_DIGITS {
+        return Some(few_digits_value(base, digits)? as u128);
     }
     digits_value(base, digits)
 }
@@ -101,4 +123,17 @@ pub fn read_number(bare: &[u8]) -> Option<i128>
         Some((b'-', text)) => Some(-(unsigned_value(text)? as i128)),
         _ => Some(unsigned_value(bare)? as i128),
     }
+}
+
+/// The number that a bare token of few digits stands for, where it has no sign. None comes also for a number of more than fifteen
+/// digits: `read_number` reads those too.
+pub fn short_number(bare: &[u8]) -> Option<u64>
+    ensures { IfSome result (λ n. definitions.number bare.now ≡ Some (pos n)) }
+{
+    let Form { base, most, digits } = form_of(bare);
+    let count = digits.len();
+    if count == 0 || count > most || count > FEW_DIGITS {
+        return None;
+    }
+    few_digits_value(base, digits)
 }

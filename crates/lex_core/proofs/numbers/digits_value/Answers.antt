@@ -6,14 +6,14 @@ use Rattle.lex_core.proofs.numbers.digits_value.Goals as goal
 pub overflow_mul-value : goal.overflow_mul-value
 overflow_mul-value c =
     let w = digit_fits _ _ _ _ c.loop-digit.invariant.1 c.in_ok-digit.ensures.below c.requires.base in
-    let v = value_fits _ _ w (omega arith) in
+    let v = value_fits _ _ 22 w (omega arith) in
     omega arith
 
 pub overflow_add-value : goal.overflow_add-value
 overflow_add-value c =
     let w = digit_fits _ _ _ _ c.loop-digit.invariant.1 c.in_ok-digit.ensures.below c.requires.base in
-    let v = value_fits _ _ w (omega arith) in
+    let v = value_fits _ _ 22 w (omega arith) in
     omega arith
 
 pub returns-clause-bound : goal.returns-clause-bound
-returns-clause-bound c = value_fits _ _ c.loop-digit.invariant.1 (omega arith)
+returns-clause-bound c = value_fits _ _ 22 c.loop-digit.invariant.1 (omega arith)
