@@ -15,3 +15,4 @@ pub mod Told
 pub mod Stand
 pub mod Sent
 pub mod Backs
+pub mod KeyParts

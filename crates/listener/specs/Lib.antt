@@ -8,3 +8,4 @@ pub mod Listeners
 pub mod Answers
 pub mod Puts
 pub mod Stands
+pub mod Keys

@@ -9,6 +9,7 @@ ghost use Rattle.hist_model.specs.declared.event.Back.{Back};
 ghost use Rattle.hist_model.specs.declared.event.Event.{Event};
 ghost use Rattle.listener.specs.Answers.{may_be_sent, reading, response, back_of, IsBack, IsPlain};
 ghost use Rattle.listener.specs.Fold.{Looks};
+ghost use Rattle.listener.specs.Keys.{TellStates};
 ghost use Rattle.listener.specs.Sound.{AreAsked, IsSound, IsStep};
 ghost use Rattle.listener.specs.Stands.{StandsFor, IsOther};
 ghost use Rattle.listener.specs.State.{State, after};
@@ -35,4 +36,10 @@ pub fn a_response_says_how_the_call_returns()
     ensures back { (id : ℕ) (back : Back) → IsBack back → back_of (response id back) ≡ back }
     ensures response { (resp : Resp) → may_be_sent resp ≡ true → IsPlain resp → response resp.id (back_of resp) ≡ resp }
     ensures fits { (resp : Resp) → may_be_sent resp ≡ true → FitsSigned w64 resp.val → IsBack (back_of resp) }
+{}
+
+/// Keys of listeners end by themselves: where equal bytes begin with two of them, the listeners are the same state, and what comes behind
+/// is equal.
+pub fn keys_tell_states()
+    ensures { TellStates }
 {}

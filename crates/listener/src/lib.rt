@@ -13,6 +13,7 @@
 
 mod flags;
 mod ioctl;
+mod keys;
 pub mod laws;
 mod listener;
 mod order;

@@ -1,6 +1,6 @@
 //! The listener of a kernel.
 
-ghost use Rattle.std.specs.Prelude.{◌≡◌, ◌≤◌, ◌<◌, ◌+◌, ◌%◌, ◌^◌, ◌∷◌, [], ℕ, List, Option, Some, None, Ok, Err, IfOk, IfSome, IfNone, OnOk, OnErr, IsOk, is_some, true, false};
+ghost use Rattle.std.specs.Prelude.{◌≡◌, ◌++◌, ◌≤◌, ◌<◌, ◌+◌, ◌%◌, ◌^◌, ◌∷◌, [], ℕ, List, Option, Some, None, Ok, Err, IfOk, IfSome, IfNone, OnOk, OnErr, IsOk, is_some, true, false};
 ghost use Rattle.hist_model.specs.Calls.{calls, count, fetched, listed, named, queue};
 ghost use Rattle.hist_model.specs.Kinds.{closes};
 ghost use Rattle.hist_model.specs.Look.{Name};
@@ -11,6 +11,7 @@ ghost use Rattle.hist_model.specs.declared.event.Event.{Event};
 ghost use Rattle.hist_model.specs.declared.event.What.TheVariants.{AddfdPut, Recv, Send};
 ghost use Rattle.hist_model.specs.declared.notification.Reply.TheVariants.{Installing};
 ghost use Rattle.sys_abi.specs.Errnos.{enoent};
+ghost use Rattle.listener.specs.Keys.{listener_part};
 ghost use Rattle.listener.specs.Listeners.{validity, send_admission, put_admission, taken, is_over, back_of, was_fetched, with_sent};
 ghost use Rattle.listener.specs.Requests.{has_request};
 ghost use Rattle.listener.specs.Stands.{StandsFor, IsCaller, IsEntry, IsInstall, IsLeaving, IsListedAs, IsNext, IsReceipt, IsSettledBy, oldest_in, take_of};
@@ -184,6 +185,15 @@ impl Listener {
             queue: Queue::new(alloc, first),
             requests: Requests::new(alloc)?,
         })
+    }
+
+    /// Adds the key of this listener: only listeners that are the same state have equal ones. Fails for want of memory alone; then a
+    /// front of the key was added.
+    pub fn write_key(&self, key: &mut Vec<u8>) -> Result<(), NoMemory>
+        ensures { OnOk result (key.new.items ≡ key.old.items ++ listener_part self.now) }
+    {
+        self.queue.write_key(key)?;
+        self.requests.write_key(key)
     }
 
     /// Whether an id is valid (SECCOMP_IOCTL_NOTIF_ID_VALID): ENOENT exactly where it names no call that was received and

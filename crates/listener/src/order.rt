@@ -3,8 +3,10 @@
 ghost use Rattle.std.specs.Prelude.{◌≡◌, ◌+◌, ◌<◌, ◌≤◌, ◌∷◌, ◌++◌, [], Some, IfNone, IfSome, IsOk, OnOk, length, find, filter, map, not, nat_le};
 ghost use Rattle.listener.specs.Entries.{Rise, AreBelow, IsStart, IsPlace, IsAbsent, has_number, new_entry, replied, is_empty};
 
+use crate::keys::push_entry;
 use hist_model::notification::Reply;
 use hist_model::request::TaskRef;
+use key_bytes::push_number;
 use std::alloc::Global;
 use std::collections::VecDeque;
 use sys_abi::memory::NoMemory;
@@ -29,6 +31,7 @@ pub struct Order {
 }
 
 impl Order {
+    ghost use Rattle.listener.specs.Keys.{order_part};
     ghost use Rattle.listener.specs.Table.{HasPlace};
 
     pub fn new(alloc: Global) -> Order
@@ -39,6 +42,18 @@ impl Order {
             entries: VecDeque::new(alloc),
             entered: 0,
         }
+    }
+
+    /// Adds the part of these calls in a key.
+    pub fn write_key(&self, key: &mut Vec<u8>) -> Result<(), NoMemory>
+        ensures { OnOk result (key.new.items ≡ key.old.items ++ order_part self.now) }
+    {
+        push_number(key, self.entered)?;
+        push_number(key, self.entries.len() as u64)?;
+        for place in 0..self.entries.len() {
+            push_entry(key, &self.entries[place])?;
+        }
+        Ok(())
     }
 
     /// How many calls were entered.

@@ -1,11 +1,12 @@
 //! The queue of listed calls.
 
-ghost use Rattle.std.specs.Prelude.{◌≡◌, ℕ, ◌+◌, ◌<◌, ◌≤◌, ◌^◌, List, [], Option, Some, None, Err, IfOk, OnOk, IsOk, option_map};
+ghost use Rattle.std.specs.Prelude.{◌≡◌, ◌++◌, ℕ, ◌+◌, ◌<◌, ◌≤◌, ◌^◌, List, [], Option, Some, None, Err, IfOk, OnOk, IsOk, option_map};
 ghost use Rattle.hist_model.specs.Look.{Name};
 
 use crate::order::Order;
 use hist_model::notification::{Fetched, Reply, State};
 use hist_model::request::TaskRef;
+use key_bytes::push_number;
 use std::alloc::Global;
 use sys_abi::memory::NoMemory;
 use thiserror::Error;
@@ -37,6 +38,7 @@ pub struct Queue {
 }
 
 impl Queue {
+    ghost use Rattle.listener.specs.Keys.{queue_part};
     ghost use Rattle.listener.specs.declared.requests.Request.{Request as Ask};
     ghost use Rattle.listener.specs.State.{counted, far_in, next_id, oldest, row_named, task_in, with_entered, with_fetched, with_receive, with_reply, without_call, without_calls, lists_none};
     ghost use Rattle.listener.specs.Table.{HasRoom, IsReceived, view, reply_in};
@@ -52,6 +54,16 @@ impl Queue {
             fetched: 0,
             received: 0,
         }
+    }
+
+    /// Adds the part of this queue in a key.
+    pub fn write_key(&self, key: &mut Vec<u8>) -> Result<(), NoMemory>
+        ensures { OnOk result (key.new.items ≡ key.old.items ++ queue_part self.now) }
+    {
+        push_number(key, self.first)?;
+        push_number(key, self.fetched)?;
+        push_number(key, self.received)?;
+        self.order.write_key(key)
     }
 
     /// Makes room for one `enter`, which then takes no memory. There is none for the 2^64-th call.

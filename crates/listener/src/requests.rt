@@ -1,11 +1,14 @@
 //! The requests for descriptors that workers have put and not taken.
 
-ghost use Rattle.std.specs.Prelude.{◌≡◌, ◌≤◌, ◌<◌, ◌++◌, ◌∷◌, [], Option, Some, None, IfOk, true, false, length, filter, find, position, slice_index_or, option_map};
+ghost use Rattle.std.specs.Prelude.{◌≡◌, ◌≤◌, ◌<◌, ◌++◌, ◌∷◌, [], Option, Some, None, IfOk, OnOk, true, false, length, filter, find, position, slice_index_or, option_map};
 ghost use Rattle.std.specs.Option.{option_copied};
+ghost use Rattle.key_bytes.specs.Parts.{list_part};
+ghost use Rattle.listener.specs.Keys.{request_part};
 ghost use Rattle.listener.specs.Requests.{is_of, is_waiting, has_request, waiting, without, new_request};
 ghost use Rattle.listener.specs.State.{told};
 ghost use Rattle.listener.specs.declared.requests.Request.{Request as RequestData};
 
+use crate::keys::push_requests;
 use hist_model::event::WORKERS;
 use std::alloc::Global;
 use std::marker::Model;
@@ -52,6 +55,13 @@ impl Requests {
         Ok(Requests {
             requests: Vec::with_capacity(alloc, ROOM)?,
         })
+    }
+
+    /// Adds the part of these requests in a key.
+    pub fn write_key(&self, key: &mut Vec<u8>) -> Result<(), NoMemory>
+        ensures { OnOk result (key.new.items ≡ key.old.items ++ list_part request_part self.now) }
+    {
+        push_requests(key, &self.requests)
     }
 
     /// Whether a worker has a request.

@@ -8,3 +8,4 @@ pub mod Events
 pub mod Rows
 pub mod Stand
 pub mod Answered
+pub mod KeyParts

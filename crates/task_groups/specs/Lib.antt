@@ -6,3 +6,4 @@ pub mod Rows
 pub mod State
 pub mod Groups
 pub mod Stands
+pub mod Keys

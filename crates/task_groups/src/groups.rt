@@ -1,6 +1,6 @@
 //! The table of groups, which living tasks and workers' handles hold.
 
-ghost use Rattle.std.specs.Prelude.{◌≡◌, ℕ, ◌+◌, ◌<◌, ◌≤◌, not, List, [], length, Some, None, IfOk, OnOk, OnErr, is_ok, is_err, true, false, vec_capacity};
+ghost use Rattle.std.specs.Prelude.{◌≡◌, ◌++◌, ℕ, ◌+◌, ◌<◌, ◌≤◌, not, List, [], length, Some, None, IfOk, OnOk, OnErr, is_ok, is_err, true, false, vec_capacity};
 ghost use Rattle.sys_abi.specs.Memory.{lacked_memory, was_refused};
 ghost use Rattle.hist_model.specs.Effects.{is_cloexec};
 ghost use Rattle.hist_model.specs.Memory.{all_mapped};
@@ -8,17 +8,20 @@ ghost use Rattle.hist_model.specs.Natives.{is_open};
 ghost use Rattle.hist_model.specs.Steps.{slot_answer};
 ghost use Rattle.task_groups.specs.Descriptors.{NumbersRise, IsSet, IsFirstFree};
 ghost use Rattle.task_groups.specs.Groups.{Holds, HasRow, IsLive, IsReadAnswer, HasRoom, HasRoomFor, HasStoreRoom, number_given};
+ghost use Rattle.task_groups.specs.Keys.{group_part, groups_part};
 ghost use Rattle.task_groups.specs.Pages.{IsStored, IsStore, IsLeftByAll, IsShared};
 ghost use Rattle.task_groups.specs.Rows.{Row, row_at, row_of, descriptor_in, IsSound, SameGroups, IsPut, SetsMark, SameMarks, HasCopyRoom, HasPageRoom, HasDescriptorRoom};
 ghost use Rattle.task_groups.specs.State.{State, IsSetTo, no_groups, read_from, free_of, place_at, place_for, with_fresh, with_copy, with_joined, with_left, with_opened, with_closed, with_stored, with_number, with_installed};
 
 use crate::descriptors::{self, Descriptor};
+use crate::keys::push_descriptors;
 use crate::list::PageEntry;
 use crate::map;
 use crate::page_bytes::PAGE;
 use crate::pages::Pages;
 use hist_model::request::{Fault, Obj};
 use hist_model::script::{MapRange, Script};
+use key_bytes::push_number;
 use std::alloc::Global;
 use std::mem;
 use sys_abi::errno::Errno;
@@ -109,6 +112,26 @@ impl Groups {
             spare_descriptors: Vec::new(alloc),
             alloc,
         })
+    }
+
+    /// Adds what is kept of a group, but for how many hold it.
+    fn push_group(&self, key: &mut Vec<u8>, group: &Group) -> Result<(), NoMemory>
+        ensures { OnOk result (key.new.items ≡ key.old.items ++ group_part self.now.pages group.now) }
+    {
+        self.pages.push_list(key, &group.pages)?;
+        push_descriptors(key, &group.descriptors)
+    }
+
+    /// Adds the key of this table: only tables whose groups have the same bytes and descriptors have equal ones. Fails for want of memory
+    /// alone; then a front of the key was added.
+    pub fn write_key(&self, key: &mut Vec<u8>) -> Result<(), NoMemory>
+        ensures { OnOk result (key.new.items ≡ key.old.items ++ groups_part self.now) }
+    {
+        push_number(key, self.rows.len() as u64)?;
+        for group in &self.rows {
+            self.push_group(key, group)?;
+        }
+        Ok(())
     }
 
     /// How many groups were made: the ordinal of the next one.

@@ -12,6 +12,7 @@ ghost use Rattle.hist_model.specs.declared.event.What.TheVariants.{Native};
 ghost use Rattle.hist_model.specs.declared.script.Script.{Script};
 ghost use Rattle.history_frames.specs.Ordinals.{group_of};
 ghost use Rattle.task_groups.specs.Groups.{Holds, HasRow, IsLive};
+ghost use Rattle.task_groups.specs.Keys.{TellGroups, TellHeld};
 ghost use Rattle.task_groups.specs.Rows.{SameGroups};
 ghost use Rattle.task_groups.specs.Stands.{IsCopyOf, IsFresh, IsInstall, IsOther, IsPlant, IsPoke, bytes_done, slot_done, state};
 ghost use Rattle.task_groups.specs.State.{State, Agree, free_of, no_groups, place_for, read_from, with_change, with_copy, with_fresh, with_installed, with_stored};
@@ -59,4 +60,11 @@ pub fn room_changes_nothing()
 /// Each group that was made has a row, also where nobody is of it any more.
 pub fn made_groups_have_rows()
     ensures { (s : State) (G : Groups) (o : ℕ) → Holds s G → o < s.made → HasRow G o }
+{}
+
+/// Keys of groups end by themselves: where equal bytes begin with two of them, the groups have the same, and what comes behind is equal.
+/// Then the states that they hold have the same, too, where somebody holds a group in both.
+pub fn keys_tell_groups()
+    ensures groups { TellGroups }
+    ensures held { TellHeld }
 {}

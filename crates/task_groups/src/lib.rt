@@ -14,6 +14,7 @@
 
 mod descriptors;
 mod groups;
+mod keys;
 pub mod laws;
 mod list;
 mod map;

@@ -1,12 +1,15 @@
 //! Pages, which the lists of spaces share.
 
 ghost use Rattle.std.specs.Prelude.{◌≡◌, ◌≢◌, ℕ, ◌+◌, ◌-◌, ◌*◌, ◌%◌, ◌<◌, ◌≤◌, ◌++◌, ◌^◌, length, Some, None, OnOk, IsOk, vec_len, vec_capacity, slice_index};
+ghost use Rattle.key_bytes.specs.Parts.{list_part};
 ghost use Rattle.slab.specs.Slab.{get};
+ghost use Rattle.task_groups.specs.Keys.{page_part};
 ghost use Rattle.task_groups.specs.Lists.{NumbersRise, slot_of};
 ghost use Rattle.task_groups.specs.Pages.{count_at, bytes_at_some, byte_in, bytes_from, IsStore, IsList, HasPages, pages_touched, IsLeft, IsLeftBySome, IsPageAdded, IsOwned, IsPut, IsStored, IsSharedOnce, IsShared, IsLeftByAll};
 
 use crate::list::{self, PageEntry};
 use crate::page_bytes::{PAGE, PageBytes, append_zeros, part};
+use key_bytes::{push_number, push_text};
 use slab::Slab;
 use std::alloc::Global;
 use sys_abi::memory::NoMemory;
@@ -37,6 +40,25 @@ impl Pages {
             stock: Vec::new(alloc),
             alloc,
         }
+    }
+
+    /// Adds a page of a list.
+    fn push_page(&self, key: &mut Vec<u8>, entry: &PageEntry) -> Result<(), NoMemory>
+        ensures { OnOk result (key.new.items ≡ key.old.items ++ page_part self.now entry.now) }
+    {
+        push_number(key, entry.number)?;
+        push_text(key, self.bytes(Some(entry.slot)))
+    }
+
+    /// Adds the pages of a list, with how many there are before them.
+    pub fn push_list(&self, key: &mut Vec<u8>, list: &[PageEntry]) -> Result<(), NoMemory>
+        ensures { OnOk result (key.new.items ≡ key.old.items ++ list_part (page_part self.now) list.now) }
+    {
+        push_number(key, list.len() as u64)?;
+        for entry in list {
+            self.push_page(key, entry)?;
+        }
+        Ok(())
     }
 
     /// Makes room for so many more pages, which then take no memory.
