@@ -13,6 +13,8 @@ pub mod KeptSchedule
 pub mod KeptLines
 pub mod SoundStatements
 pub mod SoundRequests
+pub mod PlainLines
+pub mod JoinedTurns
 pub mod Turns
 pub mod Readings
 pub mod FirstRow

@@ -148,12 +148,12 @@ tail-sound (b ∷ bs) h =
     subst (λ k. is_task_name (task_numbers (48 ∷ k ∷ bs)) ≡ true) (sym (eqb-true b 46 (and_parts _ _ (and_parts _ _ h).0).0))
     (children-sound bs (and_parts _ _ (and_parts _ _ h).0).1 (and_parts _ _ h).1)
 
-task-sound : (text : List ℕ) → is_task_text text ≡ true → is_task_name (task_numbers text) ≡ true
-task-sound [] h = cc
-task-sound (b ∷ bs) h = subst (λ k. is_task_name (task_numbers (k ∷ bs)) ≡ true) (sym (eqb-true b 48 (and_parts _ _ h).0)) (tail-sound bs (and_parts _ _ h).1)
+pub task_sound : (text : List ℕ) → is_task_text text ≡ true → is_task_name (task_numbers text) ≡ true
+task_sound [] h = cc
+task_sound (b ∷ bs) h = subst (λ k. is_task_name (task_numbers (k ∷ bs)) ≡ true) (sym (eqb-true b 48 (and_parts _ _ h).0)) (tail-sound bs (and_parts _ _ h).1)
 
 token-sound : (token : Token) (more : List Token) → operand_fault operand.Task token ≡ None → is_task_name (task_numbers (bytes_at (token ∷ more) 0)) ≡ true
-token-sound (Bare text) more h = task-sound text (passed _ _ h)
+token-sound (Bare text) more h = task_sound text (passed _ _ h)
 token-sound (Quoted bytes) more h = cc
 
 task-named : (operands : List Token) → operands_fault word.Task operands ≡ None → is_task_name (task_numbers (bytes_at operands 0)) ≡ true

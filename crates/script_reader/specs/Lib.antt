@@ -19,4 +19,5 @@ pub mod Lines
 pub mod Scripts
 pub mod Views
 pub mod Outcomes
+pub mod Plain
 pub mod Table

@@ -7,6 +7,8 @@ use crate::blocks::Filters;
 use crate::error::{Fault, ScriptError};
 use crate::fault::wrong_if;
 use crate::file::ScriptFile;
+use crate::paths::task_name;
+use crate::plain::{PlainTurn, plain_turn};
 use crate::programs::{Programs, refuse_instr};
 use crate::ranges::{in_force, refuse_broker, refuse_range};
 use crate::reading::read_line;
@@ -335,9 +337,11 @@ fn opened_by(opens: bool, line: u32, before: u32) -> u32
 
 impl Builder {
     ghost use Rattle.std.specs.Prelude.{Ok, is_some, true, IfOk, OnOk};
-    ghost use Rattle.script_reader.specs.Above.{statement_fault};
+    ghost use Rattle.script_reader.specs.Above.{statement_fault, with_statement};
     ghost use Rattle.script_reader.specs.Lines.{line_statement, unless_faulty};
+    ghost use Rattle.script_reader.specs.Faults.{Admits};
     ghost use Rattle.script_reader.specs.Outcomes.{Becomes, States, with_reading};
+    ghost use Rattle.script_reader.specs.Plain.{AreSound, stated};
     ghost use Rattle.script_reader.specs.Rules.{AreTurns, IsKept, IsSound};
     ghost use Rattle.script_reader.specs.Scripts.{file_at_end, file_of, has_items};
     ghost use Rattle.script_reader.specs.Views.{above_in};
@@ -354,12 +358,29 @@ impl Builder {
         Ok(())
     }
 
+    /// A plain line joins those above, where it has no fault beside them. After an error nothing is said of the builder.
+    fn turn(&mut self, turn: PlainTurn<'_>) -> Admitted
+        requires { AreSound turn }
+        ensures { Admits (statement_fault (stated turn.entry) (above_in self.old)) (with_statement (stated turn.entry) (above_in self.old)) result (above_in self.new) }
+    {
+        match turn {
+            PlainTurn::Task { name, count } => {
+                let task = task_name(self.alloc, name)?;
+                self.steps(task, count)
+            }
+            PlainTurn::Worker { worker, count } => self.counts(worker, count),
+        }
+    }
+
     /// Reads a line behind those above. After an error nothing is said of the builder.
     #[inline(always)]
     pub fn read(&mut self, line: &Line<'_>) -> Admitted
         ensures becomes { Becomes (with_reading line.now.number (line_statement (above_in self.old) (Ok line.now.tokens)) (above_in self.old)) result (above_in self.new) }
         ensures kept { OnOk result (IsKept (above_in self.old) → IsKept (above_in self.new)) }
     {
+        if let Some(turn) = plain_turn(self.part, line.tokens.items()) {
+            return self.turn(turn);
+        }
         let base_is_stated = self.settings.pidbase.is_some();
         let statement = read_line(self.alloc, self.part, base_is_stated, line)?;
         self.join(line.number, statement)

@@ -2,9 +2,9 @@
 //!
 //! [`read_file`] gives what the bytes state, or why they are refused: the first faulty line, and of its reasons the
 //! one that stands first in the table of reasons. A line is read in three steps: its tokens (`lex_core`), what it states by
-//! itself (`reading`), and the faults that it shows beside the lines above it (`builder`). A schedule may say what the workers of
-//! another broker ask the kernel for: its lines are then turns, beside a script without a schedule. [`read_script`] gives the
-//! script alone.
+//! itself (`reading`), and the faults that it shows beside the lines above it (`builder`). What a schedule's plain lines state is
+//! read off their tokens at once (`plain`). A schedule may say what the workers of another broker ask the kernel for: its lines
+//! are then turns, beside a script without a schedule. [`read_script`] gives the script alone.
 //!
 //! The definitions stand in `specs/`. `script_file`, in `specs/Scripts.antt`, goes from line to line; `Operands.antt` and
 //! `Statements.antt` say what a line states by itself, `Above.antt` what accepted lines come to, part by part, and what is wrong
@@ -26,6 +26,7 @@ pub mod laws;
 pub mod operand;
 mod operands;
 pub mod paths;
+mod plain;
 mod programs;
 mod ranges;
 mod reader;
