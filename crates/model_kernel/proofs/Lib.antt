@@ -20,3 +20,4 @@ pub mod Waiting
 pub mod Words
 pub mod WorkerRows
 pub mod Workers
+pub mod KeyParts

@@ -8,3 +8,4 @@ pub mod Spent
 pub mod Stands
 pub mod Steps
 pub mod Wire
+pub mod Keys

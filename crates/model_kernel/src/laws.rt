@@ -2,6 +2,7 @@
 
 ghost use Rattle.hist_model.specs.ScriptRules.{IsScript};
 ghost use Rattle.hist_model.specs.declared.script.Script.{Script};
+ghost use Rattle.model_kernel.specs.Keys.{TellKernels};
 ghost use Rattle.model_kernel.specs.Mapped.{MapsByteByByte, StoresWhereMapped};
 
 /// Bytes are mapped, as it is said of the ranges of a script, exactly where the address of each of them lies in a range.
@@ -14,4 +15,10 @@ pub fn mapped_byte_by_byte()
 #[tactic(auto, using(crate::proofs::MappedRanges::stores_where_mapped))]
 pub fn stores_where_mapped()
     ensures { (S : Script) → IsScript S → StoresWhereMapped S }
+{}
+
+/// Keys of kernels end by themselves: where equal bytes begin with two of them, the kernels have the same tables, and what comes behind is
+/// equal.
+pub fn keys_tell_kernels()
+    ensures { TellKernels }
 {}

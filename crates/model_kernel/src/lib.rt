@@ -12,6 +12,7 @@
 mod able;
 mod deeds;
 mod kernel;
+mod keys;
 pub mod laws;
 mod listening;
 mod natives;

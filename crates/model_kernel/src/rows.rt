@@ -1,12 +1,16 @@
 //! The rows of the broker's workers.
 
-ghost use Rattle.std.specs.Prelude.{◌≡◌, ◌≤◌, true, set, replicate, Some};
+ghost use Rattle.std.specs.Prelude.{◌≡◌, ◌++◌, ◌≤◌, true, set, replicate, OnOk, Some};
 ghost use Rattle.std.specs.List.{count_by};
+ghost use Rattle.key_bytes.specs.Parts.{list_part, number_part, option_part};
+ghost use Rattle.model_kernel.specs.Keys.{node_part, worker_part};
 ghost use Rattle.model_kernel.specs.Rows.{idle, row_of, has_session};
 
 use hist_model::event::WORKERS;
 use hist_model::request::NodeRef;
+use key_bytes::{push_flag, push_number, push_option};
 use std::marker::Model;
+use sys_abi::memory::NoMemory;
 
 /// One row for each worker.
 const ROWS: usize = WORKERS as usize;
@@ -28,6 +32,46 @@ impl WorkerRow {
         memory: None,
         has_session: false,
     };
+}
+
+/// Adds the directory that is open, if one is.
+fn push_base(key: &mut Vec<u8>, base: Option<NodeRef>) -> Result<(), NoMemory>
+    ensures { OnOk result (key.new.items ≡ key.old.items ++ option_part node_part base) }
+{
+    match base {
+        None => push_option(key, None),
+        Some(node) => push_option(key, Some(u64::from(node.ordinal))),
+    }
+}
+
+/// Adds the group whose memory is open, if one is.
+fn push_memory(key: &mut Vec<u8>, memory: Option<u32>) -> Result<(), NoMemory>
+    ensures { OnOk result (key.new.items ≡ key.old.items ++ option_part number_part memory) }
+{
+    match memory {
+        None => push_option(key, None),
+        Some(group) => push_option(key, Some(u64::from(group))),
+    }
+}
+
+/// Adds what is kept of one worker.
+fn push_worker(key: &mut Vec<u8>, row: &WorkerRow) -> Result<(), NoMemory>
+    ensures { OnOk result (key.new.items ≡ key.old.items ++ worker_part row.now) }
+{
+    push_base(key, row.base)?;
+    push_memory(key, row.memory)?;
+    push_flag(key, row.has_session)
+}
+
+/// Adds what is kept of workers, with how many there are before them.
+fn push_workers(key: &mut Vec<u8>, rows: &[WorkerRow]) -> Result<(), NoMemory>
+    ensures { OnOk result (key.new.items ≡ key.old.items ++ list_part worker_part rows.now) }
+{
+    push_number(key, rows.len() as u64)?;
+    for row in rows {
+        push_worker(key, row)?;
+    }
+    Ok(())
 }
 
 /// What the workers 0 to 16 have open. Contracts see one row for each of them, in the order of their numbers.
@@ -60,6 +104,13 @@ impl WorkerRows {
             rows: [WorkerRow::IDLE; ROWS],
             sessions: 0,
         }
+    }
+
+    /// Adds the part of these rows in a key.
+    pub(crate) fn write_key(&self, key: &mut Vec<u8>) -> Result<(), NoMemory>
+        ensures { OnOk result (key.new.items ≡ key.old.items ++ list_part worker_part self.now) }
+    {
+        push_workers(key, &self.rows)
     }
 
     /// What is kept of a worker; nothing is opened by one above 16.
