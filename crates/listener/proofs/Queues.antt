@@ -1,6 +1,6 @@
 -- The requests of a call, its answer, and whether it was fetched, after an event.
 -- By the one event that each definition looks at first; what stands below an event keeps its place.
-use Rattle.std.proofs.Common.{◌≡◌, inl, inr, ℕ, suc, ◌+◌, ◌<◌, ◌≤◌, true, false, ◌||◌, List, [], ◌∷◌, ◌++◌, length, Option, Some, refl, ◌∙◌, arith}
+use Rattle.std.proofs.Common.{◌≡◌, inl, inr, ℕ, suc, ◌<◌, ◌≤◌, true, false, ◌||◌, List, [], ◌∷◌, ◌++◌, length, Option, Some, refl, ◌∙◌, arith}
 use Rattle.std.specs.Prelude.{Ok}
 use Rattle.std.proofs.lemmas.Bool.{cases_Bool, eq-eqb, or_cases, false_from_ne_true}
 use Rattle.hist_model.specs.Look.{is_place}
