@@ -1,8 +1,9 @@
 -- What is kept of the requests of each call tells of them, event by event, and so of which events are answers.
 -- By cases on whether the place is one of the events so far, by `newest_own` and by `named_own`: an id's newest call has this id.
-use Rattle.std.proofs.Common.{◌≡◌, inl, inr, ℕ, ◌+◌, ◌<◌, ◌≤◌, Bool, true, false, ◌&&◌, ◌||◌, List, [], ◌∷◌, ◌++◌, length, Option, Some, None, refl, sym, ap, ◌∙◌, subst, arith}
-use Rattle.std.specs.Prelude.{if◌then◌else◌, ◌==◌, Ok, Err, is_some}
+use Rattle.std.proofs.Common.{◌≡◌, inl, inr, ℕ, suc, ◌+◌, ◌<◌, ◌≤◌, Bool, true, false, ◌&&◌, ◌||◌, cond, List, [], ◌∷◌, ◌++◌, length, Option, Some, None, refl, sym, ap, ◌∙◌, subst, zero-add, arith}
+use Rattle.std.specs.Prelude.{if◌then◌else◌, ◌==◌, Ok, is_some}
 use Rattle.std.proofs.lemmas.Bool.{cases_Bool, cases_order, eqb-true, eq-eqb}
+use Rattle.std.proofs.lemmas.List.{length-append}
 use Rattle.hist_model.specs.Calls.{actor_in, caller, id, id_in, notify_id}
 use Rattle.hist_model.specs.Kinds.{enters, gave, is_sent}
 use Rattle.hist_model.specs.Look.{Name, event_at, is_task, is_place, task_name}
@@ -18,12 +19,14 @@ use Rattle.hist_model.specs.declared.event.What.TheVariants.{AddfdPut, Enter, In
 use Rattle.hist_model.proofs.Look.{event_at-older, name_eq-refl}
 use Rattle.audit_log.specs.Received.{Names, place_in}
 use Rattle.audit_log.specs.Records.{Tells}
-use Rattle.audit_log.specs.Requests.{TellsInstalled, TellsRequests, answered_call, first_at, for_install, installed_for, pending_call, queued}
+use Rattle.audit_log.specs.Places.{grown}
+use Rattle.audit_log.specs.Requests.{AnswersAre, TellsInstalled, TellsRequests, answered_call, first_at, for_install, installed_for, pending_call, queued}
 use Rattle.audit_log.specs.Tasks.{Knows, call_of, facts_in, task_facts}
 use Rattle.audit_log.specs.declared.received.Ids.{Ids}
 use Rattle.audit_log.specs.declared.records.CallRecord.{CallRecord}
 use Rattle.audit_log.specs.declared.tasks.TaskRecords.{TaskRecords}
 use Rattle.audit_log.proofs.ByPlace.{by_place_more, none_by_place}
+use Rattle.audit_log.proofs.Counted.{count_cons}
 use Rattle.audit_log.proofs.Newest.{elsewhere, newest_below, newest_not_past, newest_passes}
 use Rattle.audit_log.proofs.ReceivedCalls.{at_place, newest_named}
 use Rattle.audit_log.proofs.Recorded.{and_false, in_call, newest_entered, newest_enters, newest_own, not_yet, task_of}
@@ -276,9 +279,9 @@ unfolding requests
 none_asked c = refl
 
 -- before all events no answer was given
-pub none_answered : answer_count [] ≡ 0
+none-answered : answer_count [] ≡ 0
 unfolding answer_count
-none_answered = refl
+none-answered = refl
 
 -- the requests with one more event
 pub asked_more : (K : List Event) (e : Event) (tasks : TaskRecords) (ids : Ids) (kept : ℕ → CallRecord) (before new : ℕ → List Bool)
@@ -305,30 +308,53 @@ installed_more K e tasks kept queue before after i t k r h =
 pub none_installed : (calls : ℕ → Option ℕ) (H : List Event) → H ≡ [] → TellsInstalled H calls
 none_installed = none_by_place installed_for
 
--- an answer is a send that was taken, or an installation that answers a call
-answer_is : (K : List Event) (e : Event) → (is_sent e.what || is_some (for_install e.what (installed_for K e))) ≡ is_answer K e
-answer_is K e = by e.what (newest_call (task_name e.who) K)
+-- ---- How many answers were given
+
+-- with one more step, which may install for a request with SEND
+apart : (a : What) (i : Bool) → (if is_sent a || (gave a && i) then 1 else 0) ≡ cond (is_sent a) 1 0 + (if gave a && i then 1 else 0)
+apart (Send id back (Ok u)) i = refl
+apart a i = sym (zero-add (if gave a && i then 1 else 0))
+
+-- an installation that answers a call is one for a request with SEND
+installed-some : (K : List Event) (e : Event) → is_some (installed_for K e) ≡ (gave e.what && installs_for_send K e (newest_call (task_name e.who) K))
+installed-some K e = by (gave e.what) (newest_call (task_name e.who) K)
   where
     same : (b : Bool) (c : ℕ) → is_some (if b then Some c else None) ≡ b
     same true c = refl
     same false c = refl
 
-    given : (g : Bool) (n : Option ℕ) → is_some (if g && installs_for_send K e n then n else None) ≡ (g && installs_for_send K e n)
-    given false n = refl
-    given true None = refl
-    given true (Some c) = same (installs_for_send K e (Some c)) c
+    by : (g : Bool) (n : Option ℕ) → is_some (if g && installs_for_send K e n then n else None) ≡ (g && installs_for_send K e n)
+    by false n = refl
+    by true None = refl
+    by true (Some c) = same (installs_for_send K e (Some c)) c
 
-    by : (a : What) (n : Option ℕ) → (is_sent a || is_some (for_install a (if gave a && installs_for_send K e n then n else None))) ≡ (is_sent a || (gave a && installs_for_send K e n))
-    by (Install answer) n = given (gave (Install answer)) n
-    by (Send id back (Ok u)) n = refl
-    by (Send id back (Err error)) n = refl
-    by _ n = refl
+length-grown : (o : Option ℕ) (place : ℕ) (places : List ℕ) → length (grown o place places) ≡ (if is_some o then 1 else 0) + length places
+length-grown None place places = sym (zero-add (length places))
+length-grown (Some c) place places = let s : length (places ++ place ∷ []) ≡ length places + 1 = length-append places (place ∷ []) in omega arith
 
--- the count with one more event
-pub counted_more : (H later K : List Event) (e : Event) (calls : ℕ → Option ℕ) (place : ℕ) (b : Bool) (count : ℕ) → H ≡ later ++ e ∷ K → length K ≡ place → TellsInstalled H calls
-    → b ≡ (is_sent e.what || is_some (for_install e.what (calls place))) → count ≡ answer_count K → count + (if b then 1 else 0) ≡ answer_count (e ∷ K)
+pub none_number : (places : List ℕ) → places ≡ [] → AnswersAre [] (length places)
+none_number places q = rw q none-answered
+
+pub number_more : (K : List Event) (e : Event) (tasks : TaskRecords) (kept : ℕ → CallRecord) (queue : ℕ → List Bool) (old new : List ℕ)
+    → AnswersAre K (length old) → Tells K kept → Knows K tasks → TellsRequests K queue
+    → new ≡ grown (answered_call e.what (pending_call (call_of e.who (facts_in tasks)) kept) queue) (length K) old → AnswersAre (e ∷ K) (length new)
 unfolding answer_count
-counted_more H later K e calls place b count h l t q n =
-    let told : calls place ≡ installed_for K e = ap calls (sym l) ∙ t later K e h in
-    let a : b ≡ is_answer K e = q ∙ (ap (λ o. is_sent e.what || is_some (for_install e.what o)) told ∙ answer_is K e) in
-    ap (λ m. m + (if b then 1 else 0)) n ∙ ap (λ y. answer_count K + (if y then 1 else 0)) a
+number_more K e tasks kept queue old new n t k r is =
+    let i = installs_for_send K e (newest_call (task_name e.who) K) in
+    let told : answered_call e.what (pending_call (call_of e.who (facts_in tasks)) kept) queue ≡ installed_for K e =
+    ap (λ c. answered_call e.what c queue) (call-is K e tasks kept k) ∙ answered_told K e kept queue t r in
+    let size : length new ≡ (if gave e.what && i then 1 else 0) + length old =
+    ap length (is ∙ ap (λ o. grown o (length K) old) told) ∙ length-grown (installed_for K e) (length K) old ∙ ap (λ b. (if b then 1 else 0) + length old) (installed-some K e) in
+    let step = apart e.what i in
+    let sent = count_cons (λ x. is_sent x.what) e K in
+    omega (arith, n, size, step, sent)
+
+-- each event gives one answer at most
+pub answers_few : (K : List Event) → answer_count K ≤ length K
+unfolding answer_count
+answers_few [] = omega arith
+answers_few (e ∷ K) = let few = answers_few K in by (is_answer K e) few
+  where
+    by : (b : Bool) → answer_count K ≤ length K → answer_count K + (if b then 1 else 0) ≤ suc (length K)
+    by true few = omega arith
+    by false few = omega arith

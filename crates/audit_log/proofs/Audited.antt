@@ -1,12 +1,12 @@
 -- What is kept of the sessions tells what came of each, and gives their lines.
 -- By induction on the events, with the number that was installed for the call of each session (`TellsNumbers`).
-use Rattle.std.proofs.Common.{◌≡◌, ℕ, ◌+◌, ◌<◌, List, [], ◌∷◌, ◌++◌, length, reverse, take, drop, get_or, Option, Err, Ok, refl, sym, ap, ◌∙◌, append_assoc, append-nil}
+use Rattle.std.proofs.Common.{◌≡◌, ℕ, ◌+◌, List, [], ◌∷◌, ◌++◌, length, Option, Ok, refl, sym, ap, ap₂, ◌∙◌, append_assoc, append-nil, arith, cond}
 use Rattle.std.specs.Prelude.{codes, count_by, map}
 use Rattle.std.specs.List.{flat_map}
 use Rattle.std.proofs.lemmas.Grind.{flat_map-append}
-use Rattle.std.proofs.lemmas.List.{map-append, take-append-drop, take_more}
-use Rattle.io_edge.specs.SinkState.{SinkState}
-use Rattle.hist_model.specs.ReportAudit.{Judging, audit, audit_by, audit_line, audit_line_by, audit_line_of, begins, call_with_id, installed_at, session_at}
+use Rattle.std.proofs.lemmas.List.{length-append, length-map, map-append}
+use Rattle.std.proofs.lemmas.List.Recursion.{is_count_by}
+use Rattle.hist_model.specs.ReportAudit.{Judging, audit, audit_by, audit_line, audit_line_by, audit_line_of, begins, begins_by, call_with_id, installed_at, session_at}
 use Rattle.hist_model.specs.ReportJournal.{lines_of, title}
 use Rattle.hist_model.specs.Report.{audits, audits_by}
 use Rattle.hist_model.specs.declared.event.Actor.{Actor}
@@ -23,11 +23,8 @@ use Rattle.audit_log.proofs.SessionFound.{finding_told}
 use Rattle.audit_log.specs.Sessions.{begun, begun_by}
 use Rattle.audit_log.specs.Audited.{audited, session_line}
 use Rattle.audit_log.specs.CallTable.{TellsCalls, TellsNumbers, number_in}
-use Rattle.audit_log.specs.Written.{Wrote}
-use Rattle.audit_log.specs.declared.error.ReportError.{ReportError}
 use Rattle.audit_log.specs.declared.call_table.CallTable.{CallTable}
 use Rattle.audit_log.proofs.ReceivedCalls.{numbers_told}
-use Rattle.audit_log.proofs.Writing.{wrote_more, wrote_front}
 
 audited-told : (J : Judging) (s : Begun) (number : Option ℕ) → audited number (told J s) ≡ audit_by J s.notif s.steps number
 audited-told J s number = rw (finding_told J s) refl
@@ -80,28 +77,24 @@ audit_told : (J : Judging) (n : CallTable) (H : List Event) (rows : List Session
     → flat_map (session_line J n) rows ≡ lines_of (audit_line J H) H
 audit_told J n H rows t r = ap (flat_map (session_line J n)) r ∙ lines-from J n H [] H t refl
 
+-- as many sessions as events begin one
+begun-more : (H : List Event) (e : Event) (K : List Event) → length (begun H (e ∷ K)) ≡ cond (begins e) (1 + length (begun H K)) (length (begun H K))
+unfolding begun
+begun-more H e K = by e.who e.what
+  where
+    by : (who : Actor) (a : What) → length (begun H K ++ begun_by H K who a) ≡ cond (begins_by who a) (1 + length (begun H K)) (length (begun H K))
+    by (Worker w) (Recv (Ok notif)) = let s = length-append (begun H K) (begun_by H K (Worker w) (Recv (Ok notif))) in omega (arith, s)
+    by _ _ = ap length (append-nil (begun H K))
+
+none-begun : (H : List Event) → begun H [] ≡ []
+unfolding begun
+none-begun H = refl
+
+begun-count : (H K : List Event) → length (begun H K) ≡ count_by begins K
+begun-count H K = is_count_by (λ K. length (begun H K)) begins (ap length (none-begun H)) (begun-more H) K
+
 -- the title and the lines are the audit
-pub audit_whole : (J : Judging) (n : CallTable) (H events : List Event) (count : ℕ) (slice rows : List SessionRecord) → H ≡ reverse events → count ≡ count_by begins (reverse events) → slice ≡ rows
-    → TellsCalls H n → rows ≡ map (told J) (begun H H) → title (codes "audit") count ++ flat_map (session_line J n) slice ≡ audit J H
-audit_whole J n H events count slice rows h c s t r = rw (c, ← h, s) (ap (λ text. title (codes "audit") (count_by begins H) ++ text) (audit_told J n H rows (numbers_told n H t) r))
-
--- ---- Writing
-
-flat-more : (f : SessionRecord → List ℕ) (xs : List SessionRecord) (i : ℕ) (x : SessionRecord) → i < length xs → x ≡ get_or xs i x → flat_map f (take (i + 1) xs) ≡ flat_map f (take i xs) ++ f x
-flat-more f xs i x l is =
-    let m : take (i + 1) xs ≡ take i xs ++ get_or xs i x ∷ [] = take_more xs i x l in
-    ap (flat_map f) m ∙ flat_map-append f (take i xs) (get_or xs i x ∷ []) ∙ ap (λ ys. flat_map f (take i xs) ++ ys) (append-nil (f (get_or xs i x)) ∙ ap f (sym is))
-
--- one more line was written
-pub session_written : (f : SessionRecord → List ℕ) (xs : List SessionRecord) (i : ℕ) (x : SessionRecord) (old mid new : SinkState) → i < length xs → x ≡ get_or xs i x
-    → Wrote old (flat_map f (take i xs)) (Ok tt) mid → Wrote mid (f x) (Ok tt) new → Wrote old (flat_map f (take (i + 1) xs)) (Ok tt) new
-session_written f xs i x old mid new l is before now = rw (flat-more f xs i x l is) (wrote_more old mid new (flat_map f (take i xs)) (f x) (Ok tt) before now)
-
--- one more line failed
-pub session_failed : (f : SessionRecord → List ℕ) (xs : List SessionRecord) (i : ℕ) (x : SessionRecord) (e : ReportError) (old mid new : SinkState) → i < length xs → x ≡ get_or xs i x
-    → Wrote old (flat_map f (take i xs)) (Ok tt) mid → Wrote mid (f x) (Err e) new → Wrote old (flat_map f xs) (Err e) new
-session_failed f xs i x e old mid new l is before now =
-    let one = wrote_more old mid new (flat_map f (take i xs)) (f x) (Err e) before now in
-    let whole : flat_map f xs ≡ (flat_map f (take i xs) ++ f x) ++ flat_map f (drop (i + 1) xs) =
-    ap (flat_map f) (sym (take-append-drop (i + 1) xs)) ∙ flat_map-append f (take (i + 1) xs) (drop (i + 1) xs) ∙ ap (λ ys. ys ++ flat_map f (drop (i + 1) xs)) (flat-more f xs i x l is) in
-    rw whole (wrote_front old new (flat_map f (take i xs) ++ f x) (flat_map f (drop (i + 1) xs)) e one)
+pub audit_whole : (J : Judging) (n : CallTable) (H : List Event) (slice rows : List SessionRecord) → slice ≡ rows → TellsCalls H n → rows ≡ map (told J) (begun H H)
+    → title (codes "audit") (length slice) ++ flat_map (session_line J n) slice ≡ audit J H
+audit_whole J n H slice rows s t r =
+    rw s (ap₂ (λ count text. title (codes "audit") count ++ text) (ap length r ∙ length-map (begun H H) (told J) ∙ begun-count H H) (audit_told J n H rows (numbers_told n H t) r))

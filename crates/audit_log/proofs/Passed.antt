@@ -17,7 +17,7 @@ use Rattle.audit_log.specs.Requests.{answered_call, pending_call, queue_in, queu
 use Rattle.audit_log.specs.Tasks.{call_of, facts_in, facts_of, task_after, task_facts}
 use Rattle.audit_log.specs.declared.call_pass.CallPass.{CallPass}
 use Rattle.audit_log.specs.declared.tasks.TaskFacts.{TaskFacts}
-use Rattle.audit_log.proofs.Answered.{asked_more, installed_more}
+use Rattle.audit_log.proofs.Answered.{asked_more, installed_more, number_more}
 use Rattle.audit_log.proofs.PlaceRows.{calls_more}
 use Rattle.audit_log.proofs.ReceivedCalls.{names_more, received_more}
 use Rattle.audit_log.proofs.Recorded.{and_false, entries_more, knows_more, tells_more}
@@ -57,6 +57,7 @@ passed_more K e old new t s =
       received = received_more K e old.ids (call_in old.received) (call_in new.received) t.received t.names received.1;
       answers = answered.0;
       answered = installed_more K e old.tasks (record_in old.entered) (queue_in old.requests) (call_in old.answered) (call_in new.answered) t.answered t.tells t.knows t.asked answered.1;
+      number = number_more K e old.tasks (record_in old.entered) (queue_in old.requests) old.answered.places.items new.answered.places.items t.number t.tells t.knows t.asked s.answers;
     }
 
 -- ---- A step that concerns no call

@@ -1,17 +1,19 @@
 -- The records of a history tell of its calls: one more event changes the record of its task's newest call alone, or adds its own.
 -- By cases on whether the event is the last one, and by `newest_own`: the newest call of a task is its own.
-use Rattle.std.proofs.Common.{◌≡◌, inl, inr, ℕ, suc, ◌+◌, ◌<◌, ◌≤◌, Bool, true, false, ◌&&◌, List, [], ◌∷◌, ◌++◌, length, get_or, Option, Some, None, refl, sym, ap, ap₂, ◌∙◌, subst, append_assoc, arith}
-use Rattle.std.specs.Prelude.{◌==◌, if◌then◌else◌, Result, Ok, Err, OnOk}
+use Rattle.std.proofs.Common.{◌≡◌, inl, inr, ℕ, suc, ◌+◌, ◌<◌, ◌≤◌, Bool, true, false, ◌&&◌, cond, List, [], ◌∷◌, ◌++◌, length, get_or, Option, Some, None, refl, sym, ap, ap₂, ◌∙◌, subst, append_assoc, append-nil, arith}
+use Rattle.std.specs.Prelude.{◌==◌, if◌then◌else◌, Result, Ok, Err, OnOk, codes, count_by}
+use Rattle.std.specs.List.{flat_map}
 use Rattle.sys_abi.specs.declared.memory.NoMemory.{NoMemory}
 use Rattle.std.proofs.lemmas.Bool.{and_parts, cases_Bool, eqb-true, eq-eqb, ne_eqb}
 use Rattle.std.proofs.lemmas.List.{length-append, get_or_at, get_or_append_left, get_or-set_other}
 use Rattle.std.proofs.Math.ListN.{length-set}
-use Rattle.std.proofs.lemmas.Grind.{get_or-set_at}
-use Rattle.hist_model.specs.Look.{Name, name_eq, is_task, is_place, task_name}
+use Rattle.std.proofs.lemmas.Grind.{flat_map-append, get_or-set_at}
+use Rattle.std.proofs.lemmas.List.Recursion.{is_count_by}
+use Rattle.hist_model.specs.Look.{Name, event_at, name_eq, is_task, is_place, task_name}
 use Rattle.hist_model.specs.Kinds.{enters}
-use Rattle.hist_model.specs.ReportJournal.{lines_of}
+use Rattle.hist_model.specs.ReportJournal.{lines_of, title}
 use Rattle.hist_model.specs.ReportAudit.{installed, number_given}
-use Rattle.hist_model.specs.ReportCalls.{is_pending, call_line, call_line_by, first_pid, newest_call, outcome, outcome_by, outcome_next, outcome_step}
+use Rattle.hist_model.specs.ReportCalls.{calls, is_pending, call_line, call_line_by, first_pid, newest_call, outcome, outcome_by, outcome_next, outcome_step}
 use Rattle.hist_model.specs.declared.event.Actor.{Actor}
 use Rattle.hist_model.specs.declared.event.Actor.TheVariants.{Start, Task, Worker, Listener}
 use Rattle.hist_model.specs.declared.event.Event.{Event}
@@ -19,15 +21,15 @@ use Rattle.hist_model.specs.declared.event.What.{What}
 use Rattle.hist_model.specs.declared.event.What.TheVariants.{Deliver, Enter, Install, Native, Resume}
 use Rattle.hist_model.specs.declared.report.Outcome.{Outcome}
 use Rattle.hist_model.specs.declared.report.Outcome.TheVariants.{Open}
-use Rattle.hist_model.proofs.Look.{name_eq-true, name_eq-refl}
+use Rattle.hist_model.proofs.Look.{event_at-above, event_at-here, event_at-older, name_eq-true, name_eq-refl}
 use Rattle.audit_log.specs.Tasks.{Knows, call_of, facts_in, facts_of, task_facts, task_after}
 use Rattle.audit_log.specs.Places.{AreOrdered, Rise, row_in}
-use Rattle.audit_log.specs.Records.{HasEntries, Tells, advanced, entries, first_record, moves, no_record, placed, record_after, record_in, record_of, record_of_row, recorded, recorded_by, recorded_line, row_at}
+use Rattle.audit_log.specs.Records.{HasEntries, Tells, advanced, entries, first_record, line_at, line_of, moves, no_record, placed, record_after, record_in, record_of, record_of_row, recorded, recorded_by, recorded_line, row_at}
 use Rattle.audit_log.specs.declared.records.CallRecord.{CallRecord}
 use Rattle.audit_log.specs.declared.records.CallRecords.{CallRecords}
 use Rattle.audit_log.specs.declared.tasks.TaskFacts.{TaskFacts}
 use Rattle.audit_log.specs.declared.tasks.TaskRecords.{TaskRecords}
-use Rattle.audit_log.proofs.PlaceRows.{none_ordered, ordered_more, ordered_push, past_row, row_has, row_kept, row_last}
+use Rattle.audit_log.proofs.PlaceRows.{found_row, none_ordered, ordered_more, ordered_push, past_row, row_has, row_kept, row_last}
 use Rattle.audit_log.proofs.Newest.{FindsNewest, elsewhere, newest_not_past, newest_passes}
 
 -- what is kept of a task, with one more event
@@ -286,7 +288,7 @@ lines_told t H later (e ∷ K) tells h =
     let q : H ≡ (later ++ e ∷ []) ++ K = h ∙ sym (append_assoc later (e ∷ []) K) in
     ap₂ (λ text line. text ++ line) (lines_told t H (later ++ e ∷ []) K tells q) (line-same t H K e (tells later K e h))
 
-pub lines_same : (t : CallRecords) (H : List Event) → Tells H (record_in t) → lines_of (recorded_line t) H ≡ lines_of (call_line H) H
+lines_same : (t : CallRecords) (H : List Event) → Tells H (record_in t) → lines_of (recorded_line t) H ≡ lines_of (call_line H) H
 lines_same t H tells = lines_told t H [] H tells refl
 
 -- of no event
@@ -306,3 +308,70 @@ knows_more K e old new k h = λ n. h n ∙ ap (task_after (length K) e n) (k n) 
 pub where_ok : {A B : Type 0} (r : Result (Unit {0}) NoMemory) → (A → B) → OnOk r A → OnOk r B
 where_ok (Err e) f a = tt
 where_ok (Ok u) f a = f a
+
+-- ---- The calls that were entered
+
+-- as many as events enter one
+entries-more : (e : Event) (K : List Event) → length (entries (e ∷ K)) ≡ cond (enters e.what) (1 + length (entries K)) (length (entries K))
+unfolding entries
+entries-more e K = by (enters e.what)
+  where
+    by : (b : Bool) → length (if b then entries K ++ length K ∷ [] else entries K) ≡ cond b (1 + length (entries K)) (length (entries K))
+    by true = let s : length (entries K ++ length K ∷ []) ≡ length (entries K) + 1 = length-append (entries K) (length K ∷ []) in omega arith
+    by false = refl
+
+entries-count : (K : List Event) → length (entries K) ≡ count_by (λ e. enters e.what) K
+entries-count K = is_count_by (λ K. length (entries K)) (λ (e : Event). enters e.what) (ap length none_entered) entries-more K
+
+pub entries_counted : (K : List Event) (t : CallRecords) → HasEntries K t → length t.places.items ≡ count_by (λ e. enters e.what) K
+entries_counted K t h = ap length h.places ∙ entries-count K
+
+-- an event that enters no call has no line
+no-line : (r : CallRecord) (place : ℕ) (who : Actor) (a : What) → enters a ≡ false → recorded_by r place who a ≡ []
+no-line r place who (Enter nr args verdict) h = cc
+no-line r place who _ h = refl
+
+event-there : (later K : List Event) (e : Event) → event_at (later ++ e ∷ K) (length K) ≡ Some e
+event-there [] K e = event_at-here e K
+event-there (x ∷ later) K e =
+    let l : length (later ++ e ∷ K) ≡ length later + length (e ∷ K) = length-append later (e ∷ K) in
+    event_at-older x (later ++ e ∷ K) (length K) (omega arith) ∙ event-there later K e
+
+lines-entered : (t : CallRecords) (H later K : List Event) → H ≡ later ++ K → lines_of (recorded_line t) K ≡ flat_map (line_at t H) (entries K)
+unfolding lines_of entries
+lines-entered t H later [] h = refl
+lines-entered t H later (e ∷ K) h =
+    let q : H ≡ (later ++ e ∷ []) ++ K = h ∙ sym (append_assoc later (e ∷ []) K) in
+    let there : line_at t H (length K) ≡ recorded_line t K e = ap (line_of t (length K)) (ap (λ x. event_at x (length K)) h ∙ event-there later K e) in
+    ap (λ xs. xs ++ recorded_line t K e) (lines-entered t H (later ++ e ∷ []) K q) ∙ by (enters e.what) refl there
+  where
+    by : (b : Bool) → enters e.what ≡ b → line_at t H (length K) ≡ recorded_line t K e
+        → flat_map (line_at t H) (entries K) ++ recorded_line t K e ≡ flat_map (line_at t H) (if b then entries K ++ length K ∷ [] else entries K)
+    by true q there =
+        ap (λ xs. flat_map (line_at t H) (entries K) ++ xs) (sym there ∙ sym (append-nil (line_at t H (length K))))
+        ∙ sym (flat_map-append (line_at t H) (entries K) (length K ∷ []))
+    by false q there =
+        ap (λ xs. flat_map (line_at t H) (entries K) ++ xs) (no-line (record_in t (length K)) (length K) e.who e.what q)
+        ∙ append-nil (flat_map (line_at t H) (entries K))
+
+-- the title and the lines of the rows are the calls
+pub calls_whole : (t : CallRecords) (H : List Event) (count : ℕ) → HasEntries H t → Tells H (record_in t) → count ≡ length t.places.items
+    → title (codes "calls") count ++ flat_map (line_at t H) t.places.items ≡ calls H
+calls_whole t H count h tells c =
+    ap₂ (λ n text. title (codes "calls") n ++ text) (c ∙ entries_counted H t h)
+    (ap (flat_map (line_at t H)) h.places ∙ sym (lines-entered t H [] H refl) ∙ lines_same t H tells)
+
+-- the line of the call in a row
+pub row_line : (t : CallRecords) (H : List Event) (row : ℕ) (e : Event) (r : CallRecord) → Rise t.places.items → row < length t.places.items
+    → event_at H (get_or t.places.items row 0) ≡ Some e → r ≡ record_of_row t.records.items (Some row)
+    → recorded_by r (get_or t.places.items row 0) e.who e.what ≡ line_at t H (get_or t.places.items row 0)
+row_line t H row e r rise l at is =
+    let place = get_or t.places.items row 0 in
+    ap (λ x. recorded_by x place e.who e.what) (is ∙ ap (record_of_row t.records.items) (sym (found_row t.places.items place row rise l refl)))
+    ∙ sym (ap (line_of t place) at)
+
+-- there is none past the history
+pub no_row_line : (t : CallRecords) (H : List Event) (row : ℕ) (line : List ℕ) → length H ≤ get_or t.places.items row 0 → line ≡ line ++ line_at t H (get_or t.places.items row 0)
+no_row_line t H row line l =
+    let place = get_or t.places.items row 0 in
+    sym (ap (λ xs. line ++ xs) (ap (line_of t place) (event_at-above H place l)) ∙ append-nil line)

@@ -6,7 +6,7 @@ use Rattle.hist_model.specs.declared.event.What.TheVariants.{AddfdPut, Deliver, 
 use Rattle.audit_log.specs.Places.{AreOrdered, call_in}
 use Rattle.audit_log.specs.Received.{Names, TellsReceived}
 use Rattle.audit_log.specs.Records.{HasEntries, Tells, record_in}
-use Rattle.audit_log.specs.Requests.{TellsInstalled, TellsRequests, queue_in}
+use Rattle.audit_log.specs.Requests.{AnswersAre, TellsInstalled, TellsRequests, queue_in}
 use Rattle.audit_log.specs.Tasks.{Knows}
 use Rattle.audit_log.specs.declared.call_pass.CallPass.{CallPass}
 
@@ -21,6 +21,7 @@ pub record TellsPast (K : List Event) (p : CallPass) : Type 0 where
   pub received : TellsReceived K (call_in p.received)
   pub answers : AreOrdered (length K) p.answered.places.items (length p.answered.calls.items)
   pub answered : TellsInstalled K (call_in p.answered)
+  pub number : AnswersAre K (length p.answered.places.items)
 
 -- a step may tell something of a call
 abbrev pub concerns_calls : What → Bool

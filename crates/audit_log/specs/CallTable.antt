@@ -8,7 +8,7 @@ use Rattle.hist_model.specs.declared.event.What.TheVariants.{Recv}
 use Rattle.audit_log.specs.Places.{call_in}
 use Rattle.audit_log.specs.Received.{TellsReceived}
 use Rattle.audit_log.specs.Records.{HasEntries, Tells, number_at, record_in}
-use Rattle.audit_log.specs.Requests.{TellsInstalled}
+use Rattle.audit_log.specs.Requests.{AnswersAre, TellsInstalled}
 use Rattle.audit_log.specs.declared.call_table.CallTable.{CallTable}
 
 -- what is kept is so of the history
@@ -17,6 +17,7 @@ pub record TellsCalls (H : List Event) (t : CallTable) : Type 0 where
   pub records : Tells H (record_in t.entered)
   pub received : TellsReceived H (call_in t.received)
   pub answered : TellsInstalled H (call_in t.answered)
+  pub number : AnswersAre H (length t.answered.places.items)
 
 -- the number for the call of the notification that the event at a place received
 abbrev pub number_in : CallTable → ℕ → Option ℕ

@@ -1,12 +1,18 @@
 -- The counts that a summary tells of a history, those of several histories together, and how they are written.
-use Rattle.std.specs.Prelude.{ℕ, ◌+◌, ◌++◌, List, length, codes, decimal, count_by}
-use Rattle.hist_model.specs.Kinds.{notifies, enters}
+use Rattle.std.specs.Prelude.{◌≡◌, ℕ, ◌+◌, ◌++◌, List, length, codes, decimal, count_by}
+use Rattle.hist_model.specs.Kinds.{notifies, enters, is_sent}
 use Rattle.hist_model.specs.Report.{audits, denies, faults, grants, injects, is_gone_session, loses, passes}
 use Rattle.hist_model.specs.ReportAudit.{Judging}
 use Rattle.hist_model.specs.ReportRequests.{answer_count}
 use Rattle.hist_model.specs.declared.event.Event.{Event}
 use Rattle.hist_model.specs.declared.report.Audit.{Audit}
+use Rattle.audit_log.specs.declared.count.EventCounts.{EventCounts}
 use Rattle.audit_log.specs.declared.summary.Counts.{Counts}
+
+-- what is counted while the events are gone through is so of these events
+pub record AreCounted (K : List Event) (c : EventCounts) : Type 0 where
+  pub notified : c.notified ≡ count_by (λ e. notifies e.what) K
+  pub sent : c.sent ≡ count_by (λ e. is_sent e.what) K
 
 -- those of a history whose sessions came to these
 abbrev pub counted : List Event → List Audit → Counts

@@ -3,6 +3,7 @@ use Rattle.std.specs.Prelude.{List}
 use Rattle.hist_model.specs.declared.event.Event.{Event}
 use Rattle.hist_model.specs.declared.policy.Rule.{Rule}
 use Rattle.audit_log.specs.CallPass.{TellsPast}
+use Rattle.audit_log.specs.Counts.{AreCounted}
 use Rattle.audit_log.specs.Sessions.{begun}
 use Rattle.audit_log.specs.SessionTable.{StandsFor}
 use Rattle.audit_log.specs.declared.tables.Pass.{Pass}
@@ -11,3 +12,4 @@ use Rattle.audit_log.specs.declared.tables.Pass.{Pass}
 pub record HasPast (rules : List Rule) (K : List Event) (p : Pass) : Type 0 where
   pub calls : TellsPast K p.calls
   pub sessions : StandsFor rules (begun K K) p.sessions
+  pub counts : AreCounted K p.counts

@@ -2,7 +2,7 @@
 -- was installed for it.
 use Rattle.std.specs.Prelude.{◌≡◌, ℕ, Bool, true, false, if◌then◌else◌, List, ◌∷◌, ◌++◌, [], length, get_or, set, Option, Some, None}
 use Rattle.hist_model.specs.Kinds.{enters}
-use Rattle.hist_model.specs.Look.{task_name}
+use Rattle.hist_model.specs.Look.{event_at, task_name}
 use Rattle.hist_model.specs.ReportCalls.{call_line_of, first_pid, or_zero, outcome, outcome_at_entry, outcome_next, is_pending}
 use Rattle.hist_model.specs.ReportAudit.{installed, number_given}
 use Rattle.hist_model.specs.declared.event.Actor.{Actor}
@@ -100,3 +100,11 @@ recorded_by r place who _ = []
 
 abbrev pub recorded_line : CallRecords → List Event → Event → List ℕ
 recorded_line t K e = recorded_by (record_in t (length K)) (length K) e.who e.what
+
+-- the line of the event at a place, if there is one
+abbrev pub line_of : CallRecords → ℕ → Option Event → List ℕ
+line_of t place None = []
+line_of t place (Some e) = recorded_by (record_in t place) place e.who e.what
+
+abbrev pub line_at : CallRecords → List Event → ℕ → List ℕ
+line_at t H place = line_of t place (event_at H place)

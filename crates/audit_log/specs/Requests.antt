@@ -1,15 +1,15 @@
 -- What is kept of requests for descriptors while the events are gone through: those of each call that have no installation yet, the oldest
 -- first, each by whether it has SEND.
-use Rattle.std.specs.Prelude.{◌≡◌, ℕ, Bool, true, false, ◌&&◌, if◌then◌else◌, List, [], ◌∷◌, ◌++◌, Option, Some, None, Ok}
+use Rattle.std.specs.Prelude.{◌≡◌, ℕ, ◌+◌, Bool, true, false, ◌&&◌, if◌then◌else◌, List, [], ◌∷◌, ◌++◌, Option, Some, None, Ok, count_by}
 use Rattle.std.specs.BTreeMap.{get}
 use Rattle.std.specs.Global.{Global}
 use Rattle.std.specs.Ordering.{nat_cmp}
 use Rattle.std.specs.declared.collections.VecDeque.{VecDeque}
 use Rattle.hist_model.specs.Calls.{caller, id}
-use Rattle.hist_model.specs.Kinds.{gave, has_send_flag}
+use Rattle.hist_model.specs.Kinds.{gave, has_send_flag, is_sent}
 use Rattle.hist_model.specs.Look.{is_place, task_name}
 use Rattle.hist_model.specs.ReportCalls.{is_pending, newest_call}
-use Rattle.hist_model.specs.ReportRequests.{first_has_send, installs_for_send, requests, without_first}
+use Rattle.hist_model.specs.ReportRequests.{answer_count, first_has_send, installs_for_send, requests, without_first}
 use Rattle.hist_model.specs.declared.event.Event.{Event}
 use Rattle.hist_model.specs.declared.event.What.{What}
 use Rattle.hist_model.specs.declared.event.What.TheVariants.{AddfdPut, Install}
@@ -60,6 +60,10 @@ installed_for K e = if gave e.what && installs_for_send K e (newest_call (task_n
 -- the calls that are answered so, by the place of the event that answers them
 abbrev pub TellsInstalled : List Event → (ℕ → Option ℕ) → Type 0
 TellsInstalled H calls = ByPlace installed_for H calls
+
+-- so many calls are answered so: each other answer was sent and taken
+abbrev pub AnswersAre : List Event → ℕ → Type 0
+AnswersAre H n = answer_count H ≡ count_by (λ e. is_sent e.what) H + n
 
 -- the requests at place c with one more step, where an installation is one for this call, by the call that each id names
 abbrev pub queued : What → Option ℕ → (ℕ → Option ℕ) → ℕ → List Bool → List Bool

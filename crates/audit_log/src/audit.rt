@@ -1,6 +1,6 @@
 //! The audit: a line for each session.
 
-ghost use Rattle.std.specs.Prelude.{◌≡◌, ◌++◌, ◌||◌, OnOk, codes, decimal, is_some};
+ghost use Rattle.std.specs.Prelude.{◌≡◌, ◌++◌, ◌||◌, OnOk, codes, decimal, is_some, length};
 ghost use Rattle.std.specs.List.{flat_map};
 ghost use Rattle.hist_model.specs.Decisions.{rule_name};
 ghost use Rattle.hist_model.specs.ReportJournal.{title};
@@ -10,10 +10,9 @@ ghost use Rattle.audit_log.specs.Audited.{audited, named, session_line};
 ghost use Rattle.audit_log.specs.Written.{Wrote};
 
 use crate::call_table::CallTable;
-use crate::count::begun;
 use crate::error::ReportError;
 use crate::line::LineBuffer;
-use crate::part::{write_line, write_title};
+use crate::part::{write_if_many, write_line, write_title};
 use crate::report::Report;
 use crate::session::SessionRecord;
 use crate::session_facts::Facts;
@@ -31,13 +30,11 @@ impl Report<'_> {
     pub(crate) fn write_audit<O: Sink>(&self, alloc: Global, out: &mut O) -> Result<(), ReportError>
         ensures { Wrote (O.state out.old) (audit (judging_by self.now.policy.now.rules) self.now.history.now.events) result (O.state out.new) }
     {
-        let events = self.history.events();
         let mut line = LineBuffer::new(alloc);
         write_titled(
             self.policy,
             &self.tables.calls,
             self.tables.sessions.as_slice(),
-            begun(events),
             &mut line,
             out,
         )
@@ -49,13 +46,12 @@ fn write_titled<O: Sink>(
     policy: &Policy,
     calls: &CallTable,
     sessions: &[SessionRecord],
-    count: usize,
     line: &mut LineBuffer,
     out: &mut O,
 ) -> Result<(), ReportError>
-    ensures { Wrote (O.state out.old) (title (codes "audit") count ++ flat_map (session_line (judging_by policy.now.rules) calls.now) sessions.now) result (O.state out.new) }
+    ensures { Wrote (O.state out.old) (title (codes "audit") (length sessions.now) ++ flat_map (session_line (judging_by policy.now.rules) calls.now) sessions.now) result (O.state out.new) }
 {
-    write_title(line, "audit", count, out)?;
+    write_title(line, "audit", sessions.len(), out)?;
     write_sessions(policy, calls, sessions, line, out)
 }
 
@@ -69,27 +65,26 @@ fn write_sessions<O: Sink>(
 ) -> Result<(), ReportError>
     ensures { Wrote (O.state out.old) (flat_map (session_line (judging_by policy.now.rules) calls.now) sessions.now) result (O.state out.new) }
 {
+    line.clear();
     for row in 0..sessions.len() {
-        write_session(policy, calls, &sessions[row], row, line, out)?;
+        push_row(line, policy, calls, &sessions[row], row)?;
+        write_if_many(line, out)?;
     }
-    Ok(())
+    write_line(line, out)
 }
 
-/// Writes the line of a session, which has this row.
-fn write_session<O: Sink>(
+/// Adds the line of a session, which has this row.
+fn push_row(
+    line: &mut LineBuffer,
     policy: &Policy,
     calls: &CallTable,
     session: &SessionRecord,
     row: usize,
-    line: &mut LineBuffer,
-    out: &mut O,
-) -> Result<(), ReportError>
-    ensures { Wrote (O.state out.old) (session_line (judging_by policy.now.rules) calls.now session.now) result (O.state out.new) }
+) -> Result<(), NoMemory>
+    ensures { OnOk result (line.new ≡ line.old ++ session_line (judging_by policy.now.rules) calls.now session.now) }
 {
-    line.clear();
     let number = calls.number_received(session.place, row);
-    push_session(line, policy, session, number)?;
-    write_line(line, out)
+    push_session(line, policy, session, number)
 }
 
 /// What was sent, else the number that was installed.

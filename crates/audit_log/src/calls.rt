@@ -1,17 +1,20 @@
 //! The calls: a line for each call that a task entered.
 
-ghost use Rattle.std.specs.Prelude.{◌≡◌, ◌++◌, OnOk};
+ghost use Rattle.std.specs.Prelude.{◌≡◌, ◌<◌, ◌++◌, OnOk, get_or, length};
+ghost use Rattle.std.specs.List.{flat_map};
 ghost use Rattle.hist_model.specs.ReportCalls.{call_line_of, calls, outcome_text};
+ghost use Rattle.audit_log.specs.Places.{Rise};
+ghost use Rattle.audit_log.specs.Records.{line_at, recorded_by};
 ghost use Rattle.audit_log.specs.Written.{Wrote};
 
-use crate::call_table::CallTable;
-use crate::count::entered;
 use crate::error::ReportError;
 use crate::line::LineBuffer;
-use crate::part::{Part, write_part};
+use crate::part::{write_if_many, write_line, write_title};
+use crate::records::{CallRecord, CallRecords};
 use crate::report::Report;
 use crate::words::{push_actor, push_call, push_errno};
 use hist_model::event::{Actor, Event, What};
+use hist_model::history::History;
 use hist_model::report::Outcome;
 use io_edge::sink::Sink;
 use std::alloc::Global;
@@ -19,46 +22,71 @@ use sys_abi::memory::NoMemory;
 
 impl Report<'_> {
     /// Writes the calls.
-    #[tactic(auto, using(crate::proofs::Recorded::lines_same))]
     pub(crate) fn write_calls<O: Sink>(&self, alloc: Global, out: &mut O) -> Result<(), ReportError>
         ensures { Wrote (O.state out.old) (calls self.now.history.now.events) result (O.state out.new) }
     {
-        let events = self.history.events();
-        let part = Calls {
-            calls: &self.tables.calls,
-        };
-        write_part(alloc, &part, "calls", entered(events), events, out)
+        let entered = &self.tables.calls.entered;
+        let mut line = LineBuffer::new(alloc);
+        write_title(&mut line, "calls", entered.places.len(), out)?;
+        write_entered(entered, self.history, &mut line, out)
     }
 }
 
-/// The calls as a part of the report.
-#[derive(Drop)]
-struct Calls<'a> {
-    calls: &'a CallTable,
+/// Writes the lines of the calls that were entered, from the oldest on. The other events have none, and aren't looked at.
+fn write_entered<O: Sink>(
+    entered: &CallRecords,
+    history: &History,
+    line: &mut LineBuffer,
+    out: &mut O,
+) -> Result<(), ReportError>
+    requires { Rise entered.now.places.items }
+    ensures { Wrote (O.state out.old) (flat_map (line_at entered.now history.now.events) entered.now.places.items) result (O.state out.new) }
+{
+    line.clear();
+    for row in 0..entered.places.len() {
+        push_row(line, entered, history, row)?;
+        write_if_many(line, out)?;
+    }
+    write_line(line, out)
 }
 
-impl Part for Calls<'_> {
-    ghost use Rattle.audit_log.specs.Records.{recorded_line};
+/// Adds the line of the call in a row.
+fn push_row(
+    line: &mut LineBuffer,
+    entered: &CallRecords,
+    history: &History,
+    row: usize,
+) -> Result<(), NoMemory>
+    requires within { row < length entered.now.places.items }
+    requires rise { Rise entered.now.places.items }
+    ensures { OnOk result (line.new ≡ line.old ++ line_at entered.now history.now.events (get_or entered.now.places.items row 0)) }
+{
+    let place = entered.places[row];
+    match history.get(place) {
+        Some(event) => push_recorded(line, place, event, entered.record_of(Some(row))),
+        None => Ok(()),
+    }
+}
 
-    ghost text = { λ c. recorded_line c.calls.now.entered };
-
-    #[inline(always)]
-    #[tactic(auto, using(crate::proofs::Past::length_past))]
-    fn push_line(
-        &self,
-        line: &mut LineBuffer,
-        before: &[Event],
-        event: &Event,
-    ) -> Result<(), NoMemory> {
-        let place = before.len();
-        match &event.what {
-            What::Enter { nr, .. } => {
-                let record = self.calls.entered.record_at(place);
-                let pid = record.pid.unwrap_or(0);
-                push_call_line(line, place, &event.who, pid, *nr, record.outcome)
-            }
-            _ => Ok(()),
-        }
+/// Adds the line of the call that an event enters, by what is kept of it; nothing where it enters none.
+fn push_recorded(
+    line: &mut LineBuffer,
+    place: usize,
+    event: &Event,
+    kept: CallRecord,
+) -> Result<(), NoMemory>
+    ensures { OnOk result (line.new ≡ line.old ++ recorded_by kept place event.now.who event.now.what) }
+{
+    match &event.what {
+        What::Enter { nr, .. } => push_call_line(
+            line,
+            place,
+            &event.who,
+            kept.pid.unwrap_or(0),
+            *nr,
+            kept.outcome,
+        ),
+        _ => Ok(()),
     }
 }
 

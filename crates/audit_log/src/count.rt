@@ -1,11 +1,13 @@
 //! Counts of events, and of what sessions came to.
 
-ghost use Rattle.std.specs.Prelude.{◌≡◌, count_by, reverse};
-ghost use Rattle.hist_model.specs.Kinds.{notifies, enters};
-ghost use Rattle.hist_model.specs.ReportAudit.{begins};
+ghost use Rattle.std.specs.Prelude.{◌≡◌, ◌+◌, ◌<◌, ◌∷◌, [], List, length, count_by, min, if◌then◌else◌};
+ghost use Rattle.hist_model.specs.Kinds.{enters, notifies};
 ghost use Rattle.hist_model.specs.Report.{denies, faults, grants, injects, is_gone_session, loses, passes};
+ghost use Rattle.hist_model.specs.declared.event.Event.{Event};
+ghost use Rattle.audit_log.specs.Counts.{AreCounted};
 
-use hist_model::event::{Actor, Entered, Event, What};
+use crate::session_facts::is_sent;
+use hist_model::event::{Entered, Event, What};
 use hist_model::report::{Arrival, Audit, Finding};
 
 /// Whether the step enters a call.
@@ -13,13 +15,6 @@ pub(crate) fn enters(what: &What) -> bool
     ensures { result ≡ enters what.now }
 {
     matches!(what, What::Enter { .. })
-}
-
-/// How many calls were entered.
-pub(crate) fn entered(events: &[Event]) -> usize
-    ensures { result ≡ count_by (λ e. enters e.what) (reverse events.now) }
-{
-    events.iter().filter(|event| enters(&event.what)).count()
 }
 
 /// Whether the step enters a listed call.
@@ -35,28 +30,40 @@ fn notifies(what: &What) -> bool
     )
 }
 
-/// How many calls were listed.
-pub(crate) fn notified(events: &[Event]) -> usize
-    ensures { result ≡ count_by (λ e. notifies e.what) (reverse events.now) }
+/// One more, where there is one.
+fn one_if(count: usize, more: bool) -> usize
+    ensures { result ≡ (if more then min (count + 1) usize.MAX else count) }
 {
-    events.iter().filter(|event| notifies(&event.what)).count()
+    if more { count.saturating_add(1) } else { count }
 }
 
-/// Whether the event begins a session.
-fn begins(event: &Event) -> bool
-    ensures { result ≡ begins event.now }
-{
-    matches!(
-        (&event.who, &event.what),
-        (Actor::Worker(_), What::Recv { answer: Ok(_) })
-    )
+/// What is counted while the events are gone through.
+#[derive(Clone, Copy, PartialEq, Eq, Debug)]
+pub(crate) struct EventCounts {
+    /// The calls that were listed.
+    pub(crate) notified: usize,
+    /// The answers that were sent and taken.
+    pub(crate) sent: usize,
 }
 
-/// How many sessions were begun.
-pub(crate) fn begun(events: &[Event]) -> usize
-    ensures { result ≡ count_by begins (reverse events.now) }
-{
-    events.iter().filter(|event| begins(event)).count()
+impl EventCounts {
+    /// Before all events.
+    pub(crate) fn none() -> EventCounts
+        ensures { AreCounted [] result }
+    {
+        EventCounts {
+            notified: 0,
+            sent: 0,
+        }
+    }
+
+    /// One more event.
+    pub(crate) fn add(&mut self, event: &Event)
+        ensures { (K : List Event) → length K < usize.MAX → AreCounted K self.old → AreCounted (event.now ∷ K) self.new }
+    {
+        self.notified = one_if(self.notified, notifies(&event.what));
+        self.sent = one_if(self.sent, is_sent(&event.what));
+    }
 }
 
 fn grants(finding: Finding) -> bool

@@ -1,9 +1,10 @@
 //! The report of a history: its journal, its calls, the audit of its sessions, and a summary.
 //!
-//! The writers' model is the text that `hist_model` defines for any list of events. Each writes its part to a sink, line by
-//! line, one write for each; after any error the sink took a prefix of that part. What the calls, the audit and the summary
-//! have in common is found once (`tables`), also for who writes more of the same history: in one pass over the events, which keeps
-//! what came of the calls (`call_table`) and of the sessions (`session_table`). Which session a call had is told by both (`served`).
+//! The writers' model is the text that `hist_model` defines for any list of events. Each writes its part to a sink, and gathers
+//! lines until a write is worth its cost (`part`); after any error the sink took a prefix of that part. What the calls, the audit
+//! and the summary have in common is found once (`tables`), also for who writes more of the same history: in one pass over the
+//! events, which counts them (`count`), and keeps what came of the calls (`call_table`) and of the sessions (`session_table`).
+//! Which session a call had is told by both (`served`).
 //!
 //! A worker is in one session at most, so one more event changes what is kept of one session at most (`session`): what its
 //! steps tell (`session_facts`), where they stand (`session_stages`), and what the policy makes of what was read in it

@@ -1,8 +1,8 @@
 //! The parts of a report that have a line for some of the events.
 
-ghost use Rattle.std.specs.Prelude.{◌≡◌, ◌++◌, OnOk, reverse};
+ghost use Rattle.std.specs.Prelude.{◌≡◌, ◌++◌, OnErr, OnOk, length, nat_le, reverse};
 ghost use Rattle.hist_model.specs.ReportJournal.{lines_of, title};
-ghost use Rattle.audit_log.specs.Written.{Wrote};
+ghost use Rattle.audit_log.specs.Written.{Gathered, Wrote};
 
 use crate::error::ReportError;
 use crate::line::LineBuffer;
@@ -41,6 +41,30 @@ pub fn write_line<O: Sink>(line: &LineBuffer, out: &mut O) -> Result<(), ReportE
     Ok(())
 }
 
+/// How many bytes of lines are gathered before they are written.
+const GATHERED: usize = 4096;
+
+/// Whether the lines that were gathered are worth a write.
+fn are_many(lines: &LineBuffer) -> bool
+    ensures { result ≡ nat_le 4096 (length lines.now) }
+{
+    lines.bytes().len() >= GATHERED
+}
+
+/// Writes the lines that were gathered, once they are many, and keeps them otherwise.
+#[inline(always)]
+pub(crate) fn write_if_many<O: Sink>(lines: &mut LineBuffer, out: &mut O) -> Result<(), ReportError>
+    ensures gathered { OnOk result (Gathered (O.state out.old) lines.old lines.new (O.state out.new)) }
+    ensures failed { OnErr result (Wrote (O.state out.old) lines.old result (O.state out.new)) }
+{
+    if !are_many(lines) {
+        return Ok(());
+    }
+    write_line(lines, out)?;
+    lines.clear();
+    Ok(())
+}
+
 /// Adds the title of a part that has so many lines.
 fn push_title(line: &mut LineBuffer, word: &str, count: usize) -> Result<(), NoMemory>
     ensures { OnOk result (line.new ≡ line.old ++ title word.now count) }
@@ -65,22 +89,7 @@ pub(crate) fn write_title<O: Sink>(
     write_line(line, out)
 }
 
-/// Writes the line of the event that comes after `before`.
-fn write_event<P: Part, O: Sink>(
-    part: &P,
-    line: &mut LineBuffer,
-    before: &[Event],
-    event: &Event,
-    out: &mut O,
-) -> Result<(), ReportError>
-    ensures { Wrote (O.state out.old) (P.text part.now (reverse before.now) event.now) result (O.state out.new) }
-{
-    line.clear();
-    part.push_line(line, before, event)?;
-    write_line(line, out)
-}
-
-/// Writes the lines of the events, from the oldest on.
+/// Writes the lines of the events, from the oldest on, many lines at a time.
 pub fn write_lines<P: Part, O: Sink>(
     part: &P,
     line: &mut LineBuffer,
@@ -89,10 +98,12 @@ pub fn write_lines<P: Part, O: Sink>(
 ) -> Result<(), ReportError>
     ensures { Wrote (O.state out.old) (lines_of (P.text part.now) (reverse events.now)) result (O.state out.new) }
 {
+    line.clear();
     for place in 0..events.len() {
-        write_event(part, line, &events[..place], &events[place], out)?;
+        part.push_line(line, &events[..place], &events[place])?;
+        write_if_many(line, out)?;
     }
-    Ok(())
+    write_line(line, out)
 }
 
 /// Writes a part: its title, with the number of its lines, and its lines.

@@ -98,7 +98,7 @@ impl CallRecords {
     }
 
     /// The record in a row, if there is one.
-    fn record_of(&self, row: Option<usize>) -> CallRecord
+    pub(crate) fn record_of(&self, row: Option<usize>) -> CallRecord
         ensures { result ≡ record_of_row self.now.records.items row }
     {
         let Some(row) = row else {

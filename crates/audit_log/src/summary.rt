@@ -1,25 +1,22 @@
 //! The summary: one line of counts.
 
-ghost use Rattle.std.specs.Prelude.{◌≡◌, ◌+◌, ◌++◌, ◌∷◌, [], IfOk, OnOk, decimal, map, reverse};
+ghost use Rattle.std.specs.Prelude.{◌≡◌, ◌+◌, ◌++◌, ◌∷◌, [], IfOk, OnOk, decimal, map};
 ghost use Rattle.hist_model.specs.ReportAudit.{judging_by};
 ghost use Rattle.hist_model.specs.Report.{audits, summary};
 ghost use Rattle.audit_log.specs.Audited.{audited};
 ghost use Rattle.audit_log.specs.CallTable.{number_in};
 ghost use Rattle.audit_log.specs.Counts.{counted, counts_of, counts_words, event_words, finding_words, no_counts, plus, summary_words};
-ghost use Rattle.audit_log.specs.Places.{call_in};
-ghost use Rattle.audit_log.specs.Requests.{TellsInstalled};
 ghost use Rattle.audit_log.specs.Written.{Wrote};
 
-use crate::answer::answered;
 use crate::audit::{answer, arrival};
 use crate::call_table::CallTable;
-use crate::count::{denied, entered, faulty, gone, granted, injected, lost, notified, passed};
+use crate::count::{denied, faulty, gone, granted, injected, lost, passed};
 use crate::error::ReportError;
 use crate::line::LineBuffer;
 use crate::part::write_line;
 use crate::report::Report;
 use crate::session::SessionRecord;
-use hist_model::event::{Back, Event};
+use hist_model::event::Back;
 use hist_model::report::Audit;
 use io_edge::sink::Sink;
 use std::alloc::Global;
@@ -115,7 +112,32 @@ impl Report<'_> {
         ensures { IfOk result (λ c. c ≡ counts_of (judging_by self.now.policy.now.rules) self.now.history.now.events) }
     {
         let found = self.audits(alloc)?;
-        Ok(counted(&self.tables.calls, self.history.events(), found.as_slice()))
+        Ok(self.counted(found.as_slice()))
+    }
+
+    /// The counts of the history, whose sessions came to these.
+    fn counted(&self, found: &[Audit]) -> Counts
+        ensures { result ≡ counted self.now.history.now.events found.now }
+    {
+        let calls = &self.tables.calls;
+        let counts = self.tables.counts;
+        let events = self.history.len();
+        let entered = calls.entered.places.len();
+        let installed = calls.answered.places.len();
+        let answered = counts.sent + installed;
+        Counts {
+            events: events as u64,
+            calls: entered as u64,
+            notified: counts.notified as u64,
+            answered: answered as u64,
+            granted: granted(found) as u64,
+            denied: denied(found) as u64,
+            passed: passed(found) as u64,
+            injected: injected(found) as u64,
+            faults: faulty(found) as u64,
+            gone: gone(found) as u64,
+            lost: lost(found) as u64,
+        }
     }
 
     /// The outcome of each session, the oldest first.
@@ -158,27 +180,6 @@ fn push_audit(
         arrival: arrival(&session.facts, number),
     })?;
     Ok(())
-}
-
-/// The counts of events and of what sessions came to, by what is kept of the calls.
-#[tactic(auto, using(crate::proofs::Past::length_past))]
-fn counted(calls: &CallTable, events: &[Event], found: &[Audit]) -> Counts
-    requires { TellsInstalled (reverse events.now) (call_in calls.now.answered) }
-    ensures { result ≡ counted (reverse events.now) found.now }
-{
-    Counts {
-        events: events.len() as u64,
-        calls: entered(events) as u64,
-        notified: notified(events) as u64,
-        answered: answered(calls, events) as u64,
-        granted: granted(found) as u64,
-        denied: denied(found) as u64,
-        passed: passed(found) as u64,
-        injected: injected(found) as u64,
-        faults: faulty(found) as u64,
-        gone: gone(found) as u64,
-        lost: lost(found) as u64,
-    }
 }
 
 /// Adds a word and a count.

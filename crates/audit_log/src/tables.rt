@@ -1,6 +1,6 @@
 //! What the parts of a report have in common.
 
-ghost use Rattle.std.specs.Prelude.{◌≡◌, ◌∷◌, [], List, length, IfOk, OnOk, reverse};
+ghost use Rattle.std.specs.Prelude.{◌≡◌, ◌<◌, ◌∷◌, [], List, length, IfOk, OnOk, reverse};
 ghost use Rattle.hist_model.specs.declared.event.Event.{Event};
 ghost use Rattle.hist_model.specs.declared.policy.Rule.{Rule};
 ghost use Rattle.audit_log.specs.Pass.{HasPast};
@@ -8,6 +8,7 @@ ghost use Rattle.audit_log.specs.Tables.{TellsTables};
 
 use crate::call_pass::CallPass;
 use crate::call_table::CallTable;
+use crate::count::EventCounts;
 use crate::session::SessionRecord;
 use crate::session_table::SessionTable;
 use hist_model::event::Event;
@@ -23,6 +24,8 @@ pub struct Tables {
     pub calls: CallTable,
     /// Of the sessions, the oldest first.
     pub sessions: Vec<SessionRecord>,
+    /// Of the events.
+    pub(crate) counts: EventCounts,
 }
 
 /// The calls and the sessions while the events are gone through, so that each event is looked at once.
@@ -30,6 +33,7 @@ pub struct Tables {
 struct Pass {
     calls: CallPass,
     sessions: SessionTable,
+    counts: EventCounts,
 }
 
 impl Pass {
@@ -40,13 +44,16 @@ impl Pass {
         Pass {
             calls: CallPass::new(alloc),
             sessions: SessionTable::new(alloc),
+            counts: EventCounts::none(),
         }
     }
 
     /// One more event, which has this place.
     fn note(&mut self, policy: &Policy, place: usize, event: &Event) -> Result<(), NoMemory>
+        requires { place < usize.MAX }
         ensures { (K : List Event) → length K ≡ place → HasPast policy.now.rules K self.old → OnOk result (HasPast policy.now.rules (event.now ∷ K) self.new) }
     {
+        self.counts.add(event);
         self.calls.note(place, event)?;
         self.sessions.note(policy, place, event)
     }
@@ -69,10 +76,15 @@ impl Tables {
     {
         let mut pass = Pass::new(alloc);
         pass.note_all(policy, history.events())?;
-        let Pass { calls, sessions } = pass;
+        let Pass {
+            calls,
+            sessions,
+            counts,
+        } = pass;
         Ok(Tables {
             calls: calls.table(),
             sessions: sessions.rows,
+            counts,
         })
     }
 }

@@ -2,8 +2,8 @@
 //!
 //! `broker::broker` reads the words (`words`) and the policy and the script of two files (`inputs`), or takes generated ones.
 //! It plays (`players`), with workers that are replaced where that is asked for, explores (`exploring`), or checks the report of a
-//! third file. It writes the report, the ledgers of replaced workers, the summary or what it found (`printing`) to its output, one
-//! write a line, or what was explored (`outcomes`), one write an outcome. `status` has the exit statuses, and `lines` their lines.
+//! third file. It writes the report, the ledgers of replaced workers, the summary or what it found (`printing`) to its output, many
+//! lines a write, or what was explored (`outcomes`), one write an outcome. `status` has the exit statuses, and `lines` their lines.
 //!
 //! It works over the traits of `io_edge`, so its contract tells for any files and outputs what each answer means: with
 //! status 0 the output took the report of the history that the policy and the script play, its summary where they were

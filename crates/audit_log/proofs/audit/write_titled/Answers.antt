@@ -1,5 +1,5 @@
 -- The title was written, and then the lines, or it failed.
-use Rattle.std.proofs.Common.{◌≡◌, Err, rules}
+use Rattle.std.proofs.Common.{◌≡◌, Err, length, rules}
 use Rattle.std.specs.Prelude.{codes}
 use Rattle.std.specs.List.{flat_map}
 use Rattle.hist_model.specs.ReportAudit.{judging_by}
@@ -16,5 +16,5 @@ returns-in_err-write_title g c =
 pub returns : goal.returns
 returns g c =
     wrote_more (g.O.Sink.state c.args.out.now) (g.O.Sink.state c.write_title.new.out) (g.O.Sink.state c.write_sessions.new.out)
-    (title (codes "audit") c.args.count) (flat_map (session_line (judging_by c.args.policy.now.rules) c.args.calls.now) c.args.sessions.now) c.write_sessions.result
+    (title (codes "audit") (length c.args.sessions.now)) (flat_map (session_line (judging_by c.args.policy.now.rules) c.args.calls.now) c.args.sessions.now) c.write_sessions.result
     c.in_ok-write_title.ensures c.write_sessions.ensures

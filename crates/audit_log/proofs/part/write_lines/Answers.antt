@@ -1,20 +1,54 @@
-use Rattle.std.proofs.Common.{rules, arith, ◌≡◌, Err}
-use Rattle.audit_log.proofs.Writing.{none_begun, lines_step, lines_stop}
+-- The lines so far are gathered, and what is kept is written in the end.
+-- By what is gathered with one more line (`Writing`).
+use Rattle.std.proofs.Common.{rules, arith, ◌≡◌, ◌+◌, Err, reverse, subst, take}
+use Rattle.hist_model.specs.ReportJournal.{lines_of}
+use Rattle.audit_log.specs.Written.{Gathered}
+use Rattle.audit_log.specs.declared.error.ReportError.TheVariants.{NoMemory}
+use Rattle.audit_log.proofs.Writing.{gathered_failed, gathered_lost, gathered_more, gathered_whole, lines_next, lines_rest, lines_whole, no_lines_gathered}
 use Rattle.audit_log.proofs.part.write_lines.Goals as goal
 
 pub loop-place-init : goal.loop-place-init
-loop-place-init g c = none_begun (g.P.Part.text c.args.part.now) (g.O.Sink.state c.args.out.now)
+loop-place-init g c = no_lines_gathered (g.P.Part.text c.args.part.now) (g.O.Sink.state c.args.out.now) c.clear.new.self c.clear.ensures
 
-pub returns-in_err-write_event : goal.returns-in_err-write_event
-returns-in_err-write_event g c =
-    let same : c.from_residual.result ≡ Err c.in_err-write_event.field-0.0 = search rules in
-    rw same
-    (lines_stop (g.P.Part.text c.args.part.now) c.args.events.now c.loop-place.place c.index-events-place.result c.in_err-write_event.field-0.0
-    (g.O.Sink.state c.args.out.now) (g.O.Sink.state c.loop-place.out) (g.O.Sink.state c.write_event.new.out)
-    (omega arith) c.index-events-place.is c.loop-place.invariant c.in_err-write_event.ensures)
+pub returns-in_err-push_line : goal.returns-in_err-push_line
+returns-in_err-push_line g c =
+    let f = g.P.Part.text c.args.part.now in
+    let xs = c.args.events.now in
+    let i = c.loop-place.place in
+    let failed : c.from_residual.result ≡ Err NoMemory = search rules in
+    let (rest, q) = lines_rest f xs i in
+    rw failed
+    (gathered_lost (g.O.Sink.state c.args.out.now) (g.O.Sink.state c.loop-place.out) (lines_of f (reverse (take i xs))) (lines_of f (reverse xs)) c.loop-place.line rest
+    c.loop-place.invariant q)
+
+pub returns-in_err-write_if_many : goal.returns-in_err-write_if_many
+returns-in_err-write_if_many g c =
+    let f = g.P.Part.text c.args.part.now in
+    let xs = c.args.events.now in
+    let i = c.loop-place.place in
+    let e = c.index-events-place.result in
+    let failed : c.from_residual-in_err-write_if_many.result ≡ Err c.in_err-write_if_many.field-0.0 = search rules in
+    let (rest, q) = lines_rest f xs (i + 1) in
+    rw failed
+    (gathered_failed (g.O.Sink.state c.args.out.now) (g.O.Sink.state c.loop-place.out) (g.O.Sink.state c.write_if_many.new.out) (lines_of f (reverse (take i xs)))
+    (lines_of f (reverse (take (i + 1) xs))) (lines_of f (reverse xs)) c.loop-place.line (f (reverse (take i xs)) e) c.push_line.new.line rest c.in_err-write_if_many.field-0.0
+    c.loop-place.invariant c.in_ok-push_line.ensures (lines_next f xs i e (omega arith) c.index-events-place.is) q c.in_err-write_if_many.ensures.failed)
 
 pub loop-place-preserved : goal.loop-place-preserved
 loop-place-preserved g c =
-    lines_step (g.P.Part.text c.args.part.now) c.args.events.now c.loop-place.place c.index-events-place.result
-    (g.O.Sink.state c.args.out.now) (g.O.Sink.state c.loop-place.out) (g.O.Sink.state c.write_event.new.out)
-    (omega arith) c.index-events-place.is c.loop-place.invariant c.in_ok-write_event.ensures
+    let f = g.P.Part.text c.args.part.now in
+    let xs = c.args.events.now in
+    let i = c.loop-place.place in
+    let e = c.index-events-place.result in
+    gathered_more (g.O.Sink.state c.args.out.now) (g.O.Sink.state c.loop-place.out) (g.O.Sink.state c.write_if_many.new.out) (lines_of f (reverse (take i xs)))
+    (lines_of f (reverse (take (i + 1) xs))) c.loop-place.line (f (reverse (take i xs)) e) c.push_line.new.line c.write_if_many.new.lines
+    c.loop-place.invariant c.in_ok-push_line.ensures (lines_next f xs i e (omega arith) c.index-events-place.is) c.in_ok-write_if_many.ensures.gathered
+
+pub returns : goal.returns
+returns g c =
+    let f = g.P.Part.text c.args.part.now in
+    let xs = c.args.events.now in
+    let old = g.O.Sink.state c.args.out.now in
+    let mid = g.O.Sink.state c.loop-place.out in
+    let whole = subst (λ text. Gathered old text c.loop-place.line mid) (lines_whole f xs c.loop-place.place (omega arith)) c.loop-place.invariant in
+    gathered_whole old mid (g.O.Sink.state c.write_line.new.out) (lines_of f (reverse xs)) c.loop-place.line c.write_line.result whole c.write_line.ensures

@@ -2,7 +2,7 @@
 use Rattle.std.proofs.Common.{◌≡◌, ℕ, List, [], length, refl, sym, ap, ◌∙◌, subst}
 use Rattle.audit_log.specs.Places.{AreOrdered, call_in}
 use Rattle.audit_log.specs.Records.{record_in}
-use Rattle.audit_log.proofs.Answered.{none_asked, none_installed}
+use Rattle.audit_log.proofs.Answered.{none_asked, none_installed, none_number}
 use Rattle.audit_log.proofs.PlaceRows.{none_ordered}
 use Rattle.audit_log.proofs.ReceivedCalls.{none_named, none_received}
 use Rattle.audit_log.proofs.Recorded.{known_none, none_entered, none_told}
@@ -22,4 +22,5 @@ returns c = record {
   received = none_received (call_in c.new-5.result) [] refl;
   answers = no-rows c.new-6.result.places.items c.new-6.result.calls.items c.new-6.ensures.places c.new-6.ensures.calls;
   answered = none_installed (call_in c.new-6.result) [] refl;
+  number = none_number c.new-6.result.places.items c.new-6.ensures.places;
 }

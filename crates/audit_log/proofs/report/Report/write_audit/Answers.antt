@@ -9,6 +9,6 @@ pub returns : goal.returns
 returns g c =
     let r = c.args.self.now in
     subst (λ text. Wrote (g.O.Sink.state c.args.out.now) text c.write_titled.result (g.O.Sink.state c.write_titled.new.out))
-    (audit_whole (judging_by r.policy.now.rules) r.tables.now.calls r.history.now.events c.events-events.result.now c.begun.result c.as_slice.result.now r.tables.now.sessions.items
-    c.events-events.ensures c.begun.ensures c.as_slice.ensures.value r.told.calls r.told.sessions)
+    (audit_whole (judging_by r.policy.now.rules) r.tables.now.calls r.history.now.events c.as_slice.result.now r.tables.now.sessions.items
+    c.as_slice.ensures.value r.told.calls r.told.sessions)
     c.write_titled.ensures
