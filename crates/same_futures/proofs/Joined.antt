@@ -25,13 +25,13 @@ or_zero None = 0
 
 module _ (S : Script) (K L : List Event) where
   group-back : (g h : ℕ) → SameGroup S K L g h → SameGroup S L K h g
-  group-back g h s = record { bytes = λ a. sym (s.bytes a); slots = λ n. sym (s.slots n) }
+  group-back g h s = record { bytes = λ a m. sym (s.bytes a m); slots = λ n. sym (s.slots n) }
 
   group-of-back : (n : Name) → SameGroupOf S K L n → SameGroupOf S L K n
   group-of-back n s = record { here = s.there; there = s.here; here_is = s.there_is; there_is = s.here_is; same = group-back s.here s.there s.same }
 
   memory-back : (a b : Option ℕ) → IsSameMemory S K L a b → IsSameMemory S L K b a
-  memory-back (Some g) (Some h) s = (s.0, s.2, s.1, λ x. sym (s.3 x))
+  memory-back (Some g) (Some h) s = (s.0, s.2, s.1, λ x m. sym (s.3 x m))
   memory-back None None s = tt
   memory-back (Some g) None s = s
   memory-back None (Some h) s = s
@@ -59,7 +59,7 @@ same-back S ts cs K L same = record {
 
 module _ (S : Script) (K L M : List Event) where
   group-joined : (g h i : ℕ) → SameGroup S K L g h → SameGroup S L M h i → SameGroup S K M g i
-  group-joined g h i s t = record { bytes = λ a. t.bytes a ∙ s.bytes a; slots = λ n. t.slots n ∙ s.slots n }
+  group-joined g h i s t = record { bytes = λ a m. t.bytes a m ∙ s.bytes a m; slots = λ n. t.slots n ∙ s.slots n }
 
   group-of-joined : (n : Name) → SameGroupOf S K L n → SameGroupOf S L M n → SameGroupOf S K M n
   group-of-joined n s t =
@@ -75,7 +75,7 @@ module _ (S : Script) (K L M : List Event) where
   memory-joined : (a b c : Option ℕ) → IsSameMemory S K L a b → IsSameMemory S L M b c → IsSameMemory S K M a c
   memory-joined (Some g) (Some h) (Some i) s t =
       let q : t.0 ≡ s.0 = place-one makes_group L t.0 s.0 h t.1 s.2 in
-      (s.0, s.1, subst (λ (o : ℕ). group_of M o ≡ Some i) q t.2, λ x. t.3 x ∙ s.3 x)
+      (s.0, s.1, subst (λ (o : ℕ). group_of M o ≡ Some i) q t.2, λ x m. t.3 x m ∙ s.3 x m)
   memory-joined None None None s t = tt
   memory-joined (Some g) None c s t = absurd s
   memory-joined None (Some h) c s t = absurd s

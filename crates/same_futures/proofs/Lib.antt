@@ -18,3 +18,5 @@ pub mod Receiving
 pub mod KeptLines
 pub mod Outcomes
 pub mod FlatLines
+pub mod Exchanged
+pub mod SameTables

@@ -1,6 +1,6 @@
 -- Native calls, reads, directories and free numbers are the same where two groups have the same.
 -- By what each of them is in the bytes and the numbers of a group, as functions.
-use Rattle.std.proofs.Common.{◌≡◌, ℕ, Bool, List, [], ◌∷◌, Option, Some, None, refl, sym, ap, ◌∙◌}
+use Rattle.std.proofs.Common.{◌≡◌, ℕ, Bool, true, false, List, [], ◌∷◌, Option, Some, None, refl, sym, ap, ◌∙◌}
 use Rattle.std.specs.Prelude.{zero, suc, ◌+◌, if◌then◌else◌, not, Result, Ok, Err, ℤ, pos, negsuc}
 use Rattle.sys_abi.specs.declared.wire.Addfd.{Addfd}
 use Rattle.hist_model.specs.Copies.{plan, copy_of}
@@ -29,14 +29,22 @@ same-values f g h = λ i a. h a i
 
 module _ (S : Script) (K L : List Event) (g h : ℕ) (s : SameBytes S K L g h) where
   mapped-same : mapped_byte S L h ≡ mapped_byte S K g
-  mapped-same = same-values (mapped_byte S L h) (mapped_byte S K g) (λ a. ap (λ (b : ℕ). if is_mapped S.map a then Some b else None) (s a))
+  mapped-same = same-values (mapped_byte S L h) (mapped_byte S K g) (λ a. by a (is_mapped S.map a) refl)
+    where
+      by : (a : ℕ) (b : Bool) → is_mapped S.map a ≡ b → (if b then Some (byte S L h a) else None) ≡ (if b then Some (byte S K g a) else None)
+      by a true m = ap Some (s a m)
+      by a false m = refl
 
   bytes-same : (a n : ℕ) → mapped_bytes S L h a n ≡ mapped_bytes S K g a n
   unfolding mapped_bytes
   bytes-same a zero = refl
   bytes-same a (suc n) =
-      ap (λ (b : ℕ). if is_mapped S.map a then b ∷ mapped_bytes S L h (a + 1) n else []) (s a)
-      ∙ ap (λ (bs : List ℕ). if is_mapped S.map a then byte S K g a ∷ bs else []) (bytes-same (a + 1) n)
+      by (bytes-same (a + 1) n) (is_mapped S.map a) refl
+    where
+      by : mapped_bytes S L h (a + 1) n ≡ mapped_bytes S K g (a + 1) n → (b : Bool) → is_mapped S.map a ≡ b
+          → (if b then byte S L h a ∷ mapped_bytes S L h (a + 1) n else []) ≡ (if b then byte S K g a ∷ mapped_bytes S K g (a + 1) n else [])
+      by more true m = ap (λ (c : ℕ). c ∷ mapped_bytes S L h (a + 1) n) (s a m) ∙ ap (λ (bs : List ℕ). byte S K g a ∷ bs) more
+      by more false m = refl
 
   pub reads-same : (a n : ℕ) → bytes_read S L h a n ≡ bytes_read S K g a n
   reads-same a n = rw (bytes-same a n) refl

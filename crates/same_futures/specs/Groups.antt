@@ -1,15 +1,15 @@
 -- A group of one history that has what a group of another one has. Each is known by its place in its own history.
-use Rattle.std.specs.Prelude.{◌≡◌, ℕ, List, Some}
+use Rattle.std.specs.Prelude.{◌≡◌, ℕ, true, List, Some}
 use Rattle.hist_model.specs.Files.{files}
 use Rattle.hist_model.specs.Look.{Name}
-use Rattle.hist_model.specs.Memory.{byte, group_named, last_call}
+use Rattle.hist_model.specs.Memory.{byte, group_named, is_mapped, last_call}
 use Rattle.hist_model.specs.Steps.{entered, number_entered}
 use Rattle.hist_model.specs.declared.event.Event.{Event}
 use Rattle.hist_model.specs.declared.script.Script.{Script}
 
--- the groups at these places have the same bytes
+-- the groups at these places have the same bytes where something is mapped: no other byte is ever read
 abbrev pub SameBytes : Script → List Event → List Event → ℕ → ℕ → Type 0
-SameBytes S K L g h = (a : ℕ) → byte S L h a ≡ byte S K g a
+SameBytes S K L g h = (a : ℕ) → is_mapped S.map a ≡ true → byte S L h a ≡ byte S K g a
 
 -- and the same behind each number
 pub record SameGroup (S : Script) (K L : List Event) (g h : ℕ) : Type 0 where

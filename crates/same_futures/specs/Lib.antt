@@ -6,3 +6,4 @@ pub mod Turns
 pub mod Places
 pub mod Walks
 pub mod Lines
+pub mod Kernels

@@ -21,6 +21,7 @@ ghost use Rattle.listener.specs.State as call_state;
 ghost use Rattle.tasks.specs.State.{State, after};
 ghost use Rattle.outcome_lines.specs.Lines.{lines_in};
 ghost use Rattle.outcome_text.specs.Outcomes.{result_of};
+ghost use Rattle.same_futures.specs.Kernels.{GoOnAlike, StandForStates};
 ghost use Rattle.same_futures.specs.Lines.{ComeToTheSame, SameLines};
 ghost use Rattle.same_futures.specs.Same.{Same};
 ghost use Rattle.same_futures.specs.States.{HasStates};
@@ -118,4 +119,15 @@ pub fn outcomes_are_the_same()
     ensures so_far { (S : Script) (J : Judging) (tasks : State) (calls : call_state.State) (K L : List Event) → Same S tasks calls K L → SameLines S J K L
         → result_of S J L ≡ result_of S J K }
     ensures walks { (P : Policy) (S : Script) (W : ℕ) (J : Judging) → ComeToTheSame P S W J }
+{}
+
+/// So it is with any states of tasks and calls that one of them has: of these the history leaves open only what is a matter of the script.
+pub fn states_may_be_exchanged()
+    ensures { (S : Script) (s t : State) (c d : call_state.State) (K L : List Event) → Same S s c K L → HasStates S K t d → Same S t d K L }
+{}
+
+/// A kernel has the states of its history, and after the histories of two kernels with the same tables all goes on alike.
+pub fn the_same_tables_go_on_alike()
+    ensures states { StandForStates }
+    ensures alike { GoOnAlike }
 {}
