@@ -2,12 +2,14 @@
 -- By induction on how many bytes are the same, and by cases on whether another byte was written.
 use Rattle.std.proofs.Common.{◌≡◌, ℕ, zero, suc, ◌+◌, ◌-◌, ◌<◌, ◌≤◌, ◌^◌, Bool, true, false, List, [], ◌∷◌, ◌++◌, length, take, drop, Option, Some, None, Ok, Err, refl, sym, ap, ap₂, ◌∙◌, append_assoc, append-nil, get_or, subst, arith, add-one, take_all}
 use Rattle.std.specs.Prelude.{if◌then◌else◌, ◌==◌, is_some, slice_get}
+use Rattle.std.specs.Cmp.Lexicographic.{bytes_decides}
+use Rattle.std.specs.List.{starts_with}
 use Rattle.std.specs.Option.{ForSome}
 use Rattle.std.proofs.lemmas.Bool.{eqb-true}
 use Rattle.std.proofs.lemmas.Bool.Decides.{nat_tests}
 use Rattle.std.proofs.lemmas.Option.{slice_get-get_or}
 use Rattle.std.proofs.lemmas.List.{length-take, length-take-le, take-append-drop}
-use Rattle.std.proofs.Math.Seq.{take-add}
+use Rattle.std.proofs.Math.Seq.{take-add, take-length}
 use Rattle.io_edge.specs.SinkState.{AddsPrefix, SinkState, Writes}
 use Rattle.audit_log.specs.Written.{Wrote}
 use Rattle.audit_log.specs.declared.error.ReportError.TheVariants.{WriteFault}
@@ -28,6 +30,10 @@ same_more n b text piece q f g = rw add-one (by n text piece q f g)
     by (suc n) [] piece q f g = cc
     by (suc n) (x ∷ text) [] q f g = cc
     by (suc n) (x ∷ text) (y ∷ piece) q f g = let e : x ≡ y = cc in let t : take n text ≡ take n piece = cc in ap₂ (λ z zs. z ∷ zs) e (by n text piece t f g)
+
+-- a piece that stands at the front is the same
+pub same_front : (text piece : List ℕ) → starts_with ◌==◌ text piece ≡ true → take (length piece) text ≡ take (length piece) piece
+same_front text piece h = sym ((bytes_decides piece (take (length piece) text)).0 h) ∙ sym (take-length piece)
 
 -- what stands behind a front
 get-behind : (n k : ℕ) (text : List ℕ) → slice_get (drop n text) k ≡ slice_get text (n + k)

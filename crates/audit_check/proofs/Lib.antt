@@ -14,3 +14,4 @@ pub mod Compared
 pub mod Steps
 pub mod Machines
 pub mod Openings
+pub mod FirstTask
