@@ -10,18 +10,21 @@ use Rattle.std.proofs.lemmas.Bool.{and_parts, leb-true}
 use Rattle.std.proofs.lemmas.Slice.Zip.{AllZip-long}
 use Rattle.io_edge.specs.FileState.{FileState, SameFiles}
 use Rattle.io_edge.specs.SinkState.{SinkState}
+use Rattle.hist_model.specs.declared.event.Event.{Event}
+use Rattle.hist_model.specs.declared.policy.Policy.{Policy}
 use Rattle.hist_model.specs.declared.script.Script.{Script}
 use Rattle.pod_broker.specs.Pods.{NoneOverlap, overlap}
 use Rattle.pod_broker.specs.Serving.{AreServed, scripts}
 use Rattle.pod_broker.specs.declared.container.Container.{Container}
+use Rattle.worker_gate.specs.Endings.{HasEnded}
 use Rattle.worker_gate.specs.declared.served.Played.{Played}
 use Rattle.broker_app.proofs.Reading.{input_before, policy_is_before, script_is_before}
 use Rattle.broker_app.specs.Answers.{Printed, status_of}
 use Rattle.broker_app.specs.Forms.{texts}
 use Rattle.broker_app.specs.PodText.{pod_text}
-use Rattle.broker_app.specs.Pods.{AreSeparate, AreServedApart, AreTaken, ContainerStops, HaveEnded, IsTaken, Overlapping, PairStops, PodEnds, in_container, scripts_of}
+use Rattle.broker_app.specs.Pods.{AreEnded, AreSeparate, AreServedApart, AreTaken, ContainerStops, HaveEnded, IsTaken, Overlapping, PairStops, PodEnds, in_container, scripts_of}
 use Rattle.broker_app.specs.Refusals.{InputRefused}
-use Rattle.broker_app.specs.Runs.{AreRun, ByWorkers}
+use Rattle.broker_app.specs.Runs.{AreRun, Ending}
 use Rattle.broker_app.specs.Words.{FilePair, are_pairs, form, in_pairs, short_words}
 use Rattle.broker_app.specs.declared.status.Status.{Status}
 use Rattle.broker_app.specs.declared.status.Status.TheVariants.{Refused, ContainerRefused, WriteFault, NoMemory, PidsOverlap}
@@ -141,48 +144,58 @@ none_overlap (c ∷ more) separate = λ i j d behind within. by i j d behind (su
 
 -- ---- What was served
 
--- what was served are the containers that were read
-pub have_ended : (files : FileState) (workers : ℕ) (pairs : List FilePair) (cs : List Container) (ps : List Played) → AreTaken files pairs cs → AreServed workers cs ps → HaveEnded files workers pairs ps
-have_ended files workers [] [] [] taken served = tt
-have_ended files workers [] [] (p ∷ ps) taken served = absurd served
-have_ended files workers [] (c ∷ cs) ps taken served = absurd taken
-have_ended files workers (pair ∷ pairs) [] ps taken served = absurd taken
-have_ended files workers (pair ∷ pairs) (c ∷ cs) [] taken served = absurd served
-have_ended files workers (pair ∷ pairs) (c ∷ cs) (p ∷ ps) (one, taken) (this, served) = (run, have_ended files workers pairs cs ps taken served)
-  where
-    run : AreRun files pair.policy pair.script (ByWorkers workers) p.policy p.script p.history.events
-    run = rw (this.policy, this.script) (record { policy_is = one.policy_is; script_is = one.script_is; ended = this.ended })
+module _ (Ended : Ending) where
+  -- what was served by a pod has such ends
+  pub are-ended : (workers : ℕ) (Keeps : List Event → Type 0) → ((P : Policy) (S : Script) (H : List Event) → HasEnded P S workers H → Keeps H → Ended P S H) → (cs : List Container) (ps : List Played) → AreServed workers Keeps cs ps
+      → AreEnded Ended cs ps
+  are-ended workers Keeps end [] [] served = tt
+  are-ended workers Keeps end [] (p ∷ ps) served = absurd served
+  are-ended workers Keeps end (c ∷ cs) [] served = absurd served
+  are-ended workers Keeps end (c ∷ cs) (p ∷ ps) (this, served) =
+      (record { policy = this.policy; script = this.script; ended = end c.policy c.script p.history.events this.ended this.keeps }, are-ended workers Keeps end cs ps served)
 
--- by their own scripts
-pub same_scripts : (workers : ℕ) (cs : List Container) (ps : List Played) → AreServed workers cs ps → scripts cs ≡ scripts_of ps
-same_scripts workers [] [] served = refl
-same_scripts workers [] (p ∷ ps) served = absurd served
-same_scripts workers (c ∷ cs) [] served = absurd served
-same_scripts workers (c ∷ cs) (p ∷ ps) (this, served) = ap₂ (λ (S : Script) (more : List Script). S ∷ more) (sym this.script) (same_scripts workers cs ps served)
+  -- what was served are the containers that were read
+  pub have_ended : (files : FileState) (pairs : List FilePair) (cs : List Container) (ps : List Played) → AreTaken files pairs cs → AreEnded Ended cs ps → HaveEnded files Ended pairs ps
+  have_ended files [] [] [] taken served = tt
+  have_ended files [] [] (p ∷ ps) taken served = absurd served
+  have_ended files [] (c ∷ cs) ps taken served = absurd taken
+  have_ended files (pair ∷ pairs) [] ps taken served = absurd taken
+  have_ended files (pair ∷ pairs) (c ∷ cs) [] taken served = absurd served
+  have_ended files (pair ∷ pairs) (c ∷ cs) (p ∷ ps) (one, taken) (this, served) = (run, have_ended files pairs cs ps taken served)
+    where
+      run : AreRun files pair.policy pair.script Ended p.policy p.script p.history.events
+      run = rw (this.policy, this.script) (record { policy_is = one.policy_is; script_is = one.script_is; ended = this.ended })
+
+  -- by their own scripts
+  pub same_scripts : (cs : List Container) (ps : List Played) → AreEnded Ended cs ps → scripts cs ≡ scripts_of ps
+  same_scripts [] [] served = refl
+  same_scripts [] (p ∷ ps) served = absurd served
+  same_scripts (c ∷ cs) [] served = absurd served
+  same_scripts (c ∷ cs) (p ∷ ps) (this, served) = ap₂ (λ (S : Script) (more : List Script). S ∷ more) (sym this.script) (same_scripts cs ps served)
 
 -- ---- How it ended
 
 -- nothing was served, since a pair wasn't taken
-pub pairs_stop : (files after : FileState) (sink : SinkState) (workers : ℕ) (pairs : List FilePair) (status : Status) → PairStops files after pairs status
-    → PodEnds files after sink sink workers pairs status
-pairs_stop files after sink workers pairs (ContainerRefused number refusal) h = (h, λ t. refl)
-pairs_stop files after sink workers pairs NoMemory h = inl (λ t. refl)
-pairs_stop files after sink workers pairs status h = absurd h
+pub pairs_stop : (files after : FileState) (sink : SinkState) (Ended : Ending) (pairs : List FilePair) (status : Status) → PairStops files after pairs status
+    → PodEnds files after sink sink Ended pairs status
+pairs_stop files after sink Ended pairs (ContainerRefused number refusal) h = (h, λ t. refl)
+pairs_stop files after sink Ended pairs NoMemory h = inl (λ t. refl)
+pairs_stop files after sink Ended pairs status h = absurd h
 
 -- or since ranges overlap
-pub ranges_stop : (files after : FileState) (sink : SinkState) (workers : ℕ) (pairs : List FilePair) (cs : List Container) (status : Status) → AreTaken files pairs cs → Overlapping cs status
-    → PodEnds files after sink sink workers pairs status
-ranges_stop files after sink workers pairs cs (PidsOverlap first second) taken h = ((cs, taken, h), λ t. refl)
-ranges_stop files after sink workers pairs cs status taken h = absurd h
+pub ranges_stop : (files after : FileState) (sink : SinkState) (Ended : Ending) (pairs : List FilePair) (cs : List Container) (status : Status) → AreTaken files pairs cs → Overlapping cs status
+    → PodEnds files after sink sink Ended pairs status
+ranges_stop files after sink Ended pairs cs (PidsOverlap first second) taken h = ((cs, taken, h), λ t. refl)
+ranges_stop files after sink Ended pairs cs status taken h = absurd h
 
 -- or nothing was printed, for want of memory
-pub pod_unserved : (files after : FileState) (sink : SinkState) (workers : ℕ) (pairs : List FilePair) → PodEnds files after sink sink workers pairs NoMemory
-pod_unserved files after sink workers pairs = inl (λ t. refl)
+pub pod_unserved : (files after : FileState) (sink : SinkState) (Ended : Ending) (pairs : List FilePair) → PodEnds files after sink sink Ended pairs NoMemory
+pod_unserved files after sink Ended pairs = inl (λ t. refl)
 
 -- the reports and the sums were printed, or a part of them
-pub pod_ends : (files after : FileState) (old new : SinkState) (workers : ℕ) (pairs : List FilePair) (ps : List Played) (r : Result (Unit {0}) Status) → AreServedApart files workers pairs ps
-    → Printed (pod_text ps) old new r → PodEnds files after old new workers pairs (status_of r)
-pod_ends files after old new workers pairs ps (Ok u) served p = ((ps, served, p.0), p.1)
-pod_ends files after old new workers pairs ps (Err WriteFault) served p = (p.0, (ps, served, p.1))
-pod_ends files after old new workers pairs ps (Err NoMemory) served p = inr (ps, served, p)
-pod_ends files after old new workers pairs ps (Err status) served p = absurd p
+pub pod_ends : (files after : FileState) (old new : SinkState) (Ended : Ending) (pairs : List FilePair) (ps : List Played) (r : Result (Unit {0}) Status) → AreServedApart files Ended pairs ps
+    → Printed (pod_text ps) old new r → PodEnds files after old new Ended pairs (status_of r)
+pod_ends files after old new Ended pairs ps (Ok u) served p = ((ps, served, p.0), p.1)
+pod_ends files after old new Ended pairs ps (Err WriteFault) served p = (p.0, (ps, served, p.1))
+pod_ends files after old new Ended pairs ps (Err NoMemory) served p = inr (ps, served, p)
+pod_ends files after old new Ended pairs ps (Err status) served p = absurd p

@@ -1,31 +1,35 @@
 -- How a run with threads ends.
--- By what is known of a history that hands have served to its end, and by cases on the status.
-use Rattle.std.proofs.Common.{◌≡◌, ℕ, List, Result, Ok, Err, Some, inl, inr, refl, sym, subst}
+-- By cases on the status.
+use Rattle.std.proofs.Common.{◌≡◌, ℕ, List, [], ◌∷◌, length, Result, Ok, Err, inl, inr, refl, subst}
+use Rattle.std.specs.List.{AllZip}
 use Rattle.hist_model.specs.Report.{report}
 use Rattle.hist_model.specs.ReportAudit.{judging_by}
 use Rattle.hist_model.specs.declared.event.Event.{Event}
-use Rattle.hist_model.specs.declared.history.Setup.{Setup}
 use Rattle.hist_model.specs.declared.policy.Policy.{Policy}
 use Rattle.hist_model.specs.declared.script.Script.{Script}
 use Rattle.io_edge.specs.FileState.{FileState}
 use Rattle.io_edge.specs.SinkState.{SinkState}
-use Rattle.lane_gate.specs.Keeping.{IsServedInLanes}
-use Rattle.lane_seats.specs.Lanes.{Laned}
-use Rattle.worker_gate.proofs.Endings.{has_ended}
-use Rattle.worker_gate.specs.Endings.{ClosesBehind}
 use Rattle.broker_app.specs.Answers.{Printed, status_of}
 use Rattle.broker_app.specs.Inputs.{PolicyIs, ScriptIs}
 use Rattle.broker_app.specs.Refusals.{InputRefused}
-use Rattle.broker_app.specs.Runs.{AreRun, ByLanes, Ending, RunEnds}
+use Rattle.broker_app.specs.Runs.{AreRun, Ending, RunEnds}
 use Rattle.broker_app.specs.declared.status.Status.{Status}
 use Rattle.broker_app.specs.declared.status.Status.TheVariants.{Done, NoMemory, WriteFault}
 
 -- ---- The history
 
--- the history of lanes' hands ends with the close
-pub lanes_have_ended : (P : Policy) (S : Script) (made : Setup) (seen K H : List Event) → made ≡ record { policy = P; script = S; limit = Some 15 } → IsServedInLanes made seen → K ≡ seen → ClosesBehind K H → ByLanes P S H
-lanes_have_ended P S made seen K H m served k c =
-    (has_ended P S made 15 seen K H m served.whole k c, subst (λ (L : List Event). Laned L) (sym c.closed) (tt, subst (λ (L : List Event). Laned L) (sym k) served.laned))
+-- the one container of a pod of one
+pub of-alone : {X Y : Type 0} (R : X → Y → Type 0) (x : X) (y : Y) (xs : List X) (ys : List Y) → AllZip R xs ys → xs ≡ x ∷ [] → ys ≡ y ∷ [] → R x y
+of-alone R x y xs ys z e f = (rw (e, f) at z).0
+
+-- was served alone
+pub as-many : {X Y : Type 0} (R : X → Y → Type 0) (x : X) (xs : List X) (ys : List Y) → AllZip R xs ys → xs ≡ x ∷ [] → length ys ≡ 1
+as-many {Y = Y} R x xs ys z e = go ys (rw e at z)
+  where
+    go : (ys : List Y) → AllZip R (x ∷ []) ys → length ys ≡ 1
+    go [] z = absurd z
+    go (y ∷ []) z = refl
+    go (y ∷ w ∷ ys) z = absurd z.1
 
 -- ---- How it ended
 

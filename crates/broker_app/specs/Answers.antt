@@ -23,7 +23,7 @@ use Rattle.broker_app.specs.Handovers.{HandoverEnds, handovers}
 use Rattle.broker_app.specs.Plays.{PlayEnds, as_report}
 use Rattle.broker_app.specs.Pods.{PodEnds}
 use Rattle.broker_app.specs.Refusals.{Stands, TookNothing}
-use Rattle.broker_app.specs.Runs.{ByLanes, ByWorkers, RunEnds}
+use Rattle.broker_app.specs.Runs.{ByLanes, ByWorkers, RunEnds, by_servers}
 use Rattle.broker_app.specs.Stepping.{StepEnds}
 use Rattle.broker_app.specs.Judgements.{JudgeEnds}
 use Rattle.broker_app.specs.Tellings.{ClaimsEnds, CompareEnds, LintEnds}
@@ -104,7 +104,7 @@ Answers (Some (Run policy script workers cpus)) files after old new status =
 Answers (Some (Lanes policy script cpus)) files after old new status = RunEnds files after old new policy script ByLanes status
 Answers (Some (AuditCheck policy script report)) files after old new status = CheckEnds files after old new policy script report status
 Answers (Some (Handover policy script every)) files after old new status = HandoverEnds files after old new policy script every status
-Answers (Some (Pod workers cpus pairs)) files after old new status = PodEnds files after old new workers pairs status
+Answers (Some (Pod workers cpus pairs)) files after old new status = PodEnds files after old new (by_servers workers) pairs status
 Answers (Some (Explore policy script workers delays)) files after old new status =
     ExploreEnds files after old new policy script workers delays status
 Answers (Some (Step policy script)) files after old new status = StepEnds files after old new policy script status

@@ -1,5 +1,5 @@
 -- The forms of words, as the program's code has them.
-use Rattle.std.specs.Prelude.{◌≡◌, ℕ, ◌<◌, ◌≤◌, true, List, length, map, String}
+use Rattle.std.specs.Prelude.{◌≡◌, ℕ, ◌<◌, ◌≤◌, true, List, length, map, IfSome, String}
 use Rattle.std.specs.Option.{option_copied}
 use Rattle.std.specs.String.{string_bytes}
 use Rattle.std.specs.declared.alloc.Global.{Global}
@@ -50,4 +50,4 @@ abbrev pub IsInRange : Form → Type 0
 IsInRange (IsJob job) = IsJobInRange job
 IsInRange (Run policy script workers cpus) = (workers ≤ 16) × (cpus ≤ 16)
 IsInRange (Lanes policy script cpus) = cpus ≤ 16
-IsInRange (Pod workers cpus pairs) = (workers ≤ 16) × (cpus ≤ 16) × (are_pairs (length pairs.now) ≡ true)
+IsInRange (Pod workers cpus pairs) = IfSome workers (λ w. w ≤ 16) × (cpus ≤ 16) × (are_pairs (length pairs.now) ≡ true)

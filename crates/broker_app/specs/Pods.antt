@@ -12,7 +12,7 @@ use Rattle.worker_gate.specs.declared.served.Played.{Played}
 use Rattle.broker_app.specs.Inputs.{PolicyIs, ScriptIs}
 use Rattle.broker_app.specs.PodText.{pod_text}
 use Rattle.broker_app.specs.Refusals.{InputRefused, Stands, TookNothing}
-use Rattle.broker_app.specs.Runs.{AreRun, ByWorkers}
+use Rattle.broker_app.specs.Runs.{AreRun, Ending}
 use Rattle.broker_app.specs.Words.{FilePair}
 use Rattle.broker_app.specs.declared.status.Refusal.{Refusal}
 use Rattle.broker_app.specs.declared.status.Status.{Status}
@@ -90,29 +90,39 @@ Overlapping cs _ = ⊥
 
 -- ---- What was served and printed
 
+-- the container was served to such an end, by a history of its own policy and script, which come back as they were
+pub record IsEnded (Ended : Ending) (c : Container) (p : Played) : Type 0 where
+  pub policy : p.policy ≡ c.policy
+  pub script : p.script ≡ c.script
+  pub ended : Ended c.policy c.script p.history.events
+
+-- so was each, in order
+abbrev pub AreEnded : Ending → List Container → List Played → Type 0
+AreEnded Ended = AllZip (IsEnded Ended)
+
 -- so the container of each pair of files ended, in order
-abbrev pub HaveEnded : FileState → ℕ → List FilePair → List Played → Type 0
-HaveEnded files workers = AllZip (λ pair p. AreRun files pair.policy pair.script (ByWorkers workers) p.policy p.script p.history.events)
+abbrev pub HaveEnded : FileState → Ending → List FilePair → List Played → Type 0
+HaveEnded files Ended = AllZip (λ pair p. AreRun files pair.policy pair.script Ended p.policy p.script p.history.events)
 
 -- the scripts of containers that were served, in order
 abbrev pub scripts_of : List Played → List Script
 scripts_of ps = map (λ (p : Played). p.script) ps
 
 -- the containers of the pairs were served to their ends; no two scripts' ranges of PIDs overlap, and no two containers gave a common PID
-pub record AreServedApart (files : FileState) (workers : ℕ) (pairs : List FilePair) (ps : List Played) : Type 0 where
-  pub ended : HaveEnded files workers pairs ps
+pub record AreServedApart (files : FileState) (Ended : Ending) (pairs : List FilePair) (ps : List Played) : Type 0 where
+  pub ended : HaveEnded files Ended pairs ps
   pub ranges : NoneOverlap (scripts_of ps)
   pub apart : AllApart (histories ps)
 
 -- the sink took a prefix of what is printed of such containers
-abbrev pub TookPodPrefix : FileState → ℕ → List FilePair → SinkState → SinkState → Type 0
-TookPodPrefix files workers pairs old new =
-    (ps : List Played) × AreServedApart files workers pairs ps × (old.tells ≡ true → AddsPrefix old.taken (pod_text ps) new.taken)
+abbrev pub TookPodPrefix : FileState → Ending → List FilePair → SinkState → SinkState → Type 0
+TookPodPrefix files Ended pairs old new =
+    (ps : List Played) × AreServedApart files Ended pairs ps × (old.tells ≡ true → AddsPrefix old.taken (pod_text ps) new.taken)
 
 -- the sink took the whole of it
-abbrev pub TookPod : FileState → ℕ → List FilePair → SinkState → SinkState → Type 0
-TookPod files workers pairs old new =
-    (ps : List Played) × AreServedApart files workers pairs ps × (old.tells ≡ true → new.taken ≡ old.taken ++ pod_text ps)
+abbrev pub TookPod : FileState → Ending → List FilePair → SinkState → SinkState → Type 0
+TookPod files Ended pairs old new =
+    (ps : List Played) × AreServedApart files Ended pairs ps × (old.tells ≡ true → new.taken ≡ old.taken ++ pod_text ps)
 
 -- ---- How it ended
 
@@ -121,9 +131,9 @@ abbrev pub RangesRefused : FileState → List FilePair → ℕ → ℕ → Type 
 RangesRefused files pairs first second = (cs : List Container) × AreTaken files pairs cs × IsFirstOverlap cs first second
 
 -- how the pod of these pairs of files ended
-abbrev pub PodEnds : FileState → FileState → SinkState → SinkState → ℕ → List FilePair → Status → Type 0
-PodEnds files after old new workers pairs Done = TookPod files workers pairs old new × Stands new
-PodEnds files after old new workers pairs WriteFault = Rose old.faults new.faults × TookPodPrefix files workers pairs old new
-PodEnds files after old new workers pairs NoMemory = TookNothing old new ⊎ TookPodPrefix files workers pairs old new
-PodEnds files after old new workers pairs (PidsOverlap first second) = RangesRefused files pairs first second × TookNothing old new
-PodEnds files after old new workers pairs status = PairStops files after pairs status × TookNothing old new
+abbrev pub PodEnds : FileState → FileState → SinkState → SinkState → Ending → List FilePair → Status → Type 0
+PodEnds files after old new Ended pairs Done = TookPod files Ended pairs old new × Stands new
+PodEnds files after old new Ended pairs WriteFault = Rose old.faults new.faults × TookPodPrefix files Ended pairs old new
+PodEnds files after old new Ended pairs NoMemory = TookNothing old new ⊎ TookPodPrefix files Ended pairs old new
+PodEnds files after old new Ended pairs (PidsOverlap first second) = RangesRefused files pairs first second × TookNothing old new
+PodEnds files after old new Ended pairs status = PairStops files after pairs status × TookNothing old new

@@ -1,5 +1,5 @@
 -- What the answer of a run with threads means, with workers or by lanes: which history is printed, and why it stopped.
-use Rattle.std.specs.Prelude.{◌≡◌, ℕ, ◌++◌, ◌⊎◌, true, List, Ok}
+use Rattle.std.specs.Prelude.{◌≡◌, ℕ, ◌++◌, ◌⊎◌, true, List, Ok, Option, Some, None}
 use Rattle.hist_model.specs.Report.{report}
 use Rattle.hist_model.specs.ReportAudit.{judging_by}
 use Rattle.hist_model.specs.declared.event.Event.{Event}
@@ -17,19 +17,24 @@ use Rattle.broker_app.specs.declared.status.Status.TheVariants.{Done, WriteFault
 
 -- ---- The history
 
--- it was served by workers up to this one
-abbrev pub ByWorkers : ℕ → Policy → Script → List Event → Type 0
-ByWorkers workers P S H = HasEnded P S workers H
-
--- it was served by lanes: the history is laned, and its workers are 0 to 15
-abbrev pub ByLanes : Policy → Script → List Event → Type 0
-ByLanes P S H = HasEnded P S 15 H × Laned H
-
--- ---- What was printed
-
 -- how the history of a policy's and a script's container ended
 abbrev pub Ending : Type 1
 Ending = Policy → Script → List Event → Type 0
+
+-- it was served by workers up to this one
+abbrev pub ByWorkers : ℕ → Ending
+ByWorkers workers P S H = HasEnded P S workers H
+
+-- it was served by lanes: the history is laned, and its workers are 0 to 15
+abbrev pub ByLanes : Ending
+ByLanes P S H = HasEnded P S 15 H × Laned H
+
+-- by workers up to this one, or by lanes
+abbrev pub by_servers : Option ℕ → Ending
+by_servers (Some workers) = ByWorkers workers
+by_servers None = ByLanes
+
+-- ---- What was printed
 
 -- these are the policy and the script of the named files, and so ended the history of their container
 pub record AreRun (files : FileState) (policy script : List ℕ) (Ended : Ending) (P : Policy) (S : Script) (H : List Event) : Type 0 where

@@ -19,7 +19,7 @@ pub data Form : Type 0 where
   Stress : ℕ → ℕ → Form
   AuditCheck : List ℕ → List ℕ → List ℕ → Form
   Handover : List ℕ → List ℕ → ℕ → Form
-  Pod : ℕ → ℕ → List FilePair → Form
+  Pod : Option ℕ → ℕ → List FilePair → Form
   Explore : List ℕ → List ℕ → ℕ → Option ℕ → Form
   Step : List ℕ → List ℕ → Form
   Judge : List ℕ → List ℕ → Form
@@ -49,7 +49,11 @@ abbrev pub in_pairs : List (List ℕ) → List FilePair
 in_pairs (policy ∷ script ∷ more) = record { policy = policy; script = script } ∷ in_pairs more
 in_pairs _ = []
 
-abbrev pub pod_form : Option ℕ → Option ℕ → List (List ℕ) → Option Form
+-- who serves: workers up to this one, or lanes; nothing where the word is neither
+abbrev pub servers_of : List ℕ → Option (Option ℕ)
+servers_of word = if bytes_eq word (codes "lanes") then Some None else option_map Some (number_between 0 16 word)
+
+abbrev pub pod_form : Option (Option ℕ) → Option ℕ → List (List ℕ) → Option Form
 pod_form (Some workers) (Some cpus) names = if are_pairs (length names) then Some (Pod workers cpus (in_pairs names)) else None
 pod_form workers cpus names = None
 
@@ -104,9 +108,10 @@ abbrev pub short_words : List (List ℕ) → Option Form
 short_words (command ∷ a ∷ []) = two_words command a
 short_words _ = None
 
--- the form of the words: pod WORKERS CPUS POLICY SCRIPT .., with 1 to 8 pairs of files, one of fewer words, or lint POLICY
+-- the form of the words: pod WORKERS CPUS POLICY SCRIPT .., with 1 to 8 pairs of files, where WORKERS may be `lanes`,
+-- one of fewer words, or lint POLICY
 abbrev pub form : List (List ℕ) → Option Form
 form (command ∷ a ∷ b ∷ more) =
-    if bytes_eq command (codes "pod") then pod_form (number_between 0 16 a) (number_between 0 16 b) more
+    if bytes_eq command (codes "pod") then pod_form (servers_of a) (number_between 0 16 b) more
     else few_words (command ∷ a ∷ b ∷ more)
 form words = short_words words

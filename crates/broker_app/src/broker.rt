@@ -22,7 +22,7 @@ ghost use Rattle.broker_app.specs.Checks.{BytesCheckEnds, CheckEnds};
 ghost use Rattle.broker_app.specs.Lines.{line_of};
 ghost use Rattle.broker_app.specs.Pods.{PodEnds};
 ghost use Rattle.broker_app.specs.PodText.{pod_text};
-ghost use Rattle.broker_app.specs.Runs.{ByLanes, ByWorkers, RunEnds};
+ghost use Rattle.broker_app.specs.Runs.{RunEnds, by_servers};
 ghost use Rattle.broker_app.specs.declared.status.InputFile.TheVariants.{Policy as PolicyFile};
 ghost use Rattle.broker_app.specs.declared.status.Refusal.TheVariants.{ReadFault};
 ghost use Rattle.broker_app.specs.declared.status.Status.TheVariants.{Refused};
@@ -32,7 +32,7 @@ use crate::exploring::explore_files;
 use crate::inputs::{Inputs, read_inputs, read_report, read_stated};
 use crate::judging::judge_files;
 use crate::lines::say;
-use crate::players::{Player, TurnTaker, run_container, run_container_by_lanes};
+use crate::players::{Player, TurnTaker, run_container, serve_containers};
 use crate::pod_printing::print_pod;
 use crate::pods::{read_containers, see_ranges};
 use crate::printing::{Printout, print_history};
@@ -42,13 +42,13 @@ use crate::telling::{check_claims, compare_files, lint_file};
 use crate::words::{Form, Job, read_form};
 use audit_check::check::check_report;
 use audit_check::found::Found;
+use crew::Gate;
 use generated_input::{generated_policy, generated_script};
 use hist_model::history::History;
 use hist_model::policy::Policy;
 use hist_model::script::Script;
 use io_edge::files::Files;
 use io_edge::sink::Sink;
-use pod_broker::{OpenPod, serve_pod};
 use script_reader::ScriptFile;
 use std::alloc::Global;
 use std::sync::Wait;
@@ -56,7 +56,7 @@ use std::thread::Threads;
 use step_requests::Turn;
 use turn_player::laws::turned_is_of_the_kernel;
 use turn_player::play_turns;
-use worker_gate::{Gate, Played};
+use worker_gate::Played;
 
 /// Prints what is asked of a history.
 #[tactic(auto, using(crate::proofs::Ends::printed_whole, crate::proofs::Ends::printed_part))]
@@ -368,7 +368,7 @@ fn answer<P: Player, F: Files, O: Sink>(
     }
 }
 
-/// Runs the script of a file with threads under the policy of another, and writes the report.
+/// Runs the script of a file with threads under the policy of another, with workers up to this one or by lanes, and writes the report.
 #[tactic(auto, using(crate::proofs::Runs::run_stops, crate::proofs::Runs::run_unserved))]
 fn run_files<R: Threads + Wait + Sync, F: Files, O: Sink, G: Gate + Sync>(
     rt: &R,
@@ -376,13 +376,13 @@ fn run_files<R: Threads + Wait + Sync, F: Files, O: Sink, G: Gate + Sync>(
     files: &mut F,
     policy: &str,
     script: &str,
-    workers: u8,
+    workers: Option<u8>,
     cpus: u8,
     out: &mut O,
     gate: &G,
 ) -> Result<(), Status>
-    requires { (workers ≤ 16) × (cpus ≤ 16) }
-    ensures { RunEnds (F.state files.old) (F.state files.new) (O.state out.old) (O.state out.new) policy.now script.now (ByWorkers workers) (status_of result) }
+    requires { IfSome workers (λ w. w ≤ 16) × (cpus ≤ 16) }
+    ensures { RunEnds (F.state files.old) (F.state files.new) (O.state out.old) (O.state out.new) policy.now script.now (by_servers workers) (status_of result) }
 {
     let (policy, script) = read_inputs(alloc, files, policy, script)?;
     let ended = run_container(rt, alloc, policy, script, workers, cpus, gate)?;
@@ -391,44 +391,24 @@ fn run_files<R: Threads + Wait + Sync, F: Files, O: Sink, G: Gate + Sync>(
     printed
 }
 
-/// Runs the script of a file by lanes under the policy of another, and writes the report.
-#[tactic(auto, using(crate::proofs::Runs::run_stops, crate::proofs::Runs::run_unserved))]
-fn run_files_by_lanes<R: Threads + Wait + Sync, F: Files, O: Sink>(
-    rt: &R,
-    alloc: Global,
-    files: &mut F,
-    policy: &str,
-    script: &str,
-    cpus: u8,
-    out: &mut O,
-) -> Result<(), Status>
-    requires { cpus ≤ 16 }
-    ensures { RunEnds (F.state files.old) (F.state files.new) (O.state out.old) (O.state out.new) policy.now script.now ByLanes (status_of result) }
-{
-    let (policy, script) = read_inputs(alloc, files, policy, script)?;
-    let ended = run_container_by_lanes(rt, alloc, policy, script, cpus)?;
-    let printed = print_text(alloc, Printout::Report, &ended.policy, &ended.history, out);
-    TurnTaker { rt }.let_go(ended);
-    printed
-}
-
 /// Serves the containers of pairs of files side by side, and writes the report of each and the sums of their summaries.
 #[tactic(auto, using(crate::proofs::Containers::pairs_stop, crate::proofs::Containers::pod_unserved))]
-fn serve_files<R: Threads + Wait + Sync, F: Files, O: Sink>(
+fn serve_files<R: Threads + Wait + Sync, F: Files, O: Sink, G: Gate + Sync>(
     rt: &R,
     alloc: Global,
     files: &mut F,
     names: &[String],
-    workers: u8,
+    workers: Option<u8>,
     cpus: u8,
     out: &mut O,
+    gate: &G,
 ) -> Result<(), Status>
-    requires { (workers ≤ 16) × (cpus ≤ 16) × (are_pairs (length names.now) ≡ true) }
-    ensures { PodEnds (F.state files.old) (F.state files.new) (O.state out.old) (O.state out.new) workers (in_pairs (texts names.now)) (status_of result) }
+    requires { IfSome workers (λ w. w ≤ 16) × (cpus ≤ 16) × (are_pairs (length names.now) ≡ true) }
+    ensures { PodEnds (F.state files.old) (F.state files.new) (O.state out.old) (O.state out.new) (by_servers workers) (in_pairs (texts names.now)) (status_of result) }
 {
     let containers = read_containers(alloc, files, names)?;
     see_ranges(containers.as_slice())?;
-    let ended = serve_pod(rt, alloc, containers, workers, cpus, &OpenPod)?;
+    let ended = serve_containers(rt, alloc, containers, workers, cpus, gate)?;
     print_containers(alloc, ended.as_slice(), out)
 }
 
@@ -455,21 +435,31 @@ fn answer_form<R: Threads + Wait + Sync, F: Files, O: Sink, G: Gate + Sync>(
                 workers,
                 cpus,
             },
-        ) => run_files(rt, alloc, files, policy, script, workers, cpus, out, gate),
+        ) => run_files(
+            rt,
+            alloc,
+            files,
+            policy,
+            script,
+            Some(workers),
+            cpus,
+            out,
+            gate,
+        ),
         Some(
             Form::Lanes {
                 policy,
                 script,
                 cpus,
             },
-        ) => run_files_by_lanes(rt, alloc, files, policy, script, cpus, out),
+        ) => run_files(rt, alloc, files, policy, script, None, cpus, out, gate),
         Some(
             Form::Pod {
                 workers,
                 cpus,
                 pairs,
             },
-        ) => serve_files(rt, alloc, files, pairs, workers, cpus, out),
+        ) => serve_files(rt, alloc, files, pairs, workers, cpus, out, gate),
     }
 }
 

@@ -1,23 +1,25 @@
 //! How a script is played and run: its schedule in turns of the listener's lock, or without a lock; its container by threads.
 
-ghost use Rattle.std.specs.Prelude.{◌≡◌, ◌<◌, ◌≤◌, IfOk};
+ghost use Rattle.std.specs.Prelude.{◌≡◌, ◌<◌, ◌≤◌, [], ◌∷◌, length, IfOk, IfSome};
 ghost use Rattle.hist_model.specs.Legal.{played};
 ghost use Rattle.handover.specs.Handing.{handed};
 ghost use Rattle.handover.specs.Keeping.{all_handed};
-ghost use Rattle.broker_app.specs.Runs.{ByLanes};
-ghost use Rattle.worker_gate.specs.Endings.{HasEnded};
+ghost use Rattle.broker_app.specs.Pods.{AreEnded};
+ghost use Rattle.broker_app.specs.Runs.{by_servers};
+ghost use Rattle.pod_broker.specs.Pods.{AllApart, NoneOverlap};
+ghost use Rattle.pod_broker.specs.Serving.{histories, scripts};
 
+use crew::Gate;
 use handover_gate::{HandedPlay, play_handing, play_handing_in_turns};
 use hist_model::policy::Policy;
 use hist_model::script::Script;
-use lane_gate::{LaneServed, OpenLanes, serve_lanes};
+use pod_broker::{Container, serve_pod, serve_pod_by_lanes};
 use std::alloc::Global;
 use std::mem;
 use std::sync::Wait;
 use std::thread::Threads;
 use sys_abi::memory::NoMemory;
-use turn_lock::TurnLock;
-use worker_gate::{Gate, Played, Served, play, play_in_turns, serve_hands};
+use worker_gate::{Played, play, play_in_turns};
 use worker_ledger::successor::Heirs;
 
 /// Who plays the schedule of a script.
@@ -97,46 +99,62 @@ impl<'a, R: Wait> Player for TurnTaker<'a, R> {
     }
 }
 
-/// Serves the container of a script with threads until nothing is left to do, and closes the listener.
+/// The container of a script, as a pod of one.
+fn alone(alloc: Global, policy: Policy, script: Script) -> Result<Vec<Container>, NoMemory>
+    ensures { IfOk result (λ v. v.items ≡ record { policy = policy; script = script } ∷ []) }
+{
+    let mut containers = Vec::new(alloc);
+    containers.push(Container { policy, script })?;
+    Ok(containers)
+}
+
+/// The one that was served.
+fn only(mut served: Vec<Played>) -> Played
+    requires { length served.items ≡ 1 }
+    ensures { served.items ≡ result ∷ [] }
+{
+    match served.pop() {
+        Some(played) => played,
+        None => unreachable!(),
+    }
+}
+
+/// Serves containers with one crew until nothing is left to do in any, and closes their listeners: with workers up to this one, or by lanes.
+pub(crate) fn serve_containers<R: Threads + Wait + Sync, G: Gate + Sync>(
+    rt: &R,
+    alloc: Global,
+    containers: Vec<Container>,
+    workers: Option<u8>,
+    cpus: u8,
+    gate: &G,
+) -> Result<Vec<Played>, NoMemory>
+    requires few { length containers.items ≤ 8 }
+    requires numbers { IfSome workers (λ w. w ≤ 16) × (cpus ≤ 16) }
+    ensures ended { IfOk result (λ v. AreEnded (by_servers workers) containers.items v.items) }
+    ensures apart { NoneOverlap (scripts containers.items) → IfOk result (λ v. AllApart (histories v.items)) }
+{
+    match workers {
+        Some(workers) => serve_pod(rt, alloc, containers, workers, cpus, gate),
+        None => serve_pod_by_lanes(rt, alloc, containers, cpus, gate),
+    }
+}
+
+/// Serves the container of a script so until nothing is left to do, and closes the listener.
 pub(crate) fn run_container<R: Threads + Wait + Sync, G: Gate + Sync>(
     rt: &R,
     alloc: Global,
     policy: Policy,
     script: Script,
-    workers: u8,
+    workers: Option<u8>,
     cpus: u8,
     gate: &G,
 ) -> Result<Played, NoMemory>
-    requires numbers { (workers ≤ 16) × (cpus ≤ 16) }
-    ensures ended { IfOk result (λ p. HasEnded policy script workers p.history.events) }
+    requires numbers { IfSome workers (λ w. w ≤ 16) × (cpus ≤ 16) }
+    ensures ended { IfOk result (λ p. by_servers workers policy script p.history.events) }
     ensures policy { IfOk result (λ p. p.policy ≡ policy) }
     ensures script { IfOk result (λ p. p.script ≡ script) }
 {
-    let served = Served::new(alloc, policy, script, Some(workers))?;
-    let Ok((lock, mut pass)) = TurnLock::new(alloc, served) else {
-        return Err(NoMemory);
-    };
-    serve_hands(rt, alloc, &lock, &mut pass, workers, cpus, gate)?;
-    lock.close(pass).close_listener()
-}
-
-/// Serves the container of a script by lanes until nothing is left to do, and closes the listener.
-pub(crate) fn run_container_by_lanes<R: Threads + Wait + Sync>(
-    rt: &R,
-    alloc: Global,
-    policy: Policy,
-    script: Script,
-    cpus: u8,
-) -> Result<Played, NoMemory>
-    requires number { cpus ≤ 16 }
-    ensures ended { IfOk result (λ p. ByLanes policy script p.history.events) }
-    ensures policy { IfOk result (λ p. p.policy ≡ policy) }
-    ensures script { IfOk result (λ p. p.script ≡ script) }
-{
-    let served = LaneServed::new(alloc, policy, script)?;
-    let Ok((lock, mut pass)) = TurnLock::new(alloc, served) else {
-        return Err(NoMemory);
-    };
-    serve_lanes(rt, alloc, &lock, &mut pass, cpus, &OpenLanes)?;
-    lock.close(pass).into_served().close_listener()
+    let containers = alone(alloc, policy, script)?;
+    let served = serve_containers(rt, alloc, containers, workers, cpus, gate)?;
+    Ok(only(served))
 }

@@ -1,8 +1,8 @@
 //! The words with which the program is called.
 
-ghost use Rattle.std.specs.Prelude.{◌≡◌, ◌^◌, ◌-◌, map, IfSome};
+ghost use Rattle.std.specs.Prelude.{◌≡◌, ◌≤◌, ◌^◌, ◌-◌, map, IfSome};
 ghost use Rattle.std.specs.Option.{option_map};
-ghost use Rattle.broker_app.specs.Words.{run_form, lanes_form, are_pairs, pod_form, handover_form, delays_of, explore_form, stress_form, two_words, three_words, short_words, four_words, five_words, few_words, form};
+ghost use Rattle.broker_app.specs.Words.{run_form, lanes_form, are_pairs, pod_form, handover_form, delays_of, servers_of, explore_form, stress_form, two_words, three_words, short_words, four_words, five_words, few_words, form};
 ghost use Rattle.hist_model.specs.Words.{number_between};
 ghost use Rattle.broker_app.specs.Forms.{IsInRange, form_of, texts};
 
@@ -94,10 +94,10 @@ pub enum Form<'a> {
         script: &'a str,
         cpus: u8,
     },
-    /// Serve containers side by side: two numbers from 0 to 16, of the hands that serve notifications and of those that step
-    /// tasks, and the names of 1 to 8 pairs of files, each a policy's and a script's, one after another.
+    /// Serve containers side by side: a number from 0 to 16 of the threads that serve notifications, or none where lanes serve them,
+    /// another of those that step tasks, and the names of 1 to 8 pairs of files, each a policy's and a script's, one after another.
     Pod {
-        workers: u8,
+        workers: Option<u8>,
         cpus: u8,
         pairs: &'a [String],
     },
@@ -136,17 +136,29 @@ fn are_pairs(count: usize) -> bool
     2 <= count && count <= 16 && count % 2 == 0
 }
 
+/// How many workers serve, 0 to 16, or none where lanes do.
+fn servers_of(word: &str) -> Option<Option<u8>>
+    ensures meant { result ≡ servers_of word.now }
+    ensures range { IfSome result (λ workers. IfSome workers (λ w. w ≤ 16)) }
+{
+    if word.as_bytes() == b"lanes".as_slice() {
+        return Some(None);
+    }
+    let workers = number_between(word.as_bytes(), 0, 16)?;
+    Some(Some(workers as u8))
+}
+
 fn pod_form<'a>(workers: &str, cpus: &str, pairs: &'a [String]) -> Option<Form<'a>>
-    ensures meant { option_map form_of result ≡ pod_form (number_between 0 16 workers.now) (number_between 0 16 cpus.now) (texts pairs.now) }
+    ensures meant { option_map form_of result ≡ pod_form (servers_of workers.now) (number_between 0 16 cpus.now) (texts pairs.now) }
     ensures range { IfSome result (λ f. IsInRange f) }
 {
-    let workers = number_between(workers.as_bytes(), 0, 16)?;
+    let workers = servers_of(workers)?;
     let cpus = number_between(cpus.as_bytes(), 0, 16)?;
     if !are_pairs(pairs.len()) {
         return None;
     }
     Some(Form::Pod {
-        workers: workers as u8,
+        workers,
         cpus: cpus as u8,
         pairs,
     })

@@ -16,8 +16,6 @@ use Rattle.lane_seats.specs.Sittings.{StandsFor}
 use Rattle.lane_seats.specs.declared.seats.Sitting.{Sitting}
 use Rattle.worker_gate.specs.Keeping.{Adds, AddsTask, ServedFacts}
 
--- ---- Who may step
-
 -- ---- The start
 
 pub start_is_free : (S : Script) (seat : ℕ) → is_taken (started S) seat ≡ false

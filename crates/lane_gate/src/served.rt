@@ -1,84 +1,21 @@
 //! The state behind the listener's lock where lanes are served.
 
-ghost use Rattle.std.specs.Prelude.{◌≡◌, ◌≤◌, true, IfOk, OnErr, OnOk, Some};
+ghost use Rattle.std.specs.Prelude.{◌≡◌, ◌≤◌, IfOk, Some};
 ghost use Rattle.hist_model.specs.Legal.{started};
 ghost use Rattle.hist_model.specs.declared.event.Actor.TheVariants.{Worker};
-ghost use Rattle.lane_seats.specs.Lanes.{KeepsLanes as MayStep};
+ghost use Rattle.lane_seats.specs.Lanes.{KeepsLanes as MayStep, Laned};
+ghost use Rattle.worker_gate.specs.Hands.{Ends};
+ghost use Rattle.worker_gate.specs.Keeping.{TakesTurn};
 
-use hist_model::event::What;
+use crew::{Came, Crewed, Point, Turned, Work};
 use hist_model::history::{History, Journalled};
 use hist_model::policy::Policy;
 use hist_model::script::Script;
-use lane_seats::{SEATS, Seats, lane_of};
+use lane_seats::{SEATS, Seats};
 use std::alloc::Global;
 use std::marker::Model;
 use sys_abi::memory::NoMemory;
-use worker_gate::{Served, Work};
-
-/// What a hand does in a turn.
-#[derive(Clone, Copy, Debug)]
-pub(crate) enum Errand {
-    /// Receives a notification at the lowest free seat.
-    Receive,
-    /// Takes a step of the worker at this seat, if its session is its lane's next.
-    Serve(u8),
-    /// Steps a task that is worth a try.
-    StepTask,
-    /// Looks whether hands are done.
-    Look,
-}
-
-/// What a turn came to.
-#[derive(Clone, Copy, Debug)]
-pub(crate) enum Came {
-    /// Nothing is left to do, or a hand found no memory.
-    Over,
-    /// There was nothing to do.
-    Idle,
-    /// A step was taken.
-    Stepped,
-    /// A notification of this lane was received, at this seat.
-    Received { lane: u8, seat: u8, id: u64 },
-    /// A check found the notification of this id valid.
-    Valid(u64),
-    /// The answer to the notification of this id was sent.
-    Sent(u64),
-    /// A worker let go.
-    LetGo,
-}
-
-/// What a hand learns from its turn: what it came to, and the work that is left.
-#[derive(Clone, Copy, Debug)]
-pub(crate) struct Turned {
-    pub(crate) came: Came,
-    /// Whether a worker's request for a descriptor may have come to something.
-    pub(crate) settled: bool,
-    pub(crate) left: Work,
-}
-
-impl Turned {
-    /// Nothing is left to do.
-    pub(crate) const OVER: Turned = Turned {
-        came: Came::Over,
-        settled: false,
-        left: Work::NONE,
-    };
-}
-
-/// What the step of the worker at a seat came to.
-fn came_to(step: &What, seat: u8) -> Came {
-    match step {
-        What::Recv { answer: Ok(notif) } => Came::Received {
-            lane: lane_of(notif.call.nr),
-            seat,
-            id: notif.id,
-        },
-        What::Check { id, answer: Ok(()) } => Came::Valid(*id),
-        What::Send { id, .. } => Came::Sent(*id),
-        What::LetGo => Came::LetGo,
-        _ => Came::Stepped,
-    }
-}
+use worker_gate::Served;
 
 /// The state behind the lock: that of `worker_gate` for workers 0 to 15, and who sits where. Its history is legal and laned, and has
 /// no `Skip`.
@@ -86,6 +23,8 @@ fn came_to(step: &What, seat: u8) -> Came {
 pub struct LaneServed {
     served: Served,
     seats: Seats,
+    /// The lanes whose next session waits for its request for a descriptor.
+    waiting: Work,
 }
 
 impl Model for LaneServed {
@@ -110,9 +49,6 @@ impl Journalled for LaneServed {
 }
 
 impl LaneServed {
-    ghost use Rattle.lane_gate.specs.Keeping.{IsServedInLanes};
-    ghost use Rattle.worker_gate.specs.Keeping.{TakesTurn};
-
     /// The state after a script's start, with all seats free.
     pub fn new(alloc: Global, policy: Policy, script: Script) -> Result<LaneServed, NoMemory>
         ensures setup { IfOk result (λ s. s.setup ≡ record { policy = policy; script = script; limit = Some 15 }) }
@@ -120,19 +56,39 @@ impl LaneServed {
     {
         let served = Served::new(alloc, policy, script, Some(SEATS - 1))?;
         let seats = Seats::new();
-        Ok(LaneServed { served, seats })
+        Ok(LaneServed {
+            served,
+            seats,
+            waiting: Work::NONE,
+        })
     }
 
-    /// The same without the table of seats.
+    /// The same without the table of seats. The history is laned.
     pub fn into_served(self) -> Served
-        ensures { result ≡ self }
+        ensures same { result ≡ self }
+        ensures laned { Laned self.history.events }
     {
-        let LaneServed { served, seats: _ } = self;
+        let LaneServed { served, .. } = self;
         served
     }
 
-    /// A step of the worker at a seat, unless it waits; tells what it came to.
-    fn step_seat(&mut self, alloc: Global, seat: u8) -> Result<Came, NoMemory>
+    /// What the step came to that the worker at a seat took.
+    fn came(&mut self, seat: u8, lane: u8) -> Came
+        ensures { self.new ≡ self.old }
+    {
+        match self.served.point(seat) {
+            Some((Point::Fetched, _)) | None => Came::Stepped,
+            Some((point, id)) => Came::Reached {
+                point,
+                server: lane,
+                id,
+                keeps: Work::lane(lane),
+            },
+        }
+    }
+
+    /// A step of the worker at a seat, unless it waits; says whether it took one.
+    fn step_seat(&mut self, alloc: Global, seat: u8) -> Result<bool, NoMemory>
         requires seat { seat ≤ 15 }
         requires may { MayStep self.old.history.events (Worker seat) }
         ensures { TakesTurn self.old self.new }
@@ -140,33 +96,85 @@ impl LaneServed {
         let place = self.served.journal().len();
         let stepped = self.served.step_worker(alloc, seat)?;
         if !stepped {
-            return Ok(Came::Idle);
+            return Ok(false);
         }
         match self.served.journal().get(place) {
             Some(event) => {
                 self.seats.note(seat, &event.what, place);
-                Ok(came_to(&event.what, seat))
+                Ok(true)
             }
             None => unreachable!(),
         }
     }
 
-    /// A receive at the lowest free seat, if a seat is free and a call is there.
-    fn receive(&mut self, alloc: Global) -> Result<Came, NoMemory>
+    /// A receive at the lowest free seat, if a seat is free and a call is there; says whether it was taken.
+    fn try_receive(&mut self, alloc: Global) -> Result<bool, NoMemory>
         ensures { TakesTurn self.old self.new }
     {
         match self.seats.lowest_free() {
             Some(seat) => self.step_seat(alloc, seat),
-            None => Ok(Came::Idle),
+            None => Ok(false),
+        }
+    }
+
+    /// A receive, if there is something to receive.
+    fn receive(&mut self, alloc: Global) -> Result<Came, NoMemory>
+        ensures { TakesTurn self.old self.new }
+    {
+        if self.try_receive(alloc)? {
+            Ok(Came::Stepped)
+        } else {
+            Ok(Came::Idle)
         }
     }
 
     /// A step of the worker at a seat, if its session is its lane's next.
-    fn serve_seat(&mut self, alloc: Global, seat: u8) -> Result<Came, NoMemory>
+    fn serve_seat(&mut self, alloc: Global, seat: u8) -> Result<bool, NoMemory>
         ensures { TakesTurn self.old self.new }
     {
         if seat < SEATS && self.seats.is_next(seat) {
             self.step_seat(alloc, seat)
+        } else {
+            Ok(false)
+        }
+    }
+
+    /// A step in a lane, at the seat that is its next.
+    fn serve_lane(&mut self, alloc: Global, seat: u8, lane: u8) -> Result<Came, NoMemory>
+        ensures { TakesTurn self.old self.new }
+    {
+        if self.serve_seat(alloc, seat)? {
+            return Ok(self.came(seat, lane));
+        }
+        self.waiting = self.waiting.with(Work::lane(lane));
+        Ok(Came::Idle)
+    }
+
+    /// A seat that is the next of a lane among this work, and may have a step to take; and its lane.
+    fn seat_for(&self, work: Work) -> Option<(u8, u8)> {
+        let work = work.without(self.waiting);
+        for seat in 0..SEATS {
+            if let Some(lane) = self.seats.lane_at(seat)
+                && work.has(Work::lane(lane))
+                && self.seats.is_next(seat)
+            {
+                return Some((seat, lane));
+            }
+        }
+        None
+    }
+
+    /// A step of what there is of this work: in a lane, a receive, or a task's.
+    fn take_step(&mut self, alloc: Global, work: Work) -> Result<Came, NoMemory>
+        ensures { TakesTurn self.old self.new }
+    {
+        if let Some((seat, lane)) = self.seat_for(work) {
+            return self.serve_lane(alloc, seat, lane);
+        }
+        if work.has(Work::CALLS) && self.left().has(Work::CALLS) {
+            self.receive(alloc)
+        } else if work.has(Work::TASKS) {
+            self.step_task(alloc)
         } else {
             Ok(Came::Idle)
         }
@@ -183,62 +191,63 @@ impl LaneServed {
         }
     }
 
-    /// An errand.
-    fn run_errand(&mut self, alloc: Global, errand: Errand) -> Result<Came, NoMemory>
-        ensures { TakesTurn self.old self.new }
-    {
-        match errand {
-            Errand::Receive => self.receive(alloc),
-            Errand::Serve(seat) => self.serve_seat(alloc, seat),
-            Errand::StepTask => self.step_task(alloc),
-            Errand::Look => Ok(Came::Idle),
-        }
-    }
-
-    /// The work that is left: a call can be received while a seat is free.
+    /// The work that is left: a call can be received while a seat is free, and a lane has some where a session goes on that doesn't wait.
     fn left(&self) -> Work {
-        let left = self.served.left();
-        Work {
-            calls: left.calls && self.seats.lowest_free().is_some(),
-            tasks: left.tasks,
+        let mut left = self.served.left();
+        if self.seats.lowest_free().is_none() {
+            left = left.without(Work::CALLS);
         }
+        for seat in 0..SEATS {
+            if let Some(lane) = self.seats.lane_at(seat) {
+                left = left.with(Work::lane(lane));
+            }
+        }
+        left.without(self.waiting)
     }
 
-    /// An errand, and what there is to do after it.
-    fn try_errand(&mut self, alloc: Global, errand: Errand) -> Result<Turned, NoMemory>
+    /// Reads the history's new events. Where a request for a descriptor may have come to something by them, no lane waits.
+    fn catch_up(&mut self) -> Result<(), NoMemory>
+        ensures { self.new ≡ self.old }
+    {
+        if self.served.catch_up()? {
+            self.waiting = Work::NONE;
+        }
+        Ok(())
+    }
+
+    /// A step of this work, and what there is to do after it.
+    fn try_serve(&mut self, alloc: Global, work: Work) -> Result<Turned, NoMemory>
         ensures { TakesTurn self.old self.new }
     {
-        // The script's start makes the first task, before any hand's turn.
-        let _ = self.served.catch_up()?;
-        let came = self.run_errand(alloc, errand)?;
-        let settled = self.served.catch_up()?;
+        // The script's start makes the first task, before any turn.
+        self.catch_up()?;
+        let came = self.take_step(alloc, work)?;
+        self.catch_up()?;
         Ok(Turned {
             came,
-            settled,
+            settled: false,
+            in_hand: false,
             left: self.left(),
+            is_over: self.served.is_over(),
         })
     }
+}
 
-    /// An errand, unless hands are done. One that finds no memory ends them all.
-    pub(crate) fn serve(&mut self, alloc: Global, errand: Errand) -> Turned
-        ensures { TakesTurn self.old self.new }
-    {
-        if self.served.is_over() {
-            return Turned::OVER;
-        }
-        match self.try_errand(alloc, errand) {
+impl Crewed for LaneServed {
+    ghost ends = { Ends };
+
+    /// Its threads serve as whichever worker sits at a seat, and none as one of its own.
+    fn serve(&mut self, alloc: Global, _worker: Option<u8>, work: Work) -> Turned {
+        match self.try_serve(alloc, work) {
             Ok(turned) => turned,
             Err(NoMemory) => {
                 self.served.give_up();
-                Turned::OVER
+                Turned::NO_MEMORY
             }
         }
     }
 
-    /// Whether nothing is left to do: every task has ended, no call is listed, and each worker has let go.
-    pub(crate) fn is_served(&self) -> bool
-        ensures { result ≡ true → IsServedInLanes self.now.setup self.now.history.events }
-    {
+    fn is_served(&self) -> bool {
         self.served.is_served()
     }
 }

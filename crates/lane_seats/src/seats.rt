@@ -112,6 +112,14 @@ impl Seats {
         None
     }
 
+    /// The lane of the session that goes on at this seat, if one does.
+    pub fn lane_at(&self, seat: u8) -> Option<u8> {
+        match self.seats.as_slice().get(usize::from(seat)) {
+            Some(Some(sitting)) => Some(sitting.lane),
+            _ => None,
+        }
+    }
+
     /// Whether a session goes on at this seat before which none of its lane goes on.
     pub fn is_next(&self, seat: u8) -> bool
         requires { seat ≤ 15 }

@@ -1,22 +1,25 @@
 -- Containers that were served side by side give no common PID, where their scripts' ranges don't overlap.
 -- Each gives numbers of its own script's range alone, and two ranges that don't overlap have none in common; by induction on the lists.
-use Rattle.std.proofs.Common.{◌≡◌, ℕ, suc, true, false, List, [], ◌∷◌, map, All, Option, Some, refl, ap, subst, arith}
+use Rattle.std.proofs.Common.{◌≡◌, ℕ, suc, false, List, [], ◌∷◌, map, All, Some, refl, subst, arith}
 use Rattle.std.proofs.lemmas.Bool.{false_from_ne_true}
-use Rattle.std.proofs.lemmas.List.Elements.{All-cons, All-head, All-nil, All-tail, All-weaker}
+use Rattle.std.proofs.lemmas.List.Elements.{All-cons, All-head, All-nil, All-tail}
 use Rattle.std.proofs.lemmas.List.Kept.{AllPairs-cons}
+use Rattle.std.proofs.lemmas.Result.{IfOk-weaker}
+use Rattle.std.specs.Prelude.{Result, IfOk}
 use Rattle.std.specs.List.{AllPairs, AllZip}
 use Rattle.hist_model.specs.declared.event.Event.{Event}
+use Rattle.hist_model.specs.declared.history.Setup.{Setup}
 use Rattle.hist_model.specs.declared.policy.Policy.{Policy}
 use Rattle.hist_model.specs.declared.script.Script.{Script}
-use Rattle.turn_lock.specs.Facts.{LockFacts}
+use Rattle.crew.specs.Duties.{MayServeAll, Takes}
+use Rattle.crew.specs.declared.duty.Crew.{Crew}
 use Rattle.worker_gate.proofs.Endings.{has_ended}
 use Rattle.worker_gate.specs.Endings.{ClosesBehind, HasEnded}
 use Rattle.worker_gate.specs.Hands.{Ends}
 use Rattle.worker_gate.specs.declared.served.Played.{Played}
 use Rattle.pod_broker.proofs.Ranges.{not-shared}
-use Rattle.pod_broker.specs.Locks.{HasLimit, IsLimited, IsServedBehind, container_of}
 use Rattle.pod_broker.specs.Pods.{AllApart, Apart, GivesInRange, NoneOverlap, overlap, was_given}
-use Rattle.pod_broker.specs.Serving.{AreServed, IsServedTo, histories, scripts}
+use Rattle.pod_broker.specs.Serving.{AreServed, HasEndedAs, IsClosedAs, IsLimited, IsServedTo, histories, scripts, set_up_for}
 use Rattle.pod_broker.specs.declared.container.Container.{Container}
 
 -- ---- pairs
@@ -29,11 +32,11 @@ others-of R x xs h = λ i j d l k. h (suc i) (suc j) d (omega arith) (omega arit
 
 -- ---- PIDs
 
-module _ (workers : ℕ) where
-  two-apart : (c d : Container) (p q : Played) → overlap c.script d.script ≡ false → IsServedTo workers c p → IsServedTo workers d q → Apart p.history.events q.history.events
+module _ (workers : ℕ) (Keeps : List Event → Type 0) where
+  two-apart : (c d : Container) (p q : Played) → overlap c.script d.script ≡ false → IsServedTo workers Keeps c p → IsServedTo workers Keeps d q → Apart p.history.events q.history.events
   two-apart c d p q o s t = λ n g. false_from_ne_true (was_given q.history.events n) (λ h. let out = not-shared c.script d.script n o (s.inside n g) in let inside = t.inside n h in cc)
 
-  one-apart : (c : Container) (p : Played) (cs : List Container) (ps : List Played) → IsServedTo workers c p → AreServed workers cs ps → All (λ (T : Script). overlap c.script T ≡ false) (scripts cs)
+  one-apart : (c : Container) (p : Played) (cs : List Container) (ps : List Played) → IsServedTo workers Keeps c p → AreServed workers Keeps cs ps → All (λ (T : Script). overlap c.script T ≡ false) (scripts cs)
       → All (Apart p.history.events) (histories ps)
   one-apart c p [] [] s t o = All-nil (Apart p.history.events)
   one-apart c p [] (q ∷ qs) s t o = absurd t
@@ -43,7 +46,7 @@ module _ (workers : ℕ) where
       (two-apart c d p q (All-head (λ (T : Script). overlap c.script T ≡ false) d.script (scripts cs) o) s t.0)
       (one-apart c p cs qs s t.1 (All-tail (λ (T : Script). overlap c.script T ≡ false) d.script (scripts cs) o))
 
-  pub all-apart : (cs : List Container) (ps : List Played) → AreServed workers cs ps → NoneOverlap (scripts cs) → AllApart (histories ps)
+  pub all-apart : (cs : List Container) (ps : List Played) → AreServed workers Keeps cs ps → NoneOverlap (scripts cs) → AllApart (histories ps)
   all-apart [] [] t o = λ i j d l k. absurd (omega arith)
   all-apart [] (p ∷ ps) t o = absurd t
   all-apart (c ∷ cs) [] t o = absurd t
@@ -52,27 +55,40 @@ module _ (workers : ℕ) where
       (one-apart c p cs ps t.0 t.1 (first-of (λ S T. overlap S T ≡ false) c.script (scripts cs) o))
       (all-apart cs ps t.1 (others-of (λ S T. overlap S T ≡ false) c.script (scripts cs) o))
 
-  -- what was put behind locks with this limit was served to its end
-  pub served-behind : (ls : List LockFacts) (ps : List Played) → All (HasLimit workers) ls → AllZip IsServedBehind ls ps → AreServed workers (map container_of ls) ps
-  served-behind [] [] h z = tt
-  served-behind [] (p ∷ ps) h z = absurd z
-  served-behind (l ∷ ls) [] h z = absurd z
-  served-behind (l ∷ ls) (p ∷ ps) h z = (z.0 workers (All-head (HasLimit workers) l ls h), served-behind ls ps (All-tail (HasLimit workers) l ls h) z.1)
+  -- ---- what was closed as it was set up
 
-  -- each lock with the limit has one
-  pub limited : (ls : List LockFacts) → All (HasLimit workers) ls → All IsLimited ls
-  limited = All-weaker (HasLimit workers) IsLimited (λ l h. (workers, h))
-
-  -- what hands have served to its end behind a lock with the limit, once its listener is closed
-  pub is-served : (l : LockFacts) (p : Played) (seen K : List Event) → p.policy ≡ l.setup.policy → p.script ≡ l.setup.script → Ends l.setup true seen → K ≡ seen → ClosesBehind K p.history.events → GivesInRange p.policy p.script
-      → HasLimit workers l → IsServedTo workers (container_of l) p
-  is-served l p seen K q s ends k closes inside limit = record { policy = q; script = s; ended = ended; inside = λ n given. own p.history.events ended.legal n given }
+  closed-one : (c : Container) (p : Played) → IsClosedAs Keeps (set_up_for workers c) p → IsServedTo workers Keeps c p
+  closed-one c p closed = record {
+    policy = closed.policy;
+    script = closed.script;
+    ended = ended;
+    keeps = closed.keeps;
+    inside = λ n given. own p.history.events ended.legal n given;
+  }
     where
-      made : l.setup ≡ record { policy = l.setup.policy; script = l.setup.script; limit = Some workers }
-      made = ap (λ (o : Option ℕ). record { policy = l.setup.policy; script = l.setup.script; limit = o }) limit
+      ended : HasEnded c.policy c.script workers p.history.events
+      ended = closed.ended workers refl
 
-      ended : HasEnded l.setup.policy l.setup.script workers p.history.events
-      ended = has_ended l.setup.policy l.setup.script l.setup workers seen K p.history.events made (ends workers limit refl) k closes
+      own : GivesInRange c.policy c.script
+      own = subst (λ (P : Policy). GivesInRange P c.script) closed.policy (subst (λ (S : Script). GivesInRange p.policy S) closed.script closed.inside)
 
-      own : GivesInRange l.setup.policy l.setup.script
-      own = subst (λ (P : Policy). GivesInRange P l.setup.script) q (subst (λ (S : Script). GivesInRange p.policy S) s inside)
+  pub all-closed-so : (cs : List Container) (ps : List Played) → AllZip (IsClosedAs Keeps) (map (set_up_for workers) cs) ps → AreServed workers Keeps cs ps
+  all-closed-so [] [] z = tt
+  all-closed-so [] (p ∷ ps) z = absurd z
+  all-closed-so (c ∷ cs) [] z = absurd z
+  all-closed-so (c ∷ cs) (p ∷ ps) z = (closed-one c p z.0, all-closed-so cs ps z.1)
+
+  -- each container that is set up so has a last worker
+  pub limited : (cs : List Container) → All IsLimited (map (set_up_for workers) cs)
+  limited [] = All-nil IsLimited
+  limited (c ∷ cs) = All-cons IsLimited (set_up_for workers c) (map (set_up_for workers) cs) (workers, refl) (limited cs)
+
+-- and takes a crew whose workers are up to that one
+pub taken : (workers : ℕ) (crew : Crew) (cs : List Container) → MayServeAll (Some workers) crew → All (Takes crew) (map (set_up_for workers) cs)
+taken workers crew [] may = All-nil (Takes crew)
+taken workers crew (c ∷ cs) may = All-cons (Takes crew) (set_up_for workers c) (map (set_up_for workers) cs) may (taken workers crew cs may)
+
+-- ---- what is closed where nothing is left to do
+
+pub ends-as : {E : Type 0} (made : Setup) (K : List Event) (r : Result Played E) → Ends made K → IfOk r (λ p. ClosesBehind K p.history.events) → IfOk r (λ p. HasEndedAs made p.history.events)
+ends-as made K r ends closed = IfOk-weaker r _ _ (λ p closes workers limit. has_ended made workers K p.history.events (ends workers limit) closes) closed

@@ -1,6 +1,5 @@
 pub mod Isolation
 pub mod Ranges
 pub mod Worked
-pub mod Passes
 pub mod Closing
 pub mod Ended

@@ -1,4 +1,3 @@
 pub mod Pods
 pub mod Serving
-pub mod Locks
 pub mod Examples

@@ -2,12 +2,12 @@
 
 use crate::top_call::{Given, run, sound};
 use broker_app::status::{InputFile, Refusal, Status};
+use crew::OpenGate;
 use std::alloc::Global;
 use std::process::Abort;
 use std::sync::Wait;
 use std::test::Fail;
 use std::thread::Threads;
-use worker_gate::OpenGate;
 
 const POLICY: &str = "{\"config\":{\"security.syscalls.intercept.mknod\":\"true\"}}";
 

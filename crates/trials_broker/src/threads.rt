@@ -2,13 +2,13 @@
 
 use crate::top_call::{run, sound};
 use broker_app::status::Status;
+use crew::{Gate, OpenGate, Point};
 use std::alloc::Global;
 use std::process::Abort;
 use std::sync::Wait;
 use std::sync::atomic::{AtomicU64, Ordering};
 use std::test::Fail;
 use std::thread::Threads;
-use worker_gate::{Gate, OpenGate, Point};
 
 const POLICY: &str = "{\"config\":{\"security.syscalls.intercept.mknod\":\"true\"}}";
 
@@ -56,7 +56,7 @@ impl HoldFirst {
 }
 
 impl Gate for HoldFirst {
-    fn at(&self, point: Point, _worker: u8, id: u64) {
+    fn at(&self, point: Point, _container: u8, _server: u8, id: u64) {
         match point {
             Point::Fetched => {
                 let _ = self

@@ -2,12 +2,12 @@
 
 use broker_app::broker::broker;
 use broker_app::status::Status;
+use crew::Gate;
 use io_edge::memory::{MemFiles, MemSink};
 use std::alloc::Global;
 use std::sync::Wait;
 use std::test::Fail;
 use std::thread::Threads;
-use worker_gate::Gate;
 
 /// The size of the sinks, in bytes.
 const ROOM: usize = 16384;

@@ -1,8 +1,9 @@
 //! Containers that are served by lanes, under a gate that holds one lane until others came to a point.
 
+use crew::{Gate, OpenGate, Point};
 use hist_model::event::What;
 use hist_model::history::History;
-use lane_gate::{LaneGate, LaneServed, OpenLanes, serve_lanes};
+use pod_broker::{Container, serve_pod_by_lanes};
 use policy_reader::read_policy;
 use script_reader::read_script;
 use std::alloc::Global;
@@ -12,7 +13,7 @@ use std::sync::atomic::{AtomicU64, Ordering};
 use std::test::Fail;
 use std::thread;
 use std::thread::Threads;
-use turn_lock::TurnLock;
+use worker_gate::Played;
 
 /// A task that makes a node, and one that asks for figures.
 const TWO_KINDS: &str =
@@ -67,8 +68,9 @@ impl HoldLane {
     }
 }
 
-impl LaneGate for HoldLane {
-    fn checked(&self, lane: u8, _id: u64) {
+impl HoldLane {
+    /// The second check found a notification of this lane valid.
+    fn checked(&self, lane: u8) {
         if lane == self.held {
             self.came.fetch_add(1, Ordering::SeqCst);
             self.wait_for(&self.sent, self.until);
@@ -77,15 +79,26 @@ impl LaneGate for HoldLane {
         }
     }
 
-    fn sent(&self, lane: u8, _id: u64) {
+    /// The answer to one of this lane was sent.
+    fn sent(&self, lane: u8) {
         if lane == self.other {
             self.sent.fetch_add(1, Ordering::SeqCst);
         }
     }
 }
 
+impl Gate for HoldLane {
+    fn at(&self, point: Point, _container: u8, lane: u8, _id: u64) {
+        match point {
+            Point::Fetched => {}
+            Point::Checked => self.checked(lane),
+            Point::Sent => self.sent(lane),
+        }
+    }
+}
+
 /// The history of a script's container that was served by lanes, with one hand beside that steps tasks.
-fn served<R: Abort + Threads + Wait + Sync, G: LaneGate + Sync>(
+fn served<R: Abort + Threads + Wait + Sync, G: Gate + Sync>(
     rt: &R,
     alloc: Global,
     script: &str,
@@ -101,13 +114,15 @@ fn served<R: Abort + Threads + Wait + Sync, G: LaneGate + Sync>(
         panic!(rt; "the script is too long");
     }
     let script = read_script(alloc, script.as_bytes()).expect(rt, "script");
-    let served = LaneServed::new(alloc, policy, script).expect(rt, "memory");
-    let Ok((lock, mut pass)) = TurnLock::new(alloc, served) else {
-        panic!(rt; "memory");
+    let mut containers = Vec::new(alloc);
+    containers
+        .push(Container { policy, script })
+        .expect(rt, "memory");
+    let mut served = serve_pod_by_lanes(rt, alloc, containers, 1, gate).expect(rt, "memory");
+    let Some(Played { history, .. }) = served.pop() else {
+        panic!(rt; "nothing was served");
     };
-    serve_lanes(rt, alloc, &lock, &mut pass, 1, gate).expect(rt, "memory");
-    let played = lock.close(pass).into_served().finish().expect(rt, "memory");
-    played.history
+    history
 }
 
 /// How many steps of a history answered a call, and how many had the effect that was asked for.
@@ -159,6 +174,6 @@ fn a_mount_holds_up_no_mknod(rt: HostRuntime) -> Result<(), Fail> {
 
 #[test]
 fn serves_with_a_gate_that_is_open(rt: HostRuntime) {
-    let history = served(&rt, rt.alloc(), TWO_KINDS, &OpenLanes);
+    let history = served(&rt, rt.alloc(), TWO_KINDS, &OpenGate);
     assert_eq!(&rt; history.len(), 30);
 }

@@ -2,9 +2,10 @@
 
 ghost use Rattle.std.specs.Prelude.{◌≡◌, ◌≤◌, ◌<◌, length, IfOk, OnOk};
 
+use crew::{Gate, OpenGate, Point};
 use hist_model::event::What;
 use hist_model::history::History;
-use pod_broker::{Container, OpenPod, PodGate, serve_pod};
+use pod_broker::{Container, serve_pod, serve_pod_by_lanes};
 use policy_reader::read_policy;
 use script_reader::read_script;
 use std::alloc::Global;
@@ -63,16 +64,12 @@ impl HoldFirst {
     }
 }
 
-impl PodGate for HoldFirst {
-    fn checked(&self, container: u8, _id: u64) {
-        if container == 0 {
+impl Gate for HoldFirst {
+    fn at(&self, point: Point, container: u8, _server: u8, _id: u64) {
+        if point == Point::Checked && container == 0 {
             self.came.fetch_add(1, Ordering::SeqCst);
             self.hold();
-        }
-    }
-
-    fn sent(&self, container: u8, _id: u64) {
-        if container != 0 {
+        } else if point == Point::Sent && container != 0 {
             self.sent.fetch_add(1, Ordering::SeqCst);
         }
     }
@@ -160,7 +157,7 @@ fn are_whole(all: &Vec<Played>, count: usize) -> bool {
 }
 
 /// Serves so many containers, and sees that all were served to their ends.
-fn serve<R: Abort + Threads + Wait + Sync, G: PodGate + Sync>(
+fn serve<R: Abort + Threads + Wait + Sync, G: Gate + Sync>(
     rt: &R,
     alloc: Global,
     count: u8,
@@ -172,6 +169,22 @@ fn serve<R: Abort + Threads + Wait + Sync, G: PodGate + Sync>(
 {
     let containers = containers(rt, alloc, count);
     let played = serve_pod(rt, alloc, containers, workers, cpus, gate).expect(rt, "memory");
+    assert!(rt; are_whole(&played, usize::from(count)));
+    Ok(())
+}
+
+/// Serves so many containers by lanes, and sees that all were served to their ends.
+fn serve_by_lanes<R: Abort + Threads + Wait + Sync, G: Gate + Sync>(
+    rt: &R,
+    alloc: Global,
+    count: u8,
+    cpus: u8,
+    gate: &G,
+) -> Result<(), Fail>
+    requires { (count ≤ 8) × (cpus ≤ 16) }
+{
+    let containers = containers(rt, alloc, count);
+    let played = serve_pod_by_lanes(rt, alloc, containers, cpus, gate).expect(rt, "memory");
     assert!(rt; are_whole(&played, usize::from(count)));
     Ok(())
 }
@@ -196,13 +209,30 @@ fn serves_seven_containers_while_the_first_is_held(rt: HostRuntime) -> Result<()
 
 #[test]
 fn serves_all_by_the_calling_hand(rt: HostRuntime) -> Result<(), Fail> {
-    serve(&rt, rt.alloc(), 8, 0, 0, &OpenPod)
+    serve(&rt, rt.alloc(), 8, 0, 0, &OpenGate)
 }
 
 #[test]
 fn serves_all_by_many_hands(rt: HostRuntime) -> Result<(), Fail> {
     for _ in 0..50 {
-        serve(&rt, rt.alloc(), 8, 4, 3, &OpenPod)?;
+        serve(&rt, rt.alloc(), 8, 4, 3, &OpenGate)?;
+    }
+    Ok(())
+}
+
+#[test]
+fn a_held_lane_holds_up_no_other_container(rt: HostRuntime) -> Result<(), Fail> {
+    let gate = HoldFirst::new(14);
+    serve_by_lanes(&rt, rt.alloc(), 8, 1, &gate)?;
+    assert!(&rt; gate.came.load(Ordering::SeqCst) == 2);
+    assert!(&rt; gate.gave_up.load(Ordering::SeqCst) == 0);
+    Ok(())
+}
+
+#[test]
+fn serves_all_by_many_lanes(rt: HostRuntime) -> Result<(), Fail> {
+    for _ in 0..20 {
+        serve_by_lanes(&rt, rt.alloc(), 8, 3, &OpenGate)?;
     }
     Ok(())
 }

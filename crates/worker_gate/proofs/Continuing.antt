@@ -1,6 +1,6 @@
--- What a machine that keeps a limit keeps after a try of an actor, and after a try behind one that made no step.
+-- What a machine that keeps a limit keeps after a try of an actor.
 -- By cases on the limit and on whether the actor stepped: a step that was made is no skip, and its actor is within the limit.
-use Rattle.std.proofs.Common.{◌≡◌, ℕ, Bool, true, false, List, [], ◌∷◌, Option, Some, None, inl, inr, ◌∙◌, arith}
+use Rattle.std.proofs.Common.{◌≡◌, ℕ, Bool, true, false, List, [], ◌∷◌, Option, Some, None, inl, inr, arith}
 use Rattle.std.specs.Prelude.{Result, Ok, Err, IfOk, OnErr, ⊤}
 use Rattle.hist_model.specs.Kinds.{skips}
 use Rattle.hist_model.specs.Legal.{IsWithin}
@@ -11,11 +11,9 @@ use Rattle.hist_model.specs.declared.event.Event.{Event}
 use Rattle.hist_model.specs.declared.event.What.{What}
 use Rattle.hist_model.specs.declared.policy.Policy.{Policy}
 use Rattle.model_kernel.specs.Kernels.{past}
-use Rattle.turn_lock.proofs.Lists.{begins_trans}
-use Rattle.worker_gate.specs.Keeping.{Adds, AddsTask, Continues, IsKept, IsWithinLimit, MayServe}
+use Rattle.crew.specs.Duties.{MayServe}
+use Rattle.worker_gate.specs.Keeping.{Adds, AddsTask, Continues, IsKept, IsWithinLimit}
 use Rattle.broker_machine.specs.Serving.{Reaches, Tries}
-use Rattle.broker_machine.specs.Workers.{is_step}
-use Rattle.broker_machine.specs.declared.deeds.Outcome.{Outcome}
 use Rattle.broker_machine.specs.declared.machine.Machine.{Machine}
 
 -- the actor is no worker above the limit
@@ -57,11 +55,6 @@ module _ (P : Policy) (limit : Option ℕ) (old new : Machine) (kept : IsKept P 
   went_on a may (Ok b) done same = tried_on a may b done
   went_on a may (Err e) done same = stayed_on same
 
-  -- and with a worker's, which tells what came of it
-  pub served_on : {E : Type 0} (a : Actor) → MayAct limit a → (r : Result Outcome E) → IfOk r (λ o. Tries P old a (is_step o) new) → OnErr r (Reaches P old (past old.kernel) new) → Continues P limit old new
-  served_on a may (Ok o) done same = tried_on a may (is_step o) done
-  served_on a may (Err e) done same = stayed_on same
-
 module _ (P : Policy) (old new : Machine) where
   -- what a try adds to the history
   adds : (a : Actor) (b : Bool) → Tries P old a b new → Adds a b (past old.kernel) (past new.kernel)
@@ -71,10 +64,6 @@ module _ (P : Policy) (old new : Machine) where
   pub tried : {E : Type 0} (a : Actor) (r : Result Bool E) → IfOk r (λ b. Tries P old a b new) → IfOk r (λ b. Adds a b (past old.kernel) (past new.kernel))
   tried a (Ok b) t = adds a b t
   tried a (Err e) t = tt
-
-  pub served : {E : Type 0} (a : Actor) (r : Result Outcome E) → IfOk r (λ o. Tries P old a (is_step o) new) → IfOk r (λ o. Adds a (is_step o) (past old.kernel) (past new.kernel))
-  served a (Ok o) t = adds a (is_step o) t
-  served a (Err e) t = tt
 
   -- without memory, nothing
   pub lacked : {T E : Type 0} (r : Result T E) → OnErr r (Reaches P old (past old.kernel) new) → OnErr r (past new.kernel ≡ past old.kernel)
@@ -86,12 +75,3 @@ module _ (P : Policy) (old new : Machine) where
   task_tried n (Ok true) t same = inr (n, _, t.0.events)
   task_tried n (Ok false) t same = inl t.0.events
   task_tried n (Err e) t same = inl same.events
-
--- an actor that waited left the history as it was
-pub waited : (a : Actor) (b : Bool) (K H : List Event) → Adds a b K H → b ≡ false → H ≡ K
-waited a true K H s e = absurd cc
-waited a false K H s e = s
-
--- going on after that is going on
-pub continues_after : (P : Policy) (limit : Option ℕ) (a b c : Machine) → past b.kernel ≡ past a.kernel → Continues P limit a b → Continues P limit b c → Continues P limit a c
-continues_after P limit a b c same p q = record { kept = q.kept; script = q.script ∙ p.script; begins = begins_trans _ _ _ q.begins p.begins; one = rw same at q.one }

@@ -2,6 +2,5 @@ pub mod Schedules
 pub mod Stepped
 pub mod Kept
 pub mod Continuing
-pub mod Whole
 pub mod Turns
 pub mod Endings

@@ -1,5 +1,5 @@
--- What hands that serve a container do to its history.
-use Rattle.std.specs.Prelude.{◌≡◌, ℕ, Bool, true, List, Option, Some, IsSome}
+-- What threads that serve a container do to its history.
+use Rattle.std.specs.Prelude.{◌≡◌, ℕ, List, Some}
 use Rattle.hist_model.specs.Legal.{Finished, Legal, NoSkip, NoWorkerAbove}
 use Rattle.hist_model.specs.declared.event.Event.{Event}
 use Rattle.hist_model.specs.declared.history.Setup.{Setup}
@@ -18,10 +18,6 @@ pub record IsServedWhole (made : Setup) (limit : ℕ) (K : List Event) : Type 0 
   pub rules : IsWithinRules made limit K
   pub finished : Finished K
 
--- where it is told so, the history is finished, and keeps the rules and the limit
-abbrev pub Ends : Setup → Bool → List Event → Type 0
-Ends made finished K = (limit : ℕ) → made.limit ≡ Some limit → finished ≡ true → IsServedWhole made limit K
-
--- a hand does all kinds of work, where it serves as a worker and steps tasks
-abbrev pub DoesAll : Option ℕ → Bool → Type 0
-DoesAll worker steps_tasks = IsSome worker × (steps_tasks ≡ true)
+-- so it is under the limit that there is
+abbrev pub Ends : Setup → List Event → Type 0
+Ends made K = (limit : ℕ) → made.limit ≡ Some limit → IsServedWhole made limit K

@@ -29,12 +29,6 @@ pub record ServedFacts : Type 0 where
   pub setup : Setup
   pub history : Seen
 
--- a worker may be served under a limit, if it is one; a hand without a worker may always
-abbrev pub MayServe : Option ℕ → Option ℕ → Type 0
-MayServe limit None = ⊤
-MayServe None (Some w) = w ≤ 16
-MayServe (Some limit) (Some w) = (w ≤ limit) × (w ≤ 16)
-
 -- the machine keeps the same, and has perhaps gone on by one event
 pub record Continues (P : Policy) (limit : Option ℕ) (old new : Machine) : Type 0 where
   pub kept : IsKept P limit new

@@ -2,4 +2,3 @@ pub mod Keeping
 pub mod Scheduling
 pub mod Hands
 pub mod Endings
-pub mod Beside

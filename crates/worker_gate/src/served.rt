@@ -13,6 +13,7 @@ ghost use Rattle.broker_machine.specs.Serving.{IsFound, Reaches, after_step};
 
 use crate::runnable::Runnable;
 use crate::schedule::{Line, line_at};
+use crate::sessions::Sessions;
 use crate::stepper::Stepper;
 use broker_machine::Machine;
 use hist_model::event::Actor;
@@ -36,9 +37,11 @@ pub(crate) struct Serving {
     pub(crate) machine: Machine,
     pub(crate) policy: Policy,
     pub(crate) limit: Option<u8>,
-    /// The tasks that hands try.
+    /// The tasks that threads try.
     pub(crate) runnable: Runnable,
-    /// Whether a hand found no memory, so that all of them end.
+    /// What threads know of the workers' sessions.
+    pub(crate) sessions: Sessions,
+    /// Whether a thread found no memory, so that all of them end.
     pub(crate) lacks_memory: bool,
 }
 
@@ -50,6 +53,7 @@ impl Drop for Serving {
             policy: _policy,
             limit: _limit,
             runnable: _runnable,
+            sessions: _sessions,
             lacks_memory: _lacks_memory,
         } = self;
     }
@@ -81,6 +85,7 @@ impl Serving {
             policy,
             limit: _limit,
             runnable: _runnable,
+            sessions: _sessions,
             lacks_memory: _lacks_memory,
         } = self;
         let (script, history) = machine.closed()?;
@@ -141,6 +146,7 @@ impl Served {
                 policy,
                 limit,
                 runnable: Runnable::new(alloc),
+                sessions: Sessions::none(),
                 lacks_memory: false,
             },
         )?;

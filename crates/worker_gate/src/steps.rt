@@ -1,16 +1,17 @@
-//! The steps of the state behind the lock, one by one, for hands that choose among them otherwise than `serve_hands` does.
+//! The steps of the state behind the lock, one by one, and how the threads of a crew serve it.
 
-ghost use Rattle.std.specs.Prelude.{◌≡◌, IfOk, OnErr, Some};
+ghost use Rattle.std.specs.Prelude.{◌≡◌, IfOk, OnErr, Some, true};
+ghost use Rattle.crew.specs.Duties.{MayServe};
 ghost use Rattle.hist_model.specs.declared.event.Actor.TheVariants.{Worker};
 ghost use Rattle.worker_gate.specs.Hands.{Ends};
 
 use crate::served::Served;
-use crate::wait_queues::Work;
+use crew::{Came, Crewed, Point, Turned, Work};
 use std::alloc::Global;
 use sys_abi::memory::NoMemory;
 
 impl Served {
-    ghost use Rattle.worker_gate.specs.Keeping.{Adds, AddsTask, MayServe};
+    ghost use Rattle.worker_gate.specs.Keeping.{Adds, AddsTask, TakesTurn};
 
     /// A worker's step, unless it waits; says whether it made one.
     pub fn step_worker(&mut self, alloc: Global, number: u8) -> Result<bool, NoMemory>
@@ -38,7 +39,7 @@ impl Served {
         self.serving.catch_up()
     }
 
-    /// A hand found no memory, so that all of them end.
+    /// A thread found no memory, so that all of them end.
     pub fn give_up(&mut self)
         ensures { self.new ≡ self.old }
     {
@@ -50,15 +51,114 @@ impl Served {
         self.serving.left()
     }
 
-    /// Whether hands are done: nothing is left to do, or one of them found no memory.
+    /// Whether threads are done: nothing is left to do, or one of them found no memory.
     pub fn is_over(&self) -> bool {
         self.serving.is_over()
     }
 
     /// Whether nothing is left to do: every task has ended, no call is listed, and each worker has let go.
     pub fn is_served(&self) -> bool
-        ensures { Ends self.now.setup result self.now.history.events }
+        ensures { result ≡ true → Ends self.now.setup self.now.history.events }
     {
+        self.serving.is_served()
+    }
+
+    /// The point of a notification's service that this worker came to by the newest step, which is its own, if it came to one.
+    pub fn point(&mut self, number: u8) -> Option<(Point, u64)>
+        ensures { self.new ≡ self.old }
+    {
+        self.serving.point(number)
+    }
+
+    /// What a worker's step came to.
+    fn came(&mut self, number: u8) -> Came
+        ensures { self.new ≡ self.old }
+    {
+        match self.point(number) {
+            Some((point, id)) => Came::Reached {
+                point,
+                server: number,
+                id,
+                keeps: Work::NONE,
+            },
+            None => Came::Stepped,
+        }
+    }
+
+    /// A step of a task that is worth a try, if that is among this work.
+    fn step_some_task(&mut self, alloc: Global, work: Work) -> Result<Came, NoMemory>
+        ensures { TakesTurn self.old self.new }
+    {
+        if !work.has(Work::TASKS) {
+            return Ok(Came::Idle);
+        }
+        if self.step_task(alloc)? {
+            Ok(Came::Stepped)
+        } else {
+            Ok(Came::Idle)
+        }
+    }
+
+    /// A step of a worker, if one is given, or else of a task.
+    fn take_step(&mut self, alloc: Global, worker: Option<u8>, work: Work) -> Result<Came, NoMemory>
+        requires may { MayServe self.old.setup.limit worker }
+        ensures { TakesTurn self.old self.new }
+    {
+        let Some(number) = worker else {
+            return self.step_some_task(alloc, work);
+        };
+        if self.step_worker(alloc, number)? {
+            return Ok(self.came(number));
+        }
+        self.step_some_task(alloc, work)
+    }
+
+    /// Whether this worker, if one is given, has a notification in hand.
+    fn has_session(&self, worker: Option<u8>) -> bool {
+        match worker {
+            Some(number) => self.serving.sessions.has(number),
+            None => false,
+        }
+    }
+
+    /// A step, and what there is to do after it.
+    fn try_serve(
+        &mut self,
+        alloc: Global,
+        worker: Option<u8>,
+        work: Work,
+    ) -> Result<Turned, NoMemory>
+        requires may { MayServe self.old.setup.limit worker }
+        ensures { TakesTurn self.old self.new }
+    {
+        // The script's start makes the first task, before any turn.
+        let _ = self.catch_up()?;
+        let came = self.take_step(alloc, worker, work)?;
+        let settled = self.catch_up()?;
+        Ok(Turned {
+            came,
+            settled,
+            in_hand: self.has_session(worker),
+            left: self.left(),
+            is_over: self.is_over(),
+        })
+    }
+}
+
+impl Crewed for Served {
+    ghost ends = { Ends };
+
+    fn serve(&mut self, alloc: Global, worker: Option<u8>, work: Work) -> Turned {
+        match self.try_serve(alloc, worker, work) {
+            Ok(turned) => turned,
+            Err(NoMemory) => {
+                self.give_up();
+                Turned::NO_MEMORY
+            }
+        }
+    }
+
+    fn is_served(&self) -> bool {
         self.serving.is_served()
     }
 }

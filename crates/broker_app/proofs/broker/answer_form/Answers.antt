@@ -8,4 +8,4 @@ returns-in-Some-Run g c =
 pub returns-in-Some-Lanes : goal.returns-in-Some-Lanes
 returns-in-Some-Lanes g c =
     let of = rw c.in-Some-Lanes.is at c.in-Some-Lanes.field-0-is in
-    rw (c.in-Some-Lanes.is, of) c.run_files_by_lanes.ensures
+    rw (c.in-Some-Lanes.is, of) c.run_files-in-Some-Lanes.ensures

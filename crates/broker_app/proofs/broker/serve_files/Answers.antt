@@ -10,6 +10,7 @@ use Rattle.broker_app.specs.Answers.{Printed}
 use Rattle.broker_app.specs.Forms.{texts}
 use Rattle.broker_app.specs.PodText.{pod_text}
 use Rattle.broker_app.specs.Pods.{AreServedApart, Overlapping}
+use Rattle.broker_app.specs.Runs.{by_servers}
 use Rattle.broker_app.specs.Words.{in_pairs}
 use Rattle.broker_app.proofs.broker.serve_files.Goals as goal
 
@@ -17,7 +18,7 @@ pub returns-in_err-see_ranges : goal.returns-in_err-see_ranges
 returns-in_err-see_ranges g c =
     let stopped : c.from_residual-in_err-see_ranges.result ≡ Err c.in_err-see_ranges.field-0.0 = search rules in
     rw stopped
-    (ranges_stop (g.F.Files.state c.args.files.now) (g.F.Files.state c.read_containers.new.files) (g.O.Sink.state c.args.out.now) c.args.workers (in_pairs (texts c.args.names.now))
+    (ranges_stop (g.F.Files.state c.args.files.now) (g.F.Files.state c.read_containers.new.files) (g.O.Sink.state c.args.out.now) (by_servers c.args.workers) (in_pairs (texts c.args.names.now))
     c.in_ok-containers.containers.items c.in_err-see_ranges.field-0.0 c.in_ok-containers.ensures.read
     (subst (λ (cs : List Container). Overlapping cs c.in_err-see_ranges.field-0.0) c.as_slice.ensures.value c.in_err-see_ranges.ensures.refused))
 
@@ -28,11 +29,11 @@ returns g c =
     let containers = c.in_ok-containers.containers.items in
     let ended = c.in_ok-ended.ended.items in
     let separate : NoneOverlap (scripts containers) = subst (λ (cs : List Container). NoneOverlap (scripts cs)) c.as_slice.ensures.value c.in_ok-see_ranges.ensures.separate in
-    let served : AreServedApart files c.args.workers pairs ended =
+    let served : AreServedApart files (by_servers c.args.workers) pairs ended =
     record {
-      ended = have_ended files c.args.workers pairs containers ended c.in_ok-containers.ensures.read c.in_ok-ended.ensures.served;
-      ranges = subst (λ (Ss : List Script). NoneOverlap Ss) (same_scripts c.args.workers containers ended c.in_ok-ended.ensures.served) separate;
+      ended = have_ended (by_servers c.args.workers) files pairs containers ended c.in_ok-containers.ensures.read c.in_ok-ended.ensures.ended;
+      ranges = subst (λ (Ss : List Script). NoneOverlap Ss) (same_scripts (by_servers c.args.workers) containers ended c.in_ok-ended.ensures.ended) separate;
       apart = c.in_ok-ended.ensures.apart separate;
     } in
-    pod_ends files (g.F.Files.state c.read_containers.new.files) (g.O.Sink.state c.args.out.now) (g.O.Sink.state c.print_containers.new.out) c.args.workers pairs ended c.print_containers.result served
+    pod_ends files (g.F.Files.state c.read_containers.new.files) (g.O.Sink.state c.args.out.now) (g.O.Sink.state c.print_containers.new.out) (by_servers c.args.workers) pairs ended c.print_containers.result served
     (subst (λ (ps : List Played). Printed (pod_text ps) (g.O.Sink.state c.args.out.now) (g.O.Sink.state c.print_containers.new.out) c.print_containers.result) c.as_slice-2.ensures.value c.print_containers.ensures)

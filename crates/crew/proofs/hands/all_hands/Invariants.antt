@@ -1,0 +1,11 @@
+use Rattle.std.proofs.Common.{◌≡◌, All, length}
+use Rattle.crew.specs.Locks.{Admits, AreOf, IsFirst}
+use Rattle.crew.proofs.hands.all_hands.Given as goal
+
+abbrev pub invariant-loop-place : goal.invariant-loop-place
+invariant-loop-place g l = record {
+  own : AreOf l.locks.items l.firsts.items;
+  first : All (IsFirst l.place) l.firsts.items;
+  number : l.place ≡ length l.others.items;
+  hands : All (λ h. AreOf l.locks.items h.passes.items × All (Admits h.turn.worker) l.locks.items) l.others.items;
+}

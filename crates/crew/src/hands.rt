@@ -1,0 +1,370 @@
+//! Hands: what each thread of a crew holds, and how it works until all containers are over.
+
+ghost use Rattle.std.specs.Prelude.{◌≡◌, ◌≤◌, ◌<◌, ◌+◌, ℕ, length, map, All, IfOk, IfSome, OnOk};
+ghost use Rattle.crew.specs.Duties.{MayServe, Takes};
+ghost use Rattle.crew.specs.Locks.{Admits, AreOf, IsFirst, MaySplit, setup_of};
+
+use crate::beside::work_beside;
+use crate::crewed::{Came, Crewed, Turned};
+use crate::door::{Board, Door, Wish};
+use crate::duty::{Crew, Duty};
+use crate::gate::Gate;
+use crate::locks::{join_all, split_all};
+use crate::work::Work;
+use std::alloc::Global;
+use std::sync::{MutexGuard, Wait};
+use std::thread::Threads;
+use sys_abi::memory::NoMemory;
+use turn_lock::{Pass, Turn, TurnLock};
+
+/// A turn in whichever container: a step of the worker, if there is one, or else of this work.
+#[derive(Drop)]
+pub(crate) struct StepTurn {
+    alloc: Global,
+    worker: Option<u8>,
+    work: Work,
+    turned: Turned,
+}
+
+impl<S: Crewed> Turn<S> for StepTurn {
+    ghost plays = { λ t s u e. u.worker ≡ t.worker };
+
+    ghost asks = { λ t s. MayServe (S.setup s).limit t.worker };
+
+    fn play(&mut self, state: &mut S) {
+        self.turned = state.serve(self.alloc, self.worker, self.work);
+    }
+}
+
+/// What a thread holds: a pass of each container, in order, and its turn.
+#[derive(Drop)]
+pub(crate) struct Hand {
+    passes: Vec<Pass>,
+    turn: StepTurn,
+    duty: Duty,
+    /// Its place in the crew, at whose bell it sleeps.
+    place: usize,
+    has_begun: bool,
+    /// The container in which it took its last turn.
+    container: u8,
+    /// The work that others count on it to look for.
+    seeks: Work,
+    /// The work in that container that it keeps from others.
+    keeps: Work,
+}
+
+impl Hand {
+    /// Comes back to the door, from its gate or its sleep, or for the first time.
+    fn come_in(&mut self, door: &Door, board: &mut Board)
+        ensures passes { self.new.passes ≡ self.old.passes }
+        ensures worker { self.new.turn.worker ≡ self.old.turn.worker }
+    {
+        if !self.has_begun {
+            self.has_begun = true;
+            board.begin();
+        }
+        door.found(self.seeks);
+        board.give_back(self.container, self.keeps);
+        self.seeks = Work::NONE;
+        self.keeps = Work::NONE;
+    }
+
+    /// The container in which it takes its next turn: the same, while its worker has a notification in hand, and else the next one
+    /// with work for it.
+    fn choose(&self, board: &Board, count: u8) -> Option<u8>
+        ensures { IfSome result (λ chosen. chosen < count) }
+    {
+        if self.turn.turned.in_hand {
+            board.same(self.container, count)
+        } else {
+            board.next(self.container, count, board.work_of(&self.duty))
+        }
+    }
+
+    /// A turn in a container, for which it is behind the door.
+    fn turn_in<S: Crewed, W: Wait>(
+        &mut self,
+        rt: &W,
+        locks: &Vec<TurnLock<S>>,
+        container: u8,
+        work: Work,
+    )
+        requires own { AreOf locks.now.items self.old.passes.items }
+        requires may { All (Admits self.old.turn.worker) locks.now.items }
+        requires container { container < length locks.now.items }
+        ensures own { AreOf locks.now.items self.new.passes.items }
+        ensures worker { self.new.turn.worker ≡ self.old.turn.worker }
+    {
+        let place = usize::from(container);
+        self.turn.work = work;
+        locks[place].turn(rt, &mut self.passes[place], &mut self.turn);
+        self.container = container;
+    }
+
+    /// What it sleeps for, where it found nothing to do.
+    fn wish(&self, board: &Board) -> Wish {
+        let work = board.work_of(&self.duty);
+        if self.turn.turned.in_hand {
+            Wish {
+                work: work.without(Work::CALLS),
+                settled: true,
+            }
+        } else {
+            Wish {
+                work,
+                settled: false,
+            }
+        }
+    }
+
+    /// Sleeps, where it found nothing to do, unless all containers are over; says whether they are.
+    fn rest<W: Wait>(&mut self, rt: &W, door: &Door, mut board: MutexGuard<'_, Board>) -> bool
+        ensures passes { self.new.passes ≡ self.old.passes }
+        ensures worker { self.new.turn.worker ≡ self.old.turn.worker }
+    {
+        if board.is_over() {
+            door.wake_all(&mut board);
+            return true;
+        }
+        door.wake_for_work(&mut board);
+        let wish = self.wish(&board);
+        door.sleep(rt, board, self.place, wish);
+        self.seeks = wish.work;
+        false
+    }
+
+    /// Leaves the door to look for work in its next turn.
+    fn leave(&mut self, door: &Door, mut board: MutexGuard<'_, Board>)
+        ensures passes { self.new.passes ≡ self.old.passes }
+        ensures worker { self.new.turn.worker ≡ self.old.turn.worker }
+    {
+        self.seeks = board.work_of(&self.duty);
+        door.seek(self.seeks);
+        door.wake_for_work(&mut board);
+    }
+
+    /// Calls the gate, where its turn came to a point of a notification's service, and then looks for work.
+    fn call<G: Gate>(&mut self, gate: &G, door: &Door, mut board: MutexGuard<'_, Board>)
+        ensures passes { self.new.passes ≡ self.old.passes }
+        ensures worker { self.new.turn.worker ≡ self.old.turn.worker }
+    {
+        let Came::Reached {
+            point,
+            server,
+            id,
+            keeps,
+        } = self.turn.turned.came
+        else {
+            return;
+        };
+        let sought = board.work_of(&self.duty);
+        board.keep(self.container, keeps);
+        door.wake_for_work(&mut board);
+        drop(board);
+        gate.at(point, self.container, server, id);
+        door.seek(sought);
+        self.seeks = sought;
+        self.keeps = keeps;
+    }
+
+    /// What it does after a turn, behind the door; says whether all containers are over.
+    fn after_turn<W: Wait, G: Gate>(
+        &mut self,
+        rt: &W,
+        door: &Door,
+        gate: &G,
+        mut board: MutexGuard<'_, Board>,
+    ) -> bool
+        ensures passes { self.new.passes ≡ self.old.passes }
+        ensures worker { self.new.turn.worker ≡ self.old.turn.worker }
+    {
+        let turned = self.turn.turned;
+        board.note(self.container, turned.left, turned.is_over);
+        if turned.settled {
+            door.wake_settled(&mut board);
+        }
+        match turned.came {
+            Came::NoMemory => {
+                board.give_up();
+                door.wake_all(&mut board);
+                return true;
+            }
+            Came::Idle if turned.in_hand => return self.rest(rt, door, board),
+            Came::Idle | Came::Stepped => self.leave(door, board),
+            Came::Reached { .. } => self.call(gate, door, board),
+        }
+        false
+    }
+}
+
+/// What a hand does behind the door: a turn in a container that has work for it, or else it sleeps. Says whether all are over.
+fn take_turn<S: Crewed, W: Wait, G: Gate>(
+    rt: &W,
+    locks: &Vec<TurnLock<S>>,
+    door: &Door,
+    gate: &G,
+    hand: &mut Hand,
+) -> bool
+    requires own { AreOf locks.now.items hand.old.passes.items }
+    requires may { All (Admits hand.old.turn.worker) locks.now.items }
+    requires count { door.now.containers ≡ length locks.now.items }
+    ensures own { AreOf locks.now.items hand.new.passes.items }
+    ensures worker { hand.new.turn.worker ≡ hand.old.turn.worker }
+{
+    let mut board = door.enter(rt);
+    hand.come_in(door, &mut board);
+    match hand.choose(&board, door.containers) {
+        Some(container) => {
+            let work = board.work_in(container, &hand.duty);
+            hand.turn_in(rt, locks, container, work);
+            hand.after_turn(rt, door, gate, board)
+        }
+        None => hand.rest(rt, door, board),
+    }
+}
+
+/// Works until all containers are over.
+fn work<S: Crewed, W: Wait, G: Gate>(
+    rt: &W,
+    locks: &Vec<TurnLock<S>>,
+    door: &Door,
+    gate: &G,
+    hand: &mut Hand,
+)
+    requires own { AreOf locks.now.items hand.old.passes.items }
+    requires may { All (Admits hand.old.turn.worker) locks.now.items }
+    requires count { door.now.containers ≡ length locks.now.items }
+    ensures own { AreOf locks.now.items hand.new.passes.items }
+{
+    for _ in rt.forever() {
+        if take_turn(rt, locks, door, gate, hand) {
+            return;
+        }
+    }
+    unreachable!()
+}
+
+/// A hand with a pass of each container.
+fn new_hand<S: Crewed>(
+    alloc: Global,
+    locks: &Vec<TurnLock<S>>,
+    firsts: &mut Vec<Pass>,
+    duty: Duty,
+    place: usize,
+) -> Result<Hand, NoMemory>
+    requires own { AreOf locks.now.items firsts.old.items }
+    requires may { All MaySplit firsts.old.items }
+    ensures own { AreOf locks.now.items firsts.new.items }
+    ensures first { OnOk result ((n : ℕ) → All (IsFirst n) firsts.old.items → All (IsFirst (n + 1)) firsts.new.items) }
+    ensures hand { IfOk result (λ h. AreOf locks.now.items h.passes.items × (h.turn.worker ≡ duty.worker)) }
+{
+    Ok(Hand {
+        passes: split_all(alloc, locks, firsts)?,
+        turn: StepTurn {
+            alloc,
+            worker: duty.worker,
+            work: Work::NONE,
+            turned: Turned::NONE,
+        },
+        duty,
+        place,
+        has_begun: false,
+        container: 0,
+        seeks: Work::NONE,
+        keeps: Work::NONE,
+    })
+}
+
+/// All hands: the calling one, and the others.
+#[derive(Drop)]
+pub(crate) struct Hands {
+    pub(crate) calling: Hand,
+    pub(crate) others: Vec<Hand>,
+}
+
+/// A hand for each thread of a crew.
+pub(crate) fn all_hands<S: Crewed>(
+    alloc: Global,
+    locks: &Vec<TurnLock<S>>,
+    firsts: &mut Vec<Pass>,
+    crew: &Crew,
+) -> Result<Hands, NoMemory>
+    requires own { AreOf locks.now.items firsts.old.items }
+    requires first { All (IsFirst 0) firsts.old.items }
+    requires few { length crew.now.others.items < 255 }
+    requires may { All (Takes crew.now) (map setup_of locks.now.items) }
+    ensures own { AreOf locks.now.items firsts.new.items }
+    ensures first { IfOk result (λ all. All (IsFirst (length all.others.items + 1)) firsts.new.items) }
+    ensures calling { IfOk result (λ all. AreOf locks.now.items all.calling.passes.items × All (Admits all.calling.turn.worker) locks.now.items) }
+    ensures others { IfOk result (λ all. All (λ h. AreOf locks.now.items h.passes.items × All (Admits h.turn.worker) locks.now.items) all.others.items) }
+{
+    let count = crew.others.len();
+    let mut others = Vec::with_capacity(alloc, count)?;
+    for place in 0..count {
+        let hand = new_hand(alloc, locks, firsts, crew.others[place], place)?;
+        others.push(hand)?;
+    }
+    let calling = new_hand(alloc, locks, firsts, crew.calling, count)?;
+    Ok(Hands { calling, others })
+}
+
+/// All hands at work, each in a thread of its own where one can be had. The calling one, which does all kinds of work, is at it in this
+/// thread from the first.
+pub(crate) fn work_all<S: Crewed + Send, R: Threads + Wait + Sync, G: Gate + Sync>(
+    rt: &R,
+    locks: &Vec<TurnLock<S>>,
+    door: &Door,
+    gate: &G,
+    calling: &mut Hand,
+    others: &mut Vec<Hand>,
+)
+    requires count { door.now.containers ≡ length locks.now.items }
+    requires calling { AreOf locks.now.items calling.old.passes.items × All (Admits calling.old.turn.worker) locks.now.items }
+    requires others { All (λ h. AreOf locks.now.items h.passes.items × All (Admits h.turn.worker) locks.now.items) others.old.items }
+    ensures calling { AreOf locks.now.items calling.new.passes.items }
+    ensures number { length others.new.items ≡ length others.old.items }
+    ensures others { All (λ h. AreOf locks.now.items h.passes.items) others.new.items }
+{
+    work_beside(
+        rt,
+        calling,
+        others.as_mut_slice(),
+        &|_: usize, hand: &mut Hand|
+            requires { AreOf locks.now.items hand.old.passes.items × All (Admits hand.old.turn.worker) locks.now.items × (door.now.containers ≡ length locks.now.items) }
+            ensures { AreOf locks.entry.now.items hand.new.passes.items }
+        { work(rt, locks, door, gate, hand) },
+    );
+}
+
+/// Takes the passes of the other hands back.
+fn gather_others<S: Crewed>(locks: &Vec<TurnLock<S>>, firsts: &mut Vec<Pass>, mut hands: Vec<Hand>)
+    requires own { AreOf locks.now.items firsts.old.items }
+    requires first { All (IsFirst (length hands.items)) firsts.old.items }
+    requires hands { All (λ h. AreOf locks.now.items h.passes.items) hands.items }
+    ensures own { AreOf locks.now.items firsts.new.items }
+    ensures first { All (IsFirst 0) firsts.new.items }
+{
+    while let Some(hand) = hands.pop() {
+        let Hand { passes, .. } = hand;
+        join_all(locks, firsts, passes);
+    }
+}
+
+/// Takes the passes of all hands back.
+pub(crate) fn gather<S: Crewed>(
+    locks: &Vec<TurnLock<S>>,
+    firsts: &mut Vec<Pass>,
+    calling: Hand,
+    others: Vec<Hand>,
+)
+    requires own { AreOf locks.now.items firsts.old.items }
+    requires first { All (IsFirst (length others.items + 1)) firsts.old.items }
+    requires calling { AreOf locks.now.items calling.passes.items }
+    requires others { All (λ h. AreOf locks.now.items h.passes.items) others.items }
+    ensures own { AreOf locks.now.items firsts.new.items }
+    ensures first { All (IsFirst 0) firsts.new.items }
+{
+    let Hand { passes, .. } = calling;
+    join_all(locks, firsts, passes);
+    gather_others(locks, firsts, others);
+}

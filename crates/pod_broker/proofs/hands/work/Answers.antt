@@ -1,6 +1,0 @@
-use Rattle.std.proofs.Common.{All, Option, subst, sym, ℕ}
-use Rattle.pod_broker.specs.Locks.{Admits}
-use Rattle.pod_broker.proofs.hands.work.Goals as goal
-
-pub loop-preserved : goal.loop-preserved
-loop-preserved g c = (c.take_turn.ensures.own, subst (λ (worker : Option ℕ). All (Admits worker) c.args.locks.now.items) (sym c.take_turn.ensures.worker) c.loop.invariant.1)
