@@ -10,7 +10,7 @@
  *
  * Lengths. *out_length and *line_length are set by every call, whatever its status, to the length of the whole text. So a text
  * that is longer than its buffer is known by its length; the buffer then has the bytes of its beginning that fit. A whole
- * report that doesn't fit is BROKER_SHORT_BUFFER and never BROKER_DONE: call again with a buffer of *out_length bytes.
+ * report that doesn't fit is BROKER_SHORT_BUFFER and never BROKER_DONE or BROKER_OTHERWISE: call again with a buffer of *out_length bytes.
  *
  * Room. A call holds its report in memory before it copies it to `out`: at most `room` bytes, taken as they are needed. A room
  * above BROKER_ROOM_LIMIT counts as BROKER_ROOM_LIMIT.
@@ -34,11 +34,11 @@ extern "C" {
 /* The version of the library that this header belongs to. */
 #define BROKER_VERSION "0.9.0"
 
-/* How a call ended. 0 to 9 are the program's exit statuses. With each but BROKER_DONE and BROKER_SHORT_BUFFER, `line` has the one
- * line that the program would print on standard error; with these two it is empty. */
+/* How a call ended. 0 to 11 are the program's exit statuses. With each but BROKER_DONE, BROKER_OTHERWISE and BROKER_SHORT_BUFFER, `line`
+ * has the one line that the program would print on standard error; with these three it is empty. */
 enum broker_status {
   /* `out` has the whole report, with the ledgers after it of broker_handover, or the whole of what broker_audit_check or
-   * broker_explore found. */
+   * broker_explore found. Of broker_judge: the workers mediate, and `out` has the whole line that says so. */
   BROKER_DONE = 0,
   /* `count` isn't 1 to 4000, `every` isn't 1 to 200000, `workers` is above 15, or `delays` above 8 and not BROKER_ALL_DELAYS. */
   BROKER_USAGE = 1,
@@ -56,6 +56,8 @@ enum broker_status {
   BROKER_NO_MEMORY = 7,
   /* (No status is 8.) The bytes are the report of no legal history. `line` has the number of their first line at which they are none. */
   BROKER_NOT_REPORT = 9,
+  /* (No status is 10.) Of broker_judge: the workers break a clause, and `out` has the whole of what is said of it. */
+  BROKER_OTHERWISE = 11,
   /* The report is whole, and has more bytes than `out`, which has the beginning of it. */
   BROKER_SHORT_BUFFER = 100
 };
@@ -146,6 +148,21 @@ enum broker_status broker_explore(const void *policy, size_t policy_length,
                                   size_t room,
                                   void *out, size_t out_size, size_t *out_length,
                                   void *line, size_t line_size, size_t *line_length);
+
+/*
+ * Judges whether the workers of a script's schedule mediate, whoever they are, and writes to `out` what `judge POLICY SCRIPT` prints: one
+ * line with what was served, or the first event that breaks a clause, with the clause and how grave that is, and lines that show why. Here
+ * the lengths, `room` and BROKER_SHORT_BUFFER are of that text.
+ *
+ * Answers BROKER_DONE, where no clause is broken, BROKER_OTHERWISE, where one is, BROKER_TOO_LONG, BROKER_BAD_POLICY, BROKER_BAD_SCRIPT,
+ * BROKER_WRITE_FAULT, BROKER_NO_MEMORY or BROKER_SHORT_BUFFER. The policy is looked at first, and a script only where the policy is taken.
+ */
+BROKER_NOT_NULL(8, 11)
+enum broker_status broker_judge(const void *policy, size_t policy_length,
+                                const void *script, size_t script_length,
+                                size_t room,
+                                void *out, size_t out_size, size_t *out_length,
+                                void *line, size_t line_size, size_t *line_length);
 
 #undef BROKER_NOT_NULL
 

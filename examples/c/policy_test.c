@@ -1,5 +1,5 @@
 /* Tests of a container's policy, over the broker as a library: what is granted, what is left to the kernel, what a race and a restart of
- * the broker come to, what is said of a policy with a fault, and whether a report is one. */
+ * the broker come to, what is said of a policy with a fault, whether a report is one, and whether a broker of one's own mediates. */
 #include <seccomp_broker.h>
 
 #include <stdbool.h>
@@ -45,6 +45,20 @@ static const char race[] =
     "end\n"
     "schedule\n"
     "t 0 3\nw 0 5\nt 0.1\nw 0 4\nt 0 2\n"
+    "end\n";
+
+/* The worker of another broker, which makes /dev/null before it has asked whether the call still waits. */
+static const char hasty[] =
+    "dir \"/dev\"\n"
+    "notify mknod\n"
+    "prog init\n"
+    "poke 0x10000 \"/dev/null\\0\"\n"
+    "call mknod 0x10000 0o020666 259\n"
+    "end\n"
+    "schedule\n"
+    "t 0 2\n"
+    "w 0 recv\nw 0 open-mem 1\nw 0 open-base 1 -100\nw 0 read 0x10000 10\n"
+    "w 0 act mknod \"/dev/null\" 0o020666 259\n"
     "end\n";
 
 /* What a play came to. The report is a text with a zero byte behind it, and belongs to the caller. */
@@ -102,6 +116,15 @@ static struct check check(const char *policy_text, const char *script_text, cons
   checked.status = broker_audit_check(policy_text, strlen(policy_text), script_text, strlen(script_text), report, strlen(report), BROKER_ROOM_LIMIT,
                                       checked.found, sizeof checked.found - 1, &length, checked.line, sizeof checked.line - 1, &line_length);
   return checked;
+}
+
+/* What a judge found of the workers of a script's schedule, as far as it fits, and the line. */
+static struct check judge(const char *policy_text, const char *script_text) {
+  struct check judged = {BROKER_NO_MEMORY, "", ""};
+  size_t length, line_length;
+  judged.status = broker_judge(policy_text, strlen(policy_text), script_text, strlen(script_text), BROKER_ROOM_LIMIT,
+                               judged.found, sizeof judged.found - 1, &length, judged.line, sizeof judged.line - 1, &line_length);
+  return judged;
 }
 
 static int failures;
@@ -174,6 +197,13 @@ int main(void) {
   wants_status("the race is played", raced.status, raced.line, BROKER_DONE);
   wants("what was judged is made, and not what stands there later", raced.report, "act mknod \"/null\" chr 1:3 ok\n");
   free(raced.report);
+
+  struct check own = judge(policy, race);
+  wants_status("this project's own worker mediates", own.status, own.line, BROKER_DONE);
+  wants("by so many events", own.found, "mediated events=");
+  struct check other = judge(policy, hasty);
+  wants_status("a hasty broker doesn't", other.status, other.line, BROKER_OTHERWISE);
+  wants("and it is said which event breaks which clause", other.found, "broken 7 order unchecked\n");
 
   struct play typo = play("{\"config\": {\"security.syscalls.intercept.mknodd\": \"true\"}}", script);
   wants_status("a key with a typing error is refused", typo.status, typo.line, BROKER_BAD_POLICY);

@@ -87,6 +87,15 @@ func Check(policy, script, report string) (*Findings, error) {
 	return findings, err
 }
 
+// Judge says of the workers of a script's schedule, whoever they are, whether they mediate: a line that begins with "mediated", or one that
+// begins with "broken", followed by lines that show why.
+func Judge(policy, script string) (string, error) {
+	p, s := []byte(policy), []byte(script)
+	return answer(func(out, line []byte, length, said *C.size_t) C.enum_broker_status {
+		return C.broker_judge(at(p), size(p), at(s), size(s), C.BROKER_ROOM_LIMIT, at(out), size(out), length, at(line), size(line), said)
+	})
+}
+
 // answer makes a call, again where its text didn't fit, and gives the text.
 func answer(call func(out, line []byte, length, said *C.size_t) C.enum_broker_status) (string, error) {
 	out, line := make([]byte, 65536), make([]byte, 4096)
@@ -99,7 +108,7 @@ func answer(call func(out, line []byte, length, said *C.size_t) C.enum_broker_st
 	if said > size(line) {
 		said = size(line)
 	}
-	if status != C.BROKER_DONE {
+	if status != C.BROKER_DONE && status != C.BROKER_OTHERWISE {
 		return "", &Refused{int(status), string(line[:said])}
 	}
 	return string(out[:length]), nil

@@ -106,6 +106,29 @@ func TestBrokerThatRestartsAfterTheEffect(t *testing.T) {
 	}
 }
 
+func TestBrokerIsJudged(t *testing.T) {
+	policy, script := config(t, map[string]string{"security.syscalls.intercept.mknod": "true"}), container("ext4")
+	container, _, _ := strings.Cut(script, "schedule\n")
+	hasty := `schedule
+t 0 5
+w 0 recv
+w 0 open-mem 1
+w 0 open-base 1 -100
+w 0 read 0x10000 10
+w 0 act mknod "/dev/null" 0o020666 259
+end
+`
+	for wanted, schedule := range map[string]string{"mediated events=": script[len(container):], "broken 10 order unchecked\n": hasty} {
+		found, err := Judge(policy, container+schedule)
+		if err != nil {
+			t.Fatal(err)
+		}
+		if !strings.HasPrefix(found, wanted) {
+			t.Errorf("found %q, wanted %q", found, wanted)
+		}
+	}
+}
+
 func TestReportOfAnotherPolicy(t *testing.T) {
 	script := container("ext4")
 	report, err := ReportOf(config(t, map[string]string{"security.syscalls.intercept.mknod": "true"}), script)

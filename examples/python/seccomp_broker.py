@@ -1,6 +1,7 @@
 """Plays scripts under policies, and checks reports, by the C library: play(policy, script) gives a
 Report, hand_over(policy, script, every) its text and the ledgers of workers that were replaced, check(policy, script, report) what is
-found of a report, and explore(policy, script, workers, delays) what can come of a script; all raise Refused."""
+found of a report, explore(policy, script, workers, delays) what can come of a script, and judge(policy, script) whether the workers of
+its schedule mediate; all raise Refused."""
 import ctypes
 import json
 import os
@@ -21,9 +22,10 @@ LIBRARY.broker_play.argtypes = [BYTES, SIZE] * 2 + [SIZE, BYTES, SIZE, LENGTH, B
 LIBRARY.broker_audit_check.argtypes = [BYTES, SIZE] * 3 + [SIZE, BYTES, SIZE, LENGTH, BYTES, SIZE, LENGTH]
 LIBRARY.broker_handover.argtypes = [BYTES, SIZE] * 2 + [ctypes.c_uint32, SIZE, BYTES, SIZE, LENGTH, BYTES, SIZE, LENGTH]
 LIBRARY.broker_explore.argtypes = [BYTES, SIZE] * 2 + [ctypes.c_uint32] * 2 + [SIZE, BYTES, SIZE, LENGTH, BYTES, SIZE, LENGTH]
+LIBRARY.broker_judge.argtypes = LIBRARY.broker_play.argtypes
 LIBRARY.broker_play.restype = LIBRARY.broker_audit_check.restype = LIBRARY.broker_handover.restype = ctypes.c_uint
-LIBRARY.broker_explore.restype = ctypes.c_uint
-DONE, SHORT_BUFFER, ROOM_LIMIT, ALL_DELAYS = 0, 100, 1 << 30, 2**32 - 1
+LIBRARY.broker_explore.restype = LIBRARY.broker_judge.restype = ctypes.c_uint
+DONE, OTHERWISE, SHORT_BUFFER, ROOM_LIMIT, ALL_DELAYS = 0, 11, 100, 1 << 30, 2**32 - 1
 
 
 class Refused(Exception):
@@ -62,7 +64,7 @@ def answer(call, *texts, numbers=(), size=65536):
                   out, size, ctypes.byref(length), line, len(line), ctypes.byref(said))
     if status == SHORT_BUFFER:
         return answer(call, *texts, numbers=numbers, size=length.value)
-    if status != DONE:
+    if status not in (DONE, OTHERWISE):
         raise Refused(status, line.raw[:said.value].decode())
     return out.raw[:length.value].decode()
 
@@ -109,3 +111,9 @@ def explore(policy, script, workers=0, delays=ALL_DELAYS):
             outcomes.append(([], int(line.rpartition("=")[2]), []))
         outcomes[-1][2 if outcomes[-1][2] or line.startswith("schedule") else 0].append(line)
     return [(told[1:], count, schedule) for told, count, schedule in outcomes], first.rpartition("whole=")[2]
+
+
+def judge(policy, script):
+    """What is found of the workers of a script's schedule, whoever they are: a line that begins with `mediated`, or one that begins with
+    `broken`, followed by lines that show why."""
+    return answer(LIBRARY.broker_judge, policy, script)

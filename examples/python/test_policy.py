@@ -2,7 +2,7 @@
 import json
 import unittest
 
-from seccomp_broker import Refused, check, explore, hand_over, play, report_of
+from seccomp_broker import Refused, check, explore, hand_over, judge, play, report_of
 
 KEYS = "security.syscalls.intercept."
 SCRIPT = r"""
@@ -25,6 +25,17 @@ w 0 9
 t 0 3
 w 0 11
 t 0 3
+end
+"""
+
+# another broker's worker, which makes the node before it has asked whether the call still waits
+HASTY = r"""schedule
+t 0 5
+w 0 recv
+w 0 open-mem 1
+w 0 open-base 1 -100
+w 0 read 0x10000 10
+w 0 act mknod "/dev/null" 0o020666 259
 end
 """
 
@@ -78,6 +89,11 @@ class Boot(unittest.TestCase):
         self.assertEqual(whole, "yes")
         for lines, _, _ in outcomes:
             self.assertEqual(len([line for line in lines if line.startswith(" did mknod ")]), 1)
+
+    def test_whoever_its_workers_are_a_broker_is_judged(self):
+        self.assertTrue(judge(policy(mknod="true"), SCRIPT).startswith("mediated events="))
+        found = judge(policy(mknod="true"), SCRIPT.partition("schedule")[0] + HASTY)
+        self.assertTrue(found.startswith("broken 10 order unchecked\n"), found)
 
     def test_a_report_of_another_policy_is_none(self):
         with self.assertRaises(Refused) as refused:

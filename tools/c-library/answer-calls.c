@@ -19,7 +19,7 @@
 enum { UNTOUCHED = 0xa5, STACK = 256 << 10 };
 
 /* Which function is called. */
-enum function { PLAY, STRESS, AUDIT_CHECK, HANDOVER, EXPLORE };
+enum function { PLAY, STRESS, AUDIT_CHECK, HANDOVER, EXPLORE, JUDGE };
 
 /* A call as it is read, before the bytes of the policy, the script and the report. Of HANDOVER the count is that of the steps after
  * which a worker is replaced; of EXPLORE `from` is the last worker, and the count that of the delays. */
@@ -98,6 +98,9 @@ static enum broker_status made_call(struct call call, struct buffer policy, stru
   case EXPLORE:
     return broker_explore(policy.bytes, policy.size, script.bytes, script.size, (uint32_t)call.from, (uint32_t)call.count, call.room, out.bytes,
                           out.size, out_length, line.bytes, line.size, line_length);
+  case JUDGE:
+    return broker_judge(policy.bytes, policy.size, script.bytes, script.size, call.room, out.bytes, out.size, out_length, line.bytes, line.size,
+                        line_length);
   default:
     return broker_audit_check(policy.bytes, policy.size, script.bytes, script.size, report.bytes, report.size, call.room, out.bytes, out.size,
                               out_length, line.bytes, line.size, line_length);

@@ -7,5 +7,6 @@ pub mod CheckEnded
 pub mod StressEnded
 pub mod HandoverEnded
 pub mod ExploreEnded
+pub mod JudgeEnded
 pub mod Lines
 pub mod Told

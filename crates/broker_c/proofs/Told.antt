@@ -9,9 +9,10 @@ use Rattle.broker_app.specs.Handovers.{with_ledgers}
 use Rattle.broker_app.specs.Plays.{Printing}
 use Rattle.broker_app.specs.declared.status.Refusal.TheVariants.{ReadFault}
 use Rattle.broker_app.specs.declared.status.Status.{Status}
-use Rattle.broker_app.specs.declared.status.Status.TheVariants.{Done, ContainerRefused, Refused}
+use Rattle.broker_app.specs.declared.status.Status.TheVariants.{Done, ContainerRefused, Otherwise, Refused}
+use Rattle.policy_classes.specs.declared.ending.Ending.TheVariants.{Alike, Otherwise as EndsOtherwise}
 use Rattle.broker_c.specs.Buffers.{Holds, number_of}
-use Rattle.broker_c.specs.Outcomes.{CheckGives, ExploreGives, HandoverGives, IsAskedExploration, IsFindings, IsHandover, IsPlay, IsSummary, PlayGives, StressGives}
+use Rattle.broker_c.specs.Outcomes.{CheckGives, ExploreGives, HandoverGives, IsAskedExploration, IsFindings, IsHandover, IsJudgement, IsPlay, IsSummary, JudgeGives, PlayGives, StressGives}
 
 -- a text that fits is read back
 read_back : (text old new : List ℕ) (told : ℕ) → length text ≤ length old → Holds text old new told → take told new ≡ text
@@ -27,9 +28,30 @@ number-0 Done text size is = by (nat_lt size text) refl
     by : (short : Bool) → nat_lt size text ≡ short → (Done ≡ Done) × (text ≤ size)
     by true s = let e = rw s at is in cc
     by false s = (refl, ltb-false size text s)
+number-0 Otherwise text size is = by (nat_lt size text) refl
+  where
+    by : (short : Bool) → nat_lt size text ≡ short → (Otherwise ≡ Done) × (text ≤ size)
+    by true s = let e = rw s at is in cc
+    by false s = let e = rw s at is in cc
 number-0 (Refused (ReadFault file)) text size is = cc
 number-0 (ContainerRefused container (ReadFault file)) text size is = cc
 number-0 status text size is = cc
+
+-- and number 11 is status 11
+number-11 : (status : Status) (text size : ℕ) → number_of status text size ≡ 11 → (status ≡ Otherwise) × (text ≤ size)
+number-11 Otherwise text size is = by (nat_lt size text) refl
+  where
+    by : (short : Bool) → nat_lt size text ≡ short → (Otherwise ≡ Otherwise) × (text ≤ size)
+    by true s = let e = rw s at is in absurd (omega arith)
+    by false s = (refl, ltb-false size text s)
+number-11 Done text size is = by (nat_lt size text) refl
+  where
+    by : (short : Bool) → nat_lt size text ≡ short → (Done ≡ Otherwise) × (text ≤ size)
+    by true s = let e = rw s at is in absurd (omega arith)
+    by false s = let e = rw s at is in absurd (omega arith)
+number-11 (Refused (ReadFault file)) text size is = absurd (omega arith)
+number-11 (ContainerRefused container (ReadFault file)) text size is = absurd (omega arith)
+number-11 status text size is = absurd (omega arith)
 
 -- what a play prints is read where the number is 0
 pub play_told : (text : Printing) (policy script : List ℕ) (room : ℕ) (status : Status) (printed old new : List ℕ) (told number : ℕ) → PlayGives text policy script room printed status
@@ -70,3 +92,19 @@ exploration_told policy script workers delays room status printed old new told n
     let fits = number-0 status (length printed) (length old) (sym is ∙ zero) in
     let whole : ExploreGives policy script workers delays room printed Done = subst (λ s. ExploreGives policy script workers delays room printed s) fits.0 gives in
     subst (λ text. IsAskedExploration policy script workers delays text) (sym (read_back printed old new told fits.1 held)) (whole.0, whole.1, whole.2.0)
+
+-- and that workers mediate
+pub mediated_told : (policy script : List ℕ) (room : ℕ) (status : Status) (printed old new : List ℕ) (told number : ℕ) → JudgeGives policy script room printed status
+    → number ≡ number_of status (length printed) (length old) → Holds printed old new told → number ≡ 0 → IsJudgement policy script Alike (take told new)
+mediated_told policy script room status printed old new told number gives is held zero =
+    let fits = number-0 status (length printed) (length old) (sym is ∙ zero) in
+    let whole : JudgeGives policy script room printed Done = subst (λ s. JudgeGives policy script room printed s) fits.0 gives in
+    subst (λ text. IsJudgement policy script Alike text) (sym (read_back printed old new told fits.1 held)) whole.0
+
+-- or which clause they break, where the number is 11
+pub broken_told : (policy script : List ℕ) (room : ℕ) (status : Status) (printed old new : List ℕ) (told number : ℕ) → JudgeGives policy script room printed status
+    → number ≡ number_of status (length printed) (length old) → Holds printed old new told → number ≡ 11 → IsJudgement policy script EndsOtherwise (take told new)
+broken_told policy script room status printed old new told number gives is held eleven =
+    let fits = number-11 status (length printed) (length old) (sym is ∙ eleven) in
+    let whole : JudgeGives policy script room printed Otherwise = subst (λ s. JudgeGives policy script room printed s) fits.0 gives in
+    subst (λ text. IsJudgement policy script EndsOtherwise text) (sym (read_back printed old new told fits.1 held)) whole.0

@@ -2,15 +2,17 @@
 use Rattle.std.specs.Prelude.{◌≡◌, ℕ, ◌++◌, List, length, take, drop, nat_lt, if◌then◌else◌}
 use Rattle.broker_app.specs.Lines.{code_of, line_of}
 use Rattle.broker_app.specs.declared.status.Status.{Status}
-use Rattle.broker_app.specs.declared.status.Status.TheVariants.{Done}
+use Rattle.broker_app.specs.declared.status.Status.TheVariants.{Done, Otherwise}
 
--- the number that says that a whole report doesn't fit into its buffer
+-- the number that says that what was printed whole doesn't fit into its buffer
 abbrev pub short_buffer : ℕ
 short_buffer = 100
 
--- the number of a status, with a report of so many bytes and a buffer of so many: the program's, but where a whole report doesn't fit
+-- the number of a status, with a report of so many bytes and a buffer of so many: the program's, but where what was printed whole
+-- doesn't fit
 abbrev pub number_of : Status → ℕ → ℕ → ℕ
 number_of Done report buffer = if nat_lt buffer report then short_buffer else 0
+number_of Otherwise report buffer = if nat_lt buffer report then short_buffer else 11
 number_of status report buffer = code_of status
 
 -- the buffer begins with the text, as far as it fits, and is else as it was; the length is the whole text's

@@ -6,6 +6,10 @@ use Rattle.hist_model.specs.declared.event.Event.{Event}
 use Rattle.hist_model.specs.declared.policy.Policy.{Policy}
 use Rattle.hist_model.specs.declared.script.Script.{Script}
 use Rattle.io_edge.specs.SinkState.{AddsPrefix}
+use Rattle.judge_pass.specs.Finding.{finding}
+use Rattle.policy_classes.specs.declared.ending.Ending.{Ending}
+use Rattle.policy_classes.specs.declared.ending.Ending.TheVariants.{Alike, Otherwise}
+use Rattle.policy_classes.specs.declared.ending.Told.{Told}
 use Rattle.policy_reader.specs.Policies.{policy as policy_of}
 use Rattle.policy_reader.specs.declared.error.PolicyError.{PolicyError}
 use Rattle.script_reader.specs.Scripts.{script as script_of, script_file}
@@ -17,6 +21,7 @@ use Rattle.broker_app.specs.Explorations.{ExploredLaws, explored_text}
 use Rattle.broker_app.specs.Findings.{findings}
 use Rattle.broker_app.specs.Handovers.{with_ledgers}
 use Rattle.broker_app.specs.Inputs.{ReadsAs, policy_limit, report_limit, script_limit}
+use Rattle.broker_app.specs.Judgements.{IsToldOf, judged_history}
 use Rattle.broker_app.specs.Lines.{line_of}
 use Rattle.broker_app.specs.Plays.{Printing, as_report}
 use Rattle.broker_app.specs.Words.{Form, Explore}
@@ -24,6 +29,7 @@ use Rattle.broker_app.specs.declared.status.InputFile.TheVariants.{Policy as Pol
 use Rattle.broker_app.specs.declared.status.Refusal.TheVariants.{TooLong, BadPolicy, BadScript, HasRequests}
 use Rattle.broker_app.specs.declared.status.Status.{Status}
 use Rattle.broker_app.specs.declared.status.Status.TheVariants.{Done, Usage, Refused, WriteFault, NoMemory, NotReport}
+use Rattle.broker_app.specs.declared.status.Status.TheVariants.{Otherwise as IsOtherwise}
 
 -- ---- What was read
 
@@ -139,6 +145,21 @@ abbrev pub IsAskedExploration : List ℕ → List ℕ → ℕ → ℕ → List �
 IsAskedExploration policy script workers delays printed =
     (bound : Option ℕ) × IsAsked workers delays bound × IsExploration policy script workers bound printed
 
+-- it is told of what the policy and the script of the bytes play: that its workers mediate, or which event breaks which clause
+abbrev pub AreJudged : List ℕ → List ℕ → Told → Type 0
+AreJudged policy script told =
+    (P : Policy) × (F : ScriptFile) × PolicyReads policy (Ok P) × FileReads script (Ok F)
+    × IsToldOf (finding P F.script (judged_history P F)) (judged_history P F) told
+
+-- what is told, with this ending
+abbrev pub IsJudgement : List ℕ → List ℕ → Ending → List ℕ → Type 0
+IsJudgement policy script ending printed =
+    (told : Told) × AreJudged policy script told × (told.ending ≡ ending) × (printed ≡ told.text)
+
+-- a prefix of what is told
+abbrev pub BeginsJudgement : List ℕ → List ℕ → List ℕ → Type 0
+BeginsJudgement policy script printed = (told : Told) × AreJudged policy script told × AddsPrefix [] told.text printed
+
 -- ---- How it ended
 
 -- why the policy's and the script's bytes weren't both taken: nothing was printed
@@ -183,6 +204,14 @@ ExploreGives policy script workers delays room printed NoMemory =
     (printed ≡ []) ⊎ ((bound : Option ℕ) × IsAsked workers delays bound × BeginsExploration policy script workers bound printed)
 ExploreGives policy script workers delays room printed status =
     (bound : Option ℕ) × IsAsked workers delays bound × ExplorationGives policy script workers bound room printed status
+
+-- how the judging of a policy's and a script's bytes ended, with room for so many bytes of what is found
+abbrev pub JudgeGives : List ℕ → List ℕ → ℕ → List ℕ → Status → Type 0
+JudgeGives policy script room printed Done = IsJudgement policy script Alike printed × (length printed ≤ room)
+JudgeGives policy script room printed IsOtherwise = IsJudgement policy script Otherwise printed × (length printed ≤ room)
+JudgeGives policy script room printed WriteFault = BeginsJudgement policy script printed × (room < length printed)
+JudgeGives policy script room printed NoMemory = (printed ≡ []) ⊎ BeginsJudgement policy script printed
+JudgeGives policy script room printed status = InputGives policy script printed status
 
 -- how the check of a report's bytes ended, with room for so many bytes of what is found
 abbrev pub CheckGives : List ℕ → List ℕ → List ℕ → ℕ → List ℕ → Status → Type 0

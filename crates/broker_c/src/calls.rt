@@ -3,10 +3,11 @@
 ghost use Rattle.std.specs.Prelude.{◌≡◌, length, min, take};
 ghost use Rattle.broker_app.specs.Lines.{line_of};
 ghost use Rattle.broker_app.specs.Plays.{as_report};
+ghost use Rattle.policy_classes.specs.declared.ending.Ending.TheVariants.{Alike, Otherwise};
 ghost use Rattle.broker_c.specs.Buffers.{Holds, Tells, number_of};
-ghost use Rattle.broker_c.specs.Outcomes.{CheckGives, ExploreGives, HandoverGives, IsAskedExploration, IsFindings, IsHandover, IsReport, IsSummary, PlayGives, Says, StressGives};
+ghost use Rattle.broker_c.specs.Outcomes.{CheckGives, ExploreGives, HandoverGives, IsAskedExploration, IsFindings, IsHandover, IsJudgement, IsReport, IsSummary, JudgeGives, PlayGives, Says, StressGives};
 
-use crate::outcome::{Outcome, check, explore, play, play_handing, stress};
+use crate::outcome::{Outcome, check, explore, judge, play, play_handing, stress};
 use broker_app::status::Status;
 use std::alloc::Global;
 
@@ -41,7 +42,7 @@ fn line_of<'a>(status: &Status, said: &'a [u8]) -> &'a [u8]
 fn number_of(status: &Status, report: usize, buffer: usize) -> u32
     ensures { result ≡ number_of status.now report buffer }
 {
-    if matches!(status, Status::Done) && buffer < report {
+    if matches!(status, Status::Done | Status::Otherwise) && buffer < report {
         return SHORT_BUFFER;
     }
     u32::from(status.code())
@@ -164,5 +165,25 @@ pub extern "C" fn broker_explore(
     ensures tells { Tells (ExploreGives policy.now script.now workers delays (min room ROOM_LIMIT)) result out.old out.new out_length.new line.old line.new line_length.new }
 {
     let outcome = explore(alloc, policy, script, workers, delays, room.min(ROOM_LIMIT));
+    tell(&outcome, out, out_length, line, line_length)
+}
+
+/// Judges whether the workers of a script's schedule mediate, as `judge POLICY SCRIPT` does, and tells what is found and its line.
+#[unsafe(no_mangle)]
+pub extern "C" fn broker_judge(
+    alloc: Global,
+    policy: &[u8],
+    script: &[u8],
+    room: usize,
+    out: &mut [u8],
+    out_length: &mut usize,
+    line: &mut [u8],
+    line_length: &mut usize,
+) -> u32
+    ensures mediated { result ≡ 0 → IsJudgement policy.now script.now Alike (take out_length.new out.new) }
+    ensures broken { result ≡ 11 → IsJudgement policy.now script.now Otherwise (take out_length.new out.new) }
+    ensures tells { Tells (JudgeGives policy.now script.now (min room ROOM_LIMIT)) result out.old out.new out_length.new line.old line.new line_length.new }
+{
+    let outcome = judge(alloc, policy, script, room.min(ROOM_LIMIT));
     tell(&outcome, out, out_length, line, line_length)
 }

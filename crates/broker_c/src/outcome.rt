@@ -8,7 +8,7 @@ ghost use Rattle.broker_app.specs.Forms.{IsJobInRange, job_of};
 ghost use Rattle.broker_app.specs.Lines.{line_of};
 ghost use Rattle.broker_app.specs.Plays.{as_report};
 ghost use Rattle.broker_c.specs.Held.{empty_sink};
-ghost use Rattle.broker_c.specs.Outcomes.{CheckGives, ExploreGives, HandoverGives, PlayGives, Says, StressGives, bound_meant, explore_asked, settled};
+ghost use Rattle.broker_c.specs.Outcomes.{CheckGives, ExploreGives, HandoverGives, JudgeGives, PlayGives, Says, StressGives, bound_meant, explore_asked, settled};
 
 use crate::given::{GivenFiles, POLICY, REPORT, SCRIPT};
 use crate::held::HeldBytes;
@@ -184,6 +184,30 @@ pub(crate) fn explore(
         &LoneThread,
         alloc,
         explore_job(workers, delays),
+        &mut files,
+        &mut out,
+        &mut err,
+    );
+    outcome_of(status, room, out, err)
+}
+
+/// Judges whether the workers of a script's schedule mediate, with room for so many bytes of what is found.
+pub(crate) fn judge(alloc: Global, policy: &[u8], script: &[u8], room: usize) -> Outcome
+    requires { room < 2 ^ 63 }
+    ensures gives { JudgeGives policy.now script.now room result.printed.items result.status }
+    ensures says { Says result.status result.said.items }
+{
+    let mut files = GivenFiles::new(policy, script, &[]);
+    let mut out = HeldBytes::new(alloc, room + 1);
+    let mut err = HeldBytes::new(alloc, LINE_ROOM);
+    let job = Job::Judge {
+        policy: POLICY,
+        script: SCRIPT,
+    };
+    let status = carry_out(
+        &LoneThread,
+        alloc,
+        Some(job),
         &mut files,
         &mut out,
         &mut err,
