@@ -89,7 +89,7 @@ impl Model for Served {
 
     ghost Value = { ServedFacts };
 
-    ghost view = { λ s. record { setup = record { policy = s.serving.value.policy; script = s.serving.value.machine.kernel.script; limit = None }; history = s.serving.value.machine.kernel.history } };
+    ghost view = { λ s. record { setup = record { policy = s.serving.value.policy; script = s.serving.value.machine.kernel.script; limit = None; every = None }; history = s.serving.value.machine.kernel.history } };
 
     ghost invariant = { λ s. s.serving.value.lacks_memory ≡ false → IsServed s.serving.value.policy s.serving.value.machine };
 }
@@ -107,7 +107,7 @@ impl Journalled for Served {
 impl Served {
     /// The kernel of a script after its start, with workers without a session.
     pub(crate) fn new(alloc: Global, policy: Policy, script: Script) -> Result<Served, NoMemory>
-        ensures setup { IfOk result (λ s. s.setup ≡ record { policy = policy; script = script; limit = None }) }
+        ensures setup { IfOk result (λ s. s.setup ≡ record { policy = policy; script = script; limit = None; every = None }) }
         ensures events { IfOk result (λ s. s.history.events ≡ started script) }
     {
         let machine = Machine::new(alloc, script)?;

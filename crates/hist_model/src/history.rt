@@ -100,15 +100,17 @@ impl History {
     }
 }
 
-/// What a state was set up with, and never changes: the policy, the container's script, and, where not all may work, the
-/// number of the last worker that may. Clauses speak of it; no value of it is made.
+/// What a state was set up with, and never changes: the policy, the container's script, where not all may work the number of the
+/// last worker that may, and where workers are replaced after how many of their steps the one that took the last is. Clauses speak
+/// of it; no value of it is made.
 pub struct Setup {
     pub policy: Policy,
     pub script: Script,
     pub limit: Option<u8>,
+    pub every: Option<u32>,
 }
 
-/// A state that keeps a history, and was set up with a policy, a script and a limit of workers or none.
+/// A state that keeps a history, and says what it was set up with.
 pub trait Journalled {
     ghost use Rattle.hist_model.specs.Histories.{Seen};
     ghost use Rattle.hist_model.specs.declared.history.Setup.{Setup};

@@ -51,7 +51,7 @@ impl Journalled for LaneServed {
 impl LaneServed {
     /// The state after a script's start, with all seats free.
     pub fn new(alloc: Global, policy: Policy, script: Script) -> Result<LaneServed, NoMemory>
-        ensures setup { IfOk result (λ s. s.setup ≡ record { policy = policy; script = script; limit = Some 15 }) }
+        ensures setup { IfOk result (λ s. s.setup ≡ record { policy = policy; script = script; limit = Some 15; every = None }) }
         ensures events { IfOk result (λ s. s.history.events ≡ started script) }
     {
         let served = Served::new(alloc, policy, script, Some(SEATS - 1))?;

@@ -38,7 +38,7 @@ histories ps = map (λ (p : Played). p.history.events) ps
 
 -- a container that workers up to this one may serve
 abbrev pub set_up_for : ℕ → Container → Setup
-set_up_for workers c = record { policy = c.policy; script = c.script; limit = Some workers }
+set_up_for workers c = record { policy = c.policy; script = c.script; limit = Some workers; every = None }
 
 -- there is a last worker
 abbrev pub IsLimited : Setup → Type 0

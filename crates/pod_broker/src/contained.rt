@@ -25,7 +25,7 @@ pub(crate) trait Contained: Crewed + Sized {
 
     fn set_up(alloc: Global, policy: Policy, script: Script, workers: u8) -> Result<Self, NoMemory>
         requires { may workers }
-        ensures { IfOk result (λ s. Self.setup s ≡ record { policy = policy; script = script; limit = Some workers }) };
+        ensures { IfOk result (λ s. Self.setup s ≡ record { policy = policy; script = script; limit = Some workers; every = None }) };
 
     /// Closes the listener, where nothing is left to do.
     fn close(self) -> Result<Played, NoMemory>

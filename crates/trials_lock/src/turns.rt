@@ -32,7 +32,7 @@ struct Notes {
 impl Journalled for Notes {
     ghost history = { λ n. n.history };
 
-    ghost setup = { λ n. record { policy = n.policy; script = n.script; limit = n.limit } };
+    ghost setup = { λ n. record { policy = n.policy; script = n.script; limit = n.limit; every = None } };
 
     fn journal(&self) -> &History {
         &self.history
@@ -358,7 +358,7 @@ struct Short {
 impl Journalled for Short {
     ghost history = { λ s. s.notes.history };
 
-    ghost setup = { λ s. record { policy = s.notes.policy; script = s.notes.script; limit = s.notes.limit } };
+    ghost setup = { λ s. record { policy = s.notes.policy; script = s.notes.script; limit = s.notes.limit; every = None } };
 
     fn journal(&self) -> &History {
         &self.notes.history

@@ -142,6 +142,7 @@ no_setup = record {
     schedule = [];
   };
   limit = None;
+  every = None;
 }
 
 -- the view of a pass that was joined to another

@@ -81,6 +81,6 @@ unfolding step
 closed_is_played P S K is = ap (λ (H : List Event). ev Listener Close ∷ H) is
 
 -- where a state was made with this setup, at the script's start
-pub turns_played : (P : Policy) (S : Script) (made : Setup) (opening K : List Event) → made ≡ record { policy = P; script = S; limit = None } → opening ≡ started S → K ≡ with_schedule made.policy made.script made.script.schedule opening
+pub turns_played : (P : Policy) (S : Script) (made : Setup) (opening K : List Event) → made ≡ record { policy = P; script = S; limit = None; every = None } → opening ≡ started S → K ≡ with_schedule made.policy made.script made.script.schedule opening
     → ev Listener Close ∷ K ≡ played P S
 turns_played P S made opening K m o is = closed_is_played P S K (rw (m, o) at is)

@@ -111,7 +111,7 @@ impl Model for Served {
 
     ghost Value = { ServedFacts };
 
-    ghost view = { λ s. record { setup = record { policy = s.serving.value.policy; script = s.serving.value.machine.kernel.script; limit = s.serving.value.limit }; history = s.serving.value.machine.kernel.history } };
+    ghost view = { λ s. record { setup = record { policy = s.serving.value.policy; script = s.serving.value.machine.kernel.script; limit = s.serving.value.limit; every = None }; history = s.serving.value.machine.kernel.history } };
 
     ghost invariant = { λ s. IsKept s.serving.value.policy s.serving.value.limit s.serving.value.machine };
 }
@@ -135,7 +135,7 @@ impl Served {
         script: Script,
         limit: Option<u8>,
     ) -> Result<Served, NoMemory>
-        ensures setup { IfOk result (λ s. s.setup ≡ record { policy = policy; script = script; limit = limit }) }
+        ensures setup { IfOk result (λ s. s.setup ≡ record { policy = policy; script = script; limit = limit; every = None }) }
         ensures events { IfOk result (λ s. s.history.events ≡ started script) }
     {
         let machine = Machine::new(alloc, script)?;
