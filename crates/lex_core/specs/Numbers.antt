@@ -17,7 +17,7 @@ abbrev pub at_place : ℕ → Option ℕ → Option ℕ → Option ℕ
 at_place weight (Some digit) (Some rest) = Some (digit * weight + rest)
 at_place _ _ _ = None
 
--- the value of digits: a place weighs the base to the number of digits behind it
+-- the value of digits: a place weighs the base to the number of digits after it
 unfoldable pub digits_value : ℕ → List ℕ → Option ℕ
 digits_value base [] = Some 0
 digits_value base (c ∷ cs) = at_place (base ^ length cs) (digit_value base c) (digits_value base cs)
@@ -31,7 +31,7 @@ pub record Form : Type 0 where
 abbrev pub decimal : List ℕ → Form
 decimal digits = record { base = 10; most = 20; digits = digits }
 
--- the letter behind a 0 names another base
+-- the letter after a 0 names another base
 abbrev pub lettered : ℕ → List ℕ → Form → Form
 lettered c digits plain =
     if c == 120 then record { base = 16; most = 16; digits = digits }
@@ -49,6 +49,10 @@ form_value f = if nat_le 1 (length f.digits) && nat_le (length f.digits) f.most 
 
 abbrev pub unsigned_value : List ℕ → Option ℕ
 unsigned_value text = form_value (form_of text)
+
+-- the value of a number without a sign, where it has at most fifteen digits
+abbrev pub short_number : List ℕ → Option ℕ
+short_number text = if nat_le (length (form_of text).digits) 15 then unsigned_value text else None
 
 -- the number that a bare token stands for
 abbrev pub number : List ℕ → Option ℤ

@@ -60,7 +60,7 @@ fn line_end(text: &[u8]) -> Option<usize>
     text.iter().position(|byte| *byte == b'\n')
 }
 
-/// The bytes up to the first line end, and those behind it.
+/// The bytes up to the first line end, and those after it.
 #[tactic(auto, using(crate::proofs::Splits::split_place, crate::proofs::Splits::place_within, crate::proofs::Splits::split_last))]
 fn split_line(text: &[u8]) -> (&[u8], &[u8])
     requires { 0 < length text.now }

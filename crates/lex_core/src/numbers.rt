@@ -125,10 +125,11 @@ pub fn read_number(bare: &[u8]) -> Option<i128>
     }
 }
 
-/// The number that a bare token of few digits stands for, where it has no sign. None comes also for a number of more than fifteen
-/// digits: `read_number` reads those too.
+/// The number that a bare token of at most fifteen digits stands for, where it has no sign. None comes exactly where it has a sign,
+/// more digits, or none of the forms: `read_number` reads all of them.
 pub fn short_number(bare: &[u8]) -> Option<u64>
-    ensures { IfSome result (λ n. definitions.number bare.now ≡ Some (pos n)) }
+    ensures value { result ≡ definitions.short_number bare.now }
+    ensures number { IfSome result (λ n. definitions.number bare.now ≡ Some (pos n)) }
 {
     let Form { base, most, digits } = form_of(bare);
     let count = digits.len();

@@ -10,7 +10,7 @@ pub enum Reason {
     #[error("bad byte")]
     BadByte,
     /// A quote that isn't closed on its line, an unknown escape, a byte below 0x20 between quotes, or a
-    /// token that touches a quoted one, before or behind it.
+    /// token that touches a quoted one, before or after it.
     #[error("bad quote")]
     BadQuote,
     /// The first token isn't a word that is known in any part.

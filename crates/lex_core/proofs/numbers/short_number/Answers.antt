@@ -4,8 +4,8 @@ use Rattle.lex_core.specs.Numbers.{digits_value}
 use Rattle.lex_core.proofs.Values.{short_number_is}
 use Rattle.lex_core.proofs.numbers.short_number.Goals as goal
 
-pub returns : goal.returns
-returns c =
+pub returns-clause-number : goal.returns-clause-number
+returns-clause-number c =
     let form = c.form_of-base.ensures in
     let digits = ap length form.digits in
     short_number_is c.args.bare.now c.few_digits_value.result (c.few_digits_value.ensures.value ∙ ap₂ digits_value form.base form.digits)
