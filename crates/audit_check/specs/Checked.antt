@@ -18,8 +18,8 @@ use Rattle.audit_check.specs.Reading.{Fault, Journal, behind, with_line}
 use Rattle.audit_check.specs.Reported.{IsFaultLine, IsReported}
 use Rattle.audit_check.specs.declared.stages.Ended.{Ended}
 use Rattle.audit_check.specs.declared.stages.Ended.TheVariants.{Closed as EndsClosed, Faulty as EndsFaulty, Open as EndsOpen}
-use Rattle.audit_check.specs.declared.found.Found.{Found}
-use Rattle.audit_check.specs.declared.found.Found.TheVariants.{No, Yes}
+use Rattle.audit_check.specs.declared.found.Checked.{Checked}
+use Rattle.audit_check.specs.declared.found.Checked.TheVariants.{No, Yes}
 use Rattle.audit_check.specs.declared.stages.Stepped.{Stepped}
 use Rattle.audit_check.specs.declared.stages.Stepped.TheVariants.{Closed, Faulty, Went}
 
@@ -30,7 +30,7 @@ without_close (e ∷ K) = if closes e.what then K else e ∷ K
 
 -- yes: the bytes are the report of this legal history, which is finished or not but for its close, and of which the tables tell;
 -- no: this is their fault line
-abbrev pub Tells : Policy → Script → List ℕ → Found → Type 0
+abbrev pub Tells : Policy → Script → List ℕ → Checked → Type 0
 Tells P S bytes (Yes history finished tables) = IsReported P S bytes history.events
     × ((finished ≡ true) ↔ Finished (without_close history.events)) × TellsTables P.rules history.events tables
 Tells P S bytes (No line) = IsFaultLine P S bytes line

@@ -22,7 +22,7 @@ ghost use Rattle.audit_check.specs.Reading.{Rest, behind, rest_of};
 
 use crate::actor::actor_in;
 use crate::compare::compared;
-use crate::found::Found;
+use crate::found::Checked;
 use crate::line_ends::{count_in, split_line};
 use crate::stages::{Ended, Left, Stepped};
 use audit_log::journal::push_event;
@@ -208,7 +208,7 @@ fn rest(
     history: History,
     finished: bool,
     left: Left<'_>,
-) -> Result<Found, NoMemory>
+) -> Result<Checked, NoMemory>
     requires policy { IsPolicy policy.now }
     requires room { left.number + length left.text.now < 2 ^ 32 - 1 }
     requires finished { (finished ≡ true) ↔ Finished (without_close history.events) }
@@ -216,12 +216,12 @@ fn rest(
 {
     let tables = Tables::of(alloc, policy, &history)?;
     match compared(alloc, policy, &history, &tables, left.text)? {
-        None => Ok(Found::Yes {
+        None => Ok(Checked::Yes {
             history,
             finished,
             tables,
         }),
-        Some(ends) => Ok(Found::No {
+        Some(ends) => Ok(Checked::No {
             line: left.number + ends as u32 + 1,
         }),
     }
@@ -233,7 +233,7 @@ fn ended_at(
     policy: &Policy,
     machine: Machine,
     ended: Ended<'_>,
-) -> Result<Found, NoMemory>
+) -> Result<Checked, NoMemory>
     requires policy { IsPolicy policy.now }
     requires serves { Serves policy.now machine.kernel.script ended machine }
     ensures { IfOk result (λ found. (S : ScriptValue) (bytes : List ℕ) → HasEnded policy.now S bytes ended.entry (past machine.kernel) → Tells policy.now S bytes found) }
@@ -248,7 +248,7 @@ fn ended_at(
             let (_script, history) = machine.closed()?;
             rest(alloc, policy, history, finished, left)
         }
-        Ended::Faulty(line) => Ok(Found::No { line }),
+        Ended::Faulty(line) => Ok(Checked::No { line }),
     }
 }
 
@@ -259,7 +259,7 @@ fn journal(
     script: Script,
     left: Left<'_>,
     count: u64,
-) -> Result<Found, NoMemory>
+) -> Result<Checked, NoMemory>
     requires policy { IsPolicy policy.now }
     requires some { 0 < count }
     requires room { left.number + length left.text.now < 2 ^ 32 - 1 }
@@ -267,14 +267,14 @@ fn journal(
 {
     let number = left.number + 1;
     if left.text.is_empty() {
-        return Ok(Found::No { line: number });
+        return Ok(Checked::No { line: number });
     }
     let (line, text) = split_line(left.text);
     let mut machine = Machine::new(alloc, script)?;
     let mut scratch = LineBuffer::new(alloc);
     let same = is_newest_line(machine.history(), &mut scratch, line)?;
     if !same {
-        return Ok(Found::No { line: number });
+        return Ok(Checked::No { line: number });
     }
     let start = Left { text, number };
     let ended = events(alloc, policy, &mut machine, &mut scratch, start, count - 1)?;
@@ -291,17 +291,17 @@ pub fn check_report(
     policy: &Policy,
     script: Script,
     report: &[u8],
-) -> Result<Found, NoMemory>
+) -> Result<Checked, NoMemory>
     requires { length report.now ≤ 33554432 }
     ensures { IfOk result (λ found. Tells policy.now script report.now found) }
 {
     rules_hold(policy);
     if report.is_empty() {
-        return Ok(Found::No { line: 1 });
+        return Ok(Checked::No { line: 1 });
     }
     let (title, text) = split_line(report);
     match count_in(alloc, title)? {
         Some(count) => journal(alloc, policy, script, Left { text, number: 1 }, count),
-        None => Ok(Found::No { line: 1 }),
+        None => Ok(Checked::No { line: 1 }),
     }
 }

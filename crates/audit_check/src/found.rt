@@ -5,7 +5,7 @@ use hist_model::history::History;
 
 /// What a checker finds of a report.
 #[derive(Drop)]
-pub enum Found {
+pub enum Checked {
     /// The report is that of this legal history, by the tables that were made of it. It is finished where nothing is left to do but to
     /// close the listener.
     Yes {

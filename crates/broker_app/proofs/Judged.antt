@@ -13,7 +13,7 @@ use Rattle.judge_pass.specs.Counted.{AreCounted}
 use Rattle.judge_pass.specs.Finding.{Finding, as_finding, finding}
 use Rattle.judge_pass.specs.Heads.{events_of, numbers_text}
 use Rattle.judge_pass.specs.declared.judge.Counts.{Counts}
-use Rattle.judge_pass.specs.declared.watch.Found.{Found}
+use Rattle.judge_pass.specs.declared.watch.FirstFault.{FirstFault}
 use Rattle.policy_classes.specs.declared.ending.Ending.TheVariants.{Alike}
 use Rattle.policy_classes.specs.declared.ending.Told.{Told}
 use Rattle.script_reader.specs.declared.file.ScriptFile.{ScriptFile}
@@ -37,15 +37,15 @@ mediated_told K events counts told closed is counted text ending =
     (text ∙ rw there (rw counted.calls_are (rw counted.effects_are (rw counted.answers_are refl))), ending)
 
 -- it is told of what was found
-pub told_of_either : (found : Option Found) (f : Option Finding) (K : List Event) (told : Told) → option_map as_finding found ≡ f
-    → ((it : Found) → found ≡ Some it → IsToldOf (Some (as_finding it)) K told) → (found ≡ None → IsToldOf None K told) → IsToldOf f K told
+pub told_of_either : (found : Option FirstFault) (f : Option Finding) (K : List Event) (told : Told) → option_map as_finding found ≡ f
+    → ((it : FirstFault) → found ≡ Some it → IsToldOf (Some (as_finding it)) K told) → (found ≡ None → IsToldOf None K told) → IsToldOf f K told
 told_of_either (Some it) f K told is broken mediated = subst (λ g. IsToldOf g K told) is (broken it refl)
 told_of_either None f K told is broken mediated = subst (λ g. IsToldOf g K told) is (mediated refl)
 
 -- what is told of a fault is told of the one that was found
-pub told_still : {E : Type 0} (r : Result Told E) (a : Found) (o : Option Found) → o ≡ Some a → IfOk r (λ told. (K : List Event) → IsToldOf (Some (as_finding a)) K told)
-    → IfOk r (λ told. (K : List Event) (found : Found) → o ≡ Some found → IsToldOf (Some (as_finding found)) K told)
-told_still (Ok told) a o is h = λ K found e. let same : a ≡ found = cc in subst (λ (f : Found). IsToldOf (Some (as_finding f)) K told) same (h K)
+pub told_still : {E : Type 0} (r : Result Told E) (a : FirstFault) (o : Option FirstFault) → o ≡ Some a → IfOk r (λ told. (K : List Event) → IsToldOf (Some (as_finding a)) K told)
+    → IfOk r (λ told. (K : List Event) (found : FirstFault) → o ≡ Some found → IsToldOf (Some (as_finding found)) K told)
+told_still (Ok told) a o is h = λ K found e. let same : a ≡ found = cc in subst (λ (f : FirstFault). IsToldOf (Some (as_finding f)) K told) same (h K)
 told_still (Err error) a o is h = h
 
 -- the files weren't both taken

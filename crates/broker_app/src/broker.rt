@@ -41,7 +41,7 @@ use crate::stepping::step_files;
 use crate::telling::{check_claims, compare_files, lint_file};
 use crate::words::{Form, Job, read_form};
 use audit_check::check::check_report;
-use audit_check::found::Found;
+use audit_check::found::Checked;
 use crew::Gate;
 use generated_input::{generated_policy, generated_script};
 use hist_model::history::History;
@@ -284,7 +284,7 @@ fn check_bytes<P: Player, O: Sink>(
 {
     is_unique(policy);
     match check_report(alloc, policy, script, report)? {
-        Found::Yes {
+        Checked::Yes {
             history,
             finished,
             tables,
@@ -298,7 +298,7 @@ fn check_bytes<P: Player, O: Sink>(
             player.let_go(history);
             printed
         }
-        Found::No { line } => Err(Status::NotReport { line }),
+        Checked::No { line } => Err(Status::NotReport { line }),
     }
 }
 

@@ -8,7 +8,7 @@ ghost use Rattle.hist_model.specs.declared.event.Event.{Event};
 ghost use Rattle.judge_pass.specs.Closed.{is_closed};
 ghost use Rattle.judge_pass.specs.Counted.{AreCounted};
 ghost use Rattle.judge_pass.specs.Finding.{as_finding, finding};
-ghost use Rattle.judge_pass.specs.declared.watch.Found.{Found as FoundValue};
+ghost use Rattle.judge_pass.specs.declared.watch.FirstFault.{FirstFault as FirstFaultValue};
 ghost use Rattle.script_reader.specs.Rules.{AreTurns};
 ghost use Rattle.step_requests.specs.Turns.{AreApart};
 ghost use Rattle.turn_player.specs.Turns.{IsTurn};
@@ -23,7 +23,7 @@ use hist_model::text::{Sequence, Text};
 use io_edge::files::Files;
 use io_edge::sink::Sink;
 use judge_pass::heads::{push_broken, push_mediated};
-use judge_pass::watch::Found;
+use judge_pass::watch::FirstFault;
 use policy_classes::ending::{Ending, Told};
 use script_reader::ScriptFile;
 use std::alloc::Global;
@@ -49,7 +49,7 @@ fn lines_of(
 }
 
 /// What is told where an event breaks a clause.
-fn told_broken(alloc: Global, found: &Found, reasons: &[u8]) -> Result<Told, NoMemory>
+fn told_broken(alloc: Global, found: &FirstFault, reasons: &[u8]) -> Result<Told, NoMemory>
     ensures { IfOk result (λ told. (K : List Event) → IsToldOf (Some (as_finding found.now)) K told) }
 {
     let mut line = LineBuffer::new(alloc);
@@ -77,7 +77,7 @@ fn told_mediated(alloc: Global, judgement: &Judgement) -> Result<Told, NoMemory>
 
 /// What is told of a play that was judged.
 fn told_of(alloc: Global, judgement: &Judgement) -> Result<Told, NoMemory>
-    ensures broken { IfOk result (λ told. (K : List Event) (found : FoundValue) → judgement.now.found ≡ Some found → IsToldOf (Some (as_finding found)) K told) }
+    ensures broken { IfOk result (λ told. (K : List Event) (found : FirstFaultValue) → judgement.now.found ≡ Some found → IsToldOf (Some (as_finding found)) K told) }
     ensures mediated { IfOk result (λ told. (K : List Event) → judgement.now.found ≡ None → is_closed K ≡ true → judgement.now.history.events ≡ K → AreCounted K judgement.now.counts → IsToldOf None K told) }
 {
     match &judgement.found {

@@ -23,7 +23,7 @@ use Rattle.broker_machine.specs.Workers.{HasTried, KeepsOn, TriesDeed, TriesStep
 use Rattle.broker_machine.proofs.Fitting.{fits_due, own-step, remembers_turn, step_of_deed}
 use Rattle.broker_machine.proofs.Rooms.{does-same, same-still}
 
--- the newest event stands behind the others
+-- the newest event stands after the others
 pub newest_of : (events older : List Event) (newest e : Event) (K : List Event) → events ≡ older ++ newest ∷ [] → reverse events ≡ e ∷ K → newest.what ≡ e.what
 newest_of events older newest e K h is = ap (λ (x : Event). x.what) (first (sym (reverse-append older (newest ∷ [])) ∙ ap reverse (sym h) ∙ is))
   where

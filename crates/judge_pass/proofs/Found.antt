@@ -17,7 +17,7 @@ use Rattle.judge_pass.specs.Finding.{as_finding, ClosesFaultless, Finding, findi
 use Rattle.judge_pass.specs.Stands.{clause_in, Judges, Stands}
 use Rattle.judge_pass.specs.declared.judge.Fault.{Fault}
 use Rattle.judge_pass.specs.declared.judge.Judge.{Judge}
-use Rattle.judge_pass.specs.declared.watch.Found.{Found}
+use Rattle.judge_pass.specs.declared.watch.FirstFault.{FirstFault}
 use Rattle.judge_pass.specs.declared.watch.Watch.{Watch}
 
 -- ---- what is found
@@ -78,8 +78,8 @@ pub watches_still : (P : Policy) (S : Script) (K : List Event) (e : Event) (w : 
 unfolding finding
 watches_still P S K e w some h = by w.found refl
   where
-    by : (o : Option Found) → w.found ≡ o → Watches P S (e ∷ K) w
-    by None q = let no : false ≡ true = sym (ap (is_some {T = Found}) q) ∙ some in cc
+    by : (o : Option FirstFault) → w.found ≡ o → Watches P S (e ∷ K) w
+    by None q = let no : false ≡ true = sym (ap (is_some {T = FirstFault}) q) ∙ some in cc
     by (Some f) q =
         let is : finding P S K ≡ Some (as_finding f) = sym h.found_is ∙ ap (option_map as_finding) q in
         record {
@@ -87,7 +87,7 @@ watches_still P S K e w some h = by w.found refl
           stands = λ none. let no : Some f ≡ None = sym q ∙ none in cc;
         }
 
-pub none_found : (o : Option Found) → is_some o ≡ false → o ≡ None
+pub none_found : (o : Option FirstFault) → is_some o ≡ false → o ≡ None
 none_found None h = refl
 none_found (Some f) h = cc
 
@@ -112,7 +112,7 @@ watches-next P S K e w fault new q h j = by fault refl
           stands = λ none. cc;
         }
 
-pub watches_heard : (P : Policy) (S : Script) (H K : List Event) (e newest : Event) (older : List Event) (w : Watch) (fault : Option Fault) (new : Judge) (found : Option Found) → H ≡ e ∷ K → H ≡ newest ∷ reverse older
+pub watches_heard : (P : Policy) (S : Script) (H K : List Event) (e newest : Event) (older : List Event) (w : Watch) (fault : Option Fault) (new : Judge) (found : Option FirstFault) → H ≡ e ∷ K → H ≡ newest ∷ reverse older
     → w.found ≡ None → Watches P S K w → Judges P S K e fault new → found ≡ option_map (λ (f : Fault). record { place = length older; fault = f }) fault → Watches P S (e ∷ K) (record { judge = new; found = found })
 watches_heard P S H K e newest older w fault new found at there none h j is =
     let both : e ∷ K ≡ newest ∷ reverse older = sym at ∙ there in

@@ -11,7 +11,7 @@ use Rattle.broker_verdict.specs.Trusted.{broken_at, class_at, first_fault}
 use Rattle.broker_verdict.specs.declared.clause.Class.{Class}
 use Rattle.broker_verdict.specs.declared.clause.Clause.{Clause}
 use Rattle.judge_pass.specs.Stands.{Stands}
-use Rattle.judge_pass.specs.declared.watch.Found.{Found}
+use Rattle.judge_pass.specs.declared.watch.FirstFault.{FirstFault}
 use Rattle.judge_pass.specs.declared.watch.Watch.{Watch}
 
 -- an event, by its place, that breaks a clause
@@ -48,7 +48,7 @@ ClosesFaultless P S K = finding P S (ev Listener Close ∷ K) ≡ finding P S K
 
 -- ---- a judge that has heard a history
 
-abbrev pub as_finding : Found → Finding
+abbrev pub as_finding : FirstFault → Finding
 as_finding found = record { place = found.place; class = found.fault.class; clause = found.fault.clause }
 
 -- it has found what is to be found, and where that is nothing its tables stand for the history

@@ -12,7 +12,7 @@ ghost use Rattle.judge_pass.specs.Idle.{finding_idle, unanswered_at};
 ghost use Rattle.judge_pass.specs.Stands.{Stands, place_of_call};
 
 use crate::judge::{Fault, Judge};
-use crate::watch::{Found, Watch};
+use crate::watch::{FirstFault, Watch};
 use broker_verdict::clause::{Class, Clause};
 
 impl Judge {
@@ -31,11 +31,11 @@ impl Judge {
 }
 
 /// That the call with this number isn't answered, found at the event with this place.
-fn unanswered(place: usize, call: Option<usize>) -> Option<Found>
+fn unanswered(place: usize, call: Option<usize>) -> Option<FirstFault>
     ensures { option_map as_finding result ≡ unanswered_at place call }
 {
     match call {
-        Some(number) => Some(Found {
+        Some(number) => Some(FirstFault {
             place,
             fault: Fault {
                 clause: Clause::Unanswered,
@@ -50,7 +50,7 @@ fn unanswered(place: usize, call: Option<usize>) -> Option<Found>
 impl Watch {
     /// What is found first by so many events, of which the last didn't close the listener, where the broker does nothing more by
     /// itself: what an event breaks, or that a call that was received and waits isn't answered, at the last event.
-    pub fn found_idle(&self, events: usize) -> Option<Found>
+    pub fn found_idle(&self, events: usize) -> Option<FirstFault>
         requires { 0 < events }
         ensures { (P : PolicyValue) (S : ScriptValue) (K : List Event) → Watches P S K self.now → length K ≡ events → is_closed K ≡ false
             → option_map as_finding result ≡ finding_idle P S K }

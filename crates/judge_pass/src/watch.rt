@@ -17,17 +17,17 @@ use sys_abi::memory::NoMemory;
 
 /// The event that breaks a clause first, by its place.
 #[derive(Clone, Copy, PartialEq, Eq, Debug)]
-pub struct Found {
+pub struct FirstFault {
     pub place: usize,
     pub fault: Fault,
 }
 
 /// The fault of the event at a place, if it has one.
-fn found_at(place: usize, fault: Option<Fault>) -> Option<Found>
+fn found_at(place: usize, fault: Option<Fault>) -> Option<FirstFault>
     ensures { result ≡ option_map (λ fault. record { place = place; fault = fault }) fault }
 {
     match fault {
-        Some(fault) => Some(Found { place, fault }),
+        Some(fault) => Some(FirstFault { place, fault }),
         None => None,
     }
 }
@@ -36,7 +36,7 @@ fn found_at(place: usize, fault: Option<Fault>) -> Option<Found>
 #[derive(Drop)]
 pub struct Watch {
     pub(crate) judge: Judge,
-    pub(crate) found: Option<Found>,
+    pub(crate) found: Option<FirstFault>,
 }
 
 impl Watch {
@@ -74,7 +74,7 @@ impl Watch {
     }
 
     /// The event that breaks a clause first, if one does.
-    pub fn found(&self) -> Option<Found>
+    pub fn found(&self) -> Option<FirstFault>
         ensures { result ≡ self.now.found }
     {
         self.found

@@ -3,7 +3,7 @@ pub mod Queues
 pub mod Installs
 pub mod Lists
 pub mod Rows
-pub mod Halves
+pub mod Places
 pub mod Tables
 pub mod Answers
 pub mod Asks

@@ -9,10 +9,11 @@ use Rattle.hist_model.specs.declared.notification.Reply.{Reply}
 use Rattle.listener.specs.declared.order.Entry.{Entry}
 use Rattle.listener.specs.declared.queue.Queue.{Queue}
 use Rattle.listener.specs.State.{Row, has_id, fetch, answer}
-use Rattle.listener.specs.Entries.{Rise, AreBelow, has_number, replied}
+use Rattle.sorted_list.specs.Entries.{NumbersRise}
+use Rattle.sorted_list.proofs.Found.{rise-tail}
+use Rattle.listener.specs.Entries.{AreBelow, entry_number, has_number, replied}
 use Rattle.listener.specs.Table.{row, number_of}
 use Rattle.listener.proofs.Lists.{map-same, map-map, filter-map, find-map, find-same, filter-same}
-use Rattle.listener.proofs.Halves.{rise-tail}
 
 -- the call of an id is that of its number
 number-id : (f n x : ℕ) → f < 2 ^ 64 → n < 2 ^ 64 → x < 2 ^ 64 → ((f + n) % 2 ^ 64 == x) ≡ (n == number_of f x)
@@ -87,17 +88,17 @@ now-fetched f s n m a b c l o = elim (cases_lt m s) [
     or-true false = refl
 
 -- an entry before the first from a number on is below it
-before-first : (s : ℕ) (xs : List Entry) (e : Entry) → Rise xs → find (λ (e : Entry). nat_le s e.number) xs ≡ Some e → All (λ (x : Entry). x.number < e.number → x.number < s) xs
+before-first : (s : ℕ) (xs : List Entry) (e : Entry) → NumbersRise entry_number xs → find (λ (e : Entry). nat_le s e.number) xs ≡ Some e → All (λ (x : Entry). x.number < e.number → x.number < s) xs
 before-first s [] e r q = All-nil (λ (x : Entry). x.number < e.number → x.number < s)
 before-first s (x ∷ xs) e r q = elim (cases_lt x.number s) [
-  | inl l ↦ All-cons (λ (x : Entry). x.number < e.number → x.number < s) x xs (λ g. l) (before-first s xs e (rise-tail x xs r) (rw (lt-leb s x.number l) at q))
+  | inl l ↦ All-cons (λ (x : Entry). x.number < e.number → x.number < s) x xs (λ g. l) (before-first s xs e (rise-tail entry_number x xs r) (rw (lt-leb s x.number l) at q))
   | inr l ↦
       let z : Some x ≡ Some e = rw (le-leb s x.number l) at q in let w : x ≡ e = cc in
       rw (← w) (All-cons (λ (y : Entry). y.number < x.number → y.number < s) x xs (λ g. absurd (omega arith)) (λ k d m g. absurd (omega (arith, r 0 (suc k) d (omega arith) (omega arith)))))
 ]
 
 -- a receive of the oldest that wasn't fetched
-pub fetched-to : (f s t : ℕ) (names : ℕ → Name) (xs : List Entry) (e : Entry) → AreEntries f t xs → Rise xs → e.number < t → find (λ (e : Entry). nat_le s e.number) xs ≡ Some e
+pub fetched-to : (f s t : ℕ) (names : ℕ → Name) (xs : List Entry) (e : Entry) → AreEntries f t xs → NumbersRise entry_number xs → e.number < t → find (λ (e : Entry). nat_le s e.number) xs ≡ Some e
     → map (row f (e.number + 1) names) xs ≡ map (fetch ((f + e.number) % 2 ^ 64)) (map (row f s names) xs)
 fetched-to f s t names xs e h r l q =
     map-same _ _ xs (λ k d m.

@@ -1,7 +1,7 @@
 -- The listed calls in the order of entry.
-use Rattle.std.specs.Prelude.{◌≡◌, ℕ, ◌<◌, ◌≤◌, Bool, true, false, not, List, [], ◌∷◌, length, map, filter, find, Option, Some, None}
+use Rattle.std.specs.Prelude.{◌≡◌, ℕ, ◌<◌, Bool, true, false, not, List, [], ◌∷◌, length, map, filter, find, Option, Some, None}
 use Rattle.std.specs.Prelude.{if◌then◌else◌, ◌==◌, slice_index_or, set}
-use Rattle.std.specs.List.{AllWithin, remove}
+use Rattle.std.specs.List.{remove}
 use Rattle.hist_model.specs.declared.notification.Reply.{Reply}
 use Rattle.hist_model.specs.declared.request.TaskRef.{TaskRef}
 use Rattle.listener.specs.declared.order.Entry.{Entry}
@@ -22,9 +22,9 @@ with_reply y e = record e { reply = y }
 abbrev pub replied : ℕ → Option Reply → Entry → Entry
 replied n y e = if has_number n e then with_reply y e else e
 
--- each call has a lower number than the later ones
-abbrev pub Rise : List Entry → Type 0
-Rise xs = (i j : ℕ) (d : Entry) → i < j → j < length xs → (slice_index_or xs i d).number < (slice_index_or xs j d).number
+-- by what calls are in order
+abbrev pub entry_number : Entry → ℕ
+entry_number e = e.number
 
 -- all numbers are below this one
 abbrev pub AreBelow : ℕ → List Entry → Type 0
@@ -34,11 +34,6 @@ AreBelow n xs = (i : ℕ) (d : Entry) → i < length xs → (slice_index_or xs i
 abbrev pub is_empty : List Entry → Bool
 is_empty [] = true
 is_empty (e ∷ es) = false
-
--- the calls below the place have lower numbers, and those from it on have not
-pub record IsStart (xs : List Entry) (n i : ℕ) : Type 0 where
-  pub below : AllWithin (λ (e : Entry). e.number < n) xs 0 i
-  pub above : AllWithin (λ (e : Entry). n ≤ e.number) xs i (length xs)
 
 -- the call with this number stands at this place
 pub record IsPlace (xs : List Entry) (n i : ℕ) : Type 0 where

@@ -61,7 +61,7 @@ request_part q = number_part q.worker ++ asked_part q.asked ++ option_part insta
 abbrev pub listener_part : Listener → List ℕ
 listener_part L = queue_part L.queue ++ list_part request_part L.requests
 
--- where equal bytes begin with the keys of two listeners, these are the same state, and what comes behind them is equal
+-- where equal bytes begin with the keys of two listeners, these are the same state, and what comes after them is equal
 abbrev pub TellStates : Type 0
 TellStates = (a b : Listener) (r s : List ℕ) → listener_part a ++ r ≡ listener_part b ++ s
     → ((names : ℕ → Name) → view a names ≡ view b names) × (r ≡ s)

@@ -38,7 +38,7 @@ pub fn a_response_says_how_the_call_returns()
     ensures fits { (resp : Resp) → may_be_sent resp ≡ true → FitsSigned w64 resp.val → IsBack (back_of resp) }
 {}
 
-/// Keys of listeners end by themselves: where equal bytes begin with two of them, the listeners are the same state, and what comes behind
+/// Keys of listeners end by themselves: where equal bytes begin with two of them, the listeners are the same state, and what comes after
 /// is equal.
 pub fn keys_tell_states()
     ensures { TellStates }

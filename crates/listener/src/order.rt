@@ -1,7 +1,8 @@
-//! The listed calls in the order of entry, which are found by halves.
+//! The listed calls in the order of entry.
 
-ghost use Rattle.std.specs.Prelude.{◌≡◌, ◌+◌, ◌<◌, ◌≤◌, ◌∷◌, ◌++◌, [], Some, IfNone, IfSome, IsOk, OnOk, length, find, filter, map, not, nat_le};
-ghost use Rattle.listener.specs.Entries.{Rise, AreBelow, IsStart, IsPlace, IsAbsent, has_number, new_entry, replied, is_empty};
+ghost use Rattle.std.specs.Prelude.{◌≡◌, ◌+◌, ◌<◌, ◌∷◌, ◌++◌, [], Some, IfOk, IfErr, IfSome, IsOk, OnOk, MatchResult, find, filter, map, not, nat_le, slice_get};
+ghost use Rattle.sorted_list.specs.Entries.{NumbersRise};
+ghost use Rattle.listener.specs.Entries.{AreBelow, IsPlace, IsAbsent, entry_number, has_number, new_entry, replied, is_empty};
 
 use crate::keys::push_entry;
 use hist_model::notification::Reply;
@@ -26,7 +27,7 @@ pub struct Order {
     entries: VecDeque<Entry>,
     /// How many calls were entered.
     entered: u64,
-    ghost rising: { Rise entries.items },
+    ghost rising: { NumbersRise entry_number entries.items },
     ghost below: { AreBelow entered entries.items },
 }
 
@@ -104,24 +105,14 @@ impl Order {
         number
     }
 
-    /// The place of the first call whose number isn't below this one.
-    fn start(&self, number: u64) -> usize
-        ensures bound { result ≤ length self.now.entries.items }
-        ensures parted { IsStart self.now.entries.items number result }
+    /// The place of the call with this number, or that of the first one with a higher number.
+    fn place(&self, number: u64) -> Result<usize, usize>
+        ensures found { IfOk result (λ i. IsPlace self.now.entries.items number i) }
+        ensures absent { IfErr result (λ i. IsAbsent self.now.entries.items number) }
+        ensures first { MatchResult result (λ i. find (λ e. nat_le number e.number) self.now.entries.items ≡ slice_get self.now.entries.items i) (λ i. find (λ e. nat_le number e.number) self.now.entries.items ≡ slice_get self.now.entries.items i) }
     {
-        self.entries.partition_point(|entry| entry.number < number)
-    }
-
-    /// The place of the call with this number.
-    fn place(&self, number: u64) -> Option<usize>
-        ensures found { IfSome result (λ i. IsPlace self.now.entries.items number i) }
-        ensures none { IfNone result (IsAbsent self.now.entries.items number) }
-    {
-        let place = self.start(number);
-        match self.entries.get(place) {
-            Some(entry) if entry.number == number => Some(place),
-            _ => None,
-        }
+        self.entries
+            .binary_search_by_key(&number, |entry| entry.number)
     }
 
     /// The call with this number.
@@ -129,8 +120,8 @@ impl Order {
         ensures { result ≡ find (has_number number) self.now.entries.items }
     {
         match self.place(number) {
-            Some(place) => Some(self.entries[place]),
-            None => None,
+            Ok(place) => Some(self.entries[place]),
+            Err(_) => None,
         }
     }
 
@@ -139,7 +130,11 @@ impl Order {
         ensures first { result ≡ find (λ e. nat_le number e.number) self.now.entries.items }
         ensures below { IfSome result (λ e. e.number < self.now.entered) }
     {
-        match self.entries.get(self.start(number)) {
+        let place = match self.place(number) {
+            Ok(place) => place,
+            Err(place) => place,
+        };
+        match self.entries.get(place) {
             Some(entry) => Some(*entry),
             None => None,
         }
@@ -151,7 +146,7 @@ impl Order {
         ensures entered { self.new.entered ≡ self.old.entered }
         ensures room { HasPlace self.old → HasPlace self.new }
     {
-        let Some(place) = self.place(number) else {
+        let Ok(place) = self.place(number) else {
             return;
         };
         self.entries[place].reply = reply;
@@ -162,7 +157,7 @@ impl Order {
         ensures entries { self.new.entries.items ≡ filter (λ e. not (has_number number e)) self.old.entries.items }
         ensures entered { self.new.entered ≡ self.old.entered }
     {
-        let Some(place) = self.place(number) else {
+        let Ok(place) = self.place(number) else {
             return;
         };
         self.entries.remove(place);

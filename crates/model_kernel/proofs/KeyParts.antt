@@ -19,7 +19,7 @@ use Rattle.model_kernel.specs.Spent.{number_or, times_in}
 use Rattle.model_kernel.specs.declared.rows.WorkerRow.{WorkerRow}
 use Rattle.model_kernel.specs.declared.spent.SpentRows.{SpentRows}
 
--- a part, and what comes behind it
+-- a part, and what comes after it
 behind : (f g r h k s : List ℕ) → (f ++ g) ++ r ≡ (h ++ k) ++ s → f ++ (g ++ r) ≡ h ++ (k ++ s)
 behind f g r h k s q = sym (append_assoc f g r) ∙ (q ∙ append_assoc h k s)
 
@@ -45,7 +45,7 @@ pub one_more_written : (T : SpentRows) (n : ℕ) → times_part T (n + 1) ≡ ti
 unfolding times_part
 one_more_written T n = rw add-one refl
 
--- a number more behind what was written
+-- a number more after what was written
 pub written_on : (front times before number after : List ℕ) → before ≡ front ++ times → after ≡ before ++ number → after ≡ front ++ (times ++ number)
 written_on front times before number after p q = q ∙ rw (p, append_assoc) refl
 

@@ -51,6 +51,6 @@ pub record HaveSameTables (a b : Kernel) : Type 0 where
   pub workers : a.resources.workers ≡ b.resources.workers
   pub spent : (rule : ℕ) → times_in a.resources.spent rule ≡ times_in b.resources.spent rule
 
--- where equal bytes begin with the keys of two kernels, these have the same tables, and what comes behind is equal
+-- where equal bytes begin with the keys of two kernels, these have the same tables, and what comes after is equal
 abbrev pub TellKernels : Type 0
 TellKernels = (a b : Kernel) (r s : List ℕ) → kernel_part a ++ r ≡ kernel_part b ++ s → HaveSameTables a b × (r ≡ s)

@@ -17,7 +17,7 @@ pub fn stores_where_mapped()
     ensures { (S : Script) → IsScript S → StoresWhereMapped S }
 {}
 
-/// Keys of kernels end by themselves: where equal bytes begin with two of them, the kernels have the same tables, and what comes behind is
+/// Keys of kernels end by themselves: where equal bytes begin with two of them, the kernels have the same tables, and what comes after is
 /// equal.
 pub fn keys_tell_kernels()
     ensures { TellKernels }

@@ -93,7 +93,7 @@ value_found rs on name value r e = ap (λ o. has_value o value) (ap value_of (sy
 pub value_absent : (rs : List AttrRow) (on : ℕ) (name value : List ℕ) → newest_row attr_key rs (key_of (Some on) name) ≡ None → false ≡ has_value (attr_in rs on name) value
 value_absent rs on name value e = ap (λ o. has_value o value) (ap value_of (sym e) ∙ value_newest rs on name)
 
--- the newest mount stands behind the others, and none where there is no mount
+-- the newest mount stands after the others, and none where there is no mount
 pub newest_there : (rows all : List Mounted) (m : Mounted) → reverse all ≡ rows → 0 < length all → m ≡ get_or all (length all - 1) m → Some m.root ≡ newest_root rows
 newest_there rows all m q l is =
     let n = length all - 1 in

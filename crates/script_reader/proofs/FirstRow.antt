@@ -28,7 +28,7 @@ use Rattle.script_reader.specs.declared.operand.Operand.{Operand}
 use Rattle.script_reader.specs.declared.operand.Operand.TheVariants as operand
 use Rattle.script_reader.specs.declared.statement.Statement.{Statement}
 use Rattle.script_reader.specs.declared.statement.Statement.TheVariants as states
-use Rattle.script_reader.specs.declared.word.Part.{Part}
+use Rattle.script_reader.specs.declared.word.Section.{Section}
 use Rattle.script_reader.specs.declared.word.Word.{Word}
 use Rattle.script_reader.specs.Above.{Above, statement_fault}
 use Rattle.script_reader.specs.Faults.{or_else, too_large_if, wrong_if}
@@ -219,26 +219,26 @@ unless-placed true None w operands = refl
 unless-placed true (Some r) w operands = refl
 unless-placed false found w operands = refl
 
-word-first : (part : Part) (base_is_stated : Bool) (w : Option Word) (bytes : List ℕ) (operands : List Token)
-    → is_first (refusal_of (bytes_statement part base_is_stated w bytes operands)) (word_faults part base_is_stated w bytes operands) ≡ true
-word-first part base_is_stated None bytes operands = alone (Some (Wrong (other_word bytes)))
-word-first part base_is_stated (Some w) bytes operands =
+word-first : (section : Section) (base_is_stated : Bool) (w : Option Word) (bytes : List ℕ) (operands : List Token)
+    → is_first (refusal_of (bytes_statement section base_is_stated w bytes operands)) (word_faults section base_is_stated w bytes operands) ≡ true
+word-first section base_is_stated None bytes operands = alone (Some (Wrong (other_word bytes)))
+word-first section base_is_stated (Some w) bytes operands =
     let tests = operand_faults w operands 0 operands in
     let counted : Bool = is_counted w operands in
-    let placed : Bool = is_in_place part base_is_stated w in
+    let placed : Bool = is_in_place section base_is_stated w in
     let count : is_first (wrong (operands_fault w operands)) (wrong_if (not counted) reason.WrongCount ∷ tests) ≡ true =
     subst (λ fault. is_first fault (wrong_if (not counted) reason.WrongCount ∷ tests) ≡ true) (sym (unless-counted counted (fault_from w operands 0 operands)))
     (before (not counted) reason.WrongCount (wrong (fault_from w operands 0 operands)) tests (operands-from 4 w operands 0 operands (omega arith)) (operands-first w operands 0 operands).0)
     in
-    subst (λ fault. is_first fault (word_faults part base_is_stated (Some w) bytes operands) ≡ true) (sym (unless-placed placed (operands_fault w operands) w operands))
+    subst (λ fault. is_first fault (word_faults section base_is_stated (Some w) bytes operands) ≡ true) (sym (unless-placed placed (operands_fault w operands) w operands))
     (before (not placed) reason.OutOfPlace (wrong (operands_fault w operands)) (wrong_if (not counted) reason.WrongCount ∷ tests)
     (and_from _ _ (from-wrong 3 (not counted) reason.WrongCount refl) (operands-from 3 w operands 0 operands (omega arith))) count)
 
-plain-first : (part : Part) (base_is_stated : Bool) (tokens : List Token)
-    → is_first (refusal_of (plain_statement part base_is_stated tokens)) (plain_faults part base_is_stated tokens) ≡ true
-plain-first part base_is_stated (Bare bytes ∷ operands) = word-first part base_is_stated (word_of bytes) bytes operands
-plain-first part base_is_stated (Quoted bytes ∷ operands) = refl
-plain-first part base_is_stated [] = refl
+plain-first : (section : Section) (base_is_stated : Bool) (tokens : List Token)
+    → is_first (refusal_of (plain_statement section base_is_stated tokens)) (plain_faults section base_is_stated tokens) ≡ true
+plain-first section base_is_stated (Bare bytes ∷ operands) = word-first section base_is_stated (word_of bytes) bytes operands
+plain-first section base_is_stated (Quoted bytes ∷ operands) = refl
+plain-first section base_is_stated [] = refl
 
 -- ---- instructions of filters
 
@@ -412,17 +412,17 @@ request-first line = deed-first (deed_in (form_of line)) line
 
 -- ---- lines
 
-schedule-either : (asks : Bool) (part : Part) (base_is_stated : Bool) (tokens : List Token)
-    → is_first (refusal_of (if asks then request_statement tokens else plain_statement part base_is_stated tokens))
-    (if asks then request_faults tokens else plain_faults part base_is_stated tokens) ≡ true
-schedule-either true part base_is_stated tokens = request-first tokens
-schedule-either false part base_is_stated tokens = plain-first part base_is_stated tokens
+schedule-either : (asks : Bool) (section : Section) (base_is_stated : Bool) (tokens : List Token)
+    → is_first (refusal_of (if asks then request_statement tokens else plain_statement section base_is_stated tokens))
+    (if asks then request_faults tokens else plain_faults section base_is_stated tokens) ≡ true
+schedule-either true section base_is_stated tokens = request-first tokens
+schedule-either false section base_is_stated tokens = plain-first section base_is_stated tokens
 
-own-either : (inside asks : Bool) (part : Part) (base_is_stated : Bool) (tokens : List Token)
-    → is_first (refusal_of (if inside then insn_statement (insn_text tokens) else (if asks then request_statement tokens else plain_statement part base_is_stated tokens)))
-    (if inside then insn_faults tokens else (if asks then request_faults tokens else plain_faults part base_is_stated tokens)) ≡ true
-own-either true asks part base_is_stated tokens = subst (λ fault. is_first fault (insn_faults tokens) ≡ true) (sym (insn-refused (insn_text tokens))) (insn-first tokens)
-own-either false asks part base_is_stated tokens = schedule-either asks part base_is_stated tokens
+own-either : (inside asks : Bool) (section : Section) (base_is_stated : Bool) (tokens : List Token)
+    → is_first (refusal_of (if inside then insn_statement (insn_text tokens) else (if asks then request_statement tokens else plain_statement section base_is_stated tokens)))
+    (if inside then insn_faults tokens else (if asks then request_faults tokens else plain_faults section base_is_stated tokens)) ≡ true
+own-either true asks section base_is_stated tokens = subst (λ fault. is_first fault (insn_faults tokens) ≡ true) (sym (insn-refused (insn_text tokens))) (insn-first tokens)
+own-either false asks section base_is_stated tokens = schedule-either asks section base_is_stated tokens
 
 behind-none : (own faults : List (Option Fault)) (fault : Option Fault) → list_all is_none own ≡ true → is_first fault faults ≡ true → is_first fault (own ++ faults) ≡ true
 behind-none [] faults fault none h = h
@@ -443,5 +443,5 @@ beside-first A (Err fault) own h = subst (λ faults. is_first (Some fault) fault
 pub first_row_decides : (A : Above) (line : Result (List Token) Reason) → FirstRowDecides A line
 first_row_decides A (Err r) = alone (Some (Wrong r))
 first_row_decides A (Ok tokens) =
-    beside-first A (tokens_statement A.part (is_some A.settings.pidbase) tokens) (own_faults A.part (is_some A.settings.pidbase) tokens)
-    (own-either (in_filter A.part && not (ends_block tokens)) (in_schedule A.part && is_request tokens) A.part (is_some A.settings.pidbase) tokens)
+    beside-first A (tokens_statement A.section (is_some A.settings.pidbase) tokens) (own_faults A.section (is_some A.settings.pidbase) tokens)
+    (own-either (in_filter A.section && not (ends_block tokens)) (in_schedule A.section && is_request tokens) A.section (is_some A.settings.pidbase) tokens)

@@ -32,5 +32,5 @@ turn_joins n turn A B r h = joins n (stated turn) A B r (opens-nothing n turn A)
 
 pub turn_kept : (turn : PlainTurn) (A B : Above) (r : Result (Unit {0}) (OrNoMemory Fault)) → Admits (statement_fault (stated turn) A) (with_statement (stated turn) A) r B → AreSound turn
     → OnOk r (IsKept A → IsKept B)
-turn_kept turn A B (Ok u) h sound = λ kept. line_kept B.opened (stated turn) A B h.0 h.1 (sound A.part (is_some A.settings.pidbase)) kept
+turn_kept turn A B (Ok u) h sound = λ kept. line_kept B.opened (stated turn) A B h.0 h.1 (sound A.section (is_some A.settings.pidbase)) kept
 turn_kept turn A B (Err e) h sound = tt

@@ -1,5 +1,5 @@
 -- Lines that are accepted keep the rules of a script, and what they make is one that keeps them.
--- By cases on the statement, of which each changes its part alone, and on the part where it stands.
+-- By cases on the statement, of which each changes its part alone, and on the section where it stands.
 use Rattle.std.proofs.Common.{◌≡◌, ℕ, ◌+◌, ◌<◌, ◌≤◌, List, [], ◌∷◌, ◌++◌, length, Option, Some, None, refl, ap, sym, subst, ◌∙◌, inl, inr, arith, bytes_eq, if◌then◌else◌, unwrap_or}
 use Rattle.std.specs.Prelude.{Bool, true, false, ◌&&◌, not, nat_le, is_some}
 use Rattle.std.specs.List.{list_all}
@@ -22,14 +22,14 @@ use Rattle.script_reader.specs.declared.settings.Limits.{Limits}
 use Rattle.script_reader.specs.declared.settings.Settings.{Settings}
 use Rattle.script_reader.specs.declared.statement.Statement.{Statement}
 use Rattle.script_reader.specs.declared.statement.Statement.TheVariants as states
-use Rattle.script_reader.specs.declared.word.Part.{Part}
-use Rattle.script_reader.specs.declared.word.Part.TheVariants as part
+use Rattle.script_reader.specs.declared.word.Section.{Section}
+use Rattle.script_reader.specs.declared.word.Section.TheVariants as section
 use Rattle.script_reader.specs.Faults.{wrong_if}
-use Rattle.script_reader.specs.Above.{Above, close_block, end_fault, nothing_above, part_behind, set, statement_fault, with_statement}
+use Rattle.script_reader.specs.Above.{Above, close_block, end_fault, nothing_above, section_after, set, statement_fault, with_statement}
 use Rattle.script_reader.specs.Blocks.{FiltersState, filter_line, has_listener, with_insn}
 use Rattle.script_reader.specs.Programs.{ProgramsState, open_program, starting, with_instr, with_start}
 use Rattle.script_reader.specs.Ranges.{in_force}
-use Rattle.script_reader.specs.Rules.{AreTurns, FitsPart, HasNoPrograms, HasNumbers, HasPrograms, HasRanges, HasSchedule, IsKept, IsSound, bytes_of_path, has_length, has_pages, is_found, is_sound_instruction, limits_or_none}
+use Rattle.script_reader.specs.Rules.{AreTurns, FitsSection, HasNoPrograms, HasNumbers, HasPrograms, HasRanges, HasSchedule, IsKept, IsSound, bytes_of_path, has_length, has_pages, is_found, is_sound_instruction, limits_or_none}
 use Rattle.script_reader.specs.Schedule.{ScheduleState}
 use Rattle.script_reader.specs.Scripts.{file_of, has_items, script_of}
 use Rattle.script_reader.specs.Settings.{with_group}
@@ -69,64 +69,64 @@ smaller memory swap (Some limits) m s = (omega arith, omega arith)
 
 -- ---- parts
 
-no-programs : (p : Part) (F : FiltersState) (P : ProgramsState) → among_settings p ≡ true → FitsPart p F P → HasNoPrograms P
-no-programs part.Settings F P s h = h
-no-programs part.Filter F P s h = cc
-no-programs part.Program F P s h = cc
-no-programs part.Exited F P s h = cc
-no-programs part.Programs F P s h = cc
-no-programs part.Schedule F P s h = cc
-no-programs part.Over F P s h = cc
+no-programs : (p : Section) (F : FiltersState) (P : ProgramsState) → among_settings p ≡ true → FitsSection p F P → HasNoPrograms P
+no-programs section.Settings F P s h = h
+no-programs section.Filter F P s h = cc
+no-programs section.Program F P s h = cc
+no-programs section.Exited F P s h = cc
+no-programs section.Programs F P s h = cc
+no-programs section.Schedule F P s h = cc
+no-programs section.Over F P s h = cc
 
-fits-settings : (p : Part) (F : FiltersState) (P : ProgramsState) → among_settings p ≡ true → HasNoPrograms P → FitsPart p F P
-fits-settings part.Settings F P s h = h
-fits-settings part.Filter F P s h = cc
-fits-settings part.Program F P s h = cc
-fits-settings part.Exited F P s h = cc
-fits-settings part.Programs F P s h = tt
-fits-settings part.Schedule F P s h = tt
-fits-settings part.Over F P s h = tt
+fits-settings : (p : Section) (F : FiltersState) (P : ProgramsState) → among_settings p ≡ true → HasNoPrograms P → FitsSection p F P
+fits-settings section.Settings F P s h = h
+fits-settings section.Filter F P s h = cc
+fits-settings section.Program F P s h = cc
+fits-settings section.Exited F P s h = cc
+fits-settings section.Programs F P s h = tt
+fits-settings section.Schedule F P s h = tt
+fits-settings section.Over F P s h = tt
 
-fits-insn : (p : Part) (F G : FiltersState) (P : ProgramsState) → G.closed ≡ F.closed → G.listener ≡ F.listener → FitsPart p F P → FitsPart p G P
-fits-insn part.Settings F G P c l h = h
-fits-insn part.Filter F G P c l h = rw (c, l) h
-fits-insn part.Program F G P c l h = h
-fits-insn part.Exited F G P c l h = h
-fits-insn part.Programs F G P c l h = tt
-fits-insn part.Schedule F G P c l h = tt
-fits-insn part.Over F G P c l h = tt
+fits-insn : (p : Section) (F G : FiltersState) (P : ProgramsState) → G.closed ≡ F.closed → G.listener ≡ F.listener → FitsSection p F P → FitsSection p G P
+fits-insn section.Settings F G P c l h = h
+fits-insn section.Filter F G P c l h = rw (c, l) h
+fits-insn section.Program F G P c l h = h
+fits-insn section.Exited F G P c l h = h
+fits-insn section.Programs F G P c l h = tt
+fits-insn section.Schedule F G P c l h = tt
+fits-insn section.Over F G P c l h = tt
 
-exit-fits : (exit : Bool) (F : FiltersState) (P : ProgramsState) (i : Instr) → is_exit i ≡ exit → FitsPart part.Program F P → FitsPart (part_behind exit part.Program) F (with_instr i P)
+exit-fits : (exit : Bool) (F : FiltersState) (P : ProgramsState) (i : Instr) → is_exit i ≡ exit → FitsSection section.Program F P → FitsSection (section_after exit section.Program) F (with_instr i P)
 exit-fits true F P i e h = (any_last is_exit P.body i e, exit_last P.body i h.0, h.1)
 exit-fits false F P i e h = (none_more is_exit P.body i h.0 e, h.1)
 
-does-fits : (p : Part) (F : FiltersState) (P : ProgramsState) (i : Instr) → in_program p ≡ true → FitsPart p F P → FitsPart (part_behind (is_exit i) p) F (with_instr i P)
-does-fits part.Program F P i s h = exit-fits (is_exit i) F P i refl h
-does-fits part.Settings F P i s h = cc
-does-fits part.Filter F P i s h = cc
-does-fits part.Exited F P i s h = cc
-does-fits part.Programs F P i s h = cc
-does-fits part.Schedule F P i s h = cc
-does-fits part.Over F P i s h = cc
+does-fits : (p : Section) (F : FiltersState) (P : ProgramsState) (i : Instr) → in_program p ≡ true → FitsSection p F P → FitsSection (section_after (is_exit i) p) F (with_instr i P)
+does-fits section.Program F P i s h = exit-fits (is_exit i) F P i refl h
+does-fits section.Settings F P i s h = cc
+does-fits section.Filter F P i s h = cc
+does-fits section.Exited F P i s h = cc
+does-fits section.Programs F P i s h = cc
+does-fits section.Schedule F P i s h = cc
+does-fits section.Over F P i s h = cc
 
 starts-no-exit : (thread : Bool) (place : ℕ) → is_exit (starting thread place) ≡ false
 starts-no-exit true place = refl
 starts-no-exit false place = refl
 
-starts-fits : (p : Part) (F : FiltersState) (P : ProgramsState) (thread : Bool) (name : List ℕ) → in_program p ≡ true → FitsPart p F P → FitsPart p F (with_start thread name P)
-starts-fits part.Program F P thread name s h = (none_more is_exit P.body _ h.0 (starts-no-exit thread _), h.1)
-starts-fits part.Settings F P thread name s h = cc
-starts-fits part.Filter F P thread name s h = cc
-starts-fits part.Exited F P thread name s h = cc
-starts-fits part.Programs F P thread name s h = cc
-starts-fits part.Schedule F P thread name s h = cc
-starts-fits part.Over F P thread name s h = cc
+starts-fits : (p : Section) (F : FiltersState) (P : ProgramsState) (thread : Bool) (name : List ℕ) → in_program p ≡ true → FitsSection p F P → FitsSection p F (with_start thread name P)
+starts-fits section.Program F P thread name s h = (none_more is_exit P.body _ h.0 (starts-no-exit thread _), h.1)
+starts-fits section.Settings F P thread name s h = cc
+starts-fits section.Filter F P thread name s h = cc
+starts-fits section.Exited F P thread name s h = cc
+starts-fits section.Programs F P thread name s h = cc
+starts-fits section.Schedule F P thread name s h = cc
+starts-fits section.Over F P thread name s h = cc
 
 -- ---- one more statement
 
-filter-kept : (p : Part) (A : Above) (f : FilterLine) → IsKept A → is_accepted f ≡ true → length A.filters.closed < 16
+filter-kept : (p : Section) (A : Above) (f : FilterLine) → IsKept A → is_accepted f ≡ true → length A.filters.closed < 16
     → (f.listener && has_listener A.filters) ≡ false → HasNoPrograms A.programs → (G : FiltersState) → G.closed ≡ A.filters.closed ++ f ∷ []
-    → FitsPart p G A.programs → IsKept (record A { part = p; filters = G })
+    → FitsSection p G A.programs → IsKept (record A { section = p; filters = G })
 filter-kept p A f k accepted few alone none G e fits = record {
   settings = k.settings;
   tree = k.tree;
@@ -140,7 +140,7 @@ filter-kept p A f k accepted few alone none G e fits = record {
   block = fits;
 }
 
-programs-kept : (p : Part) (A : Above) (P : ProgramsState) → IsKept A → HasPrograms (in_force A.map) P → FitsPart p A.filters P → IsKept (record A { part = p; programs = P })
+programs-kept : (p : Section) (A : Above) (P : ProgramsState) → IsKept A → HasPrograms (in_force A.map) P → FitsSection p A.filters P → IsKept (record A { section = p; programs = P })
 programs-kept p A P k programs fits = record {
   settings = k.settings;
   tree = k.tree;
@@ -195,22 +195,22 @@ remapped map other P h none = record {
   named = h.named;
 }
 
-end-kept : (p : Part) (A : Above) → IsKept A → FitsPart p A.filters A.programs → end_fault p A ≡ None → IsKept (close_block p A)
-end-kept part.Filter A k fits fine =
-    filter-kept part.Settings A (filter_line A.filters.insns A.filters.listener) k (not_from_false _ (not_wrong _ _ fine)) fits.1 fits.2 fits.0 _ refl fits.0
-end-kept part.Program A k fits fine =
-    programs-kept part.Programs A _ k (program_kept (in_force A.map) false A.programs k.programs fits.0 (exits_nowhere A.programs.body fits.0) fits.1 fine) tt
-end-kept part.Exited A k fits fine =
-    programs-kept part.Programs A _ k (program_kept (in_force A.map) true A.programs k.programs fits.0 fits.1 fits.2 fine) tt
-end-kept part.Schedule A k fits fine = programs-kept part.Over A A.programs k k.programs tt
-end-kept part.Settings A k fits fine = k
-end-kept part.Programs A k fits fine = k
-end-kept part.Over A k fits fine = k
+end-kept : (p : Section) (A : Above) → IsKept A → FitsSection p A.filters A.programs → end_fault p A ≡ None → IsKept (close_block p A)
+end-kept section.Filter A k fits fine =
+    filter-kept section.Settings A (filter_line A.filters.insns A.filters.listener) k (not_from_false _ (not_wrong _ _ fine)) fits.1 fits.2 fits.0 _ refl fits.0
+end-kept section.Program A k fits fine =
+    programs-kept section.Programs A _ k (program_kept (in_force A.map) false A.programs k.programs fits.0 (exits_nowhere A.programs.body fits.0) fits.1 fine) tt
+end-kept section.Exited A k fits fine =
+    programs-kept section.Programs A _ k (program_kept (in_force A.map) true A.programs k.programs fits.0 fits.1 fits.2 fine) tt
+end-kept section.Schedule A k fits fine = programs-kept section.Over A A.programs k k.programs tt
+end-kept section.Settings A k fits fine = k
+end-kept section.Programs A k fits fine = k
+end-kept section.Over A k fits fine = k
 
 instr-mapped : (map : List MapRange) (i : Instr) → wrong_if (not (stores_mapped map i)) Unmapped ≡ None → stores_mapped map i ≡ true
 instr-mapped map i h = not-false _ (not_wrong _ _ h)
 
-statement-kept : (s : Statement) (A : Above) → IsKept A → IsSound A.part (is_some A.settings.pidbase) s → statement_fault s A ≡ None → IsKept (with_statement s A)
+statement-kept : (s : Statement) (A : Above) → IsKept A → IsSound A.section (is_some A.settings.pidbase) s → statement_fault s A ≡ None → IsKept (with_statement s A)
 statement-kept (states.Pidmax n) A k sound fine =
     let none : unwrap_or A.settings.pidbase 0 ≡ 0 = no-base _ sound.0 in
     settings-kept A _ k (record { numbers = sound.1; pids = omega (arith, none, sound.2); rlimit = k.settings.rlimit; memory = k.settings.memory; swap = k.settings.swap }) k.root k.killable
@@ -266,7 +266,7 @@ statement-kept (states.Map range) A k sound fine = record {
   map = ranges_kept A.map range k.map fine sound.1;
   filters = k.filters;
   killable = k.killable;
-  programs = remapped _ _ A.programs k.programs (no-programs A.part A.filters A.programs sound.0 k.block);
+  programs = remapped _ _ A.programs k.programs (no-programs A.section A.filters A.programs sound.0 k.block);
   schedule = k.schedule;
   block = k.block;
 }
@@ -275,9 +275,9 @@ statement-kept (states.Cgroup memory swap) A k sound fine =
     settings-kept A _ k (record { numbers = k.settings.numbers; pids = k.settings.pids; rlimit = k.settings.rlimit; memory = limits.0; swap = limits.1 }) k.root k.killable
 statement-kept (states.Figures figures) A k sound fine = settings-kept A _ k k.settings k.root k.killable
 statement-kept (states.Notify calls) A k sound fine =
-    let none = no-programs A.part A.filters A.programs sound.0 k.block in
-    filter-kept A.part A (filter_line (notify_filter calls) true) k (ap (λ fault. not (is_some fault)) (notify_is_accepted calls sound.1))
-    (not_full _ _ (none_then _ _ fine)) (not_wrong _ _ (none_first _ _ fine)) none _ refl (fits-settings A.part _ A.programs sound.0 none)
+    let none = no-programs A.section A.filters A.programs sound.0 k.block in
+    filter-kept A.section A (filter_line (notify_filter calls) true) k (ap (λ fault. not (is_some fault)) (notify_is_accepted calls sound.1))
+    (not_full _ _ (none_then _ _ fine)) (not_wrong _ _ (none_first _ _ fine)) none _ refl (fits-settings A.section _ A.programs sound.0 none)
 statement-kept (states.Filter listener) A k sound fine = record {
   settings = k.settings;
   tree = k.tree;
@@ -288,7 +288,7 @@ statement-kept (states.Filter listener) A k sound fine = record {
   killable = k.killable;
   programs = k.programs;
   schedule = k.schedule;
-  block = (no-programs A.part A.filters A.programs sound k.block, not_full _ _ (none_then _ _ fine), not_wrong _ _ (none_first _ _ fine));
+  block = (no-programs A.section A.filters A.programs sound k.block, not_full _ _ (none_then _ _ fine), not_wrong _ _ (none_first _ _ fine));
 }
 statement-kept (states.Insn i) A k sound fine = record {
   settings = k.settings;
@@ -300,25 +300,25 @@ statement-kept (states.Insn i) A k sound fine = record {
   killable = k.killable;
   programs = k.programs;
   schedule = k.schedule;
-  block = fits-insn A.part A.filters (with_insn i A.filters) A.programs refl refl k.block;
+  block = fits-insn A.section A.filters (with_insn i A.filters) A.programs refl refl k.block;
 }
 statement-kept (states.Prog name) A k sound fine =
-    programs-kept part.Program A _ k (opened (in_force A.map) A.programs name k.programs) (refl, not_full _ _ (none_then _ _ fine))
+    programs-kept section.Program A _ k (opened (in_force A.map) A.programs name k.programs) (refl, not_full _ _ (none_then _ _ fine))
 statement-kept (states.Does i) A k sound fine =
     programs-kept _ A _ k
     (instruction_kept (in_force A.map) A.programs i k.programs
     (and_from _ _ (starts_low _ i sound.1) (and_from _ _ sound.2 (instr-mapped (in_force A.map) i fine))))
-    (does-fits A.part A.filters A.programs i sound.0 k.block)
+    (does-fits A.section A.filters A.programs i sound.0 k.block)
 statement-kept (states.Starts thread name) A k sound fine =
-    programs-kept A.part A _ k (start_kept (in_force A.map) A.programs thread name k.programs fine) (starts-fits A.part A.filters A.programs thread name sound k.block)
-statement-kept states.Schedule A k sound fine = programs-kept part.Schedule A A.programs k k.programs tt
+    programs-kept A.section A _ k (start_kept (in_force A.map) A.programs thread name k.programs fine) (starts-fits A.section A.filters A.programs thread name sound k.block)
+statement-kept states.Schedule A k sound fine = programs-kept section.Schedule A A.programs k k.programs tt
 statement-kept (states.Steps task count) A k sound fine =
     scheduled-kept A _ k (task_kept A.schedule task count k.schedule fine sound.0 sound.1)
 statement-kept (states.Counts worker count) A k sound fine =
     scheduled-kept A _ k (worker_kept A.schedule worker count k.schedule fine sound.0 sound.1)
 statement-kept (states.Asks worker asked) A k sound fine =
     scheduled-kept A _ k (request_kept A.schedule worker asked k.schedule fine sound)
-statement-kept states.End A k sound fine = end-kept A.part A k k.block fine
+statement-kept states.End A k sound fine = end-kept A.section A k k.block fine
 
 -- the number of the line that opened a block is no rule's
 numbered : (n : ℕ) (A : Above) → IsKept A → IsKept (record A { opened = n })
@@ -337,7 +337,7 @@ numbered n A k = record {
 
 -- one more line that is accepted, whichever line opened its block
 pub line_kept : (n : ℕ) (s : Statement) (A B : Above) → statement_fault s A ≡ None → B ≡ with_statement s A
-    → IsSound A.part (is_some A.settings.pidbase) s → IsKept A → IsKept (record B { opened = n })
+    → IsSound A.section (is_some A.settings.pidbase) s → IsKept A → IsKept (record B { opened = n })
 line_kept n s A B fine e sound k = subst (λ (B : Above). IsKept (record B { opened = n })) (sym e) (numbered n (with_statement s A) (statement-kept s A k sound fine))
 
 -- ---- the first line, and the last

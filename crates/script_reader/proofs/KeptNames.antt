@@ -12,7 +12,7 @@ use Rattle.hist_model.specs.declared.request.Node.{Node}
 use Rattle.hist_model.specs.declared.request.NodeRef.{NodeRef}
 use Rattle.hist_model.specs.declared.script.TreeLine.{TreeLine}
 use Rattle.hist_model.specs.declared.script.TreeLine.TheVariants.{Made, Attr}
-use Rattle.script_reader.specs.declared.settings.Found.{Found}
+use Rattle.script_reader.specs.declared.settings.PathTarget.{PathTarget}
 use Rattle.script_reader.specs.Paths.{is_path, name_of, parent_of}
 use Rattle.script_reader.specs.Rules.{HasTree, is_found}
 use Rattle.script_reader.specs.Tree.{TreeState, found_node, is_stated, made_line, node_at, reference_of, with_node}
@@ -87,13 +87,13 @@ none-below nodes (Attr on text value ∷ lines) n name h l =
 
 -- ---- one path alone leads to a node
 
-ordinal-within : (T : TreeState) (found : Option Found) → T.nodes ≡ length (nodes_of T.lines) → is_found (nodes_of T.lines) found ≡ true → is_some found ≡ true
+ordinal-within : (T : TreeState) (found : Option PathTarget) → T.nodes ≡ length (nodes_of T.lines) → is_found (nodes_of T.lines) found ≡ true → is_some found ≡ true
     → (reference_of found).ordinal < T.nodes
 ordinal-within T None e h s = cc
 ordinal-within T (Some f) e h s = omega (arith, e, ltb-true f.node.ordinal (length (nodes_of T.lines)) (and_parts (nat_lt f.node.ordinal (length (nodes_of T.lines))) _ h).0)
 
 -- what a path leads to where it may be the one that is led to a new node
-abbrev led : TreeState → Bool → Bool → List ℕ → Option Found
+abbrev led : TreeState → Bool → Bool → List ℕ → Option PathTarget
 led T directory same path = if same then Some (found_node T.nodes directory) else T.found path
 
 once-either : (T : TreeState) (directory same alike : Bool) (path other : List ℕ) (new : List ℕ) → HasTree T → (same ≡ true → new ≡ path) → (alike ≡ true → new ≡ other)

@@ -9,7 +9,7 @@ use Rattle.std.proofs.lemmas.List.{length-append}
 use Rattle.hist_model.specs.TreeLines.{have_short_paths, is_directory, lengths_behind, path_length, path_lengths, with_length}
 use Rattle.hist_model.specs.declared.request.Node.{Node}
 use Rattle.hist_model.specs.declared.script.TreeLine.{TreeLine}
-use Rattle.script_reader.specs.declared.settings.Found.{Found}
+use Rattle.script_reader.specs.declared.settings.PathTarget.{PathTarget}
 use Rattle.script_reader.specs.Paths.{are_node_names, is_path, is_slash, name_of, or_root, parent_of, root_path}
 use Rattle.script_reader.specs.Rules.{HasTree, bytes_of_path, has_length}
 use Rattle.script_reader.specs.Tree.{TreeState, found_node, is_stated, made_line, reference_of, with_node}
@@ -38,12 +38,12 @@ at-most (first ∷ names) p =
     let tests = and_parts (is_slash first && nat_lt (length names) 4095) (are_node_names names) p in
     omega (arith, ltb-true (length names) 4095 (and_parts (is_slash first) (nat_lt (length names) 4095) tests.0).1)
 
-found-length : (lengths path : List ℕ) (found : Option Found) → is_some found ≡ true → has_length lengths path found → path_length lengths (reference_of found) ≡ bytes_of_path path
+found-length : (lengths path : List ℕ) (found : Option PathTarget) → is_some found ≡ true → has_length lengths path found → path_length lengths (reference_of found) ≡ bytes_of_path path
 found-length lengths path None s h = cc
 found-length lengths path (Some f) s h = rw h refl
 
 -- the path of a directory, a slash and a name
-whole-length : (lengths path : List ℕ) (found : Option Found) → is_path path ≡ true → is_some found ≡ true → has_length lengths (parent_of path) found
+whole-length : (lengths path : List ℕ) (found : Option PathTarget) → is_path path ≡ true → is_some found ≡ true → has_length lengths (parent_of path) found
     → path_length lengths (reference_of found) + length (name_of path) + 1 ≡ bytes_of_path path
 whole-length lengths path found p s h =
     let parts = path_parts path p in
@@ -56,7 +56,7 @@ whole-length lengths path found p s h =
 
 -- ---- one more node
 
-measured-either : (lengths path other : List ℕ) (k : ℕ) (directory same : Bool) (found : Option Found) → (same ≡ true → path ≡ other) → k ≡ bytes_of_path path
+measured-either : (lengths path other : List ℕ) (k : ℕ) (directory same : Bool) (found : Option PathTarget) → (same ≡ true → path ≡ other) → k ≡ bytes_of_path path
     → has_length lengths other found → has_length (lengths ++ k ∷ []) other (if same then Some (found_node (length lengths) directory) else found)
 measured-either lengths path other k directory true found p e h = get_last lengths k ∙ ap Some (e ∙ ap bytes_of_path (p refl))
 measured-either lengths path other k directory false None p e h = tt

@@ -19,7 +19,7 @@ use Rattle.hist_model.specs.declared.script.MapRange.{MapRange}
 use Rattle.hist_model.specs.declared.script.Totals.{Totals}
 use Rattle.hist_model.specs.declared.script.TreeLine.{TreeLine}
 use Rattle.hist_model.specs.declared.script.TreeLine.TheVariants.{Made, Attr}
-use Rattle.script_reader.specs.declared.settings.Found.{Found}
+use Rattle.script_reader.specs.declared.settings.PathTarget.{PathTarget}
 use Rattle.script_reader.specs.Paths.{is_path, parent_of}
 use Rattle.script_reader.specs.Programs.{ProgramsState, close_program, open_totals, standing, starting, start_fault, totals_fault, with_instr, with_start}
 use Rattle.script_reader.specs.Ranges.{broker_fault, map_fault}
@@ -57,7 +57,7 @@ directory_kept lines l n h = subst (λ nodes. is_stated_directory nodes n ≡ tr
 one-longer : (nodes : List Bool) (directory : Bool) → length (nodes ++ directory ∷ []) ≡ length nodes + 1
 one-longer nodes directory = length-append nodes (directory ∷ [])
 
-found-more : (nodes : List Bool) (directory : Bool) (found : Option Found) → is_found nodes found ≡ true → is_found (nodes ++ directory ∷ []) found ≡ true
+found-more : (nodes : List Bool) (directory : Bool) (found : Option PathTarget) → is_found nodes found ≡ true → is_found (nodes ++ directory ∷ []) found ≡ true
 found-more nodes directory None h = refl
 found-more nodes directory (Some f) h =
     let longer = one-longer nodes directory in
@@ -77,12 +77,12 @@ found-newest nodes directory =
     let longer = one-longer nodes directory in
     and_from _ _ (lt-ltb (length nodes) (length (nodes ++ directory ∷ [])) (omega arith)) (newest-stated nodes directory)
 
-found-either : (nodes : List Bool) (directory same : Bool) (found : Option Found) → is_found nodes found ≡ true
+found-either : (nodes : List Bool) (directory same : Bool) (found : Option PathTarget) → is_found nodes found ≡ true
     → is_found (nodes ++ directory ∷ []) (if same then Some (found_node (length nodes) directory) else found) ≡ true
 found-either nodes directory true found h = found-newest nodes directory
 found-either nodes directory false found h = found-more nodes directory found h
 
-found-directory : (nodes : List Bool) (found : Option Found) → is_found nodes found ≡ true → is_directory_found found ≡ true → is_stated_directory nodes (reference_of found) ≡ true
+found-directory : (nodes : List Bool) (found : Option PathTarget) → is_found nodes found ≡ true → is_directory_found found ≡ true → is_stated_directory nodes (reference_of found) ≡ true
 found-directory nodes None h d = cc
 found-directory nodes (Some f) h d =
     elim (or_cases (not f.directory) (is_stated_directory nodes f.node) (and_parts _ _ h).1) [
@@ -90,11 +90,11 @@ found-directory nodes (Some f) h d =
       | inr stated ↦ stated
     ]
 
-found-within : (nodes : List Bool) (found : Option Found) → is_found nodes found ≡ true → is_some found ≡ true → nat_lt (reference_of found).ordinal (length nodes) ≡ true
+found-within : (nodes : List Bool) (found : Option PathTarget) → is_found nodes found ≡ true → is_some found ≡ true → nat_lt (reference_of found).ordinal (length nodes) ≡ true
 found-within nodes None h s = cc
 found-within nodes (Some f) h s = (and_parts _ _ h).0
 
-directory-stated : (found : Option Found) → is_directory_found found ≡ true → is_some found ≡ true
+directory-stated : (found : Option PathTarget) → is_directory_found found ≡ true → is_some found ≡ true
 directory-stated None d = cc
 directory-stated (Some f) d = refl
 
@@ -236,7 +236,7 @@ totals-more : (above : List Totals) (bodies : List (List Instr)) (body : List In
 totals-more above [] body = refl
 totals-more above (first ∷ bodies) body = totals-more (above ++ program_totals above first ∷ []) bodies body
 
--- behind instructions of which none is `exit`
+-- after instructions of which none is `exit`
 pub exit_last : (body : List Instr) (i : Instr) → list_any is_exit body ≡ false → exits_last (body ++ i ∷ []) ≡ true
 exit_last [] i h = and_from _ _ (or_right (not (is_exit i)) true refl) refl
 exit_last (first ∷ body) i h =
@@ -287,15 +287,15 @@ sound-parts map n i h =
 pub program_kept : (map : List MapRange) (exited : Bool) (P : ProgramsState) → HasPrograms map P → list_any is_exit P.body ≡ exited → exits_last P.body ≡ true
     → length P.bodies < 4096 → totals_fault exited P ≡ None → HasPrograms map (close_program exited P)
 program_kept map exited P h ends last few fine =
-    let part : (p : Instr → Bool) → ((i : Instr) → is_sound_instruction map (length P.bodies) i ≡ true → p i ≡ true) → list_all p P.body ≡ true =
+    let section : (p : Instr → Bool) → ((i : Instr) → is_sound_instruction map (length P.bodies) i ≡ true → p i ≡ true) → list_all p P.body ≡ true =
     λ p weaker. all_weaker (is_sound_instruction map (length P.bodies)) p P.body weaker h.current
     in
     let zero-more : length P.bodies ≡ 0 + length P.bodies = omega arith in
     let longer : length (P.bodies ++ P.body ∷ []) ≡ length P.bodies + 1 = length-append P.bodies (P.body ∷ []) in
     record {
-      earlier = earlier-more 0 P.bodies P.body h.earlier (subst (λ n. list_all (λ i. starts_below n i) P.body ≡ true) zero-more (part (λ i. starts_below (length P.bodies) i) (λ i s. (sound-parts map (length P.bodies) i s).0)));
-      instructions = all_more (list_all is_instruction) P.bodies P.body h.instructions (part is_instruction (λ i s. (sound-parts map (length P.bodies) i s).1));
-      mapped = all_more (list_all (stores_mapped map)) P.bodies P.body h.mapped (part (stores_mapped map) (λ i s. (sound-parts map (length P.bodies) i s).2));
+      earlier = earlier-more 0 P.bodies P.body h.earlier (subst (λ n. list_all (λ i. starts_below n i) P.body ≡ true) zero-more (section (λ i. starts_below (length P.bodies) i) (λ i s. (sound-parts map (length P.bodies) i s).0)));
+      instructions = all_more (list_all is_instruction) P.bodies P.body h.instructions (section is_instruction (λ i s. (sound-parts map (length P.bodies) i s).1));
+      mapped = all_more (list_all (stores_mapped map)) P.bodies P.body h.mapped (section (stores_mapped map) (λ i s. (sound-parts map (length P.bodies) i s).2));
       exits = all_more exits_last P.bodies P.body h.exits last;
       few = few-more P.bodies P.body 4096 few;
       counted =

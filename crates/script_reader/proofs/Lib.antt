@@ -1,6 +1,5 @@
 mod WorkedScripts
 pub mod OperandFaults
-pub mod FirstTask
 pub mod Maps
 pub mod Counts
 pub mod Tables

@@ -21,7 +21,7 @@ faults-at : (w : Word) (operands : List Token) (place : ℕ) (token : Token) (mo
 unfolding fault_from
 faults-at w operands place token more = refl
 
--- behind the last operand there is none
+-- after the last operand there is none
 pub faults_end : (w : Word) (operands : List Token) (place : ℕ) → length operands ≤ place → fault_from w operands place (drop place operands) ≡ None
 faults_end w operands place h = ap (fault_from w operands place) (drop_all place operands h) ∙ faults-none w operands place
 
@@ -32,7 +32,7 @@ at-token w operands place token h same =
     ap (fault_from w operands place) (drop_more operands place token h ∙ ap (λ t. t ∷ drop (place + 1) operands) (rw (← same) refl))
     ∙ faults-at w operands place token (drop (place + 1) operands)
 
--- one operand, before those behind it
+-- one operand, before those after it
 pub faults_here : (w : Word) (operands : List Token) (place : ℕ) → place < length operands
     → fault_from w operands place (drop place operands)
     ≡ earlier (fault_at (operand_at w operands place) operands place) (fault_from w operands (place + 1) (drop (place + 1) operands))

@@ -10,7 +10,7 @@ use Rattle.hist_model.specs.TreeLines.{is_component}
 use Rattle.script_reader.specs.Paths.{are_node_names, is_node_name, is_path, is_slash, name_length, name_of, or_root, parent_of, root_path}
 use Rattle.script_reader.proofs.Pushed.{none_more}
 
--- the last slash of some bytes, and what stands before it and behind it
+-- the last slash of some bytes, and what stands before it and after it
 pub record IsCut (text : List ℕ) : Type 0 where
   pub front : List ℕ
   pub name : List ℕ
@@ -82,19 +82,19 @@ directory front name h =
 
 rest-of : List (List ℕ) → List (List ℕ)
 rest-of [] = []
-rest-of (part ∷ parts) = parts
+rest-of (section ∷ parts) = parts
 
 rest-passes : (p : List ℕ → Bool) (parts : List (List ℕ)) → list_all p parts ≡ true → list_all p (rest-of parts) ≡ true
 unfolding rest-of
 rest-passes p [] h = refl
-rest-passes p (part ∷ parts) h = (and_parts _ _ h).1
+rest-passes p (section ∷ parts) h = (and_parts _ _ h).1
 
 rest-onto : (b : ℕ) (parts : List (List ℕ)) → rest-of (onto_first b parts) ≡ rest-of parts
 unfolding rest-of
 rest-onto b [] = refl
-rest-onto b (part ∷ parts) = refl
+rest-onto b (section ∷ parts) = refl
 
--- what passes behind the first slash passes behind the last one
+-- what passes after the first slash passes after the last one
 behind-last : (p : List ℕ → Bool) (front name : List ℕ) → list_all p (rest-of (slice_split is_slash (front ++ 47 ∷ name))) ≡ true → list_all p (slice_split is_slash name) ≡ true
 unfolding rest-of
 behind-last p [] name h = h
@@ -105,11 +105,11 @@ behind-last p (b ∷ front) name h = elim (cases_Bool (is_slash b)) [
       behind-last p front name (subst (λ parts. list_all p parts ≡ true) (rest-onto b (slice_split is_slash (front ++ 47 ∷ name))) other)
 ]
 
-one-part : (name : List ℕ) → list_any is_slash name ≡ false → slice_split is_slash name ≡ name ∷ []
-one-part [] h = refl
-one-part (b ∷ bs) h =
+one-section : (name : List ℕ) → list_any is_slash name ≡ false → slice_split is_slash name ≡ name ∷ []
+one-section [] h = refl
+one-section (b ∷ bs) h =
     let parts = or_parts (is_slash b) (list_any is_slash bs) h in
-    rw (parts.0, one-part bs parts.1) refl
+    rw (parts.0, one-section bs parts.1) refl
 
 names-of : (first : ℕ) (names front name : List ℕ) → are_node_names names ≡ true → first ∷ names ≡ front ++ 47 ∷ name → list_all is_node_name (slice_split is_slash name) ≡ true
 names-of first names [] name h e =
@@ -143,7 +143,7 @@ path_parts (first ∷ names) h =
     let tests = and_parts (is_slash first && nat_lt (length names) 4095) (are_node_names names) h in
     let c = cut (first ∷ names) (slashed first names (and_parts (is_slash first) (nat_lt (length names) 4095) tests.0).0) in
     let passes : list_all is_node_name (slice_split is_slash c.name) ≡ true = names-of first names c.front c.name tests.1 c.whole in
-    let one : is_node_name c.name ≡ true = (and_parts (is_node_name c.name) true (subst (λ parts. list_all is_node_name parts ≡ true) (one-part c.name c.plain) passes)).0 in
+    let one : is_node_name c.name ≡ true = (and_parts (is_node_name c.name) true (subst (λ parts. list_all is_node_name parts ≡ true) (one-section c.name c.plain) passes)).0 in
     record {
       front = c.front;
       name = c.name;

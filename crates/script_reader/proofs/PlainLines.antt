@@ -13,7 +13,7 @@ use Rattle.hist_model.specs.Names.{is_task_name}
 use Rattle.script_reader.specs.declared.plain.PlainTurn.{PlainTurn}
 use Rattle.script_reader.specs.declared.plain.PlainTurn.TheVariants as plain
 use Rattle.script_reader.specs.declared.statement.Statement.TheVariants as states
-use Rattle.script_reader.specs.declared.word.Part.TheVariants as part
+use Rattle.script_reader.specs.declared.word.Section.TheVariants as section
 use Rattle.script_reader.specs.declared.word.Word.TheVariants as word
 use Rattle.script_reader.specs.Lines.{operands_statement, plain_statement, tokens_statement}
 use Rattle.script_reader.specs.Operands.{earlier, fault_from, fault_unless, natural, number_fault}
@@ -66,12 +66,12 @@ limited-is limit n o q l = ap (λ o. unwrap_or (below limit (unwrap_or o (pos 0)
 
 -- ---- lines
 
-task-once : (base : Bool) (who : List ℕ) → is_task_text who ≡ true → tokens_statement part.Schedule base (Bare (codes "t") ∷ Bare who ∷ []) ≡ Ok (states.Steps (task_numbers who) 1)
+task-once : (base : Bool) (who : List ℕ) → is_task_text who ≡ true → tokens_statement section.Schedule base (Bare (codes "t") ∷ Bare who ∷ []) ≡ Ok (states.Steps (task_numbers who) 1)
 unfolding fault_from
 task-once base who h = ap (λ b. operands_statement (earlier (fault_unless b BadNumber) None) word.Task (Bare who ∷ [])) h
 
 task-often : (base : Bool) (who count : List ℕ) (n : ℕ) → is_task_text who ≡ true → IsCount count n
-    → tokens_statement part.Schedule base (Bare (codes "t") ∷ Bare who ∷ Bare count ∷ []) ≡ Ok (states.Steps (task_numbers who) n)
+    → tokens_statement section.Schedule base (Bare (codes "t") ∷ Bare who ∷ Bare count ∷ []) ≡ Ok (states.Steps (task_numbers who) n)
 unfolding fault_from limited
 task-often base who count n h c =
     let operands : List Token = Bare who ∷ Bare count ∷ [] in
@@ -80,7 +80,7 @@ task-often base who count n h c =
     ∙ ap (λ m. Ok (states.Steps (task_numbers who) m)) (limited-is (2 ^ 32) n (number count) c.0 (omega (arith, c.2)))
 
 worker-once : (base : Bool) (who : List ℕ) (k : ℕ) → number who ≡ Some (pos k) → k < 16
-    → tokens_statement part.Schedule base (Bare (codes "w") ∷ Bare who ∷ []) ≡ Ok (states.Counts k 1)
+    → tokens_statement section.Schedule base (Bare (codes "w") ∷ Bare who ∷ []) ≡ Ok (states.Counts k 1)
 unfolding fault_from limited
 worker-once base who k q l =
     let operands : List Token = Bare who ∷ [] in
@@ -88,34 +88,34 @@ worker-once base who k q l =
     ∙ ap (λ m. Ok (states.Counts m 1)) (limited-is (2 ^ 8) k (number who) q (omega arith))
 
 worker-often : (base : Bool) (who count : List ℕ) (k n : ℕ) → number who ≡ Some (pos k) → k < 16 → IsCount count n
-    → tokens_statement part.Schedule base (Bare (codes "w") ∷ Bare who ∷ Bare count ∷ []) ≡ Ok (states.Counts k n)
+    → tokens_statement section.Schedule base (Bare (codes "w") ∷ Bare who ∷ Bare count ∷ []) ≡ Ok (states.Counts k n)
 unfolding fault_from limited
 worker-often base who count k n q l c =
     let operands : List Token = Bare who ∷ Bare count ∷ [] in
     let tokens : List Token = Bare (codes "w") ∷ operands in
-    ap (λ b. if b then request_statement tokens else plain_statement part.Schedule base tokens) (asks-nothing count (pos n) c.0)
+    ap (λ b. if b then request_statement tokens else plain_statement section.Schedule base tokens) (asks-nothing count (pos n) c.0)
     ∙ ap (λ fault. operands_statement (earlier fault (earlier (number_fault (natural 1 200000) (number count)) None)) word.Worker operands) (no-number-fault 0 15 k (number who) q (omega arith) (omega arith))
     ∙ ap (λ fault. operands_statement (earlier fault None) word.Worker operands) (no-number-fault 1 200000 n (number count) c.0 c.1 c.2)
     ∙ ap (λ m. Ok (states.Counts m (limited (2 ^ 32) (number count)))) (limited-is (2 ^ 8) k (number who) q (omega arith))
     ∙ ap (λ m. Ok (states.Counts k m)) (limited-is (2 ^ 32) n (number count) c.0 (omega (arith, c.2)))
 
 -- what a plain line states
-plainly-stated : (word who : List ℕ) (more : List Token) (turn : PlainTurn) → Names word who turn → Counts more (count_in turn) → AreStated part.Schedule (Bare word ∷ Bare who ∷ more) turn
+plainly-stated : (word who : List ℕ) (more : List Token) (turn : PlainTurn) → Names word who turn → Counts more (count_in turn) → AreStated section.Schedule (Bare word ∷ Bare who ∷ more) turn
 plainly-stated word who [] (plain.Task name count) m c = λ base.
-    ap (λ w. tokens_statement part.Schedule base (Bare w ∷ Bare who ∷ [])) m.0
+    ap (λ w. tokens_statement section.Schedule base (Bare w ∷ Bare who ∷ [])) m.0
     ∙ task-once base who m.2
     ∙ ap (λ t. Ok (states.Steps (task_numbers t) 1)) (sym m.1)
     ∙ ap (λ k. Ok (states.Steps (task_numbers name.now) k)) (sym c)
 plainly-stated word who [] (plain.Worker worker count) m c = λ base.
-    ap (λ w. tokens_statement part.Schedule base (Bare w ∷ Bare who ∷ [])) m.0
+    ap (λ w. tokens_statement section.Schedule base (Bare w ∷ Bare who ∷ [])) m.0
     ∙ worker-once base who worker m.1 m.2
     ∙ ap (λ k. Ok (states.Counts worker k)) (sym c)
 plainly-stated word who (Bare times ∷ []) (plain.Task name count) m c = λ base.
-    ap (λ w. tokens_statement part.Schedule base (Bare w ∷ Bare who ∷ Bare times ∷ [])) m.0
+    ap (λ w. tokens_statement section.Schedule base (Bare w ∷ Bare who ∷ Bare times ∷ [])) m.0
     ∙ task-often base who times count m.2 c
     ∙ ap (λ t. Ok (states.Steps (task_numbers t) count)) (sym m.1)
 plainly-stated word who (Bare times ∷ []) (plain.Worker worker count) m c = λ base.
-    ap (λ w. tokens_statement part.Schedule base (Bare w ∷ Bare who ∷ Bare times ∷ [])) m.0
+    ap (λ w. tokens_statement section.Schedule base (Bare w ∷ Bare who ∷ Bare times ∷ [])) m.0
     ∙ worker-often base who times worker count m.1 m.2 c
 plainly-stated word who (Quoted bytes ∷ []) turn m c = absurd c
 plainly-stated word who (token ∷ other ∷ more) turn m c = absurd (no-more token other more c)
@@ -138,8 +138,8 @@ plainly-sound word who more (plain.Worker worker count) m c = λ p base. (lt-ltb
 -- ---- what is read of a plain line
 
 pub scheduled_told : (word who : List ℕ) (more tokens : List Token) (count : ℕ) (turn : Option PlainTurn) → tokens ≡ Bare word ∷ Bare who ∷ more → Counts more count
-    → IfSome turn (Names word who) → IfSome turn (λ t. count_in t ≡ count) → IfSome turn (AreStated part.Schedule tokens) × IfSome turn AreSound
+    → IfSome turn (Names word who) → IfSome turn (λ t. count_in t ≡ count) → IfSome turn (AreStated section.Schedule tokens) × IfSome turn AreSound
 scheduled_told word who more tokens count None is c n k = (tt, tt)
 scheduled_told word who more tokens count (Some turn) is c n k =
     let counted : Counts more (count_in turn) = subst (Counts more) (sym k) c in
-    (subst (λ line. AreStated part.Schedule line turn) (sym is) (plainly-stated word who more turn n counted), plainly-sound word who more turn n counted)
+    (subst (λ line. AreStated section.Schedule line turn) (sym is) (plainly-stated word who more turn n counted), plainly-sound word who more turn n counted)

@@ -22,7 +22,7 @@ above-more : (n : ℕ) (s : Statement) (older : List Stated) → above (record {
 unfolding above
 above-more n s older = refl
 
--- one line, where the lines behind it are read alike
+-- one line, where the lines after it are read alike
 reading-line : (n : ℕ) (outcome : Result Statement Fault) (older : List Stated) (one : List Stated → Result ScriptFile ScriptError) (other : Above → Result ScriptFile ScriptError)
     → ((all : List Stated) → one all ≡ other (above all)) → after_line n outcome older one ≡ rest_of n (with_reading n outcome (above older)) other
 reading-line n (Ok s) older one other same = same (record { line = n; what = s } ∷ older) ∙ ap other (above-more n s older)

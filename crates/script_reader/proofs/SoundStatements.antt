@@ -22,7 +22,7 @@ use Rattle.sys_abi.specs.Names.{number_in}
 use Rattle.script_reader.specs.declared.operand.Addressee.{Addressee}
 use Rattle.script_reader.specs.declared.operand.Addressee.TheVariants as addressee
 use Rattle.script_reader.specs.declared.operand.Operand.TheVariants as operand
-use Rattle.script_reader.specs.declared.word.Part.{Part}
+use Rattle.script_reader.specs.declared.word.Section.{Section}
 use Rattle.script_reader.specs.declared.word.Word.{Word}
 use Rattle.script_reader.specs.declared.word.Word.TheVariants as word
 use Rattle.script_reader.specs.Lines.{comes_late, is_in_place}
@@ -430,36 +430,36 @@ kill-starts-nothing addressee.Child operands = refl
 kill-starts-nothing addressee.Pid operands = refl
 kill-starts-nothing addressee.Unknown operands = refl
 
--- the word belongs to the part
-belonging : (part : Part) (base_is_stated : Bool) (w : Word) → is_in_place part base_is_stated w ≡ true → belongs w part ≡ true
-belonging part base_is_stated w place = (and_parts (belongs w part) (not (comes_late base_is_stated w)) place).0
+-- the word belongs to the section
+belonging : (section : Section) (base_is_stated : Bool) (w : Word) → is_in_place section base_is_stated w ≡ true → belongs w section ≡ true
+belonging section base_is_stated w place = (and_parts (belongs w section) (not (comes_late base_is_stated w)) place).0
 
-pub sound_statement : (part : Part) (base_is_stated : Bool) (w : Word) (operands : List Token)
-    → is_in_place part base_is_stated w ≡ true → operands_fault w operands ≡ None → IsSound part base_is_stated (statement w operands)
-sound_statement part base_is_stated word.Pidmax operands place h = (no-base base_is_stated (and_parts _ _ place).1, some-pid operands h, pidmax-range operands h)
-sound_statement part base_is_stated word.Rlimit operands place h = rlimit-range operands h
-sound_statement part base_is_stated word.Dir operands place h = (path-sound word.Dir operands refl (λ ops. refl) h, refl)
-sound_statement part base_is_stated word.Reg operands place h = (path-sound word.Reg operands refl (λ ops. refl) h, refl)
-sound_statement part base_is_stated word.Fifo operands place h = (path-sound word.Fifo operands refl (λ ops. refl) h, refl)
-sound_statement part base_is_stated word.Sock operands place h = (path-sound word.Sock operands refl (λ ops. refl) h, refl)
-sound_statement part base_is_stated word.Link operands place h = (path-sound word.Link operands refl (λ ops. refl) h, link-sound operands h)
-sound_statement part base_is_stated word.Chr operands place h = (path-sound word.Chr operands refl (λ ops. refl) h, chr-sound operands h)
-sound_statement part base_is_stated word.Blk operands place h = (path-sound word.Blk operands refl (λ ops. refl) h, blk-sound operands h)
-sound_statement part base_is_stated word.Attr operands place h = attr-sound operands h
-sound_statement part base_is_stated word.Broker operands place h = descriptor-range operands h
-sound_statement part base_is_stated word.Map operands place h = (belonging part base_is_stated word.Map place, pages-range operands h)
-sound_statement part base_is_stated word.Notify operands place h = (belonging part base_is_stated word.Notify place, few-calls operands h)
-sound_statement part base_is_stated word.Filter operands place h = belonging part base_is_stated word.Filter place
-sound_statement part base_is_stated word.Poke operands place h = (belonging part base_is_stated word.Poke place, refl, poke-sound operands h)
-sound_statement part base_is_stated word.Fill operands place h = (belonging part base_is_stated word.Fill place, refl, fill-sound operands h)
-sound_statement part base_is_stated word.Call operands place h = (belonging part base_is_stated word.Call place, refl, call-sound operands)
-sound_statement part base_is_stated word.Spawn operands place h = belonging part base_is_stated word.Spawn place
-sound_statement part base_is_stated word.Thread operands place h = belonging part base_is_stated word.Thread place
-sound_statement part base_is_stated word.Kill operands place h =
-    (belonging part base_is_stated word.Kill place, kill-starts-nothing _ operands, kill-sound (addressee_in operands) operands refl h)
-sound_statement part base_is_stated word.Handler operands place h = (belonging part base_is_stated word.Handler place, refl, handler-sound operands h)
-sound_statement part base_is_stated word.Wait operands place h = (belonging part base_is_stated word.Wait place, refl, refl)
-sound_statement part base_is_stated word.Exit operands place h = (belonging part base_is_stated word.Exit place, refl, refl)
-sound_statement part base_is_stated word.Task operands place h = (task-named operands h, task-count operands h)
-sound_statement part base_is_stated word.Worker operands place h = (worker-range operands h, worker-count operands h)
-sound_statement part base_is_stated w operands place h = tt
+pub sound_statement : (section : Section) (base_is_stated : Bool) (w : Word) (operands : List Token)
+    → is_in_place section base_is_stated w ≡ true → operands_fault w operands ≡ None → IsSound section base_is_stated (statement w operands)
+sound_statement section base_is_stated word.Pidmax operands place h = (no-base base_is_stated (and_parts _ _ place).1, some-pid operands h, pidmax-range operands h)
+sound_statement section base_is_stated word.Rlimit operands place h = rlimit-range operands h
+sound_statement section base_is_stated word.Dir operands place h = (path-sound word.Dir operands refl (λ ops. refl) h, refl)
+sound_statement section base_is_stated word.Reg operands place h = (path-sound word.Reg operands refl (λ ops. refl) h, refl)
+sound_statement section base_is_stated word.Fifo operands place h = (path-sound word.Fifo operands refl (λ ops. refl) h, refl)
+sound_statement section base_is_stated word.Sock operands place h = (path-sound word.Sock operands refl (λ ops. refl) h, refl)
+sound_statement section base_is_stated word.Link operands place h = (path-sound word.Link operands refl (λ ops. refl) h, link-sound operands h)
+sound_statement section base_is_stated word.Chr operands place h = (path-sound word.Chr operands refl (λ ops. refl) h, chr-sound operands h)
+sound_statement section base_is_stated word.Blk operands place h = (path-sound word.Blk operands refl (λ ops. refl) h, blk-sound operands h)
+sound_statement section base_is_stated word.Attr operands place h = attr-sound operands h
+sound_statement section base_is_stated word.Broker operands place h = descriptor-range operands h
+sound_statement section base_is_stated word.Map operands place h = (belonging section base_is_stated word.Map place, pages-range operands h)
+sound_statement section base_is_stated word.Notify operands place h = (belonging section base_is_stated word.Notify place, few-calls operands h)
+sound_statement section base_is_stated word.Filter operands place h = belonging section base_is_stated word.Filter place
+sound_statement section base_is_stated word.Poke operands place h = (belonging section base_is_stated word.Poke place, refl, poke-sound operands h)
+sound_statement section base_is_stated word.Fill operands place h = (belonging section base_is_stated word.Fill place, refl, fill-sound operands h)
+sound_statement section base_is_stated word.Call operands place h = (belonging section base_is_stated word.Call place, refl, call-sound operands)
+sound_statement section base_is_stated word.Spawn operands place h = belonging section base_is_stated word.Spawn place
+sound_statement section base_is_stated word.Thread operands place h = belonging section base_is_stated word.Thread place
+sound_statement section base_is_stated word.Kill operands place h =
+    (belonging section base_is_stated word.Kill place, kill-starts-nothing _ operands, kill-sound (addressee_in operands) operands refl h)
+sound_statement section base_is_stated word.Handler operands place h = (belonging section base_is_stated word.Handler place, refl, handler-sound operands h)
+sound_statement section base_is_stated word.Wait operands place h = (belonging section base_is_stated word.Wait place, refl, refl)
+sound_statement section base_is_stated word.Exit operands place h = (belonging section base_is_stated word.Exit place, refl, refl)
+sound_statement section base_is_stated word.Task operands place h = (task-named operands h, task-count operands h)
+sound_statement section base_is_stated word.Worker operands place h = (worker-range operands h, worker-count operands h)
+sound_statement section base_is_stated w operands place h = tt

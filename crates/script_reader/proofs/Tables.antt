@@ -6,21 +6,21 @@ use Rattle.std.specs.Cmp.Lexicographic.{slice_cmp}
 use Rattle.std.specs.Ordering.{nat_cmp}
 use Rattle.hist_model.specs.declared.script.Instr.{Instr}
 use Rattle.hist_model.specs.declared.script.TreeLine.{TreeLine}
-use Rattle.script_reader.specs.declared.settings.Found.{Found}
+use Rattle.script_reader.specs.declared.settings.PathTarget.{PathTarget}
 use Rattle.hist_model.specs.declared.script.Totals.{Totals}
 use Rattle.script_reader.specs.Maps.{value_in}
 use Rattle.script_reader.specs.Programs.{ProgramsState, with_name}
 use Rattle.script_reader.specs.Tree.{TreeState, found_node, with_path}
 use Rattle.script_reader.proofs.Maps.{values_updated}
 
-tree_state : (List ℕ → Option Found) → ℕ → List TreeLine → TreeState
+tree_state : (List ℕ → Option PathTarget) → ℕ → List TreeLine → TreeState
 tree_state found nodes lines = record { found = found; nodes = nodes; lines = lines }
 
 abbrev pub Updated : {X Y : Type 0} → List ℕ → BTreeMap (Vec ℕ Y) X → BTreeMap (Vec ℕ Y) X → X → Type 0
 Updated bs m n w = UpdatesBy (λ x y. slice_cmp nat_cmp x.items y.items) (λ key. slice_cmp nat_cmp bs key.items) m n (Some w)
 
 -- one more path leads to a node
-pub tree_led : {Y : Type 0} (m n : BTreeMap (Vec ℕ Y) Found) (nodes next : ℕ) (lines : List TreeLine) (path : List ℕ) (directory : Bool)
+pub tree_led : {Y : Type 0} (m n : BTreeMap (Vec ℕ Y) PathTarget) (nodes next : ℕ) (lines : List TreeLine) (path : List ℕ) (directory : Bool)
     → Updated path m n (found_node nodes directory) → next ≡ nodes + 1
     → record { found = value_in n; nodes = next; lines = lines }
     ≡ with_path path directory (record { found = value_in m; nodes = nodes; lines = lines })

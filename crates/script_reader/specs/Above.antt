@@ -1,4 +1,4 @@
--- What the accepted lines above a line state, part by part, and the faults that a statement shows beside them.
+-- What the accepted lines above a line state, section by section, and the faults that a statement shows beside them.
 use Rattle.std.specs.Prelude.{ℕ, Bool, true, false, if◌then◌else◌, List, [], ◌∷◌, ◌++◌, not, Option, Some, None, is_some}
 use Rattle.lex_core.specs.declared.reason.Reason.TheVariants as reason
 use Rattle.hist_model.specs.Filters.{notify_filter}
@@ -8,8 +8,8 @@ use Rattle.script_reader.specs.declared.error.Fault.{Fault}
 use Rattle.script_reader.specs.declared.settings.Settings.{Settings}
 use Rattle.script_reader.specs.declared.statement.Statement.{Statement}
 use Rattle.script_reader.specs.declared.statement.Statement.TheVariants as states
-use Rattle.script_reader.specs.declared.word.Part.{Part}
-use Rattle.script_reader.specs.declared.word.Part.TheVariants as part
+use Rattle.script_reader.specs.declared.word.Section.{Section}
+use Rattle.script_reader.specs.declared.word.Section.TheVariants as section
 use Rattle.script_reader.specs.Blocks.{FiltersState, no_filters, with_filter, open_filter, with_insn}
 use Rattle.script_reader.specs.Blocks.{close_filter, filter_fault, insns_fault, killable_fault}
 use Rattle.script_reader.specs.Faults.{wrong_if, or_else, duplicate}
@@ -29,7 +29,7 @@ pub record Stated : Type 0 where
 -- what lines state, from the first line on
 pub record Above : Type 0 where
   -- where the next line stands
-  pub part : Part
+  pub section : Section
   -- the line that opened the last block
   pub opened : ℕ
   pub settings : Settings
@@ -43,7 +43,7 @@ pub record Above : Type 0 where
 -- before the first line
 abbrev pub nothing_above : Above
 nothing_above = record {
-  part = part.Settings;
+  section = section.Settings;
   opened = 0;
   settings = no_settings;
   tree = bare_tree;
@@ -71,27 +71,27 @@ with_programs programs A = record A { programs = programs }
 abbrev pub with_schedule : ScheduleState → Above → Above
 with_schedule schedule A = record A { schedule = schedule }
 
-abbrev pub in_part : Part → Above → Above
-in_part part A = record A { part = part }
+abbrev pub in_part : Section → Above → Above
+in_part section A = record A { section = section }
 
--- behind `exit` only the end of the block may stand
-abbrev pub part_behind : Bool → Part → Part
-part_behind exits p = if exits then part.Exited else p
+-- after `exit` only the end of the block may stand
+abbrev pub section_after : Bool → Section → Section
+section_after exits p = if exits then section.Exited else p
 
 -- the block that is open is closed
-abbrev pub close_block : Part → Above → Above
-close_block part.Filter A = in_part part.Settings (with_filters (close_filter A.filters) A)
-close_block part.Program A = in_part part.Programs (with_programs (close_program false A.programs) A)
-close_block part.Exited A = in_part part.Programs (with_programs (close_program true A.programs) A)
-close_block part.Schedule A = in_part part.Over A
+abbrev pub close_block : Section → Above → Above
+close_block section.Filter A = in_part section.Settings (with_filters (close_filter A.filters) A)
+close_block section.Program A = in_part section.Programs (with_programs (close_program false A.programs) A)
+close_block section.Exited A = in_part section.Programs (with_programs (close_program true A.programs) A)
+close_block section.Schedule A = in_part section.Over A
 close_block _ A = A
 
--- the part of a program's block
-abbrev pub program_part : Bool → Part
-program_part true = part.Exited
-program_part false = part.Program
+-- the section of a program's block
+abbrev pub program_part : Bool → Section
+program_part true = section.Exited
+program_part false = section.Program
 
--- what is stated with one more statement behind it
+-- what is stated with one more statement after it
 abbrev pub with_statement : Statement → Above → Above
 with_statement (states.Pidmax n) A = set (record A.settings { pidmax = Some n }) A
 with_statement (states.Pidbase n) A = set (record A.settings { pidbase = Some n }) A
@@ -106,16 +106,16 @@ with_statement (states.Map range) A = record A { map = A.map ++ range ∷ [] }
 with_statement (states.Cgroup memory swap) A = set (record A.settings { limits = Some (with_group memory swap A.settings.limits) }) A
 with_statement (states.Figures figures) A = set (record A.settings { figures = Some figures }) A
 with_statement (states.Notify calls) A = with_filters (with_filter (notify_filter calls) true A.filters) A
-with_statement (states.Filter listener) A = in_part part.Filter (with_filters (open_filter listener A.filters) A)
+with_statement (states.Filter listener) A = in_part section.Filter (with_filters (open_filter listener A.filters) A)
 with_statement (states.Insn i) A = with_filters (with_insn i A.filters) A
-with_statement (states.Prog name) A = in_part part.Program (with_programs (open_program name A.programs) A)
-with_statement (states.Does i) A = in_part (part_behind (is_exit i) A.part) (with_programs (with_instr i A.programs) A)
+with_statement (states.Prog name) A = in_part section.Program (with_programs (open_program name A.programs) A)
+with_statement (states.Does i) A = in_part (section_after (is_exit i) A.section) (with_programs (with_instr i A.programs) A)
 with_statement (states.Starts thread name) A = with_programs (with_start thread name A.programs) A
-with_statement states.Schedule A = in_part part.Schedule A
+with_statement states.Schedule A = in_part section.Schedule A
 with_statement (states.Steps task count) A = with_schedule (with_task task count A.schedule) A
 with_statement (states.Counts worker count) A = with_schedule (with_worker worker count A.schedule) A
 with_statement (states.Asks worker asked) A = with_schedule (with_request worker asked A.schedule) A
-with_statement states.End A = close_block A.part A
+with_statement states.End A = close_block A.section A
 
 -- the line opens a block
 abbrev pub opens : Statement → Bool
@@ -144,10 +144,10 @@ root_fault A path =
     or_else (wrong_if (not (leads_to_directory A.tree path)) reason.BadPath) (duplicate (is_some A.settings.root))
 
 -- of the block that ends
-abbrev pub end_fault : Part → Above → Option Fault
-end_fault part.Filter A = insns_fault A.filters.insns
-end_fault part.Program A = totals_fault false A.programs
-end_fault part.Exited A = totals_fault true A.programs
+abbrev pub end_fault : Section → Above → Option Fault
+end_fault section.Filter A = insns_fault A.filters.insns
+end_fault section.Program A = totals_fault false A.programs
+end_fault section.Exited A = totals_fault true A.programs
 end_fault _ A = None
 
 abbrev pub statement_fault : Statement → Above → Option Fault
@@ -173,4 +173,4 @@ statement_fault states.Schedule A = None
 statement_fault (states.Steps task count) A = steps_fault A.schedule count
 statement_fault (states.Counts worker count) A = counts_fault A.schedule worker count
 statement_fault (states.Asks worker asked) A = request_fault A.schedule worker
-statement_fault states.End A = end_fault A.part A
+statement_fault states.End A = end_fault A.section A

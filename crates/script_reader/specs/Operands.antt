@@ -1,4 +1,4 @@
--- What may stand behind each word, and the faults that an operand shows by itself.
+-- What may stand after each word, and the faults that an operand shows by itself.
 use Rattle.std.specs.Prelude.{ℕ, ◌+◌, ◌-◌, ◌^◌, Bool, true, false, ◌&&◌, ◌||◌, not, if◌then◌else◌, ◌==◌, nat_le, List, [], ◌∷◌, length}
 use Rattle.std.specs.Prelude.{Option, Some, None, is_some, slice_get, ℤ, pos, neg_ℤ, int_le, bytes_eq, codes}
 use Rattle.std.specs.Option.{option_and_then}
@@ -59,7 +59,7 @@ addressee_in [] = addressee.Unknown
 addressee_in (Bare word ∷ more) = addressee_of word
 addressee_in (Quoted bytes ∷ more) = addressee.Unknown
 
--- ---- how many operands stand behind a word: at least, and at most
+-- ---- how many operands stand after a word: at least, and at most
 
 abbrev pub kill_counts : Addressee → ℕ × ℕ
 kill_counts addressee.Own = (2, 2)
@@ -112,7 +112,7 @@ argument = operand.Number (neg_ℤ (pos (2 ^ 63))) (pos (2 ^ 64 - 1))
 abbrev pub any_number : Operand
 any_number = operand.Number (neg_ℤ (pos (2 ^ 100))) (pos (2 ^ 100))
 
--- the number behind the word of whom a signal is for
+-- the number after the word of whom a signal is for
 abbrev pub kill_number : Addressee → Operand
 kill_number addressee.Child = natural 1 100000
 kill_number addressee.Pid = natural 0 (2 ^ 32 - 1)
@@ -244,7 +244,7 @@ abbrev pub operand_fault : Operand → Token → Option Reason
 operand_fault kind (Bare word) = if is_text kind then Some reason.WrongForm else word_fault kind word
 operand_fault kind (Quoted bytes) = text_fault kind bytes
 
--- of the operand at a place; none behind the last one
+-- of the operand at a place; none after the last one
 abbrev pub fault_at : Operand → List Token → ℕ → Option Reason
 fault_at kind operands place = option_and_then (operand_fault kind) (slice_get operands place)
 

@@ -25,7 +25,7 @@ abbrev pub with_reading : ℕ → Result Statement Fault → Above → Result Ab
 with_reading n (Ok s) A = Ok (with_line n s A)
 with_reading n (Err fault) A = Err fault
 
--- the lines above state this with the line behind them, or the line has this fault
+-- the lines above state this with the line after them, or the line has this fault
 abbrev pub Becomes : {T : Type 0} → Result Above Fault → Result T (OrNoMemory Fault) → Above → Type 0
 Becomes outcome (Ok t) new = outcome ≡ Ok new
 Becomes outcome (Err (Refused fault)) new = outcome ≡ Err fault
@@ -51,7 +51,7 @@ abbrev pub rest_of : ℕ → Result Above Fault → (Above → Result ScriptFile
 rest_of n (Ok A) rest = rest A
 rest_of n (Err fault) rest = Err (refusal n fault)
 
--- the lines that are left, behind lines that state this
+-- the lines that are left, after lines that state this
 unfoldable pub reading_from : List Numbered → Above → Result ScriptFile ScriptError
 reading_from [] A = file_at_end A
 reading_from (line ∷ lines) A = rest_of line.number (with_reading line.number (line_statement A (tokens line.bytes)) A) (reading_from lines)

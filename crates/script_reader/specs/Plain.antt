@@ -7,7 +7,7 @@ use Rattle.script_reader.specs.declared.plain.PlainTurn.{PlainTurn}
 use Rattle.script_reader.specs.declared.plain.PlainTurn.TheVariants as plain
 use Rattle.script_reader.specs.declared.statement.Statement.{Statement}
 use Rattle.script_reader.specs.declared.statement.Statement.TheVariants as states
-use Rattle.script_reader.specs.declared.word.Part.{Part}
+use Rattle.script_reader.specs.declared.word.Section.{Section}
 use Rattle.script_reader.specs.Lines.{tokens_statement}
 use Rattle.script_reader.specs.Paths.{is_task_text, task_numbers}
 use Rattle.script_reader.specs.Rules.{IsSound}
@@ -21,7 +21,7 @@ abbrev pub count_in : PlainTurn → ℕ
 count_in (plain.Task name count) = count
 count_in (plain.Worker worker count) = count
 
--- the word of a line and what stands behind it name the one that steps
+-- the word of a line and what stands after it name the one that steps
 abbrev pub Names : List ℕ → List ℕ → PlainTurn → Type 0
 Names word who (plain.Task name count) = (word ≡ codes "t") × (name.now ≡ who) × (is_task_text who ≡ true)
 Names word who (plain.Worker worker count) = (word ≡ codes "w") × (number who ≡ Some (pos worker)) × (worker < 16)
@@ -36,9 +36,9 @@ Counts [] n = n ≡ 1
 Counts (Bare word ∷ []) n = IsCount word n
 Counts _ n = ⊥
 
--- the tokens of a line in this part state this, wherever the line stands there
-abbrev pub AreStated : Part → List Token → PlainTurn → Type 0
-AreStated part tokens turn = (base_is_stated : Bool) → tokens_statement part base_is_stated tokens ≡ Ok (stated turn)
+-- the tokens of a line in this section state this, wherever the line stands there
+abbrev pub AreStated : Section → List Token → PlainTurn → Type 0
+AreStated section tokens turn = (base_is_stated : Bool) → tokens_statement section base_is_stated tokens ≡ Ok (stated turn)
 
 abbrev pub AreSound : PlainTurn → Type 0
-AreSound turn = (part : Part) (base_is_stated : Bool) → IsSound part base_is_stated (stated turn)
+AreSound turn = (section : Section) (base_is_stated : Bool) → IsSound section base_is_stated (stated turn)

@@ -54,7 +54,7 @@ with_name place P = record P { place = standing P.name place P.place; name = [] 
 abbrev pub with_program : Totals → ProgramsState → ProgramsState
 with_program totals P = record P { bodies = P.bodies ++ P.body ∷ []; totals = P.totals ++ totals ∷ []; body = [] }
 
--- it has the place behind the programs that were closed before it
+-- it has the place after the programs that were closed before it
 abbrev pub close_program : Bool → ProgramsState → ProgramsState
 close_program exited P = with_name (length P.bodies) (with_program (open_totals exited P) P)
 

@@ -18,7 +18,7 @@ use Rattle.script_reader.specs.declared.statement.Statement.TheVariants as state
 
 -- ---- which lines are requests
 
--- the word says what a worker asks for, by itself or with the call behind it
+-- the word says what a worker asks for, by itself or with the call after it
 abbrev pub asks : List ℕ → Bool
 asks word = bytes_eq word (codes "act") || is_some (deed_named word)
 

@@ -18,12 +18,12 @@ use Rattle.step_requests.specs.declared.request.Turn.{Turn}
 use Rattle.step_requests.specs.declared.request.Turn.TheVariants as turn
 use Rattle.step_requests.specs.Turns.{AreApart}
 use Rattle.script_reader.specs.declared.schedule.WorkerLines.{WorkerLines}
-use Rattle.script_reader.specs.declared.settings.Found.{Found}
+use Rattle.script_reader.specs.declared.settings.PathTarget.{PathTarget}
 use Rattle.script_reader.specs.declared.settings.Limits.{Limits}
 use Rattle.script_reader.specs.declared.statement.Statement.{Statement}
 use Rattle.script_reader.specs.declared.statement.Statement.TheVariants as states
-use Rattle.script_reader.specs.declared.word.Part.{Part}
-use Rattle.script_reader.specs.declared.word.Part.TheVariants as part
+use Rattle.script_reader.specs.declared.word.Section.{Section}
+use Rattle.script_reader.specs.declared.word.Section.TheVariants as section
 use Rattle.script_reader.specs.Above.{Above}
 use Rattle.script_reader.specs.Blocks.{FiltersState, has_listener}
 use Rattle.script_reader.specs.Paths.{is_path, name_of, parent_of, root_path}
@@ -46,8 +46,8 @@ starts_nothing _ = true
 abbrev pub has_pages : MapRange → Bool
 has_pages range = is_page_address range.start && nat_le 1 range.pages && nat_le range.pages 64
 
--- what the operands of a line showed of its statement, and where it stands: in which part, and whether below a `pidbase`
-abbrev pub IsSound : Part → Bool → Statement → Type 0
+-- what the operands of a line showed of its statement, and where it stands: in which section, and whether below a `pidbase`
+abbrev pub IsSound : Section → Bool → Statement → Type 0
 IsSound p base_is_stated (states.Pidmax n) = (base_is_stated ≡ false) × (1 ≤ n) × (n ≤ 4194304)
 IsSound p base_is_stated (states.Rlimit n) = n ≤ 4096
 IsSound p base_is_stated (states.Node path kind) = (is_path path ≡ true) × (is_node kind ≡ true)
@@ -65,7 +65,7 @@ IsSound p base_is_stated (states.Counts worker count) = (nat_lt worker 16 ≡ tr
 IsSound p base_is_stated (states.Asks worker asked) = nat_lt worker 16 ≡ true
 IsSound p base_is_stated _ = ⊤
 
--- ---- what accepted lines come to, part by part
+-- ---- what accepted lines come to, section by section
 
 abbrev pub limits_or_none : Option Limits → Limits
 limits_or_none limits = unwrap_or limits (first_limits 0 0)
@@ -78,7 +78,7 @@ pub record HasNumbers (count base limit : Option ℕ) (limits : Option Limits) :
   pub swap : (limits_or_none limits).swap ≤ (limits_or_none limits).host_swap
 
 -- what a path leads to is a node that is stated, and a directory where it is said to be one
-abbrev pub is_found : List Bool → Option Found → Bool
+abbrev pub is_found : List Bool → Option PathTarget → Bool
 is_found nodes None = true
 is_found nodes (Some found) = nat_lt found.node.ordinal (length nodes) && (not found.directory || is_stated_directory nodes found.node)
 
@@ -87,7 +87,7 @@ abbrev pub bytes_of_path : List ℕ → ℕ
 bytes_of_path path = if bytes_eq path root_path then 0 else length path
 
 -- by its ordinal, what a path leads to has a path of so many bytes
-abbrev pub has_length : List ℕ → List ℕ → Option Found → Type 0
+abbrev pub has_length : List ℕ → List ℕ → Option PathTarget → Type 0
 has_length lengths path None = ⊤
 has_length lengths path (Some found) = slice_get lengths found.node.ordinal ≡ Some (bytes_of_path path)
 
@@ -185,13 +185,13 @@ pub record HasSchedule (S : ScheduleState) : Type 0 where
 abbrev pub HasNoPrograms : ProgramsState → Type 0
 HasNoPrograms P = (P.bodies ≡ []) × (P.body ≡ [])
 
--- what the part says of blocks: no program stands before the last setting, and what an open block may still state
-abbrev pub FitsPart : Part → FiltersState → ProgramsState → Type 0
-FitsPart part.Settings F P = HasNoPrograms P
-FitsPart part.Filter F P = HasNoPrograms P × (length F.closed < 16) × ((F.listener && has_listener F) ≡ false)
-FitsPart part.Program F P = (list_any is_exit P.body ≡ false) × (length P.bodies < 4096)
-FitsPart part.Exited F P = (list_any is_exit P.body ≡ true) × (exits_last P.body ≡ true) × (length P.bodies < 4096)
-FitsPart _ F P = ⊤
+-- what the section says of blocks: no program stands before the last setting, and what an open block may still state
+abbrev pub FitsSection : Section → FiltersState → ProgramsState → Type 0
+FitsSection section.Settings F P = HasNoPrograms P
+FitsSection section.Filter F P = HasNoPrograms P × (length F.closed < 16) × ((F.listener && has_listener F) ≡ false)
+FitsSection section.Program F P = (list_any is_exit P.body ≡ false) × (length P.bodies < 4096)
+FitsSection section.Exited F P = (list_any is_exit P.body ≡ true) × (exits_last P.body ≡ true) × (length P.bodies < 4096)
+FitsSection _ F P = ⊤
 
 -- what lines state together keeps the rules of a script, as far as they have come
 pub record IsKept (A : Above) : Type 0 where
@@ -204,4 +204,4 @@ pub record IsKept (A : Above) : Type 0 where
   pub killable : has_flag_listener A.settings.killable A.filters.closed ≡ true
   pub programs : HasPrograms (in_force A.map) A.programs
   pub schedule : HasSchedule A.schedule
-  pub block : FitsPart A.part A.filters A.programs
+  pub block : FitsSection A.section A.filters A.programs

@@ -64,7 +64,7 @@ with_count step S = record S { lines = S.lines ++ step ∷ []; steps = S.steps +
 abbrev pub with_turns : List Turn → ℕ → ScheduleState → ScheduleState
 with_turns more count S = record S { turns = S.turns ++ more; steps = S.steps + count }
 
--- steps are a count, and behind a worker's request a turn
+-- steps are a count, and after a worker's request a turn
 abbrev pub with_steps : Step → ScheduleState → ScheduleState
 with_steps step S = if has_items S.turns then with_turns (cons_option (turn_of step) []) step.count S else with_count step S
 

@@ -47,7 +47,7 @@ file_of A = record { script = script_of A; turns = A.schedule.turns }
 -- a block that isn't closed, at the line that opened it, and then a script without programs
 abbrev pub file_at_end : Above → Result ScriptFile ScriptError
 file_at_end A =
-    if in_block A.part then Err (refused.BadLine A.opened reason.NotClosed)
+    if in_block A.section then Err (refused.BadLine A.opened reason.NotClosed)
     else (if has_items A.programs.bodies then Ok (file_of A) else Err (refused.BadLine 0 reason.NoProgram))
 
 -- ---- the lines
@@ -62,7 +62,7 @@ abbrev pub after_line : ℕ → Result Statement Fault → List Stated → (List
 after_line n (Ok s) older rest = rest (record { line = n; what = s } ∷ older)
 after_line n (Err fault) older rest = Err (refusal n fault)
 
--- the lines that are left, behind accepted ones
+-- the lines that are left, after accepted ones
 unfoldable pub reading : List Numbered → List Stated → Result ScriptFile ScriptError
 reading [] older = file_at_end (above older)
 reading (line ∷ lines) older = after_line line.number (line_statement (above older) (tokens line.bytes)) older (reading lines)

@@ -29,7 +29,7 @@ abbrev pub bytes_or_none : Option Token → List ℕ
 bytes_or_none None = []
 bytes_or_none (Some token) = token_bytes token
 
--- the bytes of the operand at a place; none behind the last one
+-- the bytes of the operand at a place; none after the last one
 abbrev pub bytes_at : List Token → ℕ → List ℕ
 bytes_at operands place = bytes_or_none (slice_get operands place)
 

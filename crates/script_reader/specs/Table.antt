@@ -18,7 +18,7 @@ use Rattle.script_reader.specs.declared.error.Fault.{Fault}
 use Rattle.script_reader.specs.declared.error.Fault.TheVariants.{Wrong, TooLarge}
 use Rattle.script_reader.specs.declared.statement.Statement.{Statement}
 use Rattle.script_reader.specs.declared.statement.Statement.TheVariants as states
-use Rattle.script_reader.specs.declared.word.Part.{Part}
+use Rattle.script_reader.specs.declared.word.Section.{Section}
 use Rattle.script_reader.specs.declared.word.Word.{Word}
 use Rattle.script_reader.specs.Above.{Above, end_fault}
 use Rattle.script_reader.specs.Blocks.{has_listener}
@@ -72,16 +72,16 @@ operand_faults w operands place [] = []
 operand_faults w operands place (token ∷ more) =
     wrong (operand_fault (operand_at w operands place) token) ∷ operand_faults w operands (place + 1) more
 
-abbrev pub word_faults : Part → Bool → Option Word → List ℕ → List Token → List (Option Fault)
-word_faults part base_is_stated (Some w) bytes operands =
-    wrong_if (not (is_in_place part base_is_stated w)) reason.OutOfPlace
+abbrev pub word_faults : Section → Bool → Option Word → List ℕ → List Token → List (Option Fault)
+word_faults section base_is_stated (Some w) bytes operands =
+    wrong_if (not (is_in_place section base_is_stated w)) reason.OutOfPlace
     ∷ wrong_if (not (is_counted w operands)) reason.WrongCount ∷ operand_faults w operands 0 operands
-word_faults part base_is_stated None bytes operands = Some (Wrong (other_word bytes)) ∷ []
+word_faults section base_is_stated None bytes operands = Some (Wrong (other_word bytes)) ∷ []
 
-abbrev pub plain_faults : Part → Bool → List Token → List (Option Fault)
-plain_faults part base_is_stated (Bare bytes ∷ operands) = word_faults part base_is_stated (word_of bytes) bytes operands
-plain_faults part base_is_stated (Quoted bytes ∷ operands) = Some (Wrong reason.UnknownWord) ∷ []
-plain_faults part base_is_stated [] = Some (Wrong reason.UnknownWord) ∷ []
+abbrev pub plain_faults : Section → Bool → List Token → List (Option Fault)
+plain_faults section base_is_stated (Bare bytes ∷ operands) = word_faults section base_is_stated (word_of bytes) bytes operands
+plain_faults section base_is_stated (Quoted bytes ∷ operands) = Some (Wrong reason.UnknownWord) ∷ []
+plain_faults section base_is_stated [] = Some (Wrong reason.UnknownWord) ∷ []
 
 abbrev pub insn_fault : Result Insn Reason → Option Fault
 insn_fault (Ok i) = None
@@ -117,11 +117,11 @@ abbrev pub request_faults : List Token → List (Option Fault)
 request_faults line = deed_faults (deed_in (form_of line)) line
 
 -- what a line shows by itself
-abbrev pub own_faults : Part → Bool → List Token → List (Option Fault)
-own_faults part base_is_stated tokens =
-    if in_filter part && not (ends_block tokens) then insn_faults tokens
-    else (if in_schedule part && is_request tokens then request_faults tokens
-    else plain_faults part base_is_stated tokens)
+abbrev pub own_faults : Section → Bool → List Token → List (Option Fault)
+own_faults section base_is_stated tokens =
+    if in_filter section && not (ends_block tokens) then insn_faults tokens
+    else (if in_schedule section && is_request tokens then request_faults tokens
+    else plain_faults section base_is_stated tokens)
 
 -- what a statement shows beside the lines above
 abbrev pub statement_faults : Statement → Above → List (Option Fault)
@@ -157,7 +157,7 @@ statement_faults (states.Counts worker count) A =
     wrong_if (has_requests A.schedule worker) reason.OutOfPlace ∷ too_large_if (nat_lt 200000 (A.schedule.steps + count)) ∷ []
 statement_faults (states.Asks worker asked) A =
     wrong_if (has_counts A.schedule worker) reason.OutOfPlace ∷ too_large_if (nat_lt 200000 (A.schedule.steps + 1)) ∷ []
-statement_faults states.End A = end_fault A.part A ∷ []
+statement_faults states.End A = end_fault A.section A ∷ []
 
 -- beside the lines above only what states something is tested
 abbrev pub stated_faults : Above → Result Statement Fault → List (Option Fault)
@@ -168,7 +168,7 @@ stated_faults A (Err fault) = []
 abbrev pub line_faults : Above → Result (List Token) Reason → List (Option Fault)
 line_faults A (Err reason) = Some (Wrong reason) ∷ []
 line_faults A (Ok tokens) =
-    own_faults A.part (is_some A.settings.pidbase) tokens ++ stated_faults A (tokens_statement A.part (is_some A.settings.pidbase) tokens)
+    own_faults A.section (is_some A.settings.pidbase) tokens ++ stated_faults A (tokens_statement A.section (is_some A.settings.pidbase) tokens)
 
 -- ---- which test decides
 

@@ -8,14 +8,14 @@ use Rattle.hist_model.specs.TreeLines.{is_directory}
 use Rattle.hist_model.specs.declared.script.TreeLine.{TreeLine}
 use Rattle.hist_model.specs.declared.script.TreeLine.TheVariants as line
 use Rattle.script_reader.specs.declared.error.Fault.{Fault}
-use Rattle.script_reader.specs.declared.settings.Found.{Found}
+use Rattle.script_reader.specs.declared.settings.PathTarget.{PathTarget}
 use Rattle.script_reader.specs.Faults.{wrong_if, or_else, full}
 use Rattle.script_reader.specs.Paths.{root_path, name_of, parent_of}
 
 -- what the lines of the tree state
 pub record TreeState : Type 0 where
   -- the node that a path leads to
-  pub found : List ℕ → Option Found
+  pub found : List ℕ → Option PathTarget
   -- how many nodes there are, `/` among them; the next one has this ordinal
   pub nodes : ℕ
   pub lines : List TreeLine
@@ -23,18 +23,18 @@ pub record TreeState : Type 0 where
 abbrev pub node_ref : ℕ → NodeRef
 node_ref n = record { ordinal = n }
 
-abbrev pub found_node : ℕ → Bool → Found
+abbrev pub found_node : ℕ → Bool → PathTarget
 found_node n directory = record { node = node_ref n; directory = directory }
 
 -- one path leads to this, and every other one where it led
-abbrev pub leading : List ℕ → Found → (List ℕ → Option Found) → List ℕ → Option Found
+abbrev pub leading : List ℕ → PathTarget → (List ℕ → Option PathTarget) → List ℕ → Option PathTarget
 leading path node others q = if bytes_eq path q then Some node else others q
 
 -- `/` is there from the start
 abbrev pub bare_tree : TreeState
 bare_tree = record { found = leading root_path (found_node 0 true) (λ path. None); nodes = 1; lines = [] }
 
-abbrev pub reference_of : Option Found → NodeRef
+abbrev pub reference_of : Option PathTarget → NodeRef
 reference_of None = node_ref 0
 reference_of (Some found) = found.node
 
@@ -61,7 +61,7 @@ with_attr path name value T = with_tree_line (line.Attr (node_at T path) name va
 
 -- ---- faults
 
-abbrev pub is_directory_found : Option Found → Bool
+abbrev pub is_directory_found : Option PathTarget → Bool
 is_directory_found None = false
 is_directory_found (Some found) = found.directory
 

@@ -21,7 +21,7 @@ programs_in p = record {
 
 abbrev pub above_in : Builder → Above
 above_in b = record {
-  part = b.part;
+  section = b.section;
   opened = b.opened;
   settings = b.settings;
   tree = tree_in b.tree;

@@ -5,8 +5,8 @@ use Rattle.std.specs.Borrow.{Bor}
 use Rattle.std.specs.Option.{option_and_then, option_map}
 use Rattle.script_reader.specs.declared.word.Word.{Word}
 use Rattle.script_reader.specs.declared.word.Word.TheVariants as word
-use Rattle.script_reader.specs.declared.word.Part.{Part}
-use Rattle.script_reader.specs.declared.word.Part.TheVariants as part
+use Rattle.script_reader.specs.declared.word.Section.{Section}
+use Rattle.script_reader.specs.declared.word.Section.TheVariants as section
 
 -- each word as it is written
 abbrev pub words : List (List ℕ × Word)
@@ -82,38 +82,38 @@ rows_of table = map (λ row. (row.0.now, row.1)) table
 -- ---- parts
 
 -- among the settings, outside the blocks of filters
-abbrev pub among_settings : Part → Bool
-among_settings part.Settings = true
+abbrev pub among_settings : Section → Bool
+among_settings section.Settings = true
 among_settings _ = false
 
--- among the settings or behind a program
-abbrev pub between_blocks : Part → Bool
-between_blocks part.Settings = true
-between_blocks part.Programs = true
+-- among the settings or after a program
+abbrev pub between_blocks : Section → Bool
+between_blocks section.Settings = true
+between_blocks section.Programs = true
 between_blocks _ = false
 
 -- in the block of a program, before `exit`
-abbrev pub in_program : Part → Bool
-in_program part.Program = true
+abbrev pub in_program : Section → Bool
+in_program section.Program = true
 in_program _ = false
 
-abbrev pub in_schedule : Part → Bool
-in_schedule part.Schedule = true
+abbrev pub in_schedule : Section → Bool
+in_schedule section.Schedule = true
 in_schedule _ = false
 
-abbrev pub in_filter : Part → Bool
-in_filter part.Filter = true
+abbrev pub in_filter : Section → Bool
+in_filter section.Filter = true
 in_filter _ = false
 
 -- in a block of any kind
-abbrev pub in_block : Part → Bool
-in_block part.Settings = false
-in_block part.Programs = false
-in_block part.Over = false
+abbrev pub in_block : Section → Bool
+in_block section.Settings = false
+in_block section.Programs = false
+in_block section.Over = false
 in_block _ = true
 
--- the lines with this word belong to the part; all that aren't named are settings
-abbrev pub belongs : Word → Part → Bool
+-- the lines with this word belong to the section; all that aren't named are settings
+abbrev pub belongs : Word → Section → Bool
 belongs word.Prog p = between_blocks p
 belongs word.Schedule p = between_blocks p
 belongs word.Poke p = in_program p

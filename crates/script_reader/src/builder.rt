@@ -1,13 +1,12 @@
 //! What the lines above state.
 
 ghost use Rattle.std.specs.Prelude.{◌≡◌};
-ghost use Rattle.script_reader.specs.Above.{opened_by, opens, part_behind};
+ghost use Rattle.script_reader.specs.Above.{opened_by, opens, section_after};
 
 use crate::blocks::Filters;
 use crate::error::{Fault, ScriptError};
 use crate::fault::wrong_if;
 use crate::file::ScriptFile;
-use crate::paths::task_name;
 use crate::plain::{PlainTurn, plain_turn};
 use crate::programs::{Programs, refuse_instr};
 use crate::ranges::{in_force, refuse_broker, refuse_range};
@@ -19,20 +18,21 @@ use crate::settings::{
 use crate::statement::Statement;
 use crate::totals::is_exit;
 use crate::tree::StatedTree;
-use crate::word::{Part, in_block};
+use crate::word::{Section, in_block};
 use hist_model::request::{Node, NodeRef};
 use hist_model::script::{Figures, Insn, Instr, MapRange, Script};
 use hist_model::text::{Sequence, TaskName, Text};
 use lex_core::{Line, Reason};
 use std::alloc::Global;
 use step_requests::Asked;
+use step_requests::names::task_name;
 use sys_abi::memory::{NoMemory, OrNoMemory};
 
-/// What the lines above state, part by part.
+/// What the lines above state, section by section.
 #[derive(Drop)]
 pub struct Builder {
     alloc: Global,
-    part: Part,
+    section: Section,
     opened: u32,
     settings: Settings,
     tree: StatedTree,
@@ -63,7 +63,7 @@ impl Builder {
     ghost use Rattle.script_reader.specs.Rules.{IsKept, IsSound};
     ghost use Rattle.script_reader.specs.Views.{above_in};
     ghost use Rattle.script_reader.specs.declared.statement.Statement.TheVariants as states;
-    ghost use Rattle.script_reader.specs.declared.word.Part.TheVariants as part;
+    ghost use Rattle.script_reader.specs.declared.word.Section.TheVariants as section;
 
     /// Nothing is stated.
     pub fn new(alloc: Global) -> Result<Builder, NoMemory>
@@ -72,7 +72,7 @@ impl Builder {
     {
         Ok(Builder {
             alloc,
-            part: Part::Settings,
+            section: Section::Settings,
             opened: 0,
             settings: no_settings(),
             tree: StatedTree::new(alloc)?,
@@ -190,7 +190,7 @@ impl Builder {
         ensures { Admits (statement_fault (states.Filter listener) (above_in self.old)) (with_statement (states.Filter listener) (above_in self.old)) result (above_in self.new) }
     {
         self.filters.open(listener)?;
-        self.part = Part::Filter;
+        self.section = Section::Filter;
         Ok(())
     }
 
@@ -205,7 +205,7 @@ impl Builder {
         ensures { Admits (statement_fault (states.Prog name.now) (above_in self.old)) (with_statement (states.Prog name.now) (above_in self.old)) result (above_in self.new) }
     {
         self.programs.open(name)?;
-        self.part = Part::Program;
+        self.section = Section::Program;
         Ok(())
     }
 
@@ -215,7 +215,7 @@ impl Builder {
         refuse_instr(&self.map, &instr).map_err(OrNoMemory::Refused)?;
         let exits = is_exit(&instr);
         self.programs.push(instr)?;
-        self.part = part_behind(exits, self.part);
+        self.section = section_after(exits, self.section);
         Ok(())
     }
 
@@ -228,7 +228,7 @@ impl Builder {
     fn schedule(&mut self) -> Admitted
         ensures { Admits (statement_fault states.Schedule (above_in self.old)) (with_statement states.Schedule (above_in self.old)) result (above_in self.new) }
     {
-        self.part = Part::Schedule;
+        self.section = Section::Schedule;
         Ok(())
     }
 
@@ -253,10 +253,10 @@ impl Builder {
     }
 
     fn close_filter(&mut self) -> Admitted
-        ensures { Admits (end_fault part.Filter (above_in self.old)) (close_block part.Filter (above_in self.old)) result (above_in self.new) }
+        ensures { Admits (end_fault section.Filter (above_in self.old)) (close_block section.Filter (above_in self.old)) result (above_in self.new) }
     {
         self.filters.close()?;
-        self.part = Part::Settings;
+        self.section = Section::Settings;
         Ok(())
     }
 
@@ -264,14 +264,14 @@ impl Builder {
         ensures { Admits (end_fault (program_part exited) (above_in self.old)) (close_block (program_part exited) (above_in self.old)) result (above_in self.new) }
     {
         self.programs.close(exited)?;
-        self.part = Part::Programs;
+        self.section = Section::Programs;
         Ok(())
     }
 
     fn close_schedule(&mut self) -> Admitted
-        ensures { Admits (end_fault part.Schedule (above_in self.old)) (close_block part.Schedule (above_in self.old)) result (above_in self.new) }
+        ensures { Admits (end_fault section.Schedule (above_in self.old)) (close_block section.Schedule (above_in self.old)) result (above_in self.new) }
     {
-        self.part = Part::Over;
+        self.section = Section::Over;
         Ok(())
     }
 
@@ -279,18 +279,18 @@ impl Builder {
     fn end(&mut self) -> Admitted
         ensures { Admits (statement_fault states.End (above_in self.old)) (with_statement states.End (above_in self.old)) result (above_in self.new) }
     {
-        match self.part {
-            Part::Filter => self.close_filter(),
-            Part::Program => self.close_program(false),
-            Part::Exited => self.close_program(true),
-            Part::Schedule => self.close_schedule(),
+        match self.section {
+            Section::Filter => self.close_filter(),
+            Section::Program => self.close_program(false),
+            Section::Exited => self.close_program(true),
+            Section::Schedule => self.close_schedule(),
             _ => Ok(()),
         }
     }
 
     /// One more statement, or its fault beside the lines above. After an error nothing is said of the builder.
     fn admit(&mut self, statement: Statement<'_>) -> Admitted
-        requires { IsSound self.old.part (is_some self.old.settings.pidbase) statement }
+        requires { IsSound self.old.section (is_some self.old.settings.pidbase) statement }
         ensures { Admits (statement_fault statement.entry (above_in self.old)) (with_statement statement.entry (above_in self.old)) result (above_in self.new) }
     {
         match statement {
@@ -321,11 +321,11 @@ impl Builder {
     }
 }
 
-/// Where the lines behind an instruction stand.
-fn part_behind(exits: bool, part: Part) -> Part
-    ensures { result ≡ part_behind exits part }
+/// Where the lines after an instruction stand.
+fn section_after(exits: bool, section: Section) -> Section
+    ensures { result ≡ section_after exits section }
 {
-    if exits { Part::Exited } else { part }
+    if exits { Section::Exited } else { section }
 }
 
 /// The line that opened the last block.
@@ -348,7 +348,7 @@ impl Builder {
 
     /// A line with this number joins those above, where its statement has no fault beside them.
     fn join(&mut self, number: u32, statement: Statement<'_>) -> Admitted
-        requires { IsSound self.old.part (is_some self.old.settings.pidbase) statement }
+        requires { IsSound self.old.section (is_some self.old.settings.pidbase) statement }
         ensures becomes { Becomes (with_reading number (unless_faulty (statement_fault statement.entry (above_in self.old)) statement.entry) (above_in self.old)) result (above_in self.new) }
         ensures kept { OnOk result (IsKept (above_in self.old) → IsKept (above_in self.new)) }
     {
@@ -372,17 +372,17 @@ impl Builder {
         }
     }
 
-    /// Reads a line behind those above. After an error nothing is said of the builder.
+    /// Reads a line after those above. After an error nothing is said of the builder.
     #[inline(always)]
     pub fn read(&mut self, line: &Line<'_>) -> Admitted
         ensures becomes { Becomes (with_reading line.now.number (line_statement (above_in self.old) (Ok line.now.tokens)) (above_in self.old)) result (above_in self.new) }
         ensures kept { OnOk result (IsKept (above_in self.old) → IsKept (above_in self.new)) }
     {
-        if let Some(turn) = plain_turn(self.part, line.tokens.items()) {
+        if let Some(turn) = plain_turn(self.section, line.tokens.items()) {
             return self.turn(turn);
         }
         let base_is_stated = self.settings.pidbase.is_some();
-        let statement = read_line(self.alloc, self.part, base_is_stated, line)?;
+        let statement = read_line(self.alloc, self.section, base_is_stated, line)?;
         self.join(line.number, statement)
     }
 
@@ -392,7 +392,7 @@ impl Builder {
         ensures made { States (file_at_end (above_in self)) result }
         ensures turns { IfOk result (λ file. AreTurns file.turns) }
     {
-        if in_block(self.part) {
+        if in_block(self.section) {
             return Err(OrNoMemory::Refused(ScriptError::BadLine {
                 line: self.opened,
                 reason: Reason::NotClosed,

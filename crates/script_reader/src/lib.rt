@@ -7,7 +7,7 @@
 //! are then turns, beside a script without a schedule. [`read_script`] gives the script alone.
 //!
 //! The definitions stand in `specs/`. `script_file`, in `specs/Scripts.antt`, goes from line to line; `Operands.antt` and
-//! `Statements.antt` say what a line states by itself, `Above.antt` what accepted lines come to, part by part, and what is wrong
+//! `Statements.antt` say what a line states by itself, `Above.antt` what accepted lines come to, section by section, and what is wrong
 //! with a statement beside them. `Rules.antt` says what a statement and the tables keep, so that every script keeps the rules
 //! of its type. All reading takes time linear in the bytes, but for the look-ups of paths and names, which go through sorted
 //! trees; what a program comes to with all that it starts is kept, not counted again. `laws` has what follows from the

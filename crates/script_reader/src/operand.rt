@@ -1,4 +1,4 @@
-//! What may stand behind the words of lines.
+//! What may stand after the words of lines.
 
 ghost use Rattle.std.specs.Prelude.{◌≡◌, ◌≤◌, length, slice_get};
 ghost use Rattle.lex_core.specs.declared.line.Token.TheVariants.{Bare};
@@ -6,9 +6,10 @@ ghost use Rattle.lex_core.specs.Numbers as numbers;
 ghost use Rattle.script_reader.specs.Operands as definitions;
 
 use crate::operands::Operands;
-use crate::paths::{ROOT, has_zero, is_path, is_task_text};
+use crate::paths::{ROOT, has_zero, is_path};
 use crate::word::Word;
 use lex_core::{Reason, Token};
+use step_requests::names::is_task_text;
 use sys_abi::calls::call_number;
 use sys_abi::signals::{SIGKILL, SIGTERM, SIGUSR1, SIGUSR2};
 
@@ -52,7 +53,7 @@ pub enum Operand {
     Task,
 }
 
-/// Whom a signal is for, as the first word behind `kill` says.
+/// Whom a signal is for, as the first word after `kill` says.
 #[derive(Clone, Copy)]
 pub enum Addressee {
     /// `self`.
@@ -64,7 +65,7 @@ pub enum Addressee {
     Unknown,
 }
 
-/// Whom a word behind `kill` names.
+/// Whom a word after `kill` names.
 fn addressee_of(word: &[u8]) -> Addressee
     ensures { result ≡ definitions.addressee_of word.now }
 {
@@ -102,7 +103,7 @@ fn kill_counts(whom: Addressee) -> (usize, usize)
     }
 }
 
-/// How many operands stand behind a word, at least and at most.
+/// How many operands stand after a word, at least and at most.
 fn counts(word: Word, operands: &[Token<'_>]) -> (usize, usize)
     ensures { result ≡ definitions.counts word operands.now }
 {
@@ -155,8 +156,8 @@ fn argument() -> Operand
     }
 }
 
-/// What the number behind the word of whom a signal is for has to be: that of a child, a PID, or any number
-/// behind another word.
+/// What the number after the word of whom a signal is for has to be: that of a child, a PID, or any number
+/// after another word.
 fn kill_number(whom: Addressee) -> Operand
     ensures { result ≡ definitions.kill_number whom }
 {
@@ -230,7 +231,7 @@ fn first_or(place: usize, first: Operand, other: Operand) -> Operand
     if place == 0 { first } else { other }
 }
 
-/// What the operand at a place behind a word has to be.
+/// What the operand at a place after a word has to be.
 fn operand_at(word: Word, operands: &[Token<'_>], place: usize) -> Operand
     requires { place ≤ length operands.now }
     ensures { result ≡ definitions.operand_at word operands.now place }
@@ -422,7 +423,7 @@ fn text_fault(kind: Operand, bytes: &[u8]) -> Option<Reason>
     }
 }
 
-/// The fault that the operand at a place shows by itself; none behind the last one.
+/// The fault that the operand at a place shows by itself; none after the last one.
 fn operand_fault(kind: Operand, operands: &Operands<'_>, place: usize) -> Option<Reason>
     ensures { result ≡ definitions.fault_at kind operands.now place }
 {

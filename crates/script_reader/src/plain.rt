@@ -5,11 +5,11 @@
 ghost use Rattle.std.specs.Prelude.{◌≡◌, ◌≤◌, ◌<◌, IfSome, Some, pos};
 ghost use Rattle.lex_core.specs.Numbers.{number};
 ghost use Rattle.script_reader.specs.Plain as definitions;
-ghost use Rattle.script_reader.specs.declared.word.Part.TheVariants.{Schedule};
+ghost use Rattle.script_reader.specs.declared.word.Section.TheVariants.{Schedule};
 
-use crate::paths::is_task_text;
-use crate::word::Part;
+use crate::word::Section;
 use lex_core::{Token, short_number};
+use step_requests::names::is_task_text;
 
 /// Who steps by a plain line, and how often.
 pub(crate) enum PlainTurn<'a> {
@@ -27,7 +27,7 @@ fn count_of(word: &[u8]) -> Option<u32>
     }
 }
 
-/// How often someone steps by what stands behind the name.
+/// How often someone steps by what stands after the name.
 fn plain_count(tokens: &[Token<'_>]) -> Option<u32>
     ensures { IfSome result (λ n. definitions.Counts tokens.now n) }
 {
@@ -54,7 +54,7 @@ fn worker_of(word: &[u8]) -> Option<u8>
     }
 }
 
-/// Who steps so often by a line's word and the name behind it.
+/// Who steps so often by a line's word and the name after it.
 fn turn_of<'a>(word: &[u8], who: &'a [u8], count: u32) -> Option<PlainTurn<'a>>
     ensures names { IfSome result (λ turn. definitions.Names word.now who.now turn) }
     ensures count { IfSome result (λ turn. definitions.count_in turn ≡ count) }
@@ -84,13 +84,13 @@ fn scheduled<'a>(tokens: &'a [Token<'a>]) -> Option<PlainTurn<'a>>
     turn_of(word.items(), who.items(), count)
 }
 
-/// What a line says that stands in a part, where it is plain.
-pub(crate) fn plain_turn<'a>(part: Part, tokens: &'a [Token<'a>]) -> Option<PlainTurn<'a>>
-    ensures stated { IfSome result (λ turn. definitions.AreStated part tokens.now turn) }
+/// What a line says that stands in a section, where it is plain.
+pub(crate) fn plain_turn<'a>(section: Section, tokens: &'a [Token<'a>]) -> Option<PlainTurn<'a>>
+    ensures stated { IfSome result (λ turn. definitions.AreStated section tokens.now turn) }
     ensures sound { IfSome result (λ turn. definitions.AreSound turn) }
 {
-    match part {
-        Part::Schedule => scheduled(tokens),
+    match section {
+        Section::Schedule => scheduled(tokens),
         _ => None,
     }
 }

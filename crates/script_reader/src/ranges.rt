@@ -16,7 +16,7 @@ const DEFAULT: &[MapRange] = &[MapRange {
     pages: 16,
 }];
 
-/// The address behind a range.
+/// The address after a range.
 fn end_of(range: MapRange) -> u128
     ensures { result ≡ mapped.end_of range }
 {

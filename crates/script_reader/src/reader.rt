@@ -41,7 +41,7 @@ fn next_line<'a>(lines: &mut Lines<'a>) -> Result<Option<Line<'a>>, OrNoMemory<S
     }
 }
 
-/// Reads a line behind those that were read.
+/// Reads a line after those that were read.
 fn read_line(builder: &mut Builder, line: &Line<'_>) -> Result<(), OrNoMemory<ScriptError>>
     ensures goes_on { GoesOn line.now.number (with_reading line.now.number (line_statement (above_in builder.old) (Ok line.now.tokens)) (above_in builder.old)) result (above_in builder.new) }
     ensures kept { OnOk result (IsKept (above_in builder.old) → IsKept (above_in builder.new)) }

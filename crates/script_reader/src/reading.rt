@@ -6,20 +6,20 @@ ghost use Rattle.script_reader.specs.Lines as definitions;
 ghost use Rattle.script_reader.specs.Outcomes.{States};
 ghost use Rattle.script_reader.specs.Rules.{IsSound};
 ghost use Rattle.script_reader.specs.Words.{in_filter, in_schedule, word_of};
-ghost use Rattle.script_reader.specs.declared.word.Part.{Part};
+ghost use Rattle.script_reader.specs.declared.word.Section.{Section};
 
 use crate::error::Fault;
 use crate::operand::operands_fault;
 use crate::operands::Operands;
 use crate::request::{is_request, request_statement};
 use crate::statement::{Statement, statement_of};
-use crate::word::{Part, Word, belongs, word_of};
+use crate::word::{Section, Word, belongs, word_of};
 use bpf_filter::{is_script_word, read_text};
 use lex_core::{Line, Reason, Token};
 use std::alloc::Global;
 use sys_abi::memory::OrNoMemory;
 
-/// Whether a word comes behind one that it has to stand before.
+/// Whether a word comes after one that it has to stand before.
 fn comes_late(base_is_stated: bool, word: Word) -> bool
     ensures { result ≡ definitions.comes_late base_is_stated word }
 {
@@ -29,11 +29,11 @@ fn comes_late(base_is_stated: bool, word: Word) -> bool
     }
 }
 
-/// Whether a word may stand in a part; `base_is_stated` is whether a `pidbase` stands above.
-fn is_in_place(part: Part, base_is_stated: bool, word: Word) -> bool
-    ensures { result ≡ definitions.is_in_place part base_is_stated word }
+/// Whether a word may stand in a section; `base_is_stated` is whether a `pidbase` stands above.
+fn is_in_place(section: Section, base_is_stated: bool, word: Word) -> bool
+    ensures { result ≡ definitions.is_in_place section base_is_stated word }
 {
-    belongs(word, part) && !comes_late(base_is_stated, word)
+    belongs(word, section) && !comes_late(base_is_stated, word)
 }
 
 /// Why a word can't begin a line here that is none of the plain words.
@@ -50,15 +50,15 @@ fn other_word(word: &[u8]) -> Reason
 /// What a line with this word states.
 fn word_statement<'a>(
     alloc: Global,
-    part: Part,
+    section: Section,
     base_is_stated: bool,
     word: Word,
     operands: &'a [Token<'a>],
 ) -> Result<Statement<'a>, OrNoMemory<Fault>>
-    ensures reading { States (definitions.word_statement part base_is_stated word operands.now) result }
-    ensures sound { IfOk result (λ s. IsSound part base_is_stated s) }
+    ensures reading { States (definitions.word_statement section base_is_stated word operands.now) result }
+    ensures sound { IfOk result (λ s. IsSound section base_is_stated s) }
 {
-    if !is_in_place(part, base_is_stated, word) {
+    if !is_in_place(section, base_is_stated, word) {
         return Err(OrNoMemory::Refused(Fault::Wrong(Reason::OutOfPlace)));
     }
     let operands = Operands::new(operands);
@@ -71,16 +71,16 @@ fn word_statement<'a>(
 /// What a line states with this word and these operands.
 fn bytes_statement<'a>(
     alloc: Global,
-    part: Part,
+    section: Section,
     base_is_stated: bool,
     bytes: &[u8],
     operands: &'a [Token<'a>],
 ) -> Result<Statement<'a>, OrNoMemory<Fault>>
-    ensures reading { States (definitions.bytes_statement part base_is_stated (word_of bytes.now) bytes.now operands.now) result }
-    ensures sound { IfOk result (λ s. IsSound part base_is_stated s) }
+    ensures reading { States (definitions.bytes_statement section base_is_stated (word_of bytes.now) bytes.now operands.now) result }
+    ensures sound { IfOk result (λ s. IsSound section base_is_stated s) }
 {
     match word_of(bytes) {
-        Some(word) => word_statement(alloc, part, base_is_stated, word, operands),
+        Some(word) => word_statement(alloc, section, base_is_stated, word, operands),
         None => Err(OrNoMemory::Refused(Fault::Wrong(other_word(bytes)))),
     }
 }
@@ -88,17 +88,17 @@ fn bytes_statement<'a>(
 /// What a line states with this first token and these operands.
 fn token_statement<'a>(
     alloc: Global,
-    part: Part,
+    section: Section,
     base_is_stated: bool,
     first: &Token<'_>,
     operands: &'a [Token<'a>],
 ) -> Result<Statement<'a>, OrNoMemory<Fault>>
-    ensures reading { States (definitions.plain_statement part base_is_stated (first.now ∷ operands.now)) result }
-    ensures sound { IfOk result (λ s. IsSound part base_is_stated s) }
+    ensures reading { States (definitions.plain_statement section base_is_stated (first.now ∷ operands.now)) result }
+    ensures sound { IfOk result (λ s. IsSound section base_is_stated s) }
 {
     match first {
         Token::Bare(bytes) => {
-            bytes_statement(alloc, part, base_is_stated, bytes.items(), operands)
+            bytes_statement(alloc, section, base_is_stated, bytes.items(), operands)
         }
         Token::Quoted(_) => Err(OrNoMemory::Refused(Fault::Wrong(Reason::UnknownWord))),
     }
@@ -107,15 +107,15 @@ fn token_statement<'a>(
 /// What a line states that is no instruction of a filter.
 fn plain_statement<'a>(
     alloc: Global,
-    part: Part,
+    section: Section,
     base_is_stated: bool,
     tokens: &'a [Token<'a>],
 ) -> Result<Statement<'a>, OrNoMemory<Fault>>
-    ensures reading { States (definitions.plain_statement part base_is_stated tokens.now) result }
-    ensures sound { IfOk result (λ s. IsSound part base_is_stated s) }
+    ensures reading { States (definitions.plain_statement section base_is_stated tokens.now) result }
+    ensures sound { IfOk result (λ s. IsSound section base_is_stated s) }
 {
     match tokens.split_first() {
-        Some((first, operands)) => token_statement(alloc, part, base_is_stated, first, operands),
+        Some((first, operands)) => token_statement(alloc, section, base_is_stated, first, operands),
         None => Err(OrNoMemory::Refused(Fault::Wrong(Reason::UnknownWord))),
     }
 }
@@ -139,7 +139,7 @@ fn ends_block(tokens: &[Token<'_>]) -> bool
 /// What a line of a filter's block states.
 fn insn_statement<'a>(line: &'a Line<'a>) -> Result<Statement<'a>, OrNoMemory<Fault>>
     ensures reading { States (definitions.insn_statement (insn_text line.now.tokens)) result }
-    ensures sound { IfOk result (λ s. (p : Part) (base_is_stated : Bool) → IsSound p base_is_stated s) }
+    ensures sound { IfOk result (λ s. (p : Section) (base_is_stated : Bool) → IsSound p base_is_stated s) }
 {
     match read_text(line) {
         Ok(insn) => Ok(Statement::Insn(insn)),
@@ -147,34 +147,34 @@ fn insn_statement<'a>(line: &'a Line<'a>) -> Result<Statement<'a>, OrNoMemory<Fa
     }
 }
 
-fn in_filter(part: Part) -> bool
-    ensures { result ≡ in_filter part }
+fn in_filter(section: Section) -> bool
+    ensures { result ≡ in_filter section }
 {
-    matches!(part, Part::Filter)
+    matches!(section, Section::Filter)
 }
 
-fn in_schedule(part: Part) -> bool
-    ensures { result ≡ in_schedule part }
+fn in_schedule(section: Section) -> bool
+    ensures { result ≡ in_schedule section }
 {
-    matches!(part, Part::Schedule)
+    matches!(section, Section::Schedule)
 }
 
-/// What a line states by itself, where it stands in a part and `base_is_stated` is whether a `pidbase` stands above. Its faults
+/// What a line states by itself, where it stands in a section and `base_is_stated` is whether a `pidbase` stands above. Its faults
 /// are those that it shows without the lines above.
 pub fn read_line<'a>(
     alloc: Global,
-    part: Part,
+    section: Section,
     base_is_stated: bool,
     line: &'a Line<'a>,
 ) -> Result<Statement<'a>, OrNoMemory<Fault>>
-    ensures reading { States (definitions.tokens_statement part base_is_stated line.now.tokens) result }
-    ensures sound { IfOk result (λ s. IsSound part base_is_stated s) }
+    ensures reading { States (definitions.tokens_statement section base_is_stated line.now.tokens) result }
+    ensures sound { IfOk result (λ s. IsSound section base_is_stated s) }
 {
-    if in_filter(part) && !ends_block(line.tokens.items()) {
+    if in_filter(section) && !ends_block(line.tokens.items()) {
         return insn_statement(line);
     }
-    if in_schedule(part) && is_request(line.tokens.items()) {
+    if in_schedule(section) && is_request(line.tokens.items()) {
         return request_statement(alloc, line.tokens.items());
     }
-    plain_statement(alloc, part, base_is_stated, line.tokens.items())
+    plain_statement(alloc, section, base_is_stated, line.tokens.items())
 }

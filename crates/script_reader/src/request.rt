@@ -4,7 +4,7 @@ ghost use Rattle.std.specs.Prelude.{◌≡◌, Bool, IfOk};
 ghost use Rattle.script_reader.specs.Outcomes.{States};
 ghost use Rattle.script_reader.specs.Requests as definitions;
 ghost use Rattle.script_reader.specs.Rules.{IsSound};
-ghost use Rattle.script_reader.specs.declared.word.Part.{Part};
+ghost use Rattle.script_reader.specs.declared.word.Section.{Section};
 
 use crate::error::Fault;
 use crate::statement::Statement;
@@ -16,7 +16,7 @@ use step_requests::values::worker_at;
 use step_requests::word::{Deed, Form, deed_named, form_of, word_of};
 use sys_abi::memory::{NoMemory, OrNoMemory};
 
-/// Whether a word says what a worker asks for, by itself or with the call behind it.
+/// Whether a word says what a worker asks for, by itself or with the call after it.
 fn asks(word: &[u8]) -> bool
     ensures { result ≡ definitions.asks word.now }
 {
@@ -117,7 +117,7 @@ fn deed_statement<'a>(
     line: &[Token<'_>],
 ) -> Result<Statement<'a>, OrNoMemory<Fault>>
     ensures reading { States (definitions.deed_statement deed line.now) result }
-    ensures sound { IfOk result (λ s. (p : Part) (base_is_stated : Bool) → IsSound p base_is_stated s) }
+    ensures sound { IfOk result (λ s. (p : Section) (base_is_stated : Bool) → IsSound p base_is_stated s) }
 {
     let deed = match deed {
         Ok(deed) => deed,
@@ -135,7 +135,7 @@ pub fn request_statement<'a>(
     line: &[Token<'_>],
 ) -> Result<Statement<'a>, OrNoMemory<Fault>>
     ensures reading { States (definitions.request_statement line.now) result }
-    ensures sound { IfOk result (λ s. (p : Part) (base_is_stated : Bool) → IsSound p base_is_stated s) }
+    ensures sound { IfOk result (λ s. (p : Section) (base_is_stated : Bool) → IsSound p base_is_stated s) }
 {
     deed_statement(alloc, deed_in(form_of(line)), line)
 }

@@ -131,7 +131,7 @@ impl Schedule {
         matches!(lines, Some(WorkerLines::Requests))
     }
 
-    /// Adds steps: a count, and behind a worker's request a turn.
+    /// Adds steps: a count, and after a worker's request a turn.
     fn push_steps(&mut self, step: Step) -> Result<(), OrNoMemory<Fault>>
         ensures { Admits (definitions.steps_fault self.old step.count) (definitions.with_steps step self.old) result self.new }
     {

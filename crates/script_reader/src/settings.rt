@@ -40,7 +40,7 @@ pub struct Settings {
 
 /// What a stated path leads to.
 #[derive(Clone, Copy)]
-pub struct Found {
+pub struct PathTarget {
     pub node: NodeRef,
     pub directory: bool,
 }

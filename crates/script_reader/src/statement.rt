@@ -5,7 +5,6 @@ ghost use Rattle.script_reader.specs.Statements as definitions;
 
 use crate::operand::{Addressee, addressee_in, begins_number};
 use crate::operands::{Operands, token_bytes};
-use crate::paths::task_name;
 use crate::word::Word;
 use hist_model::event::Disposition;
 use hist_model::request::Node;
@@ -14,6 +13,7 @@ use hist_model::text::{Sequence, TaskName, Text};
 use lex_core::{Token, TokenBytes};
 use std::alloc::{AllocError, Global};
 use step_requests::Asked;
+use step_requests::names::task_name;
 use sys_abi::calls::call_number;
 use sys_abi::memory::NoMemory;
 
@@ -96,7 +96,7 @@ pub enum Statement<'a> {
     End,
 }
 
-/// The bytes of the operand at a place; none behind the last one.
+/// The bytes of the operand at a place; none after the last one.
 fn bytes_at<'a>(operands: &Operands<'a>, place: usize) -> &'a [u8]
     ensures { result.now ≡ definitions.bytes_at operands.now place }
 {
@@ -106,7 +106,7 @@ fn bytes_at<'a>(operands: &Operands<'a>, place: usize) -> &'a [u8]
     }
 }
 
-/// A copy of the bytes of the operand at a place; none behind the last one.
+/// A copy of the bytes of the operand at a place; none after the last one.
 fn text_at(alloc: Global, operands: &Operands<'_>, place: usize) -> Result<Text, AllocError>
     ensures { IfOk result (λ text. text ≡ definitions.bytes_at operands.now place) }
 {

@@ -6,7 +6,7 @@ ghost use Rattle.hist_model.specs.TreeLines.{is_directory};
 use crate::error::Fault;
 use crate::fault::{full, wrong_if};
 use crate::paths::{ROOT, name_of, parent_of};
-use crate::settings::Found;
+use crate::settings::PathTarget;
 use hist_model::request::{Node, NodeRef};
 use hist_model::script::TreeLine;
 use hist_model::text::Text;
@@ -21,7 +21,7 @@ const MOST_LINES: usize = 10_000;
 /// The tree that the lines above state: what each path leads to, how many nodes there are, and the lines.
 #[derive(Drop)]
 pub struct StatedTree {
-    paths: BTreeMap<Vec<u8>, Found>,
+    paths: BTreeMap<Vec<u8>, PathTarget>,
     nodes: u32,
     lines: Vec<TreeLine>,
 }
@@ -44,7 +44,7 @@ impl StatedTree {
         ensures { IfOk result (λ t. tree_in t ≡ definitions.bare_tree) }
     {
         let mut paths = BTreeMap::new(alloc);
-        let root = Found {
+        let root = PathTarget {
             node: NodeRef { ordinal: 0 },
             directory: true,
         };
@@ -57,7 +57,7 @@ impl StatedTree {
     }
 
     /// What a path leads to.
-    fn find(&self, path: &[u8]) -> Option<Found>
+    fn find(&self, path: &[u8]) -> Option<PathTarget>
         ensures { result ≡ (tree_in self.now).found path.now }
     {
         self.paths.get(path).copied()
@@ -124,7 +124,7 @@ impl StatedTree {
     fn lead(&mut self, path: Vec<u8>, directory: bool) -> Result<(), NoMemory>
         ensures { OnOk result (tree_in self.new ≡ definitions.with_path path.items directory (tree_in self.old)) }
     {
-        let found = Found {
+        let found = PathTarget {
             node: NodeRef {
                 ordinal: self.nodes,
             },

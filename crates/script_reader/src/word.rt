@@ -46,7 +46,7 @@ pub enum Word {
 
 /// Where a line stands.
 #[derive(Clone, Copy)]
-pub enum Part {
+pub enum Section {
     /// Among the settings, outside the blocks of filters.
     Settings,
     /// In the block of a filter.
@@ -55,7 +55,7 @@ pub enum Part {
     Programs,
     /// In the block of a program.
     Program,
-    /// In the block of a program, behind `exit`.
+    /// In the block of a program, after `exit`.
     Exited,
     /// In the schedule.
     Schedule,
@@ -143,13 +143,13 @@ pub fn word_of(bytes: &[u8]) -> Option<Word>
     word_at(&WORDS, PLACES[slot_of(bytes)] as usize, bytes)
 }
 
-/// Whether lines with this word belong to a part: settings, and then programs and at most one schedule, each block with its
+/// Whether lines with this word belong to a section: settings, and then programs and at most one schedule, each block with its
 /// own lines. Behind `exit` only the block's end may stand.
-pub fn belongs(word: Word, part: Part) -> bool
-    ensures { result ≡ belongs word part }
+pub fn belongs(word: Word, section: Section) -> bool
+    ensures { result ≡ belongs word section }
 {
     match word {
-        Word::Prog | Word::Schedule => matches!(part, Part::Settings | Part::Programs),
+        Word::Prog | Word::Schedule => matches!(section, Section::Settings | Section::Programs),
         Word::Poke
         | Word::Fill
         | Word::Call
@@ -158,16 +158,19 @@ pub fn belongs(word: Word, part: Part) -> bool
         | Word::Kill
         | Word::Handler
         | Word::Wait
-        | Word::Exit => matches!(part, Part::Program),
-        Word::Task | Word::Worker => matches!(part, Part::Schedule),
-        Word::End => in_block(part),
-        _ => matches!(part, Part::Settings),
+        | Word::Exit => matches!(section, Section::Program),
+        Word::Task | Word::Worker => matches!(section, Section::Schedule),
+        Word::End => in_block(section),
+        _ => matches!(section, Section::Settings),
     }
 }
 
-/// Whether a part is the block of something.
-pub fn in_block(part: Part) -> bool
-    ensures { result ≡ in_block part }
+/// Whether a section is the block of something.
+pub fn in_block(section: Section) -> bool
+    ensures { result ≡ in_block section }
 {
-    !matches!(part, Part::Settings | Part::Programs | Part::Over)
+    !matches!(
+        section,
+        Section::Settings | Section::Programs | Section::Over
+    )
 }

@@ -2,4 +2,5 @@ pub mod OperandFaults
 pub mod Structures
 pub mod Acts
 pub mod Alone
+pub mod FirstTask
 mod WorkedLines

@@ -15,7 +15,7 @@
 pub mod asked;
 pub mod fault;
 pub mod laws;
-mod names;
+pub mod names;
 pub mod operand;
 mod reading;
 pub mod request;

@@ -48,7 +48,7 @@ fn pieces(text: &[u8]) -> usize
     text.split(|byte| *byte == b'.').count()
 }
 
-/// Whether a text behind the `0` of a task's name is empty or has the numbers of at most 64 children, each behind a point.
+/// Whether a text after the `0` of a task's name is empty or has the numbers of at most 64 children, each after a point.
 fn is_children_tail(text: &[u8]) -> bool
     ensures { result ≡ definitions.is_children_tail text.now }
 {
@@ -79,9 +79,14 @@ fn task_numbers(alloc: Global, text: &[u8]) -> Result<Vec<u32>, AllocError>
         .collect(alloc)
 }
 
-/// The name of the task that a text names.
+/// The name of the task that a text names. That of the first task, which most lines name, takes no memory.
+#[tactic(auto, using(crate::proofs::FirstTask::first_task))]
 pub fn task_name(alloc: Global, text: &[u8]) -> Result<TaskName, NoMemory>
     ensures { IfOk result (λ name. name ≡ definitions.task_numbers text.now) }
 {
-    Ok(TaskName::new(task_numbers(alloc, text)?))
+    if text == b"0".as_slice() {
+        TaskName::of(alloc, &[0])
+    } else {
+        Ok(TaskName::new(task_numbers(alloc, text)?))
+    }
 }

@@ -26,7 +26,7 @@ use Rattle.judge_pass.specs.Finding.{Finding, Watches, as_finding, finding, or_h
 use Rattle.judge_pass.specs.Heads.{events_of, head_text, mediated_text, numbers_text, or_mediated}
 use Rattle.judge_pass.specs.Idle.{found_left}
 use Rattle.judge_pass.specs.declared.judge.Counts.{Counts}
-use Rattle.judge_pass.specs.declared.watch.Found.{Found}
+use Rattle.judge_pass.specs.declared.watch.FirstFault.{FirstFault}
 use Rattle.model_kernel.specs.declared.kernel.Kernel.{Kernel}
 use Rattle.step_requests.specs.declared.request.StepRequest.TheVariants as step
 use Rattle.step_session.specs.Answers.{IsBegun, judge_text, judged}
@@ -102,7 +102,7 @@ unfound P S K true q = by (finding P.policy S K) refl
     by None p = refl
     by (Some f) p = let r : Some f ≡ None = rw p at q in cc
 
-unmapped : (found : Option Found) → option_map as_finding found ≡ None → found ≡ None
+unmapped : (found : Option FirstFault) → option_map as_finding found ≡ None → found ≡ None
 unmapped None q = refl
 unmapped (Some found) q = cc
 
@@ -119,7 +119,7 @@ head-is : (P : Origin) (S : Script) (K : List Event) (c : JudgedContainer) (idle
 head-is P S K c idle (Some f) events here is q = ap (λ o. or_mediated o (mediated_text K)) is
 head-is P S K c idle None events here is q = told-counts K events c.watch.judge.counts q (counted P S K c idle here (sym is)) ∙ ap (λ o. or_mediated o (mediated_text K)) is
 
-pub served_judge : (P : Origin) (c : JudgedContainer) (idle : Bool) (found : Option Found) (events : ℕ) (before after head : List ℕ)
+pub served_judge : (P : Origin) (c : JudgedContainer) (idle : Bool) (found : Option FirstFault) (events : ℕ) (before after head : List ℕ)
     → ((S : Script) (K : List Event) → IsJudged P S K c → option_map as_finding found ≡ judged P S K idle) → ((S : Script) (K : List Event) → IsJudged P S K c → events ≡ events_of K)
     → head ≡ or_mediated (option_map as_finding found) (numbers_text events c.watch.judge.counts.calls c.watch.judge.counts.effects c.watch.judge.counts.answers)
     → after ≡ before ++ sized (codes "judge") head → IsServed P (step.Judge idle) c before after c
@@ -149,7 +149,7 @@ heard_shut S K c h n is stands q = ap (λ m. m - 1) q ∙ events-closed K (of-st
 pub found_plain : (P : Origin) (S : Script) (K : List Event) (c : JudgedContainer) → IsJudged P S K c → option_map as_finding c.watch.found ≡ judged P S K false
 found_plain P S K c here = here.watches.found_is ∙ heard-finding P.policy S K here.begun
 
-pub found_as : (P : Origin) (S : Script) (K : List Event) (found : Option Found) (idle asked : Bool) → idle ≡ asked → option_map as_finding found ≡ judged P S K asked → option_map as_finding found ≡ judged P S K idle
+pub found_as : (P : Origin) (S : Script) (K : List Event) (found : Option FirstFault) (idle asked : Bool) → idle ≡ asked → option_map as_finding found ≡ judged P S K asked → option_map as_finding found ≡ judged P S K idle
 found_as P S K found idle asked q is = is ∙ ap (judged P S K) (sym q)
 
 pub found_shut : (P : Origin) (S : Script) (K : List Event) (c : JudgedContainer) (h : Seen) → c.container.state ≡ Closed h → IsJudged P S K c → option_map as_finding c.watch.found ≡ judged P S K true

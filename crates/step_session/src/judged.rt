@@ -20,7 +20,7 @@ use audit_log::line::LineBuffer;
 use hist_model::script::Script;
 use judge_pass::heads::{push_broken, push_mediated};
 use judge_pass::judge::Counts;
-use judge_pass::watch::{Found, Watch};
+use judge_pass::watch::{FirstFault, Watch};
 use model_kernel::Kernel;
 use std::alloc::Global;
 use step_requests::StepRequest;
@@ -36,7 +36,7 @@ pub(crate) struct JudgedContainer {
 /// Adds the line of what was found, or that the broker has mediated, by so many events.
 fn push_head(
     line: &mut LineBuffer,
-    found: Option<Found>,
+    found: Option<FirstFault>,
     events: u64,
     counts: &Counts,
 ) -> Result<(), NoMemory>
@@ -99,7 +99,7 @@ impl JudgedContainer {
     }
 
     /// The event that is found to break a clause first; with `idle`, where the broker does nothing more by itself.
-    fn found(&self, origin: &Origin, idle: bool) -> Option<Found>
+    fn found(&self, origin: &Origin, idle: bool) -> Option<FirstFault>
         requires { IsStanding origin.now self.now }
         ensures { (S : ScriptValue) (K : List Event) → IsJudged origin.now S K self.now → option_map as_finding result ≡ judged origin.now S K idle }
     {

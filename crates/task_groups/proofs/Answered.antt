@@ -20,7 +20,8 @@ use Rattle.hist_model.specs.declared.script.Script.{Script}
 use Rattle.hist_model.proofs.Look.{oldest-some, oldest-found}
 use Rattle.history_frames.specs.Ordinals.{group_of}
 use Rattle.history_frames.proofs.Held.{oldest-least}
-use Rattle.task_groups.specs.Descriptors.{IsFirstFree, entry_for, console_descriptor, console_descriptors}
+use Rattle.sorted_list.specs.Entries.{NumbersRise, entry_for}
+use Rattle.task_groups.specs.Descriptors.{IsFirstFree, descriptor_number, console_descriptor, console_descriptors}
 use Rattle.task_groups.specs.Groups.{Holds, IsLive, number_given}
 use Rattle.task_groups.specs.Lists.{slot_of}
 use Rattle.task_groups.specs.Pages.{byte_in, bytes_from, count_in}
@@ -80,7 +81,7 @@ holds-new ms rlimit G low m l e n =
 
 -- ---- a new group's numbers
 
-console-for : (n : ℕ) → entry_for console_descriptors n ≡ (if nat_lt n 3 then Some (console_descriptor n) else None)
+console-for : (n : ℕ) → entry_for descriptor_number console_descriptors n ≡ (if nat_lt n 3 then Some (console_descriptor n) else None)
 unfolding entry_for
 console-for zero = refl
 console-for (suc zero) = refl
@@ -89,16 +90,25 @@ console-for (suc (suc (suc n))) =
     let k = suc (suc (suc n)) in
     rw (ne_eqb 0 k (λ q. omega (arith, q)), ne_eqb 1 k (λ q. omega (arith, q)), ne_eqb 2 k (λ q. omega (arith, q)), le-ltb k 3 (omega arith))
 
-pub console-leads : (n : ℕ) → obj_in (entry_for console_descriptors n) ≡ console_slot n
+pub console-leads : (n : ℕ) → obj_in (entry_for descriptor_number console_descriptors n) ≡ console_slot n
 console-leads n = ap obj_in (console-for n) ∙ go (nat_lt n 3)
   where
     go : (b : Bool) → obj_in (if b then Some (console_descriptor n) else None) ≡ (if b then console_slot 0 else None)
     go true = refl
     go false = refl
 
+pub console-rise : NumbersRise descriptor_number console_descriptors
+console-rise i j d l m = omega (arith, at i (omega (arith, m)), at j m)
+  where
+    at : (k : ℕ) → k < 3 → (get_or console_descriptors k d).number ≡ k
+    at zero l = refl
+    at (suc zero) l = refl
+    at (suc (suc zero)) l = refl
+    at (suc (suc (suc k))) l = absurd (omega arith)
+
 -- and its memory
 pub no-byte : (P : Pages) (b : ℕ) → ◌≡◌ {A = ℕ} (byte_in P [] b) 0
-unfolding slot_of
+unfolding slot_of entry_for
 no-byte P b = refl
 
 -- ---- memory
@@ -176,11 +186,11 @@ module _ (s : State) (G : Groups) (T : Holds s G) (o x : ℕ) (live : IsLive G o
   free : IsFirstFree live.row.descriptors x
   free = first T.sound live.row live.at
 
-  test-is : (n : ℕ) → test n ≡ not (is_open (obj_in (entry_for live.row.descriptors n)))
+  test-is : (n : ℕ) → test n ≡ not (is_open (obj_in (entry_for descriptor_number live.row.descriptors n)))
   test-is n = ap (λ y. not (is_open y)) (sym ((T.rows o live.row live.at).has.slots live.lives n))
 
   taken : (m : ℕ) → m < x → test m ≡ false
-  taken m l = test-is m ∙ ap not (open-some (entry_for live.row.descriptors m) (free.taken m l))
+  taken m l = test-is m ∙ ap not (open-some (entry_for descriptor_number live.row.descriptors m) (free.taken m l))
 
   pub lowest-some : x < G.rlimit → Some x ≡ free_of s o
   lowest-some l = sym (oldest-is test s.rlimit x (omega (arith, l, T.rlimit_is)) (test-is x ∙ ap (λ d. not (is_open (obj_in d))) free.free) taken)

@@ -14,10 +14,11 @@ use Rattle.hist_model.specs.declared.script.MapRange.{MapRange}
 use Rattle.key_bytes.specs.Parts.{Ends, flag_part, list_part, number_part, pair_part, text_part}
 use Rattle.key_bytes.proofs.Ending.{flag_ends, list_ends, pair_ends, text_ends, told_ends}
 use Rattle.key_bytes.proofs.Numbers.{number_ends}
-use Rattle.task_groups.specs.Descriptors.{entry_for}
+use Rattle.sorted_list.specs.Entries.{entry_for}
+use Rattle.task_groups.specs.Descriptors.{descriptor_number}
 use Rattle.task_groups.specs.Groups.{Holds}
 use Rattle.task_groups.specs.Keys.{HaveSame, TellGroups, TellHeld, descriptor_part, group_part, groups_part, object_code, object_number, page_part}
-use Rattle.task_groups.specs.Lists.{slot_of}
+use Rattle.task_groups.specs.Lists.{page_number, slot_of}
 use Rattle.task_groups.specs.Pages.{byte_in, bytes_at, bytes_at_some}
 use Rattle.task_groups.specs.Rows.{Row, obj_in, row_at, row_of, rows_of}
 use Rattle.task_groups.specs.State.{State}
@@ -67,12 +68,12 @@ told_bytes [] n = []
 told_bytes (t ∷ ts) n = if t.0 == n then t.1 else told_bytes ts n
 
 bytes-told : (P : Pages) (xs : List PageEntry) (n : ℕ) → bytes_at_some P (slot_of xs n) ≡ told_bytes (map (told_page P) xs) n
-unfolding slot_of told_bytes told_page
+unfolding slot_of entry_for told_bytes told_page
 bytes-told P [] n = refl
 bytes-told P (e ∷ es) n = chosen (e.number == n) (bytes-told P es n)
   where
     chosen : (b : Bool) → bytes_at_some P (slot_of es n) ≡ told_bytes (map (told_page P) es) n
-        → bytes_at_some P (if b then Some e.slot else slot_of es n) ≡ (if b then bytes_at P e.slot else told_bytes (map (told_page P) es) n)
+        → bytes_at_some P (option_map (λ (x : PageEntry). x.slot) (if b then Some e else entry_for page_number es n)) ≡ (if b then bytes_at P e.slot else told_bytes (map (told_page P) es) n)
     chosen true more = refl
     chosen false more = more
 
@@ -159,5 +160,5 @@ held_same a b s t h A B m = record {
       let i = A.rows o p.0 p.1 in
       let j = B.rows o q.0 q.1 in
       sym (i.has.slots (rw i.living_is l) n)
-      ∙ (ap (λ (ds : List Descriptor). obj_in (entry_for ds n)) (h.descriptors o p.0 q.0 p.1 q.1) ∙ j.has.slots (rw j.living_is k) n);
+      ∙ (ap (λ (ds : List Descriptor). obj_in (entry_for descriptor_number ds n)) (h.descriptors o p.0 q.0 p.1 q.1) ∙ j.has.slots (rw j.living_is k) n);
 }

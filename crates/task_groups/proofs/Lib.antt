@@ -2,7 +2,7 @@ pub mod Lists
 pub mod Ranges
 pub mod PageBytes
 pub mod Shares
-pub mod Rising
+pub mod FirstFree
 pub mod Sets
 pub mod Events
 pub mod Rows

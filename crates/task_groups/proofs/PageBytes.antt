@@ -11,7 +11,7 @@ zero_of_zeros zero i = refl
 zero_of_zeros (suc n) zero = refl
 zero_of_zeros (suc n) (suc i) = zero_of_zeros n i
 
--- zeros behind bytes are what they had there
+-- zeros after bytes are what they had there
 pub zeros_behind : (xs : List ℕ) (n i : ℕ) → get_or (xs ++ replicate {A = ℕ} n 0) i 0 ≡ get_or xs i 0
 zeros_behind xs n i = elim (cases_lt i (length xs)) [
   | inl l ↦ get_or_append_left xs (replicate n 0) 0 i l

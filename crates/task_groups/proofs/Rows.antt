@@ -7,6 +7,7 @@ use Rattle.std.proofs.lemmas.Option.{slice_get-map, slice_get_read, slice_get_wi
 use Rattle.std.proofs.lemmas.List.{map-set, map-append, length-map}
 use Rattle.std.proofs.lemmas.List.Sums.{sum_by-cons, sum_by-set, sum_by_push}
 use Rattle.std.proofs.Math.Seq.{map-set_same}
+use Rattle.sorted_list.proofs.Places.{get-put, get-other, set-set}
 use Rattle.task_groups.specs.Lists.{uses_in}
 use Rattle.task_groups.specs.Pages.{IsList, IsApart, IsStore, IsStored, IsLeftByAll, byte_in, count_at}
 use Rattle.task_groups.specs.Rows.{Row, row_of, rows_of, row_at, uses_all, IsSoundRow, IsSound, IsPut, IsMoved, HasListRoom, SameGroups}
@@ -17,36 +18,6 @@ use Rattle.task_groups.specs.declared.list.PageEntry.{PageEntry}
 use Rattle.task_groups.specs.declared.pages.Pages.{Pages}
 use Rattle.task_groups.proofs.Lists.{uses-none}
 use Rattle.task_groups.proofs.Shares.{same-bytes}
-
--- ---- lists
-
-pub get-put : {X : Type 0} → (xs : List X) (o : ℕ) (x y : X) → slice_get xs o ≡ Some y → slice_get (set xs o x) o ≡ Some x
-get-put [] o x y q = cc
-get-put (z ∷ xs) zero x y q = refl
-get-put (z ∷ xs) (suc o) x y q = get-put xs o x y q
-
-pub get-other : {X : Type 0} → (xs : List X) (o j : ℕ) (x : X) → j ≢ o → slice_get (set xs o x) j ≡ slice_get xs j
-get-other [] o j x n = refl
-get-other (z ∷ xs) zero zero x n = absurd (n refl)
-get-other (z ∷ xs) zero (suc j) x n = refl
-get-other (z ∷ xs) (suc o) zero x n = refl
-get-other (z ∷ xs) (suc o) (suc j) x n = get-other xs o j x (λ q. n (ap suc q))
-
-set-twice : {X : Type 0} → (xs : List X) (o : ℕ) (x y : X) → set (set xs o x) o y ≡ set xs o y
-set-twice [] o x y = refl
-set-twice (z ∷ xs) zero x y = refl
-set-twice (z ∷ xs) (suc o) x y = ap (λ ys. z ∷ ys) (set-twice xs o x y)
-
-pub get-within : {X : Type 0} → (xs : List X) (o : ℕ) → o < length xs → (x : X) × (slice_get xs o ≡ Some x)
-get-within [] o l = absurd (omega arith)
-get-within (x ∷ xs) zero l = (x, refl)
-get-within (x ∷ xs) (suc o) l = get-within xs o (omega arith)
-
-pub get-added : {X : Type 0} → (xs : List X) (y : X) (j : ℕ) (r : X) → slice_get (xs ++ y ∷ []) j ≡ Some r → (slice_get xs j ≡ Some r) ⊎ ((j ≡ length xs) × (y ≡ r))
-get-added [] y zero r h = inr (refl, cc)
-get-added [] y (suc j) r h = cc
-get-added (x ∷ xs) y zero r h = inl h
-get-added (x ∷ xs) y (suc j) r h = elim (get-added xs y j r h) [ inl a ↦ inl a | inr b ↦ inr (ap suc b.0, b.1) ]
 
 -- ---- the row that was read or written
 
@@ -143,7 +114,7 @@ rows-apart G o u r q s a b d p =
 
 -- a row was put twice
 pub put-twice : (old mid new : Groups) (o : ℕ) (q x : Row) → IsPut old o q mid → IsPut mid o x new → IsPut old o x new
-put-twice old mid new o q x a b = record { rows = b.rows ∙ (ap (λ rows. set rows o x) a.rows ∙ set-twice (rows_of old) o q x); map = b.map ∙ a.map; rlimit = b.rlimit ∙ a.rlimit }
+put-twice old mid new o q x a b = record { rows = b.rows ∙ (ap (λ rows. set rows o x) a.rows ∙ set-set (rows_of old) o q x); map = b.map ∙ a.map; rlimit = b.rlimit ∙ a.rlimit }
 
 pub put-there : (old new : Groups) (o : ℕ) (r q : Row) → row_at old o ≡ Some r → IsPut old o q new → row_at new o ≡ Some q
 put-there old new o r q at i = ap (λ rows. slice_get rows o) i.rows ∙ get-put (rows_of old) o q r at

@@ -9,9 +9,9 @@ use Rattle.std.proofs.lemmas.Option.{slice_get_past, slice_get-get_or}
 use Rattle.hist_model.specs.Memory.{byte_or, byte_stored}
 use Rattle.task_groups.specs.declared.list.PageEntry.{PageEntry}
 use Rattle.task_groups.specs.declared.pages.Pages.{Pages}
-use Rattle.task_groups.specs.Lists.{IsListed, slot_of, uses_in, one_if, one_if_some}
+use Rattle.task_groups.specs.Lists.{slot_of, uses_in, one_if, one_if_some}
 use Rattle.task_groups.specs.Pages.{count_at, bytes_at, bytes_at_some, byte_in, bytes_from, IsStore, IsList, IsApart, HasPages, pages_touched, IsLeft, IsLeftBySome, IsPageAdded, IsOwned, IsPut, IsStored, IsSharedOnce, IsShared, IsLeftByAll}
-use Rattle.task_groups.proofs.Lists.{slot-uses, some-uses, two-numbers, one-same, one-other, uses-push, uses-none}
+use Rattle.task_groups.proofs.Lists.{IsListed, slot-uses, some-uses, two-numbers, one-same, one-other, uses-push, uses-none}
 
 -- bytes are the same where the pages that are listed have the same
 pub same-bytes : (P Q : Pages) (xs : List PageEntry) → ((p : ℕ) → 0 < uses_in xs p → bytes_at Q p ≡ bytes_at P p) → (b : ℕ) → byte_in Q xs b ≡ byte_in P xs b
@@ -126,7 +126,7 @@ stored-shift m o r v =
       ]
     ]
 
--- bytes that are stored behind others are one store with them
+-- bytes that are stored after others are one store with them
 pub stored-both : (a b c : ℕ) (v w : List ℕ) → byte_or (byte_stored (Some (a + length v, w)) b) (byte_or (byte_stored (Some (a, v)) b) c) ≡ byte_or (byte_stored (Some (a, v ++ w)) b) c
 stored-both a b c v w =
     elim (stored-cases a b v) [
@@ -210,7 +210,7 @@ stored-piece P Q R xs ys n s o v i r l w u =
 pub stored-list : (P Q : Pages) (xs ys : List PageEntry) (a : ℕ) (v : List ℕ) → IsList P xs → IsStored P xs a v Q ys → IsList Q ys
 stored-list P Q xs ys a v l s = record { rises = s.rises; once = s.once; counted = λ p. omega (arith, s.moved p, l.counted p) }
 
--- bytes that were stored behind others
+-- bytes that were stored after others
 pub stored-more : (P Q R : Pages) (xs ys zs : List PageEntry) (a c : ℕ) (v w : List ℕ) → c ≡ a + length v → IsStored P xs a v Q ys → IsStored Q ys c w R zs → IsStored P xs a (v ++ w) R zs
 stored-more P Q R xs ys zs a c v w e s t = record {
   store = t.store;
@@ -256,7 +256,7 @@ from-more f old out new a b m k n p q e g = rw (g, from-append f a m k, ← e, �
 pub fewer-pages : (P : Pages) (j k : ℕ) → k ≤ j → HasPages P j → HasPages P k
 fewer-pages P j k l h = record { slots = omega (arith, h.slots); stock = omega (arith, h.stock) }
 
--- one page less is touched behind its end
+-- one page less is touched after its end
 pub touched-less : (o n k : ℕ) → o < 4096 → 0 < n → k ≡ min n (4096 - o) → pages_touched 0 (n - k) + 1 ≤ pages_touched o n
 touched-less o n k l p e = omega (arith, e)
 

@@ -9,10 +9,12 @@ use Rattle.slab.specs.Slab.{get}
 use Rattle.hist_model.specs.Memory.{byte_or, byte_stored}
 use Rattle.hist_model.specs.declared.request.Obj.{Obj}
 use Rattle.hist_model.specs.declared.script.MapRange.{MapRange}
-use Rattle.task_groups.specs.Descriptors as descriptors
-use Rattle.task_groups.specs.Descriptors.{IsSet, entry_for}
+use Rattle.sorted_list.specs.Entries.{NumbersRise, IsSet, entry_for}
+use Rattle.sorted_list.proofs.Found.{rise-none}
+use Rattle.sorted_list.proofs.Places.{get-within, get-snoc}
+use Rattle.task_groups.specs.Descriptors.{descriptor_number}
 use Rattle.task_groups.specs.Groups.{Has, Holds, IsGroup, HasRow, IsLive}
-use Rattle.task_groups.specs.Lists.{uses_in}
+use Rattle.task_groups.specs.Lists.{page_number, uses_in}
 use Rattle.task_groups.specs.Pages.{IsStore, IsStored, byte_in, bytes_in, count_at, count_in}
 use Rattle.task_groups.specs.Ranges.{AllEndLow}
 use Rattle.task_groups.specs.Rows.{Row, rows_of, row_at, uses_all, IsSoundRow, IsSound, IsPut, IsMoved, SameGroups, obj_in, mark_in, descriptor_in, SetsMark}
@@ -23,7 +25,7 @@ use Rattle.task_groups.specs.declared.list.PageEntry.{PageEntry}
 use Rattle.task_groups.specs.declared.pages.Page.{Page}
 use Rattle.task_groups.specs.declared.pages.Pages.{Pages}
 use Rattle.task_groups.proofs.Lists.{uses-none}
-use Rattle.task_groups.proofs.Rows.{bare, put-there, get-within, get-added, row-cases, rows-apart, sound-put, moved-same, moved-stored, uses-added}
+use Rattle.task_groups.proofs.Rows.{bare, put-there, row-cases, rows-apart, sound-put, moved-same, moved-stored, uses-added}
 use Rattle.task_groups.proofs.Sets.{contents-set, same-set, set-here, set-other}
 use Rattle.task_groups.proofs.Shares.{same-bytes}
 
@@ -38,10 +40,10 @@ has-pages map P Q r c h s = record { bytes = λ l b m. s b ∙ h.bytes l b m; sl
 has-stored : (map : List MapRange) (P Q : Pages) (r : Row) (c : Contents) (ys : List PageEntry) (a : ℕ) (v : List ℕ) → Has map P r c → IsStored P r.pages a v Q ys → Has map Q (record r { pages = ys }) (after (Some (a, v)) None c)
 has-stored map P Q r c ys a v h s = record { bytes = λ l b m. s.here b ∙ ap (byte_or (byte_stored (Some (a, v)) b)) (h.bytes l b m); slots = h.slots }
 
-has-slot : (map : List MapRange) (P : Pages) (r : Row) (c : Contents) (n : ℕ) (d : Option Descriptor) (xs : List Descriptor) → Has map P r c → IsSet r.descriptors n d xs → Has map P (record r { descriptors = xs }) (after None (Some (n, obj_in d)) c)
+has-slot : (map : List MapRange) (P : Pages) (r : Row) (c : Contents) (n : ℕ) (d : Option Descriptor) (xs : List Descriptor) → Has map P r c → IsSet descriptor_number r.descriptors n d xs → Has map P (record r { descriptors = xs }) (after None (Some (n, obj_in d)) c)
 has-slot map P r c n d xs h i = record { bytes = h.bytes; slots = λ l m. ap obj_in (i.entries m) ∙ chosen m (m == n) (h.slots l m) }
   where
-    chosen : (m : ℕ) (b : Bool) → obj_in (entry_for r.descriptors m) ≡ c.slot m → obj_in (if b then d else entry_for r.descriptors m) ≡ (if b then obj_in d else c.slot m)
+    chosen : (m : ℕ) (b : Bool) → obj_in (entry_for descriptor_number r.descriptors m) ≡ c.slot m → obj_in (if b then d else entry_for descriptor_number r.descriptors m) ≡ (if b then obj_in d else c.slot m)
     chosen m true e = refl
     chosen m false e = e
 
@@ -122,7 +124,7 @@ module _ (s : State) (old : Groups) (T : Holds s old) where
       refl refl (has-stored s.map old.pages new.pages r (s.contents o) ys a v j.has w)
 
   pub slotted : (new : Groups) (o n : ℕ) (d : Option Descriptor) (live : IsLive old o)
-      → ((r : Row) → row_at old o ≡ Some r → (xs : List Descriptor) × (descriptors.NumbersRise r.descriptors → IsSet r.descriptors n d xs) × IsPut old o (record r { descriptors = xs }) new) → new.pages ≡ old.pages
+      → ((r : Row) → row_at old o ≡ Some r → (xs : List Descriptor) × (NumbersRise descriptor_number r.descriptors → IsSet descriptor_number r.descriptors n d xs) × IsPut old o (record r { descriptors = xs }) new) → new.pages ≡ old.pages
       → Holds (with_number o n (obj_in d) s) new
   slotted new o n d live f same =
       let r = live.row in
@@ -155,7 +157,7 @@ module _ (s : State) (old : Groups) (T : Holds s old) where
       }
     where
       cases : (p : ℕ) (x : Row) → row_at new p ≡ Some x → (row_at old p ≡ Some x) ⊎ ((p ≡ length (rows_of old)) × (q ≡ x))
-      cases p x g = get-added (rows_of old) q p x (ap (λ xs. slice_get xs p) (sym rows) ∙ g)
+      cases p x g = get-snoc (rows_of old) q x p (ap (λ xs. slice_get xs p) (sym rows) ∙ g)
 
       older : (p : ℕ) (x : Row) → row_at old p ≡ Some x → IsGroup (with_group c s) new p x
       older p x a =
@@ -203,13 +205,13 @@ module _ (s : State) (old : Groups) (T : Holds s old) (new : Groups) (o n m : �
       let w = T.sound.rows o r at in
       let has = (T.rows o r at).has in
       held (record r { living = 0; handles = m; descriptors = [] }) i (moved-same old.pages new.pages r.pages T.sound.store same)
-      (record { pages_rise = w.pages_rise; once = w.once; descriptors_rise = tt; freed = λ n. absurd (omega (arith, k, n)); closed = λ n. refl }) (sym z) refl
+      (record { pages_rise = w.pages_rise; once = w.once; descriptors_rise = rise-none descriptor_number; freed = λ n. absurd (omega (arith, k, n)); closed = λ n. refl }) (sym z) refl
       (subst (λ (P : Pages). Has s.map P (record r { living = 0; handles = m; descriptors = [] }) (s.contents o)) (sym same) (record { bytes = λ k. has.bytes (holds (omega (arith, k))); slots = λ k. absurd (omega arith) }))
 
   -- nobody is left
   pub held-none : n ≡ 0 → m ≡ 0 → IsPut old o (record bare { handles = m }) new → IsMoved old.pages r.pages new.pages [] → Holds (record s { living = l; handles = h }) new
   held-none z k i j =
-      held (record bare { handles = m }) i j (record { pages_rise = λ i j d l m. absurd (omega arith); once = λ p. omega (arith, uses-none p); descriptors_rise = tt; freed = λ n. refl; closed = λ n. refl }) (sym z) refl
+      held (record bare { handles = m }) i j (record { pages_rise = rise-none page_number; once = λ p. omega (arith, uses-none p); descriptors_rise = rise-none descriptor_number; freed = λ n. refl; closed = λ n. refl }) (sym z) refl
       (record { bytes = λ n. absurd (omega (arith, k, n)); slots = λ n. absurd (omega arith) })
 
 -- ---- states that tell the same
@@ -252,14 +254,14 @@ unchanged s o G T = respects s (with_change o None None s) G (record {
 -- ---- marks
 
 pub marked : (old new : Groups) (o n : ℕ) (d : Option Descriptor) (live : IsLive old o)
-    → ((r : Row) → row_at old o ≡ Some r → (xs : List Descriptor) × (descriptors.NumbersRise r.descriptors → IsSet r.descriptors n d xs) × IsPut old o (record r { descriptors = xs }) new) → IsSound old → SetsMark old o n (mark_in d) new
+    → ((r : Row) → row_at old o ≡ Some r → (xs : List Descriptor) × (NumbersRise descriptor_number r.descriptors → IsSet descriptor_number r.descriptors n d xs) × IsPut old o (record r { descriptors = xs }) new) → IsSound old → SetsMark old o n (mark_in d) new
 marked old new o n d live f s m =
     let r = live.row in
     let x = f r live.at in
     let q : Row = record r { descriptors = x.0 } in
     let there = put-there old new o r q live.at x.2 in
     ap (λ (y : Option Row). mark_in (descriptor_in y m)) there ∙ (ap mark_in ((x.1 (s.rows o r live.at).descriptors_rise).entries m)
-    ∙ (chosen (m == n) (entry_for r.descriptors m) ∙ ap (λ (y : Option Row). if m == n then mark_in d else mark_in (descriptor_in y m)) (sym live.at)))
+    ∙ (chosen (m == n) (entry_for descriptor_number r.descriptors m) ∙ ap (λ (y : Option Row). if m == n then mark_in d else mark_in (descriptor_in y m)) (sym live.at)))
   where
     chosen : (b : Bool) (y : Option Descriptor) → mark_in (if b then d else y) ≡ (if b then mark_in d else mark_in y)
     chosen true y = refl

@@ -6,7 +6,8 @@ use Rattle.sys_abi.specs.declared.memory.OrNoMemory.TheVariants.{Refused, NoMemo
 use Rattle.hist_model.specs.Memory.{is_mapped}
 use Rattle.hist_model.specs.declared.request.Fault.{Fault}
 use Rattle.hist_model.specs.declared.script.MapRange.{MapRange}
-use Rattle.task_groups.specs.Descriptors.{entry_for}
+use Rattle.sorted_list.specs.Entries.{entry_for}
+use Rattle.task_groups.specs.Descriptors.{descriptor_number}
 use Rattle.task_groups.specs.Pages.{byte_in}
 use Rattle.task_groups.specs.Ranges.{AllEndLow}
 use Rattle.task_groups.specs.Rows.{Row, row_at, rows_of, obj_in, IsSound, HasCopyRoom, HasPageRoom, HasDescriptorRoom}
@@ -18,7 +19,7 @@ use Rattle.task_groups.specs.declared.pages.Pages.{Pages}
 -- a row has this, where somebody holds it and where it is mapped
 pub record Has (map : List MapRange) (P : Pages) (r : Row) (c : Contents) : Type 0 where
   pub bytes : 0 < r.living + r.handles → (a : ℕ) → is_mapped map a ≡ true → byte_in P r.pages a ≡ c.byte a
-  pub slots : 0 < r.living → (n : ℕ) → obj_in (entry_for r.descriptors n) ≡ c.slot n
+  pub slots : 0 < r.living → (n : ℕ) → obj_in (entry_for descriptor_number r.descriptors n) ≡ c.slot n
 
 -- the row of a group: so many hold it, and it has what the state says
 pub record IsGroup (s : State) (G : Groups) (o : ℕ) (r : Row) : Type 0 where

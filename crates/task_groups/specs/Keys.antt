@@ -49,12 +49,12 @@ pub record HaveSame (a b : Groups) : Type 0 where
       → byte_in a.pages p.pages x ≡ byte_in b.pages q.pages x
   pub descriptors : (o : ℕ) (p q : Row) → row_at a o ≡ Some p → row_at b o ≡ Some q → p.descriptors ≡ q.descriptors
 
--- where equal bytes begin with the keys of two tables, their groups have the same, and what comes behind them is equal
+-- where equal bytes begin with the keys of two tables, their groups have the same, and what comes after them is equal
 abbrev pub TellGroups : Type 0
 TellGroups = (a b : Groups) (r s : List ℕ) → groups_part a ++ r ≡ groups_part b ++ s → HaveSame a b × (r ≡ s)
 
 -- as many groups were made; a group that somebody holds in both states has the same bytes where they are mapped, and one of which tasks
--- live in both the same behind each number
+-- live in both the same under each number
 pub record HoldSame (s t : State) : Type 0 where
   pub made : s.made ≡ t.made
   pub bytes : (o : ℕ) → 0 < s.living o + s.handles o → 0 < t.living o + t.handles o → (x : ℕ) → is_mapped s.map x ≡ true

@@ -3,10 +3,11 @@ use Rattle.std.specs.Prelude.{◌≡◌, ◌≢◌, ℕ, zero, suc, ◌+◌, ◌
 use Rattle.std.specs.Prelude.{Some, None, slice_index, vec_len}
 use Rattle.slab.specs.Slab.{get, HasRoomFor}
 use Rattle.hist_model.specs.Memory.{byte_or, byte_stored}
+use Rattle.sorted_list.specs.Entries.{NumbersRise}
 use Rattle.task_groups.specs.declared.list.PageEntry.{PageEntry}
 use Rattle.task_groups.specs.declared.pages.Page.{Page}
 use Rattle.task_groups.specs.declared.pages.Pages.{Pages}
-use Rattle.task_groups.specs.Lists.{NumbersRise, slot_of, uses_in, one_if, one_if_some}
+use Rattle.task_groups.specs.Lists.{page_number, slot_of, uses_in, one_if, one_if_some}
 
 abbrev pub count_in : Option Page → ℕ
 count_in (Some page) = page.shares
@@ -43,7 +44,7 @@ IsStore P = (p : ℕ) (page : Page) → get P.slots p ≡ Some page → 0 < page
 
 -- the list is in order, has no page twice, and the pages count its entries
 pub record IsList (P : Pages) (xs : List PageEntry) : Type 0 where
-  pub rises : NumbersRise xs
+  pub rises : NumbersRise page_number xs
   pub once : (p : ℕ) → uses_in xs p ≤ 1
   pub counted : (p : ℕ) → uses_in xs p ≤ count_at P p
 
@@ -80,7 +81,7 @@ pub record IsPageAdded (old : Pages) (like : Option ℕ) (s : ℕ) (new : Pages)
 -- the page of this number is listed at this slot, where nothing else has it, and each byte is as it was
 pub record IsOwned (P : Pages) (xs : List PageEntry) (n s : ℕ) (Q : Pages) (ys : List PageEntry) : Type 0 where
   pub store : IsStore Q
-  pub rises : NumbersRise ys
+  pub rises : NumbersRise page_number ys
   pub once : (p : ℕ) → uses_in ys p ≤ 1
   pub here : slot_of ys n ≡ Some s
   pub alone : count_at Q s ≡ 1
@@ -99,7 +100,7 @@ pub record IsPut (old : Pages) (s offset : ℕ) (piece : List ℕ) (new : Pages)
 -- bytes were stored at an address of the space that has this list, and in no other
 pub record IsStored (P : Pages) (xs : List PageEntry) (a : ℕ) (bytes : List ℕ) (Q : Pages) (ys : List PageEntry) : Type 0 where
   pub store : IsStore Q
-  pub rises : NumbersRise ys
+  pub rises : NumbersRise page_number ys
   pub once : (p : ℕ) → uses_in ys p ≤ 1
   pub moved : (p : ℕ) → count_at Q p + uses_in xs p ≡ count_at P p + uses_in ys p
   pub here : (b : ℕ) → byte_in Q ys b ≡ byte_or (byte_stored (Some (a, bytes)) b) (byte_in P xs b)

@@ -3,10 +3,9 @@ use Rattle.std.specs.Prelude.{◌≡◌, ℕ, ◌+◌, ◌/◌, ◌<◌, ◌≤�
 use Rattle.std.specs.Prelude.{None, slice_get, vec_len, vec_capacity}
 use Rattle.std.specs.List.{sum_by}
 use Rattle.hist_model.specs.declared.request.Obj.{Obj}
-use Rattle.task_groups.specs.Descriptors as descriptors
-use Rattle.task_groups.specs.Descriptors.{entry_for}
-use Rattle.task_groups.specs.Lists as lists
-use Rattle.task_groups.specs.Lists.{uses_in}
+use Rattle.sorted_list.specs.Entries.{NumbersRise, entry_for}
+use Rattle.task_groups.specs.Descriptors.{descriptor_number}
+use Rattle.task_groups.specs.Lists.{page_number, uses_in}
 use Rattle.task_groups.specs.Pages.{IsStore, IsApart, HasPages, byte_in, count_at}
 use Rattle.task_groups.specs.declared.descriptors.Descriptor.{Descriptor}
 use Rattle.task_groups.specs.declared.groups.Group.{Group}
@@ -38,9 +37,9 @@ uses_all rows p = sum_by (λ (r : Row). uses_in r.pages p) rows
 
 -- a row is in order, and has nothing that nobody holds: tasks and handles hold the memory, tasks alone the descriptors
 pub record IsSoundRow (r : Row) : Type 0 where
-  pub pages_rise : lists.NumbersRise r.pages
+  pub pages_rise : NumbersRise page_number r.pages
   pub once : (p : ℕ) → uses_in r.pages p ≤ 1
-  pub descriptors_rise : descriptors.NumbersRise r.descriptors
+  pub descriptors_rise : NumbersRise descriptor_number r.descriptors
   pub freed : r.living + r.handles ≡ 0 → r.pages ≡ []
   pub closed : r.living ≡ 0 → r.descriptors ≡ []
 
@@ -71,7 +70,7 @@ pub record IsMoved (P : Pages) (xs : List PageEntry) (Q : Pages) (ys : List Page
 
 -- the descriptor of a number
 abbrev pub descriptor_in : Option Row → ℕ → Option Descriptor
-descriptor_in (Some r) n = entry_for r.descriptors n
+descriptor_in (Some r) n = entry_for descriptor_number r.descriptors n
 descriptor_in None n = None
 
 abbrev pub obj_in : Option Descriptor → Option Obj

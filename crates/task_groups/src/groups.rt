@@ -6,7 +6,8 @@ ghost use Rattle.hist_model.specs.Effects.{is_cloexec};
 ghost use Rattle.hist_model.specs.Memory.{all_mapped};
 ghost use Rattle.hist_model.specs.Natives.{is_open};
 ghost use Rattle.hist_model.specs.Steps.{slot_answer};
-ghost use Rattle.task_groups.specs.Descriptors.{NumbersRise, IsSet, IsFirstFree};
+ghost use Rattle.sorted_list.specs.Entries.{NumbersRise, IsSet};
+ghost use Rattle.task_groups.specs.Descriptors.{descriptor_number, IsFirstFree};
 ghost use Rattle.task_groups.specs.Groups.{Holds, HasRow, IsLive, IsReadAnswer, HasRoom, HasRoomFor, HasStoreRoom, number_given};
 ghost use Rattle.task_groups.specs.Keys.{group_part, groups_part};
 ghost use Rattle.task_groups.specs.Pages.{IsStored, IsStore, IsLeftByAll, IsShared};
@@ -412,7 +413,7 @@ impl Groups {
         requires { HasRow self.now o }
         ensures { IsSound self.now → result ≡ descriptor_in (row_at self.now o) n }
     {
-        descriptors::find(&self.rows[o as usize].descriptors, n)
+        sorted_list::find(&self.rows[o as usize].descriptors, n as u64)
     }
 
     /// What a number of a group leads to. None exactly where it isn't open.
@@ -434,19 +435,19 @@ impl Groups {
     /// Sets the descriptor of a number of a group, for which there is room.
     fn put(&mut self, o: u32, descriptor: Descriptor)
         requires { HasDescriptorRoom self.old o }
-        ensures put { (r : Row) → row_at self.old o ≡ Some r → (xs : List Descriptor) × (NumbersRise r.descriptors → IsSet r.descriptors descriptor.number (Some descriptor) xs) × IsPut self.old o (record r { descriptors = xs }) self.new }
+        ensures put { (r : Row) → row_at self.old o ≡ Some r → (xs : List Descriptor) × (NumbersRise descriptor_number r.descriptors → IsSet descriptor_number r.descriptors descriptor.number (Some descriptor) xs) × IsPut self.old o (record r { descriptors = xs }) self.new }
         ensures pages { self.new.pages ≡ self.old.pages }
     {
-        descriptors::set(&mut self.rows[o as usize].descriptors, descriptor);
+        sorted_list::set(&mut self.rows[o as usize].descriptors, descriptor);
     }
 
     /// Takes the descriptor of a number of a group away.
     fn take(&mut self, o: u32, n: u32)
         requires { HasRow self.old o }
-        ensures put { (r : Row) → row_at self.old o ≡ Some r → (xs : List Descriptor) × (NumbersRise r.descriptors → IsSet r.descriptors n None xs) × IsPut self.old o (record r { descriptors = xs }) self.new }
+        ensures put { (r : Row) → row_at self.old o ≡ Some r → (xs : List Descriptor) × (NumbersRise descriptor_number r.descriptors → IsSet descriptor_number r.descriptors n None xs) × IsPut self.old o (record r { descriptors = xs }) self.new }
         ensures pages { self.new.pages ≡ self.old.pages }
     {
-        descriptors::remove(&mut self.rows[o as usize].descriptors, n);
+        sorted_list::remove(&mut self.rows[o as usize].descriptors, n as u64);
     }
 
     /// Opens the lowest free number below the limit (open(2), EMFILE), for which there is room, and gives it. It is refused

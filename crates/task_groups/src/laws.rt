@@ -62,7 +62,7 @@ pub fn made_groups_have_rows()
     ensures { (s : State) (G : Groups) (o : ℕ) → Holds s G → o < s.made → HasRow G o }
 {}
 
-/// Keys of groups end by themselves: where equal bytes begin with two of them, the groups have the same, and what comes behind is equal.
+/// Keys of groups end by themselves: where equal bytes begin with two of them, the groups have the same, and what comes after is equal.
 /// Then the states that they hold have the same, too, where somebody holds a group in both.
 pub fn keys_tell_groups()
     ensures groups { TellGroups }

@@ -34,7 +34,7 @@ pub fn mapped_rest(map: &[MapRange], addr: u64) -> u64
     0
 }
 
-/// The same from the `count`-th address behind another one on.
+/// The same from the `count`-th address after another one on.
 fn mapped_behind(map: &[MapRange], addr: u64, count: usize) -> u64
     ensures within { (i : ℕ) → i < result → is_mapped map.now (addr + count + i) ≡ true }
     ensures outside { AllEndLow map.now → result ≡ 0 → is_mapped map.now (addr + count) ≡ false }

@@ -1,4 +1,4 @@
-//! The bytes of one page, of which those behind the last one that was written aren't kept.
+//! The bytes of one page, of which those after the last one that was written aren't kept.
 
 ghost use Rattle.std.specs.Prelude.{◌≡◌, ℕ, ◌+◌, ◌<◌, ◌≤◌, ◌++◌, length, replicate, Some, OnOk, vec_len, vec_capacity, slice_index};
 ghost use Rattle.hist_model.specs.Memory.{byte_or, byte_stored};
@@ -13,7 +13,7 @@ pub const PAGE: usize = 4096;
 /// A page that was never written.
 const ZEROS: [u8; PAGE] = [0; PAGE];
 
-/// The bytes of a page up to the last one that was written, with room for all; behind them the page has zeros. So a page is
+/// The bytes of a page up to the last one that was written, with room for all; after them the page has zeros. So a page is
 /// made and copied in the time of what was written to it.
 #[derive(Drop)]
 pub struct PageBytes {

@@ -3,14 +3,16 @@
 ghost use Rattle.std.specs.Prelude.{◌≡◌, ◌≢◌, ℕ, ◌+◌, ◌-◌, ◌*◌, ◌%◌, ◌<◌, ◌≤◌, ◌++◌, ◌^◌, length, Some, None, OnOk, IsOk, vec_len, vec_capacity, slice_index};
 ghost use Rattle.key_bytes.specs.Parts.{list_part};
 ghost use Rattle.slab.specs.Slab.{get};
+ghost use Rattle.sorted_list.specs.Entries.{NumbersRise};
 ghost use Rattle.task_groups.specs.Keys.{page_part};
-ghost use Rattle.task_groups.specs.Lists.{NumbersRise, slot_of};
+ghost use Rattle.task_groups.specs.Lists.{page_number, slot_of};
 ghost use Rattle.task_groups.specs.Pages.{count_at, bytes_at_some, byte_in, bytes_from, IsStore, IsList, HasPages, pages_touched, IsLeft, IsLeftBySome, IsPageAdded, IsOwned, IsPut, IsStored, IsSharedOnce, IsShared, IsLeftByAll};
 
-use crate::list::{self, PageEntry};
+use crate::list::{PageEntry, slot_of};
 use crate::page_bytes::{PAGE, PageBytes, append_zeros, part};
 use key_bytes::{push_number, push_text};
 use slab::Slab;
+use sorted_list::set;
 use std::alloc::Global;
 use sys_abi::memory::NoMemory;
 
@@ -159,7 +161,7 @@ impl Pages {
         ensures pages { (k : ℕ) → HasPages self.old (k + 1) → HasPages self.new k }
         ensures entries { (k : ℕ) → vec_len list.old + (k + 1) ≤ vec_capacity list.old → vec_len list.new + k ≤ vec_capacity list.new }
     {
-        let found = list::find(list, number);
+        let found = slot_of(list, number);
         match found {
             Some(slot) if self.shares(slot) == 1 => slot,
             _ => self.replace(list, number, found),
@@ -177,7 +179,7 @@ impl Pages {
     {
         let slot = self.add(found);
         self.leave_some(found);
-        list::put(list, PageEntry { number, slot });
+        set(list, PageEntry { number, slot });
         slot
     }
 
@@ -235,11 +237,11 @@ impl Pages {
     )
         requires within { offset + count ≤ 4096 }
         requires room { vec_len out.old + count ≤ vec_capacity out.old }
-        ensures items { NumbersRise list.now → out.new.items ≡ out.old.items ++ bytes_from (byte_in self.now list.now) (4096 * number + offset) count }
+        ensures items { NumbersRise page_number list.now → out.new.items ≡ out.old.items ++ bytes_from (byte_in self.now list.now) (4096 * number + offset) count }
         ensures len { vec_len out.new ≡ vec_len out.old + count }
         ensures capacity { vec_capacity out.old ≤ vec_capacity out.new }
     {
-        let written = part(self.bytes(list::find(list, number)), offset, count);
+        let written = part(self.bytes(slot_of(list, number)), offset, count);
         let Ok(()) = out.extend_from_slice(written) else {
             unreachable!()
         };
@@ -249,7 +251,7 @@ impl Pages {
     /// Appends so many bytes of a space, from an address on. There is room for them.
     pub fn append(&self, list: &[PageEntry], addr: u64, count: usize, out: &mut Vec<u8>)
         requires { vec_len out.old + count ≤ vec_capacity out.old }
-        ensures items { NumbersRise list.now → out.new.items ≡ out.old.items ++ bytes_from (byte_in self.now list.now) addr count }
+        ensures items { NumbersRise page_number list.now → out.new.items ≡ out.old.items ++ bytes_from (byte_in self.now list.now) addr count }
         ensures capacity { vec_capacity out.old ≤ vec_capacity out.new }
     {
         let mut number = addr / PAGE as u64;

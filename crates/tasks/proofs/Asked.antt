@@ -1,9 +1,9 @@
 -- What a table answers is what the definitions say of the history for which it stands.
 -- By the row of each task, by its place among its parent's children, and since past the rows there is neither a name nor a PID.
-use Rattle.std.proofs.Common.{◌≡◌, inl, inr, ℕ, suc, ◌+◌, ◌-◌, ◌<◌, ◌≤◌, Bool, true, false, not, List, [], ◌∷◌, ◌++◌, length, get_or, Option, Some, None, refl, sym, ap, ◌∙◌, subst, arith, ltb-true, Contains}
+use Rattle.std.proofs.Common.{◌≡◌, inl, inr, ℕ, suc, ◌+◌, ◌-◌, ◌<◌, ◌≤◌, Bool, true, false, not, List, [], ◌∷◌, ◌++◌, length, Option, Some, None, refl, sym, ap, ◌∙◌, subst, arith, Contains}
 use Rattle.std.specs.Prelude.{◌==◌, is_some, slice_get, IsSome, IfSome, IfNone}
-use Rattle.std.proofs.lemmas.Bool.{cases_order, both_ways, and_parts, and_from, eqb-true, eq-eqb, false_from_ne_true}
-use Rattle.std.proofs.lemmas.List.{append-nil, append_assoc, get_or_default}
+use Rattle.std.proofs.lemmas.Bool.{both_ways, and_parts, and_from, eqb-true, eq-eqb, false_from_ne_true}
+use Rattle.std.proofs.lemmas.List.{append-nil, append_assoc}
 use Rattle.hist_model.specs.Kinds.{makes}
 use Rattle.hist_model.specs.Look.{Name, event_at, or_else}
 use Rattle.hist_model.specs.Memory.{last_call}
@@ -15,7 +15,9 @@ use Rattle.hist_model.specs.declared.script.Script.{Script}
 use Rattle.history_frames.specs.Ordinals.{tasks_made, groups_made, place_of, task_name_of}
 use Rattle.history_frames.proofs.Ordinals.{place-one}
 use Rattle.tasks.specs.Fold.{IsEntry}
-use Rattle.tasks.specs.Index.{IsOrdered, under}
+use Rattle.sorted_list.specs.Entries.{entry_for}
+use Rattle.sorted_list.proofs.Found.{entry-listed, listed-entry}
+use Rattle.tasks.specs.Index.{entry_key, under}
 use Rattle.tasks.specs.Sound.{IsSound}
 use Rattle.tasks.specs.State.{Row, is_reaped, holds}
 use Rattle.tasks.specs.Table.{Member, Table, IsChildIn, IsTableOf, row_in, rows_of, table_of, task_at, view, next_name}
@@ -51,20 +53,6 @@ root-unmade K x rest o d = false_from_ne_true (is_made K (x ∷ rest)) (λ h. el
 -- without tasks no name is that of one
 pub none-made : (K : List Event) (n : Name) → tasks_made K ≡ 0 → is_made K n ≡ false
 none-made K n q = false_from_ne_true (is_made K n) (λ h. omega (arith, (made-ordinal K n h).1))
-
--- ---- who has a key
-
--- no two entries have one key
-one-entry : (xs : List Entry) (a b : Entry) → IsOrdered xs → Contains xs a → Contains xs b → a.key ≡ b.key → a ≡ b
-one-entry xs a b o p q k =
-    let f : get_or xs q.0 a ≡ b = get_or_default xs q.0 a b q.1 ∙ q.2 in
-    elim (cases_order p.0 q.0) [
-      | inl e ↦ sym p.2 ∙ (ap (λ i. get_or xs i a) e ∙ f)
-      | inr e ↦ elim e [
-        | inl e ↦ absurd (omega (arith, ltb-true (get_or xs p.0 a).key (get_or xs q.0 a).key (o p.0 q.0 a e q.1), ap (λ (x : Entry). x.key) p.2, ap (λ (x : Entry). x.key) f, k))
-        | inr e ↦ absurd (omega (arith, ltb-true (get_or xs q.0 a).key (get_or xs p.0 a).key (o q.0 p.0 a e p.1), ap (λ (x : Entry). x.key) p.2, ap (λ (x : Entry). x.key) f, k))
-      ]
-    ]
 
 module _ (S : Script) (K : List Event) (T : Table) (s : IsTableOf S K T) where
   pub no-task : (o : ℕ) → o < tasks_made K → task_at T o ≡ None → ⊥
@@ -138,36 +126,42 @@ module _ (S : Script) (K : List Event) (T : Table) (s : IsTableOf S K T) where
       turned : (b : Bool) → not b ≡ true → b ≡ false
       turned b h = grind arith
 
-  pub none-holds : (p : ℕ) → ((e : Entry) → Contains T.pids e → e.key ≡ p → ⊥) → holder K p ≡ None
-  none-holds p apart = go (holder K p) refl
+  holder-found : (p o : ℕ) → Contains T.pids (under p o) → entry_for entry_key T.pids p ≡ Some (under p o)
+  holder-found p o = listed-entry entry_key T.pids (under p o) s.whole.indexed.ordered
+
+  pub none-holds : (p : ℕ) → None ≡ entry_for entry_key T.pids p → holder K p ≡ None
+  none-holds p none = go (holder K p) refl
     where
       go : (x : Option ℕ) → holder K p ≡ x → holder K p ≡ None
       go None q = q
-      go (Some t) q = let r = holder-entry p t q in absurd (apart (under p r.0) r.5 refl)
+      go (Some t) q = let r = holder-entry p t q in let f = holder-found p r.0 r.5 in cc
 
   -- the entry's task is reaped
-  pub reaped-holds : (p o : ℕ) (b : Bool) → Contains T.pids (under p o) → ((t : Member) → task_at T o ≡ Some t → b ≡ is_reaped (row_in T.tasks t)) → b ≡ true → holder K p ≡ None
-  reaped-holds p o b here is gone = go (holder K p) refl
+  pub reaped-holds : (p : ℕ) (x : Entry) (b : Bool) → Some x ≡ entry_for entry_key T.pids p → ((t : Member) → task_at T x.task ≡ Some t → b ≡ is_reaped (row_in T.tasks t)) → b ≡ true → holder K p ≡ None
+  reaped-holds p x b here is gone = go (holder K p) refl
     where
       go : (x : Option ℕ) → holder K p ≡ x → holder K p ≡ None
       go None q = q
       go (Some t) q =
           let r = holder-entry p t q in
-          let e = one-entry T.pids (under p r.0) (under p o) s.whole.indexed.ordered r.5 here refl in
-          let i : r.0 ≡ o = ap (λ (x : Entry). x.task) e in
+          let f = holder-found p r.0 r.5 in
+          let e : under p r.0 ≡ x = cc in
+          let i : r.0 ≡ x.task = ap (λ (y : Entry). y.task) e in
           let a = and_parts (r.1.pid == p) (not (is_reaped (row_in T.tasks r.1))) r.4 in
           let d : is_reaped (row_in T.tasks r.1) ≡ true = sym (is r.1 (ap (task_at T) (sym i) ∙ r.3)) ∙ gone in
           absurd (both_ways (not (is_reaped (row_in T.tasks r.1))) (ap not d) a.1)
 
   -- or it isn't
-  pub entry-holds : (p o : ℕ) (b : Bool) → Contains T.pids (under p o) → ((t : Member) → task_at T o ≡ Some t → b ≡ is_reaped (row_in T.tasks t)) → b ≡ false → IsHolder K p o
-  entry-holds p o b here is kept =
-      let t = s.whole.indexed.listed (under p o) here in
+  pub entry-holds : (p : ℕ) (x : Entry) (b : Bool) → Some x ≡ entry_for entry_key T.pids p → ((t : Member) → task_at T x.task ≡ Some t → b ≡ is_reaped (row_in T.tasks t)) → b ≡ false → IsHolder K p x.task
+  entry-holds p x b here is kept =
+      let o = x.task in
+      let h = entry-listed entry_key T.pids p x (sym here) in
+      let t = s.whole.indexed.listed x h.0 in
       let d : is_reaped (row_in T.tasks t.0) ≡ false = sym (is t.0 t.1) ∙ kept in
-      let h : holds p (row_in T.tasks t.0) ≡ true = and_from (t.0.pid == p) (not (is_reaped (row_in T.tasks t.0))) (eq-eqb t.0.pid p t.2) (ap not d) in
+      let y : holds p (row_in T.tasks t.0) ≡ true = and_from (t.0.pid == p) (not (is_reaped (row_in T.tasks t.0))) (eq-eqb t.0.pid p (t.2 ∙ h.1)) (ap not d) in
       let r = row-at S K T s o t.0 t.1 in
       let l = row-place S K (view T (groups_made K)) s.looks s.sound o (row_in T.tasks t.0) r in
-      (task-made S K T s o t.0 t.1, l.0, holder-at S K (view T (groups_made K)) s.looks s.sound p o (row_in T.tasks t.0) r h ∙ l.1, l.1)
+      (task-made S K T s o t.0 t.1, l.0, holder-at S K (view T (groups_made K)) s.looks s.sound p o (row_in T.tasks t.0) r y ∙ l.1, l.1)
 
   -- the one that holds a PID, and nobody else
   pub holders : (p o : ℕ) → IsHolder K p o → (t : Member) × (task_at T o ≡ Some t) × (holds p (row_in T.tasks t) ≡ true) × ((j : ℕ) (x : Member) → task_at T j ≡ Some x → holds p (row_in T.tasks x) ≡ true → j ≡ o)

@@ -12,12 +12,13 @@ use Rattle.hist_model.specs.declared.event.Event.{Event}
 use Rattle.hist_model.specs.declared.script.Script.{Script}
 use Rattle.history_frames.specs.Ordinals.{count_of, groups_made}
 use Rattle.tasks.specs.Fold.{Looks}
-use Rattle.tasks.specs.Index.{IsPut, under}
+use Rattle.tasks.specs.Index.{under}
 use Rattle.tasks.specs.Sets.{all_signals}
 use Rattle.tasks.specs.Sound.{IsSound}
 use Rattle.tasks.specs.State.{Row, State, after, new_row}
 use Rattle.tasks.specs.Table.{Member, Table, AreWaiting, IsAdded, IsChildIn, IsFamily, IsIndexed, IsTableOf, is_living, new_member, row_in, row_of, rows_of, view}
 use Rattle.tasks.specs.declared.index.Entry.{Entry}
+use Rattle.tasks.proofs.Pids.{IsPut, put-of}
 use Rattle.tasks.proofs.Folds.{follows}
 use Rattle.tasks.proofs.Stood.{same-state}
 
@@ -105,7 +106,7 @@ stands-begun S old new pid program s p q a = record {
         ∙ (ap (λ (r : Row). r ∷ []) (same-row 0 (S.pidbase + 1) pid (length S.programs - 1) program (sym p) (sym q)) ∙ ap (λ (xs : List Member). rows_of xs) (sym tasks))
 
     put : IsPut old.pids (under pid 0) new.pids
-    put = a.pids s.whole.indexed.ordered
+    put = put-of old.pids new.pids (under pid 0) s.whole.indexed.ordered (a.pids s.whole.indexed.ordered)
 
     own : Contains new.pids (under pid 0)
     own = put.own

@@ -10,7 +10,7 @@ pub mod Steps
 pub mod Sounds
 pub mod Born
 pub mod Folds
-pub mod Ordered
+pub mod Pids
 pub mod Changed
 pub mod Read
 pub mod Whole

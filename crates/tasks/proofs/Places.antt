@@ -90,7 +90,7 @@ module _ (S : Script) (K : List Event) (n : Name) (r : Row) (i : IsRow S K n r) 
   starts-own (Deliver s Restart) f = goes-back (behind-in (waits-in f))
   starts-own w f = stays-at
 
-  -- a task in a call stands behind the call that it entered
+  -- a task in a call stands after the call that it entered
   out-of-call : {A : Type 0} → call_of K n ≡ None → (is_in r.call || false) ≡ true → A
   out-of-call q h = let z = none-in q in let h' : (false || false) ≡ true = rw z at h in cc
 

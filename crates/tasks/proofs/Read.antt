@@ -7,7 +7,8 @@ use Rattle.std.proofs.lemmas.Option.{slice_get-map, slice_get_read, slice_get_pa
 use Rattle.std.proofs.lemmas.List.{map-set, map-append, length-map}
 use Rattle.std.proofs.Math.Seq.{map-set_same}
 use Rattle.hist_model.specs.Look.{Name}
-use Rattle.tasks.specs.Index.{IsOrdered, IsPut, under}
+use Rattle.sorted_list.specs.Entries.{NumbersRise, IsSet}
+use Rattle.tasks.specs.Index.{entry_key, under}
 use Rattle.tasks.specs.Stands.{HasEntryRoom, HasNumber}
 use Rattle.tasks.specs.Table.{IsAdded, Member, Table, member, members, task_at, with_entry, with_task, with_waiting}
 use Rattle.tasks.specs.declared.index.Entry.{Entry}
@@ -53,8 +54,8 @@ pushed-task tasks more r q = ap members q ∙ map-append member tasks (r ∷ [])
 pub child-added : (old mid new : Table) (parent n : ℕ) (t x m : Member) → mid ≡ with_task old parent (with_entry t (Some n)) → n ≡ length old.tasks → x ≡ m → IsAdded mid mid.tasks n x new → IsAdded old (set old.tasks parent (with_entry t (Some (length old.tasks)))) (length old.tasks) m new
 child-added old mid new parent n t x m q l e a = subst (λ z. IsAdded old (set old.tasks parent (with_entry t (Some (length old.tasks)))) (length old.tasks) z new) e (record {
   tasks = a.tasks ∙ ap (λ (xs : List Member). xs ++ x ∷ []) (ap (λ (T : Table). T.tasks) q ∙ ap (λ k. set old.tasks parent (with_entry t (Some k))) l);
-  pids = λ o. subst (λ k. IsPut old.pids (under x.pid k) new.pids) l
-      (subst (λ (es : List Entry). IsPut es (under x.pid n) new.pids) (ap (λ (T : Table). T.pids) q) (a.pids (subst IsOrdered (sym (ap (λ (T : Table). T.pids) q)) o)));
+  pids = λ o. subst (λ k. IsSet entry_key old.pids x.pid (Some (under x.pid k)) new.pids) l
+      (subst (λ (es : List Entry). IsSet entry_key es x.pid (Some (under x.pid n)) new.pids) (ap (λ (T : Table). T.pids) q) (a.pids (subst (NumbersRise entry_key) (sym (ap (λ (T : Table). T.pids) q)) o)));
   base = a.base ∙ ap (λ (T : Table). T.base) q;
   top = a.top ∙ ap (λ (T : Table). T.top) q;
   last = a.last;

@@ -1,5 +1,5 @@
 -- The table after a task has made a child, and after a spawn that was refused.
--- By the row of each task that was there, and since the child stands behind them all.
+-- By the row of each task that was there, and since the child stands after them all.
 use Rattle.std.proofs.Common.{◌≡◌, ◌⊎◌, inl, inr, ℕ, suc, ◌+◌, ◌-◌, ◌<◌, ◌≤◌, ◌^◌, true, false, ◌&&◌, ◌||◌, not, List, [], ◌∷◌, ◌++◌, length, set, Option, Some, None, refl, sym, ap, ◌∙◌, subst, arith, leb, Contains}
 use Rattle.std.specs.Prelude.{if◌then◌else◌, ◌==◌, map, slice_get, count_by, Ok, Err}
 use Rattle.std.proofs.lemmas.Bool.{and_from, both_ways, eq-eqb}
@@ -21,7 +21,7 @@ use Rattle.hist_model.specs.declared.script.Script.{Script}
 use Rattle.history_frames.specs.Ordinals.{groups_made, makes_group, task_name_of}
 use Rattle.history_frames.proofs.Ordinals.{place-one}
 use Rattle.tasks.specs.Fold.{Looks, IsGroupOf}
-use Rattle.tasks.specs.Index.{IsPut, under}
+use Rattle.tasks.specs.Index.{under}
 use Rattle.tasks.specs.Rows.{IsAfter}
 use Rattle.tasks.specs.Sound.{IsStepOf}
 use Rattle.tasks.specs.State.{Row, State, after, after_row, made_by, group_for, holds, is_reaped, modes_in, new_row, number_or_none, program_for, row_named, started_by}
@@ -30,6 +30,7 @@ use Rattle.tasks.specs.Stands.{IsNewGroup, IsSpawn}
 use Rattle.tasks.specs.declared.index.Entry.{Entry}
 use Rattle.tasks.specs.declared.row.Progress.{Progress}
 use Rattle.tasks.specs.declared.signals.BySignal.{BySignal}
+use Rattle.tasks.proofs.Pids.{IsPut, put-of}
 use Rattle.tasks.proofs.Asked.{nobody-holds}
 use Rattle.tasks.proofs.Asked.{next-is as next-child-is}
 use Rattle.tasks.proofs.Changed.{IsTouched, IsQuiet, member-with, own-touched, other-touched, quiet-own, quiet-other, row-after, rows-after}
@@ -415,7 +416,7 @@ stands-spawned S K e o old added new kind group program pid name s h is named fr
       looks = subst (λ x. Looks S (e ∷ K) x) (same-state (after S st e).rows (rows_of new.tasks) (after S st e).last new.last (after S st e).groups (groups_made (e ∷ K))
           now (ap (λ x. or_number (given x) old.last) is ∙ sym rest.0) (groups-more e K)) (follows-step S K e st o s.looks s.sound h.own);
       sound = sound-more K e s.sound (fits-step S K e o h.own s.sound);
-      whole = whole-now old s.whole o t there.1 pid group program added new A w Q refl noted fits stays added.pids rest.3 (A.pids s.whole.indexed.ordered) (nobody-holds S K old s pid free) refl living;
+      whole = whole-now old s.whole o t there.1 pid group program added new A w Q refl noted fits stays added.pids rest.3 (put-of _ _ _ s.whole.indexed.ordered (A.pids s.whole.indexed.ordered)) (nobody-holds S K old s pid free) refl living;
     }
   where
     row-in' : Member → Row

@@ -41,7 +41,7 @@ member_part t =
 abbrev pub table_part : Tasks → List ℕ
 table_part T = number_part T.last ++ (number_part (length T.tasks.items) ++ flat_map (λ t. member_part (member t)) T.tasks.items)
 
--- where equal bytes begin with the keys of two tables, these are the same state, and what comes behind them is equal
+-- where equal bytes begin with the keys of two tables, these are the same state, and what comes after them is equal
 abbrev pub TellStates : Type 0
 TellStates = (a b : Tasks) (r s : List ℕ) → table_part a ++ r ≡ table_part b ++ s
     → ((groups : ℕ) → view (table_of a) groups ≡ view (table_of b) groups) × (r ≡ s)

@@ -10,7 +10,8 @@ use Rattle.hist_model.specs.declared.event.What.{What}
 use Rattle.hist_model.specs.declared.script.Script.{Script}
 use Rattle.history_frames.specs.Ordinals.{groups_made}
 use Rattle.tasks.specs.Fold.{Looks}
-use Rattle.tasks.specs.Index.{IsOrdered, IsPut, under}
+use Rattle.sorted_list.specs.Entries.{NumbersRise, IsSet}
+use Rattle.tasks.specs.Index.{entry_key, under}
 use Rattle.tasks.specs.Rows.{IsAfter, new_progress}
 use Rattle.tasks.specs.Sets.{with_signal}
 use Rattle.tasks.specs.Sound.{IsSound}
@@ -110,7 +111,7 @@ pub record IsFamily (tasks : List Member) : Type 0 where
 
 -- each entry is that of a task that was given the PID, and each task that holds its PID has one
 pub record IsIndexed (tasks : List Member) (pids : List Entry) : Type 0 where
-  pub ordered : IsOrdered pids
+  pub ordered : NumbersRise entry_key pids
   pub listed : (e : Entry) → Contains pids e → (t : Member) × (slice_get tasks e.task ≡ Some t) × (t.pid ≡ e.key)
   pub whole : (o : ℕ) (t : Member) → slice_get tasks o ≡ Some t → is_reaped (row_in tasks t) ≡ false → Contains pids (under t.pid o)
 
@@ -188,10 +189,10 @@ new_member name pid parent group program dispositions = record {
   progress = new_progress group program dispositions;
 }
 
--- a task was added, with this ordinal, behind these
+-- a task was added, with this ordinal, after these
 pub record IsAdded (old : Table) (before : List Member) (o : ℕ) (t : Member) (new : Table) : Type 0 where
   pub tasks : new.tasks ≡ before ++ t ∷ []
-  pub pids : IsOrdered old.pids → IsPut old.pids (under t.pid o) new.pids
+  pub pids : NumbersRise entry_key old.pids → IsSet entry_key old.pids t.pid (Some (under t.pid o)) new.pids
   pub base : new.base ≡ old.base
   pub top : new.top ≡ old.top
   pub last : new.last ≡ t.pid

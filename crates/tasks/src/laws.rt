@@ -72,7 +72,7 @@ pub fn deliveries_come_first()
     ensures { (K : List Event) (n : Name) (in_call : Bool) (due : Option ℕ) (other : What) → step_or (delivery K n in_call due) other ≡ deliver_or due (λ s. effect_of in_call s (disposition K n s)) other }
 {}
 
-/// Keys of tables end by themselves: where equal bytes begin with two of them, the tables are the same state, and what comes behind is
+/// Keys of tables end by themselves: where equal bytes begin with two of them, the tables are the same state, and what comes after is
 /// equal.
 pub fn keys_tell_states()
     ensures { TellStates }

@@ -70,7 +70,7 @@ impl Progress {
         }
     }
 
-    /// The task with its next instruction behind it, and without a native call to make.
+    /// The task moved past its next instruction, and without a native call to make.
     pub fn advanced(self) -> Progress
         ensures next { self.next + 1 < 2 ^ 64 → result.next ≡ self.next + 1 }
         ensures rest { result ≡ record self { next = result.next; owes = false } }

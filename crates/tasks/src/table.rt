@@ -24,7 +24,7 @@ ghost use Rattle.tasks.specs.State.{is_reaped};
 ghost use Rattle.tasks.specs.Stands.{HasEntryRoom, HasNumber, HasRoom, IsEnteredAt, IsHolder, IsReap, IsSpawn, SameTasks, StandsFor, delivery, effect_of, ended_at, group_at, living as living_tasks, living_in, name_at, one_ended, one_if, one_made, step_of};
 ghost use Rattle.tasks.specs.Table.{IsAdded, IsChildAdded, IsEndedAt, IsNoted, IsWritten, Member, lives_at, marked, member, next_name, row_in, table_of, task_at, waited_for, with_entry, with_progress, with_task, without_waiting};
 
-use crate::index::{self, Entry};
+use crate::index::Entry;
 use crate::keys::push_task;
 use crate::row::{EnteredCall, Progress, Task};
 use crate::signals::BySignal;
@@ -32,6 +32,7 @@ use hist_model::event::{Delivered, Disposition, SpawnKind, What};
 use hist_model::script::{Instr, Script, Whom};
 use hist_model::text::TaskName;
 use key_bytes::push_number;
+use sorted_list::{find, set};
 use std::alloc::Global;
 use std::mem;
 use sys_abi::errno::Errno;
@@ -365,11 +366,11 @@ impl Tasks {
         ensures some { IfSome result (λ o. (S : Script) (K : List Event) → StandsFor S K self.now → IsHolder K pid o) }
         ensures none { IfNone result ((S : Script) (K : List Event) → StandsFor S K self.now → holder K pid ≡ None) }
     {
-        let o = index::find(&self.pids, pid)?;
-        if self.is_reaped(o) {
+        let entry = find(&self.pids, pid as u64)?;
+        if self.is_reaped(entry.task) {
             return None;
         }
-        Some(o)
+        Some(entry.task)
     }
 
     /// The first PID above `below`, up to `last`, that nobody holds.
@@ -445,7 +446,7 @@ impl Tasks {
         }
     }
 
-    /// The next instruction of a task, in the script whose history the tasks stand for. There is none behind the last one.
+    /// The next instruction of a task, in the script whose history the tasks stand for. There is none after the last one.
     pub fn next_instr<'a>(&self, script: &'a Script, o: u32) -> Option<&'a Instr>
         ensures { (K : List Event) → StandsFor script.now K self.now → o < tasks_made K → option_copied result ≡ next_instr (system_of script.now) K (task_name_of K o) }
     {
@@ -688,7 +689,7 @@ impl Tasks {
     {
         let pid = task.pid;
         self.tasks.push_reserved(task);
-        index::put(
+        set(
             &mut self.pids,
             Entry {
                 key: pid,

@@ -1,7 +1,7 @@
 //! What the check finds of a report: that it is a legal history's, where there is memory.
 
 use audit_check::check::check_report;
-use audit_check::found::Found;
+use audit_check::found::Checked;
 use policy_reader::read_policy;
 use script_reader::read_script;
 use std::test::Fail;
@@ -20,7 +20,7 @@ audit 0
 summary events=3 calls=0 notified=0 answered=0 granted=0 denied=0 passed=0 injected=0 faults=0 gone=0 lost=0
 ";
     match check_report(alloc, &policy, script, report.as_bytes())? {
-        Found::Yes {
+        Checked::Yes {
             history,
             finished,
             tables,
@@ -29,7 +29,7 @@ summary events=3 calls=0 notified=0 answered=0 granted=0 denied=0 passed=0 injec
             assert!(rt; !finished);
             assert!(rt; tables.sessions.is_empty());
         }
-        Found::No { line } => assert_eq!(rt; line, 0),
+        Checked::No { line } => assert_eq!(rt; line, 0),
     }
     Ok(())
 }

@@ -5,7 +5,7 @@ use Rattle.broker_core.specs.declared.worker.Worker.{Worker}
 use Rattle.hist_model.specs.declared.event.Event.{Event}
 use Rattle.hist_model.specs.declared.policy.Policy.{Policy}
 use Rattle.hist_model.specs.declared.script.Script.{Script}
-use Rattle.judge_pass.specs.declared.watch.Found.{Found}
+use Rattle.judge_pass.specs.declared.watch.FirstFault.{FirstFault}
 use Rattle.model_kernel.specs.Kernels.{past}
 use Rattle.step_requests.specs.Turns.{AreApart}
 use Rattle.step_requests.specs.declared.request.Turn.{Turn}
@@ -51,7 +51,7 @@ module _ (P : Policy) (old mid new : Court) where
 before-clean : (P : Policy) (old new : Court) (K : List Event) → IsPlayed P old K new → new.watch.found ≡ None → old.watch.found ≡ None
 before-clean P old new K played none = by old.watch.found refl
   where
-    by : (o : Option Found) → old.watch.found ≡ o → old.watch.found ≡ None
+    by : (o : Option FirstFault) → old.watch.found ≡ o → old.watch.found ≡ None
     by None q = q
     by (Some f) q = both-found new.watch.found none (played.stays (rw q refl)).1
 

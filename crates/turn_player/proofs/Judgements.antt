@@ -16,7 +16,7 @@ use Rattle.judge_pass.proofs.Found.{closes_faultless, finding_none, stays_found}
 use Rattle.judge_pass.specs.Counted.{AreCounted}
 use Rattle.judge_pass.specs.Finding.{as_finding, finding, Watches}
 use Rattle.judge_pass.specs.declared.judge.Counts.{Counts}
-use Rattle.judge_pass.specs.declared.watch.Found.{Found}
+use Rattle.judge_pass.specs.declared.watch.FirstFault.{FirstFault}
 use Rattle.judge_pass.specs.declared.watch.Watch.{Watch}
 use Rattle.model_kernel.specs.Kernels.{IsBegun, past}
 use Rattle.model_kernel.specs.declared.kernel.Kernel.{Kernel}
@@ -36,7 +36,7 @@ pub counted_whole : (K events : List Event) (counts kept : Counts) → events �
 counted_whole K events counts kept whole same h = rw (whole, same) (counted-closed K kept h)
 
 -- where something was found, the history ends there
-pub stops_there : (K events : List Event) (found : Option Found) → StopsAt K found → (IsSome found → events ≡ K) → StopsAt events found
+pub stops_there : (K events : List Event) (found : Option FirstFault) → StopsAt K found → (IsSome found → events ≡ K) → StopsAt events found
 stops_there K events None h stopped = tt
 stops_there K events (Some f) h stopped = ap length (stopped refl) ∙ h
 
@@ -55,7 +55,7 @@ module _ (P : Policy) (S : Script) (K H : List Event) (w : Watch) where
   pub found_whole : Watches P S H w → (w.found ≡ None → H ≡ K) → GoesOnFrom K H → option_map as_finding w.found ≡ finding P S (ev Listener Close ∷ K)
   found_whole watches whole from = by w.found refl ∙ sym (closes_faultless P S K)
     where
-      by : (o : Option Found) → w.found ≡ o → option_map as_finding w.found ≡ finding P S K
+      by : (o : Option FirstFault) → w.found ≡ o → option_map as_finding w.found ≡ finding P S K
       by None q = watches.found_is ∙ ap (finding P S) (whole q)
       by (Some f) q =
           let here : option_map as_finding w.found ≡ Some (as_finding f) = ap (option_map as_finding) q in
@@ -91,7 +91,7 @@ module _ (P : Policy) (S : Script) (turns : List Turn) (c : Court) (all : Played
   pub begins_turned : (events : List Event) → (c.watch.found ≡ None → events ≡ ev Listener Close ∷ past c.kernel) → (IsSome c.watch.found → events ≡ past c.kernel) → GoesOnFrom (turned P S turns) events
   begins_turned events whole stopped = by c.watch.found refl
     where
-      by : (o : Option Found) → c.watch.found ≡ o → GoesOnFrom (turned P S turns) events
+      by : (o : Option FirstFault) → c.watch.found ≡ o → GoesOnFrom (turned P S turns) events
       by None q = ([], sym (whole_turned events (whole q) q))
       by (Some f) q =
           let from : after_turns P S (started S) turns ≡ all.begins.0 ++ events = all.begins.1 ∙ ap (λ (K : List Event). all.begins.0 ++ K) (sym (stopped (rw q refl))) in

@@ -19,7 +19,7 @@ use Rattle.judge_pass.specs.Closed.{is_closed}
 use Rattle.judge_pass.proofs.Found.{found_newest}
 use Rattle.judge_pass.specs.Finding.{as_finding, finding, Watches}
 use Rattle.judge_pass.specs.Stands.{IsHistory}
-use Rattle.judge_pass.specs.declared.watch.Found.{Found}
+use Rattle.judge_pass.specs.declared.watch.FirstFault.{FirstFault}
 use Rattle.judge_pass.specs.declared.watch.Watch.{Watch}
 use Rattle.model_kernel.specs.Kernels.{IsKernel, past}
 use Rattle.model_kernel.specs.declared.kernel.Kernel.{Kernel}
@@ -93,11 +93,11 @@ turn_goes_on P S K (turn.Asks w asked) = grown K (requested S w asked K) (reques
 
 -- ---- what was found
 
-pub none_found : (o : Option Found) → is_some o ≡ false → o ≡ None
+pub none_found : (o : Option FirstFault) → is_some o ≡ false → o ≡ None
 none_found None h = refl
 none_found (Some f) h = cc
 
-pub both-found : {A : Type 0} (o : Option Found) → o ≡ None → IsSome o → A
+pub both-found : {A : Type 0} (o : Option FirstFault) → o ≡ None → IsSome o → A
 both-found None q some = cc
 both-found (Some f) q some = cc
 
@@ -115,7 +115,7 @@ clean_before P S K w clean watches = sym watches.found_is ∙ ap (option_map as_
 pub stops_newest : (P : Policy) (S : Script) (K : List Event) (e : Event) (new : Watch) → finding P S K ≡ None → Watches P S (e ∷ K) new → StopsAt (e ∷ K) new.found
 stops_newest P S K e new clean watches = by new.found refl
   where
-    by : (o : Option Found) → new.found ≡ o → StopsAt (e ∷ K) o
+    by : (o : Option FirstFault) → new.found ≡ o → StopsAt (e ∷ K) o
     by None q = tt
     by (Some f) q = ap suc (sym (found_newest P S K e (as_finding f) clean (sym watches.found_is ∙ ap (option_map as_finding) q)))
 
@@ -209,7 +209,7 @@ module _ (P : Policy) (old mid new : Court) where
           let two = after.stays one.1 in
           (two.0 ∙ one.0, two.1)
 
-      by : (o : Option Found) → mid.watch.found ≡ o → IsPlayed P old (step K) new
+      by : (o : Option FirstFault) → mid.watch.found ≡ o → IsPlayed P old (step K) new
       by None q =
           let there : past mid.kernel ≡ K = before.whole q in
           record {

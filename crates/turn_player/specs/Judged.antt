@@ -5,7 +5,7 @@ use Rattle.hist_model.specs.declared.event.Event.{Event}
 use Rattle.hist_model.specs.declared.policy.Policy.{Policy}
 use Rattle.judge_pass.specs.Closed.{is_closed}
 use Rattle.judge_pass.specs.Finding.{Watches}
-use Rattle.judge_pass.specs.declared.watch.Found.{Found}
+use Rattle.judge_pass.specs.declared.watch.FirstFault.{FirstFault}
 use Rattle.model_kernel.specs.Kernels.{IsKernel, past}
 use Rattle.hist_model.specs.declared.script.Script.{Script}
 use Rattle.step_requests.specs.declared.request.Asked.{Asked}
@@ -16,7 +16,7 @@ use Rattle.turn_player.specs.Serving.{Knows, ServerKnows, ServersKnow}
 use Rattle.turn_player.specs.declared.judged.Court.{Court}
 
 -- the event that was found is the newest
-abbrev pub StopsAt : List Event → Option Found → Type 0
+abbrev pub StopsAt : List Event → Option FirstFault → Type 0
 StopsAt K (Some found) = length K ≡ suc found.place
 StopsAt K None = Unit {0}
 

@@ -25,7 +25,7 @@ use hist_model::policy::Policy;
 use hist_model::script::Script;
 use hist_model::text::TaskName;
 use judge_pass::judge::Counts;
-use judge_pass::watch::{Found, Watch};
+use judge_pass::watch::{FirstFault, Watch};
 use judge_pass::why::push_fault;
 use model_kernel::Kernel;
 use std::alloc::Global;
@@ -41,7 +41,7 @@ pub struct Judgement {
     /// How many calls were received, and how much was done and answered, where no clause is broken.
     pub counts: Counts,
     /// The event that breaks a clause first.
-    pub found: Option<Found>,
+    pub found: Option<FirstFault>,
     /// The lines that show why; none where no clause is broken.
     pub reasons: Vec<u8>,
 }

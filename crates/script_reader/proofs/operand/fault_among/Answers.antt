@@ -1,4 +1,4 @@
--- The operand at a place comes before the faults of those behind it.
+-- The operand at a place comes before the faults of those after it.
 use Rattle.std.proofs.Common.{◌≡◌, ◌+◌, ◌-◌, ◌<◌, length, drop, ap, sym, ◌∙◌, arith}
 use Rattle.script_reader.specs.Operands.{earlier, fault_at, fault_from, operand_at}
 use Rattle.script_reader.proofs.OperandFaults.{faults_here}

@@ -1,4 +1,4 @@
--- What is read so far keeps the rules, and what the lines that are left come to behind it.
+-- What is read so far keeps the rules, and what the lines that are left come to after it.
 use Rattle.std.proofs.Common.{◌≡◌, length}
 use Rattle.lex_core.specs.Lines.{lines_after}
 use Rattle.script_reader.specs.Above.{nothing_above}

@@ -10,6 +10,6 @@ use Rattle.script_reader.proofs.reading.word_statement.Goals as goal
 
 pub returns-clause-sound : goal.returns-clause-sound
 returns-clause-sound c =
-    let place : is_in_place c.args.part c.args.base_is_stated c.args.word ≡ true = grind arith in
+    let place : is_in_place c.args.section c.args.base_is_stated c.args.word ≡ true = grind arith in
     let fine : operands_fault c.args.word c.args.operands.now ≡ None = grind arith in
-    subst (λ s. IsSound c.args.part c.args.base_is_stated s) (sym (c.in_ok-statement_of.ensures ∙ ap (statement c.args.word) c.new-operands.ensures)) (sound_statement c.args.part c.args.base_is_stated c.args.word c.args.operands.now place fine)
+    subst (λ s. IsSound c.args.section c.args.base_is_stated s) (sym (c.in_ok-statement_of.ensures ∙ ap (statement c.args.word) c.new-operands.ensures)) (sound_statement c.args.section c.args.base_is_stated c.args.word c.args.operands.now place fine)

@@ -1,5 +1,5 @@
 use Rattle.std.proofs.Common.{arith}
-use Rattle.task_groups.proofs.Rising.{full-up-to, thin-from, first-free}
+use Rattle.task_groups.proofs.FirstFree.{full-up-to, thin-from, first-free}
 use Rattle.task_groups.proofs.descriptors.first_free.Goals as goal
 
 pub loop-low-preserved-then-entries-middle : goal.loop-low-preserved-then-entries-middle
@@ -23,4 +23,4 @@ loop-low-preserved c =
     }
 
 pub returns : goal.returns
-returns c r = let i = c.loop-low.invariant in first-free _ _ (omega arith) (i.full r) (λ j d l m. i.thin r j d (omega arith) m)
+returns c r = let i = c.loop-low.invariant in first-free _ _ r (omega arith) (i.full r) (λ j d l m. i.thin r j d (omega arith) m)

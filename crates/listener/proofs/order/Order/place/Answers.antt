@@ -1,16 +1,24 @@
-use Rattle.std.proofs.Common.{rules, arith}
-use Rattle.std.proofs.lemmas.Grind.{common_steps}
-use Rattle.listener.proofs.Halves.{place-at, absent-at}
+use Rattle.std.proofs.Common.{◌≡◌, length, arith, rules}
+use Rattle.std.specs.VecDeque.{deque_len}
+use Rattle.std.proofs.lemmas.List.Sorted.{answers_always}
+use Rattle.listener.specs.Entries.{entry_number}
+use Rattle.listener.proofs.Places.{place-found, place-absent, place-first}
 use Rattle.listener.proofs.order.Order.place.Goals as goal
 
-pub returns-in-Some-clause-found : goal.returns-in-Some-clause-found
-returns-in-Some-clause-found c =
-    place-at c.args.self.now.entries.items c.args.number c.start-place.result c.args.self.now.rising (search rules) (λ d. search rules)
+pub returns-clause-found : goal.returns-clause-found
+returns-clause-found c =
+    let facts = c.binary_search_by_key.ensures in
+    let len : deque_len c.args.self.now.entries ≡ length c.args.self.now.entries.items = omega arith in
+    place-found _ _ c.args.self.now.rising _ (rw len at facts.bound) (facts.position entry_number (answers_always _ _ _ (λ f a r k called. search rules)))
 
-pub returns-in_default-clause-none : goal.returns-in_default-clause-none
-returns-in_default-clause-none c =
-    absent-at c.args.self.now.entries.items c.args.number c.start-place.result c.args.self.now.rising c.start-place.ensures.parted (λ l q. c.if-entry-number.false (grind (arith, common_steps)))
+pub returns-clause-absent : goal.returns-clause-absent
+returns-clause-absent c =
+    let facts = c.binary_search_by_key.ensures in
+    let len : deque_len c.args.self.now.entries ≡ length c.args.self.now.entries.items = omega arith in
+    place-absent _ _ c.args.self.now.rising _ (rw len at facts.bound) (facts.position entry_number (answers_always _ _ _ (λ f a r k called. search rules)))
 
-pub returns-in_default-2-clause-none : goal.returns-in_default-2-clause-none
-returns-in_default-2-clause-none c =
-    absent-at c.args.self.now.entries.items c.args.number c.start-place.result c.args.self.now.rising c.start-place.ensures.parted (λ l q. search rules)
+pub returns-clause-first : goal.returns-clause-first
+returns-clause-first c =
+    let facts = c.binary_search_by_key.ensures in
+    let len : deque_len c.args.self.now.entries ≡ length c.args.self.now.entries.items = omega arith in
+    place-first _ _ c.args.self.now.rising _ (rw len at facts.bound) (facts.position entry_number (answers_always _ _ _ (λ f a r k called. search rules)))

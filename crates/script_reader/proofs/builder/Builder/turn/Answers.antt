@@ -6,7 +6,7 @@ use Rattle.script_reader.specs.Faults.{Admits}
 use Rattle.script_reader.specs.Plain.{AreSound, stated}
 use Rattle.script_reader.specs.Views.{above_in}
 use Rattle.script_reader.specs.declared.statement.Statement.TheVariants.{Steps}
-use Rattle.script_reader.specs.declared.word.Part.TheVariants.{Schedule}
+use Rattle.script_reader.specs.declared.word.Section.TheVariants.{Schedule}
 use Rattle.script_reader.proofs.builder.Builder.turn.Goals as goal
 
 pub counts-requires : goal.counts-requires

@@ -8,4 +8,4 @@ returns-clause-put c r at =
     let g = c.index_mut.result.now in
     let s = read-row c.args.self.now.rows.items c.args.o g r c.index_mut.ensures.value at in
     let same : g.descriptors.items ≡ r.descriptors = ap (λ (x : Row). x.descriptors) s in
-    (c.set.new.entries.items, rw same at c.set.ensures, row-put c.args.self.now _ c.args.o g _ r _ refl c.index_mut.ensures.value at (ap (λ (x : Row). record x { descriptors = c.set.new.entries.items })) refl refl)
+    (c.set.new.entries.items, rw same at c.set.ensures.set, row-put c.args.self.now _ c.args.o g _ r _ refl c.index_mut.ensures.value at (ap (λ (x : Row). record x { descriptors = c.set.new.entries.items })) refl refl)

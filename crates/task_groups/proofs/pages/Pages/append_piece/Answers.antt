@@ -13,7 +13,7 @@ returns-clause-items c rise =
     let at = 4096 * c.args.number + c.args.offset in
     let part = c.part-written.result.now in
     let zeros = replicate {A = ℕ} (c.args.count - length part) 0 in
-    let page = c.bytes.ensures.bytes ∙ ap (λ (o : Option ℕ). bytes_at_some P o) (c.find.ensures rise) in
+    let page = c.bytes.ensures.bytes ∙ ap (λ (o : Option ℕ). bytes_at_some P o) (c.slot_of.ensures rise) in
     let len : length (part ++ zeros) ≡ c.args.count = omega (arith, length-append part zeros, length-replicate {A = ℕ} (c.args.count - length part) 0, c.part-written.ensures.most) in
     let bytes = from-list (byte_in P xs) (part ++ zeros) at
     (λ i l. let m : i < c.args.count = omega (arith, len) in

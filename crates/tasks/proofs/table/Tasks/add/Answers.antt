@@ -5,7 +5,7 @@ use Rattle.tasks.proofs.table.Tasks.add.Goals as goal
 pub returns : goal.returns
 returns c = record {
   tasks = pushed-task c.args.self.now.tasks.items c.push_reserved.new.self.items c.args.task c.push_reserved.ensures.items;
-  pids = c.put.ensures;
+  pids = c.set.ensures.set;
   base = refl;
   top = refl;
   last = refl;

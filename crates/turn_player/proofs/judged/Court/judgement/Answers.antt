@@ -4,7 +4,7 @@ use Rattle.std.specs.Prelude.{is_some, IsSome, ◌∷◌}
 use Rattle.hist_model.specs.Look.{ev}
 use Rattle.hist_model.specs.declared.event.Actor.TheVariants.{Listener}
 use Rattle.hist_model.specs.declared.event.What.TheVariants.{Close}
-use Rattle.judge_pass.specs.declared.watch.Found.{Found}
+use Rattle.judge_pass.specs.declared.watch.FirstFault.{FirstFault}
 use Rattle.model_kernel.specs.Kernels.{past}
 use Rattle.turn_player.proofs.Judgements.{counted_whole, stops_there}
 use Rattle.turn_player.proofs.judged.Court.judgement.Goals as goal
@@ -12,9 +12,9 @@ use Rattle.turn_player.proofs.judged.Court.judgement.Goals as goal
 pub returns : goal.returns
 returns c =
     let court = c.args.self in
-    let is-over = c.is_some.ensures ∙ ap (is_some {T = Found}) (c.found.ensures ∙ sym c.found-2.ensures) in
+    let is-over = c.is_some.ensures ∙ ap (is_some {T = FirstFault}) (c.found.ensures ∙ sym c.found-2.ensures) in
     let closed : c.found-2.result ≡ None → c.ended.result.events ≡ ev Listener Close ∷ past court.kernel =
-    λ none. c.ended.ensures.whole (is-over ∙ ap (is_some {T = Found}) none) ∙ ap (λ K. ev Listener Close ∷ K) c.in_ok-ready_event.ensures.past
+    λ none. c.ended.ensures.whole (is-over ∙ ap (is_some {T = FirstFault}) none) ∙ ap (λ K. ev Listener Close ∷ K) c.in_ok-ready_event.ensures.past
     in
     let stopped : IsSome c.found-2.result → c.ended.result.events ≡ past court.kernel =
     λ some. c.ended.ensures.stopped (is-over ∙ some) ∙ c.in_ok-ready_event.ensures.past
