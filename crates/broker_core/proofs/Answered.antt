@@ -1,6 +1,6 @@
 -- What a worker remembers after an answer: its session with one more step, a session that has begun, or none.
 -- By the cases of the deed and of its answer, with `known_after` for the steps inside a session.
-use Rattle.std.proofs.Common.{◌≡◌, true, false, List, [], ◌∷◌, refl, ap, sym, subst, ◌∙◌, Option, Some, None, inl, inr}
+use Rattle.std.proofs.Common.{◌≡◌, ℕ, true, false, List, [], ◌∷◌, refl, ap, sym, subst, ◌∙◌, Option, Some, None, inl, inr}
 use Rattle.std.specs.Prelude.{Ok}
 use Rattle.hist_model.specs.Copies.{plan}
 use Rattle.hist_model.specs.Deeds.{Deed}
@@ -90,33 +90,39 @@ abbrev pub request_or : Deed → Request
 request_or (Deed.Act request cap) = request
 request_or d = Sysinfo 0
 
-pub named_back : (d : Deed) → d ≡ deed_of (request_or d) (shown d)
+-- the bytes of a deed, if it has any
+abbrev pub bytes_or : Deed → List ℕ
+bytes_or (Deed.Plant addr bytes cap) = bytes
+bytes_or d = []
+
+pub named_back : (d : Deed) → d ≡ deed_of (request_or d) (bytes_or d) (shown d)
 named_back (Deed.Act request cap) = refl
+named_back (Deed.Plant addr bytes cap) = refl
 named_back d = refl
 
 -- what a session can take is a step of it, unless there is no answer yet
-answered : (q : Request) (d : Named) (a : Answer) (c : Captured) (stage : Stage) → CanTake d a c stage → Fits d a → is_not_yet a ≡ false
-    → (skips (step_of (deed_of q d) a) ≡ false) × (starts (step_of (deed_of q d) a) ≡ false)
-answered q named.Recv a c stage t f n = absurd t
-answered q named.LetGo a c stage t f n = absurd t
-answered q named.AddfdTake (Number x) c stage t f n = (refl, refl)
-answered q named.AddfdTake (Failed e) c stage t f n = (refl, refl)
-answered q named.AddfdTake NotYet c stage t f n = cc
-answered q named.AddfdTake Done c stage t f n = absurd f
-answered q named.AddfdTake (Received x) c stage t f n = absurd f
-answered q named.AddfdTake (Bytes bytes) c stage t f n = absurd f
-answered q (named.Read addr len) (Bytes bytes) c stage t f n = (refl, refl)
-answered q (named.Read addr len) (Failed e) c stage t f n = (refl, refl)
-answered q (named.Read addr len) NotYet c stage t f n = absurd f
-answered q (named.Read addr len) Done c stage t f n = absurd f
-answered q (named.Read addr len) (Received x) c stage t f n = absurd f
-answered q (named.Read addr len) (Number x) c stage t f n = absurd f
-answered q d Done c stage t f n = (refl, refl)
-answered q d (Failed e) c stage t f n = (refl, refl)
-answered q d (Received x) c stage t f n = absurd f
-answered q d (Bytes x) c stage t f n = absurd f
-answered q d (Number x) c stage t f n = absurd f
-answered q d NotYet c stage t f n = absurd f
+answered : (q : Request) (b : List ℕ) (d : Named) (a : Answer) (c : Captured) (stage : Stage) → CanTake d a c stage → Fits d a → is_not_yet a ≡ false
+    → (skips (step_of (deed_of q b d) a) ≡ false) × (starts (step_of (deed_of q b d) a) ≡ false)
+answered q b named.Recv a c stage t f n = absurd t
+answered q b named.LetGo a c stage t f n = absurd t
+answered q b named.AddfdTake (Number x) c stage t f n = (refl, refl)
+answered q b named.AddfdTake (Failed e) c stage t f n = (refl, refl)
+answered q b named.AddfdTake NotYet c stage t f n = cc
+answered q b named.AddfdTake Done c stage t f n = absurd f
+answered q b named.AddfdTake (Received x) c stage t f n = absurd f
+answered q b named.AddfdTake (Bytes bytes) c stage t f n = absurd f
+answered q b (named.Read addr len) (Bytes bytes) c stage t f n = (refl, refl)
+answered q b (named.Read addr len) (Failed e) c stage t f n = (refl, refl)
+answered q b (named.Read addr len) NotYet c stage t f n = absurd f
+answered q b (named.Read addr len) Done c stage t f n = absurd f
+answered q b (named.Read addr len) (Received x) c stage t f n = absurd f
+answered q b (named.Read addr len) (Number x) c stage t f n = absurd f
+answered q b d Done c stage t f n = (refl, refl)
+answered q b d (Failed e) c stage t f n = (refl, refl)
+answered q b d (Received x) c stage t f n = absurd f
+answered q b d (Bytes x) c stage t f n = absurd f
+answered q b d (Number x) c stage t f n = absurd f
+answered q b d NotYet c stage t f n = absurd f
 
 none-some : {A : Type 0} {x : A} → None ≡ Some x → ⊥
 none-some h = cc
@@ -128,11 +134,11 @@ goes-on rules [] what c d old new k s h g = absurd (none-some h.notif)
 goes-on rules (a ∷ own) what c d old new k s h g = rw (k, s) g
 
 pub one_more : (rules : List Rule) (own : List What) (c c' : Captured) (old new : Session) (d : Deed) (n : Named) (a : Answer) → n ≡ shown d → CanTake n a c old.stage → Fits n a
-    → is_not_yet a ≡ false → ((q : Request) → Knows rules (step_of (deed_of q n) a ∷ own) c' new) → Knows rules own c old → Knows rules (with_step (step_of d a) own) c' new
+    → is_not_yet a ≡ false → ((q : Request) (b : List ℕ) → Knows rules (step_of (deed_of q b n) a ∷ own) c' new) → Knows rules own c old → Knows rules (with_step (step_of d a) own) c' new
 one_more rules own c c' old new d n a e t f y g k =
-    let q : d ≡ deed_of (request_or d) n = named_back d ∙ ap (deed_of (request_or d)) (sym e) in
-    let p = answered (request_or d) n a c old.stage t f y in
-    let r : Knows rules (with_step (step_of (deed_of (request_or d) n) a) own) c' new = goes-on rules own (step_of (deed_of (request_or d) n) a) c c' old new p.0 p.1 k (g (request_or d)) in
+    let q : d ≡ deed_of (request_or d) (bytes_or d) n = named_back d ∙ ap (deed_of (request_or d) (bytes_or d)) (sym e) in
+    let p = answered (request_or d) (bytes_or d) n a c old.stage t f y in
+    let r : Knows rules (with_step (step_of (deed_of (request_or d) (bytes_or d) n) a) own) c' new = goes-on rules own (step_of (deed_of (request_or d) (bytes_or d) n) a) c c' old new p.0 p.1 k (g (request_or d) (bytes_or d)) in
     rw (ap (λ x. step_of x a) q) r
 
 -- what fits a deed fits it under another name

@@ -41,6 +41,7 @@ module _ (G : Granting) (F : Figures) (c : Captured) (s : Session) where
   Tells (Deed.Check id) = IsCheckable s.stage ⊎ ((s.stage ≡ Reading) × (wanted (continued c []) ≡ None))
   Tells (Deed.Read addr len) = (s.stage ≡ Reading) × (wanted (continued c []) ≡ Some (addr, len))
   Tells (Deed.Act effect cap) = Acts G s effect
+  Tells (Deed.Plant addr bytes cap) = container_sysinfo F ≡ bytes
   Tells _ = ⊤
 
   tell-if : (b : Bool) (x y : Deed) → Tells x → Tells y → Tells (if b then x else y)
@@ -59,7 +60,7 @@ module _ (G : Granting) (F : Figures) (c : Captured) (s : Session) where
 
   module _ (j : Judgement) (e : s.stage ≡ Confirmed (Ok j)) where
     tell-grant : (cap : Option Cap) (q : Request) → j.verdict ≡ Grant → Tells (grant_deed F s cap (G j) q)
-    tell-grant cap (Sysinfo addr) v = tell-act s.outcome (Deed.Plant addr (container_sysinfo F) cap) (λ o. tt)
+    tell-grant cap (Sysinfo addr) v = tell-act s.outcome (Deed.Plant addr (container_sysinfo F) cap) (λ o. refl)
     tell-grant cap q v = tell-act s.outcome (Deed.Act (G j) cap) (λ o. record { judgement = j; stage = e; verdict = v; outcome = o; effect = refl })
 
     tell-verdict : (v : Verdict) → j.verdict ≡ v → Tells (verdict_deed G F s j v)

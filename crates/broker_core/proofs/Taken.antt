@@ -55,8 +55,8 @@ IsPlainDeed (Read addr len) = ⊥
 IsPlainDeed LetGo = ⊥
 IsPlainDeed _ = Unit {0}
 
-plain-step : (q : Request) (d : Deed) (a : Answer) → IsPlainDeed d → is_plain (step_of (deed_of q d) a) ≡ true
-plain-step q d a h = grind arith
+plain-step : (q : Request) (b : List ℕ) (d : Deed) (a : Answer) → IsPlainDeed d → is_plain (step_of (deed_of q b d) a) ≡ true
+plain-step q b d a h = grind arith
 
 -- ---- The fields that a step changes
 
@@ -67,8 +67,8 @@ TellsNothing (Read addr len) = Unit {0}
 TellsNothing LetGo = Unit {0}
 TellsNothing _ = ⊥
 
-pub tells_nothing : (q : Request) (d : Deed) (a : Answer) (s : Session) → TellsNothing d → Noted (step_of (deed_of q d) a) s s
-tells_nothing q d a s h = grind arith
+pub tells_nothing : (q : Request) (b : List ℕ) (d : Deed) (a : Answer) (s : Session) → TellsNothing d → Noted (step_of (deed_of q b d) a) s s
+tells_nothing q b d a s h = grind arith
 
 -- what a step makes of the stage
 record Staged (rules : List Rule) (own : List What) (what : What) (c : Captured) (s : Session) (stage : Stage) : Type 0 where
@@ -203,26 +203,26 @@ module _ (rules : List Rule) (own : List What) (c d : Captured) (s m t : Session
   skipped : Plain step.Skip
   skipped = record { starts = refl; letgo = refl; checks = refl; good = refl; read = refl }
 
-  pub known_after : (q : Request) (deed : Deed) (a : Answer) → CanTake deed a c s.stage → Advances deed a c d s m → Noted (step_of (deed_of q deed) a) m t
-      → Knows rules (step_of (deed_of q deed) a ∷ own) d t
-  known_after q Recv a h v n = absurd h
-  known_after q LetGo a h v n = absurd h
-  known_after q (Read addr len) (Bytes bytes) h v n = after-read addr len (Ok bytes) h.1 v.0 (v.1 _ _) n
-  known_after q (Read addr len) (Failed e) h v n = after-read addr len (Err e) h.1 v.0 (v.1 _ _) n
-  known_after q (Read addr len) (Received x) h v n = absurd h.0
-  known_after q (Read addr len) Done h v n = absurd h.0
-  known_after q (Read addr len) (Number x) h v n = absurd h.0
-  known_after q (Read addr len) NotYet h v n = absurd h.0
-  known_after q (Check id) Done h v n = after-check (confirmed s.stage) (step.Check id (Ok tt)) refl refl (staged-good rules own c s k id h) v.0 v.1 n
-  known_after q (Check id) (Failed e) h v n = after-check s.stage (step.Check id (Err e)) refl refl (staged-bad rules own c s k id e) v.0 v.1 n
-  known_after q (Check id) (Received x) h v n = after-plain step.Skip skipped v.0 v.1 n
-  known_after q (Check id) (Bytes x) h v n = after-plain step.Skip skipped v.0 v.1 n
-  known_after q (Check id) (Number x) h v n = after-plain step.Skip skipped v.0 v.1 n
-  known_after q (Check id) NotYet h v n = after-plain step.Skip skipped v.0 v.1 n
-  known_after q (OpenMem pid) a h v n = after-plain (step_of (deed_of q (OpenMem pid)) a) (plain-parts _ (plain-step q (OpenMem pid) a tt)) v.0 v.1 n
-  known_after q (OpenBase pid dirfd) a h v n = after-plain (step_of (deed_of q (OpenBase pid dirfd)) a) (plain-parts _ (plain-step q (OpenBase pid dirfd) a tt)) v.0 v.1 n
-  known_after q (Act cap) a h v n = after-plain (step_of (deed_of q (Act cap)) a) (plain-parts _ (plain-step q (Act cap) a tt)) v.0 v.1 n
-  known_after q (Plant addr bytes cap) a h v n = after-plain (step_of (deed_of q (Plant addr bytes cap)) a) (plain-parts _ (plain-step q (Plant addr bytes cap) a tt)) v.0 v.1 n
-  known_after q (AddfdPut asked) a h v n = after-plain (step_of (deed_of q (AddfdPut asked)) a) (plain-parts _ (plain-step q (AddfdPut asked) a tt)) v.0 v.1 n
-  known_after q AddfdTake a h v n = after-plain (step_of (deed_of q AddfdTake) a) (plain-parts _ (plain-step q AddfdTake a tt)) v.0 v.1 n
-  known_after q (Send id back) a h v n = after-plain (step_of (deed_of q (Send id back)) a) (plain-parts _ (plain-step q (Send id back) a tt)) v.0 v.1 n
+  pub known_after : (q : Request) (b : List ℕ) (deed : Deed) (a : Answer) → CanTake deed a c s.stage → Advances deed a c d s m → Noted (step_of (deed_of q b deed) a) m t
+      → Knows rules (step_of (deed_of q b deed) a ∷ own) d t
+  known_after q b Recv a h v n = absurd h
+  known_after q b LetGo a h v n = absurd h
+  known_after q b (Read addr len) (Bytes bytes) h v n = after-read addr len (Ok bytes) h.1 v.0 (v.1 _ _) n
+  known_after q b (Read addr len) (Failed e) h v n = after-read addr len (Err e) h.1 v.0 (v.1 _ _) n
+  known_after q b (Read addr len) (Received x) h v n = absurd h.0
+  known_after q b (Read addr len) Done h v n = absurd h.0
+  known_after q b (Read addr len) (Number x) h v n = absurd h.0
+  known_after q b (Read addr len) NotYet h v n = absurd h.0
+  known_after q b (Check id) Done h v n = after-check (confirmed s.stage) (step.Check id (Ok tt)) refl refl (staged-good rules own c s k id h) v.0 v.1 n
+  known_after q b (Check id) (Failed e) h v n = after-check s.stage (step.Check id (Err e)) refl refl (staged-bad rules own c s k id e) v.0 v.1 n
+  known_after q b (Check id) (Received x) h v n = after-plain step.Skip skipped v.0 v.1 n
+  known_after q b (Check id) (Bytes x) h v n = after-plain step.Skip skipped v.0 v.1 n
+  known_after q b (Check id) (Number x) h v n = after-plain step.Skip skipped v.0 v.1 n
+  known_after q b (Check id) NotYet h v n = after-plain step.Skip skipped v.0 v.1 n
+  known_after q b (OpenMem pid) a h v n = after-plain (step_of (deed_of q b (OpenMem pid)) a) (plain-parts _ (plain-step q b (OpenMem pid) a tt)) v.0 v.1 n
+  known_after q b (OpenBase pid dirfd) a h v n = after-plain (step_of (deed_of q b (OpenBase pid dirfd)) a) (plain-parts _ (plain-step q b (OpenBase pid dirfd) a tt)) v.0 v.1 n
+  known_after q b (Act cap) a h v n = after-plain (step_of (deed_of q b (Act cap)) a) (plain-parts _ (plain-step q b (Act cap) a tt)) v.0 v.1 n
+  known_after q b (Plant addr cap) a h v n = after-plain (step_of (deed_of q b (Plant addr cap)) a) (plain-parts _ (plain-step q b (Plant addr cap) a tt)) v.0 v.1 n
+  known_after q b (AddfdPut asked) a h v n = after-plain (step_of (deed_of q b (AddfdPut asked)) a) (plain-parts _ (plain-step q b (AddfdPut asked) a tt)) v.0 v.1 n
+  known_after q b AddfdTake a h v n = after-plain (step_of (deed_of q b AddfdTake) a) (plain-parts _ (plain-step q b AddfdTake a tt)) v.0 v.1 n
+  known_after q b (Send id back) a h v n = after-plain (step_of (deed_of q b (Send id back)) a) (plain-parts _ (plain-step q b (Send id back) a tt)) v.0 v.1 n

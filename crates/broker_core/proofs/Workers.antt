@@ -10,6 +10,7 @@ use Rattle.hist_model.specs.Kinds.{checks}
 use Rattle.hist_model.specs.Legal.{rules_of, copied, copy_fault, cloexec_of, decision, grant_decision, judged}
 use Rattle.hist_model.specs.Requests.{base_dirfd, request}
 use Rattle.hist_model.specs.Sessions.{Rules, after_act, deed_for, notif_of, deed, any_of, number_of, reads_of, copied_deed, decided_deed, judged_deed, based_deed as based, checked_deed as checked}
+use Rattle.hist_model.specs.Sysinfo.{container_sysinfo}
 use Rattle.hist_model.specs.declared.event.What.{What}
 use Rattle.hist_model.specs.declared.policy.Cap.{Cap}
 use Rattle.hist_model.specs.declared.policy.Policy.{Policy}
@@ -212,6 +213,16 @@ due_deed P own w d h k = h ∙ alike own_request (granting P.rules) w.figures w.
 -- where no session is open a receive is due
 pub receives_next : (P : Policy) (F : Figures) (own : List What) (c : Captured) (o : Option Session) → o ≡ None → KnowsIf P.rules own c o → deed (rules_of P F) own ≡ Deed.Recv
 receives_next P F own c o e h = let i : KnowsIf P.rules own c None = rw e at h in idle-deed (rules_of P F) own i
+
+-- ---- The bytes of a plant
+
+-- they are the answer of sysinfo
+pub planted_known : (P : Policy) (F : Figures) (own : List What) (c : Captured) (o : Option Session) (addr : ℕ) (bytes : List ℕ) (cap : Option Cap) → KnowsIf P.rules own c o
+    → deed (rules_of P F) own ≡ Deed.Plant addr bytes cap → container_sysinfo F ≡ bytes
+planted_known P F own c None addr bytes cap h d = let e : Deed.Recv ≡ Deed.Plant addr bytes cap = sym (idle-deed (rules_of P F) own h) ∙ d in cc
+planted_known P F own c (Some s) addr bytes cap k d =
+    let t : Tells (granting P.rules) F c s (session_deed (granting P.rules) F c s) = told_session (granting P.rules) F c s in
+    subst (λ x. Tells (granting P.rules) F c s x) (sym (known_deed P F own c s k) ∙ d) t
 
 -- ---- The request of an act
 

@@ -16,7 +16,7 @@ use Rattle.broker_core.specs.declared.deed.Got.TheVariants as got
 
 -- ---- Deeds
 
--- a deed of the definitions, as the worker names it: the request of an act is told apart
+-- a deed of the definitions, as the worker names it: the request of an act and the bytes of a plant are told apart
 abbrev pub shown : deed.Deed → Deed
 shown deed.Recv = Recv
 shown (deed.OpenMem pid) = OpenMem pid
@@ -24,25 +24,25 @@ shown (deed.OpenBase pid dirfd) = OpenBase pid dirfd
 shown (deed.Check id) = Check id
 shown (deed.Read addr len) = Read addr len
 shown (deed.Act request cap) = Act cap
-shown (deed.Plant addr bytes cap) = Plant addr bytes cap
+shown (deed.Plant addr bytes cap) = Plant addr cap
 shown (deed.AddfdPut asked) = AddfdPut asked
 shown deed.AddfdTake = AddfdTake
 shown (deed.Send id back) = Send id back
 shown deed.LetGo = LetGo
 
--- the deed that a worker names, as the definitions have it: an act does this request
-abbrev pub deed_of : Request → Deed → deed.Deed
-deed_of request Recv = deed.Recv
-deed_of request (OpenMem pid) = deed.OpenMem pid
-deed_of request (OpenBase pid dirfd) = deed.OpenBase pid dirfd
-deed_of request (Check id) = deed.Check id
-deed_of request (Read addr len) = deed.Read addr len
-deed_of request (Act cap) = deed.Act request cap
-deed_of request (Plant addr bytes cap) = deed.Plant addr bytes cap
-deed_of request (AddfdPut asked) = deed.AddfdPut asked
-deed_of request AddfdTake = deed.AddfdTake
-deed_of request (Send id back) = deed.Send id back
-deed_of request LetGo = deed.LetGo
+-- the deed that a worker names, as the definitions have it: an act does this request, and a plant writes these bytes
+abbrev pub deed_of : Request → List ℕ → Deed → deed.Deed
+deed_of request bytes Recv = deed.Recv
+deed_of request bytes (OpenMem pid) = deed.OpenMem pid
+deed_of request bytes (OpenBase pid dirfd) = deed.OpenBase pid dirfd
+deed_of request bytes (Check id) = deed.Check id
+deed_of request bytes (Read addr len) = deed.Read addr len
+deed_of request bytes (Act cap) = deed.Act request cap
+deed_of request bytes (Plant addr cap) = deed.Plant addr bytes cap
+deed_of request bytes (AddfdPut asked) = deed.AddfdPut asked
+deed_of request bytes AddfdTake = deed.AddfdTake
+deed_of request bytes (Send id back) = deed.Send id back
+deed_of request bytes LetGo = deed.LetGo
 
 abbrev pub is_let_go : Deed → Bool
 is_let_go LetGo = true
@@ -120,8 +120,8 @@ Fits (Read addr len) (Bytes bytes) = (1 ≤ length bytes) × (length bytes ≤ l
 Fits (Read addr len) (Failed e) = e ≡ efault
 Fits (Act cap) Done = Unit {0}
 Fits (Act cap) (Failed e) = Unit {0}
-Fits (Plant addr bytes cap) Done = Unit {0}
-Fits (Plant addr bytes cap) (Failed e) = Unit {0}
+Fits (Plant addr cap) Done = Unit {0}
+Fits (Plant addr cap) (Failed e) = Unit {0}
 Fits (AddfdPut asked) Done = Unit {0}
 Fits (AddfdPut asked) (Failed e) = Unit {0}
 Fits AddfdTake (Number n) = Unit {0}

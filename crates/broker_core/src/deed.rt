@@ -14,43 +14,25 @@ pub enum Deed {
     /// It receives a notification: SECCOMP_IOCTL_NOTIF_RECV.
     Recv,
     /// It opens the memory of the task that holds a PID.
-    OpenMem {
-        pid: u32,
-    },
+    OpenMem { pid: u32 },
     /// It opens the directory from which the call's relative paths go.
-    OpenBase {
-        pid: u32,
-        dirfd: i32,
-    },
+    OpenBase { pid: u32, dirfd: i32 },
     /// It asks whether the notification is valid: SECCOMP_IOCTL_NOTIF_ID_VALID.
-    Check {
-        id: u64,
-    },
+    Check { id: u64 },
     /// It reads from 1 to 256 bytes at an address.
-    Read {
-        addr: u64,
-        len: u16,
-    },
+    Read { addr: u64, len: u16 },
     /// It does what is granted in the container's tree, as often as the cap of the granting rule allows. The request is the
     /// worker's, by `Worker::take_effect`.
-    Act {
-        cap: Option<Cap>,
-    },
-    /// It writes the answer of sysinfo at an address.
-    Plant {
-        addr: u64,
-        bytes: [u8; 112],
-        cap: Option<Cap>,
-    },
+    Act { cap: Option<Cap> },
+    /// It writes the answer of sysinfo at an address, as often as the cap of the granting rule allows. The bytes are the worker's,
+    /// by `Worker::planted`.
+    Plant { addr: u64, cap: Option<Cap> },
     /// It asks for a descriptor to be put into the caller: SECCOMP_IOCTL_NOTIF_ADDFD.
     AddfdPut(Addfd),
     /// It takes the number that the descriptor got.
     AddfdTake,
     /// It answers: SECCOMP_IOCTL_NOTIF_SEND.
-    Send {
-        id: u64,
-        back: Back,
-    },
+    Send { id: u64, back: Back },
     /// It closes what it opened for the notification.
     LetGo,
 }

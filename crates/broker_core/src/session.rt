@@ -6,6 +6,7 @@ ghost use Rattle.hist_model.specs.Deeds as definition;
 ghost use Rattle.hist_model.specs.Legal.{cloexec_of};
 ghost use Rattle.hist_model.specs.Sessions.{after_act, inject_deed, addfd_of, back_of_outcome};
 ghost use Rattle.hist_model.specs.declared.request.Request.{Request};
+ghost use Rattle.hist_model.specs.declared.script.Figures.{Figures};
 ghost use Rattle.broker_core.specs.Answers.{shown};
 ghost use Rattle.broker_core.specs.Deeds.{own_request, grant_deed, verdict_deed, stage_deed, session_deed};
 ghost use Rattle.broker_core.specs.Taking.{Begins, confirmed_request};
@@ -14,12 +15,10 @@ use crate::deed::Deed;
 use crate::judgement::Judgement;
 use arg_capture::Capture;
 use emu_request::base_dirfd;
-use emu_sysinfo::container;
 use hist_model::boxed::Boxed;
 use hist_model::event::Back;
 use hist_model::policy::Verdict;
 use hist_model::request::Request;
-use hist_model::script::Figures;
 use sys_abi::errno::Errno;
 use sys_abi::wire::{Addfd, Notif, O_CLOEXEC, SECCOMP_ADDFD_FLAG_SEND, SECCOMP_ADDFD_FLAG_SETFD};
 
@@ -152,27 +151,23 @@ impl Session {
     }
 
     /// The deed that a grant leads to: sysinfo's answer is written, and every other request is done in the tree.
-    fn granted_deed(&self, figures: &Figures, judgement: &Judgement) -> Deed
-        ensures { (q : Request) → result ≡ shown (grant_deed figures.now self.now judgement.now.cap q judgement.now.request) }
+    fn granted_deed(&self, judgement: &Judgement) -> Deed
+        ensures { (F : Figures) (q : Request) → result ≡ shown (grant_deed F self.now judgement.now.cap q judgement.now.request) }
     {
         let cap = judgement.cap;
         match judgement.request {
-            Request::Sysinfo { addr } => self.effect_or_outcome(Deed::Plant {
-                addr,
-                bytes: container(figures),
-                cap,
-            }),
+            Request::Sysinfo { addr } => self.effect_or_outcome(Deed::Plant { addr, cap }),
             _ => self.effect_or_outcome(Deed::Act { cap }),
         }
     }
 
     /// The deed that a judgement leads to.
-    fn judged_deed(&self, figures: &Figures, judgement: &Judgement) -> Deed
-        ensures { result ≡ shown (verdict_deed own_request figures.now self.now judgement.now judgement.now.verdict) }
+    fn judged_deed(&self, judgement: &Judgement) -> Deed
+        ensures { (F : Figures) → result ≡ shown (verdict_deed own_request F self.now judgement.now judgement.now.verdict) }
     {
         let id = self.notif.id;
         match judgement.verdict {
-            Verdict::Grant => self.granted_deed(figures, judgement),
+            Verdict::Grant => self.granted_deed(judgement),
             Verdict::Deny(error) => Deed::Send {
                 id,
                 back: Back::Fail(error),
@@ -188,8 +183,8 @@ impl Session {
     }
 
     /// The deed after the openings.
-    fn checked_deed(&self, figures: &Figures, capture: &Capture) -> Deed
-        ensures { result ≡ shown (stage_deed own_request figures.now capture.now self.now self.now.stage) }
+    fn checked_deed(&self, capture: &Capture) -> Deed
+        ensures { (F : Figures) → result ≡ shown (stage_deed own_request F capture.now self.now self.now.stage) }
     {
         let id = self.notif.id;
         match &self.stage {
@@ -198,7 +193,7 @@ impl Session {
                 Some((addr, len)) => Deed::Read { addr, len },
                 None => Deed::Check { id },
             },
-            Stage::Confirmed(Ok(judgement)) => self.judged_deed(figures, judgement),
+            Stage::Confirmed(Ok(judgement)) => self.judged_deed(judgement),
             Stage::Confirmed(Err(error)) => Deed::Send {
                 id,
                 back: Back::Fail(*error),
@@ -207,8 +202,8 @@ impl Session {
     }
 
     /// The next deed.
-    pub(crate) fn next(&self, figures: &Figures, capture: &Capture) -> Deed
-        ensures { result ≡ shown (session_deed own_request figures.now capture.now self.now) }
+    pub(crate) fn next(&self, capture: &Capture) -> Deed
+        ensures { (F : Figures) → result ≡ shown (session_deed own_request F capture.now self.now) }
     {
         let pid = self.notif.pid;
         if self.gave_up {
@@ -219,7 +214,7 @@ impl Session {
         }
         match base_dirfd(self.notif.call.nr, &self.notif.call.args) {
             Some(dirfd) if !self.based => Deed::OpenBase { pid, dirfd },
-            _ => self.checked_deed(figures, capture),
+            _ => self.checked_deed(capture),
         }
     }
 

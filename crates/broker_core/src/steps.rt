@@ -108,7 +108,7 @@ impl Session {
     /// Notes what an answer tells, but for the stage.
     #[tactic(auto, using(crate::proofs::Taken::tells_nothing))]
     pub(crate) fn note(&mut self, deed: &Deed, got: &Got<'_>)
-        ensures { (q : Request) → Noted (step_of (deed_of q deed.now) (told got.now)) self.old self.new }
+        ensures { (q : Request) (b : List ℕ) → Noted (step_of (deed_of q b deed.now) (told got.now)) self.old self.new }
     {
         match deed {
             Deed::OpenMem { .. } => self.note_memory(got),

@@ -184,7 +184,7 @@ impl Session {
     #[tactic(auto, using(crate::proofs::Taken::known_after))]
     pub(crate) fn took(&mut self, capture: &mut Capture, deed: &Deed, got: &Got<'_>)
         requires { CanTake deed.now (told got.now) capture.old self.old.stage }
-        ensures { (rules : List Rule) (own : List What) (q : Request) → Knows rules own capture.old self.old → Knows rules (step_of (deed_of q deed.now) (told got.now) ∷ own) capture.new self.new }
+        ensures { (rules : List Rule) (own : List What) (q : Request) (b : List ℕ) → Knows rules own capture.old self.old → Knows rules (step_of (deed_of q b deed.now) (told got.now) ∷ own) capture.new self.new }
     {
         self.advance(capture, deed, got);
         self.note(deed, got);

@@ -1,10 +1,11 @@
 //! A worker of the broker.
 
-ghost use Rattle.std.specs.Prelude.{◌≡◌, List, [], OnOk, Option, None};
+ghost use Rattle.std.specs.Prelude.{◌≡◌, ℕ, List, [], OnOk, Option, None};
 ghost use Rattle.std.specs.Option.{option_copied};
 ghost use Rattle.hist_model.specs.Copies.{plan};
 ghost use Rattle.hist_model.specs.Deeds as definition;
 ghost use Rattle.hist_model.specs.Sessions.{deed};
+ghost use Rattle.hist_model.specs.Sysinfo.{container_sysinfo};
 ghost use Rattle.hist_model.specs.Legal.{rules_of};
 ghost use Rattle.hist_model.specs.declared.event.What.{What};
 ghost use Rattle.hist_model.specs.declared.policy.Cap.{Cap};
@@ -20,6 +21,7 @@ ghost use Rattle.broker_core.specs.declared.deed.Deed.TheVariants.{Act};
 use crate::deed::{Deed, Got};
 use crate::session::Session;
 use arg_capture::{Capture, Plan};
+use emu_sysinfo::container;
 use hist_model::boxed::Boxed;
 use hist_model::policy::Policy;
 use hist_model::request::Request;
@@ -72,7 +74,7 @@ impl Worker {
     {
         match &self.session {
             None => Deed::Recv,
-            Some(session) => session.next(&self.figures, &self.capture),
+            Some(session) => session.next(&self.capture),
         }
     }
 
@@ -120,6 +122,15 @@ impl Worker {
             },
             None => unreachable!(),
         }
+    }
+
+    /// The bytes of a plant: the answer of sysinfo in the container.
+    #[tactic(auto, using(crate::proofs::Workers::planted_known))]
+    pub fn planted(&self) -> [u8; 112]
+        ensures answer { result ≡ container_sysinfo self.now.figures }
+        ensures bytes { (P : Policy) (own : List What) (addr : ℕ) (bytes : List ℕ) (cap : Option Cap) → Remembers P own self.now → deed (rules_of P self.now.figures) own ≡ definition.Plant addr bytes cap → result ≡ bytes }
+    {
+        container(&self.figures)
     }
 
     /// Begins the session of a notification.

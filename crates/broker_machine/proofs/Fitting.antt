@@ -30,12 +30,12 @@ use Rattle.broker_core.specs.Remembered.{Remembers}
 use Rattle.broker_core.specs.declared.worker.Worker.{Worker}
 use Rattle.broker_core.specs.declared.deed.Deed.{Deed as Named}
 use Rattle.broker_core.specs.declared.deed.Deed.TheVariants as named
-use Rattle.broker_core.proofs.Answered.{request_or, named_back}
+use Rattle.broker_core.proofs.Answered.{request_or, bytes_or, named_back}
 use Rattle.broker_machine.proofs.Sessions.{session-skip, session-own}
 
 -- a deed, from what the worker names it
-pub due_of : (d : Deed) (n : Named) → n ≡ shown d → d ≡ deed_of (request_or d) n
-due_of d n e = named_back d ∙ ap (deed_of (request_or d)) (sym e)
+pub due_of : (d : Deed) (n : Named) → n ≡ shown d → d ≡ deed_of (request_or d) (bytes_or d) n
+due_of d n e = named_back d ∙ ap (deed_of (request_or d) (bytes_or d)) (sym e)
 
 -- a deed that the worker names an act is one
 act-is : (d : Deed) (cap : Option Cap) → named.Act cap ≡ shown d → d ≡ Deed.Act (request_or d) cap
@@ -44,6 +44,15 @@ act-is d cap e = due_of d (named.Act cap) e
 -- an act of the request that the worker gave is the deed that is due
 pub act_of : (d : Deed) (request : Request) (cap : Option Cap) → named.Act cap ≡ shown d → ((q : Request) (c : Option Cap) → d ≡ Deed.Act q c → request ≡ q) → d ≡ Deed.Act request cap
 act_of d request cap e h = act-is d cap e ∙ ap (λ q. Deed.Act q cap) (sym (h (request_or d) cap (act-is d cap e)))
+
+-- a deed that the worker names a plant is one
+plant-is : (d : Deed) (addr : ℕ) (cap : Option Cap) → named.Plant addr cap ≡ shown d → d ≡ Deed.Plant addr (bytes_or d) cap
+plant-is d addr cap e = due_of d (named.Plant addr cap) e
+
+-- a plant of the bytes that the worker gave is the deed that is due
+pub plant_of : (d : Deed) (bytes : List ℕ) (addr : ℕ) (cap : Option Cap) → named.Plant addr cap ≡ shown d
+    → ((a : ℕ) (b : List ℕ) (c : Option Cap) → d ≡ Deed.Plant a b c → bytes ≡ b) → d ≡ Deed.Plant addr bytes cap
+plant_of d bytes addr cap e h = plant-is d addr cap e ∙ ap (λ b. Deed.Plant addr b cap) (sym (h addr (bytes_or d) cap (plant-is d addr cap e)))
 
 -- the step of a worker is that of its deed
 pub step_of_deed : (P : Policy) (S : Script) (K : List Event) (w : ℕ) → worker_step (system_of S) (rules_of P S.figures) K w ≡ deed_step (system_of S) K w (deed (rules_of P S.figures) (session K w))

@@ -38,7 +38,7 @@ OthersRemember P F K n workers = (w : ℕ) (d : Worker) → w < length workers �
 -- the worker opens no second memory, plants into one that it has open, has no request when it puts one, and has the one that it takes
 abbrev pub Allows : List Event → ℕ → Deed → Type 0
 Allows K w (OpenMem pid) = mem K w ≡ None
-Allows K w (Plant addr bytes cap) = mem K w ≡ None → ⊥
+Allows K w (Plant addr cap) = mem K w ≡ None → ⊥
 Allows K w (AddfdPut asked) = (request_of K w ≡ None) × (is_known asked ≡ true)
 Allows K w AddfdTake = request_of K w ≡ None → ⊥
 Allows K w deed = ⊤

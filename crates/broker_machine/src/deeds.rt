@@ -135,8 +135,9 @@ fn do_deed(
         Deed::Check { id } => Ok(stepped(kernel.check(number, *id))),
         Deed::Read { addr, len } => Ok(stepped(read(alloc, kernel, number, *addr, *len)?)),
         Deed::Act { cap } => Ok(stepped(act(kernel, number, worker.take_effect(), *cap)?)),
-        Deed::Plant { addr, bytes, cap } => {
-            Ok(stepped(plant(alloc, kernel, number, *addr, bytes, *cap)?))
+        Deed::Plant { addr, cap } => {
+            let bytes = worker.planted();
+            Ok(stepped(plant(alloc, kernel, number, *addr, &bytes, *cap)?))
         }
         Deed::AddfdPut(asked) => Ok(stepped(kernel.put(number, *asked))),
         Deed::AddfdTake => Ok(take(kernel, number)),

@@ -70,7 +70,7 @@ pub record IsOwed (k : Kernel) (o : ℕ) (call : NativeCall) : Type 0 where
 abbrev pub IsNext : Kernel → ℕ → Next → Type 0
 IsNext k o Ended = ended (past k) (named k o) ≡ true
 IsNext k o (Waiting id) = (ended (past k) (named k o) ≡ false) × ((c : ℕ) × WaitsIn k o c id)
-IsNext k o (Owed call) = (ended (past k) (named k o) ≡ false) × (call_of (past k) (named k o) ≡ None) × IsOwed k o call
+IsNext k o (Owed call) = (ended (past k) (named k o) ≡ false) × (call_of (past k) (named k o) ≡ None) × IsOwed k o call.value
 IsNext k o (Runs bytes room) = (ended (past k) (named k o) ≡ false) × (call_of (past k) (named k o) ≡ None)
     × (owes_native (past k) (named k o) ≡ false) × IsSupplied k o bytes (vec_capacity room)
 
@@ -82,7 +82,7 @@ stored_bytes next = 0
 -- the group, the queue and the tree have room for it
 abbrev pub HasNextRoom : Kernel → ℕ → Next → Type 0
 HasNextRoom k o Ended = Unit {0}
-HasNextRoom k o (Owed call) = HasNativeRoom k.resources (group_at k.tasks o) call
+HasNextRoom k o (Owed call) = HasNativeRoom k.resources (group_at k.tasks o) call.value
 HasNextRoom k o next = HasRoomFor k.resources.groups (group_at k.tasks o) (stored_bytes next) × HasCallRoom k.resources.listener.queue
 
 -- the task's next step was made ready: it takes no memory

@@ -25,8 +25,9 @@ pub(crate) enum Next {
     Ended,
     /// It waits in the listed call with this id.
     Waiting(u64),
-    /// It owes this native call, whose arguments were read out of its memory.
-    Owed(NativeCall),
+    /// It owes this native call, whose arguments were read out of its memory. Few steps are one, so it stands apart, and what is
+    /// next is small.
+    Owed(Box<NativeCall>),
     /// Its program goes on.
     Runs {
         /// What its next instruction stores, if that stores anything.
@@ -138,7 +139,8 @@ impl Kernel {
             return Ok(Next::Waiting(id));
         }
         if self.tasks.owes(task) {
-            return Ok(Next::Owed(self.owed_call(alloc, task)?));
+            let call = self.owed_call(alloc, task)?;
+            return Ok(Next::Owed(Box::new(alloc, call)?));
         }
         let instr = self.tasks.next_instr(&self.script, task);
         Ok(Next::Runs {

@@ -445,7 +445,7 @@ impl Kernel {
             Next::Ended => Err(name),
             Next::Waiting(id) => self.waiting_step(task, name, id),
             Next::Owed(call) => {
-                let what = self.run_native(task, call);
+                let what = self.run_native(task, Box::into_inner(call));
                 self.take_step(name, what)
             }
             Next::Runs { bytes, room } => self.go_on(task, name, bytes, room),

@@ -38,7 +38,7 @@ next_deed P S w K = shown (deed (rules_of P S.figures) (session K w))
 -- what the worker has open, and whether it has a request for a descriptor, allow this; in a legal history they always do
 abbrev pub is_allowed : List Event → ℕ → Deed → Bool
 is_allowed K w (OpenMem pid) = not (is_some (mem K w))
-is_allowed K w (Plant addr bytes cap) = is_some (mem K w)
+is_allowed K w (Plant addr cap) = is_some (mem K w)
 is_allowed K w (AddfdPut want) = not (is_some (request_of K w))
 is_allowed K w AddfdTake = is_some (request_of K w)
 is_allowed K w next = true

@@ -32,4 +32,4 @@ returns-in-Some-clause-known c = λ P own r.
     let k : KnowsIf P.rules own c.args.self.now.capture (Some c.in-Some.session) = rw c.in-Some.is at r in
     let t = can_take c.args.self.now c.in-Some.session c.args.next.now (told c.args.got.now) c.in-Some.is c.requires.due c.requires.ready c.requires.fits (sym c.is_let_go.ensures ∙ c.if-is_let_go.false) in
     one_more P.rules own c.args.self.now.capture c.took.new.capture c.in-Some.session c.took.new.self d c.args.next.now (told c.args.got.now) (due_deed P own c.args.self.now c.args.next.now c.requires.due r)
-    t c.requires.fits (sym c.is_not_yet.ensures ∙ c.if-is_not_yet.false) (λ q. c.took.ensures P.rules own q k) k
+    t c.requires.fits (sym c.is_not_yet.ensures ∙ c.if-is_not_yet.false) (λ q b. c.took.ensures P.rules own q b k) k
