@@ -2,10 +2,11 @@
 import re
 
 PART = re.compile(rb"container (\d+)\n")
+LEDGERS = re.compile(rb"handovers (\d+)\n")
 
 
 def parts(out):
-    """The report of each container, and the last line. A ValueError says what has another form."""
+    """The report of each container, with its ledgers where workers were replaced, and the last line. A ValueError says what has another form."""
     reports, lines = [], out.splitlines(keepends=True)
     while lines and (title := PART.fullmatch(lines[0])):
         if int(title[1]) != len(reports):
@@ -13,6 +14,8 @@ def parts(out):
         end = next((at for at, line in enumerate(lines) if line.startswith(b"summary ")), None)
         if end is None:
             raise ValueError(f"container {len(reports)} has no summary")
+        ledgers = LEDGERS.fullmatch(b"".join(lines[end + 1:end + 2]))
+        end += 1 + int(ledgers[1]) if ledgers else 0
         reports.append(b"".join(lines[1:end + 1]))
         lines = lines[end + 1:]
     if len(lines) != 1:
@@ -25,10 +28,15 @@ def numbers(line):
     return {name: int(count) for name, count in re.findall(rb"(\w+)=(\d+)", line)}
 
 
+def summary(report):
+    """The line of a report that has its counts; what stands after it are ledgers."""
+    return report.split(b"\nhandovers ", 1)[0].splitlines()[-1]
+
+
 def last_line(reports):
     """The last line of a pod with these reports."""
     sums = {}
     for report in reports:
-        for name, count in numbers(report.splitlines()[-1]).items():
+        for name, count in numbers(summary(report)).items():
             sums[name] = sums.get(name, 0) + count
     return b"pod containers=%d " % len(reports) + b" ".join(b"%s=%d" % counted for counted in sums.items()) + b"\n"

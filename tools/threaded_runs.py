@@ -30,6 +30,12 @@ def answer(asked, *words):
     return ended.returncode, ended.stdout, ended.stderr
 
 
+def split(out):
+    """The report of a run, and what stands after it: nothing, or the ledgers from which workers were replaced."""
+    report, title, ledgers = out.partition(b"\nhandovers ")
+    return (report + b"\n", (title + ledgers)[1:]) if title else (out, b"")
+
+
 def counts(report):
     """The counts of a report's summary that the number of events doesn't matter to."""
     return re.sub(rb"events=\d+ ", b"", report.splitlines()[-1])

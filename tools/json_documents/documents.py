@@ -6,7 +6,7 @@ from json_documents.answers import answer_lines, answers_of
 from json_documents.explanations import explanation_lines, explanation_of
 from json_documents.explorations import exploration_lines, exploration_of
 from json_documents.judgements import judgement_lines, judgement_of
-from json_documents.ledgers import handover_lines, handover_of
+from json_documents.ledgers import handover_lines, handover_of, served_lines, served_of
 from json_documents.lines import Lines
 from json_documents.policies import comparison_lines, comparison_of, finding_lines, findings_of, standing_lines, standings_of
 from json_documents.report import counts_of, counts_words, report_lines, report_of
@@ -34,13 +34,13 @@ def pod_of(data):
     containers, sums = counts_at(Lines(last), SUMS)
     if int(containers) != len(reports):
         raise NotAReport(data.count(b"\n"), f"{containers} containers are counted, and {len(reports)} stand above")
-    return {"containers": [{"number": number, **report_of(report)} for number, report in enumerate(reports)], "sums": sums}
+    return {"containers": [{"number": number, **served_of(report)} for number, report in enumerate(reports)], "sums": sums}
 
 
 def pod_lines(document):
     for container in document["containers"]:
         yield f"container {container['number']}"
-        yield from report_lines(container)
+        yield from served_lines(container)
     yield f"pod containers={len(document['containers'])} {counts_words(document['sums'])}"
 
 
@@ -67,8 +67,8 @@ WORDS = {
     "lint": (findings_of, finding_lines),
     "step": (answers_of, answer_lines),
     "judge": (judgement_of, judgement_lines),
-    "run": (report_of, report_lines),
-    "lanes": (report_of, report_lines),
+    "run": (served_of, served_lines),
+    "lanes": (served_of, served_lines),
     "pod": (pod_of, pod_lines),
     "audit-check": (trail_of, trail_lines),
     "stress": (summary_of, summary_lines),

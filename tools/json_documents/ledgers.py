@@ -1,4 +1,4 @@
-"""What `handover` prints behind its report: the ledgers from which workers were replaced."""
+"""What `handover` prints behind its report, and a run in which workers are replaced: the ledgers from which they were."""
 import json
 import re
 
@@ -58,3 +58,12 @@ def handover_lines(document):
     yield from report_lines(document)
     yield f"handovers {len(document['ledgers'])}"
     yield from map(ledger_line, document["ledgers"])
+
+
+def served_of(data):
+    """The document of what threads have served: with ledgers, where workers were replaced."""
+    return handover_of(data) if TITLE in data else report_of(data)
+
+
+def served_lines(document):
+    return handover_lines(document) if "ledgers" in document else report_lines(document)

@@ -22,8 +22,18 @@ CALLED = {"new policy": "a policy", "calls": "a file of calls", "claims": "a fil
 OF_OPERANDS = {"old": "policy", "new": "new policy"}
 
 
+def parted(entry, operands):
+    """The operands without the words of options that have no dash, as `every 5`, and those options with what is given to each."""
+    named = {it["names"][0]: it for it in entry.get("options", []) if not it["names"][0].startswith("-")}
+    before = next((at for at, it in enumerate(entry["operands"], 1) if it["name"] == "CPUS"), None)
+    if before is None or operands[before:before + 1] != [*named]:
+        return operands, []
+    return operands[:before] + operands[before + 2:], [(named[operands[before]], *operands[before + 1:before + 2])]
+
+
 def files_in(entry, operands, container):
     """The files that the operands name, by what the program calls them; of a pod those of one container."""
+    operands, _ = parted(entry, operands)
     if entry["word"] == "pod":
         pairs = operands[2:]
         return dict(zip(("policy", "script"), pairs[2 * container:2 * container + 2]))
@@ -69,14 +79,16 @@ def overlap(one, other):
     return filled("help: ", f"the scripts of containers {one} and {other} have a PID in common: give one of them `pidmax N` and `pidbase M`, so that it has the PIDs M + 1 to M + N alone")
 
 
-def wrong_operand(item, given):
-    """What is wrong with an operand that is a number, or None."""
+def wrong_operand(item, given=None):
+    """What is wrong with an operand, or what is given to an option, that is a number, or None."""
+    if given is None:
+        return f"a number stands behind {item['names'][0]}"
     if item["takes"] != "number" or given in item.get("also", []):
         return None
     if re.fullmatch(r"\d{1,20}", given, re.ASCII) and item["from"] <= int(given) <= item["to"]:
         return None
     also = "".join(f", or {word}" for word in item.get("also", []))
-    return f"{item['name']} is a number from {item['from']} to {item['to']}{also}, and not {shown(given)}"
+    return f"{item.get('name') or item['value']} is a number from {item['from']} to {item['to']}{also}, and not {shown(given)}"
 
 
 def in_pairs(operands):
@@ -96,7 +108,8 @@ def usage(entry, operands, command):
     late = next((it for it in operands if it in OPTIONS), None)
     if late:
         return [f"{late} stands first behind {entry['word']}", *filled("help: ", f"write `{command} {entry['word']} {late} ..`")]
-    wrong = next(filter(None, (wrong_operand(*pair) for pair in zip(items, operands))), None)
+    operands, given = parted(entry, operands)
+    wrong = next(filter(None, (wrong_operand(*pair) for pair in [*zip(items, operands), *given])), None)
     if wrong is None:
         repeats = items[-1].get("repeats")
         if len(operands) == len(items) and not repeats:

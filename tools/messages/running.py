@@ -6,7 +6,7 @@ import sys
 
 from messages import policies
 from messages.findings import Text, message
-from messages.refusals import Said, data_of, files_in
+from messages.refusals import Said, data_of, files_in, parted
 from messages.speaking import say
 
 OF_THE_COMMAND = b"broker: "
@@ -50,6 +50,7 @@ def end_as(status):
 
 def warnings(entry, operands, asked):
     """What the program takes and is likely a mistake. Keys that are almost LXD's are told on a terminal too, since nobody means them; the rest where it is asked for."""
+    operands, _ = parted(entry, operands)
     for container in range(len(operands[2:]) // 2 if entry["word"] == "pod" else 1):
         files = files_in(entry, operands, container)
         policy, script = (data_of(files[kind]) if kind in files else None for kind in ("policy", "script"))

@@ -26,6 +26,11 @@ def first_words(known):
     return [*words, (table.HELP, "prints the list of words, or the page of one")] + [(it["names"][0], it["help"]) for it in known["options"] if "only" not in it]
 
 
+def marked(known, entry):
+    """The options that begin with a dash, which zsh and fish know alone."""
+    return [it for it in options(known, entry) if it["names"][0].startswith("-")]
+
+
 def bash_kind(item):
     """How the function below is told what to offer."""
     kinds = {"file": "file", "folder": "folder", "pid": "pid", "command": "command"}
@@ -77,7 +82,7 @@ def bash():
     known = table.read()
     cases, values = [f"    help) operands=('words {' '.join(table.names(known))}') ;;"], []
     for entry in known["words"]:
-        names = [name for it in options(known, entry) for name in it["names"]]
+        names = [name for it in marked(known, entry) for name in it["names"]]
         valued = [name for it in options(known, entry) if "value" in it for name in it["names"]]
         kinds = [bash_kind(it) for it in entry.get("operands", [])]
         last = kinds[-1] if kinds and entry["operands"][-1].get("repeats") else ""
@@ -101,7 +106,7 @@ def zsh_action(item):
 
 def zsh_arguments(known, entry):
     found = []
-    for it in options(known, entry):
+    for it in marked(known, entry):
         value = f":{zsh_text(it['value'])}:{zsh_action(it)}" if "value" in it else ""
         found += [f"'*{name}[{zsh_text(it['help'])}]{value}'" for name in it["names"]]
     for it in entry.get("operands", []):
@@ -156,7 +161,7 @@ def fish():
     lines.append(f"{begin} -n '__fish_seen_subcommand_from help' -a '{' '.join(table.names(known))}'")
     for entry in known["words"]:
         here = f"__fish_seen_subcommand_from {entry['word']}"
-        for it in options(known, entry):
+        for it in marked(known, entry):
             names = " ".join(f"-l {name[2:]}" if name.startswith("--") else f"-s {name[1:]}" for name in it["names"])
             value = f" -r {fish_takes(it)}" if "value" in it else ""
             lines.append(f"{begin} -n '{here}' {names}{value} -d {fish_text(it['help'])}")

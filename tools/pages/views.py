@@ -68,7 +68,7 @@ def pod_view(data):
     scenes, at = [], 1
     for report in reports:
         try:
-            scenes.append(scene_of(read(report)))
+            scenes.append(view_of(report)["scene"])
         except NotAReport as fault:
             raise NotAReport(at + fault.line, fault.why) from None
         at += report.count(b"\n") + 1

@@ -99,12 +99,14 @@ abbrev pub Answers : Option Form → FileState → FileState → SinkState → S
 Answers None files after old new status = IsUsage status × TookNothing old new
 Answers (Some (Play policy script)) files after old new status = PlayEnds files after old new policy script as_report status
 Answers (Some (Stress from count)) files after old new status = StressEnds from count old new status
-Answers (Some (Run policy script workers cpus)) files after old new status =
-    RunEnds files after old new policy script (ByWorkers workers) status
-Answers (Some (Lanes policy script cpus)) files after old new status = RunEnds files after old new policy script ByLanes status
+Answers (Some (Run policy script workers cpus every)) files after old new status =
+    RunEnds files after old new policy script (ByWorkers workers) every status
+Answers (Some (Lanes policy script cpus every)) files after old new status =
+    RunEnds files after old new policy script ByLanes every status
 Answers (Some (AuditCheck policy script report)) files after old new status = CheckEnds files after old new policy script report status
 Answers (Some (Handover policy script every)) files after old new status = HandoverEnds files after old new policy script every status
-Answers (Some (Pod workers cpus pairs)) files after old new status = PodEnds files after old new (by_servers workers) pairs status
+Answers (Some (Pod workers cpus every pairs)) files after old new status =
+    PodEnds files after old new (by_servers workers) every pairs status
 Answers (Some (Explore policy script workers delays)) files after old new status =
     ExploreEnds files after old new policy script workers delays status
 Answers (Some (Step policy script)) files after old new status = StepEnds files after old new policy script status

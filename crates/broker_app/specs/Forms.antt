@@ -1,5 +1,5 @@
 -- The forms of words, as the program's code has them.
-use Rattle.std.specs.Prelude.{◌≡◌, ℕ, ◌<◌, ◌≤◌, true, List, length, map, IfSome, String}
+use Rattle.std.specs.Prelude.{◌≡◌, ℕ, ◌<◌, ◌≤◌, true, List, length, map, Option, IfSome, String}
 use Rattle.std.specs.Option.{option_copied}
 use Rattle.std.specs.String.{string_bytes}
 use Rattle.std.specs.declared.alloc.Global.{Global}
@@ -33,9 +33,9 @@ job_of (Lint policy) = Lints policy.now
 -- the form that the words have
 abbrev pub form_of : Form → Meaning
 form_of (IsJob job) = job_of job
-form_of (Run policy script workers cpus) = Runs policy.now script.now workers cpus
-form_of (Lanes policy script cpus) = RunsByLanes policy.now script.now cpus
-form_of (Pod workers cpus pairs) = ServesPod workers cpus (in_pairs (texts pairs.now))
+form_of (Run policy script workers cpus every) = Runs policy.now script.now workers cpus every
+form_of (Lanes policy script cpus every) = RunsByLanes policy.now script.now cpus every
+form_of (Pod workers cpus every pairs) = ServesPod workers cpus every (in_pairs (texts pairs.now))
 
 -- generated input has at most 4000 calls, a worker is replaced after one step at the earliest,
 -- and the workers of what is explored are 0 to 15 at most
@@ -45,9 +45,14 @@ IsJobInRange (Handover policy script every) = 0 < every
 IsJobInRange (Explore policy script workers delays) = workers ≤ 15
 IsJobInRange _ = Unit {0}
 
+-- where workers are replaced, one is after one step at the earliest
+abbrev pub IsAfterSteps : Option ℕ → Type 0
+IsAfterSteps every = IfSome every (λ n. 0 < n)
+
 -- a run has at most 16 hands of either kind beside the calling one, and so has a pod, whose words name pairs of files
 abbrev pub IsInRange : Form → Type 0
 IsInRange (IsJob job) = IsJobInRange job
-IsInRange (Run policy script workers cpus) = (workers ≤ 16) × (cpus ≤ 16)
-IsInRange (Lanes policy script cpus) = cpus ≤ 16
-IsInRange (Pod workers cpus pairs) = IfSome workers (λ w. w ≤ 16) × (cpus ≤ 16) × (are_pairs (length pairs.now) ≡ true)
+IsInRange (Run policy script workers cpus every) = (workers ≤ 16) × (cpus ≤ 16) × IsAfterSteps every
+IsInRange (Lanes policy script cpus every) = (cpus ≤ 16) × IsAfterSteps every
+IsInRange (Pod workers cpus every pairs) =
+    IfSome workers (λ w. w ≤ 16) × (cpus ≤ 16) × IsAfterSteps every × (are_pairs (length pairs.now) ≡ true)

@@ -1,10 +1,11 @@
 -- What is printed of a play whose workers were replaced, and how it ended.
-use Rattle.std.specs.Prelude.{◌≡◌, ℕ, ◌++◌, List, [], length, Ok, codes, decimal}
+use Rattle.std.specs.Prelude.{◌≡◌, ℕ, ◌++◌, List, [], length, Ok, Option, Some, None, codes, decimal}
 use Rattle.std.specs.List.{flat_map}
 use Rattle.hist_model.specs.Legal.{played}
 use Rattle.hist_model.specs.Mediated.{Mediated}
 use Rattle.hist_model.specs.Report.{report}
-use Rattle.hist_model.specs.ReportAudit.{judging_by}
+use Rattle.hist_model.specs.ReportAudit.{Judging, judging_by}
+use Rattle.hist_model.specs.declared.event.Event.{Event}
 use Rattle.hist_model.specs.declared.policy.Policy.{Policy}
 use Rattle.hist_model.specs.declared.script.Script.{Script}
 use Rattle.handover.specs.Handing.{Handed, handed}
@@ -29,6 +30,11 @@ handovers_title n = codes "handovers " ++ (decimal n ++ codes "\n")
 -- and the lines of all
 abbrev pub handovers : List Handed → List ℕ
 handovers all = handovers_title (length all) ++ flat_map ledger_line all
+
+-- the report of a history, and after it the ledgers from which workers were replaced in it, where they were to be
+abbrev pub report_and : Judging → List Event → Option (List Handed) → List ℕ
+report_and J H None = report J H
+report_and J H (Some all) = report J H ++ handovers all
 
 -- the report of the history that a policy and a script play, and the ledgers from which workers are replaced
 -- in it after each so many of their steps

@@ -93,9 +93,9 @@ overlap_line first second = (codes "pod: pids overlap: " ++ decimal first) ++ (c
 abbrev pub line_of : Status → List ℕ
 line_of Done = []
 line_of Usage =
-    codes "usage: play POLICY SCRIPT | run POLICY SCRIPT WORKERS CPUS | stress FROM COUNT | audit-check POLICY SCRIPT REPORT"
-    ++ codes " | lanes POLICY SCRIPT CPUS | handover POLICY SCRIPT EVERY"
-    ++ codes " | pod WORKERS CPUS POLICY SCRIPT .. | pod lanes CPUS POLICY SCRIPT .."
+    codes "usage: play POLICY SCRIPT | run POLICY SCRIPT WORKERS CPUS [every EVERY] | stress FROM COUNT | audit-check POLICY SCRIPT REPORT"
+    ++ codes " | lanes POLICY SCRIPT CPUS [every EVERY] | handover POLICY SCRIPT EVERY"
+    ++ codes " | pod WORKERS CPUS [every EVERY] POLICY SCRIPT .. | pod lanes CPUS [every EVERY] POLICY SCRIPT .."
     ++ codes " | explore POLICY SCRIPT WORKERS DELAYS | step POLICY SCRIPT | judge POLICY SCRIPT | explain POLICY CALLS"
     ++ codes " | compare OLD NEW [SCRIPT] | check POLICY CLAIMS | lint POLICY\n"
 line_of (Refused refusal) = refusal_line refusal

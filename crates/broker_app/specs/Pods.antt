@@ -1,5 +1,5 @@
 -- What the answer of a pod means: which containers were read and served, what is printed of them, and why it stopped.
-use Rattle.std.specs.Prelude.{◌≡◌, ℕ, ◌<◌, ◌++◌, ◌∷◌, ◌⊎◌, Bool, true, false, List, get_or, length, map, Ok}
+use Rattle.std.specs.Prelude.{◌≡◌, ℕ, ◌<◌, ◌++◌, ◌∷◌, ◌⊎◌, Bool, true, false, List, get_or, length, map, Ok, Option}
 use Rattle.std.specs.List.{AllZip}
 use Rattle.io_edge.specs.Faults.{Rose}
 use Rattle.io_edge.specs.FileState.{FileState}
@@ -10,7 +10,7 @@ use Rattle.pod_broker.specs.Serving.{histories}
 use Rattle.pod_broker.specs.declared.container.Container.{Container}
 use Rattle.worker_gate.specs.declared.served.Played.{Played}
 use Rattle.broker_app.specs.Inputs.{PolicyIs, ScriptIs}
-use Rattle.broker_app.specs.PodText.{pod_text}
+use Rattle.broker_app.specs.PodText.{due_in, kept_in, pod_text}
 use Rattle.broker_app.specs.Refusals.{InputRefused, Stands, TookNothing}
 use Rattle.broker_app.specs.Runs.{AreRun, Ending}
 use Rattle.broker_app.specs.Words.{FilePair}
@@ -90,15 +90,17 @@ Overlapping cs _ = ⊥
 
 -- ---- What was served and printed
 
--- the container was served to such an end, by a history of its own policy and script, which come back as they were
-pub record IsEnded (Ended : Ending) (c : Container) (p : Played) : Type 0 where
+-- the container was served to such an end, by a history of its own policy and script, which come back as they were, and the ledgers that
+-- were kept are those of the history, where workers are replaced after each so many of their steps
+pub record IsEnded (Ended : Ending) (every : Option ℕ) (c : Container) (p : Played) : Type 0 where
   pub policy : p.policy ≡ c.policy
   pub script : p.script ≡ c.script
   pub ended : Ended c.policy c.script p.history.events
+  pub kept : kept_in p ≡ due_in every p
 
 -- so was each, in order
-abbrev pub AreEnded : Ending → List Container → List Played → Type 0
-AreEnded Ended = AllZip (IsEnded Ended)
+abbrev pub AreEnded : Ending → Option ℕ → List Container → List Played → Type 0
+AreEnded Ended every = AllZip (IsEnded Ended every)
 
 -- so the container of each pair of files ended, in order
 abbrev pub HaveEnded : FileState → Ending → List FilePair → List Played → Type 0
@@ -114,15 +116,18 @@ pub record AreServedApart (files : FileState) (Ended : Ending) (pairs : List Fil
   pub ranges : NoneOverlap (scripts_of ps)
   pub apart : AllApart (histories ps)
 
--- the sink took a prefix of what is printed of such containers
-abbrev pub TookPodPrefix : FileState → Ending → List FilePair → SinkState → SinkState → Type 0
-TookPodPrefix files Ended pairs old new =
-    (ps : List Played) × AreServedApart files Ended pairs ps × (old.tells ≡ true → AddsPrefix old.taken (pod_text ps) new.taken)
+-- the sink took a prefix of what is printed of such containers, whose workers are replaced after each so many of their steps, if a number
+-- is given
+abbrev pub TookPodPrefix : FileState → Ending → Option ℕ → List FilePair → SinkState → SinkState → Type 0
+TookPodPrefix files Ended every pairs old new =
+    (ps : List Played) × AreServedApart files Ended pairs ps
+    × (old.tells ≡ true → AddsPrefix old.taken (pod_text (due_in every) ps) new.taken)
 
 -- the sink took the whole of it
-abbrev pub TookPod : FileState → Ending → List FilePair → SinkState → SinkState → Type 0
-TookPod files Ended pairs old new =
-    (ps : List Played) × AreServedApart files Ended pairs ps × (old.tells ≡ true → new.taken ≡ old.taken ++ pod_text ps)
+abbrev pub TookPod : FileState → Ending → Option ℕ → List FilePair → SinkState → SinkState → Type 0
+TookPod files Ended every pairs old new =
+    (ps : List Played) × AreServedApart files Ended pairs ps
+    × (old.tells ≡ true → new.taken ≡ old.taken ++ pod_text (due_in every) ps)
 
 -- ---- How it ended
 
@@ -130,10 +135,10 @@ TookPod files Ended pairs old new =
 abbrev pub RangesRefused : FileState → List FilePair → ℕ → ℕ → Type 0
 RangesRefused files pairs first second = (cs : List Container) × AreTaken files pairs cs × IsFirstOverlap cs first second
 
--- how the pod of these pairs of files ended
-abbrev pub PodEnds : FileState → FileState → SinkState → SinkState → Ending → List FilePair → Status → Type 0
-PodEnds files after old new Ended pairs Done = TookPod files Ended pairs old new × Stands new
-PodEnds files after old new Ended pairs WriteFault = Rose old.faults new.faults × TookPodPrefix files Ended pairs old new
-PodEnds files after old new Ended pairs NoMemory = TookNothing old new ⊎ TookPodPrefix files Ended pairs old new
-PodEnds files after old new Ended pairs (PidsOverlap first second) = RangesRefused files pairs first second × TookNothing old new
-PodEnds files after old new Ended pairs status = PairStops files after pairs status × TookNothing old new
+-- how the pod of these pairs of files ended, whose workers are replaced after each so many of their steps, if a number is given
+abbrev pub PodEnds : FileState → FileState → SinkState → SinkState → Ending → Option ℕ → List FilePair → Status → Type 0
+PodEnds files after old new Ended every pairs Done = TookPod files Ended every pairs old new × Stands new
+PodEnds files after old new Ended every pairs WriteFault = Rose old.faults new.faults × TookPodPrefix files Ended every pairs old new
+PodEnds files after old new Ended every pairs NoMemory = TookNothing old new ⊎ TookPodPrefix files Ended every pairs old new
+PodEnds files after old new Ended every pairs (PidsOverlap first second) = RangesRefused files pairs first second × TookNothing old new
+PodEnds files after old new Ended every pairs status = PairStops files after pairs status × TookNothing old new

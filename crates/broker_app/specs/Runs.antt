@@ -1,6 +1,5 @@
 -- What the answer of a run with threads means, with workers or by lanes: which history is printed, and why it stopped.
 use Rattle.std.specs.Prelude.{◌≡◌, ℕ, ◌++◌, ◌⊎◌, true, List, Ok, Option, Some, None}
-use Rattle.hist_model.specs.Report.{report}
 use Rattle.hist_model.specs.ReportAudit.{judging_by}
 use Rattle.hist_model.specs.declared.event.Event.{Event}
 use Rattle.hist_model.specs.declared.policy.Policy.{Policy}
@@ -10,6 +9,8 @@ use Rattle.io_edge.specs.FileState.{FileState}
 use Rattle.io_edge.specs.SinkState.{SinkState, AddsPrefix}
 use Rattle.lane_seats.specs.Lanes.{Laned}
 use Rattle.worker_gate.specs.Endings.{HasEnded}
+use Rattle.worker_gate.specs.Replacing.{handed_if}
+use Rattle.broker_app.specs.Handovers.{report_and}
 use Rattle.broker_app.specs.Inputs.{PolicyIs, ScriptIs}
 use Rattle.broker_app.specs.Refusals.{InputRefused, Stands, TookNothing}
 use Rattle.broker_app.specs.declared.status.Status.{Status}
@@ -42,23 +43,29 @@ pub record AreRun (files : FileState) (policy script : List ℕ) (Ended : Ending
   pub script_is : ScriptIs files script (Ok S)
   pub ended : Ended P S H
 
--- the sink took a prefix of the report of one such history
-abbrev pub TookRunPrefix : FileState → List ℕ → List ℕ → Ending → SinkState → SinkState → Type 0
-TookRunPrefix files policy script Ended old new =
-    (P : Policy) × (S : Script) × (H : List Event) × AreRun files policy script Ended P S H
-    × (old.tells ≡ true → AddsPrefix old.taken (report (judging_by P.rules) H) new.taken)
+-- the report of a history, and its ledgers, where workers are replaced after each so many of their steps
+abbrev pub run_text : Option ℕ → Policy → List Event → List ℕ
+run_text every P H = report_and (judging_by P.rules) H (handed_if every H)
 
--- the sink took the whole report of one
-abbrev pub TookRun : FileState → List ℕ → List ℕ → Ending → SinkState → SinkState → Type 0
-TookRun files policy script Ended old new =
+-- the sink took a prefix of what is printed of one such history
+abbrev pub TookRunPrefix : FileState → List ℕ → List ℕ → Ending → Option ℕ → SinkState → SinkState → Type 0
+TookRunPrefix files policy script Ended every old new =
     (P : Policy) × (S : Script) × (H : List Event) × AreRun files policy script Ended P S H
-    × (old.tells ≡ true → new.taken ≡ old.taken ++ report (judging_by P.rules) H)
+    × (old.tells ≡ true → AddsPrefix old.taken (run_text every P H) new.taken)
+
+-- the sink took the whole of it
+abbrev pub TookRun : FileState → List ℕ → List ℕ → Ending → Option ℕ → SinkState → SinkState → Type 0
+TookRun files policy script Ended every old new =
+    (P : Policy) × (S : Script) × (H : List Event) × AreRun files policy script Ended P S H
+    × (old.tells ≡ true → new.taken ≡ old.taken ++ run_text every P H)
 
 -- ---- How it ended
 
--- how the run of a policy's and a script's files ended
-abbrev pub RunEnds : FileState → FileState → SinkState → SinkState → List ℕ → List ℕ → Ending → Status → Type 0
-RunEnds files after old new policy script Ended Done = TookRun files policy script Ended old new × Stands new
-RunEnds files after old new policy script Ended WriteFault = Rose old.faults new.faults × TookRunPrefix files policy script Ended old new
-RunEnds files after old new policy script Ended NoMemory = TookNothing old new ⊎ TookRunPrefix files policy script Ended old new
-RunEnds files after old new policy script Ended status = InputRefused files after policy script status × TookNothing old new
+-- how the run of a policy's and a script's files ended, whose workers were replaced after each so many of their steps, if a number is given
+abbrev pub RunEnds : FileState → FileState → SinkState → SinkState → List ℕ → List ℕ → Ending → Option ℕ → Status → Type 0
+RunEnds files after old new policy script Ended every Done = TookRun files policy script Ended every old new × Stands new
+RunEnds files after old new policy script Ended every WriteFault =
+    Rose old.faults new.faults × TookRunPrefix files policy script Ended every old new
+RunEnds files after old new policy script Ended every NoMemory =
+    TookNothing old new ⊎ TookRunPrefix files policy script Ended every old new
+RunEnds files after old new policy script Ended every status = InputRefused files after policy script status × TookNothing old new

@@ -9,19 +9,20 @@ ghost use Rattle.hist_model.specs.declared.event.Event.{Event};
 ghost use Rattle.broker_app.specs.Words.{are_pairs, form, in_pairs};
 ghost use Rattle.hist_model.specs.declared.script.Script.{Script};
 ghost use Rattle.std.specs.Option.{option_map};
-ghost use Rattle.broker_app.specs.Forms.{IsJobInRange, IsInRange, form_of, job_of, texts};
+ghost use Rattle.broker_app.specs.Forms.{IsAfterSteps, IsJobInRange, IsInRange, form_of, job_of, texts};
 ghost use Rattle.broker_app.specs.Answers.{Answers, GeneratedIsMediated, IsPrintable, Printed, Said, StressEnds, generated_summary, printout_of, status_of, text_of};
-ghost use Rattle.broker_app.specs.Handovers.{HandoverEnds, handover_report};
+ghost use Rattle.broker_app.specs.Handovers.{HandoverEnds, handover_report, report_and};
 ghost use Rattle.broker_app.specs.Plays.{IsLawfullyPlayed, PlayEnds, as_report, report_of};
 ghost use Rattle.hist_model.specs.Report.{report};
 ghost use Rattle.script_reader.specs.Rules.{AreTurns};
 ghost use Rattle.std.specs.List.{All};
 ghost use Rattle.step_requests.specs.Turns.{AreApart};
 ghost use Rattle.turn_player.specs.Turns.{IsTurn, turned};
+ghost use Rattle.worker_gate.specs.Replacing.{handed_in};
 ghost use Rattle.broker_app.specs.Checks.{BytesCheckEnds, CheckEnds};
 ghost use Rattle.broker_app.specs.Lines.{line_of};
 ghost use Rattle.broker_app.specs.Pods.{PodEnds};
-ghost use Rattle.broker_app.specs.PodText.{pod_text};
+ghost use Rattle.broker_app.specs.PodText.{kept_in, pod_text};
 ghost use Rattle.broker_app.specs.Runs.{RunEnds, by_servers};
 ghost use Rattle.broker_app.specs.declared.status.InputFile.TheVariants.{Policy as PolicyFile};
 ghost use Rattle.broker_app.specs.declared.status.Refusal.TheVariants.{ReadFault};
@@ -35,7 +36,7 @@ use crate::lines::say;
 use crate::players::{Player, TurnTaker, run_container, serve_containers};
 use crate::pod_printing::print_pod;
 use crate::pods::{read_containers, see_ranges};
-use crate::printing::{Printout, print_history};
+use crate::printing::{Printout, print_history, printout_of};
 use crate::status::{Refusal, Status};
 use crate::stepping::step_files;
 use crate::telling::{check_claims, compare_files, lint_file};
@@ -77,7 +78,7 @@ fn print_text<O: Sink>(
 /// Prints the reports of containers that were served side by side, and the sums of their summaries.
 #[tactic(auto, using(crate::proofs::Ends::printed_whole, crate::proofs::Ends::printed_part))]
 fn print_containers<O: Sink>(alloc: Global, ended: &[Played], out: &mut O) -> Result<(), Status>
-    ensures { Printed (pod_text ended.now) (O.state out.old) (O.state out.new) result }
+    ensures { Printed (pod_text kept_in ended.now) (O.state out.old) (O.state out.new) result }
 {
     print_pod(alloc, ended, out)?;
     Ok(())
@@ -96,7 +97,7 @@ fn print_played<P: Player, O: Sink>(
     requires { (H : List Event) → IsPrintable printout policy.rules H }
     ensures { Printed (printout_of printout.entry policy script) (O.state out.old) (O.state out.new) result }
 {
-    let played = player.play(alloc, policy, script)?;
+    let played = player.play(alloc, policy, script, None)?;
     let printed = print_text(alloc, printout, &played.policy, &played.history, out);
     player.let_go(played);
     printed
@@ -213,6 +214,14 @@ fn play_files<P: Player, F: Files, O: Sink>(
     print_file_played(player, alloc, policy, file, out)
 }
 
+/// Prints the report of what was played or served, and the ledgers from which workers were replaced, where they were to be.
+fn print_whole<O: Sink>(alloc: Global, played: &Played, out: &mut O) -> Result<(), Status>
+    ensures { Printed (report_and (judging_by played.now.policy.rules) played.now.history.events (handed_in played.now.handed)) (O.state out.old) (O.state out.new) result }
+{
+    let printout = printout_of(played);
+    print_text(alloc, printout, &played.policy, &played.history, out)
+}
+
 /// Plays a script under a policy with workers that are replaced, and prints the report and the ledgers.
 fn print_handed_play<P: Player, O: Sink>(
     player: &P,
@@ -225,11 +234,8 @@ fn print_handed_play<P: Player, O: Sink>(
     requires { 0 < every }
     ensures { Printed (handover_report every policy script) (O.state out.old) (O.state out.new) result }
 {
-    let played = player.play_handing(alloc, policy, script, every)?;
-    let printout = Printout::Handovers {
-        handed: played.handed.as_slice(),
-    };
-    let printed = print_text(alloc, printout, &played.policy, &played.history, out);
+    let played = player.play(alloc, policy, script, Some(every))?;
+    let printed = print_whole(alloc, &played, out);
     player.let_go(played);
     printed
 }
@@ -368,7 +374,8 @@ fn answer<P: Player, F: Files, O: Sink>(
     }
 }
 
-/// Runs the script of a file with threads under the policy of another, with workers up to this one or by lanes, and writes the report.
+/// Runs the script of a file with threads under the policy of another, with workers up to this one or by lanes, and writes the report, and
+/// the ledgers from which workers were replaced, where they were to be.
 #[tactic(auto, using(crate::proofs::Runs::run_stops, crate::proofs::Runs::run_unserved))]
 fn run_files<R: Threads + Wait + Sync, F: Files, O: Sink, G: Gate + Sync>(
     rt: &R,
@@ -378,20 +385,23 @@ fn run_files<R: Threads + Wait + Sync, F: Files, O: Sink, G: Gate + Sync>(
     script: &str,
     workers: Option<u8>,
     cpus: u8,
+    every: Option<u32>,
     out: &mut O,
     gate: &G,
 ) -> Result<(), Status>
-    requires { IfSome workers (λ w. w ≤ 16) × (cpus ≤ 16) }
-    ensures { RunEnds (F.state files.old) (F.state files.new) (O.state out.old) (O.state out.new) policy.now script.now (by_servers workers) (status_of result) }
+    requires numbers { IfSome workers (λ w. w ≤ 16) × (cpus ≤ 16) }
+    requires every { IsAfterSteps every }
+    ensures { RunEnds (F.state files.old) (F.state files.new) (O.state out.old) (O.state out.new) policy.now script.now (by_servers workers) every (status_of result) }
 {
     let (policy, script) = read_inputs(alloc, files, policy, script)?;
-    let ended = run_container(rt, alloc, policy, script, workers, cpus, gate)?;
-    let printed = print_text(alloc, Printout::Report, &ended.policy, &ended.history, out);
+    let ended = run_container(rt, alloc, policy, script, workers, cpus, every, gate)?;
+    let printed = print_whole(alloc, &ended, out);
     TurnTaker { rt }.let_go(ended);
     printed
 }
 
-/// Serves the containers of pairs of files side by side, and writes the report of each and the sums of their summaries.
+/// Serves the containers of pairs of files side by side, and writes the report of each, the ledgers from which its workers were replaced,
+/// where they were to be, and the sums of the summaries.
 #[tactic(auto, using(crate::proofs::Containers::pairs_stop, crate::proofs::Containers::pod_unserved))]
 fn serve_files<R: Threads + Wait + Sync, F: Files, O: Sink, G: Gate + Sync>(
     rt: &R,
@@ -400,15 +410,18 @@ fn serve_files<R: Threads + Wait + Sync, F: Files, O: Sink, G: Gate + Sync>(
     names: &[String],
     workers: Option<u8>,
     cpus: u8,
+    every: Option<u32>,
     out: &mut O,
     gate: &G,
 ) -> Result<(), Status>
-    requires { IfSome workers (λ w. w ≤ 16) × (cpus ≤ 16) × (are_pairs (length names.now) ≡ true) }
-    ensures { PodEnds (F.state files.old) (F.state files.new) (O.state out.old) (O.state out.new) (by_servers workers) (in_pairs (texts names.now)) (status_of result) }
+    requires numbers { IfSome workers (λ w. w ≤ 16) × (cpus ≤ 16) }
+    requires every { IsAfterSteps every }
+    requires pairs { are_pairs (length names.now) ≡ true }
+    ensures { PodEnds (F.state files.old) (F.state files.new) (O.state out.old) (O.state out.new) (by_servers workers) every (in_pairs (texts names.now)) (status_of result) }
 {
     let containers = read_containers(alloc, files, names)?;
     see_ranges(containers.as_slice())?;
-    let ended = serve_containers(rt, alloc, containers, workers, cpus, gate)?;
+    let ended = serve_containers(rt, alloc, containers, workers, cpus, every, gate)?;
     print_containers(alloc, ended.as_slice(), out)
 }
 
@@ -434,6 +447,7 @@ fn answer_form<R: Threads + Wait + Sync, F: Files, O: Sink, G: Gate + Sync>(
                 script,
                 workers,
                 cpus,
+                every,
             },
         ) => run_files(
             rt,
@@ -443,6 +457,7 @@ fn answer_form<R: Threads + Wait + Sync, F: Files, O: Sink, G: Gate + Sync>(
             script,
             Some(workers),
             cpus,
+            every,
             out,
             gate,
         ),
@@ -451,15 +466,19 @@ fn answer_form<R: Threads + Wait + Sync, F: Files, O: Sink, G: Gate + Sync>(
                 policy,
                 script,
                 cpus,
+                every,
             },
-        ) => run_files(rt, alloc, files, policy, script, None, cpus, out, gate),
+        ) => run_files(
+            rt, alloc, files, policy, script, None, cpus, every, out, gate,
+        ),
         Some(
             Form::Pod {
                 workers,
                 cpus,
+                every,
                 pairs,
             },
-        ) => serve_files(rt, alloc, files, pairs, workers, cpus, out, gate),
+        ) => serve_files(rt, alloc, files, pairs, workers, cpus, every, out, gate),
     }
 }
 

@@ -13,7 +13,7 @@
 //! player, and waits only if that one does.
 //!
 //! Below stand the readers (`policy_reader`, `script_reader`), the generator of input (`generated_input`), the plays and the runs
-//! (`worker_gate`, `handover_gate`, `lane_gate`) and the lock (`turn_lock`), the explorer (`explorer`), the report (`audit_log`),
+//! (`worker_gate`, `lane_gate`) and the lock (`turn_lock`), the explorer (`explorer`), the report (`audit_log`),
 //! its check (`audit_check`) and the law (`mediation`). Above stands `main`, which hands the machine's files and outputs over.
 #![tactic(auto)]
 

@@ -176,7 +176,7 @@ fn write_status<E: Sink>(status: &Status, err: &mut E) -> Result<(), Failed>
     match status {
         Status::Done | Status::Otherwise | Status::Undecided => err.write(b""),
         Status::Usage => err.write(
-            b"usage: play POLICY SCRIPT | run POLICY SCRIPT WORKERS CPUS | stress FROM COUNT | audit-check POLICY SCRIPT REPORT | lanes POLICY SCRIPT CPUS | handover POLICY SCRIPT EVERY | pod WORKERS CPUS POLICY SCRIPT .. | pod lanes CPUS POLICY SCRIPT .. | explore POLICY SCRIPT WORKERS DELAYS | step POLICY SCRIPT | judge POLICY SCRIPT | explain POLICY CALLS | compare OLD NEW [SCRIPT] | check POLICY CLAIMS | lint POLICY\n",
+            b"usage: play POLICY SCRIPT | run POLICY SCRIPT WORKERS CPUS [every EVERY] | stress FROM COUNT | audit-check POLICY SCRIPT REPORT | lanes POLICY SCRIPT CPUS [every EVERY] | handover POLICY SCRIPT EVERY | pod WORKERS CPUS [every EVERY] POLICY SCRIPT .. | pod lanes CPUS [every EVERY] POLICY SCRIPT .. | explore POLICY SCRIPT WORKERS DELAYS | step POLICY SCRIPT | judge POLICY SCRIPT | explain POLICY CALLS | compare OLD NEW [SCRIPT] | check POLICY CLAIMS | lint POLICY\n",
         ),
         Status::Refused(refusal) => write_refusal(refusal, err),
         Status::ContainerRefused { container, refusal } => {

@@ -1,16 +1,15 @@
 //! How a script is played and run: its schedule in turns of the listener's lock, or without a lock; its container by threads.
 
-ghost use Rattle.std.specs.Prelude.{◌≡◌, ◌<◌, ◌≤◌, [], ◌∷◌, length, IfOk, IfSome};
+ghost use Rattle.std.specs.Prelude.{◌≡◌, ◌≤◌, [], ◌∷◌, length, IfOk, IfSome};
 ghost use Rattle.hist_model.specs.Legal.{played};
-ghost use Rattle.handover.specs.Handing.{handed};
-ghost use Rattle.handover.specs.Keeping.{all_handed};
+ghost use Rattle.broker_app.specs.Forms.{IsAfterSteps};
 ghost use Rattle.broker_app.specs.Pods.{AreEnded};
 ghost use Rattle.broker_app.specs.Runs.{by_servers};
 ghost use Rattle.pod_broker.specs.Pods.{AllApart, NoneOverlap};
 ghost use Rattle.pod_broker.specs.Serving.{histories, scripts};
+ghost use Rattle.worker_gate.specs.Replacing.{handed_if, handed_in};
 
 use crew::Gate;
-use handover_gate::{HandedPlay, play_handing, play_handing_in_turns};
 use hist_model::policy::Policy;
 use hist_model::script::Script;
 use pod_broker::{Container, serve_pod, serve_pod_by_lanes};
@@ -20,30 +19,23 @@ use std::sync::Wait;
 use std::thread::Threads;
 use sys_abi::memory::NoMemory;
 use worker_gate::{Played, play, play_in_turns};
-use worker_ledger::successor::Heirs;
 
 /// Who plays the schedule of a script.
 pub trait Player {
-    /// Plays the schedule of a script under a policy, and closes the listener.
-    fn play(&self, alloc: Global, policy: Policy, script: Script) -> Result<Played, NoMemory>
-        ensures events { IfOk result (λ p. p.history.events ≡ played policy script) }
-        ensures policy { IfOk result (λ p. p.policy ≡ policy) }
-        ensures script { IfOk result (λ p. p.script ≡ script) };
-
-    /// Plays it with workers that are replaced: after each so many of their steps the one that took the last, by turns from its
-    /// ledger before that step and from the one after it.
-    fn play_handing(
+    /// Plays the schedule of a script under a policy, and closes the listener. Where a number of steps is given, the worker that took the
+    /// last of each so many steps of workers is replaced, by turns from its ledger before that step and from the one after it.
+    fn play(
         &self,
         alloc: Global,
         policy: Policy,
         script: Script,
-        every: u32,
-    ) -> Result<HandedPlay, NoMemory>
-        requires { 0 < every }
+        every: Option<u32>,
+    ) -> Result<Played, NoMemory>
+        requires { IsAfterSteps every }
         ensures events { IfOk result (λ p. p.history.events ≡ played policy script) }
         ensures policy { IfOk result (λ p. p.policy ≡ policy) }
         ensures script { IfOk result (λ p. p.script ≡ script) }
-        ensures handed { IfOk result (λ p. all_handed p.handed.items ≡ handed every (played policy script)) };
+        ensures handed { IfOk result (λ p. handed_in p.handed ≡ handed_if every p.history.events) };
 
     /// Lets go of what was printed: its memory is given back, or left to the process where that is about to end.
     fn let_go<T: Drop>(&self, printed: T);
@@ -54,18 +46,14 @@ pub trait Player {
 pub struct LoneThread;
 
 impl Player for LoneThread {
-    fn play(&self, alloc: Global, policy: Policy, script: Script) -> Result<Played, NoMemory> {
-        play(alloc, policy, script)
-    }
-
-    fn play_handing(
+    fn play(
         &self,
         alloc: Global,
         policy: Policy,
         script: Script,
-        every: u32,
-    ) -> Result<HandedPlay, NoMemory> {
-        play_handing(alloc, policy, script, every, Heirs)
+        every: Option<u32>,
+    ) -> Result<Played, NoMemory> {
+        play(alloc, policy, script, every)
     }
 
     fn let_go<T: Drop>(&self, printed: T) {
@@ -80,18 +68,14 @@ pub struct TurnTaker<'a, R: Wait> {
 }
 
 impl<'a, R: Wait> Player for TurnTaker<'a, R> {
-    fn play(&self, alloc: Global, policy: Policy, script: Script) -> Result<Played, NoMemory> {
-        play_in_turns(self.rt, alloc, policy, script)
-    }
-
-    fn play_handing(
+    fn play(
         &self,
         alloc: Global,
         policy: Policy,
         script: Script,
-        every: u32,
-    ) -> Result<HandedPlay, NoMemory> {
-        play_handing_in_turns(self.rt, alloc, policy, script, every)
+        every: Option<u32>,
+    ) -> Result<Played, NoMemory> {
+        play_in_turns(self.rt, alloc, policy, script, every)
     }
 
     fn let_go<T: Drop>(&self, printed: T) {
@@ -119,23 +103,26 @@ fn only(mut served: Vec<Played>) -> Played
     }
 }
 
-/// Serves containers with one crew until nothing is left to do in any, and closes their listeners: with workers up to this one, or by lanes.
+/// Serves containers with one crew until nothing is left to do in any, and closes their listeners: with workers up to this one, or by
+/// lanes. Where a number of steps is given, workers are replaced after each so many of them.
 pub(crate) fn serve_containers<R: Threads + Wait + Sync, G: Gate + Sync>(
     rt: &R,
     alloc: Global,
     containers: Vec<Container>,
     workers: Option<u8>,
     cpus: u8,
+    every: Option<u32>,
     gate: &G,
 ) -> Result<Vec<Played>, NoMemory>
     requires few { length containers.items ≤ 8 }
     requires numbers { IfSome workers (λ w. w ≤ 16) × (cpus ≤ 16) }
-    ensures ended { IfOk result (λ v. AreEnded (by_servers workers) containers.items v.items) }
+    requires every { IsAfterSteps every }
+    ensures ended { IfOk result (λ v. AreEnded (by_servers workers) every containers.items v.items) }
     ensures apart { NoneOverlap (scripts containers.items) → IfOk result (λ v. AllApart (histories v.items)) }
 {
     match workers {
-        Some(workers) => serve_pod(rt, alloc, containers, workers, cpus, gate),
-        None => serve_pod_by_lanes(rt, alloc, containers, cpus, gate),
+        Some(workers) => serve_pod(rt, alloc, containers, workers, cpus, every, gate),
+        None => serve_pod_by_lanes(rt, alloc, containers, cpus, every, gate),
     }
 }
 
@@ -147,14 +134,17 @@ pub(crate) fn run_container<R: Threads + Wait + Sync, G: Gate + Sync>(
     script: Script,
     workers: Option<u8>,
     cpus: u8,
+    every: Option<u32>,
     gate: &G,
 ) -> Result<Played, NoMemory>
     requires numbers { IfSome workers (λ w. w ≤ 16) × (cpus ≤ 16) }
+    requires every { IsAfterSteps every }
     ensures ended { IfOk result (λ p. by_servers workers policy script p.history.events) }
     ensures policy { IfOk result (λ p. p.policy ≡ policy) }
     ensures script { IfOk result (λ p. p.script ≡ script) }
+    ensures handed { IfOk result (λ p. handed_in p.handed ≡ handed_if every p.history.events) }
 {
     let containers = alone(alloc, policy, script)?;
-    let served = serve_containers(rt, alloc, containers, workers, cpus, gate)?;
+    let served = serve_containers(rt, alloc, containers, workers, cpus, every, gate)?;
     Ok(only(served))
 }

@@ -3,10 +3,10 @@
 ghost use Rattle.std.specs.Prelude.{◌≡◌, IfOk, OnOk};
 ghost use Rattle.audit_log.specs.Counts.{no_counts, plus};
 ghost use Rattle.audit_log.specs.Written.{Wrote};
-ghost use Rattle.broker_app.specs.PodText.{container_title, counts_in, part, parts, pod_line, pod_text, sums_of};
+ghost use Rattle.broker_app.specs.PodText.{container_title, counts_in, kept_in, part, parts, pod_line, pod_text, sums_of};
 ghost use Rattle.broker_app.specs.Refusals.{Stands};
 
-use crate::printing::write_report_counting;
+use crate::printing::write_played_counting;
 use audit_log::error::ReportError;
 use audit_log::line::LineBuffer;
 use audit_log::part::write_line;
@@ -27,7 +27,8 @@ fn container_title(alloc: Global, number: usize) -> Result<LineBuffer, NoMemory>
     Ok(line)
 }
 
-/// Writes the number of a container and its report, and adds the counts of its summary to those before.
+/// Writes the number of a container, its report, and its ledgers, where workers were to be replaced, and adds the counts of its summary to
+/// those before.
 fn write_part<O: Sink>(
     alloc: Global,
     number: usize,
@@ -35,13 +36,13 @@ fn write_part<O: Sink>(
     sums: &mut Counts,
     out: &mut O,
 ) -> Result<(), ReportError>
-    ensures wrote { Wrote (O.state out.old) (part number ended.now) result (O.state out.new) }
+    ensures wrote { Wrote (O.state out.old) (part kept_in number ended.now) result (O.state out.new) }
     ensures sums { OnOk result (sums.new ≡ plus sums.old (counts_in ended.now)) }
 {
     let title = container_title(alloc, number)?;
     write_line(&title, out)?;
     let mut counts = Counts::none();
-    write_report_counting(alloc, &ended.policy, &ended.history, &mut counts, out)?;
+    write_played_counting(alloc, ended, &mut counts, out)?;
     *sums = sums.plus(&counts)?;
     Ok(())
 }
@@ -54,7 +55,7 @@ fn write_parts<O: Sink>(
     out: &mut O,
 ) -> Result<(), ReportError>
     requires { sums.old ≡ no_counts }
-    ensures wrote { Wrote (O.state out.old) (parts 0 ended.now) result (O.state out.new) }
+    ensures wrote { Wrote (O.state out.old) (parts kept_in 0 ended.now) result (O.state out.new) }
     ensures sums { OnOk result (sums.new ≡ sums_of ended.now) }
 {
     for number in 0..ended.len() {
@@ -89,7 +90,7 @@ fn write_sums<O: Sink>(
 
 /// Writes the parts and the sums.
 fn write_pod<O: Sink>(alloc: Global, ended: &[Played], out: &mut O) -> Result<(), ReportError>
-    ensures { Wrote (O.state out.old) (pod_text ended.now) result (O.state out.new) }
+    ensures { Wrote (O.state out.old) (pod_text kept_in ended.now) result (O.state out.new) }
 {
     let mut sums = Counts::none();
     write_parts(alloc, ended, &mut sums, out)?;
@@ -103,7 +104,7 @@ pub(crate) fn print_pod<O: Sink>(
     ended: &[Played],
     out: &mut O,
 ) -> Result<(), ReportError>
-    ensures wrote { Wrote (O.state out.old) (pod_text ended.now) result (O.state out.new) }
+    ensures wrote { Wrote (O.state out.old) (pod_text kept_in ended.now) result (O.state out.new) }
     ensures stands { OnOk result (Stands (O.state out.new)) }
 {
     write_pod(alloc, ended, out)?;

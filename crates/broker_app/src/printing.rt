@@ -1,14 +1,17 @@
 //! What is printed of a history.
 
-ghost use Rattle.std.specs.Prelude.{◌≡◌, ◌++◌, IfOk, OnOk};
+ghost use Rattle.std.specs.Prelude.{◌≡◌, ◌++◌, List, IfOk, OnOk};
 ghost use Rattle.std.specs.List.{flat_map};
 ghost use Rattle.hist_model.specs.Report.{report};
-ghost use Rattle.hist_model.specs.ReportAudit.{judging_by};
+ghost use Rattle.hist_model.specs.ReportAudit.{Judging, judging_by};
+ghost use Rattle.hist_model.specs.declared.event.Event.{Event};
+ghost use Rattle.hist_model.specs.declared.policy.Rule.{Rule};
 ghost use Rattle.audit_log.specs.Counts.{counts_of};
 ghost use Rattle.audit_log.specs.Tables.{TellsTables};
 ghost use Rattle.audit_log.specs.Written.{Wrote};
 ghost use Rattle.handover.specs.Keeping.{all_handed, handed_as};
-ghost use Rattle.broker_app.specs.Handovers.{handovers, handovers_title, ledger_line};
+ghost use Rattle.worker_gate.specs.Replacing.{handed_in};
+ghost use Rattle.broker_app.specs.Handovers.{handovers, handovers_title, ledger_line, report_and};
 ghost use Rattle.broker_app.specs.Answers.{IsPrintable, text_of};
 ghost use Rattle.broker_app.specs.Findings.{findings, finished_text, yes_line};
 ghost use Rattle.broker_app.specs.Refusals.{Stands};
@@ -27,6 +30,7 @@ use hist_model::policy::Policy;
 use io_edge::sink::Sink;
 use std::alloc::Global;
 use sys_abi::memory::NoMemory;
+use worker_gate::Played;
 
 /// What is printed of a history.
 #[derive(Clone, Copy)]
@@ -42,7 +46,7 @@ pub(crate) enum Printout<'a> {
 }
 
 /// Writes the report, and tells the counts in its summary, where all was written.
-pub(crate) fn write_report_counting<O: Sink>(
+fn write_report_counting<O: Sink>(
     alloc: Global,
     policy: &Policy,
     history: &History,
@@ -193,6 +197,36 @@ fn write_handed<O: Sink>(
 {
     write_report(alloc, policy, history, out)?;
     write_handovers(alloc, handed, out)
+}
+
+/// What is printed of what was played or served: the report, and the ledgers from which workers were replaced, where they were to be.
+pub(crate) fn printout_of(played: &Played) -> Printout<'_>
+    ensures text { (J : Judging) → (H : List Event) → text_of result.entry J H ≡ report_and J H (handed_in played.now.handed) }
+    ensures printable { (rules : List Rule) → (H : List Event) → IsPrintable result rules H }
+{
+    match &played.handed {
+        Some(handed) => Printout::Handovers {
+            handed: handed.as_slice(),
+        },
+        None => Printout::Report,
+    }
+}
+
+/// Writes the same, and tells the counts in the report's summary, where all was written.
+pub(crate) fn write_played_counting<O: Sink>(
+    alloc: Global,
+    played: &Played,
+    counts: &mut Counts,
+    out: &mut O,
+) -> Result<(), ReportError>
+    ensures wrote { Wrote (O.state out.old) (report_and (judging_by played.now.policy.rules) played.now.history.events (handed_in played.now.handed)) result (O.state out.new) }
+    ensures counts { OnOk result (counts.new ≡ counts_of (judging_by played.now.policy.rules) played.now.history.events) }
+{
+    write_report_counting(alloc, &played.policy, &played.history, counts, out)?;
+    match &played.handed {
+        Some(handed) => write_handovers(alloc, handed.as_slice(), out),
+        None => Ok(()),
+    }
 }
 
 /// Writes what is printed.

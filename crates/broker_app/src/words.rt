@@ -2,9 +2,9 @@
 
 ghost use Rattle.std.specs.Prelude.{◌≡◌, ◌≤◌, ◌^◌, ◌-◌, map, IfSome};
 ghost use Rattle.std.specs.Option.{option_map};
-ghost use Rattle.broker_app.specs.Words.{run_form, lanes_form, are_pairs, pod_form, handover_form, delays_of, servers_of, explore_form, stress_form, two_words, three_words, short_words, four_words, five_words, few_words, form};
+ghost use Rattle.broker_app.specs.Words.{run_form, lanes_form, are_pairs, every_of, pod_form, pod_words, handover_form, delays_of, servers_of, explore_form, stress_form, two_words, three_words, short_words, four_words, five_words, six_words, seven_words, few_words, form};
 ghost use Rattle.hist_model.specs.Words.{number_between};
-ghost use Rattle.broker_app.specs.Forms.{IsInRange, form_of, texts};
+ghost use Rattle.broker_app.specs.Forms.{IsAfterSteps, IsInRange, form_of, texts};
 
 use plain_words::number_between;
 
@@ -80,52 +80,86 @@ pub enum Job<'a> {
 pub enum Form<'a> {
     Job(Job<'a>),
     /// Run a script with threads: the names of the policy's and the script's files, and two numbers from 0 to 16, of the hands
-    /// that serve notifications and of those that step tasks.
+    /// that serve notifications and of those that step tasks; and after how many steps of workers, 1 to 200,000, the one that took the
+    /// last is replaced, if any is.
     Run {
         policy: &'a str,
         script: &'a str,
         workers: u8,
         cpus: u8,
+        every: Option<u32>,
     },
-    /// Run a script by lanes: the names of the policy's and the script's files, and a number from 0 to 16, of the hands that step
-    /// tasks.
+    /// Run a script by lanes: the names of the policy's and the script's files, a number from 0 to 16, of the hands that step tasks,
+    /// and after how many steps of workers one is replaced.
     Lanes {
         policy: &'a str,
         script: &'a str,
         cpus: u8,
+        every: Option<u32>,
     },
     /// Serve containers side by side: a number from 0 to 16 of the threads that serve notifications, or none where lanes serve them,
-    /// another of those that step tasks, and the names of 1 to 8 pairs of files, each a policy's and a script's, one after another.
+    /// another of those that step tasks, after how many steps of a container's workers one is replaced, and the names of 1 to 8 pairs
+    /// of files, each a policy's and a script's, one after another.
     Pod {
         workers: Option<u8>,
         cpus: u8,
+        every: Option<u32>,
         pairs: &'a [String],
     },
 }
 
-fn run_form<'a>(policy: &'a str, script: &'a str, workers: &str, cpus: &str) -> Option<Form<'a>>
-    ensures meant { option_map form_of result ≡ run_form policy.now script.now (number_between 0 16 workers.now) (number_between 0 16 cpus.now) }
+/// After how many steps of workers one is replaced, 1 to 200,000, where the word before the number says so.
+fn every_of(word: &str, count: &str) -> Option<Option<u32>>
+    ensures meant { result ≡ every_of word.now count.now }
+    ensures range { IfSome result IsAfterSteps }
+{
+    if word.as_bytes() != b"every".as_slice() {
+        return None;
+    }
+    let every = number_between(count.as_bytes(), 1, 200_000)?;
+    Some(Some(every as u32))
+}
+
+fn run_form<'a>(
+    policy: &'a str,
+    script: &'a str,
+    workers: &str,
+    cpus: &str,
+    every: Option<Option<u32>>,
+) -> Option<Form<'a>>
+    requires { IfSome every IsAfterSteps }
+    ensures meant { option_map form_of result ≡ run_form policy.now script.now (number_between 0 16 workers.now) (number_between 0 16 cpus.now) every }
     ensures range { IfSome result (λ f. IsInRange f) }
 {
     let workers = number_between(workers.as_bytes(), 0, 16)?;
     let cpus = number_between(cpus.as_bytes(), 0, 16)?;
+    let every = every?;
     Some(Form::Run {
         policy,
         script,
         workers: workers as u8,
         cpus: cpus as u8,
+        every,
     })
 }
 
-fn lanes_form<'a>(policy: &'a str, script: &'a str, cpus: &str) -> Option<Form<'a>>
-    ensures meant { option_map form_of result ≡ lanes_form policy.now script.now (number_between 0 16 cpus.now) }
+fn lanes_form<'a>(
+    policy: &'a str,
+    script: &'a str,
+    cpus: &str,
+    every: Option<Option<u32>>,
+) -> Option<Form<'a>>
+    requires { IfSome every IsAfterSteps }
+    ensures meant { option_map form_of result ≡ lanes_form policy.now script.now (number_between 0 16 cpus.now) every }
     ensures range { IfSome result (λ f. IsInRange f) }
 {
     let cpus = number_between(cpus.as_bytes(), 0, 16)?;
+    let every = every?;
     Some(Form::Lanes {
         policy,
         script,
         cpus: cpus as u8,
+        every,
     })
 }
 
@@ -148,20 +182,43 @@ fn servers_of(word: &str) -> Option<Option<u8>>
     Some(Some(workers as u8))
 }
 
-fn pod_form<'a>(workers: &str, cpus: &str, pairs: &'a [String]) -> Option<Form<'a>>
-    ensures meant { option_map form_of result ≡ pod_form (servers_of workers.now) (number_between 0 16 cpus.now) (texts pairs.now) }
+fn pod_form<'a>(
+    workers: &str,
+    cpus: &str,
+    every: Option<Option<u32>>,
+    pairs: &'a [String],
+) -> Option<Form<'a>>
+    requires { IfSome every IsAfterSteps }
+    ensures meant { option_map form_of result ≡ pod_form (servers_of workers.now) (number_between 0 16 cpus.now) every (texts pairs.now) }
     ensures range { IfSome result (λ f. IsInRange f) }
 {
     let workers = servers_of(workers)?;
     let cpus = number_between(cpus.as_bytes(), 0, 16)?;
+    let every = every?;
     if !are_pairs(pairs.len()) {
         return None;
     }
     Some(Form::Pod {
         workers,
         cpus: cpus as u8,
+        every,
         pairs,
     })
+}
+
+/// The form of a pod, by the words after CPUS: `every` and a number, if workers are replaced, and the names.
+fn pod_words<'a>(workers: &str, cpus: &str, rest: &'a [String]) -> Option<Form<'a>>
+    ensures meant { option_map form_of result ≡ pod_words (servers_of workers.now) (number_between 0 16 cpus.now) (texts rest.now) }
+    ensures range { IfSome result (λ f. IsInRange f) }
+{
+    if let [word, count, pairs @ ..] = rest {
+        if word.as_bytes() == b"every".as_slice() {
+            let every = every_of(word.as_str(), count.as_str());
+            return pod_form(workers, cpus, every, pairs);
+        }
+        return pod_form(workers, cpus, Some(None), rest);
+    }
+    pod_form(workers, cpus, Some(None), rest)
 }
 
 fn handover_form<'a>(policy: &'a str, script: &'a str, every: &str) -> Option<Form<'a>>
@@ -282,7 +339,7 @@ fn four_words<'a>(command: &str, a: &'a str, b: &'a str, c: &'a str) -> Option<F
             report: c,
         }))
     } else if command.as_bytes() == b"lanes".as_slice() {
-        lanes_form(a, b, c)
+        lanes_form(a, b, c, Some(None))
     } else if command.as_bytes() == b"handover".as_slice() {
         handover_form(a, b, c)
     } else if command.as_bytes() == b"compare".as_slice() {
@@ -301,7 +358,7 @@ fn five_words<'a>(command: &str, a: &'a str, b: &'a str, c: &str, d: &str) -> Op
     ensures range { IfSome result (λ f. IsInRange f) }
 {
     if command.as_bytes() == b"run".as_slice() {
-        run_form(a, b, c, d)
+        run_form(a, b, c, d, Some(None))
     } else if command.as_bytes() == b"explore".as_slice() {
         explore_form(a, b, c, d)
     } else {
@@ -309,7 +366,44 @@ fn five_words<'a>(command: &str, a: &'a str, b: &'a str, c: &str, d: &str) -> Op
     }
 }
 
-/// The form of three to five words, but `pod`'s.
+fn six_words<'a>(
+    command: &str,
+    a: &'a str,
+    b: &'a str,
+    c: &str,
+    d: &str,
+    e: &str,
+) -> Option<Form<'a>>
+    ensures meant { option_map form_of result ≡ six_words command.now a.now b.now c.now d.now e.now }
+    ensures range { IfSome result (λ f. IsInRange f) }
+{
+    if command.as_bytes() == b"lanes".as_slice() {
+        lanes_form(a, b, c, every_of(d, e))
+    } else {
+        None
+    }
+}
+
+fn seven_words<'a>(
+    command: &str,
+    a: &'a str,
+    b: &'a str,
+    c: &str,
+    d: &str,
+    e: &str,
+    f: &str,
+) -> Option<Form<'a>>
+    ensures meant { option_map form_of result ≡ seven_words command.now a.now b.now c.now d.now e.now f.now }
+    ensures range { IfSome result (λ f. IsInRange f) }
+{
+    if command.as_bytes() == b"run".as_slice() {
+        run_form(a, b, c, d, every_of(e, f))
+    } else {
+        None
+    }
+}
+
+/// The form of three to seven words, but `pod`'s.
 fn few_words(words: &[String]) -> Option<Form<'_>>
     ensures meant { option_map form_of result ≡ few_words (texts words.now) }
     ensures range { IfSome result (λ f. IsInRange f) }
@@ -327,6 +421,27 @@ fn few_words(words: &[String]) -> Option<Form<'_>>
             b.as_str(),
             c.as_str(),
             d.as_str(),
+        );
+    }
+    if let [command, a, b, c, d, e] = words {
+        return six_words(
+            command.as_str(),
+            a.as_str(),
+            b.as_str(),
+            c.as_str(),
+            d.as_str(),
+            e.as_str(),
+        );
+    }
+    if let [command, a, b, c, d, e, f] = words {
+        return seven_words(
+            command.as_str(),
+            a.as_str(),
+            b.as_str(),
+            c.as_str(),
+            d.as_str(),
+            e.as_str(),
+            f.as_str(),
         );
     }
     None
@@ -348,9 +463,9 @@ pub fn read_form(words: &[String]) -> Option<Form<'_>>
     ensures meant { option_map form_of result ≡ form (texts words.now) }
     ensures range { IfSome result (λ f. IsInRange f) }
 {
-    if let [command, workers, cpus, pairs @ ..] = words {
+    if let [command, workers, cpus, rest @ ..] = words {
         if command.as_bytes() == b"pod".as_slice() {
-            return pod_form(workers.as_str(), cpus.as_str(), pairs);
+            return pod_words(workers.as_str(), cpus.as_str(), rest);
         }
         return few_words(words);
     }

@@ -4,4 +4,3 @@ pub mod Handed
 pub mod Newest
 pub mod Kept
 pub mod Replaced
-pub mod Turned

@@ -1,13 +1,8 @@
 -- What is kept of a history whose workers are replaced: a ledger of each worker, and those from which one was replaced.
-use Rattle.std.specs.Prelude.{◌≡◌, ℕ, ◌<◌, Bool, true, false, List, [], ◌∷◌, Option, Some, None, length, get_or, ◌⊎◌}
+use Rattle.std.specs.Prelude.{◌≡◌, ℕ, ◌<◌, Bool, true, false, List, [], ◌∷◌, Option, Some, None, length, get_or}
 use Rattle.hist_model.specs.Kinds.{skips}
 use Rattle.hist_model.specs.Look.{is_worker}
-use Rattle.hist_model.specs.declared.event.Actor.{Actor}
 use Rattle.hist_model.specs.declared.event.Event.{Event}
-use Rattle.hist_model.specs.declared.policy.Policy.{Policy}
-use Rattle.model_kernel.specs.Kernels.{past}
-use Rattle.broker_machine.specs.Serving.{after_step}
-use Rattle.broker_machine.specs.declared.machine.Machine.{Machine}
 use Rattle.worker_ledger.specs.Heard.{all_heard}
 use Rattle.worker_ledger.specs.declared.ledger.Ledger.{Ledger}
 use Rattle.handover.specs.Handing.{Handed, handed, worker_steps}
@@ -57,10 +52,3 @@ newest_skips (e ∷ K) = skips e.what
 abbrev pub AreBehind : ℕ → List Event → Ledgers → Type 0
 AreBehind w [] l = ⊥
 AreBehind w (e ∷ K) l = (is_worker e.who w ≡ true) × AreLedgers K l
-
--- ---- A turn without memory
-
--- the actor has stepped or hasn't
-pub record IsLeft (P : Policy) (old : Machine) (a : Actor) (new : Machine) : Type 0 where
-  pub script : new.kernel.script ≡ old.kernel.script
-  pub events : (past new.kernel ≡ past old.kernel) ⊎ (past new.kernel ≡ after_step P old a)

@@ -1,17 +1,15 @@
 //! The ledgers of a history's workers, which are kept up turn by turn, and the workers that are replaced.
 
-ghost use Rattle.std.specs.Prelude.{◌≡◌, ◌<◌, ◌≤◌, ◌%◌, ◌/◌, ◌==◌, [], length, IfOk, OnOk, OnErr};
-ghost use Rattle.broker_machine.specs.Serving.{IsFound, IsServed, Reaches, after_step};
+ghost use Rattle.std.specs.Prelude.{◌≡◌, ◌<◌, ◌≤◌, ◌%◌, ◌/◌, ◌==◌, [], length, IfOk, OnOk};
+ghost use Rattle.broker_machine.specs.Serving.{IsServed};
 ghost use Rattle.hist_model.specs.Legal.{started};
 ghost use Rattle.hist_model.specs.declared.script.Script.{Script as ScriptValue};
-ghost use Rattle.mediation.specs.Scheduled.{IsScheduled};
 ghost use Rattle.model_kernel.specs.Kernels.{past};
-ghost use Rattle.handover.specs.Handing.{worker_number};
-ghost use Rattle.handover.specs.Keeping.{AllKeep, AreBehind, AreLedgers, IsLeft};
+ghost use Rattle.handover.specs.Keeping.{AllKeep, AreBehind, AreLedgers};
 
 use crate::replacing::{hand_over, is_skip, note};
 use broker_machine::Machine;
-use hist_model::event::{Actor, WORKERS};
+use hist_model::event::WORKERS;
 use hist_model::policy::Policy;
 use std::alloc::Global;
 use sys_abi::memory::NoMemory;
@@ -50,16 +48,6 @@ fn new_ledgers(alloc: Global) -> Result<Vec<Ledger>, NoMemory>
         ledgers.push(Ledger::new(alloc, number))?;
     }
     Ok(ledgers)
-}
-
-/// The number of the worker that an actor is, if it is one.
-fn worker_number(who: &Actor) -> Option<u8>
-    ensures { result ≡ worker_number who.now }
-{
-    match who {
-        Actor::Worker(number) => Some(*number),
-        _ => None,
-    }
 }
 
 impl Ledgers {
@@ -102,9 +90,11 @@ impl Ledgers {
         (self.steps / u64::from(self.every)) % 2 == 1
     }
 
-    /// Keeps the ledgers up after the turn of a worker, and replaces the worker where the number of the workers' steps is a
-    /// multiple.
-    fn keep_up<T: Heir>(
+    /// Keeps the ledgers up after the newest event, which is this worker's. A worker that stepped is replaced where the number of the
+    /// workers' steps is a multiple: by turns from the ledger before its step and from the one after it.
+    ///
+    /// Want of memory leaves the machine with the worker that was to be replaced, and the ledgers in no state to go on with.
+    pub fn keep_up<T: Heir>(
         &mut self,
         alloc: Global,
         policy: &Policy,
@@ -116,7 +106,7 @@ impl Ledgers {
         requires number { number ≤ 16 }
         requires behind { AreBehind number (past machine.old.kernel) self.old }
         ensures ledgers { OnOk result (AreLedgers (past machine.new.kernel) self.new) }
-        ensures served { OnOk result (IsServed policy.now machine.new) }
+        ensures served { IsServed policy.now machine.new }
         ensures kernel { machine.new.kernel ≡ machine.old.kernel }
         ensures every { self.new.every ≡ self.old.every }
     {
@@ -140,34 +130,5 @@ impl Ledgers {
             ledger: text,
         })?;
         Ok(())
-    }
-
-    /// A turn of an actor, which has this ordinal if it is a task that was made. A worker that stepped is replaced where the
-    /// number of the workers' steps is a multiple: by turns from the ledger before its step and from the one after it.
-    ///
-    /// Want of memory may leave a machine without the worker that was to be replaced, which takes no more turns.
-    pub fn turn<T: Heir>(
-        &mut self,
-        alloc: Global,
-        policy: &Policy,
-        machine: &mut Machine,
-        who: &Actor,
-        task: Option<u32>,
-        heir: &mut T,
-    ) -> Result<(), NoMemory>
-        requires served { IsServed policy.now machine.old }
-        requires ledgers { AreLedgers (past machine.old.kernel) self.old }
-        requires scheduled { IsScheduled who.now }
-        requires found { IsFound (past machine.old.kernel) who.now task }
-        ensures done { OnOk result (Reaches policy.now machine.old (after_step policy.now machine.old who.now) machine.new) }
-        ensures ledgers { OnOk result (AreLedgers (past machine.new.kernel) self.new) }
-        ensures left { OnErr result (IsLeft policy.now machine.old who.now machine.new) }
-        ensures every { self.new.every ≡ self.old.every }
-    {
-        machine.found_turn(alloc, policy, who, task)?;
-        match worker_number(who) {
-            Some(number) => self.keep_up(alloc, policy, machine, number, heir),
-            None => Ok(()),
-        }
     }
 }

@@ -1,7 +1,7 @@
 //! Workers that are replaced while their calls wait.
 //!
 //! A worker is stopped between two of its steps, or after a step that its ledger hasn't yet. Its successor has the ledger's bytes,
-//! the number of the worker's steps, and the answer of the last one, and nothing else of the worker, which is let go of before.
+//! the number of the worker's steps, and the answer of the last one, and nothing else of the worker, which is stopped before it sits down.
 //!
 //! Its model is the ledger of each worker of a history (`specs/Ledgers.antt`), and the ledgers from which workers were replaced
 //! (`specs/Handing.antt`). The law (`laws`) says that whatever a legal history a successor goes on as the worker: so a session of a

@@ -2,7 +2,7 @@
 
 ghost use Rattle.std.specs.Prelude.{◌≡◌, ◌≤◌, true, false, IfOk, OnOk};
 ghost use Rattle.std.specs.Option.{option_map};
-ghost use Rattle.broker_machine.specs.Serving.{IsServed, IsStopped};
+ghost use Rattle.broker_machine.specs.Serving.{IsServed};
 ghost use Rattle.hist_model.specs.Kinds.{is_letgo};
 ghost use Rattle.hist_model.specs.declared.policy.Policy.{Policy as PolicyValue};
 ghost use Rattle.model_kernel.specs.Kernels.{past};
@@ -125,8 +125,8 @@ fn figures_of(machine: &Machine) -> Figures
     machine.script().figures
 }
 
-/// The worker that goes on where one was stopped after the newest step, from a text of its ledger, the number of its steps and
-/// the answer of that step.
+/// The worker that goes on after the newest step in place of the one that took it, from a text of its ledger, the number of its steps
+/// and the answer of that step.
 fn successor<T: Heir>(
     machine: &Machine,
     alloc: Global,
@@ -136,7 +136,7 @@ fn successor<T: Heir>(
     count: u64,
     heir: &mut T,
 ) -> Result<Successor, NoMemory>
-    requires stopped { IsStopped policy.now number machine.now }
+    requires served { IsServed policy.now machine.now }
     requires step { IsStepAt number (past machine.now.kernel) }
     requires text { IsLedgerIn number (past machine.now.kernel) text.now }
     requires count { count ≡ taken (past machine.now.kernel) number }
@@ -155,9 +155,11 @@ fn successor<T: Heir>(
     }
 }
 
-/// Replaces the worker that took the newest step, which its ledger hasn't yet. The worker is let go of before its successor is
-/// asked for, and the successor's ledger stands in the place of the worker's. The text is the one that the successor went on from:
-/// that before the step where it is to be one behind, and that after it else.
+/// Replaces the worker that took the newest step, which its ledger hasn't yet, and gives the text that its successor went on from: the
+/// ledger's text before that step where it is to be one behind, and that after it else. The successor's ledger stands in the place of
+/// the worker's.
+///
+/// The successor is made of that text alone, before the worker is stopped, so that want of memory leaves the machine as it was.
 pub(crate) fn hand_over<T: Heir>(
     machine: &mut Machine,
     alloc: Global,
@@ -172,17 +174,17 @@ pub(crate) fn hand_over<T: Heir>(
     requires behind { IsOneBehind number (past machine.old.kernel) ledger.old }
     ensures text { IfOk result (λ text. IsWritten is_behind number (past machine.old.kernel) text.items) }
     ensures keeps { OnOk result (Keeps (past machine.old.kernel) number ledger.new) }
-    ensures served { OnOk result (IsServed policy.now machine.new) }
+    ensures served { IsServed policy.now machine.new }
     ensures kernel { machine.new.kernel ≡ machine.old.kernel }
 {
     let text = written(machine, alloc, number, ledger, is_behind)?;
-    machine.stop_worker(alloc, number);
     let count = ledger.count();
     let next = successor(machine, alloc, policy, number, text.as_slice(), count, heir)?;
     let Successor {
         worker,
         ledger: noted,
     } = next;
+    machine.stop_worker(alloc, number);
     machine.seat_worker(number, worker);
     *ledger = noted;
     Ok(text)

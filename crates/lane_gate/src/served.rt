@@ -1,6 +1,6 @@
 //! The state behind the listener's lock where lanes are served.
 
-ghost use Rattle.std.specs.Prelude.{◌≡◌, ◌≤◌, IfOk, Some};
+ghost use Rattle.std.specs.Prelude.{◌≡◌, ◌<◌, ◌≤◌, IfOk, IfSome, Some};
 ghost use Rattle.hist_model.specs.Legal.{started};
 ghost use Rattle.hist_model.specs.declared.event.Actor.TheVariants.{Worker};
 ghost use Rattle.lane_seats.specs.Lanes.{KeepsLanes as MayStep, Laned};
@@ -49,12 +49,19 @@ impl Journalled for LaneServed {
 }
 
 impl LaneServed {
-    /// The state after a script's start, with all seats free.
-    pub fn new(alloc: Global, policy: Policy, script: Script) -> Result<LaneServed, NoMemory>
-        ensures setup { IfOk result (λ s. s.setup ≡ record { policy = policy; script = script; limit = Some 15; every = None }) }
+    /// The state after a script's start, with all seats free. Where a number of steps is given, workers are replaced after each so
+    /// many of them.
+    pub fn new(
+        alloc: Global,
+        policy: Policy,
+        script: Script,
+        every: Option<u32>,
+    ) -> Result<LaneServed, NoMemory>
+        requires { IfSome every (λ n. 0 < n) }
+        ensures setup { IfOk result (λ s. s.setup ≡ record { policy = policy; script = script; limit = Some 15; every = every }) }
         ensures events { IfOk result (λ s. s.history.events ≡ started script) }
     {
-        let served = Served::new(alloc, policy, script, Some(SEATS - 1))?;
+        let served = Served::new(alloc, policy, script, Some(SEATS - 1), every)?;
         let seats = Seats::new();
         Ok(LaneServed {
             served,

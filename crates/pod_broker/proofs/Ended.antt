@@ -1,6 +1,6 @@
 -- Containers that were served side by side give no common PID, where their scripts' ranges don't overlap.
 -- Each gives numbers of its own script's range alone, and two ranges that don't overlap have none in common; by induction on the lists.
-use Rattle.std.proofs.Common.{◌≡◌, ℕ, suc, false, List, [], ◌∷◌, map, All, Some, refl, subst, arith}
+use Rattle.std.proofs.Common.{◌≡◌, ℕ, suc, false, List, [], ◌∷◌, map, All, Option, Some, refl, subst, arith}
 use Rattle.std.proofs.lemmas.Bool.{false_from_ne_true}
 use Rattle.std.proofs.lemmas.List.Elements.{All-cons, All-head, All-nil, All-tail}
 use Rattle.std.proofs.lemmas.List.Kept.{AllPairs-cons}
@@ -32,11 +32,11 @@ others-of R x xs h = λ i j d l k. h (suc i) (suc j) d (omega arith) (omega arit
 
 -- ---- PIDs
 
-module _ (workers : ℕ) (Keeps : List Event → Type 0) where
-  two-apart : (c d : Container) (p q : Played) → overlap c.script d.script ≡ false → IsServedTo workers Keeps c p → IsServedTo workers Keeps d q → Apart p.history.events q.history.events
+module _ (workers : ℕ) (every : Option ℕ) (Keeps : List Event → Type 0) where
+  two-apart : (c d : Container) (p q : Played) → overlap c.script d.script ≡ false → IsServedTo workers every Keeps c p → IsServedTo workers every Keeps d q → Apart p.history.events q.history.events
   two-apart c d p q o s t = λ n g. false_from_ne_true (was_given q.history.events n) (λ h. let out = not-shared c.script d.script n o (s.inside n g) in let inside = t.inside n h in cc)
 
-  one-apart : (c : Container) (p : Played) (cs : List Container) (ps : List Played) → IsServedTo workers Keeps c p → AreServed workers Keeps cs ps → All (λ (T : Script). overlap c.script T ≡ false) (scripts cs)
+  one-apart : (c : Container) (p : Played) (cs : List Container) (ps : List Played) → IsServedTo workers every Keeps c p → AreServed workers every Keeps cs ps → All (λ (T : Script). overlap c.script T ≡ false) (scripts cs)
       → All (Apart p.history.events) (histories ps)
   one-apart c p [] [] s t o = All-nil (Apart p.history.events)
   one-apart c p [] (q ∷ qs) s t o = absurd t
@@ -46,7 +46,7 @@ module _ (workers : ℕ) (Keeps : List Event → Type 0) where
       (two-apart c d p q (All-head (λ (T : Script). overlap c.script T ≡ false) d.script (scripts cs) o) s t.0)
       (one-apart c p cs qs s t.1 (All-tail (λ (T : Script). overlap c.script T ≡ false) d.script (scripts cs) o))
 
-  pub all-apart : (cs : List Container) (ps : List Played) → AreServed workers Keeps cs ps → NoneOverlap (scripts cs) → AllApart (histories ps)
+  pub all-apart : (cs : List Container) (ps : List Played) → AreServed workers every Keeps cs ps → NoneOverlap (scripts cs) → AllApart (histories ps)
   all-apart [] [] t o = λ i j d l k. absurd (omega arith)
   all-apart [] (p ∷ ps) t o = absurd t
   all-apart (c ∷ cs) [] t o = absurd t
@@ -57,13 +57,14 @@ module _ (workers : ℕ) (Keeps : List Event → Type 0) where
 
   -- ---- what was closed as it was set up
 
-  closed-one : (c : Container) (p : Played) → IsClosedAs Keeps (set_up_for workers c) p → IsServedTo workers Keeps c p
+  closed-one : (c : Container) (p : Played) → IsClosedAs Keeps (set_up_for workers every c) p → IsServedTo workers every Keeps c p
   closed-one c p closed = record {
     policy = closed.policy;
     script = closed.script;
     ended = ended;
     keeps = closed.keeps;
     inside = λ n given. own p.history.events ended.legal n given;
+    handed = closed.handed;
   }
     where
       ended : HasEnded c.policy c.script workers p.history.events
@@ -72,21 +73,21 @@ module _ (workers : ℕ) (Keeps : List Event → Type 0) where
       own : GivesInRange c.policy c.script
       own = subst (λ (P : Policy). GivesInRange P c.script) closed.policy (subst (λ (S : Script). GivesInRange p.policy S) closed.script closed.inside)
 
-  pub all-closed-so : (cs : List Container) (ps : List Played) → AllZip (IsClosedAs Keeps) (map (set_up_for workers) cs) ps → AreServed workers Keeps cs ps
+  pub all-closed-so : (cs : List Container) (ps : List Played) → AllZip (IsClosedAs Keeps) (map (set_up_for workers every) cs) ps → AreServed workers every Keeps cs ps
   all-closed-so [] [] z = tt
   all-closed-so [] (p ∷ ps) z = absurd z
   all-closed-so (c ∷ cs) [] z = absurd z
   all-closed-so (c ∷ cs) (p ∷ ps) z = (closed-one c p z.0, all-closed-so cs ps z.1)
 
   -- each container that is set up so has a last worker
-  pub limited : (cs : List Container) → All IsLimited (map (set_up_for workers) cs)
+  pub limited : (cs : List Container) → All IsLimited (map (set_up_for workers every) cs)
   limited [] = All-nil IsLimited
-  limited (c ∷ cs) = All-cons IsLimited (set_up_for workers c) (map (set_up_for workers) cs) (workers, refl) (limited cs)
+  limited (c ∷ cs) = All-cons IsLimited (set_up_for workers every c) (map (set_up_for workers every) cs) (workers, refl) (limited cs)
 
 -- and takes a crew whose workers are up to that one
-pub taken : (workers : ℕ) (crew : Crew) (cs : List Container) → MayServeAll (Some workers) crew → All (Takes crew) (map (set_up_for workers) cs)
-taken workers crew [] may = All-nil (Takes crew)
-taken workers crew (c ∷ cs) may = All-cons (Takes crew) (set_up_for workers c) (map (set_up_for workers) cs) may (taken workers crew cs may)
+pub taken : (workers : ℕ) (every : Option ℕ) (crew : Crew) (cs : List Container) → MayServeAll (Some workers) crew → All (Takes crew) (map (set_up_for workers every) cs)
+taken workers every crew [] may = All-nil (Takes crew)
+taken workers every crew (c ∷ cs) may = All-cons (Takes crew) (set_up_for workers every c) (map (set_up_for workers every) cs) may (taken workers every crew cs may)
 
 -- ---- what is closed where nothing is left to do
 

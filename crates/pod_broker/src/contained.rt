@@ -1,7 +1,8 @@
 //! How a container's state is set up, and as what it ends.
 
-ghost use Rattle.std.specs.Prelude.{◌≡◌, IfOk, Some};
+ghost use Rattle.std.specs.Prelude.{◌≡◌, ◌<◌, IfOk, IfSome, Some};
 ghost use Rattle.lane_seats.specs.Lanes.{Laned};
+ghost use Rattle.worker_gate.specs.Replacing.{handed_if, handed_in};
 ghost use Rattle.pod_broker.specs.Serving.{Any, HasEndedAs, IsLimited};
 
 use crew::Crewed;
@@ -12,7 +13,8 @@ use std::alloc::Global;
 use sys_abi::memory::NoMemory;
 use worker_gate::{Played, Served};
 
-/// The state of a container, which is set up with a policy, a script and the number of the last worker that may serve.
+/// The state of a container, which is set up with a policy, a script, the number of the last worker that may serve, and after how many
+/// steps workers are replaced, where they are.
 pub(crate) trait Contained: Crewed + Sized {
     ghost use Rattle.std.specs.Prelude.{ℕ, List};
     ghost use Rattle.hist_model.specs.declared.event.Event.{Event};
@@ -23,9 +25,16 @@ pub(crate) trait Contained: Crewed + Sized {
     /// What its history keeps by the state's type, beside the law.
     ghost keeps: { List Event → Type 0 };
 
-    fn set_up(alloc: Global, policy: Policy, script: Script, workers: u8) -> Result<Self, NoMemory>
-        requires { may workers }
-        ensures { IfOk result (λ s. Self.setup s ≡ record { policy = policy; script = script; limit = Some workers; every = None }) };
+    fn set_up(
+        alloc: Global,
+        policy: Policy,
+        script: Script,
+        workers: u8,
+        every: Option<u32>,
+    ) -> Result<Self, NoMemory>
+        requires may { may workers }
+        requires every { IfSome every (λ n. 0 < n) }
+        ensures { IfOk result (λ s. Self.setup s ≡ record { policy = policy; script = script; limit = Some workers; every = every }) };
 
     /// Closes the listener, where nothing is left to do.
     fn close(self) -> Result<Played, NoMemory>
@@ -34,7 +43,8 @@ pub(crate) trait Contained: Crewed + Sized {
         ensures policy { IfOk result (λ p. p.policy ≡ (Self.setup self).policy) }
         ensures script { IfOk result (λ p. p.script ≡ (Self.setup self).script) }
         ensures ended { IfOk result (λ p. HasEndedAs (Self.setup self) p.history.events) }
-        ensures keeps { IfOk result (λ p. keeps p.history.events) };
+        ensures keeps { IfOk result (λ p. keeps p.history.events) }
+        ensures handed { IfOk result (λ p. handed_in p.handed ≡ handed_if (Self.setup self).every p.history.events) };
 }
 
 impl Contained for Served {
@@ -47,8 +57,9 @@ impl Contained for Served {
         policy: Policy,
         script: Script,
         workers: u8,
+        every: Option<u32>,
     ) -> Result<Served, NoMemory> {
-        Served::new(alloc, policy, script, Some(workers))
+        Served::new(alloc, policy, script, Some(workers), every)
     }
 
     fn close(self) -> Result<Played, NoMemory> {
@@ -66,8 +77,9 @@ impl Contained for LaneServed {
         policy: Policy,
         script: Script,
         _workers: u8,
+        every: Option<u32>,
     ) -> Result<LaneServed, NoMemory> {
-        LaneServed::new(alloc, policy, script)
+        LaneServed::new(alloc, policy, script, every)
     }
 
     fn close(self) -> Result<Played, NoMemory> {

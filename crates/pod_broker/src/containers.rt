@@ -1,6 +1,6 @@
 //! All containers, from their start to their close.
 
-ghost use Rattle.std.specs.Prelude.{◌≡◌, map, All, IfOk};
+ghost use Rattle.std.specs.Prelude.{◌≡◌, ◌<◌, map, All, IfOk, IfSome};
 ghost use Rattle.std.specs.List.{AllZip};
 ghost use Rattle.crew.specs.Locks.{IsDone};
 ghost use Rattle.pod_broker.specs.Pods.{GivesInRange};
@@ -14,28 +14,37 @@ use std::alloc::Global;
 use sys_abi::memory::NoMemory;
 use worker_gate::Played;
 
-/// A container after its start. Workers up to this one may serve it.
-fn set_up<S: Contained>(alloc: Global, container: Container, workers: u8) -> Result<S, NoMemory>
+/// A container after its start. Workers up to this one may serve it, and are replaced after each so many of their steps, if a number is
+/// given.
+fn set_up<S: Contained>(
+    alloc: Global,
+    container: Container,
+    workers: u8,
+    every: Option<u32>,
+) -> Result<S, NoMemory>
     requires may { S.may workers }
-    ensures { IfOk result (λ s. S.setup s ≡ set_up_for workers container) }
+    requires every { IfSome every (λ n. 0 < n) }
+    ensures { IfOk result (λ s. S.setup s ≡ set_up_for workers every container) }
 {
     let Container { policy, script } = container;
-    S::set_up(alloc, policy, script, workers)
+    S::set_up(alloc, policy, script, workers, every)
 }
 
-/// Each container after its start, in order. Workers up to this one may serve it.
+/// Each container after its start, in order.
 pub(crate) fn set_up_all<S: Contained + Drop>(
     alloc: Global,
     mut containers: Vec<Container>,
     workers: u8,
+    every: Option<u32>,
 ) -> Result<Vec<S>, NoMemory>
     requires may { S.may workers }
-    ensures { IfOk result (λ v. map S.setup v.items ≡ map (set_up_for workers) containers.items) }
+    requires every { IfSome every (λ n. 0 < n) }
+    ensures { IfOk result (λ v. map S.setup v.items ≡ map (set_up_for workers every) containers.items) }
 {
     let mut states = Vec::with_capacity(alloc, containers.len())?;
     while !containers.is_empty() {
         let container = containers.remove(0);
-        let state = set_up(alloc, container, workers)?;
+        let state = set_up(alloc, container, workers, every)?;
         states.push(state)?;
     }
     Ok(states)

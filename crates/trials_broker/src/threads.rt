@@ -100,6 +100,43 @@ fn serves_one_call_while_another_is_held(rt: HostRuntime) -> Result<(), Fail> {
     Ok(())
 }
 
+/// The line of a report that says how many workers were replaced, each after one of its nine steps for each call.
+const EACH_STEP: &[u8] = b"handovers 18";
+
+/// Does what these words ask for on the two tasks, with workers that are replaced after each of their steps, and sees that as many were.
+fn replace_all<R: Abort + Threads + Wait + Sync, G: Gate + Sync>(
+    rt: &R,
+    alloc: Global,
+    words: &[&'static str],
+    gate: &G,
+) -> Result<(), Fail> {
+    let answer = run(rt, alloc, sound(words, POLICY, TWO_TASKS), gate)?;
+    assert_eq!(rt; answer.status, Status::Done);
+    let mut lines = answer.out.taken().split(|byte| *byte == b'\n');
+    assert!(rt; lines.any(|line| line == EACH_STEP));
+    Ok(())
+}
+
+#[test]
+fn replaces_workers_while_a_call_is_held(rt: HostRuntime) -> Result<(), Fail> {
+    let gate = HoldFirst::new();
+    let words = ["run", "p", "s", "2", "1", "every", "1"];
+    replace_all(&rt, rt.alloc(), &words, &gate)?;
+    assert_eq!(rt; gate.gave_up.load(Ordering::SeqCst), 0);
+    Ok(())
+}
+
+#[test]
+fn replaces_workers_of_lanes_and_of_pods(rt: HostRuntime) -> Result<(), Fail> {
+    let alloc = rt.alloc();
+    let lanes = ["lanes", "p", "s", "1", "every", "1"];
+    replace_all(&rt, alloc, &lanes, &OpenGate)?;
+    let pod = ["pod", "2", "1", "every", "1", "p", "s"];
+    replace_all(&rt, alloc, &pod, &OpenGate)?;
+    let pod_of_lanes = ["pod", "lanes", "1", "every", "1", "p", "s"];
+    replace_all(&rt, alloc, &pod_of_lanes, &OpenGate)
+}
+
 #[test]
 fn serves_all_by_the_calling_hand(rt: HostRuntime) -> Result<(), Fail> {
     run_two(&rt, rt.alloc(), "0", "0", &OpenGate)

@@ -1,5 +1,7 @@
 //! Containers that are served by lanes, under a gate that holds one lane until others came to a point.
 
+ghost use Rattle.std.specs.Prelude.{◌<◌, IfSome};
+
 use crew::{Gate, OpenGate, Point};
 use hist_model::event::What;
 use hist_model::history::History;
@@ -102,8 +104,11 @@ fn served<R: Abort + Threads + Wait + Sync, G: Gate + Sync>(
     rt: &R,
     alloc: Global,
     script: &str,
+    every: Option<u32>,
     gate: &G,
-) -> History {
+) -> History
+    requires { IfSome every (λ n. 0 < n) }
+{
     // Mknods and sysinfos are granted, and mounts are passed.
     let policy = read_policy(
         alloc,
@@ -118,7 +123,7 @@ fn served<R: Abort + Threads + Wait + Sync, G: Gate + Sync>(
     containers
         .push(Container { policy, script })
         .expect(rt, "memory");
-    let mut served = serve_pod_by_lanes(rt, alloc, containers, 1, gate).expect(rt, "memory");
+    let mut served = serve_pod_by_lanes(rt, alloc, containers, 1, every, gate).expect(rt, "memory");
     let Some(Played { history, .. }) = served.pop() else {
         panic!(rt; "nothing was served");
     };
@@ -155,7 +160,7 @@ fn mount_and_nodes(alloc: Global, nodes: u32) -> Result<String, Fail> {
 #[test]
 fn serves_one_lane_while_another_is_held(rt: HostRuntime) {
     let gate = HoldLane::new(0, 3, 1);
-    let history = served(&rt, rt.alloc(), TWO_KINDS, &gate);
+    let history = served(&rt, rt.alloc(), TWO_KINDS, None, &gate);
     assert_eq!(&rt; history.len(), 30);
     assert!(&rt; answers_and_effects(&history) == (2, 2));
     assert_eq!(&rt; gate.gave_up.load(Ordering::SeqCst), 0);
@@ -165,7 +170,7 @@ fn serves_one_lane_while_another_is_held(rt: HostRuntime) {
 fn a_mount_holds_up_no_mknod(rt: HostRuntime) -> Result<(), Fail> {
     let gate = HoldLane::new(1, 0, 50);
     let script = mount_and_nodes(rt.alloc(), 50)?;
-    let history = served(&rt, rt.alloc(), script.as_str(), &gate);
+    let history = served(&rt, rt.alloc(), script.as_str(), None, &gate);
     assert!(rt; answers_and_effects(&history).0 == 51);
     assert_eq!(rt; gate.sent.load(Ordering::SeqCst), 50);
     assert_eq!(rt; gate.gave_up.load(Ordering::SeqCst), 0);
@@ -174,6 +179,17 @@ fn a_mount_holds_up_no_mknod(rt: HostRuntime) -> Result<(), Fail> {
 
 #[test]
 fn serves_with_a_gate_that_is_open(rt: HostRuntime) {
-    let history = served(&rt, rt.alloc(), TWO_KINDS, &OpenGate);
+    let history = served(&rt, rt.alloc(), TWO_KINDS, None, &OpenGate);
     assert_eq!(&rt; history.len(), 30);
+}
+
+#[test]
+fn replaces_workers_while_a_lane_is_held(rt: HostRuntime) -> Result<(), Fail> {
+    let gate = HoldLane::new(1, 0, 50);
+    let script = mount_and_nodes(rt.alloc(), 50)?;
+    let history = served(&rt, rt.alloc(), script.as_str(), Some(1), &gate);
+    assert!(rt; answers_and_effects(&history).0 == 51);
+    assert_eq!(rt; gate.sent.load(Ordering::SeqCst), 50);
+    assert_eq!(rt; gate.gave_up.load(Ordering::SeqCst), 0);
+    Ok(())
 }

@@ -1,6 +1,6 @@
 //! Containers that are served side by side, under a gate that holds the first until others have sent answers.
 
-ghost use Rattle.std.specs.Prelude.{◌≡◌, ◌≤◌, ◌<◌, length, IfOk, OnOk};
+ghost use Rattle.std.specs.Prelude.{◌≡◌, ◌≤◌, ◌<◌, length, IfOk, IfSome, OnOk};
 
 use crew::{Gate, OpenGate, Point};
 use hist_model::event::What;
@@ -163,12 +163,13 @@ fn serve<R: Abort + Threads + Wait + Sync, G: Gate + Sync>(
     count: u8,
     workers: u8,
     cpus: u8,
+    every: Option<u32>,
     gate: &G,
 ) -> Result<(), Fail>
-    requires { (count ≤ 8) × (workers ≤ 16) × (cpus ≤ 16) }
+    requires { (count ≤ 8) × (workers ≤ 16) × (cpus ≤ 16) × IfSome every (λ n. 0 < n) }
 {
     let containers = containers(rt, alloc, count);
-    let played = serve_pod(rt, alloc, containers, workers, cpus, gate).expect(rt, "memory");
+    let played = serve_pod(rt, alloc, containers, workers, cpus, every, gate).expect(rt, "memory");
     assert!(rt; are_whole(&played, usize::from(count)));
     Ok(())
 }
@@ -179,12 +180,13 @@ fn serve_by_lanes<R: Abort + Threads + Wait + Sync, G: Gate + Sync>(
     alloc: Global,
     count: u8,
     cpus: u8,
+    every: Option<u32>,
     gate: &G,
 ) -> Result<(), Fail>
-    requires { (count ≤ 8) × (cpus ≤ 16) }
+    requires { (count ≤ 8) × (cpus ≤ 16) × IfSome every (λ n. 0 < n) }
 {
     let containers = containers(rt, alloc, count);
-    let played = serve_pod_by_lanes(rt, alloc, containers, cpus, gate).expect(rt, "memory");
+    let played = serve_pod_by_lanes(rt, alloc, containers, cpus, every, gate).expect(rt, "memory");
     assert!(rt; are_whole(&played, usize::from(count)));
     Ok(())
 }
@@ -192,7 +194,7 @@ fn serve_by_lanes<R: Abort + Threads + Wait + Sync, G: Gate + Sync>(
 #[test]
 fn serves_one_container_while_another_is_held(rt: HostRuntime) -> Result<(), Fail> {
     let gate = HoldFirst::new(1);
-    serve(&rt, rt.alloc(), 2, 2, 1, &gate)?;
+    serve(&rt, rt.alloc(), 2, 2, 1, None, &gate)?;
     assert!(&rt; gate.came.load(Ordering::SeqCst) == 2);
     assert!(&rt; gate.gave_up.load(Ordering::SeqCst) == 0);
     Ok(())
@@ -201,7 +203,7 @@ fn serves_one_container_while_another_is_held(rt: HostRuntime) -> Result<(), Fai
 #[test]
 fn serves_seven_containers_while_the_first_is_held(rt: HostRuntime) -> Result<(), Fail> {
     let gate = HoldFirst::new(14);
-    serve(&rt, rt.alloc(), 8, 2, 1, &gate)?;
+    serve(&rt, rt.alloc(), 8, 2, 1, None, &gate)?;
     assert!(&rt; gate.came.load(Ordering::SeqCst) == 2);
     assert!(&rt; gate.gave_up.load(Ordering::SeqCst) == 0);
     Ok(())
@@ -209,13 +211,13 @@ fn serves_seven_containers_while_the_first_is_held(rt: HostRuntime) -> Result<()
 
 #[test]
 fn serves_all_by_the_calling_hand(rt: HostRuntime) -> Result<(), Fail> {
-    serve(&rt, rt.alloc(), 8, 0, 0, &OpenGate)
+    serve(&rt, rt.alloc(), 8, 0, 0, None, &OpenGate)
 }
 
 #[test]
 fn serves_all_by_many_hands(rt: HostRuntime) -> Result<(), Fail> {
     for _ in 0..50 {
-        serve(&rt, rt.alloc(), 8, 4, 3, &OpenGate)?;
+        serve(&rt, rt.alloc(), 8, 4, 3, None, &OpenGate)?;
     }
     Ok(())
 }
@@ -223,7 +225,7 @@ fn serves_all_by_many_hands(rt: HostRuntime) -> Result<(), Fail> {
 #[test]
 fn a_held_lane_holds_up_no_other_container(rt: HostRuntime) -> Result<(), Fail> {
     let gate = HoldFirst::new(14);
-    serve_by_lanes(&rt, rt.alloc(), 8, 1, &gate)?;
+    serve_by_lanes(&rt, rt.alloc(), 8, 1, None, &gate)?;
     assert!(&rt; gate.came.load(Ordering::SeqCst) == 2);
     assert!(&rt; gate.gave_up.load(Ordering::SeqCst) == 0);
     Ok(())
@@ -232,7 +234,35 @@ fn a_held_lane_holds_up_no_other_container(rt: HostRuntime) -> Result<(), Fail> 
 #[test]
 fn serves_all_by_many_lanes(rt: HostRuntime) -> Result<(), Fail> {
     for _ in 0..20 {
-        serve_by_lanes(&rt, rt.alloc(), 8, 3, &OpenGate)?;
+        serve_by_lanes(&rt, rt.alloc(), 8, 3, None, &OpenGate)?;
+    }
+    Ok(())
+}
+
+#[test]
+fn replaces_workers_while_the_first_container_is_held(rt: HostRuntime) -> Result<(), Fail> {
+    let gate = HoldFirst::new(14);
+    serve(&rt, rt.alloc(), 8, 2, 1, Some(1), &gate)?;
+    assert!(&rt; gate.came.load(Ordering::SeqCst) == 2);
+    assert!(&rt; gate.gave_up.load(Ordering::SeqCst) == 0);
+    Ok(())
+}
+
+#[test]
+fn replaces_workers_of_lanes_while_the_first_container_is_held(
+    rt: HostRuntime,
+) -> Result<(), Fail> {
+    let gate = HoldFirst::new(14);
+    serve_by_lanes(&rt, rt.alloc(), 8, 1, Some(1), &gate)?;
+    assert!(&rt; gate.came.load(Ordering::SeqCst) == 2);
+    assert!(&rt; gate.gave_up.load(Ordering::SeqCst) == 0);
+    Ok(())
+}
+
+#[test]
+fn replaces_workers_of_many_hands(rt: HostRuntime) -> Result<(), Fail> {
+    for every in 1..20 {
+        serve(&rt, rt.alloc(), 8, 4, 3, Some(every), &OpenGate)?;
     }
     Ok(())
 }

@@ -1,3 +1,4 @@
+pub mod Replaced
 pub mod Schedules
 pub mod Stepped
 pub mod Kept

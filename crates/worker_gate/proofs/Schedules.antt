@@ -1,6 +1,6 @@
 -- The places of a schedule that is played, and what is played at its end.
 -- By the definition of what a schedule plays, from the steps of a line and the lines that are left.
-use Rattle.std.proofs.Common.{◌≡◌, ℕ, suc, ◌+◌, ◌-◌, ◌<◌, ◌≤◌, true, false, List, ◌∷◌, length, drop, get_or, refl, sym, ap, add-one, drop-cons, arith, Some, None}
+use Rattle.std.proofs.Common.{◌≡◌, ℕ, suc, ◌+◌, ◌-◌, ◌<◌, ◌≤◌, true, false, List, ◌∷◌, length, drop, get_or, refl, sym, ap, add-one, drop-cons, arith, Option, Some, None}
 use Rattle.std.specs.Prelude.{slice_get}
 use Rattle.std.proofs.lemmas.List.{drop_all}
 use Rattle.std.proofs.lemmas.Option.{get_or_from_slice_get, slice_get_within}
@@ -81,6 +81,6 @@ unfolding step
 closed_is_played P S K is = ap (λ (H : List Event). ev Listener Close ∷ H) is
 
 -- where a state was made with this setup, at the script's start
-pub turns_played : (P : Policy) (S : Script) (made : Setup) (opening K : List Event) → made ≡ record { policy = P; script = S; limit = None; every = None } → opening ≡ started S → K ≡ with_schedule made.policy made.script made.script.schedule opening
+pub turns_played : (P : Policy) (S : Script) (every : Option ℕ) (made : Setup) (opening K : List Event) → made ≡ record { policy = P; script = S; limit = None; every = every } → opening ≡ started S → K ≡ with_schedule made.policy made.script made.script.schedule opening
     → ev Listener Close ∷ K ≡ played P S
-turns_played P S made opening K m o is = closed_is_played P S K (rw (m, o) at is)
+turns_played P S every made opening K m o is = closed_is_played P S K (rw (m, o) at is)

@@ -13,6 +13,8 @@ use Rattle.model_kernel.specs.Kernels.{past}
 use Rattle.turn_lock.specs.Lists.{Begins}
 use Rattle.broker_machine.specs.Serving.{IsServed}
 use Rattle.broker_machine.specs.declared.machine.Machine.{Machine}
+use Rattle.worker_gate.specs.Replacing.{KeepsUp, every_of}
+use Rattle.worker_gate.specs.declared.served.Serving.{Serving}
 
 -- under a limit no event is a Skip, and none is a step of a worker whose number is above it
 abbrev pub IsWithinLimit : Option ℕ → List Event → Type 0
@@ -24,7 +26,15 @@ pub record IsKept (P : Policy) (limit : Option ℕ) (m : Machine) : Type 0 where
   pub served : IsServed P m
   pub within : IsWithinLimit limit (past m.kernel)
 
--- its policy, script and limit, and its history
+-- so the state keeps its machine, and it keeps its ledgers up, where it has some
+abbrev pub IsServing : Serving → Type 0
+IsServing s = IsKept s.policy s.limit s.machine × KeepsUp (past s.machine.kernel) s.keeper
+
+-- the policy, the limit, and after how many steps workers are replaced, are as they were
+abbrev pub HasSetup : Serving → Serving → Type 0
+HasSetup old new = (new.policy ≡ old.policy) × (new.limit ≡ old.limit) × (every_of new.keeper ≡ every_of old.keeper)
+
+-- its policy, script, limit and replacement, and its history
 pub record ServedFacts : Type 0 where
   pub setup : Setup
   pub history : Seen

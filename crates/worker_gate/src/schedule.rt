@@ -13,7 +13,7 @@ use sys_abi::memory::NoMemory;
 
 /// A line of a schedule that is played: an actor, and how many of its steps are left.
 #[derive(Drop)]
-pub struct Line {
+pub(crate) struct Line {
     pub(crate) who: Actor,
     /// The ordinal of the task that the actor is, if it is one and was made.
     pub(crate) task: Option<u32>,
@@ -54,7 +54,11 @@ fn step_at(alloc: Global, script: &Script, index: usize) -> Result<Step, NoMemor
 
 /// The line at an index of the schedule of a machine's script, of which no step was made yet; none behind the last one. A task
 /// that was made is found once for all steps of the line.
-pub fn line_at(alloc: Global, machine: &Machine, index: usize) -> Result<Option<Line>, NoMemory>
+pub(crate) fn line_at(
+    alloc: Global,
+    machine: &Machine,
+    index: usize,
+) -> Result<Option<Line>, NoMemory>
     requires { IsKernel machine.now.kernel }
     ensures { IfOk result (λ line. IsLineAt machine.now.kernel.script (past machine.now.kernel) index line) }
 {

@@ -5,7 +5,8 @@ ghost use Rattle.hist_model.specs.Legal.{Finished};
 ghost use Rattle.hist_model.specs.declared.event.Actor.TheVariants.{Worker};
 ghost use Rattle.model_kernel.specs.Kernels.{past};
 ghost use Rattle.crew.specs.Duties.{MayServe};
-ghost use Rattle.worker_gate.specs.Keeping.{Adds, AddsTask, Continues, IsKept};
+ghost use Rattle.worker_gate.specs.Keeping.{Adds, AddsTask, Continues, HasSetup, IsKept};
+ghost use Rattle.worker_gate.specs.Replacing.{KeepsUp};
 
 use crate::served::Serving;
 use crew::{Point, Work};
@@ -16,24 +17,30 @@ impl Serving {
     /// A worker's step, unless it waits; says whether it made one.
     pub(crate) fn step_worker(&mut self, alloc: Global, number: u8) -> Result<bool, NoMemory>
         requires kept { IsKept self.old.policy self.old.limit self.old.machine }
+        requires keeps { KeepsUp (past self.old.machine.kernel) self.old.keeper }
         requires may { MayServe self.old.limit (Some number) }
         ensures goes_on { Continues self.new.policy self.new.limit self.old.machine self.new.machine }
+        ensures keeps { KeepsUp (past self.new.machine.kernel) self.new.keeper }
         ensures step { IfOk result (λ stepped. Adds (Worker number) stepped (past self.old.machine.kernel) (past self.new.machine.kernel)) }
         ensures none { OnErr result (past self.new.machine.kernel ≡ past self.old.machine.kernel) }
-        ensures setup { (self.new.policy ≡ self.old.policy) × (self.new.limit ≡ self.old.limit) }
+        ensures setup { HasSetup self.old self.new }
     {
-        self.machine.try_worker(alloc, &self.policy, number)
+        self.keeper
+            .try_worker(alloc, &self.policy, &mut self.machine, number)
     }
 
     /// A step of a task, unless it can't step; says whether it made one.
     fn step_task(&mut self, alloc: Global, task: u32) -> Result<bool, NoMemory>
         requires kept { IsKept self.old.policy self.old.limit self.old.machine }
+        requires keeps { KeepsUp (past self.old.machine.kernel) self.old.keeper }
         ensures goes_on { Continues self.new.policy self.new.limit self.old.machine self.new.machine }
+        ensures keeps { KeepsUp (past self.new.machine.kernel) self.new.keeper }
         ensures step { AddsTask (past self.old.machine.kernel) (past self.new.machine.kernel) }
-        ensures setup { (self.new.policy ≡ self.old.policy) × (self.new.limit ≡ self.old.limit) }
+        ensures setup { HasSetup self.old self.new }
     {
         if self.machine.is_task(task) {
-            self.machine.try_task(alloc, &self.policy, task)
+            self.keeper
+                .try_task(alloc, &self.policy, &mut self.machine, task)
         } else {
             Ok(false)
         }
@@ -42,9 +49,11 @@ impl Serving {
     /// A step of a task, if it can step, which is then tried again after the others.
     fn try_task(&mut self, alloc: Global, task: u32) -> Result<(), NoMemory>
         requires kept { IsKept self.old.policy self.old.limit self.old.machine }
+        requires keeps { KeepsUp (past self.old.machine.kernel) self.old.keeper }
         ensures goes_on { Continues self.new.policy self.new.limit self.old.machine self.new.machine }
+        ensures keeps { KeepsUp (past self.new.machine.kernel) self.new.keeper }
         ensures step { AddsTask (past self.old.machine.kernel) (past self.new.machine.kernel) }
-        ensures setup { (self.new.policy ≡ self.old.policy) × (self.new.limit ≡ self.old.limit) }
+        ensures setup { HasSetup self.old self.new }
     {
         if self.step_task(alloc, task)? {
             self.runnable.put(task)?;
@@ -55,9 +64,11 @@ impl Serving {
     /// A step of the task that is tried next, if it can step; says whether a task was worth a try.
     pub(crate) fn try_next(&mut self, alloc: Global) -> Result<bool, NoMemory>
         requires kept { IsKept self.old.policy self.old.limit self.old.machine }
+        requires keeps { KeepsUp (past self.old.machine.kernel) self.old.keeper }
         ensures goes_on { Continues self.new.policy self.new.limit self.old.machine self.new.machine }
+        ensures keeps { KeepsUp (past self.new.machine.kernel) self.new.keeper }
         ensures step { AddsTask (past self.old.machine.kernel) (past self.new.machine.kernel) }
-        ensures setup { (self.new.policy ≡ self.old.policy) × (self.new.limit ≡ self.old.limit) }
+        ensures setup { HasSetup self.old self.new }
     {
         match self.runnable.take() {
             Some(task) => {
@@ -71,7 +82,8 @@ impl Serving {
     /// Reads the history's new events, and tells whether a worker's request may have come to something by them.
     pub(crate) fn catch_up(&mut self) -> Result<bool, NoMemory>
         ensures machine { self.new.machine ≡ self.old.machine }
-        ensures setup { (self.new.policy ≡ self.old.policy) × (self.new.limit ≡ self.old.limit) }
+        ensures keeper { self.new.keeper ≡ self.old.keeper }
+        ensures setup { HasSetup self.old self.new }
     {
         self.runnable.catch_up(self.machine.kernel())
     }
@@ -91,7 +103,8 @@ impl Serving {
     /// The point that this worker came to by the newest step, which is its own, if it came to one.
     pub(crate) fn point(&mut self, number: u8) -> Option<(Point, u64)>
         ensures machine { self.new.machine ≡ self.old.machine }
-        ensures setup { (self.new.policy ≡ self.old.policy) × (self.new.limit ≡ self.old.limit) }
+        ensures keeper { self.new.keeper ≡ self.old.keeper }
+        ensures setup { HasSetup self.old self.new }
     {
         match self.machine.history().events().last() {
             Some(event) => self.sessions.note(number, &event.what),

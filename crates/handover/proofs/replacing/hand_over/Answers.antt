@@ -4,26 +4,20 @@ use Rattle.model_kernel.specs.Kernels.{past}
 use Rattle.handover.proofs.Replaced.{step_at}
 use Rattle.handover.proofs.replacing.hand_over.Goals as goal
 
-pub successor-requires-clause-stopped : goal.successor-requires-clause-stopped
-successor-requires-clause-stopped g c = c.stop_worker.ensures.stopped c.args.policy.now c.requires.served
-
 pub successor-requires-clause-step : goal.successor-requires-clause-step
-successor-requires-clause-step g c = rw c.stop_worker.ensures.kernel (step_at c.args.number (past c.args.machine.now.kernel) c.args.ledger.now c.requires.behind)
+successor-requires-clause-step g c = step_at c.args.number (past c.args.machine.now.kernel) c.args.ledger.now c.requires.behind
 
 pub successor-requires-clause-text : goal.successor-requires-clause-text
-successor-requires-clause-text g c = rw (c.stop_worker.ensures.kernel, c.as_slice.ensures.value) (c.args.is_behind, c.in_ok-text.ensures.text c.args.policy.now c.requires.served)
+successor-requires-clause-text g c = rw c.as_slice.ensures.value (c.args.is_behind, c.in_ok-text.ensures.text c.args.policy.now c.requires.served)
 
 pub successor-requires-clause-count : goal.successor-requires-clause-count
 successor-requires-clause-count g c =
     let keeps = c.in_ok-text.ensures.keeps c.args.policy.now c.requires.served in
-    rw c.stop_worker.ensures.kernel (c.count-count.ensures ∙ keeps.count)
+    c.count-count.ensures ∙ keeps.count
 
 pub returns-clause-text : goal.returns-clause-text
 returns-clause-text g c = c.in_ok-text.ensures.text c.args.policy.now c.requires.served
 
-pub returns-clause-keeps : goal.returns-clause-keeps
-returns-clause-keeps g c = rw c.stop_worker.ensures.kernel at c.in_ok-next.ensures.keeps
-
 pub returns-clause-served : goal.returns-clause-served
 returns-clause-served g c =
-    (c.seat_worker.ensures.seated c.args.policy.now (c.stop_worker.ensures.stopped c.args.policy.now c.requires.served) c.in_ok-next.ensures.remembers c.in_ok-next.ensures.figures).served
+    (c.seat_worker.ensures.seated c.args.policy.now (c.stop_worker.ensures.stopped c.args.policy.now c.requires.served) (rw c.stop_worker.ensures.kernel c.in_ok-next.ensures.remembers) (rw c.stop_worker.ensures.kernel c.in_ok-next.ensures.figures)).served

@@ -11,5 +11,5 @@ returns-clause-events g c =
     let lock = c.in-Ok.ensures.lock in
     let opening = ap (λ (p : PassFacts). p.seen) c.in-Ok.ensures.pass ∙ (lock.1 ∙ begun.events) in
     IfOk-weaker c.finish.result _ _
-    (λ p same. same ∙ turns_played c.args.policy c.args.script _ _ _ (lock.0 ∙ begun.setup) opening (c.close.ensures.state.1 ∙ c.in_ok-play_schedule.ensures.played))
+    (λ p same. same ∙ turns_played c.args.policy c.args.script _ _ _ _ (lock.0 ∙ begun.setup) opening (c.close.ensures.state.1 ∙ c.in_ok-play_schedule.ensures.played))
     c.finish.ensures.events

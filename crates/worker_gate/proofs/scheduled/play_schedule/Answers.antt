@@ -1,5 +1,5 @@
 -- Each turn leaves what was left to come to, and where the schedule is over that is the history.
-use Rattle.std.proofs.Common.{refl, sym, ◌∙◌}
+use Rattle.std.proofs.Common.{sym, ◌∙◌}
 use Rattle.turn_lock.proofs.Lists.{begins_self, begins_trans}
 use Rattle.worker_gate.proofs.Schedules.{over_played}
 use Rattle.worker_gate.proofs.scheduled.play_schedule.Goals as goal
@@ -10,8 +10,6 @@ loop-play-init g c = record {
   begins = begins_self c.args.pass.now.seen;
   place = c.start.ensures.place c.args.lock.now.setup c.args.pass.now.seen;
   rest = c.start.ensures.rest c.args.lock.now.setup c.args.pass.now.seen;
-  keeps = c.requires.keeps;
-  stays = refl;
 }
 
 pub returns-in_err-take_turn-clause-begins : goal.returns-in_err-take_turn-clause-begins
@@ -26,8 +24,6 @@ loop-play-preserved g c =
       begins = begins_trans _ _ _ told.begins i.begins;
       place = told.moves.place;
       rest = told.moves.rest ∙ i.rest;
-      keeps = told.keeps;
-      stays = told.stays ∙ i.stays;
     }
 
 pub returns-clause-played : goal.returns-clause-played

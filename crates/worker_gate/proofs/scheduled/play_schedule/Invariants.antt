@@ -11,8 +11,6 @@ invariant-loop-play g l = record {
   begins : Begins l.pass.seen l.fn.pass.seen;
   place : IsPlace l.lock.setup l.pass.seen l.play.place;
   rest : with_rest l.lock.setup l.play.place l.pass.seen ≡ with_schedule l.lock.setup.policy l.lock.setup.script l.lock.setup.script.schedule l.fn.pass.seen;
-  keeps : g.T.Stepper.keeps l.play.stepper l.pass.seen;
-  stays : g.T.Stepper.stays l.play.stepper ≡ g.T.Stepper.stays l.fn.stepper;
 }
 
 abbrev pub decreases-loop-play : goal.decreases-loop-play

@@ -4,14 +4,12 @@ use Rattle.worker_gate.specs.Scheduling.{IsPlace, turns_left, with_rest}
 use Rattle.worker_gate.proofs.scheduled.play_steps.Given as goal
 
 abbrev pub invariant-loop-place : goal.invariant-loop-place
-invariant-loop-place g l = record {
-  setup : g.S.Journalled.setup l.state ≡ g.S.Journalled.setup l.fn.state;
-  place : IsPlace (g.S.Journalled.setup l.fn.state) (g.S.Journalled.history l.state).events l.place;
-  rest : with_rest (g.S.Journalled.setup l.fn.state) l.place (g.S.Journalled.history l.state).events
-      ≡ with_schedule (g.S.Journalled.setup l.fn.state).policy (g.S.Journalled.setup l.fn.state).script (g.S.Journalled.setup l.fn.state).script.schedule (g.S.Journalled.history l.fn.state).events;
-  keeps : g.T.Stepper.keeps l.stepper (g.S.Journalled.history l.state).events;
-  stays : g.T.Stepper.stays l.stepper ≡ g.T.Stepper.stays l.fn.stepper;
+invariant-loop-place l = record {
+  setup : l.state.setup ≡ l.fn.state.setup;
+  place : IsPlace l.fn.state.setup l.state.history.events l.place;
+  rest : with_rest l.fn.state.setup l.place l.state.history.events
+      ≡ with_schedule l.fn.state.setup.policy l.fn.state.setup.script l.fn.state.setup.script.schedule l.fn.state.history.events;
 }
 
 abbrev pub decreases-loop-place : goal.decreases-loop-place
-decreases-loop-place g l = turns_left (g.S.Journalled.setup l.fn.state) l.place
+decreases-loop-place l = turns_left l.fn.state.setup l.place
