@@ -1,4 +1,4 @@
--- Each legal and finished history has one of the printed outcomes, where there is no bound and no history is left.
+-- Each legal and finished history has one of the outcomes of the explored histories, where there is no bound.
 -- By induction on the histories: an outcome that is there stays there, and that of a history that is counted comes there; and receives that find nothing change none.
 use Rattle.std.proofs.Common.{◌≡◌, ℕ, zero, suc, ◌≤◌, Bool, true, false, List, [], ◌∷◌, ◌⊎◌, inl, inr, refl, sym, ap, subst, ◌∙◌, arith}
 use Rattle.std.specs.Prelude.{Err, Contains, Option, Some, None, bytes_eq, if◌then◌else◌, map}
@@ -6,8 +6,6 @@ use Rattle.std.proofs.lemmas.List.Elements.{Contains-append_cases, Contains-appe
 use Rattle.std.proofs.lemmas.Slice.Eq.{bytes_eq-Decides}
 use Rattle.delay_bounded.specs.Explored.{bound_of, explored}
 use Rattle.delay_bounded.specs.Laws.{IsCompleteOfFinished, with_empty_receives}
-use Rattle.explorer.proofs.Taking.{taken_whole}
-use Rattle.explorer.specs.Taken.{event_limit, taken}
 use Rattle.explorer.specs.Tallies.{CountedOutcome, added, of_one, outcomes, tallied, with_more}
 use Rattle.hist_model.specs.Calls.{count}
 use Rattle.hist_model.specs.Legal.{is_open_session, with_step}
@@ -109,14 +107,12 @@ module _ (S : Script) (J : Judging) where
 
 -- ---- In all
 
--- without a bound each has its outcome, where no history is left
+-- without a bound each has its outcome
 pub is_whole : (P : Policy) (S : Script) (W : ℕ) → W ≤ 16 → IsCompleteOfFinished → (delays : Option ℕ) → IsWhole W delays P S
 is_whole P S W few complete (Some d) = tt
-is_whole P S W few complete None = λ whole K counts walked finished.
+is_whole P S W few complete None = λ K counts walked finished.
     let L = explored P S W (bound_of None) in
     let J = judging_by P.rules in
-    let all : L ≡ taken event_limit L = sym (taken_whole event_limit L whole) in
     let H = with_step P S Listener (with_empty_receives (count K) K) in
-    let there : Contains (texts (outcomes S J (taken event_limit L))) (result_of S J H) =
-    subst (λ (M : List (List Event)). Contains (texts (outcomes S J M)) (result_of S J H)) all (counted S J H [] L (complete P S W K few counts walked finished)) in
-    subst (λ text. Contains (texts (outcomes S J (taken event_limit L))) text) (same_outcome S J P (count K) K finished.sessions) there
+    let there : Contains (texts (outcomes S J L)) (result_of S J H) = counted S J H [] L (complete P S W K few counts walked finished) in
+    subst (λ text. Contains (texts (outcomes S J L)) text) (same_outcome S J P (count K) K finished.sessions) there

@@ -1,6 +1,6 @@
 -- The counts of what was found stand in their order, and its outcomes one after another, each with its number; and how an exploration ends.
 -- By the number of the outcomes that stand before, by what the explorer tells, and by cases on the status.
-use Rattle.std.proofs.Common.{◌≡◌, ℕ, ◌+◌, ◌<◌, List, [], ◌∷◌, ◌++◌, length, ◌≤◌, take, drop, get_or, refl, sym, ap, subst, inl, inr, ◌∙◌, append-nil, append_assoc, arith}
+use Rattle.std.proofs.Common.{◌≡◌, ℕ, ◌+◌, ◌<◌, Bool, true, false, List, [], ◌∷◌, ◌++◌, length, ◌≤◌, take, drop, get_or, refl, sym, ap, inl, inr, ◌∙◌, append-nil, append_assoc, arith}
 use Rattle.std.specs.Prelude.{Option, Result, Ok, Err, OnOk, decimal}
 use Rattle.std.proofs.lemmas.List.{take-append-drop, take_all, take_more, length-take-le}
 use Rattle.audit_log.proofs.Writing.{wrote_front, wrote_more, wrote_nothing}
@@ -8,9 +8,11 @@ use Rattle.audit_log.specs.Written.{Wrote}
 use Rattle.audit_log.specs.declared.error.ReportError.{ReportError}
 use Rattle.delay_bounded.specs.Explored.{bound_of}
 use Rattle.delay_bounded.specs.Laws.{AreFinished, AreLegal, IsCompleteOfFinished}
-use Rattle.explorer.specs.Printed.{blocks, outcome_block, printed}
+use Rattle.explorer.proofs.Taking.{taken_whole}
+use Rattle.explorer.specs.Printed.{IsPrinted, blocks, outcome_block, told}
+use Rattle.explorer.specs.Taken.{event_limit, none_left, taken}
 use Rattle.explorer.specs.Tallies.{CountedOutcome}
-use Rattle.explorer.specs.Telling.{TellsFirst}
+use Rattle.explorer.specs.Telling.{Tells, TellsEither}
 use Rattle.explorer.specs.declared.exploring.Exploration.{Exploration}
 use Rattle.hist_model.specs.ScriptRules.{IsScript}
 use Rattle.hist_model.specs.declared.event.Event.{Event}
@@ -18,10 +20,11 @@ use Rattle.hist_model.specs.declared.policy.Policy.{Policy}
 use Rattle.hist_model.specs.declared.script.Script.{Script}
 use Rattle.io_edge.specs.FileState.{FileState}
 use Rattle.io_edge.specs.SinkState.{SinkState}
+use Rattle.long_count.specs.Texts.{decimal_of}
 use Rattle.sys_abi.specs.declared.memory.NoMemory.{NoMemory as MemoryFault}
 use Rattle.broker_app.proofs.ComesTo.{is_whole}
 use Rattle.broker_app.specs.Answers.{Printed, status_of}
-use Rattle.broker_app.specs.Explorations.{AreExplored, ExploreEnds, ExploredLaws, exploration_text, explored_text}
+use Rattle.broker_app.specs.Explorations.{AreExplored, ExploreEnds, ExploredLaws, IsExploredText, exploration_text}
 use Rattle.broker_app.specs.Inputs.{PolicyIs, ScriptIs}
 use Rattle.broker_app.specs.Refusals.{InputRefused}
 use Rattle.broker_app.specs.declared.status.Status.{Status}
@@ -31,8 +34,8 @@ use Rattle.broker_app.specs.declared.status.Status.TheVariants.{Done, NoMemory, 
 
 -- four words with their numbers stand behind a text
 pub counts_behind : (text one two three four t u v w : List ℕ) (h e l n m : ℕ) (r : Result (Unit {0}) MemoryFault)
-    → one ≡ text ++ (t ++ decimal h) → two ≡ one ++ (u ++ decimal e) → three ≡ two ++ (v ++ decimal l) → n ≡ m → OnOk r (four ≡ three ++ (w ++ decimal n))
-    → OnOk r (four ≡ text ++ (t ++ decimal h ++ u ++ decimal e ++ v ++ decimal l ++ w ++ decimal m))
+    → one ≡ text ++ (t ++ decimal_of h) → two ≡ one ++ (u ++ decimal_of e) → three ≡ two ++ (v ++ decimal l) → n ≡ m → OnOk r (four ≡ three ++ (w ++ decimal n))
+    → OnOk r (four ≡ text ++ (t ++ decimal_of h ++ u ++ decimal_of e ++ v ++ decimal l ++ w ++ decimal m))
 counts_behind text one two three four t u v w h e l n m (Err x) p q s is last = tt
 counts_behind text one two three four t u v w h e l n m (Ok y) p q s is last = rw (last, s, q, p, is) (simp append_assoc)
 
@@ -88,19 +91,27 @@ all_written os i old new l w = rw (take_all i os l) at w
 
 -- ---- What is printed
 
--- what was found of a list's first histories has the list's text
-same_text : (P : Policy) (S : Script) (W : ℕ) (delays : Option ℕ) (L : List (List Event)) (x : Exploration) → TellsFirst P S L x → exploration_text W delays x ≡ printed P S W delays L
-same_text P S W delays L x t = rw (t.histories, t.events, t.longest_is, t.whole_is, t.outcomes_are) refl
+-- what was found is told of the histories of a list, or of the first of them: what is printed of the list
+module _ (P : Policy) (S : Script) (W : ℕ) (delays : Option ℕ) (L : List (List Event)) (x : Exploration) where
+  same_text : (M : List (List Event)) (whole : Bool) → Tells P S M whole x → exploration_text W delays x ≡ told P S W delays M whole
+  same_text M whole t = rw (t.histories, t.events, t.longest_is, t.whole_is, t.outcomes_are) refl
 
--- so that is printed
-pub ends_found : (P : Policy) (S : Script) (W : ℕ) (delays : Option ℕ) (L : List (List Event)) (x : Exploration) (old new : SinkState) (r : Result (Unit {0}) Status) → TellsFirst P S L x
-    → Printed (exploration_text W delays x) old new r → Printed (printed P S W delays L) old new r
-ends_found P S W delays L x old new r t p = subst (λ text. Printed text old new r) (same_text P S W delays L x t) p
+  pub is_printed : TellsEither P S L x → IsPrinted P S W delays L (exploration_text W delays x)
+  is_printed (inl t) = inl (same_text L true t)
+  is_printed (inr t) = by (none_left event_limit L) refl
+    where
+      text_is : exploration_text W delays x ≡ told P S W delays (taken event_limit L) (none_left event_limit L)
+      text_is = same_text (taken event_limit L) (none_left event_limit L) t
+
+      by : (none : Bool) → none_left event_limit L ≡ none → IsPrinted P S W delays L (exploration_text W delays x)
+      by true e = inl (rw (taken_whole event_limit L e, e) at text_is)
+      by false e = inr (e, rw e at text_is)
 
 -- what two files come to was printed, or a part of it
 pub explore_ends : (files after : FileState) (old new : SinkState) (policy script : List ℕ) (W : ℕ) (delays : Option ℕ) (P : Policy) (S : Script) (r : Result (Unit {0}) Status) → W ≤ 15
-    → PolicyIs files policy (Ok P) → ScriptIs files script (Ok S) → IsScript S → AreLegal → AreFinished → IsCompleteOfFinished → Printed (explored_text W delays P S) old new r → ExploreEnds files after old new policy script W delays (status_of r)
-explore_ends files after old new policy script W delays P S r few policy_is script_is rules legal finished complete printed = by r printed
+    → PolicyIs files policy (Ok P) → ScriptIs files script (Ok S) → IsScript S → AreLegal → AreFinished → IsCompleteOfFinished → (text : List ℕ) → IsExploredText W delays P S text → Printed text old new r
+    → ExploreEnds files after old new policy script W delays (status_of r)
+explore_ends files after old new policy script W delays P S r few policy_is script_is rules legal finished complete text is printed = by r printed
   where
     laws : ExploredLaws W delays P S
     laws = record {
@@ -112,10 +123,10 @@ explore_ends files after old new policy script W delays P S r few policy_is scri
     are : AreExplored files policy script W delays P S
     are = record { policy_is = policy_is; script_is = script_is; laws = laws }
 
-    by : (r : Result (Unit {0}) Status) → Printed (explored_text W delays P S) old new r → ExploreEnds files after old new policy script W delays (status_of r)
-    by (Ok u) p = ((P, S, are, p.0), p.1)
-    by (Err WriteFault) p = (p.0, (P, S, are, p.1))
-    by (Err NoMemory) p = inr (P, S, are, p)
+    by : (r : Result (Unit {0}) Status) → Printed text old new r → ExploreEnds files after old new policy script W delays (status_of r)
+    by (Ok u) p = ((P, S, are, text, is, p.0), p.1)
+    by (Err WriteFault) p = (p.0, (P, S, are, text, is, p.1))
+    by (Err NoMemory) p = inr (P, S, are, text, is, p)
     by (Err status) p = absurd p
 
 -- nothing was explored, since the policy or the script wasn't taken

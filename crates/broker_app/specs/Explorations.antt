@@ -2,8 +2,7 @@
 use Rattle.std.specs.Prelude.{◌≡◌, ℕ, ◌+◌, ◌<◌, ◌^◌, ◌++◌, ◌⊎◌, true, All, Contains, List, length, map, Ok, Option, Some, None}
 use Rattle.delay_bounded.specs.Explored.{bound_of, explored}
 use Rattle.delay_bounded.specs.Laws.{ClosesFinished, IsExplored, IsWalked}
-use Rattle.explorer.specs.Printed.{blocks, counts_line, printed}
-use Rattle.explorer.specs.Taken.{event_limit, none_left, taken}
+use Rattle.explorer.specs.Printed.{IsPrinted, blocks, counts_line}
 use Rattle.explorer.specs.Tallies.{CountedOutcome, outcomes}
 use Rattle.explorer.specs.declared.exploring.Exploration.{Exploration}
 use Rattle.hist_model.specs.Calls.{count}
@@ -30,24 +29,24 @@ exploration_text W delays x =
     counts_line W delays x.histories x.events x.longest (length x.outcomes.items) x.whole ++ blocks 1 x.outcomes.items
 
 -- what is printed of what a policy and a script come to, by workers up to W, with so many delays at most, or all
-abbrev pub explored_text : ℕ → Option ℕ → Policy → Script → List ℕ
-explored_text W delays P S = printed P S W delays (explored P S W (bound_of delays))
+abbrev pub IsExploredText : ℕ → Option ℕ → Policy → Script → List ℕ → Type 0
+IsExploredText W delays P S text = IsPrinted P S W delays (explored P S W (bound_of delays)) text
 
--- the texts of the outcomes that are printed of some histories of a script
-abbrev pub printed_outcomes : Policy → Script → List (List Event) → List (List ℕ)
-printed_outcomes P S histories = map (λ (o : CountedOutcome). o.text) (outcomes S (judging_by P.rules) (taken event_limit histories))
+-- the texts of the outcomes of some histories of a script
+abbrev pub outcome_texts : Policy → Script → List (List Event) → List (List ℕ)
+outcome_texts P S histories = map (λ (o : CountedOutcome). o.text) (outcomes S (judging_by P.rules) histories)
 
 -- ---- What holds of it
 
 -- a legal and finished history in which of the idle workers the lowest receives, without a Skip and by workers up to W,
--- comes to one of the printed outcomes; it can be counted with the receives that may follow and find nothing
+-- comes to one of the outcomes of the explored histories; it can be counted with the receives that may follow and find nothing
 abbrev pub EachHasOutcome : ℕ → Policy → Script → Type 0
 EachHasOutcome W P S = (K : List Event) → length K + count K < 2 ^ 64 → IsWalked P S W K → Finished K
-    → Contains (printed_outcomes P S (explored P S W (bound_of None))) (result_of S (judging_by P.rules) (with_step P S Listener K))
+    → Contains (outcome_texts P S (explored P S W (bound_of None))) (result_of S (judging_by P.rules) (with_step P S Listener K))
 
--- so it is without a bound, where no history is left
+-- so it is without a bound
 abbrev pub IsWhole : ℕ → Option ℕ → Policy → Script → Type 0
-IsWhole W None P S = none_left event_limit (explored P S W (bound_of None)) ≡ true → EachHasOutcome W P S
+IsWhole W None P S = EachHasOutcome W P S
 IsWhole W (Some d) P S = Unit {0}
 
 -- each explored history is legal and mediated, its schedule plays it, and it was finished before its close;
@@ -66,14 +65,14 @@ pub record AreExplored (files : FileState) (policy script : List ℕ) (W : ℕ) 
 -- the sink took a prefix of what is printed of the two files
 abbrev pub TookExploredPrefix : FileState → List ℕ → List ℕ → ℕ → Option ℕ → SinkState → SinkState → Type 0
 TookExploredPrefix files policy script W delays old new =
-    (P : Policy) × (S : Script) × AreExplored files policy script W delays P S
-    × (old.tells ≡ true → AddsPrefix old.taken (explored_text W delays P S) new.taken)
+    (P : Policy) × (S : Script) × AreExplored files policy script W delays P S × (text : List ℕ) × IsExploredText W delays P S text
+    × (old.tells ≡ true → AddsPrefix old.taken text new.taken)
 
 -- the sink took the whole of it
 abbrev pub TookExplored : FileState → List ℕ → List ℕ → ℕ → Option ℕ → SinkState → SinkState → Type 0
 TookExplored files policy script W delays old new =
-    (P : Policy) × (S : Script) × AreExplored files policy script W delays P S
-    × (old.tells ≡ true → new.taken ≡ old.taken ++ explored_text W delays P S)
+    (P : Policy) × (S : Script) × AreExplored files policy script W delays P S × (text : List ℕ) × IsExploredText W delays P S text
+    × (old.tells ≡ true → new.taken ≡ old.taken ++ text)
 
 -- ---- How it ended
 

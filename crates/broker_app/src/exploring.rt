@@ -1,9 +1,9 @@
 //! What a script can come to: its histories are explored, and what was found is printed.
 
-ghost use Rattle.std.specs.Prelude.{◌≡◌, ◌≤◌, OnOk};
+ghost use Rattle.std.specs.Prelude.{◌≡◌, ◌≤◌, ℕ, List, OnOk};
 ghost use Rattle.audit_log.specs.Written.{Wrote};
 ghost use Rattle.broker_app.specs.Answers.{Printed, status_of};
-ghost use Rattle.broker_app.specs.Explorations.{ExploreEnds, exploration_text, explored_text};
+ghost use Rattle.broker_app.specs.Explorations.{ExploreEnds, IsExploredText, exploration_text};
 ghost use Rattle.broker_app.specs.Refusals.{Stands};
 ghost use Rattle.hist_model.specs.ScriptRules.{IsScript};
 
@@ -52,7 +52,6 @@ fn print_exploration<O: Sink>(
 }
 
 /// Explores a script under a policy, and prints what was found.
-#[tactic(auto, using(crate::proofs::Ends::ends_unplayed))]
 fn print_explored<O: Sink>(
     alloc: Global,
     policy: &Policy,
@@ -62,7 +61,7 @@ fn print_explored<O: Sink>(
     out: &mut O,
 ) -> Result<(), Status>
     requires { workers ≤ 15 }
-    ensures { Printed (explored_text workers delays policy.now script) (O.state out.old) (O.state out.new) result }
+    ensures { (text : List ℕ) × IsExploredText workers delays policy.now script text × Printed text (O.state out.old) (O.state out.new) result }
 {
     let found = explore(alloc, policy, script, workers, delays)?;
     print_exploration(alloc, workers, delays, &found, out)

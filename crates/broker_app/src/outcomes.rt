@@ -3,6 +3,7 @@
 ghost use Rattle.std.specs.Prelude.{◌≡◌, ◌++◌, IfOk, OnOk, decimal, length, option_copied};
 ghost use Rattle.std.specs.List.{flat_map};
 ghost use Rattle.audit_log.specs.Written.{Wrote};
+ghost use Rattle.long_count.specs.Texts.{decimal_of};
 ghost use Rattle.explorer.specs.Printed.{actor_words, blocks, bounds_words, counts_line, counts_words, delays_word, or_none, outcome_block, schedule_block, step_line, whole_word};
 ghost use Rattle.broker_app.specs.Explorations.{exploration_text};
 
@@ -10,10 +11,11 @@ use audit_log::error::ReportError;
 use audit_log::line::LineBuffer;
 use audit_log::part::write_line;
 use audit_log::words::push_name;
-use explorer::{Exploration, FoundOutcome};
+use explorer::{Exploration, Outcome};
 use hist_model::event::Actor;
 use hist_model::script::Step;
 use io_edge::sink::Sink;
+use long_count::LongCount;
 use std::alloc::Global;
 use sys_abi::memory::NoMemory;
 
@@ -23,6 +25,19 @@ fn push_count(line: &mut LineBuffer, word: &str, number: u64) -> Result<(), NoMe
 {
     line.push(word)?;
     line.push_number(number)
+}
+
+/// Adds a word and a count.
+fn push_long_count(
+    alloc: Global,
+    line: &mut LineBuffer,
+    word: &str,
+    count: &LongCount,
+) -> Result<(), NoMemory>
+    ensures { OnOk result (line.new ≡ line.old ++ (word.now ++ decimal_of count.now)) }
+{
+    line.push(word)?;
+    line.push_bytes(count.text(alloc)?.as_slice())
 }
 
 /// Adds the bound of delays, or `all` where there is none.
@@ -56,11 +71,11 @@ fn push_bounds(line: &mut LineBuffer, workers: u8, delays: Option<u64>) -> Resul
 }
 
 /// Adds how many histories were explored, how many events they have, how many the longest, and how many outcomes there are.
-fn push_counts(line: &mut LineBuffer, found: &Exploration) -> Result<(), NoMemory>
+fn push_counts(alloc: Global, line: &mut LineBuffer, found: &Exploration) -> Result<(), NoMemory>
     ensures { OnOk result (line.new ≡ line.old ++ counts_words found.now.histories found.now.events found.now.longest (length found.now.outcomes.items)) }
 {
-    push_count(line, " histories=", found.histories)?;
-    push_count(line, " events=", found.events)?;
+    push_long_count(alloc, line, " histories=", &found.histories)?;
+    push_long_count(alloc, line, " events=", &found.events)?;
     push_count(line, " longest=", found.longest)?;
     push_count(line, " outcomes=", found.outcomes.len() as u64)
 }
@@ -76,7 +91,7 @@ fn counts_line(
 {
     let mut line = LineBuffer::new(alloc);
     push_bounds(&mut line, workers, delays)?;
-    push_counts(&mut line, found)?;
+    push_counts(alloc, &mut line, found)?;
     line.push(" whole=")?;
     line.push(whole_word(delays, found.whole))?;
     line.push("\n")?;
@@ -142,12 +157,12 @@ fn push_or_none(line: &mut LineBuffer, text: &[u8]) -> Result<(), NoMemory>
 }
 
 /// An outcome with its number.
-fn outcome_block(alloc: Global, number: u64, outcome: &FoundOutcome) -> Result<LineBuffer, NoMemory>
+fn outcome_block(alloc: Global, number: u64, outcome: &Outcome) -> Result<LineBuffer, NoMemory>
     ensures { IfOk result (λ line. line ≡ outcome_block number outcome.now) }
 {
     let mut line = LineBuffer::new(alloc);
     push_count(&mut line, "outcome ", number)?;
-    push_count(&mut line, " histories=", outcome.histories())?;
+    push_long_count(alloc, &mut line, " histories=", outcome.histories())?;
     line.push("\n")?;
     push_or_none(&mut line, outcome.text())?;
     push_schedule(&mut line, outcome.schedule())?;
@@ -158,7 +173,7 @@ fn outcome_block(alloc: Global, number: u64, outcome: &FoundOutcome) -> Result<L
 fn write_outcome<O: Sink>(
     alloc: Global,
     number: u64,
-    outcome: &FoundOutcome,
+    outcome: &Outcome,
     out: &mut O,
 ) -> Result<(), ReportError>
     ensures { Wrote (O.state out.old) (outcome_block number outcome.now) result (O.state out.new) }
@@ -170,7 +185,7 @@ fn write_outcome<O: Sink>(
 /// Writes the outcomes, numbered from 1 on.
 fn write_outcomes<O: Sink>(
     alloc: Global,
-    outcomes: &[FoundOutcome],
+    outcomes: &[Outcome],
     out: &mut O,
 ) -> Result<(), ReportError>
     ensures { Wrote (O.state out.old) (blocks 1 outcomes.now) result (O.state out.new) }

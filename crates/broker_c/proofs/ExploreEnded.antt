@@ -8,7 +8,7 @@ use Rattle.io_edge.specs.SinkState.{SinkState}
 use Rattle.hist_model.specs.declared.policy.Policy.{Policy}
 use Rattle.hist_model.specs.declared.script.Script.{Script}
 use Rattle.broker_app.specs.Answers.{Answers, IsUsage}
-use Rattle.broker_app.specs.Explorations.{AreExplored as AreFilesExplored, ExploreEnds, TookExploredPrefix}
+use Rattle.broker_app.specs.Explorations.{AreExplored as AreFilesExplored, ExploreEnds, IsExploredText, TookExploredPrefix}
 use Rattle.broker_app.specs.Words.{Form, Explore}
 use Rattle.broker_app.specs.declared.status.Status.{Status}
 use Rattle.broker_app.specs.declared.status.Status.TheVariants.{Done, Usage, WriteFault, NoMemory}
@@ -32,15 +32,15 @@ module _ (policy script : List ℕ) (W : ℕ) (bound : Option ℕ) (after : File
 
   -- a sink that took a prefix of what is printed of the files took one of what is printed of the bytes
   took_beginning : TookExploredPrefix (files_of policy script []) (codes "policy") (codes "script") W bound empty_sink new → BeginsExploration policy script W bound new.taken
-  took_beginning p = (p.0, p.1, are_explored p.0 p.1 p.2, p.3 refl)
+  took_beginning p = (p.0, p.1, are_explored p.0 p.1 p.2, p.3, p.4, p.5 refl)
 
   -- with status 0 all of it was printed
   done : Ends Done → IsExploration policy script W bound new.taken
-  done e = let p = e.0 in (p.0, p.1, are_explored p.0 p.1 p.2, p.3 refl)
+  done e = let p = e.0 in (p.0, p.1, are_explored p.0 p.1 p.2, subst (IsExploredText W bound p.0 p.1) (sym (p.5 refl)) p.4)
 
   -- the whole of it begins it
   begins_whole : IsExploration policy script W bound new.taken → BeginsExploration policy script W bound new.taken
-  begins_whole p = (p.0, p.1, p.2, adds_whole _ new.taken p.3)
+  begins_whole p = (p.0, p.1, p.2, new.taken, p.3, adds_whole new.taken new.taken refl)
 
   -- nothing was printed, or a prefix of it
   begun : (status : Status) → Ends status → (new.taken ≡ []) ⊎ BeginsExploration policy script W bound new.taken

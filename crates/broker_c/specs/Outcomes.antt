@@ -17,7 +17,7 @@ use Rattle.script_reader.specs.declared.error.ScriptError.{ScriptError}
 use Rattle.script_reader.specs.declared.file.ScriptFile.{ScriptFile}
 use Rattle.broker_app.specs.Answers.{GeneratedIsMediated, generated_summary}
 use Rattle.broker_app.specs.Checks.{IsFound, IsNotFound}
-use Rattle.broker_app.specs.Explorations.{ExploredLaws, explored_text}
+use Rattle.broker_app.specs.Explorations.{ExploredLaws, IsExploredText}
 use Rattle.broker_app.specs.Findings.{findings}
 use Rattle.broker_app.specs.Handovers.{with_ledgers}
 use Rattle.broker_app.specs.Inputs.{ReadsAs, policy_limit, report_limit, script_limit}
@@ -133,12 +133,13 @@ pub record AreExplored (policy script : List ℕ) (workers : ℕ) (bound : Optio
 -- what is printed of what the policy and the script of the bytes come to
 abbrev pub IsExploration : List ℕ → List ℕ → ℕ → Option ℕ → List ℕ → Type 0
 IsExploration policy script workers bound printed =
-    (P : Policy) × (S : Script) × AreExplored policy script workers bound P S × (printed ≡ explored_text workers bound P S)
+    (P : Policy) × (S : Script) × AreExplored policy script workers bound P S × IsExploredText workers bound P S printed
 
 -- a prefix of it
 abbrev pub BeginsExploration : List ℕ → List ℕ → ℕ → Option ℕ → List ℕ → Type 0
 BeginsExploration policy script workers bound printed =
-    (P : Policy) × (S : Script) × AreExplored policy script workers bound P S × AddsPrefix [] (explored_text workers bound P S) printed
+    (P : Policy) × (S : Script) × AreExplored policy script workers bound P S × (text : List ℕ) × IsExploredText workers bound P S text
+    × AddsPrefix [] text printed
 
 -- that of the workers and the bound that were asked for
 abbrev pub IsAskedExploration : List ℕ → List ℕ → ℕ → ℕ → List ℕ → Type 0

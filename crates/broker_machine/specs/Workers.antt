@@ -22,8 +22,8 @@ use Rattle.broker_core.specs.declared.worker.Worker.{Worker}
 use Rattle.model_kernel.specs.Kernels.{DoesDeed, IsAfter, past, system}
 use Rattle.model_kernel.specs.Ready.{IsSame}
 use Rattle.model_kernel.specs.declared.kernel.Kernel.{Kernel}
-use Rattle.broker_machine.specs.declared.deeds.Outcome.{Outcome}
-use Rattle.broker_machine.specs.declared.deeds.Outcome.TheVariants.{Waits}
+use Rattle.broker_machine.specs.declared.deeds.WorkerStep.{WorkerStep}
+use Rattle.broker_machine.specs.declared.deeds.WorkerStep.TheVariants.{Waits}
 
 -- each worker remembers its session, and knows the container's figures
 abbrev pub AllRemember : Policy → Figures → List Event → List Worker → Type 0
@@ -76,7 +76,7 @@ abbrev pub step_due : Policy → Kernel → ℕ → What
 step_due P k n = worker_step (system k) (rules_of P k.script.figures) (past k) n
 
 -- what came of a worker's turn says that it made a step
-abbrev pub is_step : Outcome → Bool
+abbrev pub is_step : WorkerStep → Bool
 is_step Waits = false
 is_step came = true
 

@@ -148,7 +148,7 @@ fn do_deed(
 
 /// What came of a worker's turn.
 #[derive(Clone, Copy, PartialEq, Eq, Debug)]
-pub enum Outcome {
+pub enum WorkerStep {
     /// It waits, and made no step.
     Waits,
     /// It received the notification with this id.
@@ -161,24 +161,24 @@ pub enum Outcome {
     Other,
 }
 
-impl Outcome {
+impl WorkerStep {
     /// Whether it made a step.
     pub fn is_step(self) -> bool
         ensures { result ≡ is_step self }
     {
-        !matches!(self, Outcome::Waits)
+        !matches!(self, WorkerStep::Waits)
     }
 }
 
 /// What came of a deed that was done, by the step that the history has of it.
-fn outcome_of(step: &What) -> Outcome
+fn step_taken(step: &What) -> WorkerStep
     ensures { is_step result ≡ true }
 {
     match step {
-        What::Recv { answer: Ok(notif) } => Outcome::Received(notif.id),
-        What::Check { id, answer: Ok(()) } => Outcome::Valid(*id),
-        What::Send { id, .. } => Outcome::Sent(*id),
-        _ => Outcome::Other,
+        What::Recv { answer: Ok(notif) } => WorkerStep::Received(notif.id),
+        What::Check { id, answer: Ok(()) } => WorkerStep::Valid(*id),
+        What::Send { id, .. } => WorkerStep::Sent(*id),
+        _ => WorkerStep::Other,
     }
 }
 
@@ -202,7 +202,7 @@ pub fn worker_turn(
     kernel: &mut Kernel,
     number: u8,
     worker: &mut Worker,
-) -> Result<Outcome, NoMemory>
+) -> Result<WorkerStep, NoMemory>
     requires kernel { IsKernel kernel.old }
     requires allowed { IsAllowed policy.now kernel.old number }
     requires number { number ≤ 16 }
@@ -219,9 +219,9 @@ pub fn worker_turn(
     let next = worker.next();
     kernel.ready_event()?;
     if !do_deed(alloc, kernel, number, worker, &next)? {
-        return Ok(Outcome::Waits);
+        return Ok(WorkerStep::Waits);
     }
     let step = newest(kernel);
     worker.took(&next, &answer_of(step));
-    Ok(outcome_of(step))
+    Ok(step_taken(step))
 }

@@ -18,6 +18,6 @@ mod deeds;
 mod machine;
 mod names;
 
-pub use deeds::{Outcome, worker_turn};
+pub use deeds::{WorkerStep, worker_turn};
 pub use machine::Machine;
 pub use names::is_task_name;

@@ -13,7 +13,7 @@ ghost use Rattle.mediation.specs.Scheduled.{IsScheduled};
 ghost use Rattle.model_kernel.specs.Kernels.{IsKernel, past, system};
 ghost use Rattle.broker_machine.specs.Workers.{AllRemember, is_step};
 
-use crate::deeds::{Outcome, worker_turn};
+use crate::deeds::{WorkerStep, worker_turn};
 use crate::names::is_task_name;
 use broker_core::worker::Worker;
 use hist_model::event::{Actor, WORKERS};
@@ -72,7 +72,12 @@ impl Machine {
     }
 
     /// A worker's step, unless it waits; says what came of it.
-    pub fn serve(&mut self, alloc: Global, policy: &Policy, number: u8) -> Result<Outcome, NoMemory>
+    pub fn serve(
+        &mut self,
+        alloc: Global,
+        policy: &Policy,
+        number: u8,
+    ) -> Result<WorkerStep, NoMemory>
         requires served { IsServed policy.now self.old }
         requires number { number ≤ 16 }
         ensures done { IfOk result (λ came. Tries policy.now self.old (WorkerActor number) (is_step came) self.new) }

@@ -8,7 +8,7 @@ use Rattle.delay_bounded.specs.Explored.{Walk, closed, explored, is_zero, walks_
 use Rattle.explorer.specs.Taken.{event_limit, none_left, taken}
 use Rattle.explorer.specs.Telling.{Explores, IsSoFar, Notes, TellsFirst, TellsOf, histories_of, with_fewer}
 use Rattle.explorer.specs.Walking.{EndsFirst, GoesThrough, walks_in}
-use Rattle.explorer.specs.declared.exploring.Exploration.{Exploration}
+use Rattle.explorer.specs.declared.one_by_one.Explored.{Explored}
 use Rattle.explorer.specs.declared.tally.Tally.{Tally}
 use Rattle.explorer.specs.declared.walker.Walker.{Walker}
 use Rattle.explorer.proofs.Bounds.{told_first, told_left, told_no_more, told_whole}
@@ -141,7 +141,7 @@ module _ (P : Policy) (S : Script) (W : ℕ) where
           none_is_left = rw list none;
         }
 
-    module _ (x : Exploration) (histories : x.histories ≡ new.histories) (events : x.events ≡ new.events) (longest : x.longest ≡ new.longest) (found : x.outcomes ≡ new.outcomes) (whole_is : x.whole ≡ whole) (D : ℕ) (within : d ≤ D) where
+    module _ (x : Explored) (histories : x.histories ≡ new.histories) (events : x.events ≡ new.events) (longest : x.longest ≡ new.longest) (found : x.outcomes ≡ new.outcomes) (whole_is : x.whole ≡ whole) (D : ℕ) (within : d ≤ D) where
       told_here : TellsFirst P S (explored P S W d) x
       told_here = told_first P S W (explored P S W d) new x pass_tells histories events longest found (whole_is ∙ pass_whole)
 
@@ -152,7 +152,7 @@ module _ (P : Policy) (S : Script) (W : ℕ) where
       ends_none e same = told_no_more P S W d D within (pass_none e same) x told_here
 
   -- after the last pass
-  pub ends_whole : (n d : ℕ) → n ≡ suc d → (t : Tally) → IsSoFar P S W n t → (x : Exploration) → x.histories ≡ t.histories → x.events ≡ t.events → x.longest ≡ t.longest → x.outcomes ≡ t.outcomes → x.whole ≡ true → TellsFirst P S (explored P S W d) x
+  pub ends_whole : (n d : ℕ) → n ≡ suc d → (t : Tally) → IsSoFar P S W n t → (x : Explored) → x.histories ≡ t.histories → x.events ≡ t.events → x.longest ≡ t.longest → x.outcomes ≡ t.outcomes → x.whole ≡ true → TellsFirst P S (explored P S W d) x
   ends_whole n d e t so_far x histories events longest found whole =
       let here = subst (λ n. IsSoFar P S W n t) e so_far in
       told_whole P S W (explored P S W d) t x here.none_is_left here.tells histories events longest found whole

@@ -13,11 +13,11 @@ use Rattle.explorer.specs.declared.tally.Tally.{Tally}
 use Rattle.explorer.proofs.Counts.{counted_outcomes}
 use Rattle.explorer.proofs.Merging.{outcomes_both, outcomes_more}
 
-longest_of_both : (L M : List (List Event)) → longest (L ++ M) ≡ max (longest L) (longest M)
+pub longest_of_both : (L M : List (List Event)) → longest (L ++ M) ≡ max (longest L) (longest M)
 longest_of_both [] M = omega arith
 longest_of_both (H ∷ L) M = omega (arith, longest_of_both L M)
 
-events_of_both : (L M : List (List Event)) → all_events (L ++ M) ≡ all_events L + all_events M
+pub events_of_both : (L M : List (List Event)) → all_events (L ++ M) ≡ all_events L + all_events M
 events_of_both L M = sum_by-append (λ (H : List Event). length H) L M
 
 module _ (P : Policy) (S : Script) (old new : Tally) where

@@ -1,5 +1,5 @@
 -- What is printed of the explored histories: how many there are, and each outcome with the schedule of its first history.
-use Rattle.std.specs.Prelude.{ℕ, ◌+◌, Bool, true, false, List, [], ◌∷◌, ◌++◌, length, Option, Some, None, codes, decimal}
+use Rattle.std.specs.Prelude.{◌≡◌, ◌⊎◌, ℕ, ◌+◌, Bool, true, false, List, [], ◌∷◌, ◌++◌, length, Option, Some, None, codes, decimal}
 use Rattle.std.specs.List.{flat_map}
 use Rattle.hist_model.specs.ReportAudit.{judging_by}
 use Rattle.hist_model.specs.ReportWords.{name_text}
@@ -9,6 +9,7 @@ use Rattle.hist_model.specs.declared.event.Event.{Event}
 use Rattle.hist_model.specs.declared.policy.Policy.{Policy}
 use Rattle.hist_model.specs.declared.script.Script.{Script}
 use Rattle.hist_model.specs.declared.script.Step.{Step}
+use Rattle.long_count.specs.Texts.{decimal_of}
 use Rattle.explorer.specs.Taken.{all_events, event_limit, longest, none_left, taken}
 use Rattle.explorer.specs.Tallies.{CountedOutcome, outcomes}
 
@@ -39,7 +40,8 @@ or_none (b ∷ text) = b ∷ text
 -- an outcome with its number
 abbrev pub outcome_block : ℕ → CountedOutcome → List ℕ
 outcome_block n o =
-    codes "outcome " ++ decimal n ++ codes " histories=" ++ decimal o.histories ++ codes "\n" ++ or_none o.text ++ schedule_block o.schedule
+    codes "outcome " ++ decimal n ++ codes " histories=" ++ decimal_of o.histories ++ codes "\n"
+    ++ or_none o.text ++ schedule_block o.schedule
 
 -- the outcomes, numbered from n on
 unfoldable pub blocks : ℕ → List CountedOutcome → List ℕ
@@ -66,7 +68,7 @@ bounds_words workers delays = codes "explored workers=" ++ decimal workers ++ co
 -- how many histories there are, how many events they have together, how many the longest has, and how many outcomes there are
 abbrev pub counts_words : ℕ → ℕ → ℕ → ℕ → List ℕ
 counts_words histories events longest found =
-    codes " histories=" ++ decimal histories ++ codes " events=" ++ decimal events ++ codes " longest=" ++ decimal longest
+    codes " histories=" ++ decimal_of histories ++ codes " events=" ++ decimal_of events ++ codes " longest=" ++ decimal longest
     ++ codes " outcomes=" ++ decimal found
 
 -- the first line: the bounds, the counts, and whether no history is left
@@ -82,6 +84,8 @@ told P S workers delays histories whole =
     ++ blocks 1 (outcomes S (judging_by P.rules) histories)
 
 -- what is printed of the histories of a list, which are those of a script by workers up to a last one and within a bound of delays or
--- none: of the first of them, as long as fewer events than the limit were explored before
-abbrev pub printed : Policy → Script → ℕ → Option ℕ → List (List Event) → List ℕ
-printed P S workers delays histories = told P S workers delays (taken event_limit histories) (none_left event_limit histories)
+-- none: what is told of all of them; or, where one is left, of the first, as long as fewer events than the limit were explored before
+abbrev pub IsPrinted : Policy → Script → ℕ → Option ℕ → List (List Event) → List ℕ → Type 0
+IsPrinted P S workers delays histories text =
+    (text ≡ told P S workers delays histories true)
+    ⊎ ((none_left event_limit histories ≡ false) × (text ≡ told P S workers delays (taken event_limit histories) false))

@@ -1,5 +1,5 @@
 -- What is told of the explored histories, and what exploring more of them comes to.
-use Rattle.std.specs.Prelude.{◌≡◌, ℕ, zero, suc, ◌+◌, ◌-◌, ◌<◌, ◌≤◌, Bool, true, false, List, [], ◌∷◌, ◌++◌, length}
+use Rattle.std.specs.Prelude.{◌≡◌, ◌⊎◌, ℕ, zero, suc, ◌+◌, ◌-◌, ◌<◌, ◌≤◌, Bool, true, false, List, [], ◌∷◌, ◌++◌, length}
 use Rattle.std.specs.Prelude.{get_or, map, filter, sum_by}
 use Rattle.hist_model.specs.ReportAudit.{judging_by}
 use Rattle.hist_model.specs.declared.event.Event.{Event}
@@ -9,7 +9,10 @@ use Rattle.delay_bounded.specs.Explored.{Walk, closed, explored, is_spent, with_
 use Rattle.explorer.specs.Taken.{all_events, event_limit, longest, none_left, taken}
 use Rattle.explorer.specs.Tallies.{outcomes}
 use Rattle.explorer.specs.declared.by_delays.ByDelays.{ByDelays}
+use Rattle.explorer.specs.declared.by_states.Joined.{Joined}
+use Rattle.explorer.specs.declared.by_states.Joined.TheVariants.{TooMany as TooManyStates, Whole as WholeByStates}
 use Rattle.explorer.specs.declared.exploring.Exploration.{Exploration}
+use Rattle.explorer.specs.declared.one_by_one.Explored.{Explored}
 use Rattle.explorer.specs.declared.one_walk.Attempt.{Attempt}
 use Rattle.explorer.specs.declared.one_walk.Attempt.TheVariants.{TooMany, Whole}
 use Rattle.explorer.specs.declared.tally.Tally.{Tally}
@@ -73,9 +76,26 @@ pub record IsSoFar (P : Policy) (S : Script) (W d : ℕ) (t : Tally) : Type 0 wh
 -- ---- In the end
 
 -- what is told of the first of these histories, as long as fewer events than the limit were explored before
-pub record TellsFirst (P : Policy) (S : Script) (L : List (List Event)) (x : Exploration) : Type 0 where
+pub record TellsFirst (P : Policy) (S : Script) (L : List (List Event)) (x : Explored) : Type 0 where
   pub histories : x.histories ≡ length (taken event_limit L)
   pub events : x.events ≡ all_events (taken event_limit L)
   pub longest_is : x.longest ≡ longest (taken event_limit L)
   pub whole_is : x.whole ≡ none_left event_limit L
   pub outcomes_are : x.outcomes.items ≡ outcomes S (judging_by P.rules) (taken event_limit L)
+
+-- what is told of these histories, and whether no other one is left
+pub record Tells (P : Policy) (S : Script) (L : List (List Event)) (whole : Bool) (x : Exploration) : Type 0 where
+  pub histories : x.histories ≡ length L
+  pub events : x.events ≡ all_events L
+  pub longest_is : x.longest ≡ longest L
+  pub whole_is : x.whole ≡ whole
+  pub outcomes_are : x.outcomes.items ≡ outcomes S (judging_by P.rules) L
+
+-- joined by the states to which they come, all explored histories are told; or there are too many states, and the script is back
+abbrev pub TellsJoined : Policy → Script → ℕ → ℕ → Joined → Type 0
+TellsJoined P S W d (WholeByStates x) = Tells P S (explored P S W d) true x
+TellsJoined P S W d (TooManyStates script) = script ≡ S
+
+-- all of these histories are told, or the first of them
+abbrev pub TellsEither : Policy → Script → List (List Event) → Exploration → Type 0
+TellsEither P S L x = Tells P S L true x ⊎ Tells P S (taken event_limit L) (none_left event_limit L) x

@@ -1,6 +1,6 @@
 //! The outcomes of histories, each with how many have it.
 
-ghost use Rattle.std.specs.Prelude.{◌≡◌, ◌<◌, ◌+◌, ◌^◌, ◌++◌, ◌∷◌, [], if◌then◌else◌, option_copied, OnOk};
+ghost use Rattle.std.specs.Prelude.{◌≡◌, ◌<◌, ◌+◌, ◌^◌, ◌++◌, ◌∷◌, [], if◌then◌else◌, option_map, OnOk};
 ghost use Rattle.std.specs.List.{position};
 ghost use Rattle.hist_model.specs.ReportAudit.{judging_by};
 ghost use Rattle.hist_model.specs.declared.script.Script.{Script};
@@ -18,7 +18,7 @@ use sys_abi::memory::NoMemory;
 
 /// What some of the explored histories come to.
 #[derive(Debug, Drop)]
-pub struct FoundOutcome {
+pub(crate) struct FoundOutcome {
     text: Vec<u8>,
     histories: u64,
     schedule: Option<Vec<Step>>,
@@ -35,28 +35,31 @@ impl Model for FoundOutcome {
 
 impl FoundOutcome {
     /// What these histories come to: the lines of their calls (`outcome_text`). Empty where no call was entered.
-    pub fn text(&self) -> &[u8]
+    pub(crate) fn text(&self) -> &[u8]
         ensures { result.now ≡ self.now.text }
     {
         self.text.as_slice()
     }
 
     /// How many histories come to it.
-    pub fn histories(&self) -> u64
+    pub(crate) fn histories(&self) -> u64
         ensures { result ≡ self.now.histories }
     {
         self.histories
     }
 
-    /// The schedule with which a script plays the first of them, the oldest line first; none where a script can't schedule so
-    /// many steps.
-    pub fn schedule(&self) -> Option<&[Step]>
-        ensures { option_copied result ≡ self.now.schedule }
+    /// Its text, how many histories come to it, and the schedule of the first of them.
+    pub(crate) fn into_parts(self) -> (Vec<u8>, u64, Option<Vec<Step>>)
+        ensures text { result.0.items ≡ self.text }
+        ensures histories { result.1 ≡ self.histories }
+        ensures schedule { option_map (λ steps. steps.items) result.2 ≡ self.schedule }
     {
-        match &self.schedule {
-            Some(steps) => Some(steps.as_slice()),
-            None => None,
-        }
+        let FoundOutcome {
+            text,
+            histories,
+            schedule,
+        } = self;
+        (text, histories, schedule)
     }
 
     /// Counts so many histories more.

@@ -1,6 +1,9 @@
 //! The turns with which a walk begins.
 
-ghost use Rattle.std.specs.Prelude.{◌≡◌};
+ghost use Rattle.std.specs.Prelude.{◌≡◌, IfOk};
+
+use std::alloc::Global;
+use sys_abi::memory::NoMemory;
 
 /// A turn of a walk.
 #[derive(Drop, Debug)]
@@ -23,4 +26,19 @@ pub(crate) fn last_place(frames: &[Frame]) -> usize
         Some(frame) => frame.place,
         None => 0,
     }
+}
+
+/// A copy of turns, with room for one more.
+pub(crate) fn copied(alloc: Global, frames: &[Frame]) -> Result<Vec<Frame>, NoMemory>
+    ensures { IfOk result (λ copy. copy.items ≡ frames.now) }
+{
+    let mut copy = Vec::with_capacity(alloc, frames.len().saturating_add(1))?;
+    for frame in frames {
+        copy.push(Frame {
+            place: frame.place,
+            next: frame.next,
+            left: frame.left,
+        })?;
+    }
+    Ok(copy)
 }

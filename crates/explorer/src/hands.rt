@@ -56,6 +56,14 @@ impl Hands {
         self.full[worker] || are_full(&self.full[..worker])
     }
 
+    /// Whether a worker has a notification in hand.
+    pub(crate) fn is_full(&self, worker: u8) -> bool
+        requires { worker < 16 }
+        ensures { (K : List Event) → Tells K self.now → result ≡ in_hand K worker }
+    {
+        self.full[worker as usize]
+    }
+
     /// A worker took this step.
     pub(crate) fn note(&mut self, worker: u8, what: &What)
         requires worker { worker < 16 }

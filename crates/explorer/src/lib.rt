@@ -6,6 +6,13 @@
 //! it anew, and goes on from there (`walk.rt`, `walker.rt`). It keeps the turns of one history, and what is told of all; so its memory
 //! doesn't grow with the number of histories, but with that of their outcomes.
 //!
+//! Most histories come to the same state as another one of the same length, and go on as it does: the tables of the kernel, what workers
+//! were told in the sessions that they have in hand, and what came of the calls so far are the same (`Run::key`). So the levels of states
+//! are gone through first (`by_states.rt`, `level.rt`): a state has the first of the histories that were joined to it, and how many
+//! of them have each number of delays (`state.rt`); what they come to is gathered where nobody is able to step (`ends.rt`). Which history
+//! is the first is told by the delays that are left after each turn (`order.rt`). Only where there are too many states the walks
+//! are gone through one by one (`one_by_one.rt`).
+//!
 //! An outcome is what a history comes to (`outcome_text`). It is kept with its count and the schedule of its first history
 //! (`found.rt`, `schedule.rt`), and the definition of what is told computes (`specs/Tallies.antt`). On which node a worker made a mount
 //! or set an attribute is noted as it does (`marks.rt`), and at the end of the history the tree tells which of these a later effect
@@ -21,19 +28,25 @@
 #![tactic(auto)]
 
 mod by_delays;
+mod by_states;
+mod ends;
 mod exploring;
 mod found;
 mod frames;
 mod hands;
 pub mod laws;
+mod level;
 mod marks;
+mod one_by_one;
 mod one_walk;
+mod order;
 mod passes;
 mod run;
 mod schedule;
+mod session_key;
+mod state;
 mod tally;
 mod walk;
 mod walker;
 
-pub use exploring::{Exploration, explore};
-pub use found::FoundOutcome;
+pub use exploring::{Exploration, Outcome, explore};

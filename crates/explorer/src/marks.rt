@@ -72,6 +72,13 @@ impl Marks {
         })
     }
 
+    /// The marks, the oldest first.
+    pub(crate) fn list(&self) -> &[Mark]
+        ensures { result.now ≡ self.now.list.items }
+    {
+        self.list.as_slice()
+    }
+
     /// Marks a worker's newest step, if it made a mount or set an attribute.
     #[tactic(auto, using(crate::proofs::Marking::mark_more, crate::proofs::Marking::mark_none))]
     pub(crate) fn mark(&mut self, kernel: &Kernel, worker: u8, what: &What) -> Result<(), NoMemory>

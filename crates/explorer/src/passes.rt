@@ -8,7 +8,7 @@ ghost use Rattle.explorer.specs.Taken.{event_limit};
 ghost use Rattle.outcome_text.specs.Sight as sight;
 ghost use Rattle.explorer.specs.Telling.{Explores, Notes, TellsFirst, TellsOf};
 
-use crate::exploring::Exploration;
+use crate::one_by_one::Explored;
 use crate::tally::Tally;
 use crate::walker::{Walked, Walker};
 use hist_model::history::History;
@@ -85,7 +85,7 @@ pub(crate) fn explore_by_passes(
     workers: u8,
     mut script: Script,
     bound: u64,
-) -> Result<Exploration, NoMemory>
+) -> Result<Explored, NoMemory>
     requires workers { workers ≤ 15 }
     requires bound { bound ≤ event_limit }
     ensures { IfOk result (λ x. TellsFirst policy.now script (explored policy.now script workers bound) x) }

@@ -1,6 +1,6 @@
 //! A kernel and its workers, which have their turns round the circle.
 
-ghost use Rattle.std.specs.Prelude.{◌≡◌, ◌<◌, ◌≤◌, ◌^◌, ◌∷◌, ℕ, List, length, true, IfOk, OnOk};
+ghost use Rattle.std.specs.Prelude.{◌≡◌, ◌<◌, ◌≤◌, ◌^◌, ◌++◌, ◌∷◌, [], ℕ, List, length, true, false, IfOk, OnOk};
 ghost use Rattle.hist_model.specs.Legal.{started};
 ghost use Rattle.hist_model.specs.declared.event.Actor.TheVariants.{Listener, Task, Worker};
 ghost use Rattle.hist_model.specs.declared.event.What.TheVariants.{Close};
@@ -14,11 +14,14 @@ ghost use Rattle.delay_bounded.specs.Circle.{at_place, is_able, places, with_tur
 
 use crate::hands::Hands;
 use crate::marks::Marks;
+use crate::session_key::push_session;
 use broker_machine::{Machine, is_task_name};
 use hist_model::event::What;
 use hist_model::history::History;
 use hist_model::policy::Policy;
 use hist_model::script::Script;
+use key_bytes::{push_flag, push_number};
+use outcome_lines::{lines_of, write_key};
 use std::alloc::Global;
 use sys_abi::memory::NoMemory;
 
@@ -60,7 +63,8 @@ fn newest(history: &History) -> &What
 }
 
 impl Run {
-    ghost use Rattle.explorer.specs.Runs.{Comes, Finds, IsGoing, IsRun, Tries, script_in, story};
+    ghost use Rattle.explorer.specs.Keys.{key_of, session_part, sessions_part};
+    ghost use Rattle.explorer.specs.Runs.{Comes, Finds, IsGoing, IsRun, Tries, able_in, script_in, story};
 
     /// The start of a script.
     pub(crate) fn begin(alloc: Global, script: Script) -> Result<Run, NoMemory>
@@ -169,6 +173,96 @@ impl Run {
     {
         let _ = self.try_place(alloc, policy, place)?;
         Ok(())
+    }
+
+    /// Whether a worker may be able to step, told without a step: whether it may step, and finds something where it would receive.
+    fn worker_may_be_able(&self, worker: u8) -> bool
+        requires worker { worker < 16 }
+        ensures { (P : PolicyValue) → IsGoing P self.now → result ≡ false → is_able P (script_in self.now) (story self.now) (Worker worker) ≡ false }
+    {
+        if !self.hands.may_step(worker) {
+            return false;
+        }
+        if self.hands.is_full(worker) {
+            return true;
+        }
+        self.machine.kernel().request_count() > 0
+    }
+
+    /// Whether the actor at a place may be able to step, told without a step; of a task it is told whether it can.
+    fn may_be_able(&self, place: usize) -> bool
+        requires going { (P : PolicyValue) × IsGoing P self.now }
+        requires inside { place < places 15 (story self.now) }
+        ensures { (P : PolicyValue) → IsGoing P self.now → result ≡ false → is_able P (script_in self.now) (story self.now) (at_place (story self.now) place) ≡ false }
+    {
+        let tasks = self.machine.kernel().tasks();
+        if place < tasks {
+            self.machine.kernel().can_step(place as u32)
+        } else {
+            self.worker_may_be_able((place - tasks) as u8)
+        }
+    }
+
+    /// No place from this one on is that of an actor that is able to step, where the actor at a place stepped last.
+    pub(crate) fn end_of_able(&self, workers: u8, last: usize) -> usize
+        requires going { (P : PolicyValue) × IsGoing P self.now }
+        requires workers { workers ≤ 15 }
+        requires inside { last < places workers (story self.now) }
+        ensures { (P : PolicyValue) → IsGoing P self.now → able_in P workers self.now last result ≡ [] }
+    {
+        let places = self.places(workers);
+        let mut end = places;
+        'places: while end > 0 {
+            if self.may_be_able((last + (end - 1)) % places) {
+                return end;
+            }
+            end -= 1;
+        }
+        0
+    }
+
+    /// Adds what a worker was told, if it has a notification in hand.
+    fn push_session(&self, key: &mut Vec<u8>, worker: u8) -> Result<(), NoMemory>
+        requires going { (P : PolicyValue) × IsGoing P self.now }
+        requires worker { worker < 16 }
+        ensures { OnOk result (key.new.items ≡ key.old.items ++ session_part (story self.now) worker) }
+    {
+        if !self.hands.is_full(worker) {
+            return push_flag(key, false);
+        }
+        push_flag(key, true)?;
+        push_session(key, self.machine.history().events(), worker)
+    }
+
+    /// Adds what the workers that have a notification in hand were told.
+    fn push_sessions(&self, key: &mut Vec<u8>) -> Result<(), NoMemory>
+        requires going { (P : PolicyValue) × IsGoing P self.now }
+        ensures { OnOk result (key.new.items ≡ key.old.items ++ sessions_part (story self.now)) }
+    {
+        for worker in 0..16u8 {
+            self.push_session(key, worker)?;
+        }
+        Ok(())
+    }
+
+    /// The key of what has happened, where the actor at a place stepped last: equal ones are of histories after which all goes on
+    /// alike, and which come to the same.
+    pub(crate) fn key(
+        &self,
+        alloc: Global,
+        policy: &Policy,
+        last: usize,
+    ) -> Result<Vec<u8>, NoMemory>
+        requires going { IsGoing policy.now self.now }
+        ensures { IfOk result (λ key. key.items ≡ key_of policy.now last self.now) }
+    {
+        let mut key = Vec::with_capacity(alloc, 2048)?;
+        push_number(&mut key, last as u64)?;
+        self.machine.kernel().write_key(&mut key)?;
+        self.push_sessions(&mut key)?;
+        let lines = lines_of(alloc, policy, self.machine.history(), self.marks.list())?;
+        write_key(&mut key, lines.as_slice())?;
+        Ok(key)
     }
 
     /// A run has fewer events than can be counted.

@@ -7,8 +7,8 @@ ghost use Rattle.hist_model.specs.declared.script.Script.{Script as ScriptValue}
 ghost use Rattle.outcome_text.specs.Sight as sight;
 ghost use Rattle.explorer.specs.Taken.{event_limit};
 
-use crate::exploring::Exploration;
 use crate::found::{FoundOutcome, add_all, add_history};
+use crate::one_by_one::Explored;
 use hist_model::history::History;
 use hist_model::policy::Policy;
 use std::alloc::Global;
@@ -106,7 +106,7 @@ impl Tally {
     }
 
     /// What exploring these came to, and whether no history is left.
-    pub(crate) fn told(self, whole: bool) -> Exploration
+    pub(crate) fn told(self, whole: bool) -> Explored
         ensures histories { result.histories ≡ self.histories }
         ensures events { result.events ≡ self.events }
         ensures longest { result.longest ≡ self.longest }
@@ -119,7 +119,7 @@ impl Tally {
             longest,
             outcomes,
         } = self;
-        Exploration {
+        Explored {
             histories,
             events,
             longest,

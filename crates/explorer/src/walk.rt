@@ -52,7 +52,7 @@ pub(crate) fn walk_on(
 }
 
 /// A run of a script that begins with these turns.
-fn replay(
+pub(crate) fn replay(
     alloc: Global,
     policy: &Policy,
     workers: u8,

@@ -1,6 +1,6 @@
 //! The listener: what it answers a broker, and what it keeps for the calls that wait (seccomp_unotify(2)).
 //!
-//! A `Listener` has the listed calls in the order of entry, which are found by halves, and the requests for descriptors, one
+//! A `Listener` has the listed calls in the order of entry, which are found by binary search, and the requests for descriptors, one
 //! at most for each worker. A broker receives, checks, sends, and puts and takes requests by it; a task enters a call, leaves
 //! it, and installs what was asked for it. What a caller hands over is tested first by itself (`check_recv`, `parse_send`,
 //! `parse_put`). Its model is a state, a value of the definitions, beside Linux's list of `struct seccomp_knotif`: each

@@ -3,7 +3,7 @@
 use Rattle.std.proofs.Common.{◌≡◌, ◌≢◌, inl, inr, ℕ, zero, suc, ◌+◌, ◌<◌, ◌≤◌, List, [], ◌∷◌, length, get_or, Some, None, Result, Ok, Err, IfOk, IfErr, Contains, refl, sym, ap, ◌∙◌, arith}
 use Rattle.std.specs.List.Sorted.{IsSearchInRange, IsBinarySearchResult, IsNonDecreasingBy}
 use Rattle.std.specs.Ordering.{nat_cmp, ordering_index}
-use Rattle.std.proofs.lemmas.Bool.{cases_eq, cases_lt, cases_order, eq-eqb, ne_eqb}
+use Rattle.std.proofs.lemmas.Bool.{cases_eq, cases_lt, eq-eqb, ne_eqb}
 use Rattle.std.proofs.lemmas.Bool.Decides.{nat_tests}
 use Rattle.std.proofs.lemmas.Cmp.{ranked}
 use Rattle.std.proofs.lemmas.List.{get_or_default}
@@ -23,12 +23,6 @@ module _ {T : Type 0} (number : T → ℕ) where
   pub rise-tail : (x : T) (xs : List T) → NumbersRise number (x ∷ xs) → NumbersRise number xs
   rise-tail x xs r i j d l m = r (suc i) (suc j) d (omega arith) (omega arith)
 
-  pub rise-by : (xs : List T) → NumbersRise number xs → IsNonDecreasingBy number xs
-  rise-by xs r i j d l m = elim (cases_order i j) [
-    | inl q ↦ rw q (omega arith)
-    | inr q ↦ elim q [ inl q ↦ omega (arith, r i j d q m) | inr q ↦ absurd (omega arith) ]
-  ]
-
   -- numbers rise at least as fast as places
   pub rise-fast : (xs : List T) (i j : ℕ) (d : T) → NumbersRise number xs → i ≤ j → j < length xs → number (get_or xs i d) + j ≤ number (get_or xs j d) + i
   rise-fast xs i zero d r l m = let z : i ≡ 0 = omega arith in rw z (omega arith)
@@ -36,6 +30,9 @@ module _ {T : Type 0} (number : T → ℕ) where
     | inl q ↦ rw q (omega arith)
     | inr q ↦ omega (arith, rise-fast xs i j d r (omega arith) (omega arith), r j (suc j) d (omega arith) m)
   ]
+
+  rise-by : (xs : List T) → NumbersRise number xs → IsNonDecreasingBy number xs
+  rise-by xs r i j d l m = omega (arith, rise-fast xs i j d r l m)
 
   -- the comparisons with a number rise, as a binary search asks
   comparisons-rise : (xs : List T) (n : ℕ) → NumbersRise number xs → IsNonDecreasingBy (λ e. ordering_index (nat_cmp (number e) n)) xs

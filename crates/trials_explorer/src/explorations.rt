@@ -3,6 +3,7 @@
 ghost use Rattle.std.specs.Prelude.{◌≤◌};
 
 use explorer::{Exploration, explore};
+use long_count::LongCount;
 use policy_reader::read_policy;
 use script_reader::read_script;
 use std::alloc::Global;
@@ -49,25 +50,37 @@ fn explored(
     Ok(explore(alloc, &policy, script, workers, delays)?)
 }
 
-/// How many histories have each outcome.
-fn counts(alloc: Global, found: &Exploration) -> Result<Vec<u64>, Fail> {
+/// How many histories have each outcome, each behind a space.
+fn counts(alloc: Global, found: &Exploration) -> Result<Vec<u8>, Fail> {
     let mut counts = Vec::new(alloc);
     for outcome in &found.outcomes {
-        counts.push(outcome.histories())?;
+        counts.push(b' ')?;
+        counts.extend_from_slice(outcome.histories().text(alloc)?.as_slice())?;
     }
     Ok(counts)
+}
+
+/// A count as text.
+fn shown(alloc: Global, count: &LongCount) -> Result<Vec<u8>, Fail> {
+    Ok(count.text(alloc)?)
 }
 
 #[test]
 fn any_two_of_three_callers_are_granted(rt: HostRuntime) -> Result<(), Fail> {
     let some = explored(rt.alloc(), TWO_NULLS, THREE_CALLERS, 0, Some(2))?;
-    assert_eq!(rt; some.histories, 305);
-    assert_eq!(rt; some.events, 13_115);
+    assert_eq!(rt;
+        shown(rt.alloc(), &some.histories)?.as_slice(),
+        b"305".as_slice()
+    );
+    assert_eq!(rt;
+        shown(rt.alloc(), &some.events)?.as_slice(),
+        b"13115".as_slice()
+    );
     assert_eq!(rt; some.longest, 43);
     assert_eq!(rt; some.whole, true);
     assert_eq!(rt;
         counts(rt.alloc(), &some)?.as_slice(),
-        [253, 26, 26].as_slice()
+        b" 253 26 26".as_slice()
     );
     Ok(())
 }
@@ -75,13 +88,19 @@ fn any_two_of_three_callers_are_granted(rt: HostRuntime) -> Result<(), Fail> {
 #[test]
 fn a_caller_is_killed_at_any_time(rt: HostRuntime) -> Result<(), Fail> {
     let all = explored(rt.alloc(), LXD, KILLED, 0, None)?;
-    assert_eq!(rt; all.histories, 475);
-    assert_eq!(rt; all.events, 7900);
+    assert_eq!(rt;
+        shown(rt.alloc(), &all.histories)?.as_slice(),
+        b"475".as_slice()
+    );
+    assert_eq!(rt;
+        shown(rt.alloc(), &all.events)?.as_slice(),
+        b"7900".as_slice()
+    );
     assert_eq!(rt; all.longest, 18);
     assert_eq!(rt; all.whole, true);
     assert_eq!(rt;
         counts(rt.alloc(), &all)?.as_slice(),
-        [2, 234, 116, 120, 3].as_slice()
+        b" 2 234 116 120 3".as_slice()
     );
     Ok(())
 }
@@ -89,11 +108,40 @@ fn a_caller_is_killed_at_any_time(rt: HostRuntime) -> Result<(), Fail> {
 #[test]
 fn one_of_two_callers_is_granted_by_two_workers(rt: HostRuntime) -> Result<(), Fail> {
     let some = explored(rt.alloc(), ONE_NULL, TWO_CALLERS, 1, Some(2))?;
-    assert_eq!(rt; some.histories, 171);
-    assert_eq!(rt; some.events, 4959);
+    assert_eq!(rt;
+        shown(rt.alloc(), &some.histories)?.as_slice(),
+        b"171".as_slice()
+    );
+    assert_eq!(rt;
+        shown(rt.alloc(), &some.events)?.as_slice(),
+        b"4959".as_slice()
+    );
     assert_eq!(rt; some.longest, 29);
     assert_eq!(rt; some.whole, true);
-    assert_eq!(rt; counts(rt.alloc(), &some)?.as_slice(), [121, 50].as_slice());
+    assert_eq!(rt;
+        counts(rt.alloc(), &some)?.as_slice(),
+        b" 121 50".as_slice()
+    );
+    Ok(())
+}
+
+#[test]
+fn histories_that_come_to_one_state_are_counted_together(rt: HostRuntime) -> Result<(), Fail> {
+    let all = explored(rt.alloc(), ONE_NULL, TWO_CALLERS, 1, None)?;
+    assert_eq!(rt;
+        shown(rt.alloc(), &all.histories)?.as_slice(),
+        b"37279368".as_slice()
+    );
+    assert_eq!(rt;
+        shown(rt.alloc(), &all.events)?.as_slice(),
+        b"1081101672".as_slice()
+    );
+    assert_eq!(rt; all.longest, 29);
+    assert_eq!(rt; all.whole, true);
+    assert_eq!(rt;
+        counts(rt.alloc(), &all)?.as_slice(),
+        b" 21684474 15594894".as_slice()
+    );
     Ok(())
 }
 
@@ -103,7 +151,10 @@ fn without_delays_the_caller_is_killed_before_its_call(rt: HostRuntime) -> Resul
     let [outcome] = one.outcomes.as_slice() else {
         return Err(Fail::new("not one outcome"));
     };
-    assert_eq!(rt; outcome.histories(), 1);
+    assert_eq!(rt;
+        shown(rt.alloc(), outcome.histories())?.as_slice(),
+        b"1".as_slice()
+    );
     assert_eq!(rt; outcome.text().is_empty(), true);
     let Some([first, caller]) = outcome.schedule() else {
         return Err(Fail::new("not two lines"));

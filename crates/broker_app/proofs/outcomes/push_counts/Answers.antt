@@ -6,6 +6,6 @@ use Rattle.broker_app.proofs.outcomes.push_counts.Goals as goal
 pub returns : goal.returns
 returns c =
     let found = c.args.found.now in
-    counts_behind c.args.line.now c.push_count.new.line c.push_count-2.new.line c.push_count-3.new.line c.push_count-4.new.line
+    counts_behind c.args.line.now c.push_long_count.new.line c.push_long_count-2.new.line c.push_count.new.line c.push_count-2.new.line
     (codes " histories=") (codes " events=") (codes " longest=") (codes " outcomes=") found.histories found.events found.longest _ (length found.outcomes.items)
-    c.push_count-4.result c.in_ok-push_count.ensures c.in_ok-push_count-2.ensures c.in_ok-push_count-3.ensures (omega (arith, c.len.ensures, found.outcomes.ok.0)) c.push_count-4.ensures
+    c.push_count-2.result c.in_ok-push_long_count.ensures c.in_ok-push_long_count-2.ensures c.in_ok-push_count.ensures (omega (arith, c.len.ensures, found.outcomes.ok.0)) c.push_count-2.ensures

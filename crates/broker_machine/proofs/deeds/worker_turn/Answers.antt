@@ -74,7 +74,7 @@ took-requires-clause-fits c =
 
 pub returns-clause-step : goal.returns-clause-step
 returns-clause-step c =
-    rw c.outcome_of.ensures
+    rw c.step_taken.ensures
     (tries-step c.args.policy.now c.args.kernel.now c.args.number c.do_deed.new.kernel c.next-next.result true c.do_deed.new.worker
     (tried (goal.at.returns-clause-step c).In_ok-do_deed true c.if-not-branch.false))
 

@@ -2,7 +2,7 @@ use Rattle.std.proofs.lemmas.Result.{IfOk-weaker}
 use Rattle.delay_bounded.specs.Explored.{bound_of, explored}
 use Rattle.explorer.specs.Telling.{TellsFirst}
 use Rattle.explorer.proofs.Bounds.{told_few, told_within}
-use Rattle.explorer.proofs.exploring.explore.Goals as goal
+use Rattle.explorer.proofs.one_by_one.explore_one_by_one.Goals as goal
 
 pub returns-in-Whole : goal.returns-in-Whole
 returns-in-Whole c =
