@@ -3,12 +3,14 @@ import re
 
 from json_documents.lines import Lines
 from json_documents.report import EVENTS
-from json_documents.values import ACTOR, Form, NUMBER, RESULT, TASK, VERDICT, WORD, or_dash
+from json_documents.values import ACTOR, Form, LARGE, NUMBER, RESULT, TASK, VERDICT, WORD, or_dash
 from reports import CALL, ERRNO, NAME, NUMBER as DIGITS, NotAReport, SIGNED, STEPS
 
-FIRST = re.compile(rf"explored (?:workers=({DIGITS}) delays=({DIGITS}|all) )?histories=({DIGITS}) events=({DIGITS}) longest=({DIGITS})"
+# how many histories there are, and how many events they have, may have more digits than any other number
+COUNT = r"\d+"
+FIRST = re.compile(rf"explored (?:workers=({DIGITS}) delays=({DIGITS}|all) )?histories=({COUNT}) events=({COUNT}) longest=({DIGITS})"
                    rf" outcomes=({DIGITS}) whole=(yes|bound|no)")
-OUTCOME = re.compile(rf"outcome ({DIGITS}) histories=({DIGITS})")
+OUTCOME = re.compile(rf"outcome ({DIGITS}) histories=({COUNT})")
 CALL_LINE = re.compile(rf"(t{NAME}) ({DIGITS}) ({CALL}) (notify|allow|log|errno={DIGITS}|nosys|kill) ({SIGNED}|{ERRNO}|restarted|ended|open|pid)"
                        r" (rule=\S+ verdict=\S+ reply=\S+)")
 AUDIT_LINE = re.compile(r"rule=(\S+) verdict=(grant|deny|pass|inject|spent|fault|gone|open) reply=(sent|lost|none)")
@@ -16,7 +18,7 @@ DID_LINE = re.compile(r" did (plant )?(.*?)(?: (covered|replaced))?")
 TURN_LINE = re.compile(rf"(t {NAME}|w {DIGITS}) ({DIGITS})")
 
 BOUNDS = Form("workers={workers} delays={delays} ", workers=NUMBER, delays=WORD)
-COUNTS = Form("histories={histories} events={events} longest={longest}", histories=NUMBER, events=NUMBER, longest=NUMBER)
+COUNTS = Form("histories={histories} events={events} longest={longest}", histories=LARGE, events=LARGE, longest=NUMBER)
 ENTERED = Form("{task} {number} {call} {verdict} {outcome}", task=TASK, number=NUMBER, call=WORD, verdict=VERDICT, outcome=RESULT)
 JUDGED = Form("rule={rule} verdict={verdict} reply={reply}", rule=or_dash(WORD), verdict=WORD, reply=WORD)
 NOT_RECEIVED = "rule=- verdict=- reply=-"
@@ -84,7 +86,7 @@ def outcome_of(lines):
     else:
         while not calls or not lines.next_is("schedule"):
             calls.append(call_of(lines))
-    return {"number": int(number), "histories": int(histories), "calls": calls, "schedule": schedule_of(lines)}
+    return {"number": int(number), "histories": histories, "calls": calls, "schedule": schedule_of(lines)}
 
 
 def outcome_lines(outcome):

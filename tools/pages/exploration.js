@@ -38,10 +38,10 @@ class Exploration {
 
   outcome(outcome) {
     const share = make("span", { class: "share", "aria-hidden": "true" }, make("i", {}));
-    share.firstChild.style.width = `${Math.max(1, (100 * outcome.histories) / this.view.histories)}%`;
+    share.firstChild.style.width = `${Math.max(1, percent(outcome.histories, this.view.histories))}%`;
     const schedule = outcome.schedule;
     return make("article", { class: "outcome", id: `outcome-${outcome.number}` },
-      make("header", {}, make("h2", {}, `Outcome ${outcome.number}`), make("span", { class: "orders" }, `${outcome.histories.toLocaleString("en")} of ${counted(this.view.histories, "order")}`), share,
+      make("header", {}, make("h2", {}, `Outcome ${outcome.number}`), make("span", { class: "orders" }, `${grouped(outcome.histories)} of ${counted(this.view.histories, "order")}`), share,
         schedule && this.play ? make("button", { type: "button", class: "small", onclick: () => this.play(schedule, outcome.number) }, "Play this order") : null),
       make("div", { class: "parts" }, make("div", { class: "came" }, ...callsOf(outcome)), schedule ? scheduleFigure(schedule) : make("p", { class: "none" }, "The schedule is too long for a script.")));
   }
@@ -53,8 +53,17 @@ class Exploration {
   leave() {}
 }
 
+/** A count with its digits in groups. How many orders there are is a text, since it may have any number of digits. */
+function grouped(count) {
+  return BigInt(count).toLocaleString("en");
+}
+
 function counted(count, what) {
-  return `${count.toLocaleString("en")} ${what}${count === 1 ? "" : "s"}`;
+  return `${grouped(count)} ${what}${BigInt(count) === 1n ? "" : "s"}`;
+}
+
+function percent(count, all) {
+  return Number((10_000n * BigInt(count)) / BigInt(all)) / 100;
 }
 
 function wholeText({ whole, delays }) {

@@ -48,7 +48,7 @@ class Smaller:
 
     def counts(self):
         """How far it is."""
-        view = self.known["view"] if self.known is not None else {"histories": 0, "outcomes": []}
+        view = self.known["view"] if self.known is not None else {"histories": "0", "outcomes": []}
         return {"bound": self.bound, "histories": view["histories"], "outcomes": len(view["outcomes"])}
 
 

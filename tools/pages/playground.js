@@ -3,7 +3,7 @@
 // a link keeps no longer texts than these, packed and unpacked
 const LONGEST_LINK = 60_000;
 const LONGEST_CASE = 10_000_000;
-const USUAL_DELAYS = "3";
+const USUAL_DELAYS = "all";
 // so long nobody types before the policy is looked at, in milliseconds
 const PAUSE = 600;
 const SLOW = "several hundred times slower than the proved program";

@@ -85,8 +85,8 @@ def schedule_lines(schedule):
 def explored_of(script, output):
     """What an exploration of a script came to."""
     document = exploration_of(output)
-    outcomes = tuple(Outcome(it["histories"], tuple(made_of(script.instances, it["calls"])), schedule_lines(it["schedule"])) for it in document["outcomes"])
-    return Explored(outcomes, document["histories"], document["whole"])
+    outcomes = tuple(Outcome(int(it["histories"]), tuple(made_of(script.instances, it["calls"])), schedule_lines(it["schedule"])) for it in document["outcomes"])
+    return Explored(outcomes, int(document["histories"]), document["whole"])
 
 
 def played_of(script, report):

@@ -109,13 +109,13 @@ def of_trace(expectation, chosen, exploring, explored):
 
 def share(count, explored):
     """In how many of the orders something is so, where there is more than one."""
-    return f", in {count} of {explored.histories} orders" if explored.histories > 1 else ""
+    return f", in {count:,} of {explored.histories:,} orders" if explored.histories > 1 else ""
 
 
 def reach(exploring, explored):
     """How far an exploration goes, in words."""
     delays = {"0": "without a delay", "1": "within 1 delay"}.get(exploring.delays, f"within {exploring.delays} delays")
-    orders = f"{explored.histories} orders" if explored.histories > 1 else "1 order"
+    orders = f"{explored.histories:,} orders" if explored.histories > 1 else "1 order"
     return {"yes": f"all {orders}" if explored.histories > 1 else "the only order", "bound": f"{delays}, {orders}", "no": f"cut off after {orders}"}[explored.whole]
 
 

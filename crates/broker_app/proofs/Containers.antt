@@ -1,6 +1,6 @@
 -- What is read of containers, which of their ranges overlap, and how a pod ends.
 -- By cases on the status, and by induction on lists of pairs of files.
-use Rattle.std.proofs.Common.{◌≡◌, ℕ, ◌+◌, ◌*◌, ◌<◌, ◌≤◌, true, false, List, [], ◌∷◌, ◌++◌, length, take, drop, get_or, Result, Ok, Err, inl, inr, refl, sym, subst, ◌∙◌, ap, ap₂, append-nil, append_assoc, arith, length-append}
+use Rattle.std.proofs.Common.{◌≡◌, ℕ, ◌+◌, ◌*◌, ◌<◌, ◌≤◌, true, false, List, [], ◌∷◌, ◌++◌, length, suc, take, drop, get_or, Option, Result, Ok, Err, inl, inr, refl, sym, subst, ◌∙◌, ap, ap₂, append-nil, append_assoc, arith, length-append}
 use Rattle.std.specs.Prelude.{String, ◌-◌, ◌&&◌, ◌%◌, ◌==◌, nat_le}
 use Rattle.std.specs.List.{AllZip}
 use Rattle.std.specs.String.{string_bytes}
@@ -10,6 +10,8 @@ use Rattle.std.proofs.lemmas.Bool.{and_parts, leb-true}
 use Rattle.std.proofs.lemmas.Slice.Zip.{AllZip-long}
 use Rattle.io_edge.specs.FileState.{FileState, SameFiles}
 use Rattle.io_edge.specs.SinkState.{SinkState}
+use Rattle.handover.specs.Handing.{Handed}
+use Rattle.hist_model.specs.ReportAudit.{judging_by}
 use Rattle.hist_model.specs.declared.event.Event.{Event}
 use Rattle.hist_model.specs.declared.policy.Policy.{Policy}
 use Rattle.hist_model.specs.declared.script.Script.{Script}
@@ -21,7 +23,8 @@ use Rattle.worker_gate.specs.declared.served.Played.{Played}
 use Rattle.broker_app.proofs.Reading.{input_before, policy_is_before, script_is_before}
 use Rattle.broker_app.specs.Answers.{Printed, status_of}
 use Rattle.broker_app.specs.Forms.{texts}
-use Rattle.broker_app.specs.PodText.{pod_text}
+use Rattle.broker_app.specs.Handovers.{report_and}
+use Rattle.broker_app.specs.PodText.{container_title, due_in, kept_in, parts, pod_text}
 use Rattle.broker_app.specs.Pods.{AreEnded, AreSeparate, AreServedApart, AreTaken, ContainerStops, HaveEnded, IsTaken, Overlapping, PairStops, PodEnds, in_container, scripts_of}
 use Rattle.broker_app.specs.Refusals.{InputRefused}
 use Rattle.broker_app.specs.Runs.{AreRun, Ending}
@@ -144,18 +147,18 @@ none_overlap (c ∷ more) separate = λ i j d behind within. by i j d behind (su
 
 -- ---- What was served
 
-module _ (Ended : Ending) where
+module _ (Ended : Ending) (every : Option ℕ) where
   -- what was served by a pod has such ends
-  pub are-ended : (workers : ℕ) (Keeps : List Event → Type 0) → ((P : Policy) (S : Script) (H : List Event) → HasEnded P S workers H → Keeps H → Ended P S H) → (cs : List Container) (ps : List Played) → AreServed workers Keeps cs ps
-      → AreEnded Ended cs ps
+  pub are-ended : (workers : ℕ) (Keeps : List Event → Type 0) → ((P : Policy) (S : Script) (H : List Event) → HasEnded P S workers H → Keeps H → Ended P S H) → (cs : List Container) (ps : List Played) → AreServed workers every Keeps cs ps
+      → AreEnded Ended every cs ps
   are-ended workers Keeps end [] [] served = tt
   are-ended workers Keeps end [] (p ∷ ps) served = absurd served
   are-ended workers Keeps end (c ∷ cs) [] served = absurd served
   are-ended workers Keeps end (c ∷ cs) (p ∷ ps) (this, served) =
-      (record { policy = this.policy; script = this.script; ended = end c.policy c.script p.history.events this.ended this.keeps }, are-ended workers Keeps end cs ps served)
+      (record { policy = this.policy; script = this.script; ended = end c.policy c.script p.history.events this.ended this.keeps; kept = this.handed }, are-ended workers Keeps end cs ps served)
 
   -- what was served are the containers that were read
-  pub have_ended : (files : FileState) (pairs : List FilePair) (cs : List Container) (ps : List Played) → AreTaken files pairs cs → AreEnded Ended cs ps → HaveEnded files Ended pairs ps
+  pub have_ended : (files : FileState) (pairs : List FilePair) (cs : List Container) (ps : List Played) → AreTaken files pairs cs → AreEnded Ended every cs ps → HaveEnded files Ended pairs ps
   have_ended files [] [] [] taken served = tt
   have_ended files [] [] (p ∷ ps) taken served = absurd served
   have_ended files [] (c ∷ cs) ps taken served = absurd taken
@@ -167,35 +170,43 @@ module _ (Ended : Ending) where
       run = rw (this.policy, this.script) (record { policy_is = one.policy_is; script_is = one.script_is; ended = this.ended })
 
   -- by their own scripts
-  pub same_scripts : (cs : List Container) (ps : List Played) → AreEnded Ended cs ps → scripts cs ≡ scripts_of ps
+  pub same_scripts : (cs : List Container) (ps : List Played) → AreEnded Ended every cs ps → scripts cs ≡ scripts_of ps
   same_scripts [] [] served = refl
   same_scripts [] (p ∷ ps) served = absurd served
   same_scripts (c ∷ cs) [] served = absurd served
   same_scripts (c ∷ cs) (p ∷ ps) (this, served) = ap₂ (λ (S : Script) (more : List Script). S ∷ more) (sym this.script) (same_scripts cs ps served)
 
+  -- the ledgers that were kept are theirs
+  pub same_parts : (number : ℕ) (cs : List Container) (ps : List Played) → AreEnded Ended every cs ps → parts kept_in number ps ≡ parts (due_in every) number ps
+  same_parts number [] [] served = refl
+  same_parts number [] (p ∷ ps) served = absurd served
+  same_parts number (c ∷ cs) [] served = absurd served
+  same_parts number (c ∷ cs) (p ∷ ps) (this, served) =
+      ap₂ (λ (all : Option (List Handed)) (more : List ℕ). (container_title number ++ report_and (judging_by p.policy.rules) p.history.events all) ++ more) this.kept (same_parts (suc number) cs ps served)
+
 -- ---- How it ended
 
 -- nothing was served, since a pair wasn't taken
-pub pairs_stop : (files after : FileState) (sink : SinkState) (Ended : Ending) (pairs : List FilePair) (status : Status) → PairStops files after pairs status
-    → PodEnds files after sink sink Ended pairs status
-pairs_stop files after sink Ended pairs (ContainerRefused number refusal) h = (h, λ t. refl)
-pairs_stop files after sink Ended pairs NoMemory h = inl (λ t. refl)
-pairs_stop files after sink Ended pairs status h = absurd h
+pub pairs_stop : (files after : FileState) (sink : SinkState) (Ended : Ending) (every : Option ℕ) (pairs : List FilePair) (status : Status) → PairStops files after pairs status
+    → PodEnds files after sink sink Ended every pairs status
+pairs_stop files after sink Ended every pairs (ContainerRefused number refusal) h = (h, λ t. refl)
+pairs_stop files after sink Ended every pairs NoMemory h = inl (λ t. refl)
+pairs_stop files after sink Ended every pairs status h = absurd h
 
 -- or since ranges overlap
-pub ranges_stop : (files after : FileState) (sink : SinkState) (Ended : Ending) (pairs : List FilePair) (cs : List Container) (status : Status) → AreTaken files pairs cs → Overlapping cs status
-    → PodEnds files after sink sink Ended pairs status
-ranges_stop files after sink Ended pairs cs (PidsOverlap first second) taken h = ((cs, taken, h), λ t. refl)
-ranges_stop files after sink Ended pairs cs status taken h = absurd h
+pub ranges_stop : (files after : FileState) (sink : SinkState) (Ended : Ending) (every : Option ℕ) (pairs : List FilePair) (cs : List Container) (status : Status) → AreTaken files pairs cs → Overlapping cs status
+    → PodEnds files after sink sink Ended every pairs status
+ranges_stop files after sink Ended every pairs cs (PidsOverlap first second) taken h = ((cs, taken, h), λ t. refl)
+ranges_stop files after sink Ended every pairs cs status taken h = absurd h
 
 -- or nothing was printed, for want of memory
-pub pod_unserved : (files after : FileState) (sink : SinkState) (Ended : Ending) (pairs : List FilePair) → PodEnds files after sink sink Ended pairs NoMemory
-pod_unserved files after sink Ended pairs = inl (λ t. refl)
+pub pod_unserved : (files after : FileState) (sink : SinkState) (Ended : Ending) (every : Option ℕ) (pairs : List FilePair) → PodEnds files after sink sink Ended every pairs NoMemory
+pod_unserved files after sink Ended every pairs = inl (λ t. refl)
 
--- the reports and the sums were printed, or a part of them
-pub pod_ends : (files after : FileState) (old new : SinkState) (Ended : Ending) (pairs : List FilePair) (ps : List Played) (r : Result (Unit {0}) Status) → AreServedApart files Ended pairs ps
-    → Printed (pod_text ps) old new r → PodEnds files after old new Ended pairs (status_of r)
-pod_ends files after old new Ended pairs ps (Ok u) served p = ((ps, served, p.0), p.1)
-pod_ends files after old new Ended pairs ps (Err WriteFault) served p = (p.0, (ps, served, p.1))
-pod_ends files after old new Ended pairs ps (Err NoMemory) served p = inr (ps, served, p)
-pod_ends files after old new Ended pairs ps (Err status) served p = absurd p
+-- the reports, the ledgers and the sums were printed, or a part of them
+pub pod_ends : (files after : FileState) (old new : SinkState) (Ended : Ending) (every : Option ℕ) (pairs : List FilePair) (ps : List Played) (r : Result (Unit {0}) Status) → AreServedApart files Ended pairs ps
+    → Printed (pod_text (due_in every) ps) old new r → PodEnds files after old new Ended every pairs (status_of r)
+pod_ends files after old new Ended every pairs ps (Ok u) served p = ((ps, served, p.0), p.1)
+pod_ends files after old new Ended every pairs ps (Err WriteFault) served p = (p.0, (ps, served, p.1))
+pod_ends files after old new Ended every pairs ps (Err NoMemory) served p = inr (ps, served, p)
+pod_ends files after old new Ended every pairs ps (Err status) served p = absurd p

@@ -1,24 +1,24 @@
 -- The text of a play whose workers were replaced.
 -- By the lines one after another, and since the same history and the same ledgers have one text.
 use Rattle.std.proofs.Common.{◌≡◌, ℕ, ◌<◌, List, [], ◌∷◌, ◌++◌, length, suc, ◌≤◌, take, get_or, refl, sym, ap, subst, ◌∙◌}
-use Rattle.std.specs.Prelude.{Result, Ok, Err}
+use Rattle.std.specs.Prelude.{Result, Ok, Err, Some}
 use Rattle.std.specs.List.{flat_map}
 use Rattle.std.proofs.lemmas.List.Concat.{flat_map-cons}
 use Rattle.audit_log.specs.Written.{Wrote}
 use Rattle.audit_log.specs.declared.error.ReportError.{ReportError}
 use Rattle.hist_model.specs.Legal.{played}
-use Rattle.hist_model.specs.Report.{report}
 use Rattle.hist_model.specs.ReportAudit.{judging_by}
 use Rattle.hist_model.specs.declared.event.Event.{Event}
 use Rattle.hist_model.specs.declared.policy.Policy.{Policy}
 use Rattle.hist_model.specs.declared.script.Script.{Script}
 use Rattle.io_edge.specs.SinkState.{SinkState}
-use Rattle.handover.specs.Handing.{handed}
 use Rattle.handover.specs.Keeping.{all_handed, handed_as}
 use Rattle.handover.specs.declared.ledgers.Handover.{Handover}
+use Rattle.worker_gate.specs.Replacing.{handed_if, handed_in}
+use Rattle.worker_gate.specs.declared.served.Played.{Played}
 use Rattle.broker_app.proofs.Items.{all_written, one_failed}
 use Rattle.broker_app.specs.Answers.{Printed}
-use Rattle.broker_app.specs.Handovers.{handover_report, handovers, ledger_line}
+use Rattle.broker_app.specs.Handovers.{handover_report, ledger_line, report_and}
 use Rattle.broker_app.specs.declared.status.Status.{Status}
 
 -- ---- The lines
@@ -47,11 +47,14 @@ ledgers_written hs i old new l w = rw (all_lines hs) at (all_written line_of_han
 
 -- ---- The report
 
-same_text : (every : ℕ) (Q P : Policy) (S : Script) (K : List Event) (hs : List Handover) → Q ≡ P → K ≡ played P S → all_handed hs ≡ handed every (played P S)
-    → report (judging_by Q.rules) K ++ handovers (all_handed hs) ≡ handover_report every P S
-same_text every Q P S K hs q e h = rw (q, e, h) refl
+same_text : (every : ℕ) (p : Played) (P : Policy) (S : Script) → p.policy ≡ P → p.history.events ≡ played P S → handed_in p.handed ≡ handed_if (Some every) p.history.events
+    → report_and (judging_by p.policy.rules) p.history.events (handed_in p.handed) ≡ handover_report every P S
+same_text every p P S q e h = ap (report_and (judging_by p.policy.rules) p.history.events) h ∙ (ap (λ (K : List Event). report_and (judging_by p.policy.rules) K (handed_if (Some every) K)) e ∙ ap (λ (X : Policy). handover_of X) q)
+  where
+    handover_of : Policy → List ℕ
+    handover_of X = report_and (judging_by X.rules) (played P S) (handed_if (Some every) (played P S))
 
 -- the text is that of the history that is played, and of its ledgers
-pub ends_handed : (every : ℕ) (Q P : Policy) (S : Script) (K : List Event) (hs : List Handover) (old new : SinkState) (r : Result (Unit {0}) Status) → Q ≡ P → K ≡ played P S
-    → all_handed hs ≡ handed every (played P S) → Printed (report (judging_by Q.rules) K ++ handovers (all_handed hs)) old new r → Printed (handover_report every P S) old new r
-ends_handed every Q P S K hs old new r q e h printed = subst (λ text. Printed text old new r) (same_text every Q P S K hs q e h) printed
+pub ends_handed : (every : ℕ) (p : Played) (P : Policy) (S : Script) (old new : SinkState) (r : Result (Unit {0}) Status) → p.policy ≡ P → p.history.events ≡ played P S
+    → handed_in p.handed ≡ handed_if (Some every) p.history.events → Printed (report_and (judging_by p.policy.rules) p.history.events (handed_in p.handed)) old new r → Printed (handover_report every P S) old new r
+ends_handed every p P S old new r q e h printed = subst (λ text. Printed text old new r) (same_text every p P S q e h) printed

@@ -12,41 +12,47 @@ use Rattle.audit_log.specs.declared.error.ReportError.TheVariants.{NoMemory}
 use Rattle.audit_log.specs.declared.summary.Counts.{Counts}
 use Rattle.io_edge.specs.SinkState.{SinkState}
 use Rattle.worker_gate.specs.declared.served.Played.{Played}
-use Rattle.broker_app.specs.PodText.{counts_in, part, parts, sums_on}
+use Rattle.broker_app.specs.PodText.{counts_in, kept_in, part, parts, sums_on}
 
 -- ---- The parts
 
-parts_append : (n : ℕ) (ps qs : List Played) → parts n (ps ++ qs) ≡ parts n ps ++ parts (n + length ps) qs
-parts_append n [] qs = let e : n ≡ n + 0 = omega arith in ap (λ k. parts k qs) e
+abbrev parts_kept : ℕ → List Played → List ℕ
+parts_kept = parts kept_in
+
+abbrev part_kept : ℕ → Played → List ℕ
+part_kept = part kept_in
+
+parts_append : (n : ℕ) (ps qs : List Played) → parts_kept n (ps ++ qs) ≡ parts_kept n ps ++ parts_kept (n + length ps) qs
+parts_append n [] qs = let e : n ≡ n + 0 = omega arith in ap (λ k. parts_kept k qs) e
 parts_append n (p ∷ ps) qs =
     let e : suc n + length ps ≡ n + length (p ∷ ps) = omega arith in
-    ap (λ ys. part n p ++ ys) (parts_append (suc n) ps qs)
-    ∙ (sym (append_assoc (part n p) (parts (suc n) ps) (parts (suc n + length ps) qs)) ∙ ap (λ k. (part n p ++ parts (suc n) ps) ++ parts k qs) e)
+    ap (λ ys. part_kept n p ++ ys) (parts_append (suc n) ps qs)
+    ∙ (sym (append_assoc (part_kept n p) (parts_kept (suc n) ps) (parts_kept (suc n + length ps) qs)) ∙ ap (λ k. (part_kept n p ++ parts_kept (suc n) ps) ++ parts_kept k qs) e)
 
 module _ (ps : List Played) (i : ℕ) (p : Played) (l : i < length ps) (is : p ≡ get_or ps i p) where
-  part_more : parts 0 (take (i + 1) ps) ≡ parts 0 (take i ps) ++ part i p
+  part_more : parts_kept 0 (take (i + 1) ps) ≡ parts_kept 0 (take i ps) ++ part_kept i p
   part_more =
       let len = length-take-le i ps (omega (arith, l)) in
       let so_many : 0 + length (take i ps) ≡ i = omega (arith, len) in
-      ap (parts 0) (take_more ps i p l)
+      ap (parts_kept 0) (take_more ps i p l)
       ∙ (parts_append 0 (take i ps) (get_or ps i p ∷ [])
-      ∙ ap (λ ys. parts 0 (take i ps) ++ ys) (append-nil (part (0 + length (take i ps)) (get_or ps i p)) ∙ (ap (λ k. part k (get_or ps i p)) so_many ∙ ap (part i) (sym is))))
+      ∙ ap (λ ys. parts_kept 0 (take i ps) ++ ys) (append-nil (part_kept (0 + length (take i ps)) (get_or ps i p)) ∙ (ap (λ k. part_kept k (get_or ps i p)) so_many ∙ ap (part_kept i) (sym is))))
 
   -- one more part was written
-  pub part_written : (old mid new : SinkState) → Wrote old (parts 0 (take i ps)) (Ok tt) mid → Wrote mid (part i p) (Ok tt) new → Wrote old (parts 0 (take (i + 1) ps)) (Ok tt) new
-  part_written old mid new before now = rw part_more (wrote_more old mid new (parts 0 (take i ps)) (part i p) (Ok tt) before now)
+  pub part_written : (old mid new : SinkState) → Wrote old (parts_kept 0 (take i ps)) (Ok tt) mid → Wrote mid (part_kept i p) (Ok tt) new → Wrote old (parts_kept 0 (take (i + 1) ps)) (Ok tt) new
+  part_written old mid new before now = rw part_more (wrote_more old mid new (parts_kept 0 (take i ps)) (part_kept i p) (Ok tt) before now)
 
   -- one more part failed
-  pub part_failed : (e : ReportError) (old mid new : SinkState) → Wrote old (parts 0 (take i ps)) (Ok tt) mid → Wrote mid (part i p) (Err e) new → Wrote old (parts 0 ps) (Err e) new
+  pub part_failed : (e : ReportError) (old mid new : SinkState) → Wrote old (parts_kept 0 (take i ps)) (Ok tt) mid → Wrote mid (part_kept i p) (Err e) new → Wrote old (parts_kept 0 ps) (Err e) new
   part_failed e old mid new before now =
-      let one = wrote_more old mid new (parts 0 (take i ps)) (part i p) (Err e) before now in
-      let behind = parts (0 + length (take (i + 1) ps)) (drop (i + 1) ps) in
-      let whole : parts 0 ps ≡ (parts 0 (take i ps) ++ part i p) ++ behind =
-      ap (parts 0) (sym (take-append-drop (i + 1) ps)) ∙ (parts_append 0 (take (i + 1) ps) (drop (i + 1) ps) ∙ ap (λ ys. ys ++ behind) part_more) in
-      rw whole (wrote_front old new (parts 0 (take i ps) ++ part i p) behind e one)
+      let one = wrote_more old mid new (parts_kept 0 (take i ps)) (part_kept i p) (Err e) before now in
+      let behind = parts_kept (0 + length (take (i + 1) ps)) (drop (i + 1) ps) in
+      let whole : parts_kept 0 ps ≡ (parts_kept 0 (take i ps) ++ part_kept i p) ++ behind =
+      ap (parts_kept 0) (sym (take-append-drop (i + 1) ps)) ∙ (parts_append 0 (take (i + 1) ps) (drop (i + 1) ps) ∙ ap (λ ys. ys ++ behind) part_more) in
+      rw whole (wrote_front old new (parts_kept 0 (take i ps) ++ part_kept i p) behind e one)
 
 -- all parts were written
-pub parts_written : (ps : List Played) (i : ℕ) (old new : SinkState) → length ps ≤ i → Wrote old (parts 0 (take i ps)) (Ok tt) new → Wrote old (parts 0 ps) (Ok tt) new
+pub parts_written : (ps : List Played) (i : ℕ) (old new : SinkState) → length ps ≤ i → Wrote old (parts_kept 0 (take i ps)) (Ok tt) new → Wrote old (parts_kept 0 ps) (Ok tt) new
 parts_written ps i old new l w = rw (take_all i ps l) at w
 
 -- ---- The sums

@@ -10,7 +10,7 @@ use std::test::Fail;
 use std::thread::Threads;
 
 /// The size of the sinks, in bytes.
-const ROOM: usize = 16384;
+const ROOM: usize = 65536;
 
 /// A file of this name with these bytes.
 fn file(alloc: Global, name: &str, bytes: &str) -> Result<(String, Vec<u8>), Fail> {

@@ -1,9 +1,13 @@
-//! Workers that are replaced in a play, whose successors are counted.
+//! Workers that are replaced, whose successors are counted.
 
-ghost use Rattle.std.specs.Prelude.{◌<◌};
+ghost use Rattle.std.specs.Prelude.{◌<◌, OnOk};
+ghost use Rattle.broker_machine.specs.Serving.{IsServed};
+ghost use Rattle.handover.specs.Keeping.{AreLedgers};
+ghost use Rattle.model_kernel.specs.Kernels.{past};
 
 use broker_core::deed::Got;
-use handover_gate::play_handing;
+use broker_machine::Machine;
+use handover::Ledgers;
 use hist_model::policy::Policy;
 use hist_model::script::Figures;
 use policy_reader::read_policy;
@@ -11,16 +15,16 @@ use script_reader::read_script;
 use std::alloc::Global;
 use std::cell::Cell;
 use std::test::Fail;
-use sys_abi::memory::OrNoMemory;
+use sys_abi::memory::{NoMemory, OrNoMemory};
 use worker_ledger::successor::{Heir, LedgerError, Successor, take_over};
 
 const POLICY: &str = "{\"config\":{\"security.syscalls.intercept.mknod\":\"true\"}}";
 
 const SCRIPT: &str =
-    "notify mknod\nprog main\npoke 0x10000 \"/null\\0\"\ncall mknod 0x10000 0o020666 259\nend\nschedule\nt 0 2\nw 0 9\nt 0 2\nend\n";
+    "notify mknod\nprog main\npoke 0x10000 \"/null\\0\"\ncall mknod 0x10000 0o020666 259\nend\n";
 
-/// How many events the script plays, and how many of them are the worker's steps.
-const EVENTS: usize = 15;
+/// How many events there are once its call was served, and how many of them are the worker's steps.
+const EVENTS: usize = 12;
 
 const STEPS: u32 = 9;
 
@@ -46,7 +50,64 @@ impl<'a> Heir for Counting<'a> {
     }
 }
 
-/// Plays the script with workers that are replaced after each so many steps, and says how often an heir was asked, how many
+/// A step of the first task.
+fn step_task(
+    alloc: Global,
+    policy: &Policy,
+    machine: &mut Machine,
+    ledgers: &Ledgers,
+) -> Result<(), NoMemory>
+    requires served { IsServed policy.now machine.old }
+    requires ledgers { AreLedgers (past machine.old.kernel) ledgers.now }
+    ensures served { IsServed policy.now machine.new }
+    ensures ledgers { AreLedgers (past machine.new.kernel) ledgers.now }
+{
+    if machine.is_task(0) {
+        let _stepped = machine.try_task(alloc, policy, 0)?;
+    }
+    Ok(())
+}
+
+/// A step of worker 0, which is replaced after it where that is due.
+fn step_worker(
+    alloc: Global,
+    policy: &Policy,
+    machine: &mut Machine,
+    ledgers: &mut Ledgers,
+    heir: &mut Counting<'_>,
+) -> Result<(), NoMemory>
+    requires served { IsServed policy.now machine.old }
+    requires ledgers { AreLedgers (past machine.old.kernel) ledgers.old }
+    ensures served { OnOk result (IsServed policy.now machine.new) }
+    ensures ledgers { OnOk result (AreLedgers (past machine.new.kernel) ledgers.new) }
+{
+    if !machine.try_worker(alloc, policy, 0)? {
+        return Ok(());
+    }
+    ledgers.keep_up(alloc, policy, machine, 0, heir)
+}
+
+/// So many steps of worker 0.
+fn step_worker_often(
+    alloc: Global,
+    policy: &Policy,
+    machine: &mut Machine,
+    ledgers: &mut Ledgers,
+    heir: &mut Counting<'_>,
+    steps: u32,
+) -> Result<(), NoMemory>
+    requires served { IsServed policy.now machine.old }
+    requires ledgers { AreLedgers (past machine.old.kernel) ledgers.old }
+    ensures served { OnOk result (IsServed policy.now machine.new) }
+    ensures ledgers { OnOk result (AreLedgers (past machine.new.kernel) ledgers.new) }
+{
+    for _ in 0..steps {
+        step_worker(alloc, policy, machine, ledgers, heir)?;
+    }
+    Ok(())
+}
+
+/// Steps through the script with a worker that is replaced after each so many steps, and says how often an heir was asked, how many
 /// ledgers there were, and how many events.
 fn replaced(alloc: Global, every: u32) -> Result<(u32, usize, usize), Fail>
     requires { 0 < every }
@@ -54,8 +115,24 @@ fn replaced(alloc: Global, every: u32) -> Result<(u32, usize, usize), Fail>
     let policy = read_policy(alloc, POLICY.as_bytes())?;
     let script = read_script(alloc, SCRIPT.as_bytes())?;
     let calls = Cell::new(0);
-    let played = play_handing(alloc, policy, script, every, Counting { calls: &calls })?;
-    Ok((calls.get(), played.handed.len(), played.history.len()))
+    let mut heir = Counting { calls: &calls };
+    let mut ledgers = Ledgers::new(alloc, every)?;
+    let mut machine = Machine::new(alloc, script)?;
+    step_task(alloc, &policy, &mut machine, &ledgers)?;
+    step_task(alloc, &policy, &mut machine, &ledgers)?;
+    step_worker_often(
+        alloc,
+        &policy,
+        &mut machine,
+        &mut ledgers,
+        &mut heir,
+        STEPS,
+    )?;
+    Ok((
+        calls.get(),
+        ledgers.into_handed().len(),
+        machine.history().len(),
+    ))
 }
 
 #[test]
