@@ -20,7 +20,7 @@ use Rattle.script_reader.specs.Operands.{earlier, fault_from, fault_unless, natu
 use Rattle.script_reader.specs.Paths.{is_task_text, task_numbers}
 use Rattle.script_reader.specs.Plain.{AreSound, AreStated, Counts, IsCount, Names, count_in}
 use Rattle.script_reader.specs.Requests.{asks, request_statement}
-use Rattle.script_reader.proofs.SoundStatements.{task_sound}
+use Rattle.step_requests.proofs.TaskNames.{task_sound}
 
 -- ---- a number is no deed's name
 

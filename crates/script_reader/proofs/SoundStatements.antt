@@ -1,17 +1,17 @@
 -- A line without a fault of its operands keeps their limits.
 -- By cases on the word of the line and on its first operand, and by induction on the numbers of a task's name.
-use Rattle.std.proofs.Common.{◌≡◌, ℕ, ◌^◌, ◌<◌, ◌≤◌, ◌∙◌, List, [], ◌∷◌, length, Option, Some, None, refl, sym, subst, inl, inr, arith, map, unwrap_or, if◌then◌else◌}
+use Rattle.std.proofs.Common.{◌≡◌, ℕ, ◌^◌, ◌<◌, ◌≤◌, ◌∙◌, List, [], ◌∷◌, length, Option, Some, None, refl, sym, subst, inl, inr, arith, unwrap_or, if◌then◌else◌}
 use Rattle.std.specs.Prelude.{Bool, true, false, nat_le, nat_lt, ◌&&◌, not, ℤ, pos, negsuc, int_le, int_lt, bytes_eq}
 use Rattle.std.specs.Option.{option_map}
 use Rattle.std.specs.List.{list_all}
 use Rattle.std.proofs.lemmas.List.{length-map}
-use Rattle.std.proofs.lemmas.Bool.{cases_Bool, and_from, and_parts, both_ways, leb-true, le-leb, lt-ltb, eqb-true}
+use Rattle.std.proofs.lemmas.Bool.{cases_Bool, and_from, and_parts, both_ways, leb-true, le-leb, lt-ltb}
 use Rattle.std.proofs.lemmas.Bool.Decides.{nat_tests}
 use Rattle.lex_core.specs.declared.line.Token.{Token}
 use Rattle.lex_core.specs.declared.line.Token.TheVariants.{Bare, Quoted}
 use Rattle.lex_core.specs.declared.reason.Reason.{Reason}
 use Rattle.lex_core.specs.declared.reason.Reason.TheVariants.{WrongCount}
-use Rattle.lex_core.specs.Numbers.{digits_value, number}
+use Rattle.lex_core.specs.Numbers.{number}
 use Rattle.bpf_filter.specs.Text.{below, number_at}
 use Rattle.hist_model.specs.Names.{is_child_number, is_task_name}
 use Rattle.hist_model.specs.Ranges.{is_page_address}
@@ -27,7 +27,8 @@ use Rattle.script_reader.specs.declared.word.Word.{Word}
 use Rattle.script_reader.specs.declared.word.Word.TheVariants as word
 use Rattle.script_reader.specs.Lines.{comes_late, is_in_place}
 use Rattle.script_reader.specs.Operands.{addressee_in, begins_number, earlier, fault_from, fault_unless, is_addressee, is_counted, is_handled_signal, is_page, is_sent_signal, kill_counts, kill_number, natural, number_fault, operand_at, operand_fault, operands_fault, rank}
-use Rattle.script_reader.specs.Paths.{are_child_texts, begins_plainly, is_child_text, is_children_tail, is_path, is_task_text, number_or_zero, pieces, task_numbers}
+use Rattle.script_reader.specs.Paths.{is_path, task_numbers}
+use Rattle.step_requests.proofs.TaskNames.{task_sound}
 use Rattle.script_reader.specs.Rules.{IsSound, has_pages, starts_nothing}
 use Rattle.script_reader.specs.Statements.{statement, byte_at, bytes_at, call_at, call_named, calls_named, count_at, kill_of, limited_at, poke_of, wide_at, word_at}
 use Rattle.script_reader.specs.Words.{belongs}
@@ -122,35 +123,6 @@ no-base true h = cc
 no-base false h = refl
 
 -- ---- names of tasks
-
-last-two : (a b c : Bool) → (a && b && c) ≡ true → (b && c) ≡ true
-last-two true b c h = h
-last-two false b c h = cc
-
-child-named : (text : List ℕ) → is_child_text text ≡ true → is_child_number (number_or_zero text) ≡ true
-child-named text h = last-two (begins_plainly text) (nat_le 1 (number_or_zero text)) (nat_le (number_or_zero text) 100000) h
-
-children-named : (texts : List (List ℕ)) → list_all is_child_text texts ≡ true → list_all is_child_number (map number_or_zero texts) ≡ true
-children-named [] h = refl
-children-named (text ∷ more) h = and_from _ _ (child-named text (and_parts _ _ h).0) (children-named more (and_parts _ _ h).1)
-
-few-children : (texts : List (List ℕ)) → nat_le (length texts) 64 ≡ true → nat_le (length (map number_or_zero texts)) 64 ≡ true
-few-children texts h = rw length-map h
-
-children-sound : (text : List ℕ) → are_child_texts text ≡ true → nat_le (length (pieces text)) 64 ≡ true → is_task_name (task_numbers (48 ∷ 46 ∷ text)) ≡ true
-unfolding digits_value
-children-sound text h few = and_from _ _ (few-children (pieces text) few) (children-named (pieces text) h)
-
-tail-sound : (tail : List ℕ) → is_children_tail tail ≡ true → is_task_name (task_numbers (48 ∷ tail)) ≡ true
-unfolding digits_value
-tail-sound [] h = refl
-tail-sound (b ∷ bs) h =
-    subst (λ k. is_task_name (task_numbers (48 ∷ k ∷ bs)) ≡ true) (sym (eqb-true b 46 (and_parts _ _ (and_parts _ _ h).0).0))
-    (children-sound bs (and_parts _ _ (and_parts _ _ h).0).1 (and_parts _ _ h).1)
-
-pub task_sound : (text : List ℕ) → is_task_text text ≡ true → is_task_name (task_numbers text) ≡ true
-task_sound [] h = cc
-task_sound (b ∷ bs) h = subst (λ k. is_task_name (task_numbers (k ∷ bs)) ≡ true) (sym (eqb-true b 48 (and_parts _ _ h).0)) (tail-sound bs (and_parts _ _ h).1)
 
 token-sound : (token : Token) (more : List Token) → operand_fault operand.Task token ≡ None → is_task_name (task_numbers (bytes_at (token ∷ more) 0)) ≡ true
 token-sound (Bare text) more h = task_sound text (passed _ _ h)

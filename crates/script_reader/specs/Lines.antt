@@ -35,7 +35,8 @@ operands_statement None w operands = Ok (statement w operands)
 -- what a line with this word states by itself, where it may stand
 abbrev pub word_statement : Section → Bool → Word → List Token → Result Statement Fault
 word_statement section base_is_stated w operands =
-    if is_in_place section base_is_stated w then operands_statement (operands_fault w operands) w operands else Err (Wrong reason.OutOfPlace)
+    if is_in_place section base_is_stated w then operands_statement (operands_fault w operands) w operands
+    else Err (Wrong reason.OutOfPlace)
 
 -- a word of another kind is that of a filter's instruction, or none
 abbrev pub other_word : List ℕ → Reason

@@ -3,7 +3,7 @@ use Rattle.std.specs.Prelude.{ℕ, ◌-◌, Bool, false, ◌&&◌, nat_lt, List,
 use Rattle.std.specs.Prelude.{position, reverse, codes}
 use Rattle.std.specs.List.{list_all, slice_split}
 pub use Rattle.hist_model.specs.TreeLines.{has_zero, is_node_name, is_slash}
-pub use Rattle.step_requests.specs.Names.{begins_plainly, is_child_text, is_children_tail, is_dot, is_task_text, number_or_zero, pieces, task_numbers}
+pub use Rattle.step_requests.specs.Names.{is_task_text, task_numbers}
 
 -- ---- paths of the tree (path_resolution(7))
 

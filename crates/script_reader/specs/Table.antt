@@ -168,7 +168,8 @@ stated_faults A (Err fault) = []
 abbrev pub line_faults : Above → Result (List Token) Reason → List (Option Fault)
 line_faults A (Err reason) = Some (Wrong reason) ∷ []
 line_faults A (Ok tokens) =
-    own_faults A.section (is_some A.settings.pidbase) tokens ++ stated_faults A (tokens_statement A.section (is_some A.settings.pidbase) tokens)
+    own_faults A.section (is_some A.settings.pidbase) tokens
+    ++ stated_faults A (tokens_statement A.section (is_some A.settings.pidbase) tokens)
 
 -- ---- which test decides
 

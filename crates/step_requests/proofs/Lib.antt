@@ -3,4 +3,5 @@ pub mod Structures
 pub mod Acts
 pub mod Alone
 pub mod FirstTask
+pub mod TaskNames
 mod WorkedLines

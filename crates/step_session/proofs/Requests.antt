@@ -1,19 +1,17 @@
 -- A request that was read is one that may be asked: a task has a name of the form, and a worker has a seat.
 -- By cases on what the line is read as, and on the text that names a task.
-use Rattle.std.proofs.Common.{◌≡◌, ℕ, suc, ◌<◌, Bool, true, false, List, [], ◌∷◌, length, Option, Some, None, refl, sym, ap, subst, inl, inr, ◌∙◌, arith}
-use Rattle.std.specs.Prelude.{Result, Ok, Err, ◌&&◌, ◌==◌, nat_le, nat_lt, map, if◌then◌else◌, ℤ, pos, negsuc}
-use Rattle.std.specs.List.{list_all}
-use Rattle.std.proofs.lemmas.Bool.{cases_Bool, eqb-true, leb-true, ltb-true}
-use Rattle.hist_model.specs.Names.{is_child_number, is_task_name}
+use Rattle.std.proofs.Common.{◌≡◌, ℕ, suc, ◌<◌, Bool, true, false, List, [], ◌∷◌, length, Option, Some, None, refl, subst, inl, inr, ◌∙◌, arith}
+use Rattle.std.specs.Prelude.{Result, Ok, Err, ◌&&◌, ◌==◌, nat_le, nat_lt, if◌then◌else◌, ℤ, pos, negsuc}
+use Rattle.std.proofs.lemmas.Bool.{cases_Bool, leb-true, ltb-true}
 use Rattle.lex_core.specs.Lexical.{tokens}
 use Rattle.lex_core.specs.Lines.{Numbered, lines_after}
-use Rattle.lex_core.specs.Numbers.{digits_value}
 use Rattle.lex_core.specs.declared.line.Token.{Token}
 use Rattle.lex_core.specs.declared.line.Token.TheVariants.{Bare, Quoted}
 use Rattle.lex_core.specs.declared.reason.Reason.{Reason}
 use Rattle.lex_core.specs.declared.reason.Reason.TheVariants.{BadNumber, WrongCount}
 use Rattle.step_session.specs.Answers.{IsAsked}
-use Rattle.step_requests.specs.Names.{begins_plainly, is_child_text, is_children_tail, is_dot, is_task_text, number_or_zero, pieces, task_numbers}
+use Rattle.step_requests.specs.Names.{is_task_text}
+use Rattle.step_requests.proofs.TaskNames.{task_sound}
 use Rattle.step_requests.specs.Numbers.{below}
 use Rattle.step_requests.specs.Operands.{earlier, fault_from, fault_unless, is_counted, line_fault, operand_fault, rank}
 use Rattle.step_requests.specs.Readings.{first_read, read_as, read_tokens, reads, unless_faulty}
@@ -39,53 +37,6 @@ and-right false b h = cc
 both : (a b : Bool) → a ≡ true → b ≡ true → (a && b) ≡ true
 both true b h k = k
 both false b h k = cc
-
--- ---- the names of tasks
-
-zero-digit : number_or_zero (48 ∷ []) ≡ 0
-unfolding digits_value
-zero-digit = refl
-
-child-number : (text : List ℕ) → is_child_text text ≡ true → is_child_number (number_or_zero text) ≡ true
-child-number text h =
-    let n = number_or_zero text in
-    let least = and-right (begins_plainly text) (nat_le 1 n) (and-left (begins_plainly text && nat_le 1 n) (nat_le n 100000) h) in
-    both (nat_le 1 n) (nat_le n 100000) least (and-right (begins_plainly text && nat_le 1 n) (nat_le n 100000) h)
-
-child-numbers : (texts : List (List ℕ)) → list_all is_child_text texts ≡ true → list_all is_child_number (map number_or_zero texts) ≡ true
-child-numbers [] h = refl
-child-numbers (text ∷ texts) h =
-    both (is_child_number (number_or_zero text)) (list_all is_child_number (map number_or_zero texts))
-    (child-number text (and-left (is_child_text text) (list_all is_child_text texts) h))
-    (child-numbers texts (and-right (is_child_text text) (list_all is_child_text texts) h))
-
-map-length : (texts : List (List ℕ)) → length (map number_or_zero texts) ≡ length texts
-map-length [] = refl
-map-length (text ∷ texts) = ap suc (map-length texts)
-
-name-of : (children : List (List ℕ)) → list_all is_child_text children ≡ true → nat_le (length children) 64 ≡ true
-    → is_task_name (map number_or_zero ((48 ∷ []) ∷ children)) ≡ true
-name-of children texts few =
-    rw zero-digit
-    (both (nat_le (length (map number_or_zero children)) 64) (list_all is_child_number (map number_or_zero children))
-    (ap (λ n. nat_le n 64) (map-length children) ∙ few) (child-numbers children texts))
-
-tail-name : (tail : List ℕ) → is_children_tail tail ≡ true → is_task_name (task_numbers (48 ∷ tail)) ≡ true
-tail-name [] h = name-of [] refl refl
-tail-name (b ∷ rest) h =
-    let texts = list_all is_child_text (pieces rest) in
-    let few = nat_le (length (pieces rest)) 64 in
-    let front = and-left (is_dot b && texts) few h in
-    let dot : b ≡ 46 = eqb-true b 46 (and-left (is_dot b) texts front) in
-    let named : is_task_name (task_numbers (48 ∷ 46 ∷ rest)) ≡ true =
-    name-of (pieces rest) (and-right (is_dot b) texts front) (and-right (is_dot b && texts) few h) in
-    subst (λ x. is_task_name (task_numbers (48 ∷ x ∷ rest)) ≡ true) (sym dot) named
-
-task-name : (text : List ℕ) → is_task_text text ≡ true → is_task_name (task_numbers text) ≡ true
-task-name [] h = cc
-task-name (b ∷ tail) h =
-    let zero : b ≡ 48 = eqb-true b 48 (and-left (b == 48) (is_children_tail tail) h) in
-    subst (λ x. is_task_name (task_numbers (x ∷ tail)) ≡ true) (sym zero) (tail-name tail (and-right (b == 48) (is_children_tail tail) h))
 
 -- ---- the operand that names a task
 
@@ -150,7 +101,7 @@ by-seat None what r low h = cc
 
 of-form : (f : Form) (line : List Token) (r : StepRequest) → line_fault f line ≡ None → request f line ≡ Ok r → IsAsked r
 of-form form.Able line r fine h = subst IsAsked (ok-same h) tt
-of-form form.Task line r fine h = subst IsAsked (ok-same h) (task-name (bytes_at line 1) (task-line line fine))
+of-form form.Task line r fine h = subst IsAsked (ok-same h) (task_sound (bytes_at line 1) (task-line line fine))
 of-form (form.Worker d) line r fine h = by-seat (worker_at line) (asked d line) r (seat-below (number_at line 1)) h
 of-form form.Report line r fine h = subst IsAsked (ok-same h) tt
 of-form form.Script line r fine h = subst IsAsked (ok-same h) tt
