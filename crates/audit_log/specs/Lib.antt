@@ -4,6 +4,7 @@ pub mod ByPlace
 pub mod CallPass
 pub mod CallTable
 pub mod Counts
+pub mod Journal
 pub mod Laws
 pub mod Pass
 pub mod Places

@@ -5,7 +5,7 @@ ghost use Rattle.std.specs.Prelude.{◌≡◌, ◌+◌, ◌<◌, ◌≤◌, ◌+
 use itoa::write_digits;
 
 /// How many digits a number may have.
-const DIGITS: usize = 20;
+pub(crate) const DIGITS: usize = 20;
 
 /// How many digits most numbers have at most.
 pub(crate) const FEW_DIGITS: usize = 8;

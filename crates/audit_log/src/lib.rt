@@ -27,6 +27,7 @@ pub mod event;
 pub mod journal;
 pub mod laws;
 pub mod line;
+mod numbering;
 mod outcome;
 pub mod part;
 mod places;

@@ -130,7 +130,7 @@ impl LineBuffer {
 
     /// Adds the first of some bytes, as many as are told.
     #[inline(always)]
-    fn push_first(&mut self, bytes: &[u8], count: usize) -> Result<(), NoMemory>
+    pub(crate) fn push_first(&mut self, bytes: &[u8], count: usize) -> Result<(), NoMemory>
         requires { count ≤ length bytes.now }
         ensures { OnOk result (self.new ≡ self.old ++ take count bytes.now) }
     {

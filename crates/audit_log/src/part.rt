@@ -8,7 +8,6 @@ use crate::error::ReportError;
 use crate::line::LineBuffer;
 use hist_model::event::Event;
 use io_edge::sink::Sink;
-use std::alloc::Global;
 use sys_abi::memory::NoMemory;
 
 /// A part of a report: it has a line for some of the events.
@@ -104,20 +103,4 @@ pub fn write_lines<P: Part, O: Sink>(
         write_if_many(line, out)?;
     }
     write_line(line, out)
-}
-
-/// Writes a part: its title, with the number of its lines, and its lines.
-pub(crate) fn write_part<P: Part, O: Sink>(
-    alloc: Global,
-    part: &P,
-    word: &str,
-    count: usize,
-    events: &[Event],
-    out: &mut O,
-) -> Result<(), ReportError>
-    ensures { Wrote (O.state out.old) (title word.now count ++ lines_of (P.text part.now) (reverse events.now)) result (O.state out.new) }
-{
-    let mut line = LineBuffer::new(alloc);
-    write_title(&mut line, word, count, out)?;
-    write_lines(part, &mut line, events, out)
 }

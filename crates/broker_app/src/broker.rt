@@ -97,9 +97,17 @@ fn print_played<P: Player, O: Sink>(
     requires { (H : List Event) → IsPrintable printout policy.rules H }
     ensures { Printed (printout_of printout.entry policy script) (O.state out.old) (O.state out.new) result }
 {
-    let played = player.play(alloc, policy, script, None)?;
-    let printed = print_text(alloc, printout, &played.policy, &played.history, out);
-    player.let_go(played);
+    let Played {
+        policy,
+        script,
+        history,
+        ..
+    } = player.play(alloc, policy, script, None)?;
+    // (a report takes memory for its tables, and has no use for the script)
+    drop(script);
+    let printed = print_text(alloc, printout, &policy, &history, out);
+    player.let_go(policy);
+    player.let_go(history);
     printed
 }
 
@@ -208,8 +216,10 @@ fn play_files<P: Player, F: Files, O: Sink>(
     let Inputs {
         policy,
         file,
-        bytes: _bytes,
+        bytes,
     } = read_stated(alloc, files, policy, script)?;
+    // (a play takes more memory than reading does, and has no use for the script's text)
+    drop(bytes);
     is_lawful(&policy, &file);
     print_file_played(player, alloc, policy, file, out)
 }
