@@ -82,7 +82,7 @@ def overlap(one, other):
 def wrong_operand(item, given=None):
     """What is wrong with an operand, or what is given to an option, that is a number, or None."""
     if given is None:
-        return f"a number stands behind {item['names'][0]}"
+        return f"a number comes after {item['names'][0]}"
     if item["takes"] != "number" or given in item.get("also", []):
         return None
     if re.fullmatch(r"\d{1,20}", given, re.ASCII) and item["from"] <= int(given) <= item["to"]:

@@ -85,7 +85,8 @@ def bash():
         names = [name for it in marked(known, entry) for name in it["names"]]
         valued = [name for it in options(known, entry) if "value" in it for name in it["names"]]
         kinds = [bash_kind(it) for it in entry.get("operands", [])]
-        last = kinds[-1] if kinds and entry["operands"][-1].get("repeats") else ""
+        plain = [it["names"][0] for it in options(known, entry) if it not in marked(known, entry)]
+        last = kinds[-1] if kinds and entry["operands"][-1].get("repeats") else " ".join(["words", *plain]) if plain else ""
         told = [f"options='{' '.join(names)}'", f"valued='{' '.join(valued)}'", f"operands=({' '.join(map(repr, kinds))})", f"last='{last}'"]
         cases.append(f"    {entry['word']}) {' '.join(told)} ;;")
         for it in options(known, entry):
@@ -167,7 +168,7 @@ def fish():
             lines.append(f"{begin} -n '{here}' {names}{value} -d {fish_text(it['help'])}")
         for at, it in enumerate(entry.get("operands", []), 2):
             # places are counted by the words before, so behind options every file is offered
-            compare = "-ge" if it.get("repeats") or entry.get("options") else "-eq"
+            compare = "-ge" if it.get("repeats") or any(one in marked(known, entry) for one in entry.get("options", [])) else "-eq"
             lines.append(f"{begin} -n '{here}; and test (count (commandline -opc)) {compare} {at}' {fish_takes(it)}")
     return "\n".join(lines) + "\n"
 

@@ -1,24 +1,27 @@
 -- The text of a play whose workers were replaced.
 -- By the lines one after another, and since the same history and the same ledgers have one text.
 use Rattle.std.proofs.Common.{◌≡◌, ℕ, ◌<◌, List, [], ◌∷◌, ◌++◌, length, suc, ◌≤◌, take, get_or, refl, sym, ap, subst, ◌∙◌}
-use Rattle.std.specs.Prelude.{Result, Ok, Err, Some}
+use Rattle.std.specs.Prelude.{Result, Ok, Err, Option, Some, None}
 use Rattle.std.specs.List.{flat_map}
 use Rattle.std.proofs.lemmas.List.Concat.{flat_map-cons}
+use Rattle.audit_log.proofs.Writing.{wrote_front}
 use Rattle.audit_log.specs.Written.{Wrote}
 use Rattle.audit_log.specs.declared.error.ReportError.{ReportError}
 use Rattle.hist_model.specs.Legal.{played}
-use Rattle.hist_model.specs.ReportAudit.{judging_by}
+use Rattle.hist_model.specs.Report.{report}
+use Rattle.hist_model.specs.ReportAudit.{Judging, judging_by}
 use Rattle.hist_model.specs.declared.event.Event.{Event}
 use Rattle.hist_model.specs.declared.policy.Policy.{Policy}
 use Rattle.hist_model.specs.declared.script.Script.{Script}
 use Rattle.io_edge.specs.SinkState.{SinkState}
+use Rattle.handover.specs.Handing.{Handed}
 use Rattle.handover.specs.Keeping.{all_handed, handed_as}
 use Rattle.handover.specs.declared.ledgers.Handover.{Handover}
 use Rattle.worker_gate.specs.Replacing.{handed_if, handed_in}
 use Rattle.worker_gate.specs.declared.served.Played.{Played}
 use Rattle.broker_app.proofs.Items.{all_written, one_failed}
 use Rattle.broker_app.specs.Answers.{Printed}
-use Rattle.broker_app.specs.Handovers.{handover_report, ledger_line, report_and}
+use Rattle.broker_app.specs.Handovers.{handover_report, handovers, ledger_line, report_and}
 use Rattle.broker_app.specs.declared.status.Status.{Status}
 
 -- ---- The lines
@@ -46,6 +49,11 @@ pub ledgers_written : (hs : List Handover) (i : ℕ) (old new : SinkState) → l
 ledgers_written hs i old new l w = rw (all_lines hs) at (all_written line_of_handed hs i old new l w)
 
 -- ---- The report
+
+-- a part of the report is a part of it with the ledgers
+pub report_stopped : (old new : SinkState) (J : Judging) (H : List Event) (all : Option (List Handed)) (e : ReportError) → Wrote old (report J H) (Err e) new → Wrote old (report_and J H all) (Err e) new
+report_stopped old new J H None e w = w
+report_stopped old new J H (Some all) e w = wrote_front old new (report J H) (handovers all) e w
 
 same_text : (every : ℕ) (p : Played) (P : Policy) (S : Script) → p.policy ≡ P → p.history.events ≡ played P S → handed_in p.handed ≡ handed_if (Some every) p.history.events
     → report_and (judging_by p.policy.rules) p.history.events (handed_in p.handed) ≡ handover_report every P S

@@ -115,16 +115,20 @@ abbrev pub seven_words : List ℕ → List ℕ → List ℕ → List ℕ → Lis
 seven_words command a b c d e f =
     if bytes_eq command (codes "run") then run_form a b (number_between 0 16 c) (number_between 0 16 d) (every_of e f) else None
 
--- the form of three to seven words: play POLICY SCRIPT, stress FROM COUNT, step POLICY SCRIPT, judge POLICY SCRIPT, explain POLICY CALLS,
--- compare OLD NEW [SCRIPT], check POLICY CLAIMS, audit-check POLICY SCRIPT REPORT, lanes POLICY SCRIPT CPUS [every EVERY],
--- handover POLICY SCRIPT EVERY, run POLICY SCRIPT WORKERS CPUS [every EVERY], or explore POLICY SCRIPT WORKERS DELAYS
+-- the form of six or seven words: lanes POLICY SCRIPT CPUS every EVERY, or run POLICY SCRIPT WORKERS CPUS every EVERY
+abbrev pub more_words : List (List ℕ) → Option Form
+more_words (command ∷ a ∷ b ∷ c ∷ d ∷ e ∷ []) = six_words command a b c d e
+more_words (command ∷ a ∷ b ∷ c ∷ d ∷ e ∷ f ∷ []) = seven_words command a b c d e f
+more_words _ = None
+
+-- the form of three to five words: play POLICY SCRIPT, stress FROM COUNT, step POLICY SCRIPT, judge POLICY SCRIPT, explain POLICY CALLS,
+-- compare OLD NEW [SCRIPT], check POLICY CLAIMS, audit-check POLICY SCRIPT REPORT, lanes POLICY SCRIPT CPUS, handover POLICY SCRIPT EVERY,
+-- run POLICY SCRIPT WORKERS CPUS, or explore POLICY SCRIPT WORKERS DELAYS; or one of more words
 abbrev pub few_words : List (List ℕ) → Option Form
 few_words (command ∷ a ∷ b ∷ []) = three_words command a b
 few_words (command ∷ a ∷ b ∷ c ∷ []) = four_words command a b c
 few_words (command ∷ a ∷ b ∷ c ∷ d ∷ []) = five_words command a b c d
-few_words (command ∷ a ∷ b ∷ c ∷ d ∷ e ∷ []) = six_words command a b c d e
-few_words (command ∷ a ∷ b ∷ c ∷ d ∷ e ∷ f ∷ []) = seven_words command a b c d e f
-few_words _ = None
+few_words words = more_words words
 
 -- the form of two words: lint POLICY
 abbrev pub short_words : List (List ℕ) → Option Form
@@ -132,7 +136,7 @@ short_words (command ∷ a ∷ []) = two_words command a
 short_words _ = None
 
 -- the form of the words: pod WORKERS CPUS [every EVERY] POLICY SCRIPT .., with 1 to 8 pairs of files, where WORKERS may be `lanes`,
--- one of fewer words, or lint POLICY
+-- one of three to seven words, or lint POLICY
 abbrev pub form : List (List ℕ) → Option Form
 form (command ∷ a ∷ b ∷ more) =
     if bytes_eq command (codes "pod") then pod_words (servers_of a) (number_between 0 16 b) more

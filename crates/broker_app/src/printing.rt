@@ -201,7 +201,7 @@ fn write_handed<O: Sink>(
 
 /// What is printed of what was played or served: the report, and the ledgers from which workers were replaced, where they were to be.
 pub(crate) fn printout_of(played: &Played) -> Printout<'_>
-    ensures text { (J : Judging) → (H : List Event) → text_of result.entry J H ≡ report_and J H (handed_in played.now.handed) }
+    ensures text { (J : Judging) → (H : List Event) → text_of result J H ≡ report_and J H (handed_in played.now.handed) }
     ensures printable { (rules : List Rule) → (H : List Event) → IsPrintable result rules H }
 {
     match &played.handed {

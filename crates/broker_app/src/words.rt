@@ -2,7 +2,7 @@
 
 ghost use Rattle.std.specs.Prelude.{◌≡◌, ◌≤◌, ◌^◌, ◌-◌, map, IfSome};
 ghost use Rattle.std.specs.Option.{option_map};
-ghost use Rattle.broker_app.specs.Words.{run_form, lanes_form, are_pairs, every_of, pod_form, pod_words, handover_form, delays_of, servers_of, explore_form, stress_form, two_words, three_words, short_words, four_words, five_words, six_words, seven_words, few_words, form};
+ghost use Rattle.broker_app.specs.Words.{run_form, lanes_form, are_pairs, every_of, pod_form, pod_words, handover_form, delays_of, servers_of, explore_form, stress_form, two_words, three_words, short_words, four_words, five_words, six_words, seven_words, more_words, few_words, form};
 ghost use Rattle.hist_model.specs.Words.{number_between};
 ghost use Rattle.broker_app.specs.Forms.{IsAfterSteps, IsInRange, form_of, texts};
 
@@ -403,26 +403,11 @@ fn seven_words<'a>(
     }
 }
 
-/// The form of three to seven words, but `pod`'s.
-fn few_words(words: &[String]) -> Option<Form<'_>>
-    ensures meant { option_map form_of result ≡ few_words (texts words.now) }
+/// The form of six or seven words, but `pod`'s.
+fn more_words(words: &[String]) -> Option<Form<'_>>
+    ensures meant { option_map form_of result ≡ more_words (texts words.now) }
     ensures range { IfSome result (λ f. IsInRange f) }
 {
-    if let [command, a, b] = words {
-        return three_words(command.as_str(), a.as_str(), b.as_str());
-    }
-    if let [command, a, b, c] = words {
-        return four_words(command.as_str(), a.as_str(), b.as_str(), c.as_str());
-    }
-    if let [command, a, b, c, d] = words {
-        return five_words(
-            command.as_str(),
-            a.as_str(),
-            b.as_str(),
-            c.as_str(),
-            d.as_str(),
-        );
-    }
     if let [command, a, b, c, d, e] = words {
         return six_words(
             command.as_str(),
@@ -445,6 +430,29 @@ fn few_words(words: &[String]) -> Option<Form<'_>>
         );
     }
     None
+}
+
+/// The form of three to seven words, but `pod`'s.
+fn few_words(words: &[String]) -> Option<Form<'_>>
+    ensures meant { option_map form_of result ≡ few_words (texts words.now) }
+    ensures range { IfSome result (λ f. IsInRange f) }
+{
+    if let [command, a, b] = words {
+        return three_words(command.as_str(), a.as_str(), b.as_str());
+    }
+    if let [command, a, b, c] = words {
+        return four_words(command.as_str(), a.as_str(), b.as_str(), c.as_str());
+    }
+    if let [command, a, b, c, d] = words {
+        return five_words(
+            command.as_str(),
+            a.as_str(),
+            b.as_str(),
+            c.as_str(),
+            d.as_str(),
+        );
+    }
+    more_words(words)
 }
 
 /// The form of two words.
