@@ -37,9 +37,6 @@ module _ (P : Policy) (r : Run) where
   unfolding step
   task_unable o can e none = and_none (is_task_name (task_name_of (story r) o)) (not (skips (task_step (system_of (script_in r)) (story r) (task_name_of (story r) o)))) (sym e ∙ none)
 
-  pub hands_unable : (w : ℕ) (may : Bool) → may ≡ (in_hand (story r) w || all_in_hand (story r) w) → may ≡ false → is_able P (script_in r) (story r) (Worker w) ≡ false
-  hands_unable w may e none = let m : (in_hand (story r) w || all_in_hand (story r) w) ≡ false = sym e ∙ none in rw m refl
-
   idle_skips : (w : ℕ) (own : List What) → is_open_session own ≡ false → count (story r) ≡ 0
       → skips (deed_step (system_of (script_in r)) (story r) w (deed_for (rules_of P (script_in r).figures) (notif_of own) own)) ≡ true
   idle_skips w own o none = grind (arith, nat_tests)
@@ -53,11 +50,6 @@ module _ (P : Policy) (r : Run) where
   -- who stands at a place
   pub task_there : (p : ℕ) → p < tasks_made (story r) → is_able P (script_in r) (story r) (Task (task_name_of (story r) p)) ≡ false → is_able P (script_in r) (story r) (at_place (story r) p) ≡ false
   task_there p l a = let t : nat_lt p (tasks_made (story r)) ≡ true = grind (arith, nat_tests) in rw t a
-
-  pub worker_there : (p n : ℕ) → n ≡ tasks_made (story r) → n ≤ p → is_able P (script_in r) (story r) (Worker (p - n)) ≡ false → is_able P (script_in r) (story r) (at_place (story r) p) ≡ false
-  worker_there p n e l a =
-      let t : nat_lt p (tasks_made (story r)) ≡ false = grind (arith, nat_tests) in
-      rw t (subst (λ (m : ℕ). is_able P (script_in r) (story r) (Worker (p - m)) ≡ false) e a)
 
   -- the place before isn't that of an actor that is able either
   pub one_fewer : (W p q n : ℕ) → n ≡ places W (story r) → 0 < q → q ≤ n → is_able P (script_in r) (story r) (at_place (story r) ((p + (q - 1)) % n)) ≡ false → able_in P W r p q ≡ [] → able_in P W r p (q - 1) ≡ []

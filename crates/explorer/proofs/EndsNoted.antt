@@ -331,18 +331,6 @@ module _ (P : Policy) (S : Script) (W : ℕ) (b : Bound) where
         noted_in (inl j) = noted_there j
         noted_in (inr j) = noted_more j
 
-  -- nothing ended
-  pub none_told : (x : Ends) → x.ends.items ≡ [] → x.histories ≡ 0 → x.events ≡ 0 → x.longest ≡ 0 → TellsEnds P S W b [] x
-  none_told x none histories events long = record {
-    ended = λ k d l. absurd (omega (arith, l));
-    histories = histories;
-    events = events;
-    longest_is = long;
-    each = rw none (λ k d l. absurd (omega (arith, l)));
-    apart = λ text. rw none (omega arith);
-    none_else = λ k d l. absurd (omega (arith, l));
-  }
-
   -- they are noted
   module _ (done more : List (List Frame)) (old new : Ends) (end : End) (n : ℕ) (t : TellsEnds P S W b done old) (i : IsEnd P S W b more end) (a : EndAsOne P S W b n end.text.items more)
       (j : JoinsEnds end old.ends.items new.ends.items) where

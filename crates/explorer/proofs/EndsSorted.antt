@@ -1,13 +1,13 @@
 -- The ends in the order of their first histories: the first one of those that are left is taken, again and again.
 -- By the order of the first histories, and by what is left when one is removed.
-use Rattle.std.proofs.Common.{◌≡◌, ℕ, suc, ◌+◌, ◌<◌, true, false, All, List, [], ◌∷◌, ◌++◌, length, map, get_or, take, drop, Some, refl, sym, ap, ◌∙◌, subst, arith, append-nil, below_more}
-use Rattle.std.specs.Prelude.{Contains, if◌then◌else◌, option_map}
+use Rattle.std.proofs.Common.{◌≡◌, ℕ, suc, ◌+◌, ◌<◌, true, false, All, List, [], ◌∷◌, ◌++◌, length, map, get_or, take, drop, Some, sym, ap, ◌∙◌, subst, arith, append-nil, below_more}
+use Rattle.std.specs.Prelude.{Contains, if◌then◌else◌}
 use Rattle.std.specs.List.{remove}
 use Rattle.std.specs.List.Sorted.{IsPermutation}
 use Rattle.std.proofs.lemmas.Bool.Decides.{nat_tests}
 use Rattle.std.proofs.lemmas.List.{get_or_read}
 use Rattle.std.proofs.lemmas.List.Elements.{All-append, All-contains_itself, All-cons, All-drop, All-from_get_or, All-get_or, All-head, All-nil, All-tail, All-take}
-use Rattle.std.proofs.lemmas.List.Sorted.{All-permutation, IsPermutation-more, IsPermutation-refl, sum_by-IsPermutation}
+use Rattle.std.proofs.lemmas.List.Sorted.{All-permutation, IsPermutation-more, sum_by-IsPermutation}
 use Rattle.std.proofs.lemmas.List.{map-append}
 use Rattle.explorer.specs.Paths.{is_first, left_of}
 use Rattle.explorer.specs.Sorted.{AreSorted, IsBefore, IsFirstAt, IsNoLaterEnd, IsSorted, outcome_in}
@@ -89,9 +89,6 @@ pub record IsSortedSoFar (all left : List End) (outcomes : List CountedOutcome) 
   pub before : AreBefore done left
   pub told : outcomes ≡ map outcome_in done
 
-pub none_sorted : (all : List End) → IsSortedSoFar all all []
-none_sorted all = record { done = []; same = IsPermutation-refl all; sorted = tt; before = tt; told = refl }
-
 pub one_sorted : (all left : List End) (outcomes more : List CountedOutcome) (i : ℕ) (x : End) → IsSortedSoFar all left outcomes → IsFirstAt left (Some i) → x ≡ get_or left i x
     → more ≡ outcomes ++ outcome_in x ∷ [] → IsSortedSoFar all (remove left i) more
 one_sorted all left outcomes more i x s f is m =
@@ -116,7 +113,3 @@ all_sorted all left outcomes none s =
       },
       s.told,
     )
-
--- an outcome by its parts
-pub outcome_same : (o : CountedOutcome) (e : End) → o.text ≡ e.text.items → o.histories ≡ e.count → o.schedule ≡ option_map (λ steps. steps.items) e.schedule → o ≡ outcome_in e
-outcome_same o e a b c = rw (← a, ← b, ← c) refl

@@ -7,7 +7,7 @@ use Rattle.hist_model.specs.ReportAudit.{judging_by}
 use Rattle.hist_model.specs.declared.event.Event.{Event}
 use Rattle.hist_model.specs.declared.policy.Policy.{Policy}
 use Rattle.hist_model.specs.declared.script.Script.{Script}
-use Rattle.delay_bounded.specs.Circle.{able, at_place, is_able, with_turn}
+use Rattle.delay_bounded.specs.Circle.{at_place, is_able, with_turn}
 use Rattle.delay_bounded.specs.Laws.{IsWalked}
 use Rattle.listener.specs.State as call_state
 use Rattle.tasks.specs.State.{State as TaskState, after}
@@ -17,7 +17,7 @@ use Rattle.same_futures.specs.Places.{turn_of}
 use Rattle.same_futures.specs.Same.{Same}
 use Rattle.same_futures.specs.States.{HasStates}
 use Rattle.same_futures.specs.Turns.{IsTurn}
-use Rattle.same_futures.proofs.Circles.{able-alike, turn-alike, turn-event}
+use Rattle.same_futures.proofs.Circles.{turn-alike, turn-event}
 use Rattle.same_futures.proofs.Exchanged.{same-exchanged}
 use Rattle.same_futures.proofs.Joined.{same-back, same-joined}
 use Rattle.same_futures.proofs.KeptLines.{lines-after-turn}
@@ -121,7 +121,3 @@ module _ (P : Policy) (S : Script) where
           same = same-exchanged S ts (tasks new) cs (calls new) (story new) (with_turn P S L q) at (states_of new here);
           lines = subst (λ (H : List Event). SameLines S (judging_by P.rules) H (with_turn P S L q)) (sym j.at.events) lines;
         }
-
-    -- the same places are able after both
-    pub able_too : (p : ℕ) → able P S W L p ≡ able P S W (story r) p
-    able_too p = able-alike S (tasks r) (calls r) (story r) L g.same P W p

@@ -3,11 +3,10 @@
 use Rattle.std.proofs.Common.{◌≡◌, ℕ, ◌+◌, ◌-◌, ◌<◌, ◌≤◌, true, false, ◌&&◌, not, List, [], ◌∷◌, ◌++◌, length, get_or, reverse, take, refl, sym, ap, ◌∙◌, subst, arith, append-nil, append_assoc, map-id}
 use Rattle.std.specs.List.{flat_map, range_with_len}
 use Rattle.std.specs.Prelude.{if◌then◌else◌}
-use Rattle.std.proofs.lemmas.List.{reverse-append, take_all, take_more}
+use Rattle.std.proofs.lemmas.List.{reverse-append, take_more}
 use Rattle.std.proofs.lemmas.List.Concat.{flat_map-append}
 use Rattle.std.proofs.lemmas.List.FromFn.{map-range_with_len_more}
 use Rattle.hist_model.specs.Kinds.{skips, starts}
-use Rattle.hist_model.specs.Legal.{is_open_session}
 use Rattle.hist_model.specs.Look.{is_worker}
 use Rattle.hist_model.specs.Sessions.{joined, session}
 use Rattle.hist_model.specs.declared.event.Event.{Event}
@@ -49,18 +48,6 @@ pub record IsWritten (events : List Event) (w n : ℕ) (old new : List ℕ) : Ty
   pub so_far : new ++ steps_part (own_of events n w) ≡ old ++ steps_part (session (reverse events) w)
 
 module _ (events : List Event) (w : ℕ) where
-  open_some : (own : List What) → is_open_session own ≡ true → 0 < length own
-  open_some [] h = cc
-  open_some (a ∷ own) h = omega arith
-
-  pub none_written : (old : List ℕ) (n : ℕ) → n ≡ length events → is_open_session (session (reverse events) w) ≡ true → IsWritten events w n old old
-  none_written old n e o =
-      let all : own_of events n w ≡ session (reverse events) w = ap (λ (xs : List Event). session (reverse xs) w) (take_all n events (omega (arith, e))) in
-      record {
-        some = subst (λ (own : List What). 0 < length own) (sym all) (open_some (session (reverse events) w) o);
-        so_far = ap (λ (own : List What). old ++ steps_part own) all;
-      }
-
   module _ (n : ℕ) (e : Event) (old new : List ℕ) (l : 0 < n) (m : n ≤ length events) (is : e ≡ get_or events (n - 1) e) (i : IsWritten events w n old new) where
     split : own_of events n w ≡ session (e ∷ reverse (take (n - 1) events)) w
     split =

@@ -4,7 +4,7 @@ use Rattle.std.proofs.Common.{◌≡◌, inl, inr, ℕ, zero, suc, ◌+◌, ◌-
 use Rattle.std.specs.Prelude.{All, filter, get_or, if◌then◌else◌, slice_get}
 use Rattle.std.proofs.lemmas.Bool.Decides.{nat_tests}
 use Rattle.std.proofs.lemmas.List.{length-append, length-map, length-set}
-use Rattle.std.proofs.lemmas.List.Elements.{All-contains, All-filter, All-head, All-tail, All-weaker, filter_passes}
+use Rattle.std.proofs.lemmas.List.Elements.{All-filter, All-head, All-tail, All-weaker, filter_passes}
 use Rattle.std.proofs.lemmas.List.FromFn.{length-map-range_with_len}
 use Rattle.hist_model.specs.Kinds.{makes}
 use Rattle.hist_model.specs.Legal.{started}
@@ -17,10 +17,10 @@ use Rattle.delay_bounded.proofs.Rounds.{round_inside}
 use Rattle.delay_bounded.specs.Circle.{able, at_place, is_able, places, round, with_turn}
 use Rattle.delay_bounded.specs.Laws.{IsWalked}
 use Rattle.explorer.specs.Bounds.{HasRoom}
-use Rattle.explorer.specs.Frames.{AreTurns, able_from, last_place}
+use Rattle.explorer.specs.Frames.{able_from, last_place}
 use Rattle.explorer.specs.Joining.{JoinsIn, keys_in, turns_behind}
 use Rattle.explorer.specs.Keys.{GoesAlike, key_of}
-use Rattle.explorer.specs.Levels.{EndsSo, FindsNext, GoesOn, HasKey, HasTurned, IsJoined, IsNoLater, IsState, able_after, events_of, left_to}
+use Rattle.explorer.specs.Levels.{EndsSo, FindsNext, GoesOn, HasKey, HasTurned, IsNoLater, IsState, able_after, events_of, left_to}
 use Rattle.explorer.specs.Paths.{is_first, left_of}
 use Rattle.explorer.specs.Runs.{Finds, IsRun, able_in, script_in, story}
 use Rattle.explorer.specs.Walking.{HasCome}
@@ -128,9 +128,6 @@ module _ (P : Policy) (S : Script) (W : ℕ) where
 
     -- ---- Turns of a state
 
-    pub first_turns : (n : ℕ) (key : List ℕ) (ms : List (List Frame)) (state : State) → IsState P S W b n key ms state → AreTurns P S W (started S) state.frames.items
-    first_turns n key ms state s = (All-contains (IsJoined P S W b n) ms state.frames.items s.joined s.first).turns
-
     -- so many delays were had, and so many places were tried: what is left is open there
     pub record HasTurns (state : State) (c tried : ℕ) (old new : Level) : Type 0 where
       pub one_each : length new.keys.items ≡ length new.states.items
@@ -138,14 +135,6 @@ module _ (P : Policy) (S : Script) (W : ℕ) where
       pub rest : able_after P S W b state.frames.items tried ≡ drop c (able_after P S W b state.frames.items 0)
       pub going : 0 < c → (n : ℕ) (key : List ℕ) (ms : List (List Frame)) → IsState P S W b n key ms state
           → GoneOn P S W b n ms c (able_after P S W b state.frames.items tried) old new
-
-    pub none_had : (state : State) (level : Level) → length level.keys.items ≡ length level.states.items → HasTurns state 0 0 level level
-    none_had state level e = record {
-      one_each = e;
-      begun = λ z. (refl, refl);
-      rest = refl;
-      going = λ l. absurd (omega (arith, l));
-    }
 
     joined_each : (c : ℕ) (frame : Frame) (from : State) (key : List ℕ) (old new : Level) → length old.keys.items ≡ length old.states.items → JoinsIn b c frame from key old new
         → length new.keys.items ≡ length new.states.items
@@ -289,11 +278,6 @@ module _ (P : Policy) (S : Script) (W : ℕ) where
     -- of a run's own script
     pub own_run : (fs : List Frame) (r : Run) → IsRun P S (events_of P S W b fs) r → IsRun P (script_in r) (events_of P (script_in r) W b fs) r
     own_run fs r i = subst (λ (T : Script). IsRun P T (events_of P T W b fs) r) (sym i.at.script) i
-
-    pub own_over : (state : State) (tried : ℕ) (old new : Level) (r : Run) → HasTurns state 0 tried old new → script_in r ≡ S → able_after P S W b state.frames.items tried ≡ []
-        → able_after P (script_in r) W b state.frames.items 0 ≡ []
-    own_over state tried old new r had same none =
-        subst (λ (T : Script). able_after P T W b state.frames.items 0 ≡ []) (sym same) (ap (λ (q : ℕ). able_after P S W b state.frames.items q) (sym (had.begun refl).0) ∙ none)
 
     -- ---- No turn is left
 

@@ -43,13 +43,6 @@ module _ (P : Policy) (S : Script) (W : ℕ) (b : Bound) where
         All-map R (longer P S W b q n c) (filter (has_left P S W b c) ms)
         (λ i d l. f _ (leb-true c _ (filter_passes (has_left P S W b c) ms i d l)) (All-filter (has_left P S W b c) Q ms a i d l))
 
-    pub first_longer : (first : List Frame) (ms : List (List Frame)) → c ≤ left first
-        → All (λ fs. (length first ≡ length fs) × IsNoLater P S W b first fs) ms
-        → All (IsNoLater P S W b (longer P S W b q n c first)) (all_longer P S W b q n c ms)
-    first_longer first ms k a =
-        all_more (λ fs. (length first ≡ length fs) × IsNoLater P S W b first fs) (IsNoLater P S W b (longer P S W b q n c first))
-        (λ fs l h. no_later_longer first fs h.0 k l h.1) ms a
-
   -- ---- Joined
 
   -- the first of two states that are joined comes no later than any of both

@@ -1,7 +1,7 @@
 -- Which of two lists of turns comes before, from some turn on.
 -- By the turn at which it is looked.
 use Rattle.std.proofs.Common.{◌≡◌, ℕ, ◌+◌, ◌<◌, ◌≤◌, Bool, true, false, List, ◌∷◌, length, map, drop, get_or, refl, arith, add-one, drop-cons}
-use Rattle.std.specs.Prelude.{◌==◌, nat_lt}
+use Rattle.std.specs.Prelude.{nat_lt}
 use Rattle.std.proofs.lemmas.Bool.Decides.{nat_tests}
 use Rattle.std.proofs.lemmas.List.{drop_all}
 use Rattle.explorer.specs.Paths.{is_before, left_of}
@@ -18,16 +18,6 @@ before_from i ts os = is_before (map left_of (drop i ts)) (map left_of (drop i o
 -- the others have no turn more
 pub order_over : (ts os : List Frame) (i : ℕ) (d : Frame) → i < length ts → length os ≤ i → before_from i ts os ≡ false
 order_over ts os i d l m = rw (rest_is ts i d l, drop_all i os m) refl
-
--- as much is not left to both
-pub order_apart : (ts os : List Frame) (i : ℕ) (d e : Frame) → i < length ts → i < length os → ((get_or ts i d).left == (get_or os i e).left) ≡ false
-    → before_from i ts os ≡ nat_lt (get_or os i e).left (get_or ts i d).left
-order_apart ts os i d e l m n = rw (rest_is ts i d l, rest_is os i e m, n) refl
-
--- as much is left to both
-pub order_same : (ts os : List Frame) (i : ℕ) (d e : Frame) → i < length ts → i < length os → ((get_or ts i d).left == (get_or os i e).left) ≡ true
-    → before_from i ts os ≡ before_from (i + 1) ts os
-order_same ts os i d e l m n = rw (rest_is ts i d l, rest_is os i e m, n) refl
 
 -- there is no turn more
 pub order_end : (ts os : List Frame) (i : ℕ) → length ts ≤ i → before_from i ts os ≡ nat_lt i (length os)

@@ -55,10 +55,6 @@ number-of Start w h = absurd (no-way h)
 number-of (Task n) w h = absurd (no-way h)
 number-of Listener w h = absurd (no-way h)
 
-pub numbered : (a : Actor) (w : ℕ) → worker_number a ≡ Some w → is_worker a w ≡ true
-numbered (Worker u) w h = let same : u ≡ w = cc in eq-eqb u w same
-numbered a w h = cc
-
 module _ (e : Event) (w : ℕ) where
   other-step : (v : ℕ) → is_step_of v e ≡ true → (w ≡ v → ⊥) → is_step_of w e ≡ false
   other-step v own n = ap (λ (b : Bool). b && not (skips e.what)) (one-worker e.who v w (step_worker e v own) n)

@@ -15,8 +15,6 @@ mod keys;
 pub mod laws;
 pub mod line;
 mod lines;
-mod text;
 
 pub use keys::write_key;
 pub use lines::lines_of;
-pub use text::text_of;

@@ -1,5 +1,5 @@
 -- The states of tasks and calls that a history has, and histories that have them in common.
-use Rattle.std.specs.Prelude.{◌≡◌, ℕ, List, Some, false, slice_get}
+use Rattle.std.specs.Prelude.{List}
 use Rattle.hist_model.specs.declared.event.Event.{Event}
 use Rattle.hist_model.specs.declared.script.Script.{Script}
 use Rattle.listener.specs.Fold as calls
@@ -7,7 +7,7 @@ use Rattle.listener.specs.Sound as call_sound
 use Rattle.listener.specs.State as call_state
 use Rattle.tasks.specs.Fold as tasks
 use Rattle.tasks.specs.Sound as task_sound
-use Rattle.tasks.specs.State.{Row, State}
+use Rattle.tasks.specs.State.{State}
 
 -- these are the states of the tasks and of the calls of a history, which is sound: as each history of the kernel is
 pub record HasStates (S : Script) (K : List Event) (s : State) (c : call_state.State) : Type 0 where
@@ -21,11 +21,3 @@ pub record HasStates (S : Script) (K : List Event) (s : State) (c : call_state.S
 pub record ShareStates (S : Script) (K L : List Event) (s : State) (c : call_state.State) : Type 0 where
   pub here : HasStates S K s c
   pub there : HasStates S L s c
-
--- a task of the group that has this ordinal lives
-pub record HasTask (s : State) (o : ℕ) : Type 0 where
-  pub task : ℕ
-  pub row : Row
-  pub at : slice_get s.rows task ≡ Some row
-  pub lives : row.ended ≡ false
-  pub group_is : row.group ≡ o

@@ -1,6 +1,6 @@
 //! Callers of the lock: one on one thread, two that meet, sixteen that race, and a state whose type keeps a fact.
 
-ghost use Rattle.std.specs.Prelude.{◌≡◌, ◌+◌, ◌≤◌, ◌∷◌, [], ◌++◌, length, true, MatchBool, IfSome, IfOk, All};
+ghost use Rattle.std.specs.Prelude.{◌≡◌, ◌+◌, ◌≤◌, ◌∷◌, [], ◌++◌, length, true, MatchBool, IfSome, IfOk, None, All};
 ghost use Rattle.hist_model.specs.declared.event.Actor.TheVariants.{Worker};
 ghost use Rattle.hist_model.specs.declared.event.What.TheVariants.{Skip};
 ghost use Rattle.turn_lock.specs.Lists.{Begins};
