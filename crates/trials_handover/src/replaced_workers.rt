@@ -120,14 +120,7 @@ fn replaced(alloc: Global, every: u32) -> Result<(u32, usize, usize), Fail>
     let mut machine = Machine::new(alloc, script)?;
     step_task(alloc, &policy, &mut machine, &ledgers)?;
     step_task(alloc, &policy, &mut machine, &ledgers)?;
-    step_worker_often(
-        alloc,
-        &policy,
-        &mut machine,
-        &mut ledgers,
-        &mut heir,
-        STEPS,
-    )?;
+    step_worker_often(alloc, &policy, &mut machine, &mut ledgers, &mut heir, STEPS)?;
     Ok((
         calls.get(),
         ledgers.into_handed().len(),

@@ -3,5 +3,5 @@ use Rattle.handover.specs.Keeping.{AreLedgers}
 use Rattle.model_kernel.specs.Kernels.{past}
 use Rattle.trials_handover.proofs.replaced_workers.step_worker_often.Given as goal
 
-abbrev pub invariant-loop-item : goal.invariant-loop-item
-invariant-loop-item l = record { served : IsServed l.policy.now l.machine; ledgers : AreLedgers (past l.machine.kernel) l.ledgers }
+abbrev pub invariant-loop : goal.invariant-loop
+invariant-loop l = record { served : IsServed l.policy l.machine; ledgers : AreLedgers (past l.machine.kernel) l.ledgers }
