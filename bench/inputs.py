@@ -1,6 +1,6 @@
 """Policies and scripts that are made by counting, each with the summary that its play must print.
 
-Nothing here runs the program. A script is written so simply that its summary follows from docs/FORMATS.md and docs/KERNEL.md: each
+Nothing here runs the program. A script is written so simply that its summary follows from docs/reference and docs/KERNEL.md: each
 scheduled step is one event, and whoever writes the steps of a call says beside them what comes of it.
 """
 import json

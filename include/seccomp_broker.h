@@ -2,7 +2,7 @@
  * seccomp_broker.h - the simulator of a broker for seccomp user notifications, as a library
  *
  * Each call takes bytes and gives a report and a status, as the program of the same name does of files. A policy, a script and
- * a report are those of docs/FORMATS.md. docs/C_LIBRARY.md is the guide to this library, and says what is proved of it.
+ * a report are those of docs/reference. docs/reference/C_LIBRARY.md is the guide to this library, and says what is proved of it.
  *
  * Buffers. The caller owns every buffer, before the call and after it; the library keeps no pointer. A buffer is given by
  * where it begins and how many bytes it has. One of 0 bytes may be NULL. Nothing is written past a buffer, and no zero byte

@@ -89,7 +89,7 @@ int sb_open(struct sb_kernel **kernel, const char *program, const char *policy, 
  *   assert(sb_close(kernel) == 0); */
 int sb_close(struct sb_kernel *kernel);
 
-/* The program's answer to the newest request, without its newline: the journal's line of the event (docs/FORMATS.md), `skip` where there
+/* The program's answer to the newest request, without its newline: the journal's line of the event (docs/reference/REPORT.md), `skip` where there
  * was none, or why it was refused. It holds until the next call. Never NULL.
  *
  *   puts(sb_answer(kernel));                             7 w0 send 1 0 ok */
@@ -111,7 +111,7 @@ int sb_report(struct sb_kernel *kernel, char **report, size_t *length);
 int sb_script(struct sb_kernel *kernel, char **script, size_t *length);
 
 /* What a judge finds of the broker, by what has happened so far: the first line of what `judge-slowly` prints of it, with its newline, given as sb_report gives the report.
- * It is `mediated events=N calls=N effects=N answers=N`, or of the first event that breaks a clause `broken PLACE CLASS CLAUSE` (docs/FORMATS.md). Where `is_idle`, the
+ * It is `mediated events=N calls=N effects=N answers=N`, or of the first event that breaks a clause `broken PLACE CLASS CLAUSE` (docs/reference/OUTPUTS.md). Where `is_idle`, the
  * broker does nothing more by itself: then a call that it has received and that waits isn't answered, which is found at the newest event while the listener is open.
  *
  *   if (sb_judge(kernel, true, &found, NULL) == 0) { fputs(found, stdout); free(found); } */

@@ -83,7 +83,7 @@ static void add_hex(struct text *text, const void *bytes, size_t count) {
     add_format(text, "%02x", from[at]);
 }
 
-/* A text between quotes, as scripts write it (docs/FORMATS.md, Script lines and tokens). */
+/* A text between quotes, as scripts write it (docs/reference/SCRIPT.md, Script lines and tokens). */
 static void add_quoted(struct text *text, const char *bytes, size_t count) {
   add(text, " \"", 2);
   for (size_t at = 0; at < count; at++) {

@@ -33,9 +33,10 @@ def documents():
     known = about()
     if known is None:
         return (f"Documents, in {HOME}:\n  README.md          what it is, and what is proved\n  docs/TUTORIAL.md   test a policy, and then a race\n"
-                "  docs/FORMATS.md    policies, scripts, reports, and exit statuses")
+                "  docs/reference     policies, scripts, reports, and exit statuses")
     share = os.path.dirname(os.path.realpath(f"{HOME}/examples"))
-    return (f"Manual: seccomp-broker(1), seccomp-broker-policy(5), seccomp-broker-script(5), seccomp-broker-report(5), seccomp-broker-test(5)\n"
+    return (f"Manual: seccomp-broker(1), seccomp-broker-policy(5), seccomp-broker-script(5), seccomp-broker-report(5), seccomp-broker-outputs(5),\n"
+            f"  seccomp-broker-step(5), seccomp-broker-test(5)\n"
             f"What was proved of this program: {share}/proof.txt")
 
 

@@ -1,4 +1,4 @@
-"""Claims about all calls (docs/FORMATS.md, Claims): how they are read, and which hold of a policy."""
+"""Claims about all calls (docs/reference/OUTPUTS.md, Claims): how they are read, and which hold of a policy."""
 import re
 
 from deciding.cells import cells

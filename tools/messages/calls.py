@@ -12,7 +12,7 @@ from real_workloads.named_numbers import MOUNT_FLAGS, OTHER_NAMES
 from real_workloads.script_text import CALLS
 
 WRONG_COUNT, WRONG_FORM, BAD_NUMBER, OUT_OF_RANGE, UNKNOWN_NAME = "wrong count", "wrong form", "bad number", "out of range", "unknown name"
-# what is said where the place in the line can't be told, by the reason that the program names (docs/FORMATS.md, An explanation)
+# what is said where the place in the line can't be told, by the reason that the program names (docs/reference/OUTPUTS.md, An explanation)
 PLAIN = {
     "bad byte": "a byte stands here that is no blank and begins no token",
     "bad quote": "a quoted text isn't closed, has a byte or an escape that it may not have, or touches another token",
@@ -67,7 +67,7 @@ class Fault(Exception):
         self.reason, self.token, self.operand, self.few = reason, token, operand, few
 
 
-# ---- what a line is, as docs/FORMATS.md has it
+# ---- what a line is, as docs/reference/OUTPUTS.md has it
 
 
 def items_of(text):

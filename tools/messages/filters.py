@@ -1,4 +1,4 @@
-"""What is wrong with a filter of a script, as docs/FORMATS.md has it (Faults of a filter)."""
+"""What is wrong with a filter of a script, as docs/reference/SCRIPT.md has it (Faults of a filter)."""
 from messages.script_lines import number_of
 
 MOST_INSTRUCTIONS, LAST_OFFSET, TRAP, ACTION = 4096, 60, 0x00030000, 0xFFFF0000

@@ -1,4 +1,4 @@
-"""Which limit of a script a line exceeds, as docs/FORMATS.md has them (Limits)."""
+"""Which limit of a script a line exceeds, as docs/reference/SCRIPT.md has them (Limits)."""
 from dataclasses import dataclass
 
 from messages.requests import is_request

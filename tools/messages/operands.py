@@ -1,4 +1,4 @@
-"""What is wrong with an operand of a script's line, and what would be right. Which reason an operand shows is as the program tells it (docs/FORMATS.md, Refusals of a script)."""
+"""What is wrong with an operand of a script's line, and what would be right. Which reason an operand shows is as the program tells it (docs/reference/SCRIPT.md, Refusals of a script)."""
 import errno
 import re
 

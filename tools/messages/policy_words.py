@@ -1,4 +1,4 @@
-"""The words of a policy, as docs/FORMATS.md has them: keys, calls, conditions, flags and errors."""
+"""The words of a policy, as docs/reference/POLICY.md has them: keys, calls, conditions, flags and errors."""
 from dataclasses import dataclass
 
 from real_workloads.script_text import CALLS

@@ -1,4 +1,4 @@
-"""The lines of a script: their tokens with their places, the blocks that they make, and numbers, as docs/FORMATS.md has them."""
+"""The lines of a script: their tokens with their places, the blocks that they make, and numbers, as docs/reference/SCRIPT.md has them."""
 import re
 from dataclasses import dataclass, field
 from typing import Optional

@@ -1,4 +1,4 @@
-"""The lines of a script, as docs/FORMATS.md has them: for each word its part, its operands and an example."""
+"""The lines of a script, as docs/reference/SCRIPT.md has them: for each word its part, its operands and an example."""
 import re
 from dataclasses import dataclass
 

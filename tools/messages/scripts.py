@@ -7,7 +7,7 @@ from messages.findings import Text, advice, listed, meant, whole_file
 from messages.script_lines import FILTER, PROGRAM, SCHEDULE, SETTINGS, Line, LineFault, number_of, script_of, tokens_of
 
 FIRST_MAP = ((0x10000, 16),)
-# what is said where the place in the line can't be told, by the reason that the program names (docs/FORMATS.md, Refusals of a script)
+# what is said where the place in the line can't be told, by the reason that the program names (docs/reference/SCRIPT.md, Refusals of a script)
 PLAIN = {
     "bad byte": "a byte stands here that is no blank and begins no token",
     "bad quote": "a quoted text isn't closed, has a byte or an escape that it may not have, or touches another token",

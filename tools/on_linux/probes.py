@@ -1,6 +1,6 @@
 """What no script can ask for: odd requests to a listener, odd addresses, and each code of a filter's instructions.
 
-What is expected is written down here, from docs/KERNEL.md and docs/FORMATS.md; of texts of filters the program is asked.
+What is expected is written down here, from docs/KERNEL.md and docs/reference; of texts of filters the program is asked.
 """
 import traceback
 from collections import Counter

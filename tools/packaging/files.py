@@ -1,6 +1,7 @@
 """The files that are installed, below a prefix: of the command, of the C library, and of its headers."""
 import json
 import os
+import re
 import subprocess
 import tempfile
 
@@ -15,6 +16,8 @@ SONAME = "libseccomp_broker.so.1"
 OF_COMMAND = {"command_line", "messages", "real_workloads", "pages", "explored.py", "container_tree.py"}
 # modules of the tools that only their tests use
 OF_TESTS = {"browser.py", "served.py", "made_reports.py", "over.py"}
+# a link of a document with its label and the path that it leads to
+LINK = re.compile(r"\[((?:[^\[\]]|\[[^\]]*\])*)\]\(([^()\s#:]+)(?:#[^()\s]*)?\)")
 # the lines by which the examples find the library in a checkout, and those by which they find an installed one
 INSTALLED = {
     "c/Makefile": [("# tools/make-c-library makes ../../dist. These two lines are all that linking takes.", "# These two lines are all that linking takes."),
@@ -99,8 +102,16 @@ def tools(python):
 
 
 def documents():
-    """README and docs/, with their links as they are."""
-    return {"README.md": read(f"{TOP}/README.md"), **below(files_below("docs"), "docs")}
+    """README and docs/ without the pages for developers; of a link to a file that isn't among them only the label is left."""
+    found = {"README.md": read(f"{TOP}/README.md"), **below(files_below("docs"), "docs")}
+    found = {name: entry for name, entry in found.items() if not name.startswith("docs/inside/")}
+    there = {os.path.dirname(name) for name in found} | set(found)
+    return {name: text(linked_among(there, name, entry.data.decode())) if name.endswith(".md") else entry for name, entry in found.items()}
+
+
+def linked_among(there, name, page):
+    """A page of that name without its links to files that aren't there."""
+    return LINK.sub(lambda link: link[0] if os.path.normpath(os.path.join(os.path.dirname(name), link[2])) in there else link[1], page)
 
 
 def command(made, python="/usr/bin/env python3"):

@@ -129,7 +129,7 @@ To prove it yourself you need a checkout of the commit, and the toolchain above,
     .ci/run             the gate: it proves everything, runs all tests, and tries wrong programs that the proofs must refuse
     ./broker --prove    proves and builds the program alone
 
-docs/PROOF.md of the checkout says what is proved, what is only tested, what is neither, and what is trusted.
+docs/inside/PROOF.md of the checkout says what is proved, what is only tested, what is neither, and what is trusted.
 """
 KINDS = {
     True: "The program in this package was proved and then built by the toolchain below, from the sources below.",

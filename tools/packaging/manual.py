@@ -70,7 +70,7 @@ def of_command(known, version, time):
         for entry in known["words"]:
             found += word(known, entry) if entry["kind"] == kind else []
     found += [".SH OPTIONS", *listed((texts.shown(it), it["help"]) for it in known["options"] if "only" not in it)]
-    statuses = roff.man(roff.section(document("docs/FORMATS.md"), "Exit statuses"), 2)
+    statuses = roff.man(roff.section(document("docs/reference/STATUSES.md"), "Exit statuses"), 2)
     found += [".SH EXIT STATUS", "A tool's statuses stand with it.", "Those of the program\\(aqs words are:", *statuses[1:]]
     return [*found, *see_also(known, COMMAND, 1)]
 

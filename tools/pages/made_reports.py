@@ -1,6 +1,6 @@
 """Makes reports of any size, and one with markup in its texts, for checks of the pages."""
 
-# what a worker does for a call, and what its audit says, by the five rows of the generated input of docs/FORMATS.md
+# what a worker does for a call, and what its audit says, by the five rows of the generated input of docs/inside/BYTES.md
 ROWS = (
     ("mknod", "65536 8630 259 0 0 0", 'act mknod "{path}" chr 1:3 ok', "0", "lxd.mknod.1:3", "grant"),
     ("mknod", "65536 8630 257 0 0 0", None, "EPERM", "no-mem", "deny"),

@@ -1,4 +1,4 @@
-"""Reads a report, line by line, as docs/FORMATS.md tells its form ("The report").
+"""Reads a report, line by line, as docs/reference/REPORT.md tells its form ("The report").
 
 What is read is the form alone: whether it is the report of a legal history is what audit-check tells.
 """

@@ -1,4 +1,4 @@
-"""Which rule of a policy decides each call of a file, and what the call misses of each rule before it, by what docs/FORMATS.md says (An explanation)."""
+"""Which rule of a policy decides each call of a file, and what the call misses of each rule before it, by what docs/reference/OUTPUTS.md says (An explanation)."""
 from messages.calls import BITS, fault_of
 from messages.policy_words import FLAGS
 from messages.script_lines import Line, number_of

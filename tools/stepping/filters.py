@@ -1,4 +1,4 @@
-"""What the filters of a script say of a call (docs/FORMATS.md, Filters)."""
+"""What the filters of a script say of a call (docs/reference/SCRIPT.md, Filters)."""
 from real_workloads.bpf import ALLOW, ERRNO, JUMPS, LOG, NOTIFY, TRACE, TRAP, X86_64, action
 
 WORD = 0xFFFFFFFF

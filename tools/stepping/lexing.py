@@ -1,4 +1,4 @@
-"""The tokens of a line, and numbers, as docs/FORMATS.md has them (Script lines and tokens)."""
+"""The tokens of a line, and numbers, as docs/reference/SCRIPT.md has them (Script lines and tokens)."""
 import re
 
 from messages.script_lines import Token

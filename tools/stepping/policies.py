@@ -1,4 +1,4 @@
-"""A policy's bytes, read whole: its rules in the order in which they are tried, or the first refusal (docs/FORMATS.md, Policy)."""
+"""A policy's bytes, read whole: its rules in the order in which they are tried, or the first refusal (docs/reference/POLICY.md, Policy)."""
 import errno
 import json
 import re

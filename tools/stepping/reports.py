@@ -1,4 +1,4 @@
-"""The report of a list of events (docs/FORMATS.md, The report): its journal, its calls, its audit and its summary."""
+"""The report of a list of events (docs/reference/REPORT.md, The report): its journal, its calls, its audit and its summary."""
 from dataclasses import dataclass, field
 from typing import Optional
 

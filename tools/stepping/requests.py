@@ -8,7 +8,7 @@ from stepping import lexing
 from stepping.lexing import LineFault
 from stepping.rules import Mknod, Mount, SetXattr
 
-# as docs/FORMATS.md has them, the first that is shown is told (Refusals of a script)
+# as docs/reference/SCRIPT.md has them, the first that is shown is told (Refusals of a script)
 REASONS = ("wrong count", "wrong form", "bad number", "out of range", "unknown name")
 LONGEST = 65_536
 # of so many lines with at most so many bytes is kept what they ask for

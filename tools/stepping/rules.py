@@ -1,4 +1,4 @@
-"""Which rule of a policy decides a request, and how far the copy of a call's arguments has come (docs/FORMATS.md, Policy and Audit)."""
+"""Which rule of a policy decides a request, and how far the copy of a call's arguments has come (docs/reference/POLICY.md, and REPORT.md, Audit)."""
 import errno
 from typing import NamedTuple, Optional
 

@@ -1,4 +1,4 @@
-"""A script's bytes, read whole: what the container is, what its tasks do and who steps, or the first line that is refused and why (docs/FORMATS.md, Script)."""
+"""A script's bytes, read whole: what the container is, what its tasks do and who steps, or the first line that is refused and why (docs/reference/SCRIPT.md, Script)."""
 from collections import namedtuple
 from dataclasses import dataclass, field
 

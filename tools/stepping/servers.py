@@ -1,4 +1,4 @@
-"""This project's own workers: what each does next, by the policy and by what it has done for its notification (docs/KERNEL.md, docs/FORMATS.md)."""
+"""This project's own workers: what each does next, by the policy and by what it has done for its notification (docs/KERNEL.md, docs/reference)."""
 from collections import Counter
 
 from stepping.facts import CONTINUE, O_CLOEXEC, SEND, SETFD, Addfd, Fail
