@@ -23,42 +23,44 @@ ERRORS = ("EPERM", "ENOENT", "ESRCH", "EINTR", "E2BIG", "EBADF", "ECHILD", "EAGA
 
 @dataclass(frozen=True)
 class Condition:
-    """For which calls a condition is, and what its value has to be."""
+    """For which calls a condition is, what its value has to be, and when a call meets it."""
 
     calls: tuple
     value: str
+    meaning: str
     profile: bool = False
 
 
 PATH_CALLS = ("mknod", "mknodat", "openat", "setxattr", "mount")
 NODE_CALLS = ("mknod", "mknodat")
 CONDITIONS = {
-    "path": Condition(PATH_CALLS, 'a text, as `"/dev/null"`'),
-    "under": Condition(PATH_CALLS, 'a text that begins with `/` and doesn\'t end with one, as `"/run"`'),
-    "kind": Condition(NODE_CALLS, 'one of `"reg"`, `"chr"`, `"blk"`, `"fifo"` and `"sock"`'),
-    "dev": Condition(NODE_CALLS, '`"MAJOR:MINOR"`, decimal without leading zeros, up to 4095 and 1048575, as `"1:3"`'),
-    "fstype": Condition(("mount",), 'a text, as `"ext4"`'),
-    "source": Condition(("mount",), 'a text, as `"/dev/sda1"`'),
-    "name": Condition(("setxattr",), 'a text, as `"user.origin"`'),
-    "value": Condition(("setxattr",), 'a text, as `"y"`', True),
-    "dirfd": Condition(("mknod", "mknodat", "openat"), "a whole number from 0 to 2147483647, or -100 (AT_FDCWD)", True),
-    "flags": Condition(("mount", "setxattr"), 'an object, as `{"all": ["RDONLY"], "none": ["NOEXEC"]}`', True),
+    "path": Condition(PATH_CALLS, 'a text, as `"/dev/null"`', "the path is this text; of mount, the target"),
+    "under": Condition(PATH_CALLS, 'a text that begins with `/` and doesn\'t end with one, as `"/run"`', "the path begins with this text and a slash, and has no component `..`"),
+    "kind": Condition(NODE_CALLS, 'one of `"reg"`, `"chr"`, `"blk"`, `"fifo"` and `"sock"`', "the node is of this kind"),
+    "dev": Condition(NODE_CALLS, '`"MAJOR:MINOR"`, decimal without leading zeros, up to 4095 and 1048575, as `"1:3"`', "the node is a device with these numbers"),
+    "fstype": Condition(("mount",), 'a text, as `"ext4"`', "the type is this text"),
+    "source": Condition(("mount",), 'a text, as `"/dev/sda1"`', "the source is this text"),
+    "name": Condition(("setxattr",), 'a text, as `"user.origin"`', "the attribute's name is this text"),
+    "value": Condition(("setxattr",), 'a text, as `"y"`', "the attribute's value has exactly the bytes of this text", True),
+    "dirfd": Condition(("mknod", "mknodat", "openat"), "a whole number from 0 to 2147483647, or -100 (AT_FDCWD)", "the directory descriptor is this number; of mknod it is always -100", True),
+    "flags": Condition(("mount", "setxattr"), 'an object, as `{"all": ["RDONLY"], "none": ["NOEXEC"]}`', "each flag of `all` is set, and none of `none`", True),
 }
 
 
 @dataclass(frozen=True)
 class Answer:
-    """For which calls an answer is, and how it is written."""
+    """For which calls an answer is, how it is written, and what a worker does."""
 
     calls: tuple
     form: str
+    meaning: str
 
 
 ANSWERS = {
-    "grant": Answer(("mknod", "mknodat", "mount", "setxattr", "sysinfo"), '`"grant"`'),
-    "pass": Answer(tuple(CALLS), '`"pass"`'),
-    "deny": Answer(tuple(CALLS), '`{"deny": "EPERM"}`'),
-    "inject": Answer(("openat",), '`{"inject": N}`, maybe with `"at": M`'),
+    "grant": Answer(("mknod", "mknodat", "mount", "setxattr", "sysinfo"), '`"grant"`', "The worker does it in the container's tree, and answers with the result."),
+    "pass": Answer(tuple(CALLS), '`"pass"`', "The worker answers CONTINUE: the kernel runs the call, without the broker's rights."),
+    "deny": Answer(tuple(CALLS), '`{"deny": "EPERM"}`', "The worker answers with this error."),
+    "inject": Answer(("openat",), '`{"inject": N}`, maybe with `"at": M`', "The worker puts its descriptor N into the caller, at the lowest free number or at M; both are up to 4,294,967,295."),
 }
 ANSWER_KEYS = ("at", "deny", "inject")
 # words of others for an answer

@@ -119,8 +119,8 @@ def man(lines, top):
 
 
 def section(document, heading):
-    """The lines of a document from a heading of the second level to the next one."""
-    lines = document.split("\n")
+    """The lines of a document from a heading of the second level to the next one, without comments."""
+    lines = [line for line in document.split("\n") if not line.startswith("<!-- ")]
     begin = lines.index(f"## {heading}")
     fenced = False
     for at in range(begin + 1, len(lines)):

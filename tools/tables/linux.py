@@ -1,21 +1,9 @@
-#!/usr/bin/env python3
-"""Writes the tables of docs/LINUX.md from the known differences in tools/on_linux/differences.json.
-
-    tools/linux-table           writes them, between the page's two marks
-    tools/linux-table --check   says where the page has others, or a row names a case that isn't there
-
-Exit status: 0 where the page has the tables, 1 where it doesn't, or a row is at fault.
-"""
-import sys
+"""The differences from Linux, as LINUX has them: of the known differences that `on-linux` reads."""
 from pathlib import Path
 
-sys.dont_write_bytecode = True
+from on_linux import differences
+from tables.page import TOP
 
-from on_linux import differences  # noqa: E402
-
-TOP = Path(__file__).resolve().parent.parent
-PAGE = TOP / "docs/LINUX.md"
-BEGIN, END = "<!-- from tools/on_linux/differences.json, by tools/linux-table -->\n", "<!-- end of the tables -->\n"
 HEAD = "| difference | Linux | here | why | for a test | seen in |\n|---|---|---|---|---|---|\n"
 KEYS = {"name", "misleads", "what", "linux", "here", "why", "test", "seen", "stored", "shown", "case"}
 
@@ -28,7 +16,7 @@ def seen_in(row):
     return f"{place}; [{kind}](../{row['case']})" if row["case"] else place
 
 
-def table(kind):
+def of_kind(kind):
     lines = []
     for row in differences.of_kind(kind):
         columns = [f"**{row['name']}** {row['what']}", row["linux"], row["here"], row["why"], row["test"], seen_in(row)]
@@ -37,7 +25,7 @@ def table(kind):
 
 
 def tables():
-    return "\n".join(table(kind) for kind in differences.KINDS)
+    return "\n".join(of_kind(kind) for kind in differences.KINDS)
 
 
 def faults():
@@ -48,20 +36,3 @@ def faults():
     found += [f"{row['name']}: {row['case']} isn't there" for row in rows if row.get("case") and not (TOP / row["case"]).is_dir()]
     found += ["two rows have one name"] if len({row.get("name") for row in rows}) != len(rows) else []
     return found
-
-
-def main(check):
-    head, begin, rest = PAGE.read_text().partition(BEGIN)
-    _, end, tail = rest.partition(END)
-    found = faults() or ([] if begin and end else [f"{PAGE.name} has no place for the tables"])
-    page = f"{head}{BEGIN}\n{'' if found else tables()}\n{END}{tail}"
-    if not found and page != PAGE.read_text():
-        if check:
-            found = [f"{PAGE.name} has other tables: run tools/linux-table"]
-        else:
-            PAGE.write_text(page)
-    print("".join(f"linux-table: {text}\n" for text in found), end="", file=sys.stderr)
-    return 1 if found else 0
-
-
-sys.exit(main(sys.argv[1:] == ["--check"]))
