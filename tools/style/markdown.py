@@ -11,7 +11,7 @@ LINK = re.compile(r"\[((?:[^\[\]]|\[[^\]]*\])*)\]\([^)]*\)")
 CODE = re.compile(r"(`+)(?!`).+?(?<!`)\1(?!`)", re.S)
 COMMENT = re.compile(r"<!--.*?-->", re.S)
 # a sentence ends at a full stop, before a blank and a word that begins one
-END_OF_SENTENCE = re.compile(r"(?<=[^.][.!?])[\"')*]*\s+(?=[\"'(*\[]*[A-Z`])")
+END_OF_SENTENCE = re.compile(r"(?<=[^.][.!?])[\"')*]*\s+(?=[\"'*\[]*[A-Z`]|\([A-Z])")
 
 
 class Text(NamedTuple):
