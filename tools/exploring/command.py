@@ -9,6 +9,7 @@ from exploring import telling
 from exploring.exploration import Explored, explore
 from exploring.instances import Door, ProcessInstance, Shim
 from exploring.passing import Listening
+from exploring.preloading import why_not
 from exploring.runs import SEATS, Files, Setting
 from judging.command import Ended, Words, read_files
 
@@ -16,6 +17,7 @@ FOUND, UNDECIDED, WRITE_FAULT, INTERRUPTED = 11, 12, 6, 130
 NO_PROGRAM = 7
 MOST_DELAYS, MOST_JOBS, MOST_PATIENCE = 8, 64, 86_400
 PATIENCE = 10
+UNGUARDED = "explore-broker: without --shim the broker's own calls reach this machine; only its client's are answered"
 
 
 def number(least, most):
@@ -78,6 +80,16 @@ class Progress:
             print("\r\x1b[K", end="", file=sys.stderr, flush=True)
 
 
+def test_command(asked):
+    """Tells that a broker's own calls reach the machine, or refuses one that no library can be preloaded into. Raises Ended."""
+    if asked.shim is None:
+        print(UNGUARDED, file=sys.stderr)
+        return
+    wrong = why_not(asked.command)
+    if wrong is not None:
+        raise Ended(UNDECIDED, f"explore-broker: --shim: {wrong}")
+
+
 def setting_of(asked, room):
     """What all runs have in common. Raises Ended."""
     files = Files(asked.policy, asked.script, *read_files(asked.policy, asked.script))
@@ -106,6 +118,7 @@ def status_of(explored):
 
 def run(words):
     asked, progress = words_of(words), Progress()
+    test_command(asked)
     with tempfile.TemporaryDirectory(prefix="explore-broker-") as room:
         setting, status = setting_of(asked, room), None
         try:
