@@ -1,5 +1,6 @@
 //! The top call over files and sinks in memory, where a call of the files or a write fails.
 
+use crate::inputs::MAKES_NODES;
 use crate::top_call::{Given, run, sound};
 use broker_app::status::{InputFile, Refusal, Status};
 use crew::OpenGate;
@@ -8,8 +9,6 @@ use std::process::Abort;
 use std::sync::Wait;
 use std::test::Fail;
 use std::thread::Threads;
-
-const POLICY: &str = "{\"config\":{\"security.syscalls.intercept.mknod\":\"true\"}}";
 
 const SCRIPT: &str =
     "notify mknod\nprog main\npoke 0x10000 \"/null\\0\"\ncall mknod 0x10000 0o020666 259\nend\nschedule\nt 0 2\nw 0 9\nt 0 2\nend\n";
@@ -115,7 +114,7 @@ fn names_the_file_that_a_call_failed_on(rt: HostRuntime) -> Result<(), Fail> {
         };
         let play = Given {
             failing_call,
-            ..sound(&PLAY, POLICY, SCRIPT)
+            ..sound(&PLAY, MAKES_NODES, SCRIPT)
         };
         check(&rt, rt.alloc(), play, want)?;
     }
@@ -129,7 +128,7 @@ fn leaves_the_lines_before_a_write_that_fails(rt: HostRuntime) -> Result<(), Fai
     for place in 0..REPORT.len() {
         let play = Given {
             failing_write: place as u64 + 1,
-            ..sound(&PLAY, POLICY, SCRIPT)
+            ..sound(&PLAY, MAKES_NODES, SCRIPT)
         };
         check(&rt, alloc, play, write_fault(before.as_str()))?;
         before.push_str(REPORT[place])?;
@@ -137,14 +136,14 @@ fn leaves_the_lines_before_a_write_that_fails(rt: HostRuntime) -> Result<(), Fai
     check(
         &rt,
         alloc,
-        sound(&PLAY, POLICY, SCRIPT),
+        sound(&PLAY, MAKES_NODES, SCRIPT),
         done(before.as_str()),
     )
 }
 
 #[test]
 fn prints_the_summary_of_generated_input(rt: HostRuntime) -> Result<(), Fail> {
-    let stress = sound(&STRESS, POLICY, SCRIPT);
+    let stress = sound(&STRESS, MAKES_NODES, SCRIPT);
     check(&rt, rt.alloc(), stress, done(SUMMARY))?;
     let stress = Given {
         failing_write: 1,
@@ -159,8 +158,8 @@ const UNKNOWN_ERROR: &str =
 
 /// What is refused: the names of the files, the policy and the script, with the code of the status and the line.
 const REFUSALS: [([&'static str; 2], [&'static str; 2], u8, &'static str); 7] = [
-    (["x", "s"], [POLICY, SCRIPT], 2, "read fault: policy\n"),
-    (["p", "x"], [POLICY, SCRIPT], 2, "read fault: script\n"),
+    (["x", "s"], [MAKES_NODES, SCRIPT], 2, "read fault: policy\n"),
+    (["p", "x"], [MAKES_NODES, SCRIPT], 2, "read fault: script\n"),
     (
         ["p", "s"],
         ["{\"rules\":[", SCRIPT],
@@ -181,11 +180,16 @@ const REFUSALS: [([&'static str; 2], [&'static str; 2], u8, &'static str); 7] = 
     ),
     (
         ["p", "s"],
-        [POLICY, "pidmax 12x\n"],
+        [MAKES_NODES, "pidmax 12x\n"],
         5,
         "script: line 1: bad number\n",
     ),
-    (["p", "s"], [POLICY, ""], 5, "script: line 0: no program\n"),
+    (
+        ["p", "s"],
+        [MAKES_NODES, ""],
+        5,
+        "script: line 0: no program\n",
+    ),
 ];
 
 /// Sees that the status stays where each write to `err` in turn fails, and that `err` took a part of the line from its beginning.
@@ -222,12 +226,12 @@ fn keeps_its_status_where_standard_error_fails(rt: HostRuntime) -> Result<(), Fa
 fn keeps_its_status_where_all_fails(rt: HostRuntime) -> Result<(), Fail> {
     let unread = Given {
         failing_call: 2,
-        ..sound(&PLAY, POLICY, SCRIPT)
+        ..sound(&PLAY, MAKES_NODES, SCRIPT)
     };
     keeps_its_status(&rt, rt.alloc(), unread, 2, "read fault: policy\n")?;
     let unwritten = Given {
         failing_write: 3,
-        ..sound(&PLAY, POLICY, SCRIPT)
+        ..sound(&PLAY, MAKES_NODES, SCRIPT)
     };
     keeps_its_status(&rt, rt.alloc(), unwritten, 6, "write fault\n")
 }

@@ -1,6 +1,8 @@
 //! The top call with threads, under a gate that holds one notification until another one was answered.
 
+use crate::inputs::{MAKES_NODES, TWO_NODES};
 use crate::top_call::{run, sound};
+use crate::waiting::wait_for;
 use broker_app::status::Status;
 use crew::{Gate, OpenGate, Point};
 use std::alloc::Global;
@@ -10,19 +12,10 @@ use std::sync::atomic::{AtomicU64, Ordering};
 use std::test::Fail;
 use std::thread::Threads;
 
-const POLICY: &str = "{\"config\":{\"security.syscalls.intercept.mknod\":\"true\"}}";
-
-/// Two tasks, each of which makes a node.
-const TWO_TASKS: &str =
-    "notify mknod\nprog a\npoke 0x10000 \"/a\\0\"\ncall mknod 0x10000 0o020666 259\nend\nprog b\npoke 0x10000 \"/b\\0\"\ncall mknod 0x10000 0o020666 259\nend\nprog main\nspawn a\nspawn b\nwait\nwait\nend\n";
-
 /// The summary of each history of theirs, worked out by hand: a start, two spawns, two waits and an end of the first task; of each
 /// other one a store, a call, nine steps of its worker, a return and an end; and the close.
 const SUMMARY: &[u8] =
     b"\nsummary events=33 calls=2 notified=2 answered=2 granted=2 denied=0 passed=0 injected=0 faults=0 gone=0 lost=0\n";
-
-/// How often the gate looks whether the other call was answered, before it gives up.
-const LOOKS: u64 = 4_000_000_000;
 
 /// Holds the worker of the call that was received first where the second check found it valid, until the other call was answered.
 #[derive(Drop)]
@@ -43,16 +36,6 @@ impl HoldFirst {
             gave_up: AtomicU64::new(0),
         }
     }
-
-    /// Waits until the other call was answered.
-    fn hold(&self) {
-        for _ in 0..LOOKS {
-            if self.answered.load(Ordering::SeqCst) != 0 {
-                return;
-            }
-        }
-        self.gave_up.fetch_add(1, Ordering::SeqCst);
-    }
 }
 
 impl Gate for HoldFirst {
@@ -65,7 +48,7 @@ impl Gate for HoldFirst {
             }
             Point::Checked => {
                 if self.first.load(Ordering::SeqCst) == id {
-                    self.hold();
+                    wait_for(&self.answered, 1, &self.gave_up);
                 }
             }
             Point::Sent => {
@@ -86,7 +69,7 @@ fn run_two<R: Abort + Threads + Wait + Sync, G: Gate + Sync>(
     gate: &G,
 ) -> Result<(), Fail> {
     let words = ["run", "p", "s", workers, cpus];
-    let answer = run(rt, alloc, sound(&words, POLICY, TWO_TASKS), gate)?;
+    let answer = run(rt, alloc, sound(&words, MAKES_NODES, TWO_NODES), gate)?;
     assert_eq!(rt; answer.status, Status::Done);
     assert!(rt; answer.out.taken().ends_with(SUMMARY));
     Ok(())
@@ -110,7 +93,7 @@ fn replace_all<R: Abort + Threads + Wait + Sync, G: Gate + Sync>(
     words: &[&'static str],
     gate: &G,
 ) -> Result<(), Fail> {
-    let answer = run(rt, alloc, sound(words, POLICY, TWO_TASKS), gate)?;
+    let answer = run(rt, alloc, sound(words, MAKES_NODES, TWO_NODES), gate)?;
     assert_eq!(rt; answer.status, Status::Done);
     let mut lines = answer.out.taken().split(|byte| *byte == b'\n');
     assert!(rt; lines.any(|line| line == EACH_STEP));

@@ -1,12 +1,17 @@
 //! Trials of the crates at the bottom: the numbers and structures of the system call interface, counts, sorted lists, files and
-//! sinks.
+//! sinks, and the listener's lock.
 //!
 //! A case has its expected value from outside: the manual pages and the kernel's headers. So a trial fails where a table
 //! or a definition that the code is proved to meet doesn't say what was meant, and it shows what no clause says: texts that
-//! are printed, files of the machine, faults of files, and that an answer comes, and not want of memory alone. There is no
-//! code but tests, and no model: what is tried stands in the definitions of each crate.
+//! are printed, files of the machine, faults of files, and that an answer comes, and not want of memory alone.
 //!
-//! Below stand `sys_abi`, `long_count`, `sorted_list` and `io_edge`, which the trials call; nothing stands above.
+//! Callers of the lock, on one thread, on two and on sixteen (`turns`), each have a contract that says what they find, proved
+//! from the contracts of `turn_lock` alone: so what the lock promises is enough for a caller. That threads run, wait and
+//! end is what no clause says, and that each place of the history is one caller's is counted. There is no code but
+//! tests, and no model: what is tried stands in the definitions of each crate.
+//!
+//! Below stand `sys_abi`, `long_count`, `sorted_list`, `io_edge` and the lock (`turn_lock`), which the trials call, with the
+//! plain types of `hist_model` and the reader of the policy that a lock's states have (`policy_reader`); nothing stands above.
 #![tactic(auto)]
 
 #[cfg(test)]
@@ -17,3 +22,5 @@ mod counts;
 mod edge;
 #[cfg(test)]
 mod lists;
+#[cfg(test)]
+mod turns;

@@ -1,5 +1,0 @@
-use Rattle.std.proofs.Common.{ap, ◌∙◌, [], ◌∷◌}
-use Rattle.trials_lock.proofs.turns.put.Goals as goal
-
-pub returns-clause-begins : goal.returns-clause-begins
-returns-clause-begins c = (c.skip.result ∷ [], c.push.ensures.events ∙ ap (λ h. c.skip.result ∷ h) c.ready.ensures.kept)

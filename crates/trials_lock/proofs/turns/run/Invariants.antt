@@ -1,5 +1,0 @@
-use Rattle.turn_lock.specs.Facts.{IsPassOf}
-use Rattle.trials_lock.proofs.turns.run.Given as goal
-
-abbrev pub invariant-loop : goal.invariant-loop
-invariant-loop g l = IsPassOf l.lock l.pass
