@@ -41,17 +41,20 @@ def documents():
 
 
 def program():
-    """The path of the program: the installed one, or in a checkout what tools/program answers. None where it can't be had, and an empty text
+    """The path of the program: the installed one, or in a checkout the one of checkout.py. None where it can't be had, and an empty text
     where a trial build can only be made for each run."""
     known = about()
     if known is not None:
         if not known["proved"]:
             print(NOT_PROVED, file=sys.stderr, flush=True)
         return f"{HOME}/seccomp_broker"
-    # (an installed command needs no other one, and begins sooner without it)
-    import subprocess
-    found = subprocess.run([f"{HOME}/tools/program"], stdout=subprocess.PIPE)
-    return os.fsdecode(found.stdout).rstrip("\n") if found.returncode == 0 else "" if found.returncode == 1 else None
+    # (an installed command doesn't need these, and begins sooner without them)
+    from command_line import checkout, trial
+    try:
+        return checkout.program()
+    except (trial.NotKept, trial.NotMade) as fault:
+        trial.say(fault)
+        return "" if isinstance(fault, trial.NotKept) else None
 
 
 def runnable():
@@ -72,10 +75,10 @@ def said_by(*words):
 
 def state_of_checkout():
     """Whether the program that a checkout runs is proved, as a text."""
-    proved = f"{HOME}/crates/seccomp_broker/out/seccomp_broker"
-    if not os.access(proved, os.X_OK):
+    from command_line import checkout
+    if not os.access(checkout.PROVED, os.X_OK):
         return "no: ./broker runs a trial build; ./broker --prove proves and builds the program"
-    return "yes" if said_by(f"{HOME}/tools/program") == proved else "no: a source is newer than the proved program, so ./broker runs a trial build"
+    return "yes" if checkout.is_proved() else "no: a source is newer than the proved program, so ./broker runs a trial build"
 
 
 def version_lines():

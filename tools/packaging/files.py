@@ -14,8 +14,8 @@ HOME, SHARE = "lib/seccomp-broker", "share/seccomp-broker"
 SONAME = "libseccomp_broker.so.1"
 # modules of the command itself
 OF_COMMAND = {"command_line", "messages", "real_workloads", "pages", "explored.py", "container_tree.py"}
-# modules of the tools that only their tests use
-OF_TESTS = {"browser.py", "served.py", "made_reports.py", "over.py"}
+# modules of the tools that only their tests use, or only a checkout
+OF_TESTS = {"browser.py", "served.py", "made_reports.py", "over.py", "checkout.py", "trial.py", "optimising.py"}
 # a link of a document with its label and the path that it leads to
 LINK = re.compile(r"\[((?:[^\[\]]|\[[^\]]*\])*)\]\(([^()\s#:]+)(?:#[^()\s]*)?\)")
 # the lines by which the examples find the library in a checkout, and those by which they find an installed one

@@ -5,10 +5,9 @@ import shutil
 import subprocess
 from typing import NamedTuple
 
-from command_line import place, sources
+from command_line import checkout, place, sources
 
 TOP = place.HOME
-PROVED = f"{TOP}/crates/seccomp_broker/out/seccomp_broker"
 ARCHIVE = f"{TOP}/crates/broker_c/out/libbroker_c.a"
 # what .ci/run keeps of the gate: the checksum of the sources, and the gate's closing lines
 GATE = f"{TOP}/packages/gate.txt"
@@ -55,20 +54,14 @@ def program_of_sources():
     path = place.said_by(f"{TOP}/tools/program")
     if path is None:
         raise NotMade("there is no program to package: see what tools/program says")
-    if path != PROVED and os.path.exists(f"{os.path.dirname(path)}/about.json"):
+    if path != checkout.PROVED and os.path.exists(f"{os.path.dirname(path)}/about.json"):
         raise NotMade("the toolchain isn't here, so there is no program but the installed one")
-    return path, path == PROVED
-
-
-def is_newer_source(path):
-    """Whether a source was changed after the file."""
-    made = os.path.getmtime(path)
-    return any(os.path.getmtime(f"{TOP}/{name}") > made for name in sources.files(TOP) if name.endswith((".rt", ".antt")) or name == "crates.txt")
+    return path, path == checkout.PROVED
 
 
 def library():
     """The folder with the C library, where its proved archive is there and no source is newer; else None."""
-    if not os.path.isfile(ARCHIVE) or is_newer_source(ARCHIVE) or any(shutil.which(it) is None for it in ("rt", "cc", "ar")):
+    if not os.path.isfile(ARCHIVE) or checkout.is_newer_source(ARCHIVE) or any(shutil.which(it) is None for it in ("rt", "cc", "ar")):
         return None
     ended = subprocess.run([f"{TOP}/tools/make-c-library"], stdin=subprocess.DEVNULL)
     if ended.returncode != 0:
