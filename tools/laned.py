@@ -10,6 +10,10 @@ Exit status: 0 where all are laned, 1 where one isn't, 2 where one can't be read
 import sys
 from pathlib import Path
 
+sys.dont_write_bytecode = True
+from command_line import ending  # noqa: E402
+from command_line.arguments import ToolParser  # noqa: E402
+
 LANES = {name: name for name in (b"mknod", b"mount", b"setxattr", b"sysinfo", b"openat")} | {b"mknodat": b"mknod"}
 SEATS = [b"w%d" % seat for seat in range(16)]
 
@@ -45,11 +49,12 @@ def first_fault(report):
     return None
 
 
-def main(*reports):
-    if not reports:
-        sys.exit(__doc__)
+def main():
+    parser = ToolParser()
+    parser.add_argument("reports", metavar="REPORT", nargs="+")
+    asked = parser.parse_args()
     found = 0
-    for path in reports:
+    for path in asked.reports:
         try:
             fault = first_fault(Path(path).read_bytes())
         except (OSError, ValueError, IndexError, KeyError) as error:
@@ -61,4 +66,4 @@ def main(*reports):
 
 
 if __name__ == "__main__":
-    sys.exit(main(*sys.argv[1:]))
+    ending.run(main)

@@ -95,11 +95,7 @@ def interrupted(found, progress, delays):
         speaking.say([f"broker: interrupted after {progress.seconds} s; no smaller bound than what was asked for had ended"])
         return INTERRUPTED
     speaking.say([f"broker: interrupted after {progress.seconds} s, before {asked} had ended; what is printed is bound {found.bound}, the greatest that had"])
-    try:
-        sys.stdout.buffer.write(found.output)
-        sys.stdout.flush()
-    except OSError:
-        os.dup2(os.open(os.devnull, os.O_WRONLY), sys.stdout.fileno())
+    sys.stdout.buffer.write(found.output)
     return INTERRUPTED
 
 

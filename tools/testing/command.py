@@ -144,9 +144,6 @@ def main():
     except asking.NotAsked as fault:
         print(f"test: {fault}", file=sys.stderr)
         return NOT_UNDERSTOOD
-    except BrokenPipeError:
-        os.dup2(os.open(os.devnull, os.O_WRONLY), sys.stdout.fileno())
-        return INTERRUPTED
     except OSError as fault:
         print(f"test: {fault.filename}: {fault.strerror}", file=sys.stderr)
         return NOT_UNDERSTOOD
