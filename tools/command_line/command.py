@@ -8,6 +8,8 @@ from command_line import place, table
 
 WRONG_WORDS = 1
 HELP_OPTIONS = ("--help", "-h")
+# where this is 1, the program's own line is all that is said of a refusal
+PLAIN = "SECCOMP_BROKER_PLAIN"
 
 
 def run(path, words):
@@ -22,20 +24,21 @@ def run(path, words):
 
 
 def run_program(known, entry, operands, runnable):
-    """Runs a word of the program. What it refuses is explained on a terminal, and where that is asked for."""
-    asked = known["explain"] in table.options(known, entry) and operands[:1] == known["explain"]["names"]
-    operands = operands[1:] if asked else operands
+    """Runs a word of the program. What it refuses is explained, unless its own line alone is asked for."""
+    options = table.options(known, entry)
+    asked, is_plain = (known[name] in options and operands[:1] == known[name]["names"] for name in ("explain", "plain"))
+    operands = operands[1:] if asked or is_plain else operands
     path = runnable()
     if path is None:
         return WRONG_WORDS
-    is_terminal = os.isatty(sys.stderr.fileno())
-    if not asked and not is_terminal:
+    if is_plain or known["explain"] not in options or os.environ.get(PLAIN) == "1" and not asked:
         return run(path, [path, entry["word"], *operands])
-    # (what most calls don't need isn't read for them)
-    from command_line import exploring
+    # (what other calls don't need isn't read for them)
     from messages import running
-    runs = exploring.run if is_terminal and entry["word"] == "explore" and operands else running.run
-    return runs(path, entry, operands, place.command(), asked)
+    if entry["word"] == "explore" and operands and os.isatty(sys.stderr.fileno()):
+        from command_line import exploring
+        return exploring.run(path, entry, operands, place.command(), asked)
+    return running.run(path, entry, operands, place.command(), asked)
 
 
 def run_tool(word, words):
@@ -49,11 +52,7 @@ def run_tool(word, words):
 
 
 def show(text):
-    try:
-        sys.stdout.write(text)
-        sys.stdout.flush()
-    except BrokenPipeError:
-        os.dup2(os.open(os.devnull, os.O_WRONLY), sys.stdout.fileno())
+    sys.stdout.write(text)
     return 0
 
 
@@ -65,13 +64,12 @@ def list_of(known):
 def unknown(known, word):
     command, is_checkout = place.command(), place.about() is None
     options = [name for it in known["options"] if is_checkout or "only" not in it for name in it["names"]]
-    near = table.nearest(word, options if word.startswith("-") else table.names(known))
-    what = f"there is no word {word!r}; the nearest one is {near!r}"
-    if word in known["explain"]["names"]:
+    what = f"there is no word {word!r}{table.meant(word, options if word.startswith('-') else table.names(known))}"
+    if word in known["explain"]["names"] + known["plain"]["names"]:
         what = f"{word} comes after a word, as in {command} play {word} POLICY SCRIPT"
     elif os.path.isfile(word):
         what = f"{word!r} is a file, and a word stands before it, as in {command} play POLICY SCRIPT"
-    print(f"broker: {what}, and {command} help lists them all", file=sys.stderr)
+    print(f"broker: {what}\nhelp: `{command} help` lists all words", file=sys.stderr)
     return WRONG_WORDS
 
 

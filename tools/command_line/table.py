@@ -18,9 +18,9 @@ def entry(table, word):
 
 
 def options(table, entry):
-    """The options of a word: its own, and for those words of the program that read files the one that explains a refusal."""
-    explains = entry["kind"] == "program" and any(it["takes"] == "file" for it in entry["operands"])
-    return [table["explain"]] * explains + entry.get("options", [])
+    """The options of a word: its own, and for those words of the program that read files the two that say how much is said of a refusal."""
+    reads = entry["kind"] == "program" and any(it["takes"] == "file" for it in entry["operands"])
+    return [table["explain"], table["plain"]] * reads + entry.get("options", [])
 
 
 def names(table):
@@ -41,6 +41,18 @@ def distance(one, other):
     return rows[-1][-1]
 
 
-def nearest(word, known):
-    """The known word that is nearest: the one that begins so, or the one with the fewest letters to change."""
-    return min(known, key=lambda it: (not (word and it.startswith(word)), distance(word, it)))
+def near(word, known):
+    """The known word that is so near to another one that it may have been meant, whatever the case of its letters; None where none is."""
+    folded = {it.lower(): it for it in known}
+    if not folded or not word:
+        return None
+    word = word.lower()
+    found = min(folded, key=lambda it: (not it.startswith(word), distance(word, it)))
+    begins = len(word) > 2 and found.startswith(word)
+    return folded[found] if begins or distance(word, found) <= min(3, max(1, len(word) // 3)) else None
+
+
+def meant(word, known):
+    """What is said of the known word that is near, if one is."""
+    found = near(word, known)
+    return f"; did you mean {found!r}?" if found else ""

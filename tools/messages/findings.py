@@ -4,8 +4,8 @@ import unicodedata
 from bisect import bisect_right
 from dataclasses import dataclass
 
-from command_line import table
 from command_line.pages import WIDTH
+from command_line.table import near
 
 INDENT = "    "
 # how much of a long line is shown before and behind the place
@@ -110,16 +110,6 @@ def message(finding, path, text, kind=""):
     if finding.line and finding.line <= len(text.lines):
         lines += excerpt(text.line(finding.line), finding.start, finding.length)
     return lines + (filled("help: ", shown(finding.cure)) if finding.cure else [])
-
-
-def near(word, known):
-    """The known word that is so near to another one that it may have been meant, whatever the case of its letters; None where none is."""
-    folded = {it.lower(): it for it in known}
-    if not folded or not word:
-        return None
-    found = table.nearest(word.lower(), folded)
-    begins = len(word) > 2 and found.startswith(word.lower())
-    return folded[found] if begins or table.distance(word.lower(), found) <= min(3, max(1, len(word) // 3)) else None
 
 
 def meant(word, known):

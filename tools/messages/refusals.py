@@ -15,7 +15,7 @@ POLICY, CLAIMS = re.compile(r"(policy|new policy): (.*)", re.S), re.compile(r"cl
 SCRIPT, CONTAINER = re.compile(r"script: line (\d+): (.*)"), re.compile(r"container (\d): (.*)", re.S)
 REQUESTS = re.compile(r"script: requests in the schedule")
 CALLS, REPORT, USAGE = re.compile(r"calls: line (\d+): (.*)"), re.compile(r"report: line (\d+)"), re.compile(r"usage: .*")
-OPTIONS = ("--explain", "--help", "-h")
+OPTIONS = ("--explain", "--plain", "--help", "-h")
 LIMITS = {"policy": 1_048_576, "new policy": 1_048_576, "claims": 1_048_576, "script": 8_388_608, "calls": 8_388_608, "report": 33_554_432}
 CALLED = {"new policy": "a policy", "calls": "a file of calls", "claims": "a file of claims"}
 # what the program calls the files of operands with other names
@@ -91,31 +91,34 @@ def wrong_operand(item, given=None):
     return f"{item.get('name') or item['value']} is a number from {item['from']} to {item['to']}{also}, and not {shown(given)}"
 
 
+def counted(number, what):
+    return f"{number} {what}{'' if number == 1 else 's'}"
+
+
 def in_pairs(operands):
     """What is wrong with the files of a pod."""
-    return f"one to eight pairs of a policy and a script stand behind the two numbers, and these are {len(operands) - 2} files"
+    return f"one to eight pairs of a policy and a script stand behind the two numbers, not {counted(len(operands) - 2, 'file')}"
 
 
 def wrong_count(entry, operands, least):
-    wanted, there = len(entry["operands"]), len(operands)
-    return f"{entry['word']} takes {least}{wanted} words behind it, and {there} {'stands' if there == 1 else 'stand'} there"
+    return f"{entry['word']} needs {least}{counted(len(entry['operands']), 'argument')}, got {len(operands) or 'none'}"
 
 
 def usage(entry, operands, command):
-    """What is wrong with the words behind one of the program."""
-    form = f"{command} {entry['word']} {entry['forms'][0]}"
+    """The form of a word of the program, and what is wrong with those behind it."""
+    form = f"usage: {command} {entry['word']} {entry['forms'][0]}"
     items = entry["operands"]
     late = next((it for it in operands if it in OPTIONS), None)
     if late:
-        return [f"{late} stands first behind {entry['word']}", *filled("help: ", f"write `{command} {entry['word']} {late} ..`")]
+        return [form, f"{late} stands first behind {entry['word']}", *filled("help: ", f"write `{command} {entry['word']} {late} ..`")]
     operands, given = parted(entry, operands)
     wrong = next(filter(None, (wrong_operand(*pair) for pair in [*zip(items, operands), *given])), None)
     if wrong is None:
         repeats = items[-1].get("repeats")
         if len(operands) == len(items) and not repeats:
-            return []
+            return [form]
         wrong = in_pairs(operands) if repeats and len(operands) >= len(items) else wrong_count(entry, operands, "at least " if repeats else "")
-    return [wrong, *filled("help: ", f"it is `{form}`; `{command} help {entry['word']}` has its page")]
+    return [form, wrong, *filled("help: ", f"`{command} help {entry['word']}` has its page")]
 
 
 @dataclass

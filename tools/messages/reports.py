@@ -146,10 +146,18 @@ def ends_early(text, line):
     return None
 
 
+def has_other_line_ends(text, line):
+    """What is said of a line that ends as lines do on Windows."""
+    content = text.line(line)
+    if not content.endswith("\r"):
+        return None
+    return Finding("line-ends", line, len(content) - 1, 1, "this line ends with CR and LF", "a report's lines end with LF alone: `sed 's/\\r$//'`")
+
+
 def finding_of(program, files, data, line):
     """What is known of the line that the program named."""
     text = Text(data)
-    known = other_file(text, line) or ends_early(text, line)
+    known = has_other_line_ends(text, line) or other_file(text, line) or ends_early(text, line)
     if known:
         return known
     lines, content = text.lines[:-1], text.line(line)

@@ -4,12 +4,13 @@ import signal
 import subprocess
 import sys
 
+from command_line import children
 from messages import policies
 from messages.findings import Text, message
 from messages.refusals import Said, data_of, files_in, parted
 from messages.speaking import say
 
-OF_THE_COMMAND = b"broker: "
+OF_THE_COMMAND, OF_ALL_WORDS = b"broker: ", b"usage: "
 # the words that play a script's schedule
 SCHEDULED = ("play", "handover", "judge")
 # what is likely a mistake, but only where a schedule is played
@@ -17,11 +18,13 @@ OF_SCHEDULES = ("no-schedule", "task-never-comes", "task-never-steps", "no-worke
 
 
 def passed_on(process, before):
-    """Passes on what a process says on standard error, and calls `before` in front of each line; the last line that isn't the command's own."""
+    """Passes on what a process says on standard error, but for the forms of all words, and calls `before` in front of each line; the last line that isn't the command's own."""
     last = b""
     for line in process.stderr:
         last = last if line.startswith(OF_THE_COMMAND) else line
         before()
+        if line.startswith(OF_ALL_WORDS):
+            continue
         try:
             os.write(sys.stderr.fileno(), line)
         except OSError:
@@ -31,10 +34,14 @@ def passed_on(process, before):
 
 def run_beside(path, words, before=lambda: None):
     """Runs the program, whose output is this process's own. How it ended, and the last line that it said; `before` is called in front of each line."""
+    # (a background job of a shell inherits an ignored interrupt, and so does the program then)
+    passed = [number for number in (signal.SIGINT, signal.SIGTERM, signal.SIGHUP) if signal.getsignal(number) != signal.SIG_IGN]
     # no interrupt may end this process before the program, whose end is then this one's
-    signal.signal(signal.SIGINT, lambda *_: None)
-    with subprocess.Popen([path, *words], stderr=subprocess.PIPE) as process:
-        for number in (signal.SIGINT, signal.SIGTERM, signal.SIGHUP):
+    for number in passed:
+        signal.signal(number, lambda *_: None)
+    # (whoever kills the command means the program)
+    with subprocess.Popen([path, *words], stderr=subprocess.PIPE, preexec_fn=children.end_with_parent) as process:
+        for number in passed:
             signal.signal(number, lambda got, _: process.send_signal(got))
         said = passed_on(process, before)
         return process.wait(), said

@@ -12,7 +12,8 @@ def filled(text):
 def section(known, entry):
     forms = "\n".join(filled(f"    {{command}} {entry['word']} {form}").rstrip() for form in entry["forms"])
     parts = [f"### `{entry['word']}`", forms, filled(f"{entry['summary'][0].upper()}{entry['summary'][1:]}."), *(filled(text) for text in entry["text"])]
-    arguments = [(f"`{name}`", filled(text)) for name, text in pages.rows_of(known, entry) if name != known["explain"]["names"][0]]
+    of_all = {known[name]["names"][0] for name in ("explain", "plain")}
+    arguments = [(f"`{name}`", filled(text)) for name, text in pages.rows_of(known, entry) if name not in of_all]
     parts += [rows(("argument", "meaning"), arguments).rstrip("\n")] if arguments else []
     statuses = [(status, filled(text)) for status, text in entry.get("statuses", [])]
     parts += [rows(("status", "meaning"), statuses).rstrip("\n")] if statuses else []
