@@ -253,5 +253,5 @@ def program():
         say("an optimised build is made meanwhile, and used once it is ready")
     elif optimising.is_news(build):
         say("an optimised build is ready, and is used from now on")
-    say("this build isn't proved; ./broker --prove proves and builds the program")
+    say(f"this build isn't proved{' nor optimised' if file.endswith(CHECKED) else ''}; ./broker --prove proves and builds the program")
     return file

@@ -15,8 +15,8 @@ SECONDS = 10
 # the limit of a file's size is told to the shell in blocks of 512 bytes
 LIMITED = f'ulimit -c 0; ulimit -f {REPORT_LIMIT // 512}; exec "$@"'
 
-# what ./broker says of a program that isn't proved, and how each line of its own begins
-NOT_PROVED, OF_THE_BROKER = "broker: this build isn't proved", "broker: "
+# what ./broker says of a program that isn't proved and of one that is slow besides, and how each line of its own begins
+NOT_PROVED, NOT_OPTIMISED, OF_THE_BROKER = "broker: this build isn't proved", "nor optimised", "broker: "
 
 # the forms of words that the page can ask for: the texts that become files, numbers with their greatest value, and words that stand in a list. Another form is
 # one more entry here and a button with its name in playground.html, which is hidden where the program hasn't the form.
@@ -39,6 +39,11 @@ FORMS = {
 Ended = namedtuple("Ended", "status output line marked")
 
 
+def plain():
+    """The environment in which ./broker leaves the program's own line of a refusal."""
+    return {**os.environ, "SECCOMP_BROKER_PLAIN": "1"}
+
+
 class Late(Exception):
     """A run that took too long, and was ended."""
 
@@ -56,7 +61,7 @@ class Running:
         with tempfile.TemporaryFile() as source:
             source.write(given)
             source.seek(0)
-            self.process = subprocess.Popen(["/bin/sh", "-c", LIMITED, "sh", *whole], cwd=self.room.name, stdin=source, stdout=self.output, stderr=self.said, start_new_session=True)
+            self.process = subprocess.Popen(["/bin/sh", "-c", LIMITED, "sh", *whole], cwd=self.room.name, env=plain(), stdin=source, stdout=self.output, stderr=self.said, start_new_session=True)
 
     def status(self, seconds):
         """How it ended; None where it hasn't after so many seconds."""
@@ -90,7 +95,7 @@ class Program:
     def __init__(self, path, broker):
         self.path = path
         # (a word without its operands, which the program answers by its usage line)
-        said = subprocess.run([path, "play"], stdin=subprocess.DEVNULL, capture_output=True).stderr.decode("utf-8", "replace").splitlines()
+        said = subprocess.run([path, "play"], env=plain(), stdin=subprocess.DEVNULL, capture_output=True).stderr.decode("utf-8", "replace").splitlines()
         usage = [line for line in said if line.startswith("usage: ")]
         if not usage:
             raise OSError(f"{path} didn't say what words it takes: {' '.join(said)[:300]}")
@@ -101,8 +106,9 @@ class Program:
 
     def learn(self, said):
         """Notes which program it was that said these lines."""
-        self.is_slow = any(line.startswith(NOT_PROVED) for line in said)
-        self.kind = f"the program at {self.path}" if self.named else "a trial build, which isn't proved" if self.is_slow else "the proved program"
+        of_build = next((line for line in said if line.startswith(NOT_PROVED)), None)
+        self.is_slow = of_build is not None and NOT_OPTIMISED in of_build
+        self.kind = f"the program at {self.path}" if self.named else "a trial build, which isn't proved" if of_build else "the proved program"
 
     def about(self):
         """What a page tells of the program."""
