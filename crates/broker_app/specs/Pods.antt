@@ -83,6 +83,13 @@ pub record IsFirstOverlap (cs : List Container) (i j : ℕ) : Type 0 where
   pub first : IsFirstBehind cs i j
   pub least : AreSeparate cs i
 
+-- there is one first overlap at most, and none where all are separate
+abbrev pub OverlapIsOne : Type 0
+OverlapIsOne = (cs : List Container) (i j k l : ℕ) → IsFirstOverlap cs i j → IsFirstOverlap cs k l → (i ≡ k) × (j ≡ l)
+
+abbrev pub SeparateDontOverlap : Type 0
+SeparateDontOverlap = (cs : List Container) (i j : ℕ) → AreSeparate cs (length cs) → IsFirstOverlap cs i j → ⊥
+
 -- why containers that were read aren't served
 abbrev pub Overlapping : List Container → Status → Type 0
 Overlapping cs (PidsOverlap first second) = IsFirstOverlap cs first second

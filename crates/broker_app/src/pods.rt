@@ -6,7 +6,7 @@ ghost use Rattle.pod_broker.specs.Pods.{NoneOverlap, overlap};
 ghost use Rattle.pod_broker.specs.Serving.{scripts};
 ghost use Rattle.broker_app.specs.Forms.{texts};
 ghost use Rattle.broker_app.specs.Words.{are_pairs, in_pairs};
-ghost use Rattle.broker_app.specs.Pods.{AreSeparate, AreTaken, ContainerStops, IsFirstBehind, IsFirstOverlap, IsSeparateBehind, IsTaken, Overlapping, PairStops, in_container};
+ghost use Rattle.broker_app.specs.Pods.{AreSeparate, AreTaken, ContainerStops, IsFirstBehind, IsFirstOverlap, IsSeparateBehind, IsTaken, OverlapIsOne, Overlapping, PairStops, SeparateDontOverlap, in_container};
 
 use crate::inputs::read_inputs;
 use crate::status::Status;
@@ -133,3 +133,9 @@ pub(crate) fn see_ranges(containers: &[Container]) -> Result<(), Status>
         }),
     }
 }
+
+/// Two containers are the first ones whose ranges overlap only if no other two are, and if some ranges overlap at all.
+pub fn first_overlap_is_one()
+    ensures one { OverlapIsOne }
+    ensures none { SeparateDontOverlap }
+{}
