@@ -1,9 +1,11 @@
 //! The structures of a receive and of an answer, and their tests.
 
-ghost use Rattle.std.specs.Prelude.{◌≡◌, ◌↔◌, true, All, IsOk, IfErr};
+ghost use Rattle.std.specs.Prelude.{◌≡◌, ◌↔◌, ◌==◌, if◌then◌else◌, true, false, Some, None, All, IsOk, IfErr};
 ghost use Rattle.sys_abi.specs.Errnos.{einval};
 ghost use Rattle.listener.specs.Answers.{may_be_sent, reading, response, back_of};
 
+use crate::flags::ResponseFlags;
+use bitflags::Flags;
 use hist_model::event::Back;
 use sys_abi::errno::Errno;
 use sys_abi::wire::{Resp, SECCOMP_USER_NOTIF_FLAG_CONTINUE};
@@ -37,6 +39,16 @@ pub fn parse_send(bytes: &[u8; 24]) -> Result<Resp, Errno>
     }
 }
 
+/// Whether these flags have the call run natively; none where one of them isn't defined.
+fn continues(flags: u32) -> Option<bool>
+    ensures { result ≡ (if flags == 1 then Some true else (if flags == 0 then Some false else None)) }
+{
+    match ResponseFlags::from_bits(flags) {
+        Some(flags) => Some(flags.contains(ResponseFlags::CONTINUE)),
+        None => None,
+    }
+}
+
 /// The answer is one that a call can get.
 fn may_be_sent(resp: &Resp) -> bool
     ensures { result ≡ may_be_sent resp.now }
@@ -47,10 +59,10 @@ fn may_be_sent(resp: &Resp) -> bool
         flags,
         ..
     } = *resp;
-    if flags == SECCOMP_USER_NOTIF_FLAG_CONTINUE {
-        val == 0 && error == 0
-    } else {
-        flags == 0 && MIN_ERROR <= error && error <= 0
+    match continues(flags) {
+        Some(true) => val == 0 && error == 0,
+        Some(false) => MIN_ERROR <= error && error <= 0,
+        None => false,
     }
 }
 
@@ -77,7 +89,7 @@ pub fn back_of(resp: &Resp) -> Back
     requires { may_be_sent resp.now ≡ true }
     ensures { result ≡ back_of resp.now }
 {
-    if resp.flags == SECCOMP_USER_NOTIF_FLAG_CONTINUE {
+    if ResponseFlags::from_bits_retain(resp.flags).contains(ResponseFlags::CONTINUE) {
         return Back::Continue;
     }
     match Errno::of(resp.error.unsigned_abs() as u16) {

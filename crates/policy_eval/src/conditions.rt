@@ -6,18 +6,13 @@ ghost use Rattle.std.specs.List.{starts_with, list_all, list_any};
 ghost use Rattle.hist_model.specs.Requests.{low_32, major_of, minor_of};
 ghost use Rattle.hist_model.specs.Decisions.{fits, covers, meets, is_text, path_of, fstype_of, source_of, attribute_of, value_of, dirfd_of, dirfd_or_cwd, is_descriptor, has_flag, has_flags, mount_flags, has_short_device, lies_under, has_dot_dot, asks_kind, asks_device, is_device, has_plain_flags};
 
+use bitflags::Flags;
 use hist_model::policy::{Calls, Cond, Flag, Rule};
 use hist_model::request::{Kind, Request, node_device};
 use sys_abi::calls;
 use sys_abi::device::split_dev;
+use sys_abi::flags::{MountFlags, XattrFlags};
 use sys_abi::wire::AT_FDCWD;
-
-/// The flags of mount(2) that make it another operation than a plain mount.
-const MS_REMOUNT: u64 = 32;
-
-const MS_BIND: u64 = 4096;
-
-const MS_MOVE: u64 = 8192;
 
 /// The magic number that old programs set in bits 16 to 31 of the flags, and the mask of these (mount(2)).
 const MS_MGC_VAL: u64 = 0xc0ed_0000;
@@ -208,8 +203,13 @@ pub fn has_flag(request: &Request, flag: Flag) -> bool
     ensures { result ≡ has_flag request.now flag }
 {
     match (request, flag) {
-        (Request::Mount { flags, .. }, Flag::Mount(bit)) => mount_flags(*flags) & bit != 0,
-        (Request::SetXattr { flags, .. }, Flag::Attribute(bit)) => flags & bit != 0,
+        (Request::Mount { flags, .. }, Flag::Mount(bit)) => {
+            MountFlags::from_bits_retain(mount_flags(*flags))
+                .intersects(MountFlags::from_bits_retain(bit))
+        }
+        (Request::SetXattr { flags, .. }, Flag::Attribute(bit)) => {
+            XattrFlags::from_bits_retain(*flags).intersects(XattrFlags::from_bits_retain(bit))
+        }
         _ => false,
     }
 }
@@ -309,14 +309,21 @@ fn is_numbered(dev: u64, major: u32, minor: u32) -> bool
     split_dev(node_device(dev)) == (major, minor)
 }
 
+/// Whether the flags are those of a mount that neither remounts, binds nor moves.
+fn is_plain(flags: MountFlags) -> bool
+    ensures { result ≡ ((bit_and flags.0 32 == 0) && ((bit_and flags.0 4096 == 0) && (bit_and flags.0 8192 == 0))) }
+{
+    !flags.intersects(MountFlags::REMOUNT)
+        && !flags.intersects(MountFlags::BIND)
+        && !flags.intersects(MountFlags::MOVE)
+}
+
 /// Whether the request isn't a mount that remounts, binds or moves.
 fn has_plain_flags(request: &Request) -> bool
     ensures { result ≡ has_plain_flags request.now }
 {
     match request {
-        Request::Mount { flags, .. } => flags & MS_REMOUNT == 0
-            && flags & MS_BIND == 0
-            && flags & MS_MOVE == 0,
+        Request::Mount { flags, .. } => is_plain(MountFlags::from_bits_retain(*flags)),
         _ => true,
     }
 }
