@@ -1,6 +1,6 @@
 //! The parts of a report that have a line for some of the events.
 
-ghost use Rattle.std.specs.Prelude.{◌≡◌, ◌++◌, OnErr, OnOk, length, nat_le, reverse};
+ghost use Rattle.std.specs.Prelude.{◌≡◌, ◌++◌, OnErr, OnOk, reverse};
 ghost use Rattle.hist_model.specs.ReportJournal.{lines_of, title};
 ghost use Rattle.audit_log.specs.Written.{Gathered, Wrote};
 
@@ -40,14 +40,9 @@ pub fn write_line<O: Sink>(line: &LineBuffer, out: &mut O) -> Result<(), ReportE
     Ok(())
 }
 
-/// How many bytes of lines are gathered before they are written.
-const GATHERED: usize = 4096;
-
-/// Whether the lines that were gathered are worth a write.
-fn are_many(lines: &LineBuffer) -> bool
-    ensures { result ≡ nat_le 4096 (length lines.now) }
-{
-    lines.bytes().len() >= GATHERED
+/// Whether the lines that were gathered are as many bytes as the sink has them gathered.
+fn are_many<O: Sink>(lines: &LineBuffer, out: &O) -> bool {
+    lines.bytes().len() >= out.gathers()
 }
 
 /// Writes the lines that were gathered, once they are many, and keeps them otherwise.
@@ -56,7 +51,7 @@ pub(crate) fn write_if_many<O: Sink>(lines: &mut LineBuffer, out: &mut O) -> Res
     ensures gathered { OnOk result (Gathered (O.state out.old) lines.old lines.new (O.state out.new)) }
     ensures failed { OnErr result (Wrote (O.state out.old) lines.old result (O.state out.new)) }
 {
-    if !are_many(lines) {
+    if !are_many(lines, out) {
         return Ok(());
     }
     write_line(lines, out)?;

@@ -195,6 +195,12 @@ impl Sink for MemSink {
         }
         Ok(())
     }
+
+    /// Each line is a write, so that each can fail.
+    fn gathers(&self) -> usize {
+        1
+    }
+
     /// What was taken stands at once, so this does nothing, and isn't counted.
     fn flush(&mut self) -> Result<(), Failed>
         ensures flushes { Flushes (⟦<MemSink as Sink>⟧.state self.old) result (⟦<MemSink as Sink>⟧.state self.new) }

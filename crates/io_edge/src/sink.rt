@@ -17,6 +17,12 @@ pub trait Sink {
     fn write(&mut self, piece: &[u8]) -> Result<(), Failed>
         ensures { Writes (state self.old) piece.now result (state self.new) };
 
+    /// How many bytes of whole lines are gathered before they are written: a writer of lines writes as soon as it has as many,
+    /// and what is left at the end. They are 4 KiB; with 1 each line is a write of its own.
+    fn gathers(&self) -> usize {
+        4096
+    }
+
     /// Makes sure that everything taken is where it belongs. `Failed` comes only if the count of
     /// faults rose in this call, as for `write`.
     fn flush(&mut self) -> Result<(), Failed>

@@ -13,25 +13,24 @@ use std::thread::Threads;
 const SCRIPT: &str =
     "notify mknod\nprog main\npoke 0x10000 \"/null\\0\"\ncall mknod 0x10000 0o020666 259\nend\nschedule\nt 0 2\nw 0 9\nt 0 2\nend\n";
 
-/// The report of this script under this policy, worked out by hand, by the writes that it takes: a title alone, and the lines below
-/// it together.
-const REPORT: [&'static str; 7] = [
+/// The lines of the report of this script under this policy, worked out by hand.
+const REPORT: [&'static str; 21] = [
     "journal 15\n",
-    "0 - spawn 0 pid=1 new\n\
-     1 t0 poke 65536 2f6e756c6c00\n\
-     2 t0 call mknod 65536 8630 259 0 0 0 notify id=1\n\
-     3 w0 recv id=1 pid=1\n\
-     4 w0 open-mem 1 ok\n\
-     5 w0 open-base 1 -100 ok\n\
-     6 w0 check 1 ok\n\
-     7 w0 read 65536 256 2f6e756c6c\n\
-     8 w0 check 1 ok\n\
-     9 w0 act mknod \"/null\" chr 1:3 ok\n\
-     10 w0 send 1 0 ok\n\
-     11 w0 let-go\n\
-     12 t0 resume 0\n\
-     13 t0 exit\n\
-     14 listener close\n",
+    "0 - spawn 0 pid=1 new\n",
+    "1 t0 poke 65536 2f6e756c6c00\n",
+    "2 t0 call mknod 65536 8630 259 0 0 0 notify id=1\n",
+    "3 w0 recv id=1 pid=1\n",
+    "4 w0 open-mem 1 ok\n",
+    "5 w0 open-base 1 -100 ok\n",
+    "6 w0 check 1 ok\n",
+    "7 w0 read 65536 256 2f6e756c6c\n",
+    "8 w0 check 1 ok\n",
+    "9 w0 act mknod \"/null\" chr 1:3 ok\n",
+    "10 w0 send 1 0 ok\n",
+    "11 w0 let-go\n",
+    "12 t0 resume 0\n",
+    "13 t0 exit\n",
+    "14 listener close\n",
     "calls 1\n",
     "2 t0 pid=1 mknod 0\n",
     "audit 1\n",
