@@ -1,7 +1,9 @@
 -- Lemmas on the answer that counts.
 -- By the definition of `combine`, with `drop_more` and `past_more`, and by cases on which of two answers has the lower rank.
-use Rattle.std.proofs.Common.{◌≡◌, ℕ, ◌+◌, ◌<◌, ◌≤◌, List, [], ◌∷◌, length, get_or, take, reverse, inl, inr, add-one, refl, ap, sym, ◌∙◌, arith}
+use Rattle.std.proofs.Common.{◌≡◌, ℕ, ◌+◌, ◌<◌, ◌≤◌, List, [], ◌∷◌, length, get_or, drop, take, reverse, inl, inr, add-one, refl, ap, sym, ◌∙◌, arith}
 use Rattle.std.proofs.Math.Seq.{take-length}
+use Rattle.std.proofs.lemmas.List.{drop_more}
+use Rattle.std.proofs.Math.ListN.{drop_of_length-le}
 use Rattle.std.proofs.lemmas.Bool.{cases_Bool}
 use Rattle.std.specs.Prelude.{false, nat_lt}
 use Rattle.sys_abi.specs.declared.wire.SeccompData.{SeccompData}
@@ -13,6 +15,18 @@ use Rattle.bpf_filter.specs.Choices.{newer_filter}
 combine-at : (value : ℕ) (older : List ℕ) → combine (value ∷ older) ≡ with_newer value (combine older)
 unfolding combine
 combine-at value older = refl
+
+-- one newer answer
+pub combine_more : (values : List ℕ) (place : ℕ) → place < length values
+    → combine (drop place values) ≡ with_newer (get_or values place 0) (combine (drop (place + 1) values))
+combine_more values place l = ap combine (drop_more values place 0 l) ∙ combine-at _ _
+
+combine-none : combine [] ≡ (0x7fff0000, 0)
+unfolding combine
+combine-none = refl
+
+pub combine_past : (values : List ℕ) (place : ℕ) → length values ≤ place → combine (drop place values) ≡ (0x7fff0000, 0)
+combine_past values place l = ap combine (drop_of_length-le values l) ∙ combine-none
 
 chosen-at : (f : FilterLine) (older : List FilterLine) (call : SeccompData) → chosen (f ∷ older) call ≡ newer_filter f (words call) (chosen older call)
 chosen-at f older call =

@@ -1,6 +1,6 @@
 //! What the answers of filters mean (seccomp(2), return values).
 
-ghost use Rattle.std.specs.Prelude.{◌≡◌, nat_lt};
+ghost use Rattle.std.specs.Prelude.{◌≡◌, ◌<◌, ◌≤◌, ◌+◌, ◌^◌, nat_lt};
 ghost use Rattle.hist_model.specs.Filters as definitions;
 ghost use Rattle.bpf_filter.specs.Choices.{newer_filter};
 
@@ -22,6 +22,34 @@ fn counts_before(older: u32, newer: u32) -> bool
     ensures { result ≡ nat_lt (definitions.rank older) (definitions.rank newer) }
 {
     rank(older) < rank(newer)
+}
+
+/// The answer of a newer filter beside the one that counts among the older ones.
+fn with_newer(value: u32, older: (u32, usize)) -> (u32, usize)
+    requires { older.1 < 2 ^ 63 }
+    ensures value { result ≡ definitions.with_newer value older }
+    ensures small { result.1 ≤ older.1 + 1 }
+{
+    if counts_before(older.0, value) {
+        (older.0, older.1 + 1)
+    } else {
+        (value, 0)
+    }
+}
+
+/// Of the filters' answers, the newest first, the one of highest precedence, the newest among equals, and its place; ALLOW and
+/// 0 where there is none.
+#[tactic(auto, using(crate::proofs::Precedence::combine_more, crate::proofs::Precedence::combine_past))]
+pub fn combine(values: &[u32]) -> (u32, usize)
+    ensures { result ≡ definitions.combine values.now }
+{
+    let mut best = (ALLOW, 0);
+    let mut place = values.len();
+    while place > 0 {
+        place -= 1;
+        best = with_newer(values[place], best);
+    }
+    best
 }
 
 /// What an answer does; `listener` is whether its filter has the listener.

@@ -1,8 +1,9 @@
 //! Filters: the programs of bpf(4) that seccomp(2) runs on each call of a task.
 //!
 //! A `Filter` is a list of instructions that was accepted once: its jumps stay inside, its last instruction returns, and none
-//! of its answers is SECCOMP_RET_TRAP. Contracts see it as that list. `run` is the answer of the list to a call, and
-//! `verdict` what all filters of a script say of a call. `read_text` is the instruction that a line of a script states.
+//! of its answers is SECCOMP_RET_TRAP. Contracts see it as that list. `run` is the answer of the list to a call, `combine` the
+//! answer that counts among those of several filters, and `verdict` what all filters of a script say of a call. `read_text` is
+//! the instruction that a line of a script states.
 //!
 //! The definitions stand in `hist_model`, in `specs/Filters.antt`: the meaning of each instruction, the first fault of a list,
 //! the order of the actions and what each does. Those of an instruction's line stand here, in `specs/Text.antt`.
@@ -20,7 +21,7 @@ mod numbers;
 mod text;
 mod words;
 
-pub use answers::verdict;
+pub use answers::{combine, verdict};
 pub use filters::{Filter, notify_on, run};
 pub use hist_model::filter::{BadFilter, FilterReason};
 pub use hist_model::script::Insn;

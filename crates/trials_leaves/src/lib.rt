@@ -1,5 +1,5 @@
 //! Trials of the crates at the bottom: the numbers and structures of the system call interface, counts, sorted lists, files and
-//! sinks, and the listener's lock.
+//! sinks, which of several filters' answers counts, and the listener's lock.
 //!
 //! A case has its expected value from outside: the manual pages and the kernel's headers. So a trial fails where a table
 //! or a definition that the code is proved to meet doesn't say what was meant, and it shows what no clause says: texts that
@@ -10,7 +10,7 @@
 //! end is what no clause says, and that each place of the history is one caller's is counted. There is no code but
 //! tests, and no model: what is tried stands in the definitions of each crate.
 //!
-//! Below stand `sys_abi`, `long_count`, `sorted_list`, `io_edge` and the lock (`turn_lock`), which the trials call, with the
+//! Below stand `sys_abi`, `long_count`, `sorted_list`, `io_edge`, `bpf_filter` and the lock (`turn_lock`), which the trials call, with the
 //! plain types of `hist_model` and the reader of the policy that a lock's states have (`policy_reader`); nothing stands above.
 #![tactic(auto)]
 
@@ -20,6 +20,8 @@ mod abi;
 mod counts;
 #[cfg(test)]
 mod edge;
+#[cfg(test)]
+mod filters;
 #[cfg(test)]
 mod lists;
 #[cfg(test)]
