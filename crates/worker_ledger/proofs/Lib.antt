@@ -1,5 +1,5 @@
-pub mod Cutting
 pub mod Parts
 pub mod Noting
 pub mod Texts
 pub mod Fitting
+pub mod Written

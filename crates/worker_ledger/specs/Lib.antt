@@ -1,5 +1,5 @@
 pub mod Heard
-pub mod Cuts
 pub mod Ledgers
+pub mod Data
 pub mod Notes
 pub mod Successors

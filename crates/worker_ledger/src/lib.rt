@@ -15,7 +15,6 @@
 //! whoever replaces workers.
 #![tactic(auto)]
 
-mod cuts;
 pub mod heard;
 pub mod ledger;
 mod reading;

@@ -1,14 +1,21 @@
--- Each turn of the loop reads one answer more; the bracket ends them.
-use Rattle.std.proofs.Common.{◌∙◌}
+-- Each turn of the loop reads one answer more.
+use Rattle.std.proofs.Common.{◌≡◌, ◌∷◌, length, rules}
 use Rattle.worker_ledger.specs.Heard.{all_heard, heard}
-use Rattle.worker_ledger.proofs.Parts.{heard_more, left_all, left_more}
+use Rattle.worker_ledger.proofs.Parts.{heard_more, left_more, left_next, left_none}
 use Rattle.worker_ledger.proofs.reading.read_answers.Goals as goal
 
-pub loop-left-init : goal.loop-left-init
-loop-left-init c = λ own rest told e. rw c.new-answers.ensures.items (left_all own rest c.args.text.now told e)
+pub returns-in_default-2 : goal.returns-in_default-2
+returns-in_default-2 c = λ own told e.
+    let next : c.loop-value.left.now ≡ c.in-Some.value.now ∷ c.in-Some.rest.now = search rules in
+    left_next own (all_heard c.loop-value.answers.items) c.loop-value.left.now c.in-Some.rest.now c.in-Some.value.now (c.loop-value.invariant own told e) next (λ a is v. rw c.in_default-2.is at (c.in_ok-answer.ensures a is v))
 
-pub loop-left-preserved : goal.loop-left-preserved
-loop-left-preserved c = λ own rest told e.
-    let is = c.loop-left.invariant own rest told e in
-    rw (c.in_ok-push.ensures.items, heard_more c.loop-left.answers.items c.in-Some.answer) (left_more own rest (all_heard c.loop-left.answers.items) c.loop-left.left.now c.in-Some.rest.now c.past_comma-left.result.now (heard c.in-Some.answer) is
-    (λ q. c.loop-left-test.true (c.byte_at.ensures ∙ q)) (λ a t k f. rw c.in-Some.is at (c.in_ok-answer.ensures.found a t k f)) c.past_comma-left.ensures.comma c.past_comma-left.ensures.end)
+pub loop-value-preserved : goal.loop-value-preserved
+loop-value-preserved c = λ own told e.
+    let next : c.loop-value.left.now ≡ c.in-Some.value.now ∷ c.in-Some.rest.now = search rules in
+    rw (c.in_ok-push.ensures.items, heard_more c.loop-value.answers.items c.in-Some-2.answer) (left_more own (all_heard c.loop-value.answers.items) c.loop-value.left.now c.in-Some.rest.now c.in-Some.value.now (heard c.in-Some-2.answer) (c.loop-value.invariant own told e) next
+    (λ a is v. rw c.in-Some-2.is at (c.in_ok-answer.ensures a is v)))
+
+pub returns : goal.returns
+returns c = λ own told e.
+    let none : length c.loop-value.left.now ≡ 0 = search rules in
+    left_none own (all_heard c.loop-value.answers.items) c.loop-value.left.now (c.loop-value.invariant own told e) none

@@ -2,7 +2,7 @@
 use Rattle.std.proofs.Common.{◌≡◌, ◌∙◌, ℕ, List, sym, Ok, Err, Result, inl, inr}
 use Rattle.hex.specs.declared.error.FromHexError.{FromHexError}
 use Rattle.hex.proofs.HexLemmas.{decode_of-encode_lower, decode_of-same}
-use Rattle.worker_ledger.proofs.cuts.bytes.Goals as goal
+use Rattle.worker_ledger.proofs.reading.bytes_of.Goals as goal
 
 pub returns-in-Ok : goal.returns-in-Ok
 returns-in-Ok c = λ bytes is e. decode_of-same c.args.digits.now c.in-Ok.bytes.items bytes c.in-Ok.ensures.ok (rw e (decode_of-encode_lower bytes is))
