@@ -15,6 +15,8 @@ PASSED, FAILED, NOT_UNDERSTOOD, INTERRUPTED = 0, 1, 2, 130
 # seconds after which progress is shown, between two lines of it, and between two looks at the files
 BEGIN, TURN, LOOK = 1.0, 0.2, 0.3
 CLEAR = "\r\x1b[K"
+# how the names of test files end
+SUFFIX = ".test"
 
 
 def asked():
@@ -24,8 +26,29 @@ def asked():
     parser.add_argument("--show", action="store_true", help="prints the scripts and the calls that are made, and runs nothing")
     parser.add_argument("--watch", action="store_true", help="runs again each time that a file changes")
     parser.add_argument("--program", metavar="PATH", help="asks this program, in place of the command's own")
-    parser.add_argument("files", metavar="FILE", nargs="+", help="test files")
+    parser.add_argument("paths", metavar="FILE", nargs="+", help="test files, and folders of them")
     return parser.parse_args()
+
+
+class NoTests(Exception):
+    """A folder has no test file; the text says which."""
+
+
+def below(folder):
+    """The test files below a folder, in the order of their bytes. Links aren't followed."""
+    found = [os.path.join(at, name) for at, _, names in os.walk(folder) for name in names if name.endswith(SUFFIX)]
+    return sorted((it for it in found if not os.path.islink(it)), key=os.fsencode)
+
+
+def files_of(paths):
+    """The test files that are named, and those below folders that are."""
+    found = []
+    for path in paths:
+        files = below(path) if os.path.isdir(path) else [path]
+        if not files:
+            raise NoTests(f"{path}: no file below this folder ends with {SUFFIX}")
+        found += files
+    return found
 
 
 class Progress:
@@ -84,12 +107,13 @@ def show(lines):
 
 def run_once(words, program):
     """Runs the files, prints and writes what came of them, and answers the exit status."""
-    every = Runner(program, Progress(sys.stderr.isatty())).run(words.files)
+    runner = Runner(program, Progress(sys.stderr.isatty()))
+    every = runner.run(files_of(words.paths))
     if words.junit:
         # (what most runs don't need isn't read for them)
         from testing import junit
         with open(words.junit, "w", encoding="utf-8", errors="replace") as file:
-            file.write(junit.text_of(every))
+            file.write(junit.text_of(every, runner.seconds))
     lines = output.Lines(output.has_colours(sys.stdout))
     for results in every:
         speaking.say(results.warnings)
@@ -122,10 +146,10 @@ def watch(words, program):
     status = PASSED
     try:
         while True:
-            seen = watched(words.files)
+            seen = watched(files_of(words.paths))
             status = run_once(words, program)
             show(["waiting for a change; Ctrl-C ends it"])
-            while watched(words.files) == seen:
+            while watched(files_of(words.paths)) == seen:
                 time.sleep(LOOK)
     except KeyboardInterrupt:
         return status
@@ -135,12 +159,15 @@ def main():
     words = asked()
     try:
         if words.show:
-            return show_scripts(words.files)
+            return show_scripts(files_of(words.paths))
         path = words.program or place.runnable()
         if path is None:
             return NOT_UNDERSTOOD
         program = asking.Program(os.path.abspath(path), place.command())
         return watch(words, program) if words.watch else run_once(words, program)
+    except NoTests as fault:
+        print(f"test: {fault}", file=sys.stderr)
+        return FAILED
     except asking.NotAsked as fault:
         print(f"test: {fault}", file=sys.stderr)
         return NOT_UNDERSTOOD

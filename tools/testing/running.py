@@ -268,7 +268,8 @@ class Runner:
         self.program, self.progress = program, progress
 
     def run(self, paths):
-        """The results of each file, in the order of the files."""
+        """The results of each file, in the order of the files; `seconds` is then how long that took."""
+        begun = time.monotonic()
         read_files = [(read(path), FileResults(path)) for path in paths]
         with ThreadPoolExecutor(os.cpu_count()) as pool:
             asked = [(file, results, self.submit(pool, file, results)) for file, results in read_files]
@@ -281,6 +282,7 @@ class Runner:
                 for _, future in (job for _, _, jobs in asked for job in jobs):
                     future.cancel()
         self.progress.end()
+        self.seconds = time.monotonic() - begun
         return [results for _, results in read_files]
 
     def submit(self, pool, file, results):
@@ -296,17 +298,19 @@ class Runner:
         return [(job, pool.submit(self.answer, job)) for job in jobs]
 
     def answer(self, job):
+        """The program's output, and from when to when it was asked."""
         begun = time.monotonic()
         output = job.answer(self.program)
         self.progress.step()
-        return output, time.monotonic() - begun
+        return output, (begun, time.monotonic())
 
     def collect(self, file, results, jobs):
+        spans = []
         for job, future in jobs:
             try:
-                output, seconds = future.result()
+                output, span = future.result()
                 results.results += job.results(output)
-                results.seconds += seconds
+                spans.append(span)
             except NotUnderstood as fault:
                 results.findings.append(fault.found)
             except asking.PolicyRefused as fault:
@@ -314,4 +318,5 @@ class Runner:
                 if finding not in results.findings:
                     results.findings.append(finding)
                     results.about += about
+        results.seconds = max(end for _, end in spans) - min(begin for begin, _ in spans) if spans else 0.0
         results.results = [] if results.findings else sorted(results.results, key=lambda it: it.line)
