@@ -1,4 +1,4 @@
-"""Orders of steps: where a turn is passed on although its owner could step (docs/EXPLORE.md, What a bound means).
+"""Orders of steps: where a turn is passed on although its owner could step (docs/EXPLORE.md, Choose a bound).
 
 A choice is there wherever more than one actor is able to step. Choices are counted from 0; a schedule has the delays at those where there are some, and there are none at the others.
 """
