@@ -1,4 +1,5 @@
 """How an executable ends: with its status, or with one line where its output can't be written or it is interrupted. Never with a traceback of these."""
+import errno
 import io
 import os
 import signal
@@ -6,6 +7,7 @@ import sys
 
 WRITE_FAULT, NO_MEMORY, INTERRUPTED = 6, 7, 130
 OUT, ERR = 1, 2
+WANTS = (errno.ENOMEM, errno.EAGAIN, errno.EMFILE, errno.ENFILE)
 
 
 def name():
@@ -67,6 +69,11 @@ def as_in_foreground():
             signal.signal(number, handler)
 
 
+def is_want(fault):
+    """Whether a fault is want of memory, of processes or of descriptors, and no fault of the executable."""
+    return isinstance(fault, MemoryError) or getattr(fault, "errno", None) in WANTS or "start new thread" in str(fault)
+
+
 def run(main):
     """Ends the process with the status that `main` answers, or raises as SystemExit."""
     raw = guarded_output()
@@ -84,7 +91,9 @@ def run(main):
         status = ended.code
     except KeyboardInterrupt:
         status = INTERRUPTED
-    except MemoryError:
-        say("no memory")
+    except (MemoryError, OSError, RuntimeError) as fault:
+        if not is_want(fault):
+            raise
+        say("no memory" if isinstance(fault, MemoryError) else f"the machine gives no more: {getattr(fault, 'strerror', None) or fault}")
         status = NO_MEMORY
     raise SystemExit(WRITE_FAULT if raw.has_failed else status)

@@ -38,6 +38,10 @@ SIXTY_FOUR = "64 bit"
 SLOTS = {"slots": True} if sys.version_info >= (3, 10) else {}
 
 
+# in bytes
+MOST_OF_A_LINE = 16 << 20
+
+
 class Unreadable(Exception):
     """An argument isn't what it should be. The text says what it is."""
 
@@ -281,8 +285,11 @@ class Trace:
 
 
 def read(file, wanted):
-    """The trace of a file that is opened for bytes."""
+    """The trace of a file that is opened for bytes. It ends before a line that is longer than any of strace's, as that of an endless file is."""
     trace = Trace(wanted)
-    for line in file:
+    for line in iter(lambda: file.readline(MOST_OF_A_LINE), b""):
+        if len(line) == MOST_OF_A_LINE:
+            trace.unreadable += 1
+            break
         trace.add(line.decode("utf-8", "surrogateescape").rstrip("\r\n"))
     return trace
