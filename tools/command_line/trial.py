@@ -17,7 +17,6 @@ import signal
 import struct
 import subprocess
 import sys
-import tempfile
 import time
 
 from command_line import children, optimising, place
@@ -227,6 +226,8 @@ def remove_old(where):
 
 def keep(build):
     """Makes the build, where no other call makes it meanwhile."""
+    # (the calls behind the first one don't need it)
+    import tempfile
     where = os.path.dirname(build)
     try:
         os.makedirs(where, mode=0o700, exist_ok=True)

@@ -5,11 +5,10 @@ import subprocess
 import sys
 
 from command_line import children
-from messages import policies
-from messages.findings import Text, message
-from messages.refusals import Said, data_of, files_in, parted
 from messages.speaking import say
 
+# in bytes
+MOST_OF_A_POLICY = 1 << 20
 OF_THE_COMMAND, OF_ALL_WORDS = b"broker: ", b"usage: "
 # the words that play a script's schedule
 SCHEDULED = ("play", "handover", "judge")
@@ -56,7 +55,10 @@ def end_as(status):
 
 
 def warnings(entry, operands, asked):
-    """What the program takes and is likely a mistake. Keys that are almost LXD's are told on a terminal too, since nobody means them; the rest where it is asked for."""
+    """What the program takes and is likely a mistake. Keys that are almost LXD's are told always, since nobody means them; the rest if it is asked for."""
+    from messages import policies
+    from messages.findings import Text, message
+    from messages.refusals import data_of, files_in, parted
     operands, _ = parted(entry, operands)
     for container in range(len(operands[2:]) // 2 if entry["word"] == "pod" else 1):
         files = files_in(entry, operands, container)
@@ -70,14 +72,28 @@ def warnings(entry, operands, asked):
             yield from (message(it, files["script"], Text(script), "warning: ") for it in found)
 
 
+def has_config(operand):
+    """Whether a file may be a policy with LXD's keys, of which one may be misspelled."""
+    try:
+        if not os.path.isfile(operand):
+            return False
+        with open(operand, "rb") as file:
+            return b'"config"' in file.read(MOST_OF_A_POLICY)
+    except (OSError, ValueError):
+        return False
+
+
 def told(entry, operands, command, path, status, line, asked):
     """The lines that are added to what the program said."""
-    # (what most calls don't need isn't read for them)
+    # (what a call doesn't need isn't read for it: that takes longer than most plays)
     if status > 0:
+        from messages.refusals import Said
         from messages.reports import explained_report
         said = Said(entry, operands, line, command)
         return said.explained(lambda files, number: explained_report(path, files, number))
-    return [line for lines in warnings(entry, operands, asked) for line in lines] if status == 0 else []
+    if status < 0 or not asked and not any(map(has_config, operands)):
+        return []
+    return [line for lines in warnings(entry, operands, asked) for line in lines]
 
 
 def finish(path, entry, operands, command, status, line, asked):
@@ -85,7 +101,7 @@ def finish(path, entry, operands, command, status, line, asked):
     try:
         say(told(entry, operands, command, path, status, line, asked))
     except Exception as fault:  # a message that can't be made changes nothing of how the command ends
-        say([f"broker: no more can be said of this: {fault!r}"] if asked else [])
+        say([line] if line.startswith(OF_ALL_WORDS.decode()) else [f"broker: no more can be said of this: {fault!r}"] if asked else [])
     return end_as(status)
 
 
