@@ -24,8 +24,8 @@ FLAGS = ("-march=x86-64", "-mllvm", "-no-trap-after-noreturn", "-ffunction-secti
 
 @contextlib.contextmanager
 def alone(build):
-    """Whether no other process makes the program of this build, for as long as this lasts."""
-    with open(f"{build}/{LOCK}", "a") as lock:
+    """Whether no other process makes such a program of a build beside this one, for as long as this lasts. One at a time is enough: sources change often."""
+    with open(f"{os.path.dirname(build)}/{LOCK}", "a") as lock:
         try:
             fcntl.flock(lock, fcntl.LOCK_EX | fcntl.LOCK_NB)
         except BlockingIOError:
