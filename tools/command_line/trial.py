@@ -105,13 +105,13 @@ def is_whole(file):
 
 
 def usable(build):
-    """The program of a build that is to be run; None where none is there. One that is damaged is told, and removed."""
+    """The program of a build that is to be run; None where none is there. If one is damaged, that is told, and the build is removed."""
     for file in (f"{build}/{OPTIMISED}", f"{build}/{CHECKED}"):
         if os.access(file, os.X_OK) and os.stat(file).st_uid == os.geteuid():
             if is_whole(file):
                 return file
-            say(f"{file} is damaged, and is made again")
-            os.remove(file)
+            say(f"{file} is damaged; the build is made again")
+            shutil.rmtree(build, ignore_errors=True)
     return None
 
 
