@@ -1,5 +1,5 @@
 -- What is left of the answers of a ledger while they are read.
-use Rattle.std.proofs.Common.{◌≡◌, ℕ, List, [], ◌∷◌, ◌++◌, length, refl, sym, ap, subst, ◌∙◌, arith, append_assoc}
+use Rattle.std.proofs.Common.{◌≡◌, List, [], ◌∷◌, ◌++◌, length, refl, sym, ap, subst, ◌∙◌, arith, append_assoc}
 use Rattle.serde_json.specs.Data.{Data, Items, item, no_items, null}
 use Rattle.serde_json.specs.View.{items_view, view}
 use Rattle.serde_json.specs.declared.value.Value.{Value}
@@ -51,9 +51,6 @@ left_next own read left rest v is e none = by is.more is.told (subst (λ vs. ite
     by : (more : List Answer) → AreAnswers more → items_view (v ∷ rest) ≡ answers_data more → ⊥
     by [] told values = no-item _ _ values
     by (a ∷ more) told values = none a told.0 (ap first-of values)
-
-pub left_all : (own : List Answer) (values : List Value) → AreAnswers own → items_view values ≡ answers_data own → IsLeft own [] values
-left_all own values told e = record { more = own; told = told; split = refl; values = e }
 
 no-answer : (own : List Answer) → no_items ≡ answers_data own → own ≡ []
 no-answer [] e = refl

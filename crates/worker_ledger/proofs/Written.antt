@@ -1,9 +1,8 @@
 -- The text of a ledger is the one that is written of its value, and is read as it.
 -- By the kit's laws on what is written of a value and what is read of a text, by induction on the answers.
-use Rattle.std.proofs.Common.{◌≡◌, ℕ, zero, suc, ◌+◌, ◌<◌, ◌≤◌, ◌^◌, List, [], ◌∷◌, ◌++◌, Bool, true, false, Some, option_and_then, refl, sym, ap, subst, ◌∙◌, inl, inr, arith, append_assoc, append-nil, codes}
+use Rattle.std.proofs.Common.{◌≡◌, ℕ, ◌+◌, ◌<◌, ◌≤◌, ◌^◌, List, [], ◌∷◌, ◌++◌, true, false, Some, option_and_then, refl, sym, ap, ◌∙◌, arith, append_assoc, append-nil, codes}
 use Rattle.std.specs.Prelude.{decimal, IsAscii, IsUtf8}
 use Rattle.std.specs.List.{AllPass, flat_map}
-use Rattle.std.proofs.lemmas.Bool.{ne_eqb}
 use Rattle.std.proofs.lemmas.Fmt.{IsAscii-decimal}
 use Rattle.std.proofs.lemmas.List.Elements.{All-head, All-tail}
 use Rattle.std.proofs.lemmas.Str.{IsUtf8-append, IsUtf8-from_ascii, IsUtf8-nil}
@@ -12,15 +11,14 @@ use Rattle.hex.specs.Hex.{IsBytes, encode_lower, is_hex_digit}
 use Rattle.hex.proofs.HexLemmas.{decode_of-encode_lower, decode_of-ok}
 use Rattle.json.specs.Json as json
 use Rattle.json.specs.Lex.{tokens}
-use Rattle.json.specs.Print.{escape, escape_byte, print, quoted}
+use Rattle.json.specs.Print.{escape, quoted}
 use Rattle.json.specs.Tree as tree
 use Rattle.json.proofs.Printed.Decimals.{IsNumber-decimal}
 use Rattle.json.proofs.Printed.Strings.{escape_byte_plain}
 use Rattle.json.proofs.Printed.Tokens.{tokens-print}
 use Rattle.json.proofs.Printed.Utf8.{IsUtf8-are_ascii}
 use Rattle.json.proofs.Printed.Trees.{ArePrintable-json_tokens, value-json_tokens}
-use Rattle.serde_json.specs.Data.{Data, Items, array, item, no_items, object, string, number, unsigned}
-use Rattle.serde_json.specs.Read.{max_depth, number_of, of_items, of_json, of_members, read}
+use Rattle.serde_json.specs.Read.{max_depth, of_items, of_json, read}
 use Rattle.serde_json.specs.Written.{compact_text, items_outline, items_text, outline}
 use Rattle.serde_json.proofs.Numbers.{number_of-decimal}
 use Rattle.serde_json.proofs.OnLiterals.{serde_json_on_literals}
@@ -28,7 +26,7 @@ use Rattle.serde_json.proofs.Texts.{print-outline}
 use Rattle.sys_abi.specs.Wire.{notif_bytes}
 use Rattle.broker_core.specs.Answers.{Answer, Received, Done, Bytes, Number, NotYet, Failed}
 use Rattle.worker_ledger.specs.Data.{answer_data, answers_data, ledger_data}
-use Rattle.worker_ledger.specs.Ledgers.{AreAnswers, IsAnswer, answer_text, answers_text, hex_object, ledger_text, number_object}
+use Rattle.worker_ledger.specs.Ledgers.{AreAnswers, IsAnswer, answer_text, answers_text, hex_object, ledger_text}
 
 -- ---- Digits of base 16 are written as they are
 
@@ -147,9 +145,9 @@ ledger-read w count own lw lc told =
     let numbers : tree.HasNumbers (outline d) = (IsNumber-decimal count lc, (answers-numbers own told, (IsNumber-decimal w lw, tt))) in
     let shallow : tree.depth (outline d) ≤ max_depth = omega (arith, answers-depth own) in
     let known : tokens (ledger_text w count own) ≡ tree.json_tokens (outline d) =
-        ap tokens (sym (ledger-written w count own told) ∙ sym (print-outline d)) ∙ tokens-print (tree.json_tokens (outline d)) (ArePrintable-json_tokens (outline d) numbers) in
+    ap tokens (sym (ledger-written w count own told) ∙ sym (print-outline d)) ∙ tokens-print (tree.json_tokens (outline d)) (ArePrintable-json_tokens (outline d) numbers) in
     ap (λ o. option_and_then of_json (option_and_then (λ p. json.if_last p.0 p.1) o))
-        (ap (json.value max_depth) (known ∙ sym (append-nil (tree.json_tokens (outline d)))) ∙ value-json_tokens (outline d) max_depth [] shallow)
+    (ap (json.value max_depth) (known ∙ sym (append-nil (tree.json_tokens (outline d)))) ∙ value-json_tokens (outline d) max_depth [] shallow)
     ∙ value-read w count own lw lc told
 
 -- ---- It is UTF-8
