@@ -1,4 +1,4 @@
-"""For each clause of the judge a broker that breaks it, in a few lines, and what it does wrong. They are told about in docs/YOUR_BROKER.md.
+"""For each clause of the judge a broker that breaks it, in a few lines, and what it does wrong. docs/reference/CLAUSES.md shows them.
 
 All serve the policy of tests/judged/defined, as the broker does from which they are made: the node /a may be made once and a always, /b may not, the container's figures are told once, and other nodes are left to the kernel.
 """

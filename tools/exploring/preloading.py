@@ -16,7 +16,7 @@ SET_ID, CAPABILITIES = 0o6000, "security.capability"
 ASSIGNMENT = re.compile(r"[A-Za-z_]\w*=")
 # the options of env(1) behind which a word of theirs stands
 WITH_OPERAND = ("-u", "--unset", "-C", "--chdir")
-CLIENT = "let it use the client for its language (docs/YOUR_BROKER.md, A broker by the client)"
+CLIENT = "let it use the client for its language (docs/YOUR_BROKER.md, By a client)"
 
 
 class Elf(NamedTuple):

@@ -1,4 +1,4 @@
-"""What a broker may not do: the clauses, in the order in which they are asked (docs/YOUR_BROKER.md, What the judge asks)."""
+"""What a broker may not do: the clauses, in the order in which they are asked (docs/reference/CLAUSES.md)."""
 from enum import Enum
 from typing import NamedTuple
 

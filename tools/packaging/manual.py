@@ -76,10 +76,11 @@ def of_command(known, version, time):
 
 
 def of_document(known, page, version, time):
-    text = document(page["document"])
     found = head(page["name"], page["section"], page["summary"], version, time)
     for heading in page["headings"]:
-        found += roff.man(roff.section(text, heading), 2)
+        # (a heading of another document stands after its name)
+        name, _, title = heading.rpartition("#")
+        found += roff.man(roff.section(document(name or page["document"]), title), 2)
     return [*found, *see_also(known, page["name"], page["section"])]
 
 

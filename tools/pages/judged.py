@@ -1,4 +1,4 @@
-"""What the judge of brokers has found in a history, for its picture: the first event that breaks a clause, and the events that this rests on (docs/YOUR_BROKER.md, A session judged)."""
+"""What the judge of brokers has found in a history, for its picture: the first event that breaks a clause, and the events that this rests on (docs/YOUR_BROKER.md, Judge a session)."""
 import re
 
 from reports import NotAReport

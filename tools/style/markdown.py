@@ -60,7 +60,7 @@ def texts(page):
             yield Text(number, line.lstrip("# "), is_heading=True)
         elif line.strip() and not is_row:
             begin = begin if parts else number
-            parts.append(ITEM.sub("", line, count=1).strip())
+            parts.append(ITEM.sub("", line, count=1).strip().removeprefix("> "))
 
 
 def plain(text, code="code"):
