@@ -112,6 +112,40 @@ ALL_FORMS = [
     instruction("neg"), *(instruction(word, *JUMP) for word in ("jeq", "jgt", "jge", "jset")),
 ]
 FORMS = {form.word: form for form in ALL_FORMS}
+# what a line of the settings or of a program does, for the documents
+MEANINGS = {
+    "dir": "A directory of the host's tree. Its parent is `/` or a directory from a line above.",
+    "reg": "A file of the host's tree.",
+    "fifo": "A named pipe.",
+    "sock": "A socket.",
+    "chr": "A character device.",
+    "blk": "A block device.",
+    "link": "A symbolic link.",
+    "attr": "An extended attribute of a node from a line above. A second line for the same one replaces the first.",
+    "root": "The container's root, `/` or a directory from a line above; `/` without the line.",
+    "pidmax": "How many PIDs there are; 32,768 without the line.",
+    "pidbase": "PIDs go from N + 1 to N + `pidmax`, at most to 4,194,304; 0 without the line. `pidmax` comes before it.",
+    "firstid": "The id of the first notification; 1 without the line.",
+    "rlimit": "How many descriptors a task may have open; 1,024 without the line.",
+    "broker": "The broker has descriptor N open, and can put it into callers. At most 64 lines.",
+    "map": "N pages from A on are mapped in every task, up to 2^47, 64 pages in all. Ranges don't overlap. Without a line, 16 pages from 0x10000.",
+    "cgroup": "The limits of an ancestor, the host first. The smallest are the container's.",
+    "figures": "The other numbers that sysinfo returns; all 0 without the line.",
+    "notify": "A filter with the listener: it notifies these 1 to 64 calls, and allows all others.",
+    "filter": "A filter, up to `end`. The first is the oldest. At most 16, and one has the listener.",
+    "killable": "Once a call was received, only fatal signals end its wait (SECCOMP_FILTER_FLAG_WAIT_KILLABLE_RECV). It follows the listener's line.",
+    "prog": "A program, up to `end`. Task 0 runs the last one.",
+    "schedule": "The schedule, up to `end`.",
+    "poke": "Stores the bytes.",
+    "fill": "Stores LENGTH bytes of this value.",
+    "call": "Makes a call, by its name or its number. Up to six arguments are taken modulo 2^64; missing ones are 0.",
+    "spawn": "Starts a process with a copy of memory, descriptors and handlers (clone(2) without flags).",
+    "thread": "Starts a task that shares memory and descriptors, with a PID of its own (CLONE_VM and CLONE_FILES).",
+    "kill": "Sends signal 9, 10, 12 or 15 to itself, to its parent's PID, to that of its K-th child, or to PID N.",
+    "handler": "Sets the effect of signal 10, 12 or 15: `restart` (SA_RESTART), `plain`, or `default`, which ends the task.",
+    "wait": "Reaps the first child that has ended.",
+    "exit": "Ends the task. Only `end` may follow.",
+}
 # `kill` has other operands behind two of its words
 KILL_WITH_NUMBER = {
     whom: Form("kill", PROGRAM, (Operand(whom, "whom"), Operand("K" if whom == "child" else "N", least=least, most=most), Operand("SIGNAL", "signal")), f"kill {whom} 1 9")
